@@ -1,0 +1,90 @@
+-- Histories, and the texts that stand for them.
+use Rattle.std.specs.Prelude.{◌≡◌, ℕ, ◌+◌, ◌<◌, ◌≤◌, Bool, true, false, not, ◌&&◌, ◌==◌, if◌then◌else◌, List, [], ◌∷◌, ◌++◌, map, length, codes, Option, Some, None, IsSome}
+use Rattle.std.specs.List.{AllByRecursion, filter}
+use Rattle.std.specs.Option.{option_and_then}
+use Rattle.rmm_spec.specs.declared.event.Event.{Event}
+use Rattle.rmm_spec.specs.declared.event.Event.TheVariants.{Called, Returned}
+use Rattle.rmm_spec.specs.Text.{decimal, lines_text}
+use Rattle.rmm_spec.specs.CommandText.{IsCommand, IsReply, command_parts, reply_parts}
+
+-- how many granules and CPUs a machine has
+pub record Setup : Type 0 where
+  pub granules : ℕ
+  pub cpus : ℕ
+
+pub record IsSetup (setup : Setup) : Type 0 where
+  pub some_granules : 1 ≤ setup.granules
+  pub most_granules : setup.granules ≤ 4096
+  pub some_cpus : 1 ≤ setup.cpus
+  pub most_cpus : setup.cpus ≤ 8
+
+-- what is recorded of a run: who called what, and what came back, in the order of time
+pub record History : Type 0 where
+  pub setup : Setup
+  pub events : List Event
+
+abbrev pub cpu_of : Event → ℕ
+cpu_of (Called cpu number command) = cpu
+cpu_of (Returned cpu number reply) = cpu
+
+-- the events of one CPU
+abbrev pub events_of : ℕ → List Event → List Event
+events_of cpu events = filter (λ e. cpu_of e == cpu) events
+
+-- where one CPU stands: the number of its next call, and whether its last call hasn't returned
+pub record Stand : Type 0 where
+  pub next : ℕ
+  pub is_open : Bool
+
+abbrev pub start : Stand
+start = record { next = 0; is_open = false }
+
+-- a call is made where none is open, and has the next number; a return answers the open call
+abbrev pub stand_after : Stand → Event → Option Stand
+stand_after stand (Called cpu number command) =
+    if not stand.is_open && number == stand.next then Some (record { next = stand.next + 1; is_open = true }) else None
+stand_after stand (Returned cpu number reply) =
+    if stand.is_open && number + 1 == stand.next then Some (record { next = stand.next; is_open = false }) else None
+
+-- where a CPU stands after its events, or nothing where they are no record of a CPU
+abbrev pub stand_from : Stand → List Event → Option Stand
+stand_from stand [] = Some stand
+stand_from stand (event ∷ events) = option_and_then (λ next. stand_from next events) (stand_after stand event)
+
+abbrev pub IsRecord : List Event → Type 0
+IsRecord events = IsSome (stand_from start events)
+
+abbrev pub IsEvent : ℕ → Event → Type 0
+IsEvent cpus (Called cpu number command) = (cpu < cpus) × IsCommand command
+IsEvent cpus (Returned cpu number reply) = (cpu < cpus) × IsReply reply
+
+-- Each event has a text, each CPU's part is a record, and with its header the history has at most a million lines.
+pub record IsHistory (history : History) : Type 0 where
+  pub setup : IsSetup history.setup
+  pub events : AllByRecursion (IsEvent history.setup.cpus) history.events
+  pub records : (cpu : ℕ) → IsRecord (events_of cpu history.events)
+  pub lines : length history.events < 1000000
+
+-- The event may be recorded next. Room for its line is asked apart from this.
+pub record CanFollow (history : History) (event : Event) : Type 0 where
+  pub is_event : IsEvent history.setup.cpus event
+  pub record_goes_on : IsRecord (events_of (cpu_of event) (history.events ++ event ∷ []))
+
+abbrev pub setup_parts : Setup → List (List ℕ)
+setup_parts setup = codes "rmh1" ∷ decimal setup.granules ∷ decimal setup.cpus ∷ []
+
+unfoldable pub event_parts : Event → List (List ℕ)
+event_parts (Called cpu number command) = codes "c" ∷ decimal cpu ∷ decimal number ∷ command_parts command
+event_parts (Returned cpu number reply) = codes "r" ∷ decimal cpu ∷ decimal number ∷ reply_parts reply
+
+abbrev pub history_text : History → List ℕ
+history_text history = lines_text (setup_parts history.setup ∷ map event_parts history.events)
+
+-- the text stands for the history
+pub record IsHistoryText (text : List ℕ) (history : History) : Type 0 where
+  pub is_history : IsHistory history
+  pub is_text : text ≡ history_text history
+
+-- the grammar of histories
+abbrev pub InHistories : List ℕ → Type 0
+InHistories text = (history : History) × IsHistoryText text history

@@ -1,0 +1,13 @@
+pub mod Function
+pub mod Text
+pub mod CommandText
+pub mod HistoryText
+pub mod CertificateText
+pub mod VerdictText
+pub mod State
+pub mod Rows
+pub mod Step
+pub mod Run
+pub mod Linearization
+pub mod Ownership
+pub mod Judgement

@@ -1,0 +1,105 @@
+-- The flat state of the specification machine: maps from addresses, of which none knows how a monitor keeps them.
+-- After DEN0137 (granules, realms, RECs, translation tables), cut down to this project's profile.
+use Rattle.std.specs.Prelude.{◌≡◌, ℕ, zero, suc, ◌*◌, ◌%◌, ◌<◌, Bool, true, false, ◌&&◌, ◌||◌, nat_lt, ◌==◌, if◌then◌else◌, List, Option, Some, None}
+use Rattle.rmm_spec.specs.declared.entry.Entry.{Entry}
+use Rattle.rmm_spec.specs.declared.tag.RealmState.{RealmState}
+use Rattle.rmm_spec.specs.declared.tag.Ripas.{Ripas}
+use Rattle.rmm_spec.specs.declared.tag.Tag.{Tag}
+use Rattle.rmm_spec.specs.declared.tag.Tag.TheVariants.{Undelegated, Delegated, Rd, Rec, RecAux, Data, Rtt}
+use Rattle.rmm_spec.specs.HistoryText.{Setup}
+
+-- A realm, kept at the address of its granule. An address space of 2 ^ width bytes, walked from start_level on.
+-- rim has 32 bytes, and rems are four of 32 bytes.
+pub record RealmRecord : Type 0 where
+  pub state : RealmState
+  pub width : ℕ
+  pub start_level : ℕ
+  pub vmid : ℕ
+  pub algo : ℕ
+  pub root : ℕ
+  pub next_index : ℕ
+  pub rim : List ℕ
+  pub rems : List (List ℕ)
+
+-- what a REC asked of its host: the RIPAS of the stretch from base up to top
+pub record Request : Type 0 where
+  pub base : ℕ
+  pub top : ℕ
+  pub ripas : Ripas
+
+-- why a REC waits to leave to its host
+pub data Pending : Type 0 where
+  Psci : ℕ → Pending
+  RipasChange : Pending
+  HostCall : ℕ → Pending
+
+-- a REC, kept at the address of its granule: one virtual CPU of the realm at owner, with the CPU that it runs on
+pub record RecRecord : Type 0 where
+  pub owner : ℕ
+  pub index : ℕ
+  pub aux0 : ℕ
+  pub aux1 : ℕ
+  pub runnable : Bool
+  pub cpu : Option ℕ
+  pub request : Option Request
+  pub pending : Option Pending
+
+-- Tables and leaves go by realm, level and number. An entry of level l covers 2 ^ (12 + 9 * (3 - l)) bytes, its number
+-- is the address over that, and a table's number is that of the entry above it. A leaf is an entry that is no Table.
+pub record State : Type 0 where
+  pub granules : ℕ
+  pub tag : ℕ → Tag
+  pub realm : ℕ → Option RealmRecord
+  pub rec : ℕ → Option RecRecord
+  pub table : ℕ → ℕ → ℕ → Option ℕ
+  pub leaf : ℕ → ℕ → ℕ → Option Entry
+
+-- the state in which every granule is the host's, and nothing else is there
+unfoldable pub opening : Setup → State
+opening setup = record {
+  granules = setup.granules;
+  tag = λ _. Undelegated;
+  realm = λ _. None;
+  rec = λ _. None;
+  table = λ _ _ _. None;
+  leaf = λ _ _ _. None;
+}
+
+-- a granule's tag is changed, and nothing else
+abbrev pub with_tag : State → ℕ → Tag → State
+with_tag s address tag = record s { tag = λ other. if other == address then tag else s.tag other }
+
+abbrev pub tag_number : Tag → ℕ
+tag_number Undelegated = 0
+tag_number Delegated = 1
+tag_number Rd = 2
+tag_number Rec = 3
+tag_number RecAux = 4
+tag_number Data = 5
+tag_number Rtt = 6
+
+-- whether a number is the address of one of so many granules
+unfoldable pub is_granule : ℕ → ℕ → Bool
+is_granule granules address = address % 4096 == 0 && nat_lt address (granules * 4096)
+
+-- whether a number is the address of a granule with that tag
+unfoldable pub has_tag : State → ℕ → Tag → Bool
+has_tag s address tag = is_granule s.granules address && tag_number (s.tag address) == tag_number tag
+
+-- whether a number below n passes
+abbrev pub any_below : ℕ → (ℕ → Bool) → Bool
+any_below zero passes = false
+any_below (suc n) passes = passes n || any_below n passes
+
+abbrev pub is_cpu : ℕ → Option ℕ → Bool
+is_cpu cpu None = false
+is_cpu cpu (Some other) = other == cpu
+
+-- whether there is a REC, and it runs on the CPU
+abbrev pub runs_on : ℕ → Option RecRecord → Bool
+runs_on cpu None = false
+runs_on cpu (Some rec) = is_cpu cpu rec.cpu
+
+-- whether the CPU is inside a REC: one runs on it
+unfoldable pub is_inside : State → ℕ → Bool
+is_inside s cpu = any_below s.granules (λ k. runs_on cpu (s.rec (k * 4096)))
