@@ -5,6 +5,7 @@ pub mod HistoryText
 pub mod CertificateText
 pub mod VerdictText
 pub mod State
+pub mod Measure
 pub mod Rows
 pub mod Step
 pub mod Run
