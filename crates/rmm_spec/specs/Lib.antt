@@ -5,10 +5,14 @@ pub mod HistoryText
 pub mod CertificateText
 pub mod VerdictText
 pub mod State
+pub mod Walk
+pub mod Table
 pub mod Measure
 pub mod Rows
 pub mod Step
 pub mod Run
+pub mod Script
 pub mod Linearization
+pub mod Change
 pub mod Ownership
 pub mod Judgement

@@ -1,7 +1,9 @@
 -- Runs of the machine: one step after another.
-use Rattle.std.specs.Prelude.{◌≡◌, ℕ, List, [], ◌∷◌}
+use Rattle.std.specs.Prelude.{◌≡◌, ℕ, List, [], ◌∷◌, IsTrue}
+use Rattle.std.specs.List.{AllByRecursion}
 use Rattle.rmm_spec.specs.declared.command.Command.{Command}
 use Rattle.rmm_spec.specs.declared.reply.Reply.{Reply}
+use Rattle.rmm_spec.specs.Function.{is_served}
 use Rattle.rmm_spec.specs.State.{State}
 use Rattle.rmm_spec.specs.Step.{Step}
 
@@ -16,3 +18,7 @@ abbrev pub IsRun : State → List JournalEntry → State → Type 0
 IsRun old [] last = last ≡ old
 IsRun old (entry ∷ entries) last =
     (next : State) × Step old entry.cpu entry.command entry.given next × IsRun next entries last
+
+-- every commit is of a function that is served today
+abbrev pub AreServed : List JournalEntry → Type 0
+AreServed entries = AllByRecursion (λ entry. IsTrue (is_served entry.command.function)) entries

@@ -1,9 +1,12 @@
 -- The flat state of the specification machine: maps from addresses, of which none knows how a monitor keeps them.
 -- After DEN0137 (granules, realms, RECs, translation tables), cut down to this project's profile.
-use Rattle.std.specs.Prelude.{◌≡◌, ℕ, zero, suc, ◌*◌, ◌%◌, ◌<◌, Bool, true, false, ◌&&◌, ◌||◌, nat_lt, ◌==◌, if◌then◌else◌, List, Option, Some, None}
+use Rattle.std.specs.Prelude.{ℕ, zero, suc, ◌+◌, ◌*◌, ◌/◌, ◌%◌, Bool, false, ◌&&◌, ◌||◌, nat_lt, nat_le, ◌==◌, if◌then◌else◌, List, [], Option, Some, None, option_map, unwrap_or}
 use Rattle.rmm_spec.specs.declared.entry.Entry.{Entry}
+use Rattle.rmm_spec.specs.declared.entry.Entry.TheVariants.{Unassigned, Assigned, Table, UnassignedNs, AssignedNs}
 use Rattle.rmm_spec.specs.declared.tag.RealmState.{RealmState}
+use Rattle.rmm_spec.specs.declared.tag.RealmState.TheVariants.{New, Active, SystemOff}
 use Rattle.rmm_spec.specs.declared.tag.Ripas.{Ripas}
+use Rattle.rmm_spec.specs.declared.tag.Ripas.TheVariants.{Empty, Ram, Destroyed}
 use Rattle.rmm_spec.specs.declared.tag.Tag.{Tag}
 use Rattle.rmm_spec.specs.declared.tag.Tag.TheVariants.{Undelegated, Delegated, Rd, Rec, RecAux, Data, Rtt}
 use Rattle.rmm_spec.specs.HistoryText.{Setup}
@@ -65,9 +68,81 @@ opening setup = record {
   leaf = λ _ _ _. None;
 }
 
+-- ---- changes: a state changes by these alone
+
 -- a granule's tag is changed, and nothing else
 abbrev pub with_tag : State → ℕ → Tag → State
 with_tag s address tag = record s { tag = λ other. if other == address then tag else s.tag other }
+
+-- a realm's record is put in or replaced
+abbrev pub with_realm : State → ℕ → RealmRecord → State
+with_realm s rd realm = record s { realm = λ other. if other == rd then Some realm else s.realm other }
+
+-- a realm is gone, with its tables and leaves
+abbrev pub without_realm : State → ℕ → State
+without_realm s rd = record s {
+  realm = λ other. if other == rd then None else s.realm other;
+  table = λ other level number. if other == rd then None else s.table other level number;
+  leaf = λ other level number. if other == rd then None else s.leaf other level number;
+}
+
+-- a REC's record is put in or replaced
+abbrev pub with_rec : State → ℕ → RecRecord → State
+with_rec s address rec = record s { rec = λ other. if other == address then Some rec else s.rec other }
+
+abbrev pub without_rec : State → ℕ → State
+without_rec s address = record s { rec = λ other. if other == address then None else s.rec other }
+
+-- whether a realm, a level and a number are those of the entry or table that is meant
+abbrev pub is_spot : ℕ → ℕ → ℕ → ℕ → ℕ → ℕ → Bool
+is_spot rd level number other other_level other_number = other == rd && other_level == level && other_number == number
+
+-- a new realm's root: nothing was said of its lower half, and its upper half is the host's
+abbrev pub with_root : State → ℕ → ℕ → ℕ → State
+with_root s rd level root = record s {
+  table = λ other l n. if is_spot rd level 0 other l n then Some root else s.table other l n;
+  leaf = λ other l n. if is_spot rd level 0 other l (n / 512)
+      then Some (if nat_lt n 256 then Unassigned Empty else UnassignedNs) else s.leaf other l n;
+}
+
+-- a table is put in where its entry in the table above was, and each of its 512 entries is a copy of that
+abbrev pub with_table : State → ℕ → ℕ → ℕ → ℕ → Entry → State
+with_table s rd level number granule entry = record s {
+  table = λ other l n. if is_spot rd level number other l n then Some granule else s.table other l n;
+  leaf = λ other l n. if is_spot rd level number other l (n / 512) then Some entry
+      else (if is_spot rd level number other (l + 1) n then None else s.leaf other l n);
+}
+
+-- a table is taken out with its 512 entries, and its entry in the table above is a leaf
+abbrev pub without_table : State → ℕ → ℕ → ℕ → Entry → State
+without_table s rd level number entry = record s {
+  table = λ other l n. if is_spot rd level number other l n then None else s.table other l n;
+  leaf = λ other l n. if is_spot rd level number other l (n / 512) then None
+      else (if is_spot rd level number other (l + 1) n then Some entry else s.leaf other l n);
+}
+
+-- a leaf is changed
+abbrev pub with_leaf : State → ℕ → ℕ → ℕ → Entry → State
+with_leaf s rd level number entry = record s {
+  leaf = λ other l n. if is_spot rd level number other l n then Some entry else s.leaf other l n;
+}
+
+-- the entry with another RIPAS, where it has one
+abbrev pub entry_with_ripas : Ripas → Entry → Entry
+entry_with_ripas ripas (Unassigned old) = Unassigned ripas
+entry_with_ripas ripas (Assigned old granule) = Assigned ripas granule
+entry_with_ripas ripas (Table granule) = Table granule
+entry_with_ripas ripas UnassignedNs = UnassignedNs
+entry_with_ripas ripas (AssignedNs page) = AssignedNs page
+
+-- the RIPAS of a level's entries is changed, from the first number up to but not the last
+abbrev pub with_ripas : State → ℕ → ℕ → ℕ → ℕ → Ripas → State
+with_ripas s rd level first last ripas = record s {
+  leaf = λ other l n. if other == rd && l == level && nat_le first n && nat_lt n last
+      then option_map (entry_with_ripas ripas) (s.leaf other l n) else s.leaf other l n;
+}
+
+-- ---- tests, and reading
 
 abbrev pub tag_number : Tag → ℕ
 tag_number Undelegated = 0
@@ -77,6 +152,17 @@ tag_number Rec = 3
 tag_number RecAux = 4
 tag_number Data = 5
 tag_number Rtt = 6
+
+abbrev pub state_number : RealmState → ℕ
+state_number New = 0
+state_number Active = 1
+state_number SystemOff = 2
+
+-- RIPAS as replies tell it
+abbrev pub ripas_number : Ripas → ℕ
+ripas_number Empty = 0
+ripas_number Ram = 1
+ripas_number Destroyed = 2
 
 -- whether a number is the address of one of so many granules
 unfoldable pub is_granule : ℕ → ℕ → Bool
@@ -103,3 +189,74 @@ runs_on cpu (Some rec) = is_cpu cpu rec.cpu
 -- whether the CPU is inside a REC: one runs on it
 unfoldable pub is_inside : State → ℕ → Bool
 is_inside s cpu = any_below s.granules (λ k. runs_on cpu (s.rec (k * 4096)))
+
+-- the greatest number below n that passes, or 0
+abbrev pub greatest_below : ℕ → (ℕ → Bool) → ℕ
+greatest_below zero passes = 0
+greatest_below (suc n) passes = if passes n then n else greatest_below n passes
+
+-- the REC that runs on the CPU, where one does
+unfoldable pub rec_inside : State → ℕ → ℕ
+rec_inside s cpu = greatest_below s.granules (λ k. runs_on cpu (s.rec (k * 4096))) * 4096
+
+-- what is read where no realm is: rows before say that there is one
+abbrev pub no_realm : RealmRecord
+no_realm = record {
+  state = New;
+  width = 0;
+  start_level = 0;
+  vmid = 0;
+  algo = 0;
+  root = 0;
+  next_index = 0;
+  rim = [];
+  rems = [];
+}
+
+-- what is read where no REC is: rows before say that there is one
+abbrev pub no_rec : RecRecord
+no_rec = record {
+  owner = 0;
+  index = 0;
+  aux0 = 0;
+  aux1 = 0;
+  runnable = false;
+  cpu = None;
+  request = None;
+  pending = None;
+}
+
+-- what is read where a REC has no request: rows before say that it has one, or its words are not shown
+abbrev pub no_request : Request
+no_request = record { base = 0; top = 0; ripas = Empty }
+
+unfoldable pub realm_at : State → ℕ → RealmRecord
+realm_at s rd = unwrap_or (s.realm rd) no_realm
+
+unfoldable pub rec_at : State → ℕ → RecRecord
+rec_at s address = unwrap_or (s.rec address) no_rec
+
+abbrev pub request_of : RecRecord → Request
+request_of rec = unwrap_or rec.request no_request
+
+abbrev pub is_new : RealmRecord → Bool
+is_new realm = state_number realm.state == 0
+
+abbrev pub is_system_off : RealmRecord → Bool
+is_system_off realm = state_number realm.state == 2
+
+abbrev pub has_vmid : ℕ → Option RealmRecord → Bool
+has_vmid vmid None = false
+has_vmid vmid (Some realm) = realm.vmid == vmid
+
+-- whether a realm has the VMID
+unfoldable pub is_vmid_used : State → ℕ → Bool
+is_vmid_used s vmid = any_below s.granules (λ k. has_vmid vmid (s.realm (k * 4096)))
+
+abbrev pub is_owned_by : ℕ → Option RecRecord → Bool
+is_owned_by rd None = false
+is_owned_by rd (Some rec) = rec.owner == rd
+
+-- whether a REC belongs to the realm
+unfoldable pub has_rec : State → ℕ → Bool
+has_rec s rd = any_below s.granules (λ k. is_owned_by rd (s.rec (k * 4096)))

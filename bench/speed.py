@@ -1,0 +1,61 @@
+#!/usr/bin/env python3
+"""Times `rmmcheck check` beside `wc -l` of the same two files in the same run, and prints the README's table of speed.
+
+usage: speed.py [LINES ..]
+
+Without words it takes 10000, 100000 and 1000000 lines. The files are generated anew, and each time is the least of
+five runs, taken in turns. Memory is the greatest resident size of one run of the checker.
+"""
+import os
+import subprocess
+import sys
+import tempfile
+import time
+
+HERE = os.path.dirname(os.path.abspath(__file__))
+TOP = os.path.dirname(HERE)
+PROGRAM = os.path.join(TOP, "crates", "rmmcheck", "out", "rmmcheck")
+RUNS = 5
+
+
+def run(words):
+    """What the words print, how long they take in seconds, and the most memory that they have resident, in bytes."""
+    begin = time.perf_counter()
+    child = subprocess.Popen(words, stdout=subprocess.PIPE)
+    printed = child.stdout.read().decode()
+    _, status, usage = os.wait4(child.pid, 0)
+    child.returncode = os.waitstatus_to_exitcode(status)
+    return printed, time.perf_counter() - begin, usage.ru_maxrss * 1024, child.returncode
+
+
+def row(lines, folder):
+    prefix = os.path.join(folder, str(lines))
+    subprocess.run([sys.executable, os.path.join(HERE, "generate.py"), str(lines), prefix], check=True)
+    files = [f"{prefix}.history", f"{prefix}.certificate"]
+    check_time = count_time = float("inf")
+    memory = 0
+    for _ in range(RUNS):
+        _, taken, _, _ = run(["wc", "-l", *files])
+        count_time = min(count_time, taken)
+        printed, taken, resident, status = run([PROGRAM, "check", *files])
+        if status != 0 or not printed.startswith("yes "):
+            sys.exit(f"{lines} lines: {printed!r} with status {status}")
+        check_time, memory = min(check_time, taken), max(memory, resident)
+    size = sum(os.path.getsize(file) for file in files)
+    return (f"| {lines:,} | {size / 1e6:.1f} MB | {count_time * 1e3:.1f} ms | {check_time * 1e3:.1f} ms "
+            f"| {check_time / count_time:.1f} | {memory / 1e6:.0f} MB |")
+
+
+def main():
+    lines = [int(word) for word in sys.argv[1:]] or [10_000, 100_000, 1_000_000]
+    # Builds the program where it isn't built yet.
+    first = ["check", "examples/one-granule.history", "examples/one-granule.certificate"]
+    subprocess.run([os.path.join(TOP, "rmmcheck"), *first], cwd=TOP, check=True, stdout=subprocess.DEVNULL)
+    print("| History lines | Both texts | `wc -l` | `rmmcheck check` | Times `wc -l` | Peak memory |")
+    print("|---|---|---|---|---|---|")
+    with tempfile.TemporaryDirectory() as folder:
+        for count in lines:
+            print(row(count, folder), flush=True)
+
+
+main()

@@ -1,0 +1,17 @@
+//! Tests that cross crates: nothing but tests, over `checker` and over the whole program on a runtime of their own.
+//! Their expected lines come from outside, worked out by hand from the profile, never from the program's own output.
+//! They show that the clauses say what was meant, and that calls with enough memory succeed.
+//! `rows` has histories with their verdicts, `limits` texts cut short, forged or too long, `program` words, files and devices.
+//! Nothing stands on it.
+#![tactic(auto)]
+
+#[cfg(test)]
+mod desk;
+#[cfg(test)]
+mod limits;
+#[cfg(test)]
+mod program;
+#[cfg(test)]
+mod rows;
+#[cfg(test)]
+mod table;

@@ -1,0 +1,127 @@
+//! The whole program on a runtime of the test's: words, files, devices.
+
+use crate::desk::{Desk, Paper};
+use scenarios::run;
+use std::alloc::Global;
+use std::cell::RefCell;
+use std::test::Fail;
+
+const HISTORY: &[u8] = b"rmh1 4 1\nc 0 0 c4000151 1000\nr 0 0 ok\n";
+
+const CERTIFICATE: &[u8] = b"k 0 0\n";
+
+fn paper(bytes: &'static [u8], reads: usize) -> Option<Paper> {
+    Some(Paper { bytes, reads })
+}
+
+// A runtime on which the words ask for a check and all goes well.
+fn desk(alloc: Global, words: &'static str) -> Desk {
+    Desk {
+        alloc,
+        words,
+        history: paper(HISTORY, 100),
+        certificate: paper(CERTIFICATE, 100),
+        is_full: false,
+        printed: RefCell::new(String::new(alloc)),
+        told: RefCell::new(String::new(alloc)),
+    }
+}
+
+// What the program ends with and prints, as `status|standard output|standard error`.
+fn outcome(desk: Desk) -> Result<String, Fail> {
+    let status = run(&desk);
+    let Desk {
+        alloc,
+        printed,
+        told,
+        ..
+    } = desk;
+    let (printed, told) = (printed.into_inner(), told.into_inner());
+    Ok(format!(in alloc; "{status}|{printed}|{told}")?)
+}
+
+#[test]
+fn words_of_the_program(rt: HostRuntime) -> Result<(), Fail> {
+    let refused = [
+        "",
+        "rmmcheck",
+        "rmmcheck check",
+        "rmmcheck check h",
+        "rmmcheck check h c c",
+        "rmmcheck h c",
+        "rmmcheck judge h c",
+        "rmmcheck help",
+        "rmmcheck help check",
+        "rmmcheck --help",
+        "rmmcheck -h",
+        "rmmcheck --version",
+        "rmmcheck -V",
+        "rmmcheck check h c --help",
+        "rmmcheck check -h c",
+        "rmmcheck check --fast h c",
+    ];
+    for words in refused {
+        let line = outcome(desk(rt.alloc(), words))?;
+        assert!(rt;
+            line.as_str() == "2||rmmcheck: arguments\n",
+            "{line} for {words}"
+        );
+    }
+    let taken = [
+        ("rmmcheck check h c", "0|yes 1\n|"),
+        ("rmmcheck check -- h c", "0|yes 1\n|"),
+        ("rmmcheck check help c", "3||rmmcheck: cannot read help\n"),
+        ("rmmcheck check -- -h c", "3||rmmcheck: cannot read -h\n"),
+        ("rmmcheck check  c", "3||rmmcheck: cannot read \n"),
+    ];
+    for (words, expected) in taken {
+        let line = outcome(desk(rt.alloc(), words))?;
+        assert!(rt; line.as_str() == expected, "{line} for {words}");
+    }
+    Ok(())
+}
+
+#[test]
+fn first_fault_ends_the_program(rt: HostRuntime) -> Result<(), Fail> {
+    let (whole_history, whole_certificate) = (paper(HISTORY, 100), paper(CERTIFICATE, 100));
+    let (torn_history, torn_certificate) = (paper(HISTORY, 2), paper(CERTIFICATE, 1));
+    // Both files are opened before either is read.
+    let cases = [
+        (None, None, "cannot read h"),
+        (torn_history, None, "cannot read c"),
+        (torn_history, torn_certificate, "cannot read h"),
+        (whole_history, torn_certificate, "cannot read c"),
+        (whole_history, whole_certificate, "cannot write"),
+    ];
+    for (history, certificate, fault) in cases {
+        let mut desk = desk(rt.alloc(), "rmmcheck check h c");
+        desk.history = history;
+        desk.certificate = certificate;
+        desk.is_full = true;
+        let line = outcome(desk)?;
+        let expected = format!(in rt.alloc(); "3||rmmcheck: {fault}\n")?;
+        assert!(rt;
+            line.as_str() == expected.as_str(),
+            "{line} in place of {fault}"
+        );
+    }
+    Ok(())
+}
+
+#[test]
+fn status_of_the_verdict(rt: HostRuntime) -> Result<(), Fail> {
+    let cases = [
+        (HISTORY, CERTIFICATE, "0|yes 1\n|"),
+        (HISTORY, b"".as_slice(), "1|no 1 missing 0 0\n|"),
+        (HISTORY, b"k 0\n".as_slice(), "2|fault certificate 1\n|"),
+        (b"".as_slice(), CERTIFICATE, "2|fault history 1\n|"),
+    ];
+    for (history, certificate, expected) in cases {
+        let mut desk = desk(rt.alloc(), "rmmcheck check h c");
+        desk.history = paper(history, 100);
+        desk.certificate = paper(certificate, 100);
+        let line = outcome(desk)?;
+        assert!(rt; line.as_str() == expected, "{line} in place of {expected}");
+    }
+    Ok(())
+}

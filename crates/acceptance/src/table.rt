@@ -1,0 +1,40 @@
+//! Texts with the line that tells their verdict.
+
+use checker::{check, verdict_text};
+use std::alloc::Global;
+use std::process::Abort;
+use std::test::Fail;
+
+/// A history, a certificate and the verdict's line without its newline.
+#[derive(Clone, Copy)]
+pub struct Row {
+    pub history: &'static str,
+    pub certificate: &'static str,
+    pub line: &'static str,
+}
+
+pub fn verdict_of(alloc: Global, history: &[u8], certificate: &[u8]) -> Result<String, Fail> {
+    let verdict = check(alloc, history, certificate)?;
+    let mut line = Vec::new(alloc);
+    verdict_text(&verdict, &mut line)?;
+    Ok(String::from_utf8(line)?)
+}
+
+pub fn expect_lines<R: Abort + AllocGlobal>(rt: &R, rows: &[Row]) -> Result<(), Fail> {
+    for row in rows {
+        let line = verdict_of(
+            rt.alloc(),
+            row.history.as_bytes(),
+            row.certificate.as_bytes(),
+        )?;
+        let told = line.as_str().strip_suffix("\n");
+        assert!(rt;
+            told == Some(row.line),
+            "{} for {} and {}",
+            line,
+            row.history,
+            row.certificate
+        );
+    }
+    Ok(())
+}

@@ -1,0 +1,3 @@
+mod HeldLemmas
+mod SpellingLemmas
+mod GrammarLemmas

@@ -1,0 +1,4 @@
+pub mod View
+pub mod LineRef
+pub mod Faults
+pub mod Spelling

@@ -1,0 +1,29 @@
+-- What a certificate's fields stand for.
+use Rattle.std.specs.Prelude.{⊤, ℕ, ◌<◌, ◌≤◌, List, map, length, slice_index_or}
+use Rattle.std.specs.List.{AllByRecursion}
+use Rattle.certificate.specs.declared.certificate.Named.{Named}
+use Rattle.certificate.specs.declared.certificate.Named.TheVariants as named
+use Rattle.rmm_spec.specs.declared.line.Line.{Line}
+use Rattle.rmm_spec.specs.declared.line.Line.TheVariants as line
+use Rattle.rmm_spec.specs.CertificateText.{IsCertificate}
+use Rattle.rmm_spec.specs.declared.reply.Reply.{Reply}
+use Rattle.rmm_spec.specs.declared.reply.Reply.TheVariants.{Misplaced}
+
+-- the line of a name, whose reply stands at its place
+abbrev pub line_of : List Reply → Named → Line
+line_of replies (named.Keep cpu number) = line.Keep cpu number
+line_of replies (named.Unfinished cpu number place) = line.Unfinished cpu number (slice_index_or replies place Misplaced)
+
+-- a name's reply is there
+abbrev pub HasReply : ℕ → Named → Type 0
+HasReply count (named.Keep cpu number) = ⊤
+HasReply count (named.Unfinished cpu number place) = place < count
+
+abbrev pub lines_of : List Named → List Reply → List Line
+lines_of names replies = map (line_of replies) names
+
+-- The lines are a certificate, and each name's reply is there.
+pub record IsHeld (names : List Named) (replies : List Reply) : Type 0 where
+  pub is_certificate : IsCertificate (lines_of names replies)
+  pub each_reply : AllByRecursion (HasReply (length replies)) names
+  pub few_replies : length replies ≤ length names

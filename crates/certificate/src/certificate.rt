@@ -1,0 +1,119 @@
+//! The lines of a certificate, as they are held.
+
+ghost use Rattle.std.specs.Prelude.{◌≡◌, ◌+◌, ◌<◌, ◌≤◌, ◌↔◌, [], ◌∷◌, ◌++◌, length, IsTrue, OnOk, OnErr, slice_get};
+ghost use Rattle.rmm_spec.specs.CertificateText.{IsLine, IsCertificate};
+
+use rmm_spec::{Line, Reply};
+use std::alloc::{AllocError, Global};
+use std::marker::Model;
+
+/// The most lines that a certificate has.
+pub const MOST_LINES: usize = 1_000_000;
+
+/// A line without its reply, which stands at a place among the replies.
+#[derive(Clone, Copy, Debug)]
+enum Named {
+    Keep { cpu: u8, number: u32 },
+    Unfinished { cpu: u8, number: u32, place: u32 },
+}
+
+const _: () = prove!(size_of::<Named>() <= 16);
+
+/// The lines that a certificate claims, the first to take effect first.
+#[derive(Debug, Drop)]
+pub struct Certificate {
+    names: Vec<Named>,
+    replies: Vec<Reply>,
+}
+
+impl Model for Certificate {
+    ghost use Rattle.std.specs.Prelude.{List};
+    ghost use Rattle.rmm_spec.specs.declared.line.Line.{Line};
+
+    ghost Value = { List Line };
+
+    ghost use Rattle.certificate.specs.View.{lines_of, IsHeld};
+
+    ghost view = { λ c. lines_of c.names.items c.replies.items };
+
+    ghost invariant = { λ c. IsHeld c.names.items c.replies.items };
+}
+
+/// One line of a certificate, as it is read from there.
+#[derive(Clone, Copy, Debug, PartialEq, Eq)]
+pub enum LineRef<'a> {
+    /// A finished call, which gave the reply that the history records.
+    Keep {
+        cpu: u8,
+        number: u32,
+    },
+    /// An unfinished call that took effect all the same, with the reply that it would have given.
+    Unfinished {
+        cpu: u8,
+        number: u32,
+        reply: &'a Reply,
+    },
+}
+
+impl Certificate {
+    ghost use Rattle.certificate.specs.LineRef.{line_seen};
+
+    /// A certificate without lines.
+    pub(crate) fn new(alloc: Global) -> Certificate
+        ensures { result ≡ [] }
+    {
+        Certificate {
+            names: Vec::new(alloc),
+            replies: Vec::new(alloc),
+        }
+    }
+
+    /// How many lines there are.
+    pub fn len(&self) -> usize
+        ensures count { result ≡ length self.now }
+        ensures well_formed { IsCertificate self.now }
+    {
+        self.names.len()
+    }
+
+    pub fn is_empty(&self) -> bool
+        ensures { IsTrue result ↔ (self.now ≡ []) }
+    {
+        self.names.is_empty()
+    }
+
+    /// The line at a place, counted from 0.
+    pub fn line(&self, i: usize) -> LineRef<'_>
+        requires { i < length self.now }
+        ensures { slice_get self.now i ≡ Some (line_seen result) }
+    {
+        match self.names[i] {
+            Named::Keep { cpu, number } => LineRef::Keep { cpu, number },
+            Named::Unfinished { cpu, number, place } => LineRef::Unfinished {
+                cpu,
+                number,
+                reply: &self.replies[place as usize],
+            },
+        }
+    }
+
+    /// Appends a line. Where memory is refused, nothing changes.
+    pub(crate) fn push(&mut self, line: Line) -> Result<(), AllocError>
+        requires is_line { IsLine line }
+        requires room { length self.old < MOST_LINES }
+        ensures ok { OnOk result (self.new ≡ self.old ++ line ∷ []) }
+        ensures err { OnErr result (self.new ≡ self.old) }
+    {
+        self.names.reserve(1)?;
+        let name = match line {
+            Line::Keep { cpu, number } => Named::Keep { cpu, number },
+            Line::Unfinished { cpu, number, reply } => {
+                let place = self.replies.len() as u32;
+                self.replies.push(reply)?;
+                Named::Unfinished { cpu, number, place }
+            }
+        };
+        self.names.push_reserved(name);
+        Ok(())
+    }
+}

@@ -1,0 +1,165 @@
+//! Texts, read to certificates.
+
+ghost use Rattle.std.specs.Prelude.{◌≡◌, ◌≢◌, ◌<◌, ◌++◌, ◌∷◌, IfOk, IfErr, IfSome, IfNone};
+ghost use Rattle.std.specs.List.{AllByRecursion};
+ghost use Rattle.certificate.specs.Faults.{IsFaultOf};
+ghost use Rattle.certificate.specs.Spelling.{IsLineOf, IsNoLine, HasNoNumber, kind_part};
+ghost use Rattle.rmm_spec.specs.CertificateText.{IsCertificateText};
+ghost use Rattle.rmm_spec.specs.Text.{parts_of, decimal};
+ghost use Rattle.certificate.specs.declared.reader.Kind.{Kind};
+
+use crate::certificate::{Certificate, MOST_LINES};
+use crate::fault::CertFault;
+use rmi_codec::{Parts, decimal_from, reply_from};
+use rmm_spec::Line;
+use std::alloc::Global;
+
+/// How many CPUs a line can name.
+const CPUS: u32 = 8;
+
+/// How many calls of a CPU a line can name.
+const CALLS: u32 = 1_000_000;
+
+// Cuts the first line off, without its newline.
+fn next_line(text: &[u8]) -> Option<(&[u8], &[u8])>
+    ensures line { IfSome result (λ cut. text.now ≡ cut.0.now ++ 10 ∷ cut.1.now) }
+    ensures no_newline { IfSome result (λ cut. AllByRecursion (λ byte. byte ≢ 10) cut.0.now) }
+    ensures unfinished { IfNone result (AllByRecursion (λ byte. byte ≢ 10) text.now) }
+{
+    let end = text.iter().position(|byte| *byte == b'\n')?;
+    let (line, rest) = text.split_at(end);
+    Some((line, rest.split_at(1).1))
+}
+
+// What a line begins with.
+#[derive(Clone, Copy)]
+enum Kind {
+    Keep,
+    Unfinished,
+}
+
+// The kind that a part names.
+fn kind_from(part: &[u8]) -> Option<Kind>
+    ensures found { IfSome result (λ kind. part.now ≡ kind_part kind) }
+    ensures only { (kind : Kind) → part.now ≡ kind_part kind → result ≡ Some kind }
+{
+    match part {
+        b"k" => Some(Kind::Keep),
+        b"u" => Some(Kind::Unfinished),
+        _ => None,
+    }
+}
+
+// Takes a number below a limit off the parts.
+fn number_from(parts: &mut Parts<'_>, limit: u32) -> Option<u32>
+    ensures below { IfSome result (λ n. n < limit) }
+    ensures found { IfSome result (λ n. parts.old ≡ decimal n ∷ parts.new) }
+    ensures none { IfNone result (HasNoNumber limit parts.old) }
+{
+    let number = decimal_from(parts.next_part()?)?;
+    if number >= u64::from(limit) {
+        return None;
+    }
+    Some(number as u32)
+}
+
+// The line that the bytes spell.
+fn line_from(bytes: &[u8]) -> Option<Line>
+    ensures found { IfSome result (IsLineOf (parts_of bytes.now)) }
+    ensures none { IfNone result (IsNoLine (parts_of bytes.now)) }
+{
+    let mut parts = Parts::of(bytes);
+    let kind = kind_from(parts.next_part()?)?;
+    let cpu = number_from(&mut parts, CPUS)? as u8;
+    let number = number_from(&mut parts, CALLS)?;
+    match kind {
+        Kind::Keep => match parts.next_part() {
+            None => Some(Line::Keep { cpu, number }),
+            Some(_) => None,
+        },
+        Kind::Unfinished => {
+            let Ok(reply) = reply_from(parts) else {
+                return None;
+            };
+            Some(Line::Unfinished { cpu, number, reply })
+        }
+    }
+}
+
+/// Reads a certificate. The empty text is the one without lines, and a line past the most that there may be is bad.
+pub fn read(alloc: Global, text: &[u8]) -> Result<Certificate, CertFault>
+    ensures found { IfOk result (IsCertificateText text.now) }
+    ensures fault { IfErr result (IsFaultOf text.now) }
+{
+    let mut lines = Certificate::new(alloc);
+    let mut rest = text;
+    while !rest.is_empty() {
+        let bad_line = CertFault::BadLine(lines.len() as u64 + 1);
+        if lines.len() == MOST_LINES {
+            return Err(bad_line);
+        }
+        let Some((bytes, later)) = next_line(rest) else {
+            return Err(bad_line);
+        };
+        let Some(line) = line_from(bytes) else {
+            return Err(bad_line);
+        };
+        lines.push(line)?;
+        rest = later;
+    }
+    Ok(lines)
+}
+
+#[cfg(test)]
+mod tests {
+    use super::*;
+    use crate::certificate::LineRef;
+    use rmm_spec::Reply;
+    use std::test::Fail;
+
+    #[test]
+    fn reads_each_line(rt: HostRuntime) -> Result<(), Fail> {
+        let text = b"u 0 0 err 255 0\nk 1 0\nk 7 999999\n";
+        let lines = read(rt.alloc(), text)?;
+        assert_eq!(rt; lines.len(), 3);
+        let reply = Reply::Err(255, 0);
+        let first = LineRef::Unfinished {
+            cpu: 0,
+            number: 0,
+            reply: &reply,
+        };
+        assert_eq!(rt; lines.line(0), first);
+        assert_eq!(rt; lines.line(1), LineRef::Keep { cpu: 1, number: 0 });
+        assert_eq!(rt;
+            lines.line(2),
+            LineRef::Keep {
+                cpu: 7,
+                number: 999_999
+            }
+        );
+        Ok(())
+    }
+
+    #[test]
+    fn tells_how_many_lines(rt: HostRuntime) -> Result<(), Fail> {
+        assert!(rt; read(rt.alloc(), b"")?.is_empty());
+        assert_eq!(rt; read(rt.alloc(), b"k 0 0\n")?.len(), 1);
+        assert_eq!(rt; read(rt.alloc(), b"u 0 0 ok\nk 1 0\n")?.len(), 2);
+        Ok(())
+    }
+
+    #[test]
+    fn tells_the_bad_line(rt: HostRuntime) {
+        for (text, line) in [
+            ("k 0\n", 1),
+            ("k 8 0\n", 1),
+            ("k 7 1000000\n", 1),
+            ("u 0 0 err 256 0\n", 1),
+            ("k 0 0\nk 0 1", 2),
+            ("k 0 0\n\n", 2),
+        ] {
+            let fault = read(rt.alloc(), text.as_bytes()).err();
+            assert_eq!(rt; fault, Some(CertFault::BadLine(line)), "at {text}");
+        }
+    }
+}

@@ -1,0 +1,56 @@
+-- Calls and their places: each call has one place and one return, so what is said of a call is determined.
+use Rattle.std.proofs.Common.{◌≡◌, ℕ, List, Some, sym, ◌∙◌, ap}
+use Rattle.std.specs.List.{slice_get}
+use Rattle.rmm_spec.specs.declared.command.Command.{Command}
+use Rattle.rmm_spec.specs.declared.event.Event.{Event}
+use Rattle.rmm_spec.specs.declared.event.Event.TheVariants.{Called, Returned}
+use Rattle.rmm_spec.specs.declared.line.Line.{Line}
+use Rattle.rmm_spec.specs.declared.line.Line.TheVariants.{Keep, Unfinished}
+use Rattle.rmm_spec.specs.declared.reply.Reply.{Reply}
+use Rattle.rmm_spec.specs.Run.{JournalEntry}
+use Rattle.rmm_spec.specs.Linearization.{IsCalled, IsReturned, IsKnown, IsFinished, IsReplyOf, IsEntryOf, cpu_named, number_named}
+
+-- each call has one place and at most one return, and no return is of a call that nobody made
+pub record HasOnePlaces (events : List Event) : Type 0 where
+  pub one_call : (place other cpu number : ℕ) (command made : Command) → IsCalled events place cpu number command
+      → IsCalled events other cpu number made → place ≡ other
+  pub one_return : (place other cpu number : ℕ) (given told : Reply) → IsReturned events place cpu number given
+      → IsReturned events other cpu number told → place ≡ other
+  pub is_known : (cpu number : ℕ) → IsFinished events cpu number → IsKnown events cpu number
+
+-- the commands of a call's places are one
+pub same_command : (events : List Event) → HasOnePlaces events → (place other cpu number : ℕ) (command made : Command)
+    → IsCalled events place cpu number command → IsCalled events other cpu number made → command ≡ made
+same_command events one place other cpu number command made here there =
+    let at = one.one_call place other cpu number command made here there in
+    let both : Some (Called cpu number command) ≡ Some (Called cpu number made) =
+    sym here ∙ ap (λ (p : ℕ). slice_get events p) at ∙ there in cc
+
+-- the replies of a call's returns are one
+pub same_given : (events : List Event) → HasOnePlaces events → (place other cpu number : ℕ) (given told : Reply)
+    → IsReturned events place cpu number given → IsReturned events other cpu number told → given ≡ told
+same_given events one place other cpu number given told here there =
+    let at = one.one_return place other cpu number given told here there in
+    let both : Some (Returned cpu number given) ≡ Some (Returned cpu number told) =
+    sym here ∙ ap (λ (p : ℕ). slice_get events p) at ∙ there in cc
+
+-- a line claims one reply
+pub same_reply : (events : List Event) → HasOnePlaces events → (line : Line) (given told : Reply)
+    → IsReplyOf events line given → IsReplyOf events line told → given ≡ told
+same_reply events one (Keep cpu number) given told here there =
+    same_given events one here.0 there.0 cpu number given told here.1 there.1
+same_reply events one (Unfinished cpu number claimed) given told here there = here ∙ sym there
+
+-- a line claims one commit
+pub record SameEntries (entry other : JournalEntry) : Type 0 where
+  pub cpu : entry.cpu ≡ other.cpu
+  pub command : entry.command ≡ other.command
+  pub given : entry.given ≡ other.given
+
+pub same_entry : (events : List Event) → HasOnePlaces events → (line : Line) (entry other : JournalEntry)
+    → IsEntryOf events line entry → IsEntryOf events line other → SameEntries entry other
+same_entry events one line entry other here there = record {
+  cpu = here.cpu ∙ sym there.cpu;
+  command = same_command events one here.called there.called (cpu_named line) (number_named line) entry.command other.command here.is_called there.is_called;
+  given = same_reply events one line entry.given other.given here.given there.given;
+}

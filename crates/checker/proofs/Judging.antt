@@ -1,0 +1,104 @@
+-- What a line's look-ups say of it.
+use Rattle.std.proofs.Common.{◌≡◌, ℕ, ◌≤◌, Bool, true, false, List, [], ◌∷◌, ◌++◌, get_or, set, max, Option, Some, None, is_some, refl, sym, subst}
+use Rattle.std.specs.Option.{MatchOption}
+use Rattle.rmm_spec.specs.declared.command.Command.{Command}
+use Rattle.rmm_spec.specs.declared.line.Line.{Line}
+use Rattle.rmm_spec.specs.declared.line.Line.TheVariants.{Keep, Unfinished}
+use Rattle.rmm_spec.specs.declared.reply.Reply.{Reply}
+use Rattle.rmm_spec.specs.declared.verdict.Reason.TheVariants as reason
+use Rattle.rmm_spec.specs.HistoryText.{History, IsHistory}
+use Rattle.rmm_spec.specs.State.{State}
+use Rattle.rmm_spec.specs.Step.{Step}
+use Rattle.rmm_spec.specs.Linearization.{IsCalled, IsReturned, IsFinished, cpu_named, number_named, IsOfItsKind, IsTooLate, IsReplyOf, FailsBy}
+use Rattle.rmm_spec.proofs.Places.{one_call_place, one_return_place, finished_is_known}
+use Rattle.checker.specs.Progress.{Progress}
+use Rattle.checker.proofs.Calls.{HasOnePlaces}
+use Rattle.checker.proofs.Progress.{Follows, Progress-push}
+use Rattle.checker.proofs.Faults.{IsRefused-from_step, not-IsTooLate-from_latest, not-IsTooLate-unfinished}
+
+-- a history has one place for each call and each return
+pub HasOnePlaces-from_history : (history : History) → IsHistory history → HasOnePlaces history.events
+HasOnePlaces-from_history history is_history = record {
+  one_call = λ place other cpu number command made. one_call_place cpu number history.events place other command made (is_history.records cpu);
+  one_return = λ place other cpu number given told. one_return_place cpu number history.events place other given told (is_history.records cpu);
+  is_known = λ cpu number. finished_is_known cpu number history.events (is_history.records cpu);
+}
+
+-- a line whose call is found, unnamed, of its kind and in time, with the reply that it claims
+pub record IsReady (history : History) (before : List Line) (named : List Bool) (line : Line) (called : ℕ) (command : Command) (given : Reply) : Type 0 where
+  pub is_called : IsCalled history.events called (cpu_named line) (number_named line) command
+  pub unset : get_or named called false ≡ false
+  pub kind : IsOfItsKind history.events line
+  pub in_time : ¬ IsTooLate history.events before line
+  pub is_given : IsReplyOf history.events line given
+
+-- the machine gives the reply: the line passes
+pub Progress-line : (history : History) → IsHistory history → (before : List Line) (named : List Bool) (latest : ℕ) (old : State)
+    → Progress history before named latest old → (line : Line) (called : ℕ) (command : Command) (given : Reply)
+    → IsReady history before named line called command given → (flags : List Bool) (place : ℕ) (new : State)
+    → Step old (cpu_named line) command given new → flags ≡ set named called true → place ≡ max latest called
+    → Progress history (before ++ line ∷ []) flags place new
+Progress-line history is_history before named latest old progress line called command given ready flags place new step is_flags is_place =
+    let follows : Follows history before old line called new = record {
+      command = command;
+      is_called = ready.is_called;
+      unnamed = progress.unflagged called (cpu_named line) (number_named line) command ready.is_called ready.unset;
+      kind = ready.kind;
+      in_time = ready.in_time;
+      given = given;
+      is_given = ready.is_given;
+      step = step;
+    } in
+    subst (λ (fs : List Bool). Progress history (before ++ line ∷ []) fs place new) (sym is_flags)
+    (subst (λ (p : ℕ). Progress history (before ++ line ∷ []) (set named called true) p new) (sym is_place)
+    (Progress-push history (HasOnePlaces-from_history history is_history) before named latest old line called new progress follows))
+
+-- the machine doesn't: the line fails by its reply
+pub FailsBy-line : (history : History) → IsHistory history → (before : List Line) (named : List Bool) (latest : ℕ) (old : State)
+    → Progress history before named latest old → (line : Line) (called : ℕ) (command : Command) (given : Reply)
+    → IsReady history before named line called command given → ((next : State) → ¬ Step old (cpu_named line) command given next)
+    → FailsBy reason.Reply history.events before old line
+FailsBy-line history is_history before named latest old progress line called command given ready refuses = (
+  (called, command, ready.is_called),
+  progress.unflagged called (cpu_named line) (number_named line) command ready.is_called ready.unset,
+  ready.kind,
+  ready.in_time,
+  IsRefused-from_step history.events (HasOnePlaces-from_history history is_history) old line called command given ready.is_called ready.is_given refuses,
+)
+
+-- the flag that was read isn't set
+unset_flag : (named : List Bool) (called : ℕ) (flag : Bool) → flag ≡ get_or named called flag → flag ≡ false → get_or named called false ≡ false
+unset_flag named called flag is_read unset = sym (subst (λ (b : Bool). b ≡ get_or named called b) unset is_read)
+
+-- a kept line of a finished call
+pub IsReady-kept : (history : History) → IsHistory history → (before : List Line) (named : List Bool) (latest : ℕ) (old : State)
+    → Progress history before named latest old → (cpu number called : ℕ) (command : Command) (flag : Bool) (returned : ℕ) (told : Reply)
+    → IsCalled history.events called cpu number command → flag ≡ get_or named called flag → flag ≡ false
+    → IsReturned history.events returned cpu number told → latest ≤ returned
+    → IsReady history before named (Keep cpu number) called command told
+IsReady-kept history is_history before named latest old progress cpu number called command flag returned told is_called is_read unset is_returned late = record {
+  is_called = is_called;
+  unset = unset_flag named called flag is_read unset;
+  kind = (returned, told, is_returned);
+  in_time = not-IsTooLate-from_latest history (HasOnePlaces-from_history history is_history) before named latest old (Keep cpu number) returned told
+      progress is_returned late;
+  is_given = (returned, is_returned);
+}
+
+-- an unfinished line of an unfinished call
+pub IsReady-unfinished : (history : History) (before : List Line) (named : List Bool) (cpu number called : ℕ) (command : Command) (flag : Bool) (claimed : Reply)
+    → IsCalled history.events called cpu number command → flag ≡ get_or named called flag → flag ≡ false
+    → ¬ IsFinished history.events cpu number
+    → IsReady history before named (Unfinished cpu number claimed) called command claimed
+IsReady-unfinished history before named cpu number called command flag claimed is_called is_read unset unfinished = record {
+  is_called = is_called;
+  unset = unset_flag named called flag is_read unset;
+  kind = unfinished;
+  in_time = not-IsTooLate-unfinished history.events before (Unfinished cpu number claimed) unfinished;
+  is_given = refl;
+}
+
+-- what is said of None
+pub MatchOption-at_not_some : {X : Type 0} (o : Option X) (P : Type 0) (Q : X → Type 0) → is_some o ≡ false → MatchOption o P Q → P
+MatchOption-at_not_some None P Q none holds = holds
+MatchOption-at_not_some (Some x) P Q none holds = absurd (let bad : true ≡ false = none in cc)

@@ -1,0 +1,9 @@
+pub mod Elements
+pub mod Calls
+pub mod Runs
+pub mod Progress
+pub mod Faults
+pub mod Judging
+pub mod Scan
+pub mod Excludes
+pub mod Verdicts

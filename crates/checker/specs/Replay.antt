@@ -1,0 +1,27 @@
+-- What a replay holds, seen from the definitions.
+use Rattle.std.specs.Prelude.{◌≡◌, ℕ, true, max, List, [], ◌∷◌, ◌++◌, slice_set, Option, MatchOption}
+use Rattle.rmm_spec.specs.declared.command.Command.{Command}
+use Rattle.rmm_spec.specs.declared.line.Line.{Line}
+use Rattle.rmm_spec.specs.declared.reply.Reply.{Reply}
+use Rattle.rmm_spec.specs.declared.verdict.Reason.{Reason}
+use Rattle.rmm_spec.specs.HistoryText.{History}
+use Rattle.rmm_spec.specs.Step.{Step}
+use Rattle.rmm_spec.specs.Linearization.{FailsBy}
+use Rattle.spec_machine.specs.View.{state_of}
+use Rattle.checker.specs.Progress.{Progress}
+use Rattle.checker.specs.declared.replay.Replay.{Replay}
+
+-- the lines so far pass, and the replay holds what it should of them
+abbrev pub IsReplayOf : Replay → History → List Line → Type 0
+IsReplayOf replay history lines = Progress history lines replay.named.items replay.latest (state_of replay.machine)
+
+-- the call that was made there is named and committed
+pub record Commits (old new : Replay) (cpu called : ℕ) (command : Command) (given : Reply) : Type 0 where
+  pub step : Step (state_of old.machine) cpu command given (state_of new.machine)
+  pub named : new.named.items ≡ slice_set old.named.items called true
+  pub latest : new.latest ≡ max old.latest called
+
+-- after lines that pass, the line passes too, or fails by the reason
+abbrev pub JudgesLine : Option Reason → Replay → Replay → History → Line → Type 0
+JudgesLine why old new history line = (before : List Line) → IsReplayOf old history before
+    → MatchOption why (IsReplayOf new history (before ++ line ∷ [])) (λ reason. FailsBy reason history.events before (state_of old.machine) line)

@@ -1,0 +1,52 @@
+//! The verdict on two texts.
+
+ghost use Rattle.std.specs.Prelude.{◌≡◌, ◌↔◌, List, length, IfOk};
+ghost use Rattle.rmm_spec.specs.declared.line.Line.{Line};
+ghost use Rattle.rmm_spec.specs.declared.verdict.Verdict.TheVariants as verdict;
+ghost use Rattle.rmm_spec.specs.HistoryText.{History, IsHistoryText};
+ghost use Rattle.rmm_spec.specs.CertificateText.{IsCertificateText};
+ghost use Rattle.rmm_spec.specs.Linearization.{IsLinearization};
+ghost use Rattle.rmm_spec.specs.Judgement.{Judges};
+
+use crate::order::judge;
+use certificate::CertFault;
+use history::HistoryFault;
+use rmm_spec::Verdict;
+use std::alloc::{AllocError, Global};
+
+/// Judges a certificate's text against a history's: `Yes` exactly where the certificate is a linearization of the
+/// history (Herlihy and Wing 1990), with its count of lines, else the first fault. A fault of a text is its bad line.
+pub fn check(alloc: Global, history: &[u8], certificate: &[u8]) -> Result<Verdict, AllocError>
+    ensures judged { IfOk result (λ v. Judges v history.now certificate.now) }
+    ensures valid { IfOk result (λ v. (h : History) (lines : List Line)
+        → IsHistoryText history.now h → IsCertificateText certificate.now lines
+        → (v ≡ verdict.Yes (length lines)) ↔ IsLinearization h lines) }
+{
+    let history = match history::read(alloc, history) {
+        Ok(history) => history,
+        Err(HistoryFault::BadLine(line)) => return Ok(Verdict::HistoryFault(line)),
+        Err(HistoryFault::NoMemory) => return Err(AllocError),
+    };
+    let certificate = match certificate::read(alloc, certificate) {
+        Ok(certificate) => certificate,
+        Err(CertFault::BadLine(line)) => return Ok(Verdict::CertificateFault(line)),
+        Err(CertFault::NoMemory) => return Err(AllocError),
+    };
+    judge(alloc, &history, &certificate)
+}
+
+#[cfg(test)]
+mod tests {
+    use super::*;
+    use crate::report::verdict_text;
+
+    #[test]
+    fn one_delegated_granule(rt: HostRuntime) {
+        let history = b"rmh1 4 1\nc 0 0 c4000151 1000\nr 0 0 ok\n";
+        let verdict = check(rt.alloc(), history, b"k 0 0\n").expect(&rt, "memory");
+        assert_eq!(rt; verdict, Verdict::Yes(1));
+        let mut line = Vec::new(rt.alloc());
+        verdict_text(&verdict, &mut line).expect(&rt, "memory");
+        assert_eq!(rt; line.as_slice(), b"yes 1\n".as_slice());
+    }
+}

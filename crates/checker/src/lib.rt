@@ -1,0 +1,15 @@
+//! Judges whether a certificate is a linearization of a recorded history of the machine.
+//! It promises `Yes` exactly for a linearization, isolated after every step, else the first bad line or the first step that fails.
+//! Real time is compared over all pairs of lines in the definition, and by one number, the latest call so far, in the code.
+//! It trusts neither the monitor nor whoever wrote the certificate, and is linear in both texts.
+//! The program `rmmcheck` and the acceptance tests stand on it.
+#![tactic(auto)]
+
+mod judgement;
+mod order;
+mod replay;
+mod report;
+
+pub use judgement::check;
+pub use report::verdict_text;
+pub use rmm_spec::{Reason, Verdict};

@@ -1,0 +1,179 @@
+//! What is kept of the lines so far.
+
+ghost use Rattle.std.specs.Prelude.{◌≡◌, ℕ, ◌<◌, ◌↔◌, List, [], length, IsTrue, IfOk, MatchOption};
+ghost use Rattle.std.specs.Bool.{MatchBool};
+ghost use Rattle.rmm_spec.specs.declared.line.Line.{Line};
+ghost use Rattle.rmm_spec.specs.declared.line.Line.TheVariants as line;
+ghost use Rattle.rmm_spec.specs.Function.{is_served};
+ghost use Rattle.rmm_spec.specs.HistoryText.{IsHistory};
+ghost use Rattle.rmm_spec.specs.State.{State};
+ghost use Rattle.rmm_spec.specs.Step.{Step};
+ghost use Rattle.rmm_spec.specs.Linearization.{IsFinished, IsFirstMissing};
+ghost use Rattle.checker.specs.Progress.{AreNamedBelow, IsFinishedCallAt, HasNoFinishedCall};
+
+use certificate::LineRef;
+use history::History;
+use rmm_spec::{Command, Event, Reason, Reply};
+use spec_machine::Machine;
+use std::alloc::{AllocError, Global};
+
+/// The lines so far, replayed: the machine after them, a flag for each event that is a call which they name,
+/// and the latest place of such a call, or 0.
+#[derive(Drop)]
+pub(crate) struct Replay {
+    machine: Machine,
+    named: Vec<bool>,
+    latest: u32,
+}
+
+impl Replay {
+    ghost use Rattle.checker.specs.Replay.{IsReplayOf, Commits, JudgesLine};
+    ghost use Rattle.certificate.specs.LineRef.{line_seen};
+    ghost use Rattle.spec_machine.specs.View.{state_of};
+
+    /// Before the first line.
+    pub(crate) fn new(alloc: Global, history: &History) -> Result<Replay, AllocError>
+        ensures { IfOk result (λ replay. IsReplayOf replay history.now []) }
+    {
+        let machine = Machine::new(alloc, history.config())?;
+        let named = vec![in alloc; false; history.len()]?;
+        Ok(Replay {
+            machine,
+            named,
+            latest: 0,
+        })
+    }
+
+    /// Replays the next line: nothing where it passes, else why it fails.
+    pub(crate) fn take_line(
+        &mut self,
+        history: &History,
+        line: LineRef<'_>,
+    ) -> Result<Option<Reason>, AllocError>
+        requires is_history { IsHistory history.now }
+        requires counted { length self.old.named.items ≡ length history.now.events }
+        ensures { IfOk result (λ why. JudgesLine why self.old self.new history.now (line_seen line.entry)) }
+    {
+        match line {
+            LineRef::Keep { cpu, number } => self.take_kept(history, cpu, number),
+            LineRef::Unfinished { cpu, number, reply } => self.take_unfinished(
+                history, cpu, number, reply,
+            ),
+        }
+    }
+
+    fn take_kept(
+        &mut self,
+        history: &History,
+        cpu: u8,
+        number: u32,
+    ) -> Result<Option<Reason>, AllocError>
+        requires is_history { IsHistory history.now }
+        requires counted { length self.old.named.items ≡ length history.now.events }
+        ensures { IfOk result (λ why. JudgesLine why self.old self.new history.now (line.Keep cpu number)) }
+    {
+        let Some(call) = history.call_of(cpu, number) else {
+            return Ok(Some(Reason::Unknown));
+        };
+        if self.named[call.called as usize] {
+            return Ok(Some(Reason::Repeated));
+        }
+        let Some(answer) = call.answer else {
+            return Ok(Some(Reason::Kind));
+        };
+        if answer.returned < self.latest {
+            return Ok(Some(Reason::Order));
+        }
+        let given = self.commit(cpu, call.called, call.command, answer.reply)?;
+        Ok(if given { None } else { Some(Reason::Reply) })
+    }
+
+    fn take_unfinished(
+        &mut self,
+        history: &History,
+        cpu: u8,
+        number: u32,
+        reply: &Reply,
+    ) -> Result<Option<Reason>, AllocError>
+        requires is_history { IsHistory history.now }
+        requires counted { length self.old.named.items ≡ length history.now.events }
+        ensures { IfOk result (λ why. JudgesLine why self.old self.new history.now (line.Unfinished cpu number reply.now)) }
+    {
+        let Some(call) = history.call_of(cpu, number) else {
+            return Ok(Some(Reason::Unknown));
+        };
+        if self.named[call.called as usize] {
+            return Ok(Some(Reason::Repeated));
+        }
+        if call.answer.is_some() {
+            return Ok(Some(Reason::Kind));
+        }
+        let given = self.commit(cpu, call.called, call.command, reply)?;
+        Ok(if given { None } else { Some(Reason::Reply) })
+    }
+
+    /// Commits the call that was made at the place, if the machine gives that reply.
+    fn commit(
+        &mut self,
+        cpu: u8,
+        called: u32,
+        command: &Command,
+        reply: &Reply,
+    ) -> Result<bool, AllocError>
+        requires within { called < length self.old.named.items }
+        requires served { IsTrue (is_served command.now.function) }
+        ensures given { IfOk result (λ given. MatchBool given (Commits self.old self.new cpu called command.now reply.now)
+            ((next : State) → ¬ Step (state_of self.old.machine) cpu command.now reply.now next)) }
+    {
+        let given = self.machine.offer(cpu, command, reply)?;
+        if given {
+            self.named[called as usize] = true;
+            self.latest = self.latest.max(called);
+        }
+        Ok(given)
+    }
+
+    /// The first call, in the order of the calls, that returned and that no line names, by its CPU and number.
+    pub(crate) fn first_missing(&self, history: &History) -> Option<(u8, u32)>
+        requires is_history { IsHistory history.now }
+        requires counted { length self.now.named.items ≡ length history.now.events }
+        ensures { (lines : List Line) → IsReplayOf self.now history.now lines → MatchOption result
+            (AreNamedBelow history.now.events lines (length history.now.events))
+            (λ call. IsFirstMissing history.now.events lines call.0 call.1) }
+    {
+        for (place, named) in self.named.iter().enumerate() {
+            if *named {
+                continue;
+            }
+            if let Some(call) = finished_call_at(history, place) {
+                return Some(call);
+            }
+        }
+        None
+    }
+}
+
+/// The call that is made at a place, by its CPU and number, where one is made there and it has returned.
+fn finished_call_at(history: &History, place: usize) -> Option<(u8, u32)>
+    requires is_history { IsHistory history.now }
+    requires within { place < length history.now.events }
+    ensures { MatchOption result (HasNoFinishedCall history.now.events place) (λ call. IsFinishedCallAt history.now.events place call.0 call.1) }
+{
+    match history.event(place) {
+        Event::Called { cpu, number, .. } => has_returned(history, *cpu, *number).then_some((
+            *cpu, *number,
+        )),
+        Event::Returned { .. } => None,
+    }
+}
+
+/// Whether the call of that number of a CPU is there and has returned.
+fn has_returned(history: &History, cpu: u8, number: u32) -> bool
+    requires { IsHistory history.now }
+    ensures { IsTrue result ↔ IsFinished history.now.events cpu number }
+{
+    match history.call_of(cpu, number) {
+        Some(call) => call.answer.is_some(),
+        None => false,
+    }
+}

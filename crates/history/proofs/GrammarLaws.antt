@@ -1,0 +1,197 @@
+-- How a reader of a history, with its lines so far, comes to the history of a text or to its bad line.
+use Rattle.std.proofs.Common.{◌≡◌, ◌≢◌, ℕ, ◌+◌, ◌<◌, ◌≤◌, List, [], ◌∷◌, ◌++◌, map, length, take, refl, sym, ap, ◌∙◌, subst, arith, append_assoc, Bool, true, false, ◌==◌}
+use Rattle.std.specs.Prelude.{IsTrue, ◌↔◌}
+use Rattle.std.specs.List.{AllByRecursion}
+use Rattle.std.proofs.lemmas.Bool.{false≢true}
+use Rattle.std.proofs.lemmas.List.{length-map, map_push, length_push, take_at}
+use Rattle.std.proofs.lemmas.List.Sums.{length-filter, count_by-le-length}
+use Rattle.std.proofs.lemmas.List.Splits.{join_with_byte-slice_split}
+use Rattle.rmm_spec.specs.declared.event.Event.{Event}
+use Rattle.rmm_spec.specs.declared.event.Event.TheVariants.{Called, Returned}
+use Rattle.rmm_spec.specs.Text.{IsBadLine, line_text, lines_text, parts_of}
+use Rattle.rmm_spec.specs.HistoryText.{Setup, History, IsHistory, InHistories, CanFollow, cpu_of, events_of, IsRecord, setup_parts, event_parts, history_text}
+use Rattle.rmm_spec.proofs.Lines.{HasNoNewline, AreOneLineEach, IsLineGrammar, IsBadLine-line, IsBadLine-unfinished, IsBadLine-full, IsOneLine-from_parts, AreOneLineEach-map, map_cut, lines_text-push, IsBadLine-end}
+use Rattle.rmm_spec.proofs.Texts.{setup_parts-are_parts, setup_parts-injective, event_parts-are_parts, event_parts-some, event_parts-injective}
+use Rattle.rmm_spec.proofs.Places.{rank, rank-slice_get}
+use Rattle.rmm_spec.proofs.Records.{CanFollow-from_push}
+use Rattle.history.specs.Spelling.{IsHeaderOf, IsNoHeader, call_number, IsEventOf, IsNoEvent}
+use Rattle.history.proofs.DeskLaws.{slice_get-push, cpu_below}
+
+-- the lines of a history, each as its parts
+abbrev pub history_lines : History → List (List (List ℕ))
+history_lines history = setup_parts history.setup ∷ map event_parts history.events
+
+-- the lines are those of a history
+pub record AreHistoryLines (lines : List (List (List ℕ))) : Type 0 where
+  pub history : History
+  pub is_history : IsHistory history
+  pub spelled : lines ≡ history_lines history
+
+pub history_lines-one_line : (history : History) → AreOneLineEach (history_lines history)
+history_lines-one_line history = (
+  IsOneLine-from_parts (setup_parts history.setup) (omega arith) (setup_parts-are_parts history.setup),
+  AreOneLineEach-map event_parts event_parts-some event_parts-are_parts history.events,
+)
+
+-- histories are a grammar of lines
+pub histories_by_lines : IsLineGrammar InHistories AreHistoryLines
+histories_by_lines = record {
+  lines = λ text given. (history_lines given.0, (record { history = given.0; is_history = given.1.is_history; spelled = refl }, given.1.is_text));
+  each = λ lines taken. subst AreOneLineEach (sym taken.spelled) (history_lines-one_line taken.history);
+}
+
+pub InHistories-from_lines : (history : History) → IsHistory history → InHistories (lines_text (history_lines history))
+InHistories-from_lines history is_history = (history, record { is_history = is_history; is_text = refl })
+
+-- ---- the header
+
+-- the first line isn't whole
+pub unfinished_header : (text : List ℕ) → HasNoNewline text → IsBadLine InHistories text 1
+unfinished_header [] none =
+    IsBadLine-end histories_by_lines [] [] tt refl (λ none_before. absurd (omega (arith, none_before)))
+    (λ taken. let spelled : [] ≡ history_lines taken.history = taken.spelled in cc)
+unfinished_header (byte ∷ text) none =
+    IsBadLine-unfinished histories_by_lines [] (byte ∷ text) (byte ∷ text) tt refl none (λ ended. cc) (λ none_before. absurd (omega (arith, none_before)))
+
+-- the first line is whole, and no header
+pub bad_header : (text front more : List ℕ) → text ≡ front ++ 10 ∷ more → HasNoNewline front → IsNoHeader (parts_of front) → IsBadLine InHistories text 1
+bad_header text front more is_text none no_header =
+    IsBadLine-line histories_by_lines [] text front more tt is_text none (λ none_before. absurd (omega (arith, none_before)))
+    (λ taken.
+    let same : parts_of front ∷ [] ≡ setup_parts taken.history.setup ∷ map event_parts taken.history.events = taken.spelled in
+    let spelled : parts_of front ≡ setup_parts taken.history.setup = cc in
+    no_header taken.history.setup (record { is_setup = taken.is_history.setup; spelled = spelled }))
+
+-- the text of a history without events, and what is left
+pub history_text-header : (setup : Setup) (text front more : List ℕ) → text ≡ front ++ 10 ∷ more → IsHeaderOf (parts_of front) setup
+    → text ≡ history_text (record { setup = setup; events = [] }) ++ more
+history_text-header setup text front more is_text is_header =
+    let spelled : line_text (setup_parts setup) ≡ front = ap line_text (sym is_header.spelled) ∙ join_with_byte-slice_split 32 front in
+    is_text ∙ ap (λ b. b ++ 10 ∷ more) (sym spelled) ∙ sym (append_assoc (line_text (setup_parts setup)) (10 ∷ []) more)
+
+-- ---- the events
+
+-- the line after a history's is that of an event which may follow
+pub record HasNext (history : History) (line : List (List ℕ)) : Type 0 where
+  pub event : Event
+  pub can_follow : CanFollow history event
+  pub room : length history.events + 1 < 1000000
+  pub spelled : event_parts event ≡ line
+
+pub HasNext-lines : (history : History) (line : List (List ℕ)) → IsHistory history → AreHistoryLines (history_lines history ++ line ∷ []) → HasNext history line
+HasNext-lines history line is_history taken =
+    let other = taken.history in
+    let same : setup_parts history.setup ∷ (map event_parts history.events ++ line ∷ []) ≡ setup_parts other.setup ∷ map event_parts other.events = taken.spelled in
+    let setups : history.setup ≡ other.setup = setup_parts-injective history.setup other.setup (let e : setup_parts history.setup ≡ setup_parts other.setup = cc in e) in
+    let events : map event_parts other.events ≡ map event_parts history.events ++ line ∷ [] = cc in
+    let cut = map_cut event_parts (λ _. Unit {0}) (λ x y _ _ e. event_parts-injective x y e) history.events other.events line
+    (all_trivial history.events) (all_trivial other.events) events in
+    let whole : IsHistory (record { setup = history.setup; events = history.events ++ cut.0 ∷ [] }) =
+    subst IsHistory (same_history other.setup history.setup other.events (history.events ++ cut.0 ∷ []) (sym setups) cut.1.1) taken.is_history in
+    record {
+      event = cut.0;
+      can_follow = CanFollow-from_push history.setup history.events cut.0 whole;
+      room = (let few = whole.lines in omega (arith, few, length_push history.events cut.0));
+      spelled = cut.1.0.1;
+    }
+  where
+    all_trivial : {X : Type 0} (xs : List X) → AllByRecursion (λ _. Unit {0}) xs
+    all_trivial [] = tt
+    all_trivial (x ∷ xs) = (tt, all_trivial xs)
+
+    same_history : (s t : Setup) (es fs : List Event) → s ≡ t → es ≡ fs → ◌≡◌ {A = History} (record { setup = s; events = es }) (record { setup = t; events = fs })
+    same_history s t es fs e f = ap (λ (x : Setup). history_at x es) e ∙ ap (λ (x : List Event). history_at t x) f
+      where
+        history_at : Setup → List Event → History
+        history_at x y = record { setup = x; events = y }
+
+-- the number of the next line, counted from 1
+counted : (history : History) (text : List ℕ) → IsBadLine InHistories text (length (history_lines history) + 1) → IsBadLine InHistories text (length history.events + 2)
+counted history text bad =
+    let n : length (history_lines history) + 1 ≡ length history.events + 2 = omega (arith, length-map history.events event_parts) in
+    subst (λ n. IsBadLine InHistories text n) n bad
+
+-- the next line is whole, and no event's that may follow
+pub bad_line : (history : History) (rest front more : List ℕ) → IsHistory history → rest ≡ front ++ 10 ∷ more → HasNoNewline front
+    → (HasNext history (parts_of front) → ⊥) → IsBadLine InHistories (history_text history ++ rest) (length history.events + 2)
+bad_line history rest front more is_history rest_is none no_next =
+    counted history (history_text history ++ rest)
+    (IsBadLine-line histories_by_lines (history_lines history) (history_text history ++ rest) front more (history_lines-one_line history)
+    (ap (λ r. history_text history ++ r) rest_is) none (λ _. InHistories-from_lines history is_history)
+    (λ taken. no_next (HasNext-lines history (parts_of front) is_history taken)))
+
+-- the text ends within a line
+pub unfinished_line : (history : History) (rest : List ℕ) → IsHistory history → HasNoNewline rest → rest ≢ []
+    → IsBadLine InHistories (history_text history ++ rest) (length history.events + 2)
+unfinished_line history rest is_history none some =
+    counted history (history_text history ++ rest)
+    (IsBadLine-unfinished histories_by_lines (history_lines history) (history_text history ++ rest) rest (history_lines-one_line history)
+    refl none some (λ _. InHistories-from_lines history is_history))
+
+-- all lines are there, and the text goes on
+pub line_too_many : (history : History) (rest : List ℕ) → IsHistory history → rest ≢ [] → length history.events + 1 ≡ 1000000
+    → IsBadLine InHistories (history_text history ++ rest) (length history.events + 2)
+line_too_many history rest is_history some full =
+    counted history (history_text history ++ rest)
+    (IsBadLine-full histories_by_lines (history_lines history) (history_text history ++ rest) rest (history_lines-one_line history)
+    refl some (λ _. InHistories-from_lines history is_history)
+    (λ line taken. let next = HasNext-lines history line is_history taken in let room = next.room in absurd (omega (arith, room))))
+
+-- the number of a call is within the room for its line
+pub call_number-lt : (history : History) (event : Event) → CanFollow history event → length history.events + 1 < 1000000 → call_number event < 1000000
+call_number-lt history event can_follow room =
+    let events = history.events in
+    let cpu = cpu_of event in
+    let ranked : rank event ≡ length (events_of cpu (take (length events) (events ++ event ∷ []))) =
+    rank-slice_get cpu (events ++ event ∷ []) (length events) event can_follow.record_goes_on (slice_get-push events event) refl in
+    let front : length (events_of cpu (take (length events) (events ++ event ∷ []))) ≡ length (events_of cpu events) =
+    ap (λ (es : List Event). length (events_of cpu es)) (take_at events (event ∷ []) (length events) refl) in
+    omega (
+      arith,
+      ranked,
+      front,
+      length-filter (λ e. cpu_of e == cpu) events,
+      count_by-le-length (λ e. cpu_of e == cpu) events,
+      call_number-rank event,
+    )
+  where
+    call_number-rank : (e : Event) → call_number e ≤ rank e
+    call_number-rank (Called c n command) = omega arith
+    call_number-rank (Returned c n given) = omega arith
+
+-- no event has the parts
+pub no_event : (history : History) (line : List (List ℕ)) → IsNoEvent history.setup.cpus line → HasNext history line → ⊥
+no_event history line none next =
+    none next.event (call_number-lt history next.event next.can_follow next.room)
+    (record { is_event = next.can_follow.is_event; spelled = sym next.spelled })
+
+-- the event that has the parts doesn't go on
+pub no_record : (history : History) (line : List (List ℕ)) (event : Event) (answer : Bool) → IsEventOf history.setup.cpus line event
+    → IsTrue answer ↔ ((cpu_of event < history.setup.cpus) × IsRecord (events_of (cpu_of event) (history.events ++ event ∷ []))) → answer ≡ false
+    → HasNext history line → ⊥
+no_record history line event answer is_event continues fails next =
+    let same : next.event ≡ event = event_parts-injective next.event event (next.spelled ∙ is_event.spelled) in
+    let can_follow : CanFollow history event = subst (CanFollow history) same next.can_follow in
+    let holds : answer ≡ true = continues.1 (cpu_below history.setup.cpus event is_event.is_event, can_follow.record_goes_on) in
+    false≢true (sym fails ∙ holds)
+
+-- the text with the next event, and what is left
+pub history_text-push : (history : History) (event : Event) (rest front more : List ℕ) → rest ≡ front ++ 10 ∷ more → IsEventOf history.setup.cpus (parts_of front) event
+    → history_text history ++ rest ≡ history_text (record history { events = history.events ++ event ∷ [] }) ++ more
+history_text-push history event rest front more rest_is is_event =
+    let spelled : line_text (event_parts event) ≡ front = ap line_text (sym is_event.spelled) ∙ join_with_byte-slice_split 32 front in
+    let lines = history_lines history in
+    ap (λ r. history_text history ++ r) rest_is ∙ ap (λ b. history_text history ++ (b ++ 10 ∷ more)) (sym spelled)
+    ∙ ap (λ r. history_text history ++ r) (sym (append_assoc (line_text (event_parts event)) (10 ∷ []) more))
+    ∙ sym (append_assoc (history_text history) (line_text (event_parts event) ++ 10 ∷ []) more)
+    ∙ ap (λ t. t ++ more) (sym (ap (λ (ls : List (List (List ℕ))). lines_text (setup_parts history.setup ∷ ls)) (map_push event_parts history.events event)
+    ∙ lines_text-push lines (event_parts event)))
+
+-- what follows in the code can follow
+pub CanFollow-continues : (history : History) (line : List (List ℕ)) (event : Event) (answer : Bool) → IsEventOf history.setup.cpus line event
+    → IsTrue answer ↔ ((cpu_of event < history.setup.cpus) × IsRecord (events_of (cpu_of event) (history.events ++ event ∷ []))) → answer ≡ true
+    → CanFollow history event
+CanFollow-continues history line event answer is_event continues holds = record {
+  is_event = is_event.is_event;
+  record_goes_on = (continues.0 holds).1;
+}

@@ -1,0 +1,3 @@
+pub mod DeskLaws
+pub mod GrammarLaws
+pub mod SpellingLaws

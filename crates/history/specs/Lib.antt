@@ -1,0 +1,4 @@
+pub mod Index
+pub mod Calls
+pub mod Spelling
+pub mod Faults

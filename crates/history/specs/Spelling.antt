@@ -1,0 +1,38 @@
+-- The parts of a history's lines.
+use Rattle.std.specs.Prelude.{◌≡◌, ℕ, ◌<◌, List, ◌∷◌, codes}
+use Rattle.rmm_spec.specs.Text.{decimal}
+use Rattle.rmm_spec.specs.HistoryText.{Setup, IsSetup, IsEvent, setup_parts, event_parts}
+use Rattle.rmm_spec.specs.declared.event.Event.{Event}
+use Rattle.rmm_spec.specs.declared.event.Event.TheVariants.{Called, Returned}
+use Rattle.history.specs.declared.line.Kind.{Kind}
+use Rattle.history.specs.declared.line.Kind.TheVariants.{Call, Return}
+
+abbrev pub kind_part : Kind → List ℕ
+kind_part Call = codes "c"
+kind_part Return = codes "r"
+
+-- the parts begin with no number below the limit
+abbrev pub HasNoNumber : ℕ → List (List ℕ) → Type 0
+HasNoNumber limit parts = (n : ℕ) (more : List (List ℕ)) → n < limit → parts ≡ decimal n ∷ more → ⊥
+
+-- the parts are those of the header of such machines
+pub record IsHeaderOf (parts : List (List ℕ)) (setup : Setup) : Type 0 where
+  pub is_setup : IsSetup setup
+  pub spelled : parts ≡ setup_parts setup
+
+abbrev pub IsNoHeader : List (List ℕ) → Type 0
+IsNoHeader parts = (setup : Setup) → IsHeaderOf parts setup → ⊥
+
+-- the number of an event's call
+abbrev pub call_number : Event → ℕ
+call_number (Called cpu number command) = number
+call_number (Returned cpu number given) = number
+
+-- the parts are those of the event, on a machine of so many CPUs
+pub record IsEventOf (cpus : ℕ) (parts : List (List ℕ)) (event : Event) : Type 0 where
+  pub is_event : IsEvent cpus event
+  pub spelled : parts ≡ event_parts event
+
+-- no event that a history has room for has these parts
+abbrev pub IsNoEvent : ℕ → List (List ℕ) → Type 0
+IsNoEvent cpus parts = (event : Event) → call_number event < 1000000 → IsEventOf cpus parts event → ⊥

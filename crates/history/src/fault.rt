@@ -1,0 +1,26 @@
+//! Why a text is no history.
+
+ghost use Rattle.std.specs.Prelude.{◌≡◌};
+ghost use Rattle.history.specs.declared.fault.HistoryFault.TheVariants.{NoMemory};
+
+use std::alloc::{AllocError, AllocFailed};
+use thiserror::Error;
+
+/// Why no history was read.
+#[derive(Clone, Copy, Debug, PartialEq, Eq, Error)]
+pub enum HistoryFault {
+    /// The first line with which the text is no beginning of a history, counted from 1.
+    #[error("line {0} is bad")]
+    BadLine(u64),
+    /// Memory was refused, and nothing is said of the text.
+    #[error("out of memory")]
+    NoMemory,
+}
+
+impl From<AllocError> for HistoryFault {
+    ghost from_gives = { λ _ e. e ≡ NoMemory };
+
+    fn from(_error: AllocError) -> Self {
+        HistoryFault::NoMemory
+    }
+}

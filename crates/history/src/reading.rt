@@ -1,0 +1,104 @@
+//! Texts, read to histories.
+
+ghost use Rattle.std.specs.Prelude.{◌≡◌, ◌<◌, ◌++◌, length, IfOk, IfErr};
+ghost use Rattle.rmm_spec.specs.HistoryText.{IsHistoryText, history_text};
+ghost use Rattle.history.specs.Faults.{IsFaultOf};
+
+use crate::events::History;
+use crate::fault::HistoryFault;
+use crate::line::{MOST_LINES, event_from, header_from, next_line};
+use std::alloc::Global;
+
+/// Reads a history. A line that would be its 1,000,001st is bad, and so is the first of a text without any.
+pub fn read(alloc: Global, text: &[u8]) -> Result<History, HistoryFault>
+    ensures found { IfOk result (IsHistoryText text.now) }
+    ensures fault { IfErr result (IsFaultOf text.now) }
+{
+    let (mut history, mut rest) = read_header(alloc, text)?;
+    while !rest.is_empty() {
+        rest = read_event(&mut history, rest)?;
+    }
+    history.well_formed();
+    Ok(history)
+}
+
+/// Reads the first line, and gives the text after it.
+fn read_header(alloc: Global, text: &[u8]) -> Result<(History, &[u8]), HistoryFault>
+    ensures read { IfOk result (λ start. text.now ≡ history_text start.0 ++ start.1.now) }
+    ensures fault { IfErr result (IsFaultOf text.now) }
+{
+    let Some((line, rest)) = next_line(text) else {
+        return Err(HistoryFault::BadLine(1));
+    };
+    let Some(config) = header_from(line) else {
+        return Err(HistoryFault::BadLine(1));
+    };
+    let history = History::new(alloc, config)?;
+    Ok((history, rest))
+}
+
+/// Reads the line after those that are read, and gives the text after it.
+fn read_event<'a>(history: &mut History, rest: &'a [u8]) -> Result<&'a [u8], HistoryFault>
+    requires { 0 < length rest.now }
+    ensures read { IfOk result (λ more. history_text history.old ++ rest.now ≡ history_text history.new ++ more.now) }
+    ensures shorter { IfOk result (λ more. length more.now < length rest.now) }
+    ensures fault { IfErr result (IsFaultOf (history_text history.old ++ rest.now)) }
+{
+    history.well_formed();
+    let bad_line = HistoryFault::BadLine(history.len() as u64 + 2);
+    if history.len() + 1 == MOST_LINES {
+        return Err(bad_line);
+    }
+    let Some((line, more)) = next_line(rest) else {
+        return Err(bad_line);
+    };
+    let Some(event) = event_from(history.config().cpus(), line) else {
+        return Err(bad_line);
+    };
+    if !history.continues(&event) {
+        return Err(bad_line);
+    }
+    history.push(event)?;
+    Ok(more)
+}
+
+#[cfg(test)]
+mod tests {
+    use super::*;
+    use granule_state::Config;
+    use rmm_spec::{FunctionId, Reply};
+    use std::test::Fail;
+
+    #[test]
+    fn finds_the_call_that_was_read(rt: HostRuntime) -> Result<(), Fail> {
+        let text = b"rmh1 4 1\nc 0 0 c4000151 1000\nr 0 0 ok\n";
+        let history = read(rt.alloc(), text)?;
+        assert_eq!(rt; Some(history.config()), Config::new(4, 1));
+        assert_eq!(rt; history.len(), 2);
+        let call = history.call_of(0, 0).ok_or("no call")?;
+        assert_eq!(rt; call.called, 0);
+        assert_eq!(rt; call.command.function, FunctionId::GranuleDelegate);
+        assert_eq!(rt; call.command.words.as_slice(), [0x1000].as_slice());
+        let answer = call.answer.ok_or("no answer")?;
+        assert_eq!(rt; answer.returned, 1);
+        assert!(rt; matches!(answer.reply, Reply::Ok(words) if words.is_empty()));
+        assert!(rt; history.call_of(0, 1).is_none());
+        Ok(())
+    }
+
+    #[test]
+    fn tells_the_bad_line(rt: HostRuntime) {
+        for (text, line) in [
+            (b"".as_slice(), 1),
+            (b"rmh1 0 1\n".as_slice(), 1),
+            (b"rmh1 4097 1\n".as_slice(), 1),
+            (b"rmh1 4 9\n".as_slice(), 1),
+            (b"rmh1 4 1\nr 0 0 ok\n".as_slice(), 2),
+            (b"rmh1 4 1\nc 0 0 c4000151 01000\n".as_slice(), 2),
+            (b"rmh1 4 1\nc 0 0 c4000151 1000\nr 0 0 ok".as_slice(), 3),
+        ] {
+            let fault = read(rt.alloc(), text).err();
+            assert_eq!(rt; fault, Some(HistoryFault::BadLine(line)), "at {text:?}");
+        }
+    }
+}

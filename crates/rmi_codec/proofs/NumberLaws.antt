@@ -1,0 +1,203 @@
+-- Numerals read byte by byte: what the bytes so far spell, and which bytes no number spells.
+use Rattle.std.proofs.Common.{◌≡◌, ◌≢◌, ℕ, zero, suc, ◌+◌, ◌-◌, ◌*◌, ◌/◌, ◌%◌, ◌^◌, ◌<◌, ◌≤◌, List, [], ◌∷◌, ◌++◌, map, length, get_or, take, drop, refl, sym, ap, subst, ◌∙◌, arith, lit<, add-one}
+use Rattle.std.specs.List.{AllByRecursion}
+use Rattle.std.specs.Int.Digits.{digits_of, number_from_digits, AllBelowBase}
+use Rattle.std.proofs.lemmas.Int.Digits.{all_below_base_digits_of, digits_of_step, first_digits_of, length-digits_of-le, number_digits_of, number_after_append, number_after_ge}
+use Rattle.std.proofs.lemmas.List.{append_assoc, length-map, map-append, take_more, take_all, take-map, take-append-drop}
+use Rattle.std.proofs.lemmas.List.Elements.{All-from_recursion}
+use Rattle.std.proofs.lemmas.Nat.{div-mul-add, mod-mul-add}
+use Rattle.std.proofs.Math.Nat.{le-mul_of_pos_right, div-lt_iff_lt-mul, pow-suc, pow-le-pow_right}
+use Rattle.rmm_spec.specs.Text.{glyph, numeral, fixed_hex}
+use Rattle.rmm_spec.proofs.Texts.{glyph-injective, map-glyph-injective, numeral_some, numeral-zero, numeral-IsPart, fixed_hex-suc, AllByRecursion-append}
+
+-- the first bytes are the digits of a number, and the first of them isn't 0
+pub record SpellsSoFar (base : ℕ) (part : List ℕ) (count number : ℕ) : Type 0 where
+  pub spelled : take count part ≡ map glyph (digits_of base number)
+  pub positive : 0 < count → 0 < number
+  pub first : get_or part 0 0 ≢ 48
+
+abbrev pub IsDigit : ℕ → ℕ → Type 0
+IsDigit base byte = (d : ℕ) × (d < base) × (glyph d ≡ byte)
+
+first_digit_positive : (part : List ℕ) (count number base d : ℕ) → (0 < count → 0 < number) → get_or part 0 0 ≢ 48 → glyph d ≡ get_or part count 0 → 0 < base → 0 < number * base + d
+first_digit_positive part zero number base zero positive first is h = absurd (first (sym is))
+first_digit_positive part zero number base (suc d) positive first is h = omega arith
+first_digit_positive part (suc count) number base d positive first is h =
+    let some : 0 < number = positive (omega arith) in
+    let product : number ≤ number * base = le-mul_of_pos_right number h in
+    omega arith
+
+-- one digit more
+pub SpellsSoFar-more : (base : ℕ) (part : List ℕ) (count number d : ℕ) → 2 ≤ base → count < length part → SpellsSoFar base part count number → d < base → glyph d ≡ get_or part count 0 → SpellsSoFar base part (count + 1) (number * base + d)
+SpellsSoFar-more base part count number d big inside so_far small is =
+    let positive : 0 < number * base + d = first_digit_positive part count number base d so_far.positive so_far.first is (omega arith) in
+    let step = digits_of_step base (number * base + d) big positive in
+    let high : (number * base + d) / base ≡ number = div-mul-add number base d small in
+    let low : (number * base + d) % base ≡ d = mod-mul-add number base d small in
+    let digits : digits_of base (number * base + d) ≡ digits_of base number ++ d ∷ [] =
+    step ∙ ap (λ n. digits_of base n ++ (number * base + d) % base ∷ []) high ∙ ap (λ n. digits_of base number ++ n ∷ []) low in
+    record {
+      spelled = take_more part count 0 inside
+          ∙ ap (λ front. front ++ get_or part count 0 ∷ []) so_far.spelled
+          ∙ ap (λ byte. map glyph (digits_of base number) ++ byte ∷ []) (sym is)
+          ∙ sym (map-append glyph (digits_of base number) (d ∷ []))
+          ∙ ap (λ ds. map glyph ds) (sym digits);
+      positive = λ _. positive;
+      first = so_far.first;
+    }
+
+-- all bytes are read
+pub numeral-from_SpellsSoFar : (base : ℕ) (part : List ℕ) (count number : ℕ) → 0 < length part → length part ≤ count → SpellsSoFar base part count number → part ≡ numeral base number
+numeral-from_SpellsSoFar base part count number some all so_far =
+    sym (take_all count part all) ∙ so_far.spelled ∙ sym (numeral_some base number (so_far.positive (omega arith)))
+
+-- the one digit 0
+pub numeral-from_zero : (base : ℕ) (part : List ℕ) → length part ≡ 1 → get_or part 0 0 ≡ 48 → part ≡ numeral base 0
+numeral-from_zero base [] one first = absurd (omega arith)
+numeral-from_zero base (byte ∷ []) one first = ap (λ b. b ∷ []) first ∙ sym (numeral-zero base)
+numeral-from_zero base (byte ∷ next ∷ part) one first = absurd (omega arith)
+
+map-glyph-digits : (base : ℕ) (ds : List ℕ) → AllBelowBase base ds → AllByRecursion (IsDigit base) (map glyph ds)
+map-glyph-digits base [] h = tt
+map-glyph-digits base (d ∷ ds) h = ((d, h.0, refl), map-glyph-digits base ds h.1)
+
+-- a numeral is made of digits
+pub numeral-digits : (base n : ℕ) → 2 ≤ base → AllByRecursion (IsDigit base) (numeral base n)
+numeral-digits base zero big = rw (numeral-zero base) ((0, omega arith, refl), tt)
+numeral-digits base (suc n) big =
+    rw (numeral_some base (suc n) (omega arith)) (map-glyph-digits base (digits_of base (suc n)) (all_below_base_digits_of base (suc n) big))
+
+-- no number is spelled with a byte that isn't a digit
+pub no_numeral-at_byte : (base : ℕ) (part : List ℕ) (i n : ℕ) → 2 ≤ base → i < length part → (IsDigit base (get_or part i 0) → ⊥) → part ≡ numeral base n → ⊥
+no_numeral-at_byte base part i n big inside bad e =
+    let P : List ℕ → Type 0 = λ bytes. AllByRecursion (IsDigit base) bytes in
+    bad (All-from_recursion (IsDigit base) part (subst P (sym e) (numeral-digits base n big)) i 0 inside)
+
+first_glyph : (ds : List ℕ) → 0 < get_or ds 0 0 → get_or (map glyph ds) 0 0 ≢ 48
+first_glyph [] h e = absurd (omega arith)
+first_glyph (d ∷ ds) h e =
+    let d-is : d ≡ 0 = glyph-injective d 0 e in
+    absurd (omega arith)
+
+-- the one number whose digits begin with 0 is 0
+pub zero_from_first : (base n : ℕ) → 2 ≤ base → get_or (numeral base n) 0 0 ≡ 48 → n ≡ 0
+zero_from_first base zero big e = refl
+zero_from_first base (suc n) big e =
+    absurd (first_glyph (digits_of base (suc n)) (first_digits_of base (suc n) big (omega arith))
+    (ap (λ bytes. get_or bytes 0 0) (sym (numeral_some base (suc n) (omega arith))) ∙ e))
+
+-- no number is spelled with a leading zero
+pub no_numeral-leading_zero : (base : ℕ) (part : List ℕ) (n : ℕ) → 2 ≤ base → get_or part 0 0 ≡ 48 → length part ≢ 1 → part ≡ numeral base n → ⊥
+no_numeral-leading_zero base part n big first long e =
+    let n-is : n ≡ 0 = zero_from_first base n big (ap (λ bytes. get_or bytes 0 0) (sym e) ∙ first) in
+    long (ap length (e ∙ ap (numeral base) n-is ∙ numeral-zero base))
+
+pub no_numeral-nil : (base : ℕ) (part : List ℕ) (n : ℕ) → 2 ≤ base → length part ≡ 0 → part ≡ numeral base n → ⊥
+no_numeral-nil base part n big none e = let is_part = numeral-IsPart base n big in let some = is_part.some in omega (arith, ap length e)
+
+front_le : (base : ℕ) (ds : List ℕ) (k : ℕ) → 0 < base → number_from_digits base (take k ds) ≤ number_from_digits base ds
+front_le base ds k big =
+    let whole = ap (number_from_digits base) (take-append-drop k ds) in
+    let cut = number_after_append base 0 (take k ds) (drop k ds) in
+    let more = number_after_ge base (number_from_digits base (take k ds)) (drop k ds) big in
+    omega (arith, whole, cut, more)
+
+-- what the first bytes spell is at most what all of them do
+pub le_from_SpellsSoFar : (base : ℕ) (part : List ℕ) (count number n : ℕ) → 2 ≤ base → SpellsSoFar base part count number → part ≡ numeral base n → number ≤ n
+le_from_SpellsSoFar base part count number zero big so_far e = absurd (so_far.first (ap (λ bytes. get_or bytes 0 0) (e ∙ numeral-zero base)))
+le_from_SpellsSoFar base part count number (suc n) big so_far e =
+    let whole : part ≡ map glyph (digits_of base (suc n)) = e ∙ numeral_some base (suc n) (omega arith) in
+    let fronts : map glyph (take count (digits_of base (suc n))) ≡ map glyph (digits_of base number) =
+    sym (take-map glyph count (digits_of base (suc n))) ∙ ap (take count) (sym whole) ∙ so_far.spelled in
+    let digits : take count (digits_of base (suc n)) ≡ digits_of base number = map-glyph-injective _ _ fronts in
+    let le = front_le base (digits_of base (suc n)) count (omega arith) in
+    let back = number_digits_of base (suc n) big in
+    let number-is = ap (number_from_digits base) digits ∙ number_digits_of base number big in
+    omega (arith, le, back, number-is)
+
+-- a number below a power has as many digits at most
+pub length-numeral-le : (base k n : ℕ) → 2 ≤ base → 0 < k → n < base ^ k → length (numeral base n) ≤ k
+length-numeral-le base k zero big some small = omega (arith, ap length (numeral-zero base))
+length-numeral-le base k (suc n) big some small =
+    omega (arith, ap length (numeral_some base (suc n) (omega arith)), length-map (digits_of base (suc n)) glyph, length-digits_of-le base k (suc n) big small)
+
+-- a number past the greatest that has room for one digit more
+pub past_limit : (number base digit n : ℕ) → 0 < base → (18446744073709551615 - digit) / base < number → number * base + digit ≤ n → n < 2 ^ 64 → ⊥
+past_limit number base digit n some past bound limit =
+    let above : 18446744073709551615 - digit < number * base = (div-lt_iff_lt-mul some).0 past in
+    omega arith
+
+-- one digit written behind the digits above it
+pub digits_of-push : (base n : ℕ) (old more new : List ℕ) → 2 ≤ base → 0 < n → more ≡ old ++ map glyph (digits_of base (n / base)) → new ≡ more ++ glyph (n % base) ∷ [] → new ≡ old ++ map glyph (digits_of base n)
+digits_of-push base n old more new big some above last =
+    last ∙ ap (λ front. front ++ glyph (n % base) ∷ []) above
+    ∙ append_assoc old (map glyph (digits_of base (n / base))) (glyph (n % base) ∷ [])
+    ∙ ap (λ end. old ++ end) (sym (map-append glyph (digits_of base (n / base)) (n % base ∷ [])))
+    ∙ ap (λ ds. old ++ map glyph ds) (sym (digits_of_step base n big some))
+
+-- ---- eight digits
+
+-- the first bytes are the last digits of a number that has no more of them
+pub record SpellsFixed (part : List ℕ) (count number : ℕ) : Type 0 where
+  pub spelled : take count part ≡ fixed_hex count number
+  pub small : number < 16 ^ count
+
+pub fixed_hex-zero : (n : ℕ) → fixed_hex 0 n ≡ []
+unfolding fixed_hex
+fixed_hex-zero n = refl
+
+pub SpellsFixed-none : (part : List ℕ) → SpellsFixed part 0 0
+SpellsFixed-none part = record { spelled = sym (fixed_hex-zero 0); small = lit< tt }
+
+-- one digit more
+pub SpellsFixed-more : (part : List ℕ) (count number d : ℕ) → count < length part → SpellsFixed part count number → d < 16 → glyph d ≡ get_or part count 0 → SpellsFixed part (count + 1) (number * 16 + d)
+SpellsFixed-more part count number d inside so_far small is =
+    let high : (number * 16 + d) / 16 ≡ number = div-mul-add number 16 d small in
+    let low : (number * 16 + d) % 16 ≡ d = mod-mul-add number 16 d small in
+    let power : 16 ^ (count + 1) ≡ 16 ^ count * 16 = rw (add-one count) (pow-suc 16 count) in
+    let below = so_far.small in
+    let digits : fixed_hex (count + 1) (number * 16 + d) ≡ fixed_hex count number ++ glyph d ∷ [] =
+    ap (λ k. fixed_hex k (number * 16 + d)) (add-one count) ∙ fixed_hex-suc count (number * 16 + d)
+    ∙ ap (λ n. fixed_hex count n ++ glyph ((number * 16 + d) % 16) ∷ []) high
+    ∙ ap (λ n. fixed_hex count number ++ glyph n ∷ []) low in
+    record {
+      spelled = take_more part count 0 inside
+          ∙ ap (λ front. front ++ get_or part count 0 ∷ []) so_far.spelled
+          ∙ ap (λ byte. fixed_hex count number ++ byte ∷ []) (sym is)
+          ∙ sym digits;
+      small = omega arith;
+    }
+
+-- so few digits have room in 64 bits
+pub SpellsFixed-room : (part : List ℕ) (count number : ℕ) → count < 8 → SpellsFixed part count number → number < 16 ^ 8
+SpellsFixed-room part count number few so_far =
+    let small = so_far.small in
+    let powers : 16 ^ count ≤ 16 ^ 8 = pow-le-pow_right (lit< tt) {i = count} {j = 8} (omega arith) in
+    omega arith
+
+fixed_hex-digits : (count n : ℕ) → AllByRecursion (IsDigit 16) (fixed_hex count n)
+fixed_hex-digits zero n = rw (fixed_hex-zero n) tt
+fixed_hex-digits (suc count) n =
+    rw (fixed_hex-suc count n) (AllByRecursion-append (IsDigit 16) (fixed_hex count (n / 16)) (glyph (n % 16) ∷ []) (fixed_hex-digits count (n / 16)) ((n % 16, omega arith, refl), tt))
+
+-- no number is spelled with a byte that isn't a hex digit
+pub no_fixed_hex-at_byte : (part : List ℕ) (i count n : ℕ) → i < length part → ((d : ℕ) → d < 16 → glyph d ≢ get_or part i 0) → part ≡ fixed_hex count n → ⊥
+no_fixed_hex-at_byte part i count n inside bad e =
+    let P : List ℕ → Type 0 = λ bytes. AllByRecursion (IsDigit 16) bytes in
+    let digit = All-from_recursion (IsDigit 16) part (subst P (sym e) (fixed_hex-digits count n)) i 0 inside in
+    bad digit.0 digit.1 digit.2
+
+-- all digits are read
+pub SpellsFixed-end : (part : List ℕ) (count number digits : ℕ) → count ≡ digits → length part ≡ digits → SpellsFixed part count number → (part ≡ fixed_hex digits number) × (number < 16 ^ digits)
+SpellsFixed-end part count number digits count-is long so_far =
+    let P : ℕ → Type 0 = λ k. number < 16 ^ k in
+    (sym (take_all count part (omega arith)) ∙ so_far.spelled ∙ ap (λ k. fixed_hex k number) count-is, subst P count-is so_far.small)
+
+-- one digit written behind the digits above it
+pub fixed_hex-push : (count n : ℕ) (old more new : List ℕ) → 0 < count → more ≡ old ++ fixed_hex (count - 1) (n / 16) → new ≡ more ++ glyph (n % 16) ∷ [] → new ≡ old ++ fixed_hex count n
+fixed_hex-push zero n old more new some above last = absurd (omega arith)
+fixed_hex-push (suc count) n old more new some above last =
+    let less : suc count - 1 ≡ count = omega arith in
+    last ∙ ap (λ front. front ++ glyph (n % 16) ∷ []) (above ∙ ap (λ k. old ++ fixed_hex k (n / 16)) less)
+    ∙ append_assoc old (fixed_hex count (n / 16)) (glyph (n % 16) ∷ [])
+    ∙ ap (λ end. old ++ end) (sym (fixed_hex-suc count n))

@@ -1,0 +1,218 @@
+-- Lines read part by part: the first space, words, and the three forms of a reply.
+use Rattle.std.proofs.Common.{◌≡◌, ◌≢◌, ℕ, ◌+◌, ◌^◌, ◌<◌, ◌≤◌, Bool, true, false, ◌==◌, cond, ltb, List, [], ◌∷◌, ◌++◌, map, length, get_or, take, drop, codes, Some, None, Result, Ok, position, refl, sym, ap, ◌∙◌, arith, lit≤}
+use Rattle.std.specs.List.{AllByRecursion, position_or_len, slice_split}
+use Rattle.std.proofs.lemmas.Bool.Decides.{nat_tests}
+use Rattle.std.proofs.lemmas.List.{append-nil, append_assoc, drop-drop, length-append, length-map, map-append, take_at, take_more, take-take}
+use Rattle.std.proofs.lemmas.List.Elements.{All-from_get_or}
+use Rattle.std.proofs.lemmas.List.Quantifiers.{position-Some}
+use Rattle.std.proofs.lemmas.List.Splits.{join_with_byte-slice_split, slice_split_none, slice_split_first}
+use Rattle.std.proofs.lemmas.List.Sums.{position_or_len_is, fails_before_first}
+use Rattle.arrayvec.specs.ArrayVec.{ArrayVec}
+use Rattle.rmm_spec.specs.declared.function_id.FunctionId.{FunctionId}
+use Rattle.rmm_spec.specs.declared.function_id.FunctionId.TheVariants.{GranuleDelegate, GranuleUndelegate, DataCreate, DataCreateUnknown, DataDestroy, RealmActivate, RealmCreate, RealmDestroy, RecCreate, RecDestroy, RecEnter, RttCreate, RttDestroy, RttMapUnprotected, RttReadEntry, RttUnmapUnprotected, RttInitRipas, RttSetRipas, MeasurementRead, MeasurementExtend, RealmConfig, IpaStateSet, IpaStateGet, HostCall, CpuOff, SystemOff, Exit}
+use Rattle.rmm_spec.specs.declared.reply.Reply.{Reply}
+use Rattle.rmm_spec.specs.declared.reply.Reply.TheVariants as reply
+use Rattle.rmm_spec.specs.CommandText.{AreWords, IsReply, reply_parts}
+use Rattle.rmm_spec.specs.Function.{word_count}
+use Rattle.rmm_spec.specs.Text.{decimal, word, line_text, parts_of}
+use Rattle.rmm_spec.proofs.Texts.{IsPart, bytes_apart, map-word-injective}
+use Rattle.rmi_codec.specs.Spaced.{spaced}
+
+abbrev is_space : ℕ → Bool
+is_space byte = byte == 32
+
+-- the first part ends at the first space
+pub parts_of-Some : (line : List ℕ) (end : ℕ) → position (λ byte. byte == 32) line ≡ Some end → (end < length line) × (parts_of line ≡ take end line ∷ parts_of (drop 1 (drop end line)))
+parts_of-Some line end e =
+    let h = position-Some is_space line end 0 e in
+    let inside : end < length line = h.0 in
+    let place : position_or_len is_space line ≡ end = position_or_len_is is_space line end 0 (omega arith) h.2 (λ _. h.1) in
+    let before : position_or_len is_space line < length line = omega arith in
+    let cut = slice_split_first is_space line 0 before in
+    (inside, cut ∙ ap (λ k. take k line ∷ slice_split is_space (drop (k + 1) line)) place ∙ ap (λ rest. take end line ∷ slice_split is_space rest) (sym (drop-drop 1 end line)))
+
+none_from_test : (b : Bool) (n : ℕ) → cond b (Some n) None ≡ None → b ≡ false
+none_from_test true n e = absurd (cc)
+none_from_test false n e = refl
+
+-- without a space the line is the one part
+pub parts_of-None : (line : List ℕ) → position (λ byte. byte == 32) line ≡ None → parts_of line ≡ line ∷ []
+parts_of-None line e =
+    let test : ltb (position_or_len is_space line) (length line) ≡ false = none_from_test _ (position_or_len is_space line) e in
+    let past : length line ≤ position_or_len is_space line = grind (arith, nat_tests) in
+    slice_split_none is_space line (All-from_get_or (λ byte. is_space byte ≡ false) line 0 (λ k h. fails_before_first is_space line k 0 (omega arith)))
+
+-- a text is the line of its parts
+pub line_text-from_parts : (text : List ℕ) (parts : List (List ℕ)) → parts_of text ≡ parts → text ≡ line_text parts
+line_text-from_parts text parts e = sym (join_with_byte-slice_split 32 text) ∙ ap (λ ps. line_text ps) e
+
+-- no part is empty
+pub no_empty_part : (bytes part : List ℕ) (rest others parts : List (List ℕ)) → (length bytes == 0) ≡ true → parts ≡ bytes ∷ rest → parts ≡ part ∷ others → IsPart part → ⊥
+no_empty_part bytes part rest others parts test next e is_part =
+    let same : bytes ≡ part = cc in
+    let none : length bytes ≡ 0 = grind (arith, nat_tests) in
+    let some = is_part.some in
+    omega (arith, ap length same)
+
+pub no_empty_first_part : (bytes : List ℕ) (rest parts ps : List (List ℕ)) → (length bytes == 0) ≡ true → parts ≡ bytes ∷ rest → parts ≡ ps → AllByRecursion IsPart ps → ⊥
+no_empty_first_part bytes rest parts [] test next e are_parts = let bad : [] ≡ bytes ∷ rest = sym e ∙ next in cc
+no_empty_first_part bytes rest parts (part ∷ ps) test next e are_parts = no_empty_part bytes part rest ps parts test next e are_parts.0
+
+-- the parts behind the first, as a writer puts them
+pub line_text-spaced : (part : List ℕ) (parts : List (List ℕ)) → line_text (part ∷ parts) ≡ part ++ spaced parts
+line_text-spaced part [] = sym (append-nil part)
+line_text-spaced part (next ∷ parts) = ap (λ rest. part ++ 32 ∷ rest) (line_text-spaced next parts)
+
+spaced-push : (parts : List (List ℕ)) (part : List ℕ) → spaced (parts ++ part ∷ []) ≡ spaced parts ++ 32 ∷ part
+spaced-push [] part = ap (λ rest. 32 ∷ rest) (append-nil part)
+spaced-push (first ∷ parts) part =
+    ap (λ rest. 32 ∷ first ++ rest) (spaced-push parts part) ∙ ap (λ rest. 32 ∷ rest) (sym (append_assoc first (spaced parts) (32 ∷ part)))
+
+-- one word more
+pub spaced-more : (words : List ℕ) (i w : ℕ) → i < length words → w ≡ get_or words i 0 → spaced (map word (take (i + 1) words)) ≡ spaced (map word (take i words)) ++ 32 ∷ word w
+spaced-more words i w inside is =
+    ap (λ ws. spaced (map word ws)) (take_more words i 0 inside)
+    ∙ ap (λ last. spaced (map word (take i words ++ last ∷ []))) (sym is)
+    ∙ ap spaced (map-append word (take i words) (w ∷ []))
+    ∙ spaced-push (map word (take i words)) (word w)
+
+-- what a first step appended stays out of what the next one keeps
+pub kept-trans : (old mid new more : List ℕ) → mid ≡ old ++ more → take (length mid) new ≡ mid → take (length old) new ≡ old
+kept-trans old mid new more e kept =
+    let le : length old ≤ length mid = omega (arith, ap length e, length-append old more) in
+    sym (take-take (length old) (length mid) new le) ∙ ap (take (length old)) (kept ∙ e) ∙ take_at old more (length old) refl
+
+-- ---- words
+
+word-at : (ws : List ℕ) (front rest : List (List ℕ)) (part : List ℕ) → AreWords ws → map word ws ≡ front ++ part ∷ rest → (w : ℕ) × (w < 2 ^ 64) × (part ≡ word w)
+word-at [] [] rest part h e = absurd (cc)
+word-at [] (first ∷ front) rest part h e = absurd (cc)
+word-at (w ∷ ws) [] rest part h e = let same : word w ≡ part = cc in (w, h.0, sym same)
+word-at (w ∷ ws) (first ∷ front) rest part h e =
+    let tails : map word ws ≡ front ++ part ∷ rest = cc in
+    word-at ws front rest part h.1 tails
+
+-- among words each part is one
+pub word_among : (xs ws : List ℕ) (entry parts rest : List (List ℕ)) (part : List ℕ) → entry ≡ map word xs ++ parts → parts ≡ part ∷ rest → AreWords ws → entry ≡ map word ws → (w : ℕ) × (w < 2 ^ 64) × (part ≡ word w)
+word_among xs ws entry parts rest part read next are_words e =
+    word-at ws (map word xs) rest part are_words (sym e ∙ read ∙ ap (λ ps. map word xs ++ ps) next)
+
+-- one word more is read
+pub words_read-more : (xs : List ℕ) (w : ℕ) (entry parts rest : List (List ℕ)) (part : List ℕ) → entry ≡ map word xs ++ parts → parts ≡ part ∷ rest → part ≡ word w → entry ≡ map word (xs ++ w ∷ []) ++ rest
+words_read-more xs w entry parts rest part read next is =
+    read ∙ ap (λ ps. map word xs ++ ps) (next ∙ ap (λ p. p ∷ rest) is)
+    ∙ sym (append_assoc (map word xs) (word w ∷ []) rest)
+    ∙ ap (λ ps. ps ++ rest) (sym (map-append word xs (w ∷ [])))
+
+-- how many words there are, where one part is left behind those that were read
+pub words_left : (xs ws : List ℕ) (entry parts rest : List (List ℕ)) (part : List ℕ) → entry ≡ map word xs ++ parts → parts ≡ part ∷ rest → entry ≡ map word ws → length xs < length ws
+words_left xs ws entry parts rest part read next e =
+    omega (arith, ap length (sym e ∙ read), length-append (map word xs) parts, length-map ws word, length-map xs word, ap length next)
+
+-- all are read
+pub words_read : (xs ws : List ℕ) (entry parts : List (List ℕ)) → entry ≡ map word xs ++ parts → parts ≡ [] → entry ≡ map word ws → xs ≡ ws
+words_read xs ws entry parts read over e =
+    map-word-injective xs ws (sym (read ∙ ap (λ ps. map word xs ++ ps) over ∙ append-nil (map word xs)) ∙ e)
+
+-- ---- replies
+
+pub reply_parts-ok : (r : Reply) (rest : List (List ℕ)) → IsReply r → codes "ok" ∷ rest ≡ reply_parts r → (ws : ArrayVec ℕ) × (r ≡ reply.Ok ws) × (rest ≡ map word ws.items) × (length ws.items ≤ 10) × AreWords ws.items
+unfolding reply_parts
+reply_parts-ok (reply.Ok ws) rest h e = (ws, refl, ap (λ ps. drop 1 ps) e, h.0, h.1)
+reply_parts-ok (reply.Err status index) rest h e = absurd (bytes_apart 111 101 refl (ap (λ ps. get_or (get_or ps 0 []) 0 0) e))
+reply_parts-ok reply.Misplaced rest h e = absurd (bytes_apart 111 109 refl (ap (λ ps. get_or (get_or ps 0 []) 0 0) e))
+
+pub reply_parts-err : (r : Reply) (rest : List (List ℕ)) → IsReply r → codes "err" ∷ rest ≡ reply_parts r → (status index : ℕ) × (r ≡ reply.Err status index) × (rest ≡ decimal status ∷ decimal index ∷ []) × (status < 256) × (index < 256)
+unfolding reply_parts
+reply_parts-err (reply.Ok ws) rest h e = absurd (bytes_apart 101 111 refl (ap (λ ps. get_or (get_or ps 0 []) 0 0) e))
+reply_parts-err (reply.Err status index) rest h e = (status, index, refl, ap (λ ps. drop 1 ps) e, h.0, h.1)
+reply_parts-err reply.Misplaced rest h e = absurd (bytes_apart 101 109 refl (ap (λ ps. get_or (get_or ps 0 []) 0 0) e))
+
+pub reply_parts-misplaced : (r : Reply) (rest : List (List ℕ)) → codes "misplaced" ∷ rest ≡ reply_parts r → (r ≡ reply.Misplaced) × (rest ≡ [])
+unfolding reply_parts
+reply_parts-misplaced (reply.Ok ws) rest e = absurd (bytes_apart 109 111 refl (ap (λ ps. get_or (get_or ps 0 []) 0 0) e))
+reply_parts-misplaced (reply.Err status index) rest e = absurd (bytes_apart 109 101 refl (ap (λ ps. get_or (get_or ps 0 []) 0 0) e))
+reply_parts-misplaced reply.Misplaced rest e = (refl, ap (λ ps. drop 1 ps) e)
+
+-- a reply has one of three forms
+pub no_other_form : (r : Reply) (form : List ℕ) (rest parts : List (List ℕ)) → parts ≡ form ∷ rest → parts ≡ reply_parts r → form ≢ codes "ok" → form ≢ codes "err" → form ≢ codes "misplaced" → ⊥
+unfolding reply_parts
+no_other_form (reply.Ok ws) form rest parts next e ok err misplaced = ok (ap (λ ps. get_or ps 0 []) (sym next ∙ e))
+no_other_form (reply.Err status index) form rest parts next e ok err misplaced = err (ap (λ ps. get_or ps 0 []) (sym next ∙ e))
+no_other_form reply.Misplaced form rest parts next e ok err misplaced = misplaced (ap (λ ps. get_or ps 0 []) (sym next ∙ e))
+
+-- an empty part is none
+pub empty_no_part : (bytes part : List ℕ) → (length bytes == 0) ≡ true → bytes ≡ part → IsPart part → ⊥
+empty_no_part bytes part test same is_part =
+    let none : length bytes ≡ 0 = grind (arith, nat_tests) in
+    let some = is_part.some in
+    omega (arith, ap length same)
+
+-- no function takes more words than there is room for
+pub word_count-le : (f : FunctionId) → word_count f ≤ 10
+unfolding word_count
+word_count-le GranuleDelegate = lit≤ tt
+word_count-le GranuleUndelegate = lit≤ tt
+word_count-le DataCreate = lit≤ tt
+word_count-le DataCreateUnknown = lit≤ tt
+word_count-le DataDestroy = lit≤ tt
+word_count-le RealmActivate = lit≤ tt
+word_count-le RealmCreate = lit≤ tt
+word_count-le RealmDestroy = lit≤ tt
+word_count-le RecCreate = lit≤ tt
+word_count-le RecDestroy = lit≤ tt
+word_count-le RecEnter = lit≤ tt
+word_count-le RttCreate = lit≤ tt
+word_count-le RttDestroy = lit≤ tt
+word_count-le RttMapUnprotected = lit≤ tt
+word_count-le RttReadEntry = lit≤ tt
+word_count-le RttUnmapUnprotected = lit≤ tt
+word_count-le RttInitRipas = lit≤ tt
+word_count-le RttSetRipas = lit≤ tt
+word_count-le MeasurementRead = lit≤ tt
+word_count-le MeasurementExtend = lit≤ tt
+word_count-le RealmConfig = lit≤ tt
+word_count-le IpaStateSet = lit≤ tt
+word_count-le IpaStateGet = lit≤ tt
+word_count-le HostCall = lit≤ tt
+word_count-le CpuOff = lit≤ tt
+word_count-le SystemOff = lit≤ tt
+word_count-le Exit = lit≤ tt
+
+-- ---- writers
+
+-- a line is written where its first part is, and then the others, each behind a space
+pub line_pushed : (old mid new part : List ℕ) (parts : List (List ℕ)) → mid ≡ old ++ part → new ≡ mid ++ spaced parts → new ≡ old ++ line_text (part ∷ parts)
+line_pushed old mid new part parts first others =
+    others ∙ ap (λ front. front ++ spaced parts) first ∙ append_assoc old part (spaced parts)
+    ∙ ap (λ line. old ++ line) (sym (line_text-spaced part parts))
+
+-- one word more is written
+pub words_pushed : (old out mid new words : List ℕ) (i w : ℕ) → i < length words → w ≡ get_or words i 0 → out ≡ old ++ spaced (map word (take i words)) → mid ≡ out ++ 32 ∷ [] → new ≡ mid ++ word w → new ≡ old ++ spaced (map word (take (i + 1) words))
+words_pushed old out mid new words i w inside is before space after =
+    let so_far = spaced (map word (take i words)) in
+    after ∙ ap (λ front. front ++ word w) space ∙ append_assoc out (32 ∷ []) (word w)
+    ∙ ap (λ front. front ++ 32 ∷ word w) before ∙ append_assoc old so_far (32 ∷ word w)
+    ∙ ap (λ rest. old ++ rest) (sym (spaced-more words i w inside is))
+
+refusal_begun : (old a b c : List ℕ) (status : ℕ) → a ≡ old ++ codes "err " → b ≡ a ++ decimal status → c ≡ b ++ 32 ∷ [] → c ≡ old ++ (codes "err " ++ (decimal status ++ 32 ∷ []))
+refusal_begun old a b c status first second third =
+    third ∙ ap (λ front. front ++ 32 ∷ []) (second ∙ ap (λ front. front ++ decimal status) first)
+    ∙ append_assoc (old ++ codes "err ") (decimal status) (32 ∷ [])
+    ∙ append_assoc old (codes "err ") (decimal status ++ 32 ∷ [])
+
+-- a refusal is written part by part
+pub refusal_pushed : (old a b c new : List ℕ) (status index : ℕ) → a ≡ old ++ codes "err " → b ≡ a ++ decimal status → c ≡ b ++ 32 ∷ [] → new ≡ c ++ decimal index → new ≡ old ++ line_text (codes "err" ∷ decimal status ∷ decimal index ∷ [])
+refusal_pushed old a b c new status index first second third last =
+    let begun = refusal_begun old a b c status first second third in
+    last ∙ ap (λ front. front ++ decimal index) begun
+    ∙ append_assoc old (codes "err " ++ (decimal status ++ 32 ∷ [])) (decimal index)
+    ∙ ap (λ rest. old ++ (codes "err " ++ rest)) (append_assoc (decimal status) (32 ∷ []) (decimal index))
+
+-- what was there before a refusal is kept, however far it gets
+pub refusal_kept : (old a b c new : List ℕ) (status : ℕ) → a ≡ old ++ codes "err " → b ≡ a ++ decimal status → c ≡ b ++ 32 ∷ [] → take (length c) new ≡ c → take (length old) new ≡ old
+refusal_kept old a b c new status first second third kept =
+    kept-trans old c new _ (refusal_begun old a b c status first second third) kept
+
+pub Ok-injective : {T E : Type 0} (x y : T) → ◌≡◌ {A = Result T E} (Ok x) (Ok y) → x ≡ y
+Ok-injective x y e = cc

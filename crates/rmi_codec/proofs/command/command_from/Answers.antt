@@ -1,0 +1,92 @@
+use Rattle.std.proofs.Common.{◌≡◌, ◌≤◌, ℕ, Ok, ap, sym, ◌∙◌, length, map, arith}
+use Rattle.arrayvec.specs.ArrayVec.{ArrayVec}
+use Rattle.rmm_spec.specs.CommandText.{command_parts}
+use Rattle.rmm_spec.specs.Function.{number_of, word_count}
+use Rattle.rmm_spec.specs.Text.{word, fixed_hex}
+use Rattle.rmm_spec.proofs.Texts.{command_parts-some, command_parts-are_parts}
+use Rattle.std.proofs.lemmas.Result.{err_from_is_err_and}
+use Rattle.std.proofs.lemmas.List.{length-map}
+use Rattle.rmi_codec.proofs.FaultLaws.{IsCommandFault-from_words, WordCount-from}
+use Rattle.rmi_codec.proofs.PartLaws.{Ok-injective, no_empty_first_part, word_count-le}
+use Rattle.rmi_codec.proofs.command.command_from.Goals as goal
+
+pub returns-in_default-clause-only : goal.returns-in_default-clause-only
+returns-in_default-clause-only c = λ d _ e.
+    absurd (omega (arith, ap length (sym c.in_default.ensures.over ∙ e), command_parts-some d))
+
+pub returns-then-is_empty-clause-only : goal.returns-then-is_empty-clause-only
+returns-then-is_empty-clause-only c = λ d _ e.
+    absurd (no_empty_first_part c.in-Some.part.now _ _ (command_parts d) (sym c.is_empty.ensures ∙ c.if-is_empty.true) c.in-Some.ensures.next e (command_parts-are_parts d))
+
+pub returns-in_default-function_from-clause-only : goal.returns-in_default-function_from-clause-only
+unfolding command_parts
+returns-in_default-function_from-clause-only c = λ d is e.
+    let next = c.in-Some.ensures.next in
+    let number : c.in-Some.part.now ≡ fixed_hex 8 (number_of d.function) = cc in
+    let none = c.in_default-function_from.ensures.only d.function is.served number in
+    cc
+
+pub returns-in_err-words-clause-only : goal.returns-in_err-words-clause-only
+unfolding command_parts
+returns-in_err-words-clause-only c = λ d is e.
+    let next = c.in-Some.ensures.next in
+    let rest : c.next_part.new.self ≡ map word d.words.items = cc in
+    let counted = is.counted in
+    let few : length d.words.items ≤ 10 = omega (arith, word_count-le d.function) in
+    let bad = c.in_err-words.ensures.only d.words.items is.words few rest in
+    cc
+
+pub returns-then-len-words_of-clause-only : goal.returns-then-len-words_of-clause-only
+unfolding command_parts
+returns-then-len-words_of-clause-only c = λ d is e.
+    let next = c.in-Some.ensures.next in
+    let number : c.in-Some.part.now ≡ fixed_hex 8 (number_of d.function) = cc in
+    let rest : c.next_part.new.self ≡ map word d.words.items = cc in
+    let counted = is.counted in
+    let few : length d.words.items ≤ 10 = omega (arith, word_count-le d.function) in
+    let some = c.in-Some-function_from.ensures.only d.function is.served number in
+    let function : c.in-Some-function_from.function ≡ d.function = cc in
+    let words = c.in_ok-words.ensures.only d.words.items is.words few rest in
+    let items : c.in_ok-words.words.items ≡ d.words.items = ap (λ (v : ArrayVec ℕ). v.items) (Ok-injective c.in_ok-words.words (record { items = d.words.items }) words) in
+    absurd (c.if-len-words_of.true (c.len.ensures.value ∙ ap length items ∙ counted ∙ ap word_count (sym function) ∙ sym c.words_of.ensures))
+
+pub returns-clause-found : goal.returns-clause-found
+unfolding command_parts
+returns-clause-found c =
+    let function = c.in-Some-function_from.ensures.found in
+    let next = c.in-Some.ensures.next in
+    let number = function.1 in
+    let words = c.in_ok-words.ensures.found in (
+      record {
+        served = function.0;
+        counted = sym c.len.ensures.value ∙ c.if-len-words_of.false ∙ c.words_of.ensures;
+        words = c.in_ok-words.ensures.words;
+      },
+      cc,
+    )
+
+pub returns-clause-only : goal.returns-clause-only
+unfolding command_parts
+returns-clause-only c = λ d is e.
+    let next = c.in-Some.ensures.next in
+    let number : c.in-Some.part.now ≡ fixed_hex 8 (number_of d.function) = cc in
+    let rest : c.next_part.new.self ≡ map word d.words.items = cc in
+    let counted = is.counted in
+    let few : length d.words.items ≤ 10 = omega (arith, word_count-le d.function) in
+    let some = c.in-Some-function_from.ensures.only d.function is.served number in
+    let function : c.in-Some-function_from.function ≡ d.function = cc in
+    let words = c.in_ok-words.ensures.only d.words.items is.words few rest in
+    let items : c.in_ok-words.words.items ≡ d.words.items = ap (λ (v : ArrayVec ℕ). v.items) (Ok-injective c.in_ok-words.words (record { items = d.words.items }) words) in
+    λ i. Ok (record { function = function i; words = record { items = items i } })
+
+pub returns-in_err-words-clause-fault : goal.returns-in_err-words-clause-fault
+returns-in_err-words-clause-fault c =
+    let function = c.in-Some-function_from.ensures.found in
+    let p = err_from_is_err_and c.from_residual.result c.from_residual.ensures.1 in
+    rw (p.1, p.2) (IsCommandFault-from_words c.in-Some-function_from.function c.in-Some.part.now c.next_part.new.self c.args.parts _ c.in-Some.ensures.next function.1 c.in_err-words.ensures.fault)
+
+pub returns-then-len-words_of-clause-fault : goal.returns-then-len-words_of-clause-fault
+returns-then-len-words_of-clause-fault c =
+    let function = c.in-Some-function_from.ensures.found in
+    WordCount-from c.in-Some-function_from.function c.in-Some.part.now c.next_part.new.self c.args.parts c.in-Some.ensures.next function.1
+    (λ e. c.if-len-words_of.true (c.len.ensures.value ∙ sym (length-map c.in_ok-words.words.items word) ∙ ap length (sym c.in_ok-words.ensures.found) ∙ e ∙ sym c.words_of.ensures))

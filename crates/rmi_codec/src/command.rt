@@ -1,0 +1,68 @@
+//! Commands.
+
+ghost use Rattle.std.specs.Prelude.{◌≡◌, ◌++◌, length, take, Ok, IfOk, IfErr, OnOk, OnErr};
+ghost use Rattle.rmm_spec.specs.declared.command.Command.{Command};
+ghost use Rattle.rmm_spec.specs.CommandText.{IsCommand, command_parts, command_text};
+ghost use Rattle.rmm_spec.specs.Text.{parts_of};
+ghost use Rattle.rmi_codec.specs.Faults.{IsCommandFault};
+
+use crate::fault::CodecFault;
+use crate::fixed_hex::push_fixed_hex;
+use crate::function::{function_from, number_from, words_of};
+use crate::parts::Parts;
+use crate::word::{push_words, words_from};
+use rmm_spec::Command;
+use std::alloc::AllocError;
+
+/// Reads the command that the parts spell, all of them.
+pub fn command_from(mut parts: Parts<'_>) -> Result<Command, CodecFault>
+    ensures found { IfOk result (λ c. IsCommand c × (parts.entry ≡ command_parts c)) }
+    ensures only { (c : Command) → IsCommand c → parts.entry ≡ command_parts c → result ≡ Ok c }
+    ensures fault { IfErr result (λ e. IsCommandFault e parts.entry) }
+{
+    let Some(part) = parts.next_part() else {
+        return Err(CodecFault::UnknownNumber);
+    };
+    if part.is_empty() {
+        return Err(CodecFault::BadSpacing);
+    }
+    let Some(function) = function_from(part) else {
+        return Err(CodecFault::UnknownNumber);
+    };
+    let words = words_from(parts, CodecFault::WordCount)?;
+    if words.len() != words_of(function) {
+        return Err(CodecFault::WordCount);
+    }
+    Ok(Command { function, words })
+}
+
+/// Reads a command's text.
+pub fn read_command(text: &str) -> Result<Command, CodecFault>
+    ensures found { IfOk result (λ c. IsCommand c × (text.now ≡ command_text c)) }
+    ensures only { (c : Command) → IsCommand c → text.now ≡ command_text c → result ≡ Ok c }
+    ensures fault { IfErr result (λ e. IsCommandFault e (parts_of text.now)) }
+{
+    command_from(Parts::of(text.as_bytes()))
+}
+
+/// Appends a command's text. Where memory is refused, a beginning of it may have been appended.
+pub fn push_command(out: &mut Vec<u8>, command: &Command) -> Result<(), AllocError>
+    ensures ok { OnOk result (out.new.items ≡ out.old.items ++ command_text command.now) }
+    ensures kept { OnErr result (take (length out.old.items) out.new.items ≡ out.old.items) }
+{
+    push_fixed_hex(out, 8, number_from(command.function))?;
+    push_words(out, command.words.as_slice())
+}
+
+/// Appends a command's text, or nothing where memory is refused.
+pub fn write_command(command: &Command, out: &mut Vec<u8>) -> Result<(), AllocError>
+    ensures ok { OnOk result (out.new.items ≡ out.old.items ++ command_text command.now) }
+    ensures err { OnErr result (out.new.items ≡ out.old.items) }
+{
+    let start = out.len();
+    let written = push_command(out, command);
+    if written.is_err() {
+        out.truncate(start);
+    }
+    written
+}

@@ -1,0 +1,23 @@
+//! Why a text is refused.
+
+use thiserror::Error;
+
+/// Why a text isn't a command or a reply. Where several apply, which one is told is left open.
+#[derive(Clone, Copy, Debug, PartialEq, Eq, Error)]
+pub enum CodecFault {
+    /// The number is that of no function that is served.
+    #[error("no such function")]
+    UnknownNumber,
+    /// The function takes another count of words, or a reply has more than ten.
+    #[error("another count of words")]
+    WordCount,
+    /// A part isn't the one spelling of a number.
+    #[error("not a number in its one spelling")]
+    BadWord,
+    /// A part is empty: the line begins or ends with a space, or two stand side by side.
+    #[error("a space too many")]
+    BadSpacing,
+    /// A reply begins with none of its three forms, or has too many or too few parts for it.
+    #[error("not a form of a reply")]
+    BadForm,
+}

@@ -1,0 +1,25 @@
+//! The texts of commands and replies: the parts of a line, numbers, readers and writers.
+//! It promises that a reader accepts exactly the texts of the grammar, and that what is written reads back as it was.
+//! The grammar is in `rmm_spec`: `specs/Text.antt` and `specs/CommandText.antt`.
+//! Readers allocate nothing, and a writer leaves what it was given where memory is refused.
+//! Histories, certificates and scenarios stand on it.
+#![tactic(auto)]
+
+mod command;
+mod decimal;
+mod fault;
+mod fixed_hex;
+mod function;
+mod numeral;
+mod parts;
+mod reply;
+#[cfg(test)]
+mod tests;
+mod word;
+
+pub use command::{command_from, push_command, read_command, write_command};
+pub use decimal::{decimal_from, push_decimal};
+pub use fault::CodecFault;
+pub use parts::Parts;
+pub use reply::{push_reply, read_reply, reply_from, write_reply};
+pub use rmm_spec::{Command, FunctionId, Reply};

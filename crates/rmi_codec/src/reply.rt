@@ -1,0 +1,162 @@
+//! Replies.
+
+ghost use Rattle.std.specs.Prelude.{◌≡◌, ◌<◌, ◌++◌, [], ◌∷◌, ℕ, List, map, length, take, Ok, Some, codes, IsOk, IfOk, IfErr, IfSome, OnOk, OnErr};
+ghost use Rattle.rmm_spec.specs.declared.reply.Reply.{Reply};
+ghost use Rattle.rmm_spec.specs.CommandText.{IsReply, reply_parts, reply_text};
+ghost use Rattle.rmm_spec.specs.Text.{decimal, parts_of};
+ghost use Rattle.rmi_codec.specs.Faults.{IsReplyFault, IsSmallFault, IsEndFault};
+
+use crate::decimal::{decimal_from, push_decimal};
+use crate::fault::CodecFault;
+use crate::parts::Parts;
+use crate::word::{push_words, words_from};
+use rmm_spec::Reply;
+use std::alloc::AllocError;
+
+// A status or an index.
+fn small_from(part: &[u8]) -> Option<u8>
+    ensures found { IfSome result (λ n. part.now ≡ decimal n) }
+    ensures only { (n : ℕ) → n < 256 → part.now ≡ decimal n → result ≡ Some n }
+{
+    let number = decimal_from(part)?;
+    if number < 256 {
+        Some(number as u8)
+    } else {
+        None
+    }
+}
+
+// Reads a status or an index from the next part.
+fn take_small(parts: &mut Parts<'_>) -> Result<u8, CodecFault>
+    ensures found { IfOk result (λ n. parts.old ≡ decimal n ∷ parts.new) }
+    ensures only { (n : ℕ) (rest : List (List ℕ)) → n < 256 → parts.old ≡ decimal n ∷ rest → result ≡ Ok n }
+    ensures fault { IfErr result (λ e. IsSmallFault e parts.old) }
+{
+    let Some(part) = parts.next_part() else {
+        return Err(CodecFault::BadForm);
+    };
+    if part.is_empty() {
+        return Err(CodecFault::BadSpacing);
+    }
+    match small_from(part) {
+        Some(number) => Ok(number),
+        None => Err(CodecFault::BadWord),
+    }
+}
+
+// Whether nothing is left of a line.
+fn finish(mut parts: Parts<'_>) -> Result<(), CodecFault>
+    ensures found { OnOk result (parts.entry ≡ []) }
+    ensures only { parts.entry ≡ [] → IsOk result }
+    ensures fault { IfErr result (λ e. IsEndFault e parts.entry) }
+{
+    match parts.next_part() {
+        None => Ok(()),
+        Some(part) if part.is_empty() => Err(CodecFault::BadSpacing),
+        Some(_) => Err(CodecFault::BadForm),
+    }
+}
+
+// Reads what stands behind `ok`.
+fn ok_from(parts: Parts<'_>) -> Result<Reply, CodecFault>
+    ensures found { IfOk result (λ r. IsReply r × (codes "ok" ∷ parts.entry ≡ reply_parts r)) }
+    ensures only { (r : Reply) → IsReply r → codes "ok" ∷ parts.entry ≡ reply_parts r → result ≡ Ok r }
+    ensures fault { IfErr result (λ e. IsReplyFault e (codes "ok" ∷ parts.entry)) }
+{
+    let words = words_from(parts, CodecFault::BadForm)?;
+    Ok(Reply::Ok(words))
+}
+
+// Reads what stands behind `err`.
+fn err_from(mut parts: Parts<'_>) -> Result<Reply, CodecFault>
+    ensures found { IfOk result (λ r. IsReply r × (codes "err" ∷ parts.entry ≡ reply_parts r)) }
+    ensures only { (r : Reply) → IsReply r → codes "err" ∷ parts.entry ≡ reply_parts r → result ≡ Ok r }
+    ensures fault { IfErr result (λ e. IsReplyFault e (codes "err" ∷ parts.entry)) }
+{
+    let status = take_small(&mut parts)?;
+    let index = take_small(&mut parts)?;
+    finish(parts)?;
+    Ok(Reply::Err(status, index))
+}
+
+// Reads what stands behind `misplaced`: nothing.
+fn misplaced_from(parts: Parts<'_>) -> Result<Reply, CodecFault>
+    ensures found { IfOk result (λ r. IsReply r × (codes "misplaced" ∷ parts.entry ≡ reply_parts r)) }
+    ensures only { (r : Reply) → IsReply r → codes "misplaced" ∷ parts.entry ≡ reply_parts r → result ≡ Ok r }
+    ensures fault { IfErr result (λ e. IsReplyFault e (codes "misplaced" ∷ parts.entry)) }
+{
+    finish(parts)?;
+    Ok(Reply::Misplaced)
+}
+
+/// Reads the reply that the parts spell, all of them.
+pub fn reply_from(mut parts: Parts<'_>) -> Result<Reply, CodecFault>
+    ensures found { IfOk result (λ r. IsReply r × (parts.entry ≡ reply_parts r)) }
+    ensures only { (r : Reply) → IsReply r → parts.entry ≡ reply_parts r → result ≡ Ok r }
+    ensures fault { IfErr result (λ e. IsReplyFault e parts.entry) }
+{
+    let Some(form) = parts.next_part() else {
+        return Err(CodecFault::BadForm);
+    };
+    if form == b"ok".as_slice() {
+        return ok_from(parts);
+    }
+    if form == b"err".as_slice() {
+        return err_from(parts);
+    }
+    if form == b"misplaced".as_slice() {
+        return misplaced_from(parts);
+    }
+    if form.is_empty() {
+        return Err(CodecFault::BadSpacing);
+    }
+    Err(CodecFault::BadForm)
+}
+
+/// Reads a reply's text.
+pub fn read_reply(text: &str) -> Result<Reply, CodecFault>
+    ensures found { IfOk result (λ r. IsReply r × (text.now ≡ reply_text r)) }
+    ensures only { (r : Reply) → IsReply r → text.now ≡ reply_text r → result ≡ Ok r }
+    ensures fault { IfErr result (λ e. IsReplyFault e (parts_of text.now)) }
+{
+    reply_from(Parts::of(text.as_bytes()))
+}
+
+// Appends a refusal.
+fn push_err(out: &mut Vec<u8>, status: u8, index: u8) -> Result<(), AllocError>
+    ensures ok { OnOk result (out.new.items ≡ out.old.items ++ reply_text (Reply.Err status index)) }
+    ensures kept { OnErr result (take (length out.old.items) out.new.items ≡ out.old.items) }
+{
+    out.extend_from_slice(b"err ")?;
+    push_decimal(out, u64::from(status))?;
+    out.push(b' ')?;
+    push_decimal(out, u64::from(index))
+}
+
+/// Appends a reply's text. Where memory is refused, a beginning of it may have been appended.
+pub fn push_reply(out: &mut Vec<u8>, reply: &Reply) -> Result<(), AllocError>
+    ensures ok { OnOk result (out.new.items ≡ out.old.items ++ reply_text reply.now) }
+    ensures kept { OnErr result (take (length out.old.items) out.new.items ≡ out.old.items) }
+{
+    match reply {
+        Reply::Ok(words) => {
+            out.extend_from_slice(b"ok")?;
+            push_words(out, words.as_slice())
+        }
+        Reply::Err(status, index) => push_err(out, *status, *index),
+        Reply::Misplaced => out.extend_from_slice(b"misplaced"),
+    }
+}
+
+/// Appends a reply's text, or nothing where memory is refused.
+pub fn write_reply(reply: &Reply, out: &mut Vec<u8>) -> Result<(), AllocError>
+    ensures ok { OnOk result (out.new.items ≡ out.old.items ++ reply_text reply.now) }
+    ensures err { OnErr result (out.new.items ≡ out.old.items) }
+{
+    let start = out.len();
+    let written = push_reply(out, reply);
+    if written.is_err() {
+        out.truncate(start);
+    }
+    written
+}

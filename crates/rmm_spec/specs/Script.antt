@@ -1,0 +1,215 @@
+-- Worked scripts: runs of CPU 0 on a machine of 16 granules, written out with their replies.
+use Rattle.std.specs.Prelude.{ℕ, List, [], ◌∷◌}
+use Rattle.rmm_spec.specs.declared.function_id.FunctionId.{FunctionId}
+use Rattle.rmm_spec.specs.declared.function_id.FunctionId.TheVariants.{GranuleDelegate, DataCreate, DataCreateUnknown, DataDestroy, RealmActivate, RealmCreate, RealmDestroy, RecCreate, RecDestroy, RecEnter, RttCreate, RttDestroy, RttMapUnprotected, RttReadEntry, RttInitRipas, RttSetRipas, MeasurementRead, MeasurementExtend, IpaStateSet, IpaStateGet, HostCall, CpuOff, SystemOff, Exit}
+use Rattle.rmm_spec.specs.declared.reply.Reply.{Reply}
+use Rattle.rmm_spec.specs.declared.reply.Reply.TheVariants as reply
+use Rattle.rmm_spec.specs.HistoryText.{Setup}
+use Rattle.rmm_spec.specs.Rows.{ok}
+use Rattle.rmm_spec.specs.Run.{JournalEntry}
+
+-- the machine of the scripts
+abbrev pub script_setup : Setup
+script_setup = record { granules = 16; cpus = 1 }
+
+abbrev pub answered : FunctionId → List ℕ → Reply → JournalEntry
+answered function words given = record { cpu = 0; command = record { function = function; words = record { items = words } }; given = given }
+
+-- a table with a page in it can't be taken out, and can once the page was taken back
+unfoldable pub table_with_data_stays : List JournalEntry
+table_with_data_stays =
+    (answered GranuleDelegate (0x1000 ∷ []) (ok ([]))
+    ∷ answered GranuleDelegate (0x2000 ∷ []) (ok ([]))
+    ∷ answered GranuleDelegate (0x3000 ∷ []) (ok ([]))
+    ∷ answered GranuleDelegate (0x4000 ∷ []) (ok ([]))
+    ∷ answered GranuleDelegate (0x5000 ∷ []) (ok ([]))
+    ∷ answered RealmCreate (0x1000 ∷ 0x2000 ∷ 39 ∷ 1 ∷ 1 ∷ 0 ∷ []) (ok ([]))
+    ∷ answered RttCreate (0x1000 ∷ 0x3000 ∷ 0 ∷ 2 ∷ []) (ok ([]))
+    ∷ answered RttCreate (0x1000 ∷ 0x4000 ∷ 0 ∷ 3 ∷ []) (ok ([]))
+    ∷ answered DataCreateUnknown (0x1000 ∷ 0x5000 ∷ 0x1ff000 ∷ []) (ok ([]))
+    ∷ answered RttDestroy (0x1000 ∷ 0 ∷ 3 ∷ []) (reply.Err 4 3)
+    ∷ answered DataDestroy (0x1000 ∷ 0x1ff000 ∷ []) (ok (0x5000 ∷ []))
+    ∷ answered RttDestroy (0x1000 ∷ 0 ∷ 3 ∷ []) (ok (0x4000 ∷ []))
+    ∷ answered RttReadEntry (0x1000 ∷ 0 ∷ 3 ∷ []) (ok (2 ∷ 0 ∷ 0 ∷ 2 ∷ []))
+    ∷ [])
+
+-- a page of one realm can't be given to another
+unfoldable pub data_granule_mapped_twice : List JournalEntry
+data_granule_mapped_twice =
+    (answered GranuleDelegate (0x1000 ∷ []) (ok ([]))
+    ∷ answered GranuleDelegate (0x2000 ∷ []) (ok ([]))
+    ∷ answered GranuleDelegate (0x3000 ∷ []) (ok ([]))
+    ∷ answered GranuleDelegate (0x4000 ∷ []) (ok ([]))
+    ∷ answered GranuleDelegate (0x5000 ∷ []) (ok ([]))
+    ∷ answered GranuleDelegate (0x6000 ∷ []) (ok ([]))
+    ∷ answered GranuleDelegate (0x7000 ∷ []) (ok ([]))
+    ∷ answered GranuleDelegate (0x8000 ∷ []) (ok ([]))
+    ∷ answered GranuleDelegate (0x9000 ∷ []) (ok ([]))
+    ∷ answered RealmCreate (0x1000 ∷ 0x2000 ∷ 39 ∷ 1 ∷ 1 ∷ 0 ∷ []) (ok ([]))
+    ∷ answered RealmCreate (0x6000 ∷ 0x7000 ∷ 39 ∷ 1 ∷ 2 ∷ 0 ∷ []) (ok ([]))
+    ∷ answered RttCreate (0x1000 ∷ 0x3000 ∷ 0 ∷ 2 ∷ []) (ok ([]))
+    ∷ answered RttCreate (0x1000 ∷ 0x4000 ∷ 0 ∷ 3 ∷ []) (ok ([]))
+    ∷ answered RttCreate (0x6000 ∷ 0x8000 ∷ 0 ∷ 2 ∷ []) (ok ([]))
+    ∷ answered RttCreate (0x6000 ∷ 0x9000 ∷ 0 ∷ 3 ∷ []) (ok ([]))
+    ∷ answered DataCreateUnknown (0x1000 ∷ 0x5000 ∷ 0 ∷ []) (ok ([]))
+    ∷ answered DataCreateUnknown (0x6000 ∷ 0x5000 ∷ 0 ∷ []) (reply.Err 1 0)
+    ∷ [])
+
+-- a stretch that a realm asked for becomes RAM in two commands
+unfoldable pub ripas_change_in_two_parts : List JournalEntry
+ripas_change_in_two_parts =
+    (answered GranuleDelegate (0x1000 ∷ []) (ok ([]))
+    ∷ answered GranuleDelegate (0x2000 ∷ []) (ok ([]))
+    ∷ answered GranuleDelegate (0x3000 ∷ []) (ok ([]))
+    ∷ answered GranuleDelegate (0x4000 ∷ []) (ok ([]))
+    ∷ answered GranuleDelegate (0x5000 ∷ []) (ok ([]))
+    ∷ answered GranuleDelegate (0x6000 ∷ []) (ok ([]))
+    ∷ answered GranuleDelegate (0x7000 ∷ []) (ok ([]))
+    ∷ answered RealmCreate (0x1000 ∷ 0x2000 ∷ 39 ∷ 1 ∷ 1 ∷ 0 ∷ []) (ok ([]))
+    ∷ answered RecCreate (0x1000 ∷ 0x5000 ∷ 0 ∷ 1 ∷ 0x6000 ∷ 0x7000 ∷ []) (ok ([]))
+    ∷ answered RttCreate (0x1000 ∷ 0x3000 ∷ 0 ∷ 2 ∷ []) (ok ([]))
+    ∷ answered RttCreate (0x1000 ∷ 0x4000 ∷ 0 ∷ 3 ∷ []) (ok ([]))
+    ∷ answered RealmActivate (0x1000 ∷ []) (ok ([]))
+    ∷ answered RecEnter (0x5000 ∷ []) (ok (0 ∷ []))
+    ∷ answered IpaStateSet (0 ∷ 0x3000 ∷ 1 ∷ []) (ok ([]))
+    ∷ answered Exit ([]) (ok (4 ∷ 0 ∷ 0x3000 ∷ 1 ∷ []))
+    ∷ answered RttSetRipas (0x1000 ∷ 0x5000 ∷ 0 ∷ 0x3000 ∷ []) (ok (0x1000 ∷ []))
+    ∷ answered RttSetRipas (0x1000 ∷ 0x5000 ∷ 0x1000 ∷ 0x3000 ∷ []) (ok (0x3000 ∷ []))
+    ∷ answered RecEnter (0x5000 ∷ []) (ok (0x3000 ∷ []))
+    ∷ answered IpaStateGet (0x2000 ∷ []) (ok (1 ∷ []))
+    ∷ [])
+
+-- a stretch ends by the end of its table, and goes on in the table above where that has room
+unfoldable pub ripas_change_past_table : List JournalEntry
+ripas_change_past_table =
+    (answered GranuleDelegate (0x1000 ∷ []) (ok ([]))
+    ∷ answered GranuleDelegate (0x2000 ∷ []) (ok ([]))
+    ∷ answered GranuleDelegate (0x3000 ∷ []) (ok ([]))
+    ∷ answered GranuleDelegate (0x4000 ∷ []) (ok ([]))
+    ∷ answered GranuleDelegate (0x5000 ∷ []) (ok ([]))
+    ∷ answered GranuleDelegate (0x6000 ∷ []) (ok ([]))
+    ∷ answered GranuleDelegate (0x7000 ∷ []) (ok ([]))
+    ∷ answered RealmCreate (0x1000 ∷ 0x2000 ∷ 39 ∷ 1 ∷ 1 ∷ 0 ∷ []) (ok ([]))
+    ∷ answered RecCreate (0x1000 ∷ 0x5000 ∷ 0 ∷ 1 ∷ 0x6000 ∷ 0x7000 ∷ []) (ok ([]))
+    ∷ answered RttCreate (0x1000 ∷ 0x3000 ∷ 0 ∷ 2 ∷ []) (ok ([]))
+    ∷ answered RttCreate (0x1000 ∷ 0x4000 ∷ 0 ∷ 3 ∷ []) (ok ([]))
+    ∷ answered RealmActivate (0x1000 ∷ []) (ok ([]))
+    ∷ answered RecEnter (0x5000 ∷ []) (ok (0 ∷ []))
+    ∷ answered IpaStateSet (0x1ff000 ∷ 0x201000 ∷ 1 ∷ []) (ok ([]))
+    ∷ answered Exit ([]) (ok (4 ∷ 0x1ff000 ∷ 0x201000 ∷ 1 ∷ []))
+    ∷ answered RttSetRipas (0x1000 ∷ 0x5000 ∷ 0x1ff000 ∷ 0x201000 ∷ []) (ok (0x200000 ∷ []))
+    ∷ answered RttSetRipas (0x1000 ∷ 0x5000 ∷ 0x200000 ∷ 0x201000 ∷ []) (reply.Err 4 2)
+    ∷ [])
+
+-- a REC is made, entered, leaves, and is gone with its realm
+unfoldable pub life_of_a_rec : List JournalEntry
+life_of_a_rec =
+    (answered GranuleDelegate (0x1000 ∷ []) (ok ([]))
+    ∷ answered GranuleDelegate (0x2000 ∷ []) (ok ([]))
+    ∷ answered GranuleDelegate (0x3000 ∷ []) (ok ([]))
+    ∷ answered GranuleDelegate (0x4000 ∷ []) (ok ([]))
+    ∷ answered GranuleDelegate (0x5000 ∷ []) (ok ([]))
+    ∷ answered RealmCreate (0x1000 ∷ 0x2000 ∷ 39 ∷ 1 ∷ 1 ∷ 0 ∷ []) (ok ([]))
+    ∷ answered RecCreate (0x1000 ∷ 0x3000 ∷ 0 ∷ 1 ∷ 0x4000 ∷ 0x5000 ∷ []) (ok ([]))
+    ∷ answered RecEnter (0x3000 ∷ []) (reply.Err 2 0)
+    ∷ answered RealmActivate (0x1000 ∷ []) (ok ([]))
+    ∷ answered RecEnter (0x3000 ∷ []) (ok (0 ∷ []))
+    ∷ answered MeasurementRead (1 ∷ []) (ok (0 ∷ 0 ∷ 0 ∷ 0 ∷ []))
+    ∷ answered HostCall (42 ∷ []) (ok ([]))
+    ∷ answered HostCall (42 ∷ []) (reply.Misplaced)
+    ∷ answered Exit ([]) (ok (5 ∷ 42 ∷ 0 ∷ 0 ∷ []))
+    ∷ answered RecEnter (0x3000 ∷ []) (ok (0 ∷ []))
+    ∷ answered SystemOff ([]) (ok ([]))
+    ∷ answered Exit ([]) (ok (3 ∷ 0x84000008 ∷ 0 ∷ 0 ∷ []))
+    ∷ answered RecEnter (0x3000 ∷ []) (reply.Err 2 1)
+    ∷ answered RecDestroy (0x3000 ∷ []) (ok ([]))
+    ∷ answered RealmDestroy (0x1000 ∷ []) (ok ([]))
+    ∷ [])
+
+-- realm calls out of range are refused, and a REC that turned itself off isn't entered again
+unfoldable pub off_and_out_of_range : List JournalEntry
+off_and_out_of_range =
+    (answered GranuleDelegate (0x1000 ∷ []) (ok ([]))
+    ∷ answered GranuleDelegate (0x2000 ∷ []) (ok ([]))
+    ∷ answered GranuleDelegate (0x3000 ∷ []) (ok ([]))
+    ∷ answered GranuleDelegate (0x4000 ∷ []) (ok ([]))
+    ∷ answered GranuleDelegate (0x5000 ∷ []) (ok ([]))
+    ∷ answered RealmCreate (0x1000 ∷ 0x2000 ∷ 39 ∷ 1 ∷ 1 ∷ 0 ∷ []) (ok ([]))
+    ∷ answered RecCreate (0x1000 ∷ 0x3000 ∷ 0 ∷ 1 ∷ 0x4000 ∷ 0x5000 ∷ []) (ok ([]))
+    ∷ answered RecEnter (0x3000 ∷ []) (reply.Err 2 0)
+    ∷ answered RealmActivate (0x1000 ∷ []) (ok ([]))
+    ∷ answered RecEnter (0x3000 ∷ []) (ok (0 ∷ []))
+    ∷ answered MeasurementExtend (1 ∷ 65 ∷ 0 ∷ 0 ∷ 0 ∷ 0 ∷ 0 ∷ 0 ∷ 0 ∷ 0 ∷ []) (reply.Err 1 0)
+    ∷ answered MeasurementExtend (0 ∷ 1 ∷ 0 ∷ 0 ∷ 0 ∷ 0 ∷ 0 ∷ 0 ∷ 0 ∷ 0 ∷ []) (reply.Err 1 0)
+    ∷ answered GranuleDelegate (0x6000 ∷ []) (reply.Misplaced)
+    ∷ answered IpaStateSet (0 ∷ 0x1000 ∷ 2 ∷ []) (reply.Err 1 0)
+    ∷ answered HostCall (0x10000 ∷ []) (reply.Err 1 0)
+    ∷ answered CpuOff ([]) (ok ([]))
+    ∷ answered Exit ([]) (ok (3 ∷ 0x84000002 ∷ 0 ∷ 0 ∷ []))
+    ∷ answered RecEnter (0x3000 ∷ []) (reply.Err 3 0)
+    ∷ answered Exit ([]) (reply.Misplaced)
+    ∷ [])
+
+-- pages are said to be RAM, one is given with its content, and is lost when it is taken back
+unfoldable pub ripas_before_a_realm_runs : List JournalEntry
+ripas_before_a_realm_runs =
+    (answered GranuleDelegate (0x1000 ∷ []) (ok ([]))
+    ∷ answered GranuleDelegate (0x2000 ∷ []) (ok ([]))
+    ∷ answered GranuleDelegate (0x3000 ∷ []) (ok ([]))
+    ∷ answered GranuleDelegate (0x4000 ∷ []) (ok ([]))
+    ∷ answered GranuleDelegate (0x5000 ∷ []) (ok ([]))
+    ∷ answered RealmCreate (0x1000 ∷ 0x2000 ∷ 39 ∷ 1 ∷ 1 ∷ 0 ∷ []) (ok ([]))
+    ∷ answered RttCreate (0x1000 ∷ 0x3000 ∷ 0 ∷ 2 ∷ []) (ok ([]))
+    ∷ answered RttCreate (0x1000 ∷ 0x4000 ∷ 0 ∷ 3 ∷ []) (ok ([]))
+    ∷ answered DataCreate (0x1000 ∷ 0x5000 ∷ 0 ∷ 0x6000 ∷ 0 ∷ 0 ∷ 0 ∷ 0 ∷ 0 ∷ []) (reply.Err 4 3)
+    ∷ answered RttInitRipas (0x1000 ∷ 0 ∷ 0x2000 ∷ []) (ok (0x2000 ∷ []))
+    ∷ answered DataCreate (0x1000 ∷ 0x5000 ∷ 0x1000 ∷ 0x6000 ∷ 1 ∷ 10 ∷ 11 ∷ 12 ∷ 13 ∷ []) (ok ([]))
+    ∷ answered RttReadEntry (0x1000 ∷ 0x1000 ∷ 3 ∷ []) (ok (3 ∷ 1 ∷ 0x5000 ∷ 1 ∷ []))
+    ∷ answered RttInitRipas (0x1000 ∷ 0x1000 ∷ 0x3000 ∷ []) (reply.Err 4 3)
+    ∷ answered DataDestroy (0x1000 ∷ 0x1000 ∷ []) (ok (0x5000 ∷ []))
+    ∷ answered RttReadEntry (0x1000 ∷ 0x1000 ∷ 3 ∷ []) (ok (3 ∷ 0 ∷ 0 ∷ 2 ∷ []))
+    ∷ answered RttMapUnprotected (0x1000 ∷ 0x4000000000 ∷ 0 ∷ []) (reply.Err 4 1)
+    ∷ answered RttReadEntry (0x1000 ∷ 0 ∷ 1 ∷ []) (ok (1 ∷ 2 ∷ 0x3000 ∷ 0 ∷ []))
+    ∷ [])
+
+-- realms and RECs are made and destroyed, in their order and out of it
+unfoldable pub realms_and_recs_come_and_go : List JournalEntry
+realms_and_recs_come_and_go =
+    (answered GranuleDelegate (0x1000 ∷ []) (ok ([]))
+    ∷ answered GranuleDelegate (0x2000 ∷ []) (ok ([]))
+    ∷ answered GranuleDelegate (0x3000 ∷ []) (ok ([]))
+    ∷ answered GranuleDelegate (0x4000 ∷ []) (ok ([]))
+    ∷ answered GranuleDelegate (0x5000 ∷ []) (ok ([]))
+    ∷ answered GranuleDelegate (0x6000 ∷ []) (ok ([]))
+    ∷ answered GranuleDelegate (0x7000 ∷ []) (ok ([]))
+    ∷ answered GranuleDelegate (0x8000 ∷ []) (ok ([]))
+    ∷ answered RealmCreate (0x1000 ∷ 0x2000 ∷ 39 ∷ 1 ∷ 1 ∷ 0 ∷ []) (ok ([]))
+    ∷ answered RealmCreate (0x3000 ∷ 0x4000 ∷ 39 ∷ 1 ∷ 1 ∷ 0 ∷ []) (reply.Err 1 0)
+    ∷ answered RecCreate (0x1000 ∷ 0x5000 ∷ 0 ∷ 1 ∷ 0x6000 ∷ 0x7000 ∷ []) (ok ([]))
+    ∷ answered RecCreate (0x1000 ∷ 0x3000 ∷ 0 ∷ 1 ∷ 0x4000 ∷ 0x8000 ∷ []) (reply.Err 1 0)
+    ∷ answered RealmDestroy (0x1000 ∷ []) (reply.Err 2 0)
+    ∷ answered RecDestroy (0x5000 ∷ []) (ok ([]))
+    ∷ answered RecCreate (0x1000 ∷ 0x5000 ∷ 0 ∷ 1 ∷ 0x6000 ∷ 0x7000 ∷ []) (reply.Err 1 0)
+    ∷ answered RealmActivate (0x1000 ∷ []) (ok ([]))
+    ∷ answered RealmActivate (0x1000 ∷ []) (reply.Err 2 0)
+    ∷ answered RecCreate (0x1000 ∷ 0x5000 ∷ 1 ∷ 1 ∷ 0x6000 ∷ 0x7000 ∷ []) (reply.Err 2 0)
+    ∷ answered RealmDestroy (0x1000 ∷ []) (ok ([]))
+    ∷ answered RealmCreate (0x3000 ∷ 0x4000 ∷ 48 ∷ 0 ∷ 1 ∷ 0 ∷ []) (ok ([]))
+    ∷ [])
+
+-- words past their ranges are refused, whatever their size
+unfoldable pub words_out_of_range : List JournalEntry
+words_out_of_range =
+    (answered GranuleDelegate (0x1000 ∷ []) (ok ([]))
+    ∷ answered GranuleDelegate (0x2000 ∷ []) (ok ([]))
+    ∷ answered GranuleDelegate (0x3000 ∷ []) (ok ([]))
+    ∷ answered RealmCreate (0x1000 ∷ 0x2000 ∷ 39 ∷ 1 ∷ 1 ∷ 0 ∷ []) (ok ([]))
+    ∷ answered RttCreate (0x1000 ∷ 0x3000 ∷ 0 ∷ 0 ∷ []) (reply.Err 1 0)
+    ∷ answered RttCreate (0x1000 ∷ 0x3000 ∷ 0 ∷ 0xffffffffffffffff ∷ []) (reply.Err 1 0)
+    ∷ answered RttReadEntry (0x1000 ∷ 0x8000000000 ∷ 1 ∷ []) (reply.Err 1 0)
+    ∷ answered RttReadEntry (0x1000 ∷ 0 ∷ 0 ∷ []) (reply.Err 1 0)
+    ∷ answered RttInitRipas (0x1000 ∷ 0xfffffffffffff000 ∷ 0 ∷ []) (reply.Err 1 0)
+    ∷ answered RttInitRipas (0x1000 ∷ 0 ∷ 0x4000001000 ∷ []) (reply.Err 1 0)
+    ∷ answered RttMapUnprotected (0x1000 ∷ 0x4000000000 ∷ 0x1000000000000 ∷ []) (reply.Err 1 0)
+    ∷ answered RecCreate (0x1000 ∷ 0x3000 ∷ 0 ∷ 1 ∷ 0x3000 ∷ 0x3000 ∷ []) (reply.Err 1 0)
+    ∷ [])

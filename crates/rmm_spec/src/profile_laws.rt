@@ -1,0 +1,68 @@
+//! Laws of the whole profile that would fail if a row were mistyped: each is the contract of a function that does nothing.
+
+ghost use Rattle.std.specs.Prelude.{◌≡◌, ℕ, ◌^◌, ◌<◌, ◌≤◌, List, [], ◌∷◌, Some, false, slice_index};
+ghost use Rattle.rmm_spec.specs.declared.command.Command.{Command};
+ghost use Rattle.rmm_spec.specs.declared.reply.Reply.{Reply};
+ghost use Rattle.rmm_spec.specs.HistoryText.{Setup};
+ghost use Rattle.rmm_spec.specs.State.{State, RealmRecord, opening};
+ghost use Rattle.rmm_spec.specs.Walk.{table_number, is_table, entry_for, reach, IsWalk};
+ghost use Rattle.rmm_spec.specs.Rows.{ok};
+ghost use Rattle.rmm_spec.specs.Step.{Step};
+ghost use Rattle.rmm_spec.specs.Step.Data.{CreatesUnknownData};
+ghost use Rattle.rmm_spec.specs.Step.Realm.{CreatesRealm};
+ghost use Rattle.rmm_spec.specs.Run.{JournalEntry, IsRun};
+ghost use Rattle.rmm_spec.specs.Script as script;
+ghost use Rattle.rmm_spec.specs.Script.{script_setup};
+ghost use Rattle.rmm_spec.specs.Change.{KeepsOthers, changed_parts};
+
+/// Whatever a command is answered, it keeps the maps that it isn't listed with.
+pub fn commands_keep_other_maps()
+    ensures { (old next : State) (cpu : ℕ) (command : Command) (given : Reply)
+        → Step old cpu command given next → KeepsOthers (changed_parts command.function) old next }
+{}
+
+/// Wherever a table covers an address, the recursion that the rows cite is the walk.
+pub fn reach_is_the_walk()
+    ensures { (s : State) (rd ipa level max granule : ℕ)
+        → s.table rd level (table_number level ipa) ≡ Some granule → level ≤ max
+        → (found : ℕ) × IsWalk s rd ipa max (reach s rd ipa max) found (entry_for s rd (reach s rd ipa max) ipa) }
+{}
+
+/// A walk to level 3 never ends on a link to a table.
+pub fn walks_end_unlinked()
+    ensures { (s : State) (rd ipa : ℕ) → is_table (entry_for s rd (reach s rd ipa 3) ipa) ≡ false }
+{}
+
+/// The root of a realm that was just made covers every address of the realm's space, and a walk to its level ends at it.
+pub fn fresh_root_covers_space()
+    ensures { (old next : State) (cpu ipa : ℕ) (words : List ℕ)
+        → CreatesRealm old cpu words (ok []) next → ipa < 2 ^ slice_index words 2
+        → let rd = slice_index words 0 in let level = slice_index words 3 in
+        IsWalk next rd ipa level level (slice_index words 1) (entry_for next rd level ipa) }
+{}
+
+/// After every run, a walk to a realm's start level ends at the realm's root.
+pub fn walks_begin_at_root()
+    ensures { (setup : Setup) (entries : List JournalEntry) (s : State) (rd ipa : ℕ) (realm : RealmRecord)
+        → IsRun (opening setup) entries s → s.realm rd ≡ Some realm → ipa < 2 ^ realm.width
+        → IsWalk s rd ipa realm.start_level realm.start_level realm.root (entry_for s rd realm.start_level ipa) }
+{}
+
+/// The worked scripts are runs: the definitions give each of their replies.
+pub fn worked_scripts_are_runs()
+    ensures table_with_data_stays { (last : State) × IsRun (opening script_setup) script.table_with_data_stays last }
+    ensures data_granule_mapped_twice { (last : State) × IsRun (opening script_setup) script.data_granule_mapped_twice last }
+    ensures ripas_change_in_two_parts { (last : State) × IsRun (opening script_setup) script.ripas_change_in_two_parts last }
+    ensures ripas_change_past_table { (last : State) × IsRun (opening script_setup) script.ripas_change_past_table last }
+    ensures life_of_a_rec { (last : State) × IsRun (opening script_setup) script.life_of_a_rec last }
+    ensures off_and_out_of_range { (last : State) × IsRun (opening script_setup) script.off_and_out_of_range last }
+    ensures ripas_before_a_realm_runs { (last : State) × IsRun (opening script_setup) script.ripas_before_a_realm_runs last }
+    ensures realms_and_recs_come_and_go { (last : State) × IsRun (opening script_setup) script.realms_and_recs_come_and_go last }
+    ensures words_out_of_range { (last : State) × IsRun (opening script_setup) script.words_out_of_range last }
+{}
+
+/// After the script that gives a page of one realm to another, the machine doesn't accept that.
+pub fn a_page_is_given_once()
+    ensures { (last next : State) → IsRun (opening script_setup) script.data_granule_mapped_twice last
+        → CreatesUnknownData last 0 (0x6000 ∷ 0x5000 ∷ 0 ∷ []) (ok []) next → ⊥ }
+{}

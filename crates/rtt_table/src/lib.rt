@@ -1,0 +1,15 @@
+//! One translation table: 512 entries, and the place where the table stands (DEN0137, RTT and RTT entry).
+//! It promises that each method acts on the list of entries as its contract says, and on nothing else.
+//! Only making a table takes memory, and nothing here waits.
+//! Addresses are in bytes; level 0 is the highest and level 3 has pages.
+//! Walks, and the cells of the monitor, stand on it.
+#![tactic(auto)]
+
+mod place;
+mod table;
+#[cfg(test)]
+mod tests;
+
+pub use place::covers;
+pub use rmm_spec::{Entry, Place, Ripas};
+pub use table::{Table, index_of};

@@ -1,0 +1,139 @@
+//! A table and its methods.
+
+ghost use Rattle.std.specs.Prelude.{All, ◌≡◌, ℕ, ◌<◌, ◌≤◌, ◌↔◌, IsTrue, IfOk, IfSome, length, map, replicate, Some, slice_get, slice_set};
+ghost use Rattle.std.specs.List.{list_any};
+ghost use Rattle.rmm_spec.specs.State.{entry_with_ripas};
+ghost use Rattle.rmm_spec.specs.Walk.{is_live};
+ghost use Rattle.rmm_spec.specs.Table.{entry_index, has_ripas, entries_with_ripas, AreAlike};
+
+use granule_state::Ipa;
+use rmm_spec::{Entry, Place, Ripas};
+use std::alloc::{AllocError, Global};
+use std::marker::Model;
+use std::mem::size_of;
+
+/// How many entries a table has.
+const ENTRIES: usize = 512;
+
+const _: () = prove!(size_of::<Entry>() <= 16);
+
+#[tactic(auto, unfolding(rmm_spec::specs::Table::entry_index, rmm_spec::specs::Walk::entry_number, rmm_spec::specs::Walk::entry_size))]
+/// Where in its table the level's entry for an address stands: levels below 3 count as level 3.
+pub fn index_of(level: u8, ipa: Ipa) -> usize
+    ensures place { result ≡ entry_index level ipa }
+    ensures within { result < 512 }
+{
+    let shift = 12 + 9 * 3u8.saturating_sub(level);
+    ((ipa.address() >> shift) % 512) as usize
+}
+
+/// A translation table on the heap.
+#[derive(Debug, Drop)]
+pub struct Table {
+    place: Place,
+    entries: Vec<Entry>,
+}
+
+impl Model for Table {
+    ghost use Rattle.std.specs.Prelude.{All, ◌≡◌, vec_len};
+    ghost use Rattle.rmm_spec.specs.Table.{TableRecord};
+
+    ghost Value = { TableRecord };
+
+    ghost view = { λ t. record { place = t.place; entries = t.entries.items } };
+
+    ghost invariant = { λ t. vec_len t.entries ≡ 512 };
+}
+
+impl Table {
+    /// A table of 512 copies of one entry.
+    pub fn new(alloc: Global, place: Place, fill: Entry) -> Result<Self, AllocError>
+        ensures { IfOk result (λ t. t ≡ record { place = place; entries = replicate 512 fill }) }
+    {
+        let mut entries = Vec::with_capacity(alloc, ENTRIES)?;
+        entries.resize(ENTRIES, fill)?;
+        Ok(Table { place, entries })
+    }
+
+    pub fn place(&self) -> Place
+        ensures { result ≡ self.now.place }
+    {
+        self.place
+    }
+
+    pub fn entry(&self, index: usize) -> Entry
+        requires { index < 512 }
+        ensures value { slice_get self.now.entries index ≡ Some result }
+        ensures count { length self.now.entries ≡ 512 }
+    {
+        self.entries[index]
+    }
+
+    pub fn set_entry(&mut self, at: usize, entry: Entry)
+        requires { at < 512 }
+        ensures { self.new ≡ record self.old { entries = slice_set self.old.entries at entry } }
+    {
+        self.entries[at] = entry;
+    }
+
+    /// Whether some entry is assigned or is a link to a table.
+    pub fn is_live(&self) -> bool
+        ensures { result ≡ list_any is_live self.now.entries }
+    {
+        self.entries.iter().any(|entry| is_in_use(*entry))
+    }
+
+    /// Whether all 512 entries are equal.
+    pub fn is_uniform(&self) -> bool
+        ensures { IsTrue result ↔ AreAlike self.now.entries }
+    {
+        are_all(&self.entries, self.entries[0])
+    }
+
+    /// Changes the RIPAS of the entries from `from` up to but not `to`.
+    pub fn set_ripas(&mut self, from: usize, to: usize, ripas: Ripas)
+        requires order { from ≤ to }
+        requires within { to ≤ 512 }
+        requires have { (k : ℕ) → from ≤ k → k < to → IfSome (slice_get self.old.entries k) (λ e. IsTrue (has_ripas e)) }
+        ensures { self.new ≡ record self.old { entries = entries_with_ripas from to ripas self.old.entries } }
+    {
+        change_ripas(&mut self.entries[from..to], ripas);
+    }
+}
+
+// Whether an entry keeps its table in use.
+fn is_in_use(entry: Entry) -> bool
+    ensures { result ≡ is_live entry }
+{
+    match entry {
+        Entry::Assigned(..) | Entry::AssignedNs(_) | Entry::Table(_) => true,
+        Entry::Unassigned(_) | Entry::UnassignedNs => false,
+    }
+}
+
+// Whether each entry equals the given one.
+fn are_all(entries: &[Entry], same: Entry) -> bool
+    ensures { IsTrue result ↔ All (λ e. e ≡ same) entries.now }
+{
+    entries.iter().all(|entry| *entry == same)
+}
+
+// Changes the RIPAS of each entry that has one.
+fn change_ripas(entries: &mut [Entry], ripas: Ripas)
+    ensures { entries.new ≡ map (entry_with_ripas ripas) entries.old }
+{
+    for entry in entries.iter_mut() {
+        *entry = with_ripas(*entry, ripas);
+    }
+}
+
+// The entry with another RIPAS, where it has one.
+fn with_ripas(entry: Entry, ripas: Ripas) -> Entry
+    ensures { result ≡ entry_with_ripas ripas entry }
+{
+    match entry {
+        Entry::Unassigned(_) => Entry::Unassigned(ripas),
+        Entry::Assigned(_, granule) => Entry::Assigned(ripas, granule),
+        Entry::Table(_) | Entry::UnassignedNs | Entry::AssignedNs(_) => entry,
+    }
+}

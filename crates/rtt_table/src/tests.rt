@@ -1,0 +1,90 @@
+//! Indices at the edges of tables, and each method of a table once.
+
+use crate::table::{Table, index_of};
+use granule_state::Ipa;
+use rmm_spec::{Entry, Place, Ripas};
+use std::test::Fail;
+
+#[test]
+fn indices_at_each_level(rt: HostRuntime) {
+    for (level, ipa, want) in [
+        (3, 0, 0),
+        (3, 0xfff, 0),
+        (3, 0x1000, 1),
+        (3, 0x1f_f000, 511),
+        (3, 0x20_0000, 0),
+        (2, 0x1f_ffff, 0),
+        (2, 0x20_0000, 1),
+        (2, 0x3fe0_0000, 511),
+        (2, 0x4000_0000, 0),
+        (1, 0x3fff_ffff, 0),
+        (1, 0x4000_0000, 1),
+        (1, 0x40_0000_0000, 256),
+        (1, 0x7f_c000_0000, 511),
+        (1, 0x80_0000_0000, 0),
+        (0, 0x7f_ffff_ffff, 0),
+        (0, 0x80_0000_0000, 1),
+        (0, 0x8000_0000_0000, 256),
+        (0, 0xff80_0000_0000, 511),
+    ] {
+        assert_eq!(rt;
+            index_of(level, Ipa::new(ipa)),
+            want,
+            "level {level}, {ipa:x}"
+        );
+    }
+}
+
+fn place() -> Place {
+    Place {
+        rd: 0x1000,
+        level: 3,
+        base: 0x20_0000,
+        width: 0x27,
+    }
+}
+
+#[test]
+fn entries_are_set(rt: HostRuntime) -> Result<(), Fail> {
+    let fill = Entry::Unassigned(Ripas::Empty);
+    let mut table = Table::new(rt.alloc(), place(), fill)?;
+    assert_eq!(rt; table.place(), place());
+    assert!(rt; table.is_uniform() && !table.is_live());
+    table.set_entry(511, Entry::Assigned(Ripas::Ram, 0x5000));
+    assert_eq!(rt; table.entry(511), Entry::Assigned(Ripas::Ram, 0x5000));
+    assert_eq!(rt; table.entry(510), fill);
+    assert!(rt; table.is_live() && !table.is_uniform());
+    table.set_entry(511, fill);
+    table.set_entry(0, Entry::Unassigned(Ripas::Ram));
+    assert!(rt; !table.is_live() && !table.is_uniform());
+    Ok(())
+}
+
+#[test]
+fn other_kinds_of_entry(rt: HostRuntime) -> Result<(), Fail> {
+    let mut table = Table::new(rt.alloc(), place(), Entry::UnassignedNs)?;
+    assert!(rt; !table.is_live() && table.is_uniform());
+    table.set_entry(7, Entry::AssignedNs(0x8000));
+    assert!(rt; table.is_live() && !table.is_uniform());
+    table.set_entry(7, Entry::Table(0x8000));
+    assert!(rt; table.is_live() && !table.is_uniform());
+    Ok(())
+}
+
+#[test]
+fn ripas_of_a_stretch(rt: HostRuntime) -> Result<(), Fail> {
+    let mut table = Table::new(rt.alloc(), place(), Entry::Unassigned(Ripas::Empty))?;
+    table.set_ripas(10, 12, Ripas::Ram);
+    for (index, want) in [
+        (9, Ripas::Empty),
+        (10, Ripas::Ram),
+        (11, Ripas::Ram),
+        (12, Ripas::Empty),
+    ] {
+        assert_eq!(rt; table.entry(index), Entry::Unassigned(want), "at {index}");
+    }
+    table.set_ripas(0, 512, Ripas::Destroyed);
+    assert!(rt; table.is_uniform());
+    assert_eq!(rt; table.entry(0), Entry::Unassigned(Ripas::Destroyed));
+    Ok(())
+}

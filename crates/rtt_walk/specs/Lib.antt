@@ -1,0 +1,3 @@
+pub mod Plain
+pub mod PlainLaws
+pub mod Walkable

@@ -1,0 +1,15 @@
+//! The specification machine as a program: it holds one state, and decides whether a reply to a command is allowed there.
+//! It promises that an offer is accepted exactly where the definitions have a step, and then holds the next state.
+//! What a clause sees of it is `state_of`, a flat state; how the parts are kept can change under every clause.
+//! An offer that isn't accepted, or runs out of memory, leaves the state as it was.
+//! The checker of histories stands on it.
+#![tactic(auto)]
+
+mod granule;
+mod machine;
+mod reply;
+#[cfg(test)]
+mod tests;
+
+pub use machine::Machine;
+pub use rmm_spec::{Command, FunctionId, Reply};
