@@ -1,5 +1,6 @@
 //! Indices at the edges of tables, and each method of a table once.
 
+use crate::place::covers;
 use crate::table::{Table, index_of};
 use granule_state::Ipa;
 use rmm_spec::{Entry, Place, Ripas};
@@ -45,6 +46,14 @@ fn place() -> Place {
 }
 
 #[test]
+fn covers_its_bytes(rt: HostRuntime) {
+    assert!(rt; covers(&place(), Ipa::new(0x20_0000)));
+    assert!(rt; covers(&place(), Ipa::new(0x3f_ffff)));
+    assert!(rt; !covers(&place(), Ipa::new(0x1f_ffff)));
+    assert!(rt; !covers(&place(), Ipa::new(0x40_0000)));
+}
+
+#[test]
 fn entries_are_set(rt: HostRuntime) -> Result<(), Fail> {
     let fill = Entry::Unassigned(Ripas::Empty);
     let mut table = Table::new(rt.alloc(), place(), fill)?;
@@ -83,8 +92,5 @@ fn ripas_of_a_stretch(rt: HostRuntime) -> Result<(), Fail> {
     ] {
         assert_eq!(rt; table.entry(index), Entry::Unassigned(want), "at {index}");
     }
-    table.set_ripas(0, 512, Ripas::Destroyed);
-    assert!(rt; table.is_uniform());
-    assert_eq!(rt; table.entry(0), Entry::Unassigned(Ripas::Destroyed));
     Ok(())
 }
