@@ -51,7 +51,7 @@ def changed_bytes(text, draw):
 
 
 def pair(draw):
-    texts = list(run(draw.randrange(1, 40), draw))
+    texts = list(run(draw.choice(["granules", "realms", "realms"]), draw.randrange(1, 120), draw))
     for _ in range(draw.randrange(3)):
         which = draw.choice([0, 1, 1])
         texts[which] = changed_lines(texts[which], draw)

@@ -3,17 +3,21 @@
 
 usage: judge.py HISTORY CERTIFICATE
 
-It reads the texts by regular expressions, compares real-time order by the greatest call place so far, and keeps one
-set of delegated granules. It prints the verdict line and ends with the checker's exit status. Nothing about it is proved.
+It reads the texts by regular expressions, compares real-time order by the greatest call place so far, and asks the
+machine of machine.py for each reply. It prints the verdict line and ends with the checker's exit status. Nothing about
+it is proved.
 """
 import re
 import sys
+
+sys.dont_write_bytecode = True
+from machine import WORDS, Machine
 
 MOST_LINES = 1_000_000
 DECIMAL = r"(?:0|[1-9][0-9]*)"
 WORD = r"(?:0|[1-9a-f][0-9a-f]{0,15})"
 HEADER = re.compile(rf"rmh1 ({DECIMAL}) ({DECIMAL})\Z")
-CALL = re.compile(rf"c ([0-7]) ({DECIMAL}) (c400015[12]) ({WORD})\Z")
+CALL = re.compile(rf"c ([0-7]) ({DECIMAL}) ([0-9a-f]{{8}})((?: {WORD})*)\Z")
 REPLY = rf"(ok(?: {WORD}){{0,10}}|err {DECIMAL} {DECIMAL}|misplaced)"
 RETURN = re.compile(rf"r ([0-7]) ({DECIMAL}) {REPLY}\Z")
 KEPT = re.compile(rf"k ([0-7]) ({DECIMAL})\Z")
@@ -40,7 +44,7 @@ def lines_of(text):
 
 
 def read_history(text):
-    """The number of granules, and each call as (place, command, address, place of return or None, reply)."""
+    """The number of granules, and each call as (place, function, words, place of return or None, reply)."""
     granules = cpus = None
     calls, made, opened = {}, {}, {}
     for number, line in lines_of(text):
@@ -54,7 +58,10 @@ def read_history(text):
             if cpu >= cpus or cpu in opened or n != made.get(cpu, 0):
                 raise BadLine(number)
             made[cpu], opened[cpu] = n + 1, n
-            calls[cpu, n] = [number, match[3], int(match[4], 16), None, None]
+            words = [int(word, 16) for word in match[4].split()]
+            if WORDS.get(match[3]) != len(words):
+                raise BadLine(number)
+            calls[cpu, n] = [number, match[3], words, None, None]
         elif (match := RETURN.match(line)) and is_reply(match[3]):
             cpu, n = int(match[1]), int(match[2])
             if opened.pop(cpu, None) != n:
@@ -81,27 +88,19 @@ def read_certificate(text):
         yield int(match[1]), int(match[2]), claimed
 
 
-def answer(granules, delegated, function, address):
-    is_granule = address % 4096 == 0 and address // 4096 < granules
-    if not is_granule or (address in delegated) != (function == "c4000152"):
-        return "err 1 0"
-    (delegated.add if function == "c4000151" else delegated.remove)(address)
-    return "ok"
-
-
 def judge_order(granules, calls, lines):
-    named, delegated, last_call = set(), set(), 0
+    named, machine, last_call = set(), Machine(granules), 0
     for step, (cpu, n, claimed) in enumerate(lines, 1):
         if (cpu, n) not in calls:
             return 1, f"no {step} unknown"
         if (cpu, n) in named:
             return 1, f"no {step} repeated"
-        called, function, address, returned, reply = calls[cpu, n]
+        called, function, words, returned, reply = calls[cpu, n]
         if (claimed is None) != (returned is not None):
             return 1, f"no {step} kind"
         if returned is not None and returned < last_call:
             return 1, f"no {step} order"
-        if answer(granules, delegated, function, address) != (reply if claimed is None else claimed):
+        if machine.answer(function, words) != (reply if claimed is None else claimed):
             return 1, f"no {step} reply"
         named.add((cpu, n))
         last_call = max(last_call, called)

@@ -3,8 +3,9 @@
 
 usage: speed.py [LINES ..]
 
-Without words it takes 10000, 100000 and 1000000 lines. The files are generated anew, and each time is the least of
-five runs, taken in turns. Memory is the greatest resident size of one run of the checker.
+Without words it takes 10000, 100000 and 1000000 lines. Each size is measured under both loads of generate.py. The files
+are generated anew, and each time is the least of five runs, taken in turns. Memory is the greatest resident size of one
+run of the checker, and beside it that size over the history's lines.
 """
 import os
 import subprocess
@@ -28,9 +29,9 @@ def run(words):
     return printed, time.perf_counter() - begin, usage.ru_maxrss * 1024, child.returncode
 
 
-def row(lines, folder):
-    prefix = os.path.join(folder, str(lines))
-    subprocess.run([sys.executable, os.path.join(HERE, "generate.py"), str(lines), prefix], check=True)
+def row(load, lines, folder):
+    prefix = os.path.join(folder, f"{load}-{lines}")
+    subprocess.run([sys.executable, os.path.join(HERE, "generate.py"), load, str(lines), prefix], check=True)
     files = [f"{prefix}.history", f"{prefix}.certificate"]
     check_time = count_time = float("inf")
     memory = 0
@@ -39,11 +40,12 @@ def row(lines, folder):
         count_time = min(count_time, taken)
         printed, taken, resident, status = run([PROGRAM, "check", *files])
         if status != 0 or not printed.startswith("yes "):
-            sys.exit(f"{lines} lines: {printed!r} with status {status}")
+            sys.exit(f"{lines} lines of {load}: {printed!r} with status {status}")
         check_time, memory = min(check_time, taken), max(memory, resident)
     size = sum(os.path.getsize(file) for file in files)
-    return (f"| {lines:,} | {size / 1e6:.1f} MB | {count_time * 1e3:.1f} ms | {check_time * 1e3:.1f} ms "
-            f"| {check_time / count_time:.1f} | {memory / 1e6:.0f} MB |")
+    return (f"| {load} | {lines:,} | {size / 1e6:.1f} MB | {count_time * 1e3:.1f} ms | {check_time * 1e3:.1f} ms "
+            f"| {check_time / count_time:.1f} | {check_time / lines * 1e9:.0f} ns | {memory / 1e6:.0f} MB "
+            f"| {memory / lines:.0f} |")
 
 
 def main():
@@ -51,11 +53,12 @@ def main():
     # Builds the program where it isn't built yet.
     first = ["check", "examples/one-granule.history", "examples/one-granule.certificate"]
     subprocess.run([os.path.join(TOP, "rmmcheck"), *first], cwd=TOP, check=True, stdout=subprocess.DEVNULL)
-    print("| History lines | Both texts | `wc -l` | `rmmcheck check` | Times `wc -l` | Peak memory |")
-    print("|---|---|---|---|---|---|")
+    print("| Load | History lines | Both texts | `wc -l` | `rmmcheck check` | Times `wc -l` | A line | Peak memory | Bytes a line |")
+    print("|---|---|---|---|---|---|---|---|---|")
     with tempfile.TemporaryDirectory() as folder:
-        for count in lines:
-            print(row(count, folder), flush=True)
+        for load in ("granules", "realms"):
+            for count in lines:
+                print(row(load, count, folder), flush=True)
 
 
 main()

@@ -1,17 +1,25 @@
 //! Tests that cross crates: nothing but tests, over `checker` and over the whole program on a runtime of their own.
 //! Their expected lines come from outside, worked out by hand from the profile, never from the program's own output.
 //! They show that the clauses say what was meant, and that calls with enough memory succeed.
-//! `rows` has histories with their verdicts, `limits` texts cut short, forged or too long, `program` words, files and devices.
+//! `rows` and `realms` have histories with their verdicts, `limits` texts cut short or forged, `program` and `devices` what fails.
 //! Nothing stands on it.
 #![tactic(auto)]
 
 #[cfg(test)]
 mod desk;
 #[cfg(test)]
+mod devices;
+#[cfg(test)]
 mod limits;
 #[cfg(test)]
 mod program;
 #[cfg(test)]
+mod realms;
+#[cfg(test)]
+mod round_trips;
+#[cfg(test)]
 mod rows;
+#[cfg(test)]
+mod script;
 #[cfg(test)]
 mod table;

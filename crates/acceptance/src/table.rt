@@ -1,5 +1,6 @@
 //! Texts with the line that tells their verdict.
 
+use crate::round_trips::expect_round_trips;
 use checker::{check, verdict_text};
 use std::alloc::Global;
 use std::process::Abort;
@@ -35,6 +36,7 @@ pub fn expect_lines<R: Abort + AllocGlobal>(rt: &R, rows: &[Row]) -> Result<(), 
             row.history,
             row.certificate
         );
+        expect_round_trips(rt, row)?;
     }
     Ok(())
 }

@@ -1,6 +1,7 @@
 -- Which parts are a line's, as a reader comes to know of them part by part.
 use Rattle.std.proofs.Common.{◌≡◌, ℕ, ◌<◌, List, [], ◌∷◌, codes, refl}
-use Rattle.certificate.specs.Spelling.{kind_part, HasNoNumber, IsLineOf, IsNoLine}
+use Rattle.certificate.specs.Spelling.{kind_part, IsLineOf, IsNoLine}
+use Rattle.rmi_codec.specs.Limited.{HasNoNumber}
 use Rattle.certificate.specs.declared.reader.Kind.{Kind}
 use Rattle.certificate.specs.declared.reader.Kind.TheVariants as kind
 use Rattle.rmm_spec.proofs.Texts.{bytes_apart}

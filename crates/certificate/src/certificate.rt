@@ -59,7 +59,7 @@ impl Certificate {
     ghost use Rattle.certificate.specs.LineRef.{line_seen};
 
     /// A certificate without lines.
-    pub(crate) fn new(alloc: Global) -> Certificate
+    pub fn new(alloc: Global) -> Certificate
         ensures { result ≡ [] }
     {
         Certificate {
@@ -97,8 +97,15 @@ impl Certificate {
         }
     }
 
+    /// Whether there is room for another line.
+    pub fn has_room(&self) -> bool
+        ensures { IsTrue result ↔ (length self.now < MOST_LINES) }
+    {
+        self.len() < MOST_LINES
+    }
+
     /// Appends a line. Where memory is refused, nothing changes.
-    pub(crate) fn push(&mut self, line: Line) -> Result<(), AllocError>
+    pub fn push(&mut self, line: Line) -> Result<(), AllocError>
         requires is_line { IsLine line }
         requires room { length self.old < MOST_LINES }
         ensures ok { OnOk result (self.new ≡ self.old ++ line ∷ []) }

@@ -1,35 +1,18 @@
 //! Texts, read to certificates.
 
-ghost use Rattle.std.specs.Prelude.{◌≡◌, ◌≢◌, ◌<◌, ◌++◌, ◌∷◌, IfOk, IfErr, IfSome, IfNone};
-ghost use Rattle.std.specs.List.{AllByRecursion};
+ghost use Rattle.std.specs.Prelude.{◌≡◌, IfOk, IfErr, IfSome, IfNone};
 ghost use Rattle.certificate.specs.Faults.{IsFaultOf};
-ghost use Rattle.certificate.specs.Spelling.{IsLineOf, IsNoLine, HasNoNumber, kind_part};
+ghost use Rattle.certificate.specs.Spelling.{IsLineOf, IsNoLine, kind_part};
 ghost use Rattle.rmm_spec.specs.CertificateText.{IsCertificateText};
-ghost use Rattle.rmm_spec.specs.Text.{parts_of, decimal};
+ghost use Rattle.rmm_spec.specs.Text.{parts_of};
 ghost use Rattle.certificate.specs.declared.reader.Kind.{Kind};
 
-use crate::certificate::{Certificate, MOST_LINES};
+use crate::certificate::Certificate;
 use crate::fault::CertFault;
-use rmi_codec::{Parts, decimal_from, reply_from};
+use crate::line::{CALLS, CPUS};
+use rmi_codec::{Parts, next_line, number_below, reply_from};
 use rmm_spec::Line;
 use std::alloc::Global;
-
-/// How many CPUs a line can name.
-const CPUS: u32 = 8;
-
-/// How many calls of a CPU a line can name.
-const CALLS: u32 = 1_000_000;
-
-// Cuts the first line off, without its newline.
-fn next_line(text: &[u8]) -> Option<(&[u8], &[u8])>
-    ensures line { IfSome result (λ cut. text.now ≡ cut.0.now ++ 10 ∷ cut.1.now) }
-    ensures no_newline { IfSome result (λ cut. AllByRecursion (λ byte. byte ≢ 10) cut.0.now) }
-    ensures unfinished { IfNone result (AllByRecursion (λ byte. byte ≢ 10) text.now) }
-{
-    let end = text.iter().position(|byte| *byte == b'\n')?;
-    let (line, rest) = text.split_at(end);
-    Some((line, rest.split_at(1).1))
-}
 
 // What a line begins with.
 #[derive(Clone, Copy)]
@@ -50,19 +33,6 @@ fn kind_from(part: &[u8]) -> Option<Kind>
     }
 }
 
-// Takes a number below a limit off the parts.
-fn number_from(parts: &mut Parts<'_>, limit: u32) -> Option<u32>
-    ensures below { IfSome result (λ n. n < limit) }
-    ensures found { IfSome result (λ n. parts.old ≡ decimal n ∷ parts.new) }
-    ensures none { IfNone result (HasNoNumber limit parts.old) }
-{
-    let number = decimal_from(parts.next_part()?)?;
-    if number >= u64::from(limit) {
-        return None;
-    }
-    Some(number as u32)
-}
-
 // The line that the bytes spell.
 fn line_from(bytes: &[u8]) -> Option<Line>
     ensures found { IfSome result (IsLineOf (parts_of bytes.now)) }
@@ -70,8 +40,8 @@ fn line_from(bytes: &[u8]) -> Option<Line>
 {
     let mut parts = Parts::of(bytes);
     let kind = kind_from(parts.next_part()?)?;
-    let cpu = number_from(&mut parts, CPUS)? as u8;
-    let number = number_from(&mut parts, CALLS)?;
+    let cpu = number_below(&mut parts, CPUS)? as u8;
+    let number = number_below(&mut parts, CALLS)?;
     match kind {
         Kind::Keep => match parts.next_part() {
             None => Some(Line::Keep { cpu, number }),
@@ -95,7 +65,7 @@ pub fn read(alloc: Global, text: &[u8]) -> Result<Certificate, CertFault>
     let mut rest = text;
     while !rest.is_empty() {
         let bad_line = CertFault::BadLine(lines.len() as u64 + 1);
-        if lines.len() == MOST_LINES {
+        if !lines.has_room() {
             return Err(bad_line);
         }
         let Some((bytes, later)) = next_line(rest) else {

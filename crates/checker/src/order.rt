@@ -16,8 +16,8 @@ pub(crate) fn judge(
     history: &History,
     certificate: &Certificate,
 ) -> Result<Verdict, AllocError>
-    requires { IsHistory history.now }
-    ensures { IfOk result (λ verdict. JudgesOrder verdict history.now certificate.now) }
+    requires { IsHistory history.now.recorded }
+    ensures { IfOk result (λ verdict. JudgesOrder verdict history.now.recorded certificate.now) }
 {
     let mut replay = Replay::new(alloc, history)?;
     for i in 0..certificate.len() {

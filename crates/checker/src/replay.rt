@@ -13,7 +13,7 @@ ghost use Rattle.checker.specs.Progress.{AreNamedBelow, IsFinishedCallAt, HasNoF
 
 use certificate::LineRef;
 use history::History;
-use rmm_spec::{Command, Event, Reason, Reply};
+use rmm_spec::{Command, Reason, Reply};
 use spec_machine::Machine;
 use std::alloc::{AllocError, Global};
 
@@ -33,7 +33,7 @@ impl Replay {
 
     /// Before the first line.
     pub(crate) fn new(alloc: Global, history: &History) -> Result<Replay, AllocError>
-        ensures { IfOk result (λ replay. IsReplayOf replay history.now []) }
+        ensures { IfOk result (λ replay. IsReplayOf replay history.now.recorded []) }
     {
         let machine = Machine::new(alloc, history.config())?;
         let named = vec![in alloc; false; history.len()]?;
@@ -50,9 +50,9 @@ impl Replay {
         history: &History,
         line: LineRef<'_>,
     ) -> Result<Option<Reason>, AllocError>
-        requires is_history { IsHistory history.now }
-        requires counted { length self.old.named.items ≡ length history.now.events }
-        ensures { IfOk result (λ why. JudgesLine why self.old self.new history.now (line_seen line.entry)) }
+        requires is_history { IsHistory history.now.recorded }
+        requires counted { length self.old.named.items ≡ length history.now.recorded.events }
+        ensures { IfOk result (λ why. JudgesLine why self.old self.new history.now.recorded (line_seen line.entry)) }
     {
         match line {
             LineRef::Keep { cpu, number } => self.take_kept(history, cpu, number),
@@ -68,9 +68,9 @@ impl Replay {
         cpu: u8,
         number: u32,
     ) -> Result<Option<Reason>, AllocError>
-        requires is_history { IsHistory history.now }
-        requires counted { length self.old.named.items ≡ length history.now.events }
-        ensures { IfOk result (λ why. JudgesLine why self.old self.new history.now (line.Keep cpu number)) }
+        requires is_history { IsHistory history.now.recorded }
+        requires counted { length self.old.named.items ≡ length history.now.recorded.events }
+        ensures { IfOk result (λ why. JudgesLine why self.old self.new history.now.recorded (line.Keep cpu number)) }
     {
         let Some(call) = history.call_of(cpu, number) else {
             return Ok(Some(Reason::Unknown));
@@ -78,13 +78,13 @@ impl Replay {
         if self.named[call.called as usize] {
             return Ok(Some(Reason::Repeated));
         }
-        let Some(answer) = call.answer else {
+        let Some(answer) = &call.answer else {
             return Ok(Some(Reason::Kind));
         };
         if answer.returned < self.latest {
             return Ok(Some(Reason::Order));
         }
-        let given = self.commit(cpu, call.called, call.command, answer.reply)?;
+        let given = self.commit(cpu, call.called, &call.command, &answer.reply)?;
         Ok(if given { None } else { Some(Reason::Reply) })
     }
 
@@ -95,9 +95,9 @@ impl Replay {
         number: u32,
         reply: &Reply,
     ) -> Result<Option<Reason>, AllocError>
-        requires is_history { IsHistory history.now }
-        requires counted { length self.old.named.items ≡ length history.now.events }
-        ensures { IfOk result (λ why. JudgesLine why self.old self.new history.now (line.Unfinished cpu number reply.now)) }
+        requires is_history { IsHistory history.now.recorded }
+        requires counted { length self.old.named.items ≡ length history.now.recorded.events }
+        ensures { IfOk result (λ why. JudgesLine why self.old self.new history.now.recorded (line.Unfinished cpu number reply.now)) }
     {
         let Some(call) = history.call_of(cpu, number) else {
             return Ok(Some(Reason::Unknown));
@@ -108,7 +108,7 @@ impl Replay {
         if call.answer.is_some() {
             return Ok(Some(Reason::Kind));
         }
-        let given = self.commit(cpu, call.called, call.command, reply)?;
+        let given = self.commit(cpu, call.called, &call.command, reply)?;
         Ok(if given { None } else { Some(Reason::Reply) })
     }
 
@@ -135,11 +135,11 @@ impl Replay {
 
     /// The first call, in the order of the calls, that returned and that no line names, by its CPU and number.
     pub(crate) fn first_missing(&self, history: &History) -> Option<(u8, u32)>
-        requires is_history { IsHistory history.now }
-        requires counted { length self.now.named.items ≡ length history.now.events }
-        ensures { (lines : List Line) → IsReplayOf self.now history.now lines → MatchOption result
-            (AreNamedBelow history.now.events lines (length history.now.events))
-            (λ call. IsFirstMissing history.now.events lines call.0 call.1) }
+        requires is_history { IsHistory history.now.recorded }
+        requires counted { length self.now.named.items ≡ length history.now.recorded.events }
+        ensures { (lines : List Line) → IsReplayOf self.now history.now.recorded lines → MatchOption result
+            (AreNamedBelow history.now.recorded.events lines (length history.now.recorded.events))
+            (λ call. IsFirstMissing history.now.recorded.events lines call.0 call.1) }
     {
         for (place, named) in self.named.iter().enumerate() {
             if *named {
@@ -155,22 +155,18 @@ impl Replay {
 
 /// The call that is made at a place, by its CPU and number, where one is made there and it has returned.
 fn finished_call_at(history: &History, place: usize) -> Option<(u8, u32)>
-    requires is_history { IsHistory history.now }
-    requires within { place < length history.now.events }
-    ensures { MatchOption result (HasNoFinishedCall history.now.events place) (λ call. IsFinishedCallAt history.now.events place call.0 call.1) }
+    requires is_history { IsHistory history.now.recorded }
+    requires within { place < length history.now.recorded.events }
+    ensures { MatchOption result (HasNoFinishedCall history.now.recorded.events place) (λ call. IsFinishedCallAt history.now.recorded.events place call.0 call.1) }
 {
-    match history.event(place) {
-        Event::Called { cpu, number, .. } => has_returned(history, *cpu, *number).then_some((
-            *cpu, *number,
-        )),
-        Event::Returned { .. } => None,
-    }
+    let (cpu, number) = history.called_at(place)?;
+    has_returned(history, cpu, number).then_some((cpu, number))
 }
 
 /// Whether the call of that number of a CPU is there and has returned.
 fn has_returned(history: &History, cpu: u8, number: u32) -> bool
-    requires { IsHistory history.now }
-    ensures { IsTrue result ↔ IsFinished history.now.events cpu number }
+    requires { IsHistory history.now.recorded }
+    ensures { IsTrue result ↔ IsFinished history.now.recorded.events cpu number }
 {
     match history.call_of(cpu, number) {
         Some(call) => call.answer.is_some(),

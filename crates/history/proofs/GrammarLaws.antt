@@ -1,9 +1,10 @@
 -- How a reader of a history, with its lines so far, comes to the history of a text or to its bad line.
-use Rattle.std.proofs.Common.{◌≡◌, ◌≢◌, ℕ, ◌+◌, ◌<◌, ◌≤◌, List, [], ◌∷◌, ◌++◌, map, length, take, refl, sym, ap, ◌∙◌, subst, arith, append_assoc, Bool, true, false, ◌==◌}
-use Rattle.std.specs.Prelude.{IsTrue, ◌↔◌}
+use Rattle.std.proofs.Common.{◌≡◌, ◌≢◌, ℕ, ◌+◌, ◌<◌, ◌≤◌, List, [], ◌∷◌, ◌++◌, map, length, take, refl, sym, ap, ◌∙◌, subst, arith, ⊎_elim, append_assoc, Bool, true, false, ◌==◌, Some, Result, Err}
+use Rattle.std.specs.Prelude.{IsTrue, ◌↔◌, IfErr, slice_get}
 use Rattle.std.specs.List.{AllByRecursion}
-use Rattle.std.proofs.lemmas.Bool.{false≢true}
-use Rattle.std.proofs.lemmas.List.{length-map, map_push, length_push, take_at}
+use Rattle.std.proofs.lemmas.Bool.{cases_lt, false≢true}
+use Rattle.std.proofs.lemmas.List.{length-map, map_push, length_push, take_more}
+use Rattle.std.proofs.lemmas.Option.{slice_get_within, get_or_from_slice_get}
 use Rattle.std.proofs.lemmas.List.Sums.{length-filter, count_by-le-length}
 use Rattle.std.proofs.lemmas.List.Splits.{join_with_byte-slice_split}
 use Rattle.rmm_spec.specs.declared.event.Event.{Event}
@@ -12,10 +13,14 @@ use Rattle.rmm_spec.specs.Text.{IsBadLine, line_text, lines_text, parts_of}
 use Rattle.rmm_spec.specs.HistoryText.{Setup, History, IsHistory, InHistories, CanFollow, cpu_of, events_of, IsRecord, setup_parts, event_parts, history_text}
 use Rattle.rmm_spec.proofs.Lines.{HasNoNewline, AreOneLineEach, IsLineGrammar, IsBadLine-line, IsBadLine-unfinished, IsBadLine-full, IsOneLine-from_parts, AreOneLineEach-map, map_cut, lines_text-push, IsBadLine-end}
 use Rattle.rmm_spec.proofs.Texts.{setup_parts-are_parts, setup_parts-injective, event_parts-are_parts, event_parts-some, event_parts-injective}
-use Rattle.rmm_spec.proofs.Places.{rank, rank-slice_get}
+use Rattle.rmm_spec.proofs.Places.{rank}
 use Rattle.rmm_spec.proofs.Records.{CanFollow-from_push}
+use Rattle.rmm_spec.proofs.HistoryGrammar.{not-IsBadLine-history}
+use Rattle.history.specs.Faults.{IsFaultOf}
+use Rattle.history.specs.declared.fault.HistoryFault.{HistoryFault}
+use Rattle.history.specs.declared.fault.HistoryFault.TheVariants.{BadLine}
 use Rattle.history.specs.Spelling.{IsHeaderOf, IsNoHeader, call_number, IsEventOf, IsNoEvent}
-use Rattle.history.proofs.DeskLaws.{slice_get-push, cpu_below}
+use Rattle.history.proofs.DeskLaws.{next_rank, cpu_below}
 
 -- the lines of a history, each as its parts
 abbrev pub history_lines : History → List (List (List ℕ))
@@ -105,6 +110,11 @@ HasNext-lines history line is_history taken =
         history_at : Setup → List Event → History
         history_at x y = record { setup = x; events = y }
 
+-- one item more
+take-slice_get : {X : Type 0} (xs : List X) (place : ℕ) (x : X) → slice_get xs place ≡ Some x → take (place + 1) xs ≡ take place xs ++ x ∷ []
+take-slice_get xs place x is =
+    take_more xs place x (slice_get_within xs place x is) ∙ ap (λ y. take place xs ++ y ∷ []) (get_or_from_slice_get xs place x x is)
+
 -- the number of the next line, counted from 1
 counted : (history : History) (text : List ℕ) → IsBadLine InHistories text (length (history_lines history) + 1) → IsBadLine InHistories text (length history.events + 2)
 counted history text bad =
@@ -137,19 +147,24 @@ line_too_many history rest is_history some full =
     refl some (λ _. InHistories-from_lines history is_history)
     (λ line taken. let next = HasNext-lines history line is_history taken in let room = next.room in absurd (omega (arith, room))))
 
+-- a history without room has all its lines
+pub full_lines : (history : History) (answer : Bool) → IsHistory history → IsTrue answer ↔ (length history.events + 1 < 1000000) → answer ≡ false
+    → length history.events + 1 ≡ 1000000
+full_lines history answer is_history says full =
+    let few = is_history.lines in
+    ⊎_elim
+    (λ (room : length history.events + 1 < 1000000). absurd (false≢true (sym full ∙ says.1 room)))
+    (λ (past : 1000000 ≤ length history.events + 1). omega (arith, few))
+    (cases_lt (length history.events + 1) 1000000)
+
 -- the number of a call is within the room for its line
 pub call_number-lt : (history : History) (event : Event) → CanFollow history event → length history.events + 1 < 1000000 → call_number event < 1000000
 call_number-lt history event can_follow room =
     let events = history.events in
     let cpu = cpu_of event in
-    let ranked : rank event ≡ length (events_of cpu (take (length events) (events ++ event ∷ []))) =
-    rank-slice_get cpu (events ++ event ∷ []) (length events) event can_follow.record_goes_on (slice_get-push events event) refl in
-    let front : length (events_of cpu (take (length events) (events ++ event ∷ []))) ≡ length (events_of cpu events) =
-    ap (λ (es : List Event). length (events_of cpu es)) (take_at events (event ∷ []) (length events) refl) in
     omega (
       arith,
-      ranked,
-      front,
+      next_rank events event can_follow.record_goes_on,
       length-filter (λ e. cpu_of e == cpu) events,
       count_by-le-length (λ e. cpu_of e == cpu) events,
       call_number-rank event,
@@ -186,6 +201,22 @@ history_text-push history event rest front more rest_is is_event =
     ∙ sym (append_assoc (history_text history) (line_text (event_parts event) ++ 10 ∷ []) more)
     ∙ ap (λ t. t ++ more) (sym (ap (λ (ls : List (List (List ℕ))). lines_text (setup_parts history.setup ∷ ls)) (map_push event_parts history.events event)
     ∙ lines_text-push lines (event_parts event)))
+
+-- the text with one event more
+pub history_text-more : (setup : Setup) (events : List Event) (place : ℕ) (event : Event) → slice_get events place ≡ Some event
+    → history_text (record { setup = setup; events = take (place + 1) events })
+    ≡ history_text (record { setup = setup; events = take place events }) ++ (line_text (event_parts event) ++ 10 ∷ [])
+history_text-more setup events place event is_event =
+    let so_far = take place events in
+    ap (λ (es : List Event). lines_text (setup_parts setup ∷ map event_parts es)) (take-slice_get events place event is_event)
+    ∙ ap (λ (ls : List (List (List ℕ))). lines_text (setup_parts setup ∷ ls)) (map_push event_parts so_far event)
+    ∙ lines_text-push (history_lines (record { setup = setup; events = so_far })) (event_parts event)
+
+-- a bad line that is told of a text says that it is in no history's
+pub bad_line_outside : {T : Type 0} (text : List ℕ) (result : Result T HistoryFault) (line : ℕ) → IfErr result (IsFaultOf text) → result ≡ Err (BadLine line)
+    → InHistories text → ⊥
+bad_line_outside text result line told is given =
+    not-IsBadLine-history text line given (subst (λ r. IfErr r (IsFaultOf text)) is told)
 
 -- what follows in the code can follow
 pub CanFollow-continues : (history : History) (line : List (List ℕ)) (event : Event) (answer : Bool) → IsEventOf history.setup.cpus line event

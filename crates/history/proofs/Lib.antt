@@ -1,3 +1,5 @@
 pub mod DeskLaws
+pub mod RoomLaws
 pub mod GrammarLaws
 pub mod SpellingLaws
+mod EventLogLaws

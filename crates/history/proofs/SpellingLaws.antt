@@ -9,7 +9,8 @@ use Rattle.rmm_spec.specs.HistoryText.{cpu_of, event_parts}
 use Rattle.rmm_spec.specs.Text.{decimal}
 use Rattle.history.specs.declared.line.Kind.{Kind}
 use Rattle.history.specs.declared.line.Kind.TheVariants.{Call, Return}
-use Rattle.history.specs.Spelling.{kind_part, HasNoNumber, call_number, IsEventOf, IsNoEvent}
+use Rattle.history.specs.Spelling.{kind_part, call_number, IsEventOf, IsNoEvent}
+use Rattle.rmi_codec.specs.Limited.{HasNoNumber}
 use Rattle.history.proofs.DeskLaws.{cpu_below}
 
 abbrev pub kind_of : Event → Kind

@@ -2,9 +2,9 @@
 use Rattle.std.specs.Prelude.{ℕ, List, MatchOption}
 use Rattle.rmm_spec.specs.declared.event.Event.{Event}
 use Rattle.rmm_spec.specs.Linearization.{IsCalled, IsReturned, IsFinished}
-use Rattle.history.specs.declared.events.Call.{Call}
+use Rattle.history.specs.declared.history.Call.{Call}
 
 -- the places of a call and of its return, with its command and its reply
 pub record IsCallOf (events : List Event) (cpu number : ℕ) (call : Call) : Type 0 where
-  pub called : IsCalled events call.called cpu number call.command.now
-  pub answer : MatchOption call.answer (¬ IsFinished events cpu number) (λ answer. IsReturned events answer.returned cpu number answer.reply.now)
+  pub called : IsCalled events call.called cpu number call.command
+  pub answer : MatchOption call.answer (¬ IsFinished events cpu number) (λ answer. IsReturned events answer.returned cpu number answer.reply)

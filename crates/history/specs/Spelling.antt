@@ -1,6 +1,5 @@
 -- The parts of a history's lines.
-use Rattle.std.specs.Prelude.{◌≡◌, ℕ, ◌<◌, List, ◌∷◌, codes}
-use Rattle.rmm_spec.specs.Text.{decimal}
+use Rattle.std.specs.Prelude.{◌≡◌, ℕ, ◌<◌, List, codes}
 use Rattle.rmm_spec.specs.HistoryText.{Setup, IsSetup, IsEvent, setup_parts, event_parts}
 use Rattle.rmm_spec.specs.declared.event.Event.{Event}
 use Rattle.rmm_spec.specs.declared.event.Event.TheVariants.{Called, Returned}
@@ -10,10 +9,6 @@ use Rattle.history.specs.declared.line.Kind.TheVariants.{Call, Return}
 abbrev pub kind_part : Kind → List ℕ
 kind_part Call = codes "c"
 kind_part Return = codes "r"
-
--- the parts begin with no number below the limit
-abbrev pub HasNoNumber : ℕ → List (List ℕ) → Type 0
-HasNoNumber limit parts = (n : ℕ) (more : List (List ℕ)) → n < limit → parts ≡ decimal n ∷ more → ⊥
 
 -- the parts are those of the header of such machines
 pub record IsHeaderOf (parts : List (List ℕ)) (setup : Setup) : Type 0 where

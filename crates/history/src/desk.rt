@@ -1,59 +1,87 @@
-//! The calls of one CPU.
+//! The events of each CPU.
 
-ghost use Rattle.std.specs.Prelude.{◌≡◌, [], is_some, OnOk, OnErr};
-ghost use Rattle.rmm_spec.specs.HistoryText.{stand_after};
-ghost use Rattle.history.specs.Index.{stand_of, Enters, IsSameDesk};
+ghost use Rattle.std.specs.Prelude.{◌≡◌, ℕ, ◌+◌, ◌<◌, ◌≤◌, ◌↔◌, [], ◌∷◌, ◌++◌, length, slice_index, slice_index_or, IsTrue, IsOk, OnOk, MatchOption};
+ghost use Rattle.rmm_spec.proofs.Places.{rank};
+ghost use Rattle.history.specs.Room.{spare};
+ghost use Rattle.history.specs.declared.desk.Desk.{Desk};
 
 use rmm_spec::Event;
 use std::alloc::{AllocError, Global};
 
-/// The places of a CPU's calls and of their returns, each by number. At most the last call has no return.
+/// The places of a CPU's events. Calls and returns take turns, so that call n stands at 2n and its return behind it.
 #[derive(Debug, Drop)]
 pub struct Desk {
-    pub calls: Vec<u32>,
-    pub returns: Vec<u32>,
+    pub places: Vec<u32>,
 }
 
 impl Desk {
-    /// No call yet.
+    /// No event yet.
     pub fn new(alloc: Global) -> Desk
-        ensures calls { result.calls.items ≡ [] }
-        ensures returns { result.returns.items ≡ [] }
+        ensures { result.places.items ≡ [] }
     {
         Desk {
-            calls: Vec::new(alloc),
-            returns: Vec::new(alloc),
+            places: Vec::new(alloc),
         }
-    }
-
-    /// Whether the last call hasn't returned.
-    pub fn is_open(&self) -> bool
-        ensures { result ≡ (stand_of self.now).is_open }
-    {
-        self.returns.len() < self.calls.len()
     }
 
     /// Whether an event of this CPU is its next.
     pub fn takes(&self, event: &Event) -> bool
-        ensures { result ≡ is_some (stand_after (stand_of self.now) event.now) }
+        ensures { IsTrue result ↔ (rank event.now ≡ length self.now.places.items) }
     {
-        match event {
-            Event::Called { number, .. } => !self.is_open() && *number as usize == self.calls.len(),
-            Event::Returned { number, .. } => {
-                self.is_open() && *number as usize + 1 == self.calls.len()
-            }
-        }
+        let rank = match event {
+            Event::Called { number, .. } => 2 * *number as usize,
+            Event::Returned { number, .. } => 2 * *number as usize + 1,
+        };
+        rank == self.places.len()
     }
 
-    /// Enters an event of this CPU that stands at a place of the history.
-    pub fn enter(&mut self, event: &Event, place: u32) -> Result<(), AllocError>
-        ensures ok { OnOk result (Enters event.now place self.old self.new) }
-        ensures err { OnErr result (IsSameDesk self.old self.new) }
+    /// Makes room for one more event.
+    pub fn make_room(&mut self) -> Result<(), AllocError>
+        ensures kept { self.new.places.items ≡ self.old.places.items }
+        ensures ok { OnOk result (1 ≤ spare self.new.places) }
+        ensures succeeds { 1 ≤ spare self.old.places → IsOk result }
+        ensures grows { spare self.old.places ≤ spare self.new.places }
     {
-        match event {
-            Event::Called { .. } => self.calls.push(place)?,
-            Event::Returned { .. } => self.returns.push(place)?,
-        }
-        Ok(())
+        self.places.reserve(1)
     }
+
+    /// Enters the place of the next event, for which there is room.
+    pub fn enter(&mut self, place: u32)
+        requires { 1 ≤ spare self.old.places }
+        ensures entered { self.new.places.items ≡ self.old.places.items ++ place ∷ [] }
+        ensures left { spare self.old.places ≤ spare self.new.places + 1 }
+    {
+        self.places.push_reserved(place);
+    }
+
+    /// The place of a call.
+    pub fn called(&self, number: u32) -> Option<u32>
+        ensures { let rank = number + number in MatchOption result (length self.now.places.items ≤ rank)
+            (λ place. (rank < length self.now.places.items) × (place ≡ slice_index self.now.places.items rank)) }
+    {
+        self.places.get(2 * number as usize).copied()
+    }
+
+    /// The place of a call's return.
+    pub fn returned(&self, number: u32) -> Option<u32>
+        ensures { let rank = number + number + 1 in MatchOption result (length self.now.places.items ≤ rank)
+            (λ place. (rank < length self.now.places.items) × (place ≡ slice_index self.now.places.items rank)) }
+    {
+        self.places.get(2 * number as usize + 1).copied()
+    }
+}
+
+/// Makes room for one more event at each desk.
+pub fn make_room_at(desks: &mut [Desk; 8]) -> Result<(), AllocError>
+    ensures counted { length desks.new ≡ 8 }
+    ensures kept { (cpu : ℕ) (other : Desk) → cpu < 8
+        → (slice_index_or desks.new cpu other).places.items ≡ (slice_index_or desks.old cpu other).places.items }
+    ensures ok { OnOk result ((cpu : ℕ) (other : Desk) → cpu < 8 → 1 ≤ spare (slice_index_or desks.new cpu other).places) }
+    ensures grows { (cpu : ℕ) (other : Desk) → cpu < 8
+        → spare (slice_index_or desks.old cpu other).places ≤ spare (slice_index_or desks.new cpu other).places }
+{
+    for cpu in 0..desks.len() {
+        desks[cpu].make_room()?;
+    }
+    Ok(())
 }

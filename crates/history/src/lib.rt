@@ -1,18 +1,25 @@
 //! What is recorded of a run: the calls and returns of every CPU, in the order of time.
-//! It promises that a text is read exactly as the grammar has it, and that a call is found by its CPU and number.
-//! The grammar is in `rmm_spec`: `specs/HistoryText.antt`.
-//! A history whose growth is refused memory is what it was.
+//! It promises that reader and writer are inverse on the grammar, `specs/HistoryText.antt` of `rmm_spec`: see `laws.rt`.
+//! A call is found by its CPU and number in constant time, and `fits` is the test that `push` asks for.
+//! Growth that is refused memory leaves what was recorded, and a push after `make_room` is never refused.
 //! The checker, the world and the recorder of events stand on it.
 #![tactic(auto)]
 
 mod desk;
-mod events;
+mod event_log;
 mod fault;
+mod history;
+mod laws;
 mod line;
 mod reading;
+#[cfg(test)]
+mod tests;
+mod writing;
 
-pub use events::{Answer, Call, History};
 pub use fault::HistoryFault;
 pub use granule_state::Config;
+pub use history::{Answer, Call, History, MOST_LINES};
+pub use laws::{read_back, rewritten};
 pub use reading::read;
 pub use rmm_spec::{Command, Event, Reply};
+pub use writing::write;

@@ -4,14 +4,15 @@ ghost use Rattle.std.specs.Prelude.{◌≡◌, ◌<◌, ◌++◌, length, IfOk, 
 ghost use Rattle.rmm_spec.specs.HistoryText.{IsHistoryText, history_text};
 ghost use Rattle.history.specs.Faults.{IsFaultOf};
 
-use crate::events::History;
 use crate::fault::HistoryFault;
-use crate::line::{MOST_LINES, event_from, header_from, next_line};
+use crate::history::History;
+use crate::line::{event_from, header_from};
+use rmi_codec::next_line;
 use std::alloc::Global;
 
 /// Reads a history. A line that would be its 1,000,001st is bad, and so is the first of a text without any.
 pub fn read(alloc: Global, text: &[u8]) -> Result<History, HistoryFault>
-    ensures found { IfOk result (IsHistoryText text.now) }
+    ensures found { IfOk result (λ history. IsHistoryText text.now history.recorded) }
     ensures fault { IfErr result (IsFaultOf text.now) }
 {
     let (mut history, mut rest) = read_header(alloc, text)?;
@@ -24,7 +25,7 @@ pub fn read(alloc: Global, text: &[u8]) -> Result<History, HistoryFault>
 
 /// Reads the first line, and gives the text after it.
 fn read_header(alloc: Global, text: &[u8]) -> Result<(History, &[u8]), HistoryFault>
-    ensures read { IfOk result (λ start. text.now ≡ history_text start.0 ++ start.1.now) }
+    ensures read { IfOk result (λ start. text.now ≡ history_text start.0.recorded ++ start.1.now) }
     ensures fault { IfErr result (IsFaultOf text.now) }
 {
     let Some((line, rest)) = next_line(text) else {
@@ -33,20 +34,20 @@ fn read_header(alloc: Global, text: &[u8]) -> Result<(History, &[u8]), HistoryFa
     let Some(config) = header_from(line) else {
         return Err(HistoryFault::BadLine(1));
     };
-    let history = History::new(alloc, config)?;
+    let history = History::new(alloc, config);
     Ok((history, rest))
 }
 
 /// Reads the line after those that are read, and gives the text after it.
 fn read_event<'a>(history: &mut History, rest: &'a [u8]) -> Result<&'a [u8], HistoryFault>
     requires { 0 < length rest.now }
-    ensures read { IfOk result (λ more. history_text history.old ++ rest.now ≡ history_text history.new ++ more.now) }
+    ensures read { IfOk result (λ more. history_text history.old.recorded ++ rest.now ≡ history_text history.new.recorded ++ more.now) }
     ensures shorter { IfOk result (λ more. length more.now < length rest.now) }
-    ensures fault { IfErr result (IsFaultOf (history_text history.old ++ rest.now)) }
+    ensures fault { IfErr result (IsFaultOf (history_text history.old.recorded ++ rest.now)) }
 {
     history.well_formed();
     let bad_line = HistoryFault::BadLine(history.len() as u64 + 2);
-    if history.len() + 1 == MOST_LINES {
+    if !history.has_room() {
         return Err(bad_line);
     }
     let Some((line, more)) = next_line(rest) else {
@@ -83,6 +84,8 @@ mod tests {
         assert_eq!(rt; answer.returned, 1);
         assert!(rt; matches!(answer.reply, Reply::Ok(words) if words.is_empty()));
         assert!(rt; history.call_of(0, 1).is_none());
+        assert_eq!(rt; history.called_at(0), Some((0, 0)));
+        assert_eq!(rt; history.called_at(1), None);
         Ok(())
     }
 

@@ -1,3 +1,4 @@
 pub mod FaultLaws
 pub mod NumberLaws
 pub mod PartLaws
+pub mod HeadLaws

@@ -116,12 +116,17 @@ pub(crate) fn words_of(function: FunctionId) -> usize
 
 // Whether a function has a text: one line for each that has.
 #[tactic(auto, unfolding(rmm_spec::specs::Function::is_served))]
-fn is_served(function: FunctionId) -> bool
+pub(crate) fn is_served(function: FunctionId) -> bool
     ensures { result ≡ is_served function }
 {
     match function {
         FunctionId::GranuleDelegate => true,
         FunctionId::GranuleUndelegate => true,
+        FunctionId::RealmActivate => true,
+        FunctionId::RealmCreate => true,
+        FunctionId::RealmDestroy => true,
+        FunctionId::RecCreate => true,
+        FunctionId::RecDestroy => true,
         _ => false,
     }
 }

@@ -8,9 +8,14 @@ use arrayvec::ArrayVec;
 use std::alloc::Global;
 use std::test::Fail;
 
-fn command(function: FunctionId, word: u64) -> Command {
+// A command with up to ten words.
+fn command(function: FunctionId, all: &[u64]) -> Command {
     let mut words = ArrayVec::new();
-    words.push(word);
+    for &word in all {
+        if !words.is_full() {
+            words.push(word);
+        }
+    }
     Command { function, words }
 }
 
@@ -29,10 +34,23 @@ fn counting(count: usize) -> Reply {
 
 #[test]
 fn commands(rt: HostRuntime) {
-    let delegate = command(FunctionId::GranuleDelegate, 0x1000);
+    let delegate = command(FunctionId::GranuleDelegate, &[0x1000]);
     assert_eq!(rt; read_command("c4000151 1000"), Ok(delegate));
-    let undelegate = command(FunctionId::GranuleUndelegate, u64::MAX);
+    let undelegate = command(FunctionId::GranuleUndelegate, &[u64::MAX]);
     assert_eq!(rt; read_command("c4000152 ffffffffffffffff"), Ok(undelegate));
+    let activate = command(FunctionId::RealmActivate, &[0x1000]);
+    assert_eq!(rt; read_command("c4000157 1000"), Ok(activate));
+    let realm = command(FunctionId::RealmCreate, &[0x1000, 0x2000, 0x27, 1, 1, 0]);
+    assert_eq!(rt; read_command("c4000158 1000 2000 27 1 1 0"), Ok(realm));
+    let no_realm = command(FunctionId::RealmDestroy, &[0x1000]);
+    assert_eq!(rt; read_command("c4000159 1000"), Ok(no_realm));
+    let rec = command(
+        FunctionId::RecCreate,
+        &[0x1000, 0x5000, 0, 1, 0x6000, 0x7000],
+    );
+    assert_eq!(rt; read_command("c400015a 1000 5000 0 1 6000 7000"), Ok(rec));
+    let no_rec = command(FunctionId::RecDestroy, &[0x5000]);
+    assert_eq!(rt; read_command("c400015b 5000"), Ok(no_rec));
 }
 
 #[test]
@@ -47,7 +65,10 @@ fn commands_refused(rt: HostRuntime) {
         ("c4000151 10000000000000000", CodecFault::BadWord),
         ("c4000151 1000 ", CodecFault::BadSpacing),
         ("c4000151  1000", CodecFault::BadSpacing),
-        ("c4000158 1", CodecFault::UnknownNumber),
+        ("c4000158 1000 2000 27 1 1", CodecFault::WordCount),
+        ("c400015a 1000 5000 0 1 6000 7000 0", CodecFault::WordCount),
+        ("c400015d 1000 4000 0 2", CodecFault::UnknownNumber),
+        ("c4000150 1000", CodecFault::UnknownNumber),
         ("C4000151 1000", CodecFault::UnknownNumber),
         ("0c4000151 1000", CodecFault::UnknownNumber),
     ] {
@@ -92,9 +113,12 @@ fn written(alloc: Global, reply: &Reply) -> Result<Vec<u8>, Fail> {
 #[test]
 fn writes(rt: HostRuntime) -> Result<(), Fail> {
     let mut out = Vec::new(rt.alloc());
-    write_command(&command(FunctionId::GranuleUndelegate, u64::MAX), &mut out)?;
+    write_command(
+        &command(FunctionId::GranuleUndelegate, &[u64::MAX]),
+        &mut out,
+    )?;
     assert_eq!(rt; out.as_slice(), b"c4000152 ffffffffffffffff".as_slice());
-    write_command(&command(FunctionId::Exit, 0), &mut out)?;
+    write_command(&command(FunctionId::Exit, &[0]), &mut out)?;
     assert_eq!(rt;
         out.as_slice(),
         b"c4000152 ffffffffffffffff00000001 0".as_slice()

@@ -1,5 +1,5 @@
 -- The grammar of histories, line by line: a text stands for one history at most, and then has no bad line.
-use Rattle.std.proofs.Common.{◌≡◌, ℕ, zero, suc, ◌<◌, ◌≤◌, Bool, true, false, List, [], ◌∷◌, ◌++◌, map, length, take, drop, Option, Some, None, refl, sym, ap, ◌∙◌, subst, arith, length-take, take-append-drop, nat_eq}
+use Rattle.std.proofs.Common.{◌≡◌, ℕ, zero, suc, ◌<◌, List, [], ◌∷◌, ◌++◌, map, take, drop, Option, Some, None, refl, sym, ap, ◌∙◌, subst, arith, length-take, take-append-drop, nat_eq}
 use Rattle.std.specs.Prelude.{IsSome}
 use Rattle.std.specs.List.{AllByRecursion}
 use Rattle.std.specs.Option.{option_and_then}
@@ -7,7 +7,7 @@ use Rattle.std.proofs.lemmas.List.{take-map}
 use Rattle.std.proofs.lemmas.List.Elements.{filter-append}
 use Rattle.rmm_spec.proofs.Lines.{AreOneLineEach, AreOneLineEach-map, IsOneLine-from_parts, IsLineGrammar, not-IsBadLine, same_lines}
 use Rattle.rmm_spec.proofs.Texts.{setup_parts-are_parts, setup_parts-injective, event_parts-some, event_parts-are_parts, event_parts-injective}
-use Rattle.rmm_spec.specs.HistoryText.{Setup, History, IsHistory, IsEvent, Stand, start, stand_after, stand_from, events_of, cpu_of, IsRecord, setup_parts, event_parts, IsHistoryText, InHistories}
+use Rattle.rmm_spec.specs.HistoryText.{History, IsHistory, IsEvent, Stand, start, stand_after, stand_from, events_of, cpu_of, IsRecord, setup_parts, event_parts, IsHistoryText, InHistories}
 use Rattle.rmm_spec.specs.Text.{IsBadLine, lines_text}
 use Rattle.rmm_spec.specs.declared.event.Event.{Event}
 

@@ -10,6 +10,16 @@ pub mod ReplyExists
 pub mod StepLaws
 pub mod RunLaws
 pub mod TagLaws
+pub mod Claims
+pub mod Holdings
+pub mod Purposes
+pub mod RealmPurposes
+pub mod RecPurposes
+pub mod Shallow
+pub mod Recorded
+pub mod HoldingSteps
+pub mod Accounts
+pub mod AccountSteps
 pub mod Isolation
 pub mod WalkLaws
 pub mod RealmLaws

@@ -1,7 +1,7 @@
 -- Along every run each realm has its root at its start level, and every REC its realm.
 use Rattle.std.proofs.Common.{◌≡◌, ℕ, ◌*◌, ◌<◌, ◌==◌, Bool, true, false, not, ◌&&◌, ◌||◌, ◌⊎◌, if◌then◌else◌, Option, Some, None, is_some, IsTrue, refl, sym, ◌∙◌, ap, inl, inr, arith, zero, suc, unwrap_or, ◌-◌, ◌/◌, ◌%◌, nat_lt, nat_le}
 use Rattle.std.proofs.lemmas.Bool.Decides.{nat_tests}
-use Rattle.std.proofs.lemmas.Bool.{and_parts, eqb-true, eq-eqb}
+use Rattle.std.proofs.lemmas.Bool.{and_parts, eqb-true, eq-eqb, ne_eqb}
 use Rattle.rmm_spec.specs.declared.entry.Entry.{Entry}
 use Rattle.rmm_spec.specs.declared.reply.Reply.{Reply}
 use Rattle.rmm_spec.specs.declared.tag.Ripas.{Ripas}
@@ -39,9 +39,13 @@ opening-rooted setup = record {
 }
 
 -- a choice that has a value has it by its test
-chosen : {A : Type 0} (b : Bool) (x y z : A) → (if b then x else y) ≡ z → (IsTrue b × (x ≡ z)) ⊎ ((b ≡ false) × (y ≡ z))
+pub chosen : {A : Type 0} (b : Bool) (x y z : A) → (if b then x else y) ≡ z → (IsTrue b × (x ≡ z)) ⊎ ((b ≡ false) × (y ≡ z))
 chosen true x y z e = inl (refl, e)
 chosen false x y z e = inr (refl, e)
+
+-- a choice by whether two numbers are equal is the second where they aren't
+pub second_chosen : {A : Type 0} (a b : ℕ) (x y z : A) → (a ≡ b → ⊥) → y ≡ z → (if a == b then x else y) ≡ z
+second_chosen a b x y z apart is = rw (ne_eqb a b apart) is
 
 -- what one of two has, their choice has
 pub choice_has : {A : Type 0} (Has : A → Type 0) (b : Bool) (x y : A) → (IsTrue b → Has x) → (b ≡ false → Has y) → Has (if b then x else y)
@@ -134,12 +138,12 @@ same_maps-rooted s t granules tag realm rec table r = record {
   granules = λ address found e. rw granules (r.granules address found (rw rec at e));
 }
 
--- where no spot is hit, or the one that is hit is no root
-spot_parts : (rd level number other l n : ℕ) → IsTrue (is_spot rd level number other l n) → (other ≡ rd) × (l ≡ level)
+-- a spot that is hit is the one that is meant
+pub spot_parts : (rd level number other l n : ℕ) → IsTrue (is_spot rd level number other l n) → (other ≡ rd) × (l ≡ level) × (n ≡ number)
 spot_parts rd level number other l n hit =
     let outer = and_parts (other == rd && l == level) (n == number) hit in
     let inner = and_parts (other == rd) (l == level) outer.0 in
-    (eqb-true other rd inner.0, eqb-true l level inner.1)
+    (eqb-true other rd inner.0, eqb-true l level inner.1, eqb-true n number outer.1)
 
 -- a table is put in below the root
 pub with_table-rooted : (s : State) (rd level number granule : ℕ) (entry : Entry)
@@ -277,7 +281,7 @@ inside_rec s cpu inside =
     rec_there s _ (runs_on-some cpu _ (greatest_below-passes s.granules passes inside))
 
 -- a test whose negation holds fails
-not_parts : (b : Bool) → IsTrue (not b) → b ≡ false
+pub not_parts : (b : Bool) → IsTrue (not b) → b ≡ false
 not_parts true holds = both_ways holds refl
 not_parts false holds = refl
 

@@ -99,7 +99,7 @@ system_off-rooted old address realm rec there width level root owner r =
 -- ---- steps and runs
 
 -- every command keeps the roots
-step_rooted : (function : FunctionId) (old : State) (cpu : ℕ) (words : List ℕ) (given : Reply) (new : State)
+pub step_rooted : (function : FunctionId) (old : State) (cpu : ℕ) (words : List ℕ) (given : Reply) (new : State)
     → IsRooted old → StepOf function old cpu words given new → IsRooted new
 unfolding DelegatesGranule UndelegatesGranule CreatesData CreatesUnknownData DestroysData ActivatesRealm CreatesRealm DestroysRealm CreatesRec DestroysRec EntersRec CreatesTable DestroysTable MapsUnprotected ReadsEntry UnmapsUnprotected InitializesRipas SetsRipas ReadsMeasurement ExtendsMeasurement ReadsRealmConfig SetsIpaState ReadsIpaState CallsHost TurnsCpuOff TurnsSystemOff ExitsRec
 step_rooted GranuleDelegate old cpu words given new r =

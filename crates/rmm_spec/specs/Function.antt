@@ -68,4 +68,9 @@ word_count Exit = 0
 unfoldable pub is_served : FunctionId → Bool
 is_served GranuleDelegate = true
 is_served GranuleUndelegate = true
+is_served RealmActivate = true
+is_served RealmCreate = true
+is_served RealmDestroy = true
+is_served RecCreate = true
+is_served RecDestroy = true
 is_served _ = false

@@ -1,7 +1,7 @@
 -- Linearizations: "some pending calls may be completed and the others dropped, and then a legal sequential order exists
 -- that keeps real time" (Herlihy and Wing 1990), for the one order that a certificate claims.
 -- A place is an index into the events of a history: the event's line in the text is two lines further, counted from 1.
-use Rattle.std.specs.Prelude.{◌≡◌, ℕ, suc, ◌+◌, ◌<◌, ◌≤◌, List, [], ◌∷◌, ◌⊎◌, length, take, slice_get, Option, Some, None}
+use Rattle.std.specs.Prelude.{◌≡◌, ℕ, ◌+◌, ◌<◌, List, [], ◌∷◌, length, take, slice_get, Some}
 use Rattle.rmm_spec.specs.declared.command.Command.{Command}
 use Rattle.rmm_spec.specs.declared.event.Event.{Event}
 use Rattle.rmm_spec.specs.declared.event.Event.TheVariants.{Called, Returned}

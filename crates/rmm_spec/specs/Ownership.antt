@@ -1,6 +1,6 @@
 -- Who owns a granule, read from commands and replies alone, and that the state agrees: no granule has two owners,
 -- and what a realm's protected addresses reach is data of that realm alone. This project's own statement of isolation.
-use Rattle.std.specs.Prelude.{◌≡◌, ℕ, ◌<◌, ◌≤◌, Bool, true, false, ◌&&◌, ◌==◌, if◌then◌else◌, List, [], ◌∷◌, ◌⊎◌, ◌↔◌, length, slice_index, Contains, Option, Some, None, IsSome}
+use Rattle.std.specs.Prelude.{◌≡◌, ℕ, ◌≤◌, Bool, true, false, ◌&&◌, ◌==◌, if◌then◌else◌, List, [], ◌∷◌, ◌⊎◌, ◌↔◌, length, slice_index, Contains, Some, IsSome}
 use Rattle.std.specs.List.{filter}
 use Rattle.rmm_spec.specs.declared.entry.Entry.TheVariants.{Assigned}
 use Rattle.rmm_spec.specs.declared.tag.Ripas.{Ripas}
@@ -11,7 +11,7 @@ use Rattle.rmm_spec.specs.declared.reply.Reply.TheVariants as reply
 use Rattle.rmm_spec.specs.declared.tag.Tag.{Tag}
 use Rattle.rmm_spec.specs.declared.tag.Tag.TheVariants.{Undelegated, Delegated, Rd, Rec, RecAux, Data, Rtt}
 use Rattle.rmm_spec.specs.Function.{number_of}
-use Rattle.rmm_spec.specs.State.{State, RealmRecord, RecRecord, tag_number}
+use Rattle.rmm_spec.specs.State.{State, RecRecord, tag_number}
 use Rattle.rmm_spec.specs.Run.{JournalEntry}
 
 -- a realm's hold on a granule, in one of the five roles that a granule of a realm has

@@ -1,6 +1,6 @@
 -- Translation tables as whole things: their place and their 512 entries, and the tables and leaves that a set of them
 -- stands for. After DEN0137 (RTT, RTT entry); that a table carries its place is this project's own.
-use Rattle.std.specs.Prelude.{◌≡◌, ℕ, suc, ◌+◌, ◌*◌, ◌/◌, ◌%◌, ◌<◌, ◌≤◌, ◌⊎◌, Bool, true, false, ◌==◌, if◌then◌else◌, IsTrue, List, [], ◌∷◌, ◌++◌, map, take, drop, slice_range, Contains, length, Option, Some, None, option_map, slice_get, find}
+use Rattle.std.specs.Prelude.{◌≡◌, ℕ, suc, ◌/◌, ◌%◌, ◌<◌, ◌≤◌, ◌⊎◌, Bool, true, false, ◌==◌, if◌then◌else◌, IsTrue, List, ◌++◌, map, take, drop, slice_range, Contains, length, Option, Some, None, option_map, slice_get, find}
 use Rattle.std.specs.Option.{option_and_then}
 use Rattle.rmm_spec.specs.declared.entry.Entry.{Entry}
 use Rattle.rmm_spec.specs.declared.entry.Entry.TheVariants.{Unassigned, Assigned, Table, UnassignedNs, AssignedNs}
@@ -104,11 +104,3 @@ pub record IsWalkable (cells : List TableCell) (root ipa max : ℕ) : Type 0 whe
       → (u : TableRecord) × IsOnPath cells table.place.rd table.place.level ipa next u × (u.place.level ≡ suc t.place.level)
   pub linked : (granule : ℕ) (t : TableRecord) → IsOnPath cells table.place.rd table.place.level ipa granule t
       → (granule ≡ root) ⊎ ((above : ℕ) × (u : TableRecord) × IsOnPath cells table.place.rd table.place.level ipa above u × LinksTo u ipa granule)
-
--- what was read of the table in a granule: where it lies, its level, and its entry for the address
-pub record IsRead (cells : List TableCell) (ipa granule pa level : ℕ) (entry : Entry) : Type 0 where
-  pub table : TableRecord
-  pub is_held : table_in cells granule ≡ Some table
-  pub is_granule : pa ≡ granule
-  pub is_level : level ≡ table.place.level
-  pub is_entry : slice_get table.entries (entry_index level ipa) ≡ Some entry

@@ -8,6 +8,7 @@ use Rattle.rmm_spec.specs.declared.tag.Ripas.{Ripas}
 use Rattle.rmm_spec.specs.State.{entry_with_ripas}
 use Rattle.rmm_spec.specs.Table.{entries_with_ripas}
 
+-- the entries before, the changed ones and those after are the entries with the RIPAS of a stretch changed
 pub ripas_written : (xs ys : List Entry) (first last : ℕ) (ripas : Ripas) → first ≤ last
     → ys ≡ map (entry_with_ripas ripas) (slice_range xs first last)
     → take first xs ++ (ys ++ post_of first (last - first) xs) ≡ entries_with_ripas first last ripas xs

@@ -6,8 +6,8 @@ ghost use Rattle.rmm_spec.specs.Table as spec;
 use granule_state::Ipa;
 use rmm_spec::Place;
 
-#[tactic(auto, unfolding(rmm_spec::specs::Table::covers, rmm_spec::specs::Table::place_number, rmm_spec::specs::Walk::table_number, rmm_spec::specs::Walk::table_size))]
 /// Whether the table at a place covers an address.
+#[tactic(auto, unfolding(rmm_spec::specs::Table::covers, rmm_spec::specs::Table::place_number, rmm_spec::specs::Walk::table_number, rmm_spec::specs::Walk::table_size))]
 pub fn covers(place: &Place, ipa: Ipa) -> bool
     ensures { result ≡ spec.covers place.now ipa }
 {

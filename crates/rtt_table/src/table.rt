@@ -17,14 +17,14 @@ const ENTRIES: usize = 512;
 
 const _: () = prove!(size_of::<Entry>() <= 16);
 
+/// Where in its table the level's entry for an address stands: levels past 3 count as level 3.
 #[tactic(auto, unfolding(rmm_spec::specs::Table::entry_index, rmm_spec::specs::Walk::entry_number, rmm_spec::specs::Walk::entry_size))]
-/// Where in its table the level's entry for an address stands: levels below 3 count as level 3.
 pub fn index_of(level: u8, ipa: Ipa) -> usize
     ensures place { result ≡ entry_index level ipa }
     ensures within { result < 512 }
 {
     let shift = 12 + 9 * 3u8.saturating_sub(level);
-    ((ipa.address() >> shift) % 512) as usize
+    (ipa.address() >> shift) as usize % ENTRIES
 }
 
 /// A translation table on the heap.

@@ -94,3 +94,20 @@ fn ripas_of_a_stretch(rt: HostRuntime) -> Result<(), Fail> {
     }
     Ok(())
 }
+
+#[test]
+fn ripas_of_assigned_entries(rt: HostRuntime) -> Result<(), Fail> {
+    let mut table = Table::new(rt.alloc(), place(), Entry::Assigned(Ripas::Empty, 0x5000))?;
+    table.set_entry(11, Entry::Assigned(Ripas::Destroyed, 0x6000));
+    table.set_entry(12, Entry::Assigned(Ripas::Empty, 0x7000));
+    table.set_ripas(10, 12, Ripas::Ram);
+    for (index, want) in [
+        (9, Entry::Assigned(Ripas::Empty, 0x5000)),
+        (10, Entry::Assigned(Ripas::Ram, 0x5000)),
+        (11, Entry::Assigned(Ripas::Ram, 0x6000)),
+        (12, Entry::Assigned(Ripas::Empty, 0x7000)),
+    ] {
+        assert_eq!(rt; table.entry(index), want, "at {index}");
+    }
+    Ok(())
+}

@@ -7,7 +7,7 @@ use Rattle.rmm_spec.specs.declared.entry.Entry.{Entry}
 use Rattle.rmm_spec.specs.declared.entry.Entry.TheVariants.{Unassigned, Assigned, Table, UnassignedNs, AssignedNs}
 use Rattle.rmm_spec.specs.State.{State}
 use Rattle.rmm_spec.specs.Walk.{entry_number, table_number, entry_size, table_size, is_table, entry_at, entry_for, IsWalk}
-use Rattle.rmm_spec.specs.Table.{TableRecord, TableCell, entry_index, table_in, is_table_at, leaf_of, flat_table, flat_leaf, with_tables, LinksTo, ArePlaced, IsOnPath, IsWalkable}
+use Rattle.rmm_spec.specs.Table.{TableRecord, TableCell, entry_index, is_table_at, flat_table, flat_leaf, with_tables, LinksTo, ArePlaced, IsWalkable}
 use Rattle.rmm_spec.proofs.WalkLaws.{table_number-suc, table_size-entries}
 use Rattle.rtt_walk.proofs.Flat.{found_at_spot, spot_is_found, flat_table-found, on_path_from_spot, spot_from_on_path}
 use Rattle.rtt_walk.proofs.Paths.{OnPath, same_on_path, link_of_deeper}
@@ -19,6 +19,7 @@ record IsFoundAt (cells : List TableCell) (rd level ipa granule : ℕ) (table : 
   is_granule : cell.granule ≡ granule
   is_table : cell.table ≡ table
 
+-- a table of the path is the first that the cells have of its realm, level and number
 path_is_found : (cells : List TableCell) (root ipa max : ℕ) (w : IsWalkable cells root ipa max) → ArePlaced cells
     → (level granule : ℕ) (t : TableRecord) → OnPath cells root ipa max w granule t → t.place.level ≡ level
     → IsFoundAt cells w.table.place.rd level ipa granule t
@@ -32,6 +33,7 @@ path_is_found cells root ipa max w placed level granule t path is_level =
     let same = same_on_path cells root ipa max w first.0.granule granule first.0.table t on path (spot.is_level ∙ sym is_level) in
     record { cell = first.0; found = first.1; is_granule = same.0; is_table = same.1 }
 
+-- where the path has a table of a level, the flat tables have its granule
 flat_table-path : (cells : List TableCell) (root ipa max : ℕ) (w : IsWalkable cells root ipa max) → ArePlaced cells
     → (level granule : ℕ) (t : TableRecord) → OnPath cells root ipa max w granule t → t.place.level ≡ level
     → flat_table cells w.table.place.rd level (table_number level ipa) ≡ Some granule
@@ -51,6 +53,7 @@ flat_table-none-by cells root ipa max w placed level below nothing (Some c) is_f
     let spot = found_at_spot cells w.table.place.rd level (table_number level ipa) c placed is_found in
     absurd (nothing c.granule c.table (on_path_from_spot cells w.table.place.rd w.table.place.level ipa level c.granule c.table spot below) spot.is_level)
 
+-- the same, whatever the cells have at the level
 flat_table-none : (cells : List TableCell) (root ipa max : ℕ) (w : IsWalkable cells root ipa max) → ArePlaced cells
     → (level : ℕ) → w.table.place.level ≤ level
     → ((granule : ℕ) (t : TableRecord) → OnPath cells root ipa max w granule t → t.place.level ≡ level → ⊥)
@@ -64,6 +67,7 @@ entry_number-table level ipa within =
     let size : entry_size level * 512 ≡ table_size level = omega (arith, table_size-entries level within) in
     div-div-eq-div-mul ipa (entry_size level) 512 ∙ ap (λ (n : ℕ). ipa / n) size
 
+-- the entry of the table that the cells have there is the flat leaf, if it is no link
 flat_leaf-found : (cells : List TableCell) (rd level number : ℕ) (c : TableCell) (entry : Entry)
     → find (is_table_at rd level (number / 512)) cells ≡ Some c → slice_get c.table.entries (number % 512) ≡ Some entry → is_table entry ≡ false
     → flat_leaf cells rd level number ≡ Some entry
@@ -79,12 +83,14 @@ pub record IsEnd (cells : List TableCell) (root ipa max : ℕ) (w : IsWalkable c
   pub within : level ≤ max
   pub last : level < max → (next : ℕ) → entry ≡ Table next → ⊥
 
+-- an entry that links to a granule is that link
 link_is_entry : (table : TableRecord) (level ipa next : ℕ) (entry : Entry) → table.place.level ≡ level
     → slice_get table.entries (entry_index level ipa) ≡ Some entry → LinksTo table ipa next → entry ≡ Table next
 link_is_entry table level ipa next entry is_level is_entry link =
     let there : slice_get table.entries (entry_index level ipa) ≡ Some (Table next) = rw is_level at link in
     let same : Some entry ≡ Some (Table next) = sym is_entry ∙ there in cc
 
+-- a link on the path is the entry of the flat tables
 entry_for-link : (cells : List TableCell) (root ipa max : ℕ) (w : IsWalkable cells root ipa max) → ArePlaced cells → (s : State)
     → (pa level : ℕ) (entry : Entry) → IsEnd cells root ipa max w pa level entry → (next : ℕ) → entry ≡ Table next
     → Table next ≡ entry_for (with_tables s cells) w.table.place.rd level ipa
@@ -99,6 +105,7 @@ entry_for-link cells root ipa max w placed s pa level entry end next is_link =
     rw (add-one level, ← (table_number-suc level ipa)) (flat_table-path cells root ipa max w placed (suc level) next child.0 child.1 down) in
     rw (above, below) refl
 
+-- below a table whose entry is no link, the flat tables have none for the address
 no_table_below : (cells : List TableCell) (root ipa max : ℕ) (w : IsWalkable cells root ipa max) → ArePlaced cells
     → (pa level : ℕ) (entry : Entry) → IsEnd cells root ipa max w pa level entry → is_table entry ≡ false
     → (deeper : ℕ) → level < deeper → flat_table cells w.table.place.rd deeper (table_number deeper ipa) ≡ None
@@ -109,11 +116,13 @@ no_table_below cells root ipa max w placed pa level entry end no_link deeper bel
     let is_link = link_is_entry end.table level ipa link.0 entry end.is_level end.is_entry link.1 in
     let bad : true ≡ false = sym (ap (λ (e : Entry). is_table e) is_link) ∙ no_link in cc)
 
+-- where no table stands below, the test of the last level makes no difference
 below-none-by : (cells : List TableCell) (rd level number : ℕ) (above : Bool) → flat_table cells rd (level + 1) number ≡ None
     → (if above then flat_table cells rd (level + 1) number else None) ≡ None
 below-none-by cells rd level number true none = none
 below-none-by cells rd level number false none = refl
 
+-- an entry on the path that is no link is the entry of the flat tables
 entry_for-leaf : (cells : List TableCell) (root ipa max : ℕ) (w : IsWalkable cells root ipa max) → ArePlaced cells → (s : State)
     → (pa level : ℕ) (entry : Entry) → IsEnd cells root ipa max w pa level entry → is_table entry ≡ false
     → entry ≡ entry_for (with_tables s cells) w.table.place.rd level ipa
@@ -130,6 +139,7 @@ entry_for-leaf cells root ipa max w placed s pa level entry end no_link =
     rw (add-one level, ← (table_number-suc level ipa)) (no_table_below cells root ipa max w placed pa level entry end no_link (suc level) (omega arith)) in
     rw (below-none-by cells rd level number (nat_lt level 3) none, leaf, no_link) refl
 
+-- what was reached is the entry of the flat tables
 entry_is : (cells : List TableCell) (root ipa max : ℕ) (w : IsWalkable cells root ipa max) → ArePlaced cells → (s : State)
     → (pa level : ℕ) (entry : Entry) → IsEnd cells root ipa max w pa level entry
     → entry ≡ entry_for (with_tables s cells) w.table.place.rd level ipa

@@ -1,9 +1,7 @@
 -- The flat tables of cells: what they have is held at its own place, and what is held they have.
-use Rattle.std.proofs.Common.{◌≡◌, ℕ, suc, ◌+◌, ◌*◌, ◌/◌, ◌%◌, ◌<◌, ◌≤◌, Bool, true, false, ◌&&◌, ◌==◌, List, Option, Some, None, IsTrue, refl, sym, ap, ◌∙◌, arith}
+use Rattle.std.proofs.Common.{◌≡◌, ℕ, ◌≤◌, Bool, true, ◌&&◌, ◌==◌, List, Some, refl, sym, arith}
 use Rattle.std.specs.List.{find, Contains}
-use Rattle.std.specs.Option.{option_map}
 use Rattle.std.proofs.lemmas.Bool.Decides.{nat_tests}
-use Rattle.rmm_spec.specs.State.{is_spot}
 use Rattle.rmm_spec.specs.Walk.{table_number}
 use Rattle.rmm_spec.specs.Table.{TableRecord, TableCell, place_number, covers, table_in, is_table_at, flat_table, ArePlaced, IsOnPath}
 use Rattle.rtt_walk.proofs.Finds.{find_is, find_some, option_map_some}
@@ -15,9 +13,11 @@ pub record IsAtSpot (cells : List TableCell) (rd level number granule : ℕ) (ta
   pub is_level : table.place.level ≡ level
   pub is_number : place_number table.place ≡ number
 
+-- three tests that pass together are three equations
 spot_tests : (a b c d e f : ℕ) → (a == b && c == d && e == f) ≡ true → (a ≡ b) × (c ≡ d) × (e ≡ f)
 spot_tests a b c d e f tests = (grind (arith, nat_tests), grind (arith, nat_tests), grind (arith, nat_tests))
 
+-- three equations pass three tests together
 spots_pass : (a b c d e f : ℕ) → a ≡ b → c ≡ d → e ≡ f → (a == b && c == d && e == f) ≡ true
 spots_pass a b c d e f ab cd ef = grind (arith, nat_tests)
 
@@ -30,6 +30,7 @@ found_at_spot cells rd level number c placed found =
     let tests = spot_tests c.table.place.rd rd c.table.place.level level (place_number c.table.place) number there.1 in
     record { is_held = placed c there.0; is_realm = tests.0; is_level = tests.1; is_number = tests.2 }
 
+-- a table that is held is that of one of the cells
 held_is_found : (cells : List TableCell) (granule : ℕ) (table : TableRecord) → table_in cells granule ≡ Some table
     → (c : TableCell) × Contains cells c × (c.granule ≡ granule) × (c.table ≡ table)
 unfolding table_in
@@ -50,6 +51,7 @@ spot_is_found cells rd level number granule table spot =
     rw there.3 (spots_pass table.place.rd rd table.place.level level (place_number table.place) number spot.is_realm spot.is_level spot.is_number) in
     find_some (is_table_at rd level number) cells there.0 there.1.0 there.1.1 there.1.2 passes
 
+-- the flat table is the granule of the cell that is found
 pub flat_table-found : (cells : List TableCell) (rd level number : ℕ) (c : TableCell) → find (is_table_at rd level number) cells ≡ Some c
     → flat_table cells rd level number ≡ Some c.granule
 unfolding flat_table

@@ -1,7 +1,6 @@
 -- The tables on a path: one at each level, and each above another links to one.
-use Rattle.std.proofs.Common.{◌≡◌, ℕ, zero, suc, ◌+◌, ◌-◌, ◌<◌, ◌≤◌, ◌⊎◌, inl, inr, List, Option, Some, refl, sym, ap, subst, ◌∙◌, arith}
+use Rattle.std.proofs.Common.{◌≡◌, ℕ, zero, suc, ◌+◌, ◌-◌, ◌<◌, ◌≤◌, ◌⊎◌, inl, inr, List, Some, refl, sym, ap, subst, ◌∙◌, arith}
 use Rattle.std.specs.List.{slice_get}
-use Rattle.rmm_spec.specs.declared.entry.Entry.{Entry}
 use Rattle.rmm_spec.specs.declared.entry.Entry.TheVariants.{Table}
 use Rattle.rmm_spec.specs.Table.{TableRecord, TableCell, table_in, entry_index, LinksTo, IsOnPath, IsWalkable}
 
@@ -14,6 +13,7 @@ abbrev pub IsLinked : (cells : List TableCell) (root ipa max : ℕ) → IsWalkab
 IsLinked cells root ipa max w granule =
     (granule ≡ root) ⊎ ((above : ℕ) × (u : TableRecord) × OnPath cells root ipa max w above u × LinksTo u ipa granule)
 
+-- a granule holds one table
 pub same_table : (cells : List TableCell) (g h : ℕ) (t u : TableRecord) → table_in cells g ≡ Some t → table_in cells h ≡ Some u → g ≡ h → t ≡ u
 same_table cells g h t u at_g at_h same =
     let tables : Some t ≡ Some u = (sym at_g ∙ ap (λ (x : ℕ). table_in cells x) same) ∙ at_h in cc
@@ -87,6 +87,7 @@ pub record HasLinkAt (cells : List TableCell) (root ipa max : ℕ) (w : IsWalkab
   pub is_level : table.place.level ≡ level
   pub link : LinksTo table ipa next
 
+-- one step up: the root has no table above it, and any other is linked from one
 link_above-by : (cells : List TableCell) (root ipa max : ℕ) (w : IsWalkable cells root ipa max) (level g : ℕ) (t : TableRecord)
     → OnPath cells root ipa max w g t → level < t.place.level → w.table.place.level ≤ level → IsLinked cells root ipa max w g
     → ((a : ℕ) (u : TableRecord) → OnPath cells root ipa max w a u → LinksTo u ipa g → t.place.level ≡ suc u.place.level

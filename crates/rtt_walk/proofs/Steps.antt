@@ -5,9 +5,10 @@ use Rattle.rmm_spec.specs.declared.entry.Entry.{Entry}
 use Rattle.rmm_spec.specs.declared.entry.Entry.TheVariants.{Table}
 use Rattle.rmm_spec.specs.State.{State}
 use Rattle.rmm_spec.specs.Walk.{IsWalk}
-use Rattle.rmm_spec.specs.Table.{TableRecord, TableCell, table_in, entry_index, with_tables, LinksTo, ArePlaced, IsWalkable, IsRead}
+use Rattle.rmm_spec.specs.Table.{TableRecord, TableCell, table_in, entry_index, with_tables, LinksTo, ArePlaced, IsWalkable}
+use Rattle.rtt_walk.specs.Read.{IsRead}
 use Rattle.rtt_walk.proofs.Paths.{OnPath, same_table}
-use Rattle.rtt_walk.proofs.Ends.{IsEnd, walk_from_end}
+use Rattle.rtt_walk.proofs.Ends.{walk_from_end}
 
 -- a table of the path up to max was reached, and its entry read
 pub record IsReached (cells : List TableCell) (root ipa max pa level : ℕ) (entry : Entry) : Type 0 where
@@ -18,9 +19,11 @@ pub record IsReached (cells : List TableCell) (root ipa max pa level : ℕ) (ent
   pub is_entry : slice_get table.entries (entry_index level ipa) ≡ Some entry
   pub within : level ≤ max
 
+-- where a walk may start, the root has a table
 pub root_is_held : (cells : List TableCell) (root ipa max : ℕ) → IsWalkable cells root ipa max → (t : TableRecord) × (table_in cells root ≡ Some t)
 root_is_held cells root ipa max w = (w.table, w.is_root.is_held)
 
+-- the root that was read is reached
 pub root_is_reached : (cells : List TableCell) (root ipa max pa level : ℕ) (entry : Entry) → IsWalkable cells root ipa max
     → IsRead cells ipa root pa level entry → IsReached cells root ipa max pa level entry
 root_is_reached cells root ipa max pa level entry w read =
@@ -43,6 +46,7 @@ next_table cells root ipa max pa level next entry at is_link =
     let child = at.walkable.links pa next at.table at.path link in
     (child.0, child.1, child.2 ∙ ap (λ (x : ℕ). suc x) at.is_level, at.walkable.levels next child.0 child.1)
 
+-- a link of what was reached leads to a table
 pub next_is_held : (cells : List TableCell) (root ipa max pa level next : ℕ) (entry : Entry) → IsReached cells root ipa max pa level entry → entry ≡ Table next
     → (t : TableRecord) × (table_in cells next ≡ Some t)
 next_is_held cells root ipa max pa level next entry at is_link =
@@ -57,6 +61,7 @@ next_level cells root ipa max pa level next to below entry read_entry at is_link
     let is_level = read.is_level ∙ ap (λ (x : TableRecord). x.place.level) same in
     (is_level ∙ child.2, omega (arith, child.3))
 
+-- what is read there is reached
 pub next_is_reached : (cells : List TableCell) (root ipa max pa level next to below : ℕ) (entry read_entry : Entry) → IsReached cells root ipa max pa level entry
     → level < max → entry ≡ Table next → IsRead cells ipa next to below read_entry → IsReached cells root ipa max to below read_entry
 next_is_reached cells root ipa max pa level next to below entry read_entry at room is_link read =

@@ -1,3 +1,4 @@
 pub mod Plain
 pub mod PlainLaws
+pub mod Read
 pub mod Walkable

@@ -1,19 +1,21 @@
 -- Tables by the number of their granule: each is found at its granule's address.
-use Rattle.std.proofs.Common.{◌≡◌, ℕ, zero, suc, ◌+◌, ◌*◌, ◌/◌, ◌%◌, ◌-◌, ◌<◌, ◌≤◌, Bool, true, false, ◌==◌, List, [], ◌∷◌, length, Option, Some, None, refl, sym, ap, ◌∙◌, arith, eq-eqb}
-use Rattle.std.specs.List.{find, slice_get, slice_index_or, Contains}
+use Rattle.std.proofs.Common.{◌≡◌, ℕ, zero, suc, ◌+◌, ◌*◌, ◌<◌, false, ◌==◌, List, [], ◌∷◌, length, Option, Some, None, refl, ap, ◌∙◌, arith, eq-eqb}
+use Rattle.std.specs.List.{slice_get, slice_index_or}
 use Rattle.std.proofs.lemmas.Bool.Decides.{nat_tests}
-use Rattle.std.proofs.lemmas.Option.{slice_get_past}
 use Rattle.rmm_spec.specs.Table.{TableRecord, TableCell, table_in, ArePlaced}
 use Rattle.rtt_walk.specs.Plain.{cells_from, table_or_none}
 
+-- the first cell is found at its granule
 table_in-head : (c : TableCell) (cells : List TableCell) (address : ℕ) → c.granule ≡ address → table_in (c ∷ cells) address ≡ Some c.table
 unfolding table_in
 table_in-head c cells address here = rw (eq-eqb c.granule address here) refl
 
+-- at another granule the first cell is passed over
 pub table_in-tail : (c : TableCell) (cells : List TableCell) (address : ℕ) → (c.granule ≡ address → ⊥) → table_in (c ∷ cells) address ≡ table_in cells address
 unfolding table_in
 table_in-tail c cells address other = let fails : (c.granule == address) ≡ false = grind (arith, nat_tests) in rw fails refl
 
+-- no cells have no table
 pub table_in-nil : (address : ℕ) → table_in [] address ≡ None
 unfolding table_in
 table_in-nil address = refl

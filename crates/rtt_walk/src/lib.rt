@@ -1,8 +1,8 @@
 //! The walk of a realm's translation tables: from the root to the deepest table that covers an address (DEN0137, RTT walk).
-//! It promises that following links finds the table and entry that a realm's flat tables and leaves say.
+//! It promises that following links ends at the table and entry of a realm's flat tables and leaves, wherever a walk may start.
 //! It holds of every set of tables that meets `Cells`; `PlainCells` is a plain one.
 //! Walks take no memory, and nothing here waits; addresses are in bytes.
-//! The monitor's commands on realm memory stand on it.
+//! It is made for the monitor's commands on realm memory.
 #![tactic(auto)]
 
 mod cells;

@@ -52,8 +52,8 @@ impl PlainCells {
         self.tables.len() as u64
     }
 
-    #[tactic(auto, using(std::proofs::lemmas::Bool::Decides::nat_tests), unfolding(rmm_spec::specs::State::is_granule))]
     /// Puts a table into the granule at an address, in place of what was there, or answers false where no granule begins.
+    #[tactic(auto, using(std::proofs::lemmas::Bool::Decides::nat_tests), unfolding(rmm_spec::specs::State::is_granule))]
     pub fn put(&mut self, pa: Pa, table: Table) -> bool
         ensures answer { result ≡ is_granule (length self.old) pa }
         ensures put { IsTrue result → self.new ≡ slice_set self.old (pa / 4096) (Some table) }

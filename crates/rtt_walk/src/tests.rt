@@ -11,6 +11,8 @@ use std::test::Fail;
 
 const EMPTY: Entry = Entry::Unassigned(Ripas::Empty);
 
+const TOP: u64 = 0x7f_ffff_f000;
+
 fn place(level: u8, base: u64, width: u8) -> Place {
     Place {
         rd: 0x1000,
@@ -20,9 +22,9 @@ fn place(level: u8, base: u64, width: u8) -> Place {
     }
 }
 
-// Where a walk from the root ends, or nothing where it may not start.
-fn ends_at(cells: &PlainCells, root: u64, ipa: u64, max: u8) -> Option<Reached> {
-    let root = Pa::new(root);
+// Where a walk from the root at 2000 ends, or nothing where it may not start.
+fn ends_at(cells: &PlainCells, ipa: u64, max: u8) -> Option<Reached> {
+    let root = Pa::new(0x2000);
     let ipa = Ipa::new(ipa);
     if is_walkable(cells, cells.granules(), root, ipa, max) {
         Some(walk(cells, root, ipa, max))
@@ -45,12 +47,8 @@ fn empty_cells(alloc: Global) -> Result<PlainCells, Fail> {
 }
 
 fn put(cells: &mut PlainCells, address: u64, table: Table) -> Result<(), Fail> {
-    let found = if cells.put(Pa::new(address), table) {
-        Some(())
-    } else {
-        None
-    };
-    found.ok_or("no such granule")?;
+    let is_put = cells.put(Pa::new(address), table);
+    is_put.then_some(()).ok_or("no such granule")?;
     Ok(())
 }
 
@@ -73,112 +71,75 @@ fn three_levels(alloc: Global) -> Result<PlainCells, Fail> {
 #[test]
 fn walks_from_level_one(rt: HostRuntime) -> Result<(), Fail> {
     let cells = three_levels(rt.alloc())?;
-    let top = 0x7f_ffff_f000;
-    assert_eq!(rt;
-        ends_at(&cells, 0x2000, top, 3),
-        reached(0x4000, 3, Entry::AssignedNs(0x9000))
-    );
-    assert_eq!(rt;
-        ends_at(&cells, 0x2000, top + 0xfff, 3),
-        reached(0x4000, 3, Entry::AssignedNs(0x9000))
-    );
-    assert_eq!(rt;
-        ends_at(&cells, 0x2000, top, 2),
-        reached(0x3000, 2, Entry::Table(0x4000))
-    );
-    assert_eq!(rt;
-        ends_at(&cells, 0x2000, top, 1),
-        reached(0x2000, 1, Entry::Table(0x3000))
-    );
-    assert_eq!(rt; ends_at(&cells, 0x2000, top, 0), None);
-    assert_eq!(rt;
-        ends_at(&cells, 0x2000, 0x7f_ffe0_0000, 3),
-        reached(0x4000, 3, Entry::UnassignedNs)
-    );
-    assert_eq!(rt;
-        ends_at(&cells, 0x2000, 0x7f_ffdf_f000, 3),
-        reached(0x3000, 2, Entry::UnassignedNs)
-    );
-    assert_eq!(rt;
-        ends_at(&cells, 0x2000, 0x7f_bfff_f000, 3),
-        reached(0x2000, 1, EMPTY)
-    );
-    assert_eq!(rt;
-        ends_at(&cells, 0x2000, 0x3f_ffff_f000, 3),
-        reached(0x2000, 1, EMPTY)
-    );
-    assert_eq!(rt;
-        ends_at(&cells, 0x2000, 0x40_0000_0000, 3),
-        reached(0x2000, 1, Entry::UnassignedNs)
-    );
-    assert_eq!(rt; ends_at(&cells, 0x2000, 0, 3), reached(0x2000, 1, EMPTY));
-    assert_eq!(rt; ends_at(&cells, 0x2000, 0x80_0000_0000, 3), None);
+    for (ipa, max, want) in [
+        (TOP, 3, reached(0x4000, 3, Entry::AssignedNs(0x9000))),
+        (
+            TOP + 0xfff,
+            3,
+            reached(0x4000, 3, Entry::AssignedNs(0x9000)),
+        ),
+        (TOP, 2, reached(0x3000, 2, Entry::Table(0x4000))),
+        (TOP, 1, reached(0x2000, 1, Entry::Table(0x3000))),
+        (TOP, 0, None),
+        (0x7f_ffe0_0000, 3, reached(0x4000, 3, Entry::UnassignedNs)),
+        (0x7f_ffdf_f000, 3, reached(0x3000, 2, Entry::UnassignedNs)),
+        (0x7f_bfff_f000, 3, reached(0x2000, 1, EMPTY)),
+        (0x3f_ffff_f000, 3, reached(0x2000, 1, EMPTY)),
+        (0x40_0000_0000, 3, reached(0x2000, 1, Entry::UnassignedNs)),
+        (0, 3, reached(0x2000, 1, EMPTY)),
+        (0x80_0000_0000, 3, None),
+    ] {
+        assert_eq!(rt; ends_at(&cells, ipa, max), want, "{ipa:x} up to {max}");
+    }
     Ok(())
+}
+
+// A root at level 0 of width 0x30 at 2000, and below it a table at each level down to 3 for the first address.
+fn four_levels(alloc: Global) -> Result<PlainCells, Fail> {
+    let mut cells = empty_cells(alloc)?;
+    for (level, address, first) in [
+        (0, 0x2000, Entry::Table(0x3000)),
+        (1, 0x3000, Entry::Table(0x4000)),
+        (2, 0x4000, Entry::Table(0x5000)),
+        (3, 0x5000, Entry::Assigned(Ripas::Ram, 0x7000)),
+    ] {
+        let mut table = Table::new(alloc, place(level, 0, 0x30), EMPTY)?;
+        table.set_entry(0, first);
+        put(&mut cells, address, table)?;
+    }
+    Ok(cells)
 }
 
 #[test]
 fn walks_from_level_zero(rt: HostRuntime) -> Result<(), Fail> {
-    let mut cells = empty_cells(rt.alloc())?;
-    let mut root = Table::new(rt.alloc(), place(0, 0, 0x30), EMPTY)?;
-    root.set_entry(0, Entry::Table(0x3000));
-    let mut first = Table::new(rt.alloc(), place(1, 0, 0x30), EMPTY)?;
-    first.set_entry(0, Entry::Table(0x4000));
-    let mut second = Table::new(rt.alloc(), place(2, 0, 0x30), EMPTY)?;
-    second.set_entry(0, Entry::Table(0x5000));
-    let mut third = Table::new(rt.alloc(), place(3, 0, 0x30), EMPTY)?;
-    third.set_entry(0, Entry::Assigned(Ripas::Ram, 0x7000));
-    assert!(rt; cells.put(Pa::new(0x2000), root) && cells.put(Pa::new(0x3000), first));
-    assert!(rt; cells.put(Pa::new(0x4000), second) && cells.put(Pa::new(0x5000), third));
-    assert_eq!(rt;
-        ends_at(&cells, 0x2000, 0, 3),
-        reached(0x5000, 3, Entry::Assigned(Ripas::Ram, 0x7000))
-    );
-    assert_eq!(rt;
-        ends_at(&cells, 0x2000, 0x1f_f000, 3),
-        reached(0x5000, 3, EMPTY)
-    );
-    assert_eq!(rt;
-        ends_at(&cells, 0x2000, 0x20_0000, 3),
-        reached(0x4000, 2, EMPTY)
-    );
-    assert_eq!(rt;
-        ends_at(&cells, 0x2000, 0x4000_0000, 3),
-        reached(0x3000, 1, EMPTY)
-    );
-    assert_eq!(rt;
-        ends_at(&cells, 0x2000, 0x80_0000_0000, 3),
-        reached(0x2000, 0, EMPTY)
-    );
-    assert_eq!(rt;
-        ends_at(&cells, 0x2000, 0xffff_ffff_f000, 3),
-        reached(0x2000, 0, EMPTY)
-    );
+    let cells = four_levels(rt.alloc())?;
+    for (ipa, want) in [
+        (0, reached(0x5000, 3, Entry::Assigned(Ripas::Ram, 0x7000))),
+        (0x1f_f000, reached(0x5000, 3, EMPTY)),
+        (0x20_0000, reached(0x4000, 2, EMPTY)),
+        (0x4000_0000, reached(0x3000, 1, EMPTY)),
+        (0x80_0000_0000, reached(0x2000, 0, EMPTY)),
+        (0xffff_ffff_f000, reached(0x2000, 0, EMPTY)),
+    ] {
+        assert_eq!(rt; ends_at(&cells, ipa, 3), want, "{ipa:x}");
+    }
     Ok(())
+}
+
+// A table of the last address, at level 3, to which nothing links.
+fn stray_table(alloc: Global) -> Result<Table, Fail> {
+    Ok(Table::new(alloc, place(3, 0x7f_ffe0_0000, 0x27), EMPTY)?)
 }
 
 #[test]
 fn walks_that_may_not_start(rt: HostRuntime) -> Result<(), Fail> {
-    let mut cells = three_levels(rt.alloc())?;
-    let top = 0x7f_ffff_f000;
-    assert_eq!(rt; ends_at(&cells, 0x6000, top, 3), None, "no root");
+    let mut cells = empty_cells(rt.alloc())?;
+    assert_eq!(rt; ends_at(&cells, TOP, 3), None, "no root");
+    cells = three_levels(rt.alloc())?;
     assert!(rt; cells.table(Pa::new(0x2001)).is_none());
-    let stray = Table::new(
-        rt.alloc(),
-        place(3, 0x7f_ffe0_0000, 0x27),
-        Entry::UnassignedNs,
-    )?;
-    assert!(rt; !cells.put(Pa::new(0x1_0000), stray));
-    let stray = Table::new(
-        rt.alloc(),
-        place(3, 0x7f_ffe0_0000, 0x27),
-        Entry::UnassignedNs,
-    )?;
-    assert!(rt; cells.put(Pa::new(0x6000), stray));
-    assert_eq!(rt;
-        ends_at(&cells, 0x2000, top, 3),
-        None,
-        "a table without a link"
-    );
-    assert_eq!(rt; ends_at(&cells, 0x2000, 0, 3), reached(0x2000, 1, EMPTY));
+    assert!(rt; !cells.put(Pa::new(0x1_0000), stray_table(rt.alloc())?));
+    put(&mut cells, 0x6000, stray_table(rt.alloc())?)?;
+    assert_eq!(rt; ends_at(&cells, TOP, 3), None, "a table without a link");
+    assert_eq!(rt; ends_at(&cells, 0, 3), reached(0x2000, 1, EMPTY));
     Ok(())
 }

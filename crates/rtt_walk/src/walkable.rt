@@ -1,8 +1,9 @@
 //! The test of what a walk asks.
 
-ghost use Rattle.std.specs.Prelude.{◌≡◌, ℕ, ◌≤◌, IsTrue, IfSome, IfNone, false, Some};
-ghost use Rattle.rmm_spec.specs.Table.{LinksTo, IsWalkable, TableRecord, table_in};
-ghost use Rattle.rtt_walk.specs.Walkable.{IsOver, HasLink, LeadsDown, IsSound, AreInGranules};
+ghost use Rattle.std.specs.Prelude.{◌≡◌, ℕ, ◌≤◌, ◌↔◌, IsTrue, IfSome, IfNone, false, Some};
+ghost use Rattle.rmm_spec.specs.Table as spec;
+ghost use Rattle.rmm_spec.specs.Table.{LinksTo, IsWalkable};
+ghost use Rattle.rtt_walk.specs.Walkable.{IsOver, IsLinkedFrom, HasLink, LeadsDown, IsSoundAt, AreInGranules};
 
 use crate::cells::Cells;
 use granule_state::{Ipa, Pa};
@@ -11,19 +12,19 @@ use rtt_table::{Table, covers, index_of};
 
 const GRANULE_BYTES: u64 = 4096;
 
-/// Whether a walk may start: the tables lie in the first `granules` granules, the root covers the address, at a level up
-/// to `max`, and the links from it lead to just the tables of its realm that cover the address from its level on.
+/// Whether a walk may start: the root covers the address, at a level up to `max`, and the links from it lead to just the
+/// tables of its realm that cover the address from its level on. The tables lie in the first `granules` granules.
 /// It reads every table, for each table that covers the address.
 pub fn is_walkable<C: Cells>(cells: &C, granules: u64, root: Pa, ipa: Ipa, max: u8) -> bool
     requires count { granules ≤ 4096 }
     requires granules { AreInGranules (C.cells cells.now) granules }
-    ensures { IsTrue result → IsWalkable (C.cells cells.now) root ipa max }
+    ensures { IsTrue result ↔ IsWalkable (C.cells cells.now) root ipa max }
 {
     let Some(table) = cells.table(root) else {
         return false;
     };
     let top = table.place();
-    if top.level > max || !covers(&top, ipa) {
+    if !may_start(&top, ipa, max) {
         return false;
     }
     for number in 0..granules {
@@ -32,6 +33,13 @@ pub fn is_walkable<C: Cells>(cells: &C, granules: u64, root: Pa, ipa: Ipa, max: 
         }
     }
     true
+}
+
+// Whether a root may stand at a place.
+fn may_start(top: &Place, ipa: Ipa, max: u8) -> bool
+    ensures { IsTrue result ↔ (top.now.level ≤ max × IsTrue (spec.covers top.now ipa)) }
+{
+    top.level <= max && covers(top, ipa)
 }
 
 // Whether the table at an address, if it is on the path, is as a walk asks.
@@ -43,9 +51,9 @@ fn is_sound_at<C: Cells>(
     ipa: Ipa,
     address: u64,
 ) -> bool
-    requires { granules ≤ 4096 }
-    ensures { IsTrue result → (t : TableRecord) → table_in (C.cells cells.now) address ≡ Some t → IsOver top.now.rd top.now.level ipa t.place
-        → IsSound (C.cells cells.now) top.now.rd top.now.level ipa root address t }
+    requires count { granules ≤ 4096 }
+    requires granules { AreInGranules (C.cells cells.now) granules }
+    ensures { IsTrue result ↔ IsSoundAt (C.cells cells.now) top.now.rd top.now.level ipa root address }
 {
     let Some(table) = cells.table(Pa::new(address)) else {
         return true;
@@ -90,7 +98,7 @@ fn link_of(table: &Table, ipa: Ipa) -> Option<u64>
 
 // Whether a link of a table leads to a table of the path, one level below.
 fn leads_down<C: Cells>(cells: &C, top: &Place, table: &Table, ipa: Ipa) -> bool
-    ensures { IsTrue result → LeadsDown (C.cells cells.now) top.now.rd top.now.level ipa table.now }
+    ensures { IsTrue result ↔ LeadsDown (C.cells cells.now) top.now.rd top.now.level ipa table.now }
 {
     let Some(next) = link_of(table, ipa) else {
         return true;
@@ -103,13 +111,14 @@ fn leads_down<C: Cells>(cells: &C, top: &Place, table: &Table, ipa: Ipa) -> bool
         return false;
     }
     let level = table.place().level;
-    level < 3 && place.level == level + 1
+    level < place.level && place.level - level == 1
 }
 
 // Whether a table of the path links to a granule.
 fn is_linked<C: Cells>(cells: &C, granules: u64, top: &Place, ipa: Ipa, granule: u64) -> bool
-    requires { granules ≤ 4096 }
-    ensures { IsTrue result → HasLink (C.cells cells.now) top.now.rd top.now.level ipa granule }
+    requires count { granules ≤ 4096 }
+    requires granules { AreInGranules (C.cells cells.now) granules }
+    ensures { IsTrue result ↔ HasLink (C.cells cells.now) top.now.rd top.now.level ipa granule }
 {
     for number in 0..granules {
         if has_link_at(cells, top, ipa, granule, number * GRANULE_BYTES) {
@@ -121,7 +130,7 @@ fn is_linked<C: Cells>(cells: &C, granules: u64, top: &Place, ipa: Ipa, granule:
 
 // Whether there is a table of the path at an address that links to a granule.
 fn has_link_at<C: Cells>(cells: &C, top: &Place, ipa: Ipa, granule: u64, address: u64) -> bool
-    ensures { IsTrue result → HasLink (C.cells cells.now) top.now.rd top.now.level ipa granule }
+    ensures { IsTrue result ↔ IsLinkedFrom (C.cells cells.now) top.now.rd top.now.level ipa granule address }
 {
     let Some(table) = cells.table(Pa::new(address)) else {
         return false;

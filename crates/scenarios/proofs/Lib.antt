@@ -1,1 +1,2 @@
+mod Written
 mod Asked

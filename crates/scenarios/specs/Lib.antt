@@ -1,2 +1,5 @@
+pub mod Judgement
+pub mod Sink
+pub mod Source
 pub mod Status
 pub mod Words

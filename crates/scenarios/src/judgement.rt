@@ -1,15 +1,17 @@
-//! Two texts from any readers, and the verdict's line to any writer.
+//! The verdict on two texts, from any two sources, and its line to any sink.
 
-ghost use Rattle.std.specs.Prelude.{◌≡◌, ◌≢◌, IfOk, IfErr, IfSome};
-ghost use Rattle.std.specs.Io.KnownBytes.{Appends, Keeps};
+ghost use Rattle.std.specs.Prelude.{◌≡◌, ◌≢◌, ◌+◌, ◌++◌, IfOk, IfErr, IfSome, OnOk, OnErr, Err};
+ghost use Rattle.std.specs.Io.KnownBytes.{Keeps};
 ghost use Rattle.rmm_spec.specs.Judgement.{Judges};
 ghost use Rattle.rmm_spec.specs.VerdictText.{verdict_line};
-ghost use Rattle.scenarios.specs.declared.judgement.JudgeFault.TheVariants.{NoMemory};
+ghost use Rattle.scenarios.specs.declared.judgement.JudgeFault.TheVariants.{NoMemory, Write};
+ghost use Rattle.scenarios.specs.Judgement.{BreaksOff, OnVerdict, certificate_failures, history_failures, sink_failures};
+ghost use Rattle.scenarios.specs.Sink.{HoldsBeginning};
 
+use crate::sink::{Sink, WriteError, write_whole};
+use crate::source::{ReadError, Source, read_whole};
 use checker::Verdict;
 use std::alloc::{AllocError, Global};
-use std::io;
-use std::io::{Read, Write};
 use thiserror::Error;
 
 /// Why no verdict was told. The first fault met ends the judgement.
@@ -33,47 +35,89 @@ impl From<AllocError> for JudgeFault {
     }
 }
 
+impl From<WriteError> for JudgeFault {
+    ghost from_gives = { λ _ fault. fault ≡ Write };
+
+    fn from(_error: WriteError) -> JudgeFault {
+        JudgeFault::Write
+    }
+}
+
 /// Reads both texts to their ends, the history first, judges them, and writes the verdict's line.
-/// After `Write` the writer may hold a beginning of the line.
-pub fn judge<H: Read, C: Read, W: Write>(
+/// After `Write` the sink has taken a beginning of the line, and after any other fault nothing.
+pub fn judge<H: Source, C: Source, K: Sink>(
     alloc: Global,
     history: &mut H,
     certificate: &mut C,
-    out: &mut W,
+    sink: &mut K,
 ) -> Result<Verdict, JudgeFault>
-    ensures judged { IfOk result (λ verdict. IfSome (H.remaining history.old) (λ told.
-        IfSome (C.remaining certificate.old) (λ claimed. Judges verdict told claimed))) }
-    ensures written { IfOk result (λ verdict.
-        Appends (W.contents out.old) (W.contents out.new) (verdict_line verdict)) }
-    ensures silent { IfErr result (λ fault.
-        fault ≢ JudgeFault.Write → Keeps (W.contents out.old) (W.contents out.new)) }
+    // Both texts were read to their ends, and what the sink took tells the verdict on them.
+    ensures ends { OnVerdict result (H.is_ended history.new × C.is_ended certificate.new) }
+    ensures judged { IfOk result (λ verdict. Judges verdict (H.given history.new) (C.given certificate.new)) }
+    ensures written { IfOk result (λ verdict. K.taken sink.new ≡ K.taken sink.old ++ verdict_line verdict) }
+    ensures torn { result ≡ Err JudgeFault.Write →
+        BreaksOff (H.given history.new) (C.given certificate.new) (K.taken sink.old) (K.taken sink.new) }
+    ensures silent { IfErr result (λ fault. fault ≢ JudgeFault.Write → K.taken sink.new ≡ K.taken sink.old) }
+
+    // Where a source's text is known, it is the one that was judged.
+    ensures history { OnVerdict result (IfSome (H.text history.old) (λ whole. H.given history.new ≡ whole)) }
+    ensures certificate { OnVerdict result
+        (IfSome (C.text certificate.old) (λ whole. C.given certificate.new ≡ whole)) }
+
+    // A device is blamed for a failure of its own in this call, and no failure is passed over.
+    ensures history_failures { H.failures history.new ≡ H.failures history.old + history_failures result }
+    ensures certificate_failures { C.failures certificate.new
+        ≡ C.failures certificate.old + certificate_failures result }
+    ensures sink_failures { K.failures sink.new ≡ K.failures sink.old + sink_failures result }
 {
-    let told = text_of(alloc, history, JudgeFault::ReadHistory)?;
-    let claimed = text_of(alloc, certificate, JudgeFault::ReadCertificate)?;
-    let verdict = checker::check(alloc, told.as_slice(), claimed.as_slice())?;
-    let mut line = Vec::new(alloc);
-    checker::verdict_text(&verdict, &mut line)?;
-    if out.write_all(line.as_slice()).is_err() {
-        return Err(JudgeFault::Write);
-    }
-    if out.flush().is_err() {
-        return Err(JudgeFault::Write);
-    }
+    let verdict = read_verdict(alloc, history, certificate)?;
+    tell(alloc, &verdict, sink)?;
     Ok(verdict)
 }
 
-// All bytes that the reader has left.
-fn text_of<R: Read>(
+// The verdict on what the two sources give.
+fn read_verdict<H: Source, C: Source>(
     alloc: Global,
-    reader: &mut R,
-    unreadable: JudgeFault,
-) -> Result<Vec<u8>, JudgeFault>
-    ensures { IfOk result (λ text. IfSome (R.remaining reader.old) (λ left. text.items ≡ left)) }
+    history: &mut H,
+    certificate: &mut C,
+) -> Result<Verdict, JudgeFault>
+    ensures ends { OnOk result (H.is_ended history.new × C.is_ended certificate.new) }
+    ensures judged { IfOk result (λ verdict. Judges verdict (H.given history.new) (C.given certificate.new)) }
+    ensures history { OnOk result (IfSome (H.text history.old) (λ whole. H.given history.new ≡ whole)) }
+    ensures certificate { OnOk result
+        (IfSome (C.text certificate.old) (λ whole. C.given certificate.new ≡ whole)) }
+    ensures history_failures { H.failures history.new ≡ H.failures history.old + history_failures result }
+    ensures certificate_failures { C.failures certificate.new
+        ≡ C.failures certificate.old + certificate_failures result }
+    ensures unwritten { IfErr result (λ fault. fault ≢ JudgeFault.Write) }
 {
-    let mut text = Vec::new(alloc);
-    match reader.read_to_end(&mut text) {
-        Ok(_) => Ok(text),
-        Err(error) if error.kind() == io::ErrorKind::OutOfMemory => Err(JudgeFault::NoMemory),
-        Err(_) => Err(unreadable),
+    if let Err(error) = read_whole(history) {
+        return Err(match error {
+            ReadError::Device => JudgeFault::ReadHistory,
+            ReadError::NoMemory => JudgeFault::NoMemory,
+        });
     }
+    if let Err(error) = read_whole(certificate) {
+        return Err(match error {
+            ReadError::Device => JudgeFault::ReadCertificate,
+            ReadError::NoMemory => JudgeFault::NoMemory,
+        });
+    }
+    Ok(checker::check(alloc, history.bytes(), certificate.bytes())?)
+}
+
+// Writes the verdict's line. All memory is asked for before the first byte is written.
+fn tell<K: Sink>(alloc: Global, verdict: &Verdict, sink: &mut K) -> Result<(), JudgeFault>
+    ensures ok { OnOk result (K.taken sink.new ≡ K.taken sink.old ++ verdict_line verdict.now) }
+    ensures torn { result ≡ Err JudgeFault.Write →
+        HoldsBeginning (verdict_line verdict.now) (K.taken sink.old) (K.taken sink.new) }
+    ensures silent { result ≡ Err JudgeFault.NoMemory → K.taken sink.new ≡ K.taken sink.old }
+    ensures failures { K.failures sink.new ≡ K.failures sink.old + sink_failures result }
+    ensures faults { IfErr result (λ fault. (fault ≢ JudgeFault.ReadHistory) × (fault ≢ JudgeFault.ReadCertificate)) }
+{
+    let mut line = Vec::new(alloc);
+    checker::verdict_text(verdict, &mut line)?;
+    sink.make_room(line.len())?;
+    write_whole(line.as_slice(), sink)?;
+    Ok(())
 }

@@ -2,6 +2,8 @@
 
 ghost use Rattle.std.specs.Prelude.{◌≤◌};
 
+use crate::file::FileSource;
+use crate::output::OutputSink;
 use crate::{Fault, JudgeFault, Paths, judge, paths_given, status};
 use checker::Verdict;
 use std::rt::{Env, Files};
@@ -34,14 +36,16 @@ fn check_files<'a, R: Files + Print + AllocGlobal>(
     rt: &R,
     paths: Paths<'a>,
 ) -> Result<Verdict, Fault<'a>> {
-    let Ok(mut history) = fs::open(rt, paths.history) else {
+    let Ok(history) = fs::open(rt, paths.history) else {
         return Err(Fault::CannotRead(paths.history));
     };
-    let Ok(mut certificate) = fs::open(rt, paths.certificate) else {
+    let Ok(certificate) = fs::open(rt, paths.certificate) else {
         return Err(Fault::CannotRead(paths.certificate));
     };
-    let mut out = io::writer(rt);
-    match judge(rt.alloc(), &mut history, &mut certificate, &mut out) {
+    let mut history = FileSource::new(rt.alloc(), history);
+    let mut certificate = FileSource::new(rt.alloc(), certificate);
+    let mut sink = OutputSink::new(rt.alloc(), io::writer(rt));
+    match judge(rt.alloc(), &mut history, &mut certificate, &mut sink) {
         Ok(verdict) => Ok(verdict),
         Err(JudgeFault::ReadHistory) => Err(Fault::CannotRead(paths.history)),
         Err(JudgeFault::ReadCertificate) => Err(Fault::CannotRead(paths.certificate)),

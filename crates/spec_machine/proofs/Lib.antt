@@ -1,1 +1,7 @@
-pub mod Views
+pub mod Flats
+pub mod Tags
+pub mod Counts
+pub mod Soundness
+pub mod Keeping
+pub mod Decided
+pub mod Roots

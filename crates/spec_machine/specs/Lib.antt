@@ -1,1 +1,3 @@
+pub mod Flat
+pub mod Kept
 pub mod View

@@ -10,7 +10,7 @@ impl Machine {
     ghost use Rattle.rmm_spec.specs.Step.Granule.{DelegatesGranule, UndelegatesGranule};
     ghost use Rattle.spec_machine.specs.View.{state_of};
 
-    #[tactic(auto, using(rmm_spec::proofs::TagLaws::granule_from_tag), unfolding(rmm_spec::specs::Step::Granule::DelegatesGranule))]
+    #[tactic(auto, using(crate::proofs::Tags::is_free_from_tag), unfolding(rmm_spec::specs::Step::Granule::DelegatesGranule))]
     pub(crate) fn delegate(&mut self, cpu: u8, words: &[u64], reply: &Reply) -> bool
         ensures step { IsTrue result
             → DelegatesGranule (state_of self.old) cpu words.now reply.now (state_of self.new) }
@@ -32,7 +32,7 @@ impl Machine {
         true
     }
 
-    #[tactic(auto, using(rmm_spec::proofs::TagLaws::granule_from_tag), unfolding(rmm_spec::specs::Step::Granule::UndelegatesGranule))]
+    #[tactic(auto, using(crate::proofs::Tags::is_free_from_tag), unfolding(rmm_spec::specs::Step::Granule::UndelegatesGranule))]
     pub(crate) fn undelegate(&mut self, cpu: u8, words: &[u64], reply: &Reply) -> bool
         ensures step { IsTrue result
             → UndelegatesGranule (state_of self.old) cpu words.now reply.now (state_of self.new) }

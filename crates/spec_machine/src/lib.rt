@@ -7,7 +7,10 @@
 
 mod granule;
 mod machine;
+mod realm;
+mod rec;
 mod reply;
+mod store;
 #[cfg(test)]
 mod tests;
 

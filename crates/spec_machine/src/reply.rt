@@ -8,6 +8,12 @@ use rmm_spec::Reply;
 /// A word of a command, or the state of what it names, doesn't fit the command (DEN0137, RMI_ERROR_INPUT).
 pub const ERROR_INPUT: u8 = 1;
 
+/// The realm has come too far for the command, or not far enough (DEN0137, RMI_ERROR_REALM).
+pub const ERROR_REALM: u8 = 2;
+
+/// The REC runs (DEN0137, RMI_ERROR_REC).
+pub const ERROR_REC: u8 = 3;
+
 /// A word of a command. One that isn't there counts as zero.
 pub fn word(words: &[u64], index: usize) -> u64
     ensures { result ≡ slice_index words.now index }

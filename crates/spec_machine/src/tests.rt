@@ -1,9 +1,9 @@
-//! Offers to a small machine, as the worked script of the commands on granules goes.
+//! Offers to small machines, as the worked scripts of the commands go.
 
 use crate::{Command, FunctionId, Machine, Reply};
 use arrayvec::ArrayVec;
 use granule_state::Config;
-use std::alloc::Global;
+use std::alloc::{AllocError, Global};
 use std::test::Fail;
 
 /// Four granules: the addresses from 0 up to 0x4000.
@@ -62,5 +62,119 @@ fn other_replies_are_refused(rt: HostRuntime) -> Result<(), Fail> {
         machine.offer(0, &delegate, &done())?,
         "a refused reply changes nothing"
     );
+    Ok(())
+}
+
+/// A command with six words, of which the function takes as many as it has.
+fn with_words(function: FunctionId, given: [u64; 6]) -> Command {
+    let mut words = ArrayVec::new();
+    words.push(given[0]);
+    words.push(given[1]);
+    words.push(given[2]);
+    words.push(given[3]);
+    words.push(given[4]);
+    words.push(given[5]);
+    Command { function, words }
+}
+
+/// Whether CPU 0 is given this status, 0 for an acceptance.
+fn gives(
+    machine: &mut Machine,
+    function: FunctionId,
+    words: [u64; 6],
+    status: u8,
+) -> Result<bool, AllocError> {
+    let reply = match status {
+        0 => done(),
+        _ => Reply::Err(status, 0),
+    };
+    machine.offer(0, &with_words(function, words), &reply)
+}
+
+/// Sixteen granules, of which those from 0x1000 to 0x8000 are delegated.
+fn delegated_machine(alloc: Global) -> Result<Machine, Fail> {
+    let config = Config::new(16, 1).ok_or("a machine of this size")?;
+    let mut machine = Machine::new(alloc, config)?;
+    for granule in 1..9u64 {
+        let delegate = command(FunctionId::GranuleDelegate, granule * 0x1000);
+        let is_done = machine.offer(0, &delegate, &done())?;
+        is_done.then_some(()).ok_or("a granule to delegate")?;
+    }
+    Ok(machine)
+}
+
+#[test]
+fn realms_and_recs_come_and_go(rt: HostRuntime) -> Result<(), Fail> {
+    use FunctionId::{RealmActivate, RealmCreate, RealmDestroy, RecCreate, RecDestroy};
+    let mut machine = delegated_machine(rt.alloc())?;
+    let m = &mut machine;
+    assert!(rt; gives(m, RealmCreate, [0x1000, 0x2000, 0x27, 1, 1, 0], 0)?);
+    assert!(rt; gives(m, RealmCreate, [0x3000, 0x4000, 0x27, 1, 1, 0], 1)?);
+    assert!(rt; gives(m, RecCreate, [0x1000, 0x5000, 0, 1, 0x6000, 0x7000], 0)?);
+    assert!(rt; gives(m, RecCreate, [0x1000, 0x3000, 0, 1, 0x4000, 0x8000], 1)?);
+    assert!(rt; gives(m, RealmDestroy, [0x1000, 0, 0, 0, 0, 0], 2)?);
+    assert!(rt; gives(m, RecDestroy, [0x5000, 0, 0, 0, 0, 0], 0)?);
+    assert!(rt; gives(m, RecCreate, [0x1000, 0x5000, 0, 1, 0x6000, 0x7000], 1)?);
+    assert!(rt; gives(m, RealmActivate, [0x1000, 0, 0, 0, 0, 0], 0)?);
+    assert!(rt; gives(m, RealmActivate, [0x1000, 0, 0, 0, 0, 0], 2)?);
+    assert!(rt; gives(m, RecCreate, [0x1000, 0x5000, 1, 1, 0x6000, 0x7000], 2)?);
+    assert!(rt; gives(m, RealmDestroy, [0x1000, 0, 0, 0, 0, 0], 0)?);
+    assert!(rt; gives(m, RealmCreate, [0x3000, 0x4000, 0x30, 0, 1, 0], 0)?);
+    Ok(())
+}
+
+#[test]
+fn refusals_of_realm_commands(rt: HostRuntime) -> Result<(), Fail> {
+    use FunctionId::{RealmActivate, RealmCreate, RealmDestroy};
+    let mut machine = delegated_machine(rt.alloc())?;
+    let m = &mut machine;
+    assert!(rt; gives(m, RealmCreate, [0x1000, 0x1000, 0x27, 1, 1, 0], 1)?);
+    assert!(rt; gives(m, RealmCreate, [0x1000, 0x2000, 0x27, 0, 1, 0], 1)?);
+    assert!(rt; gives(m, RealmCreate, [0x1000, 0x2000, 0x30, 1, 1, 0], 1)?);
+    assert!(rt; gives(m, RealmCreate, [0x1000, 0x2000, 0x27, 1, 0x100, 0], 1)?);
+    assert!(rt; gives(m, RealmCreate, [0x1000, 0x2000, 0x27, 1, 1, 1], 1)?);
+    assert!(rt; gives(m, RealmCreate, [0x9000, 0x2000, 0x27, 1, 1, 0], 1)?);
+    assert!(rt; gives(m, RealmCreate, [0x1000, 0x9000, 0x27, 1, 1, 0], 1)?);
+    assert!(rt; gives(m, RealmActivate, [0x1000, 0, 0, 0, 0, 0], 1)?);
+    assert!(rt; gives(m, RealmDestroy, [0x1000, 0, 0, 0, 0, 0], 1)?);
+    assert!(rt; gives(m, RealmCreate, [0x1000, 0x2000, 0x27, 1, 0xff, 0], 0)?);
+    assert!(rt; gives(m, RealmActivate, [0x2000, 0, 0, 0, 0, 0], 1)?);
+    assert!(rt; gives(m, RealmDestroy, [0x2000, 0, 0, 0, 0, 0], 1)?);
+    Ok(())
+}
+
+#[test]
+fn refusals_of_rec_commands(rt: HostRuntime) -> Result<(), Fail> {
+    use FunctionId::{RealmActivate, RealmCreate, RecCreate, RecDestroy};
+    let mut machine = delegated_machine(rt.alloc())?;
+    let m = &mut machine;
+    assert!(rt; gives(m, RecCreate, [0x1000, 0x5000, 0, 1, 0x6000, 0x7000], 1)?);
+    assert!(rt; gives(m, RealmCreate, [0x1000, 0x2000, 0x27, 1, 1, 0], 0)?);
+    assert!(rt; gives(m, RecCreate, [0x1000, 0x5000, 0, 1, 0x5000, 0x7000], 1)?);
+    assert!(rt; gives(m, RecCreate, [0x1000, 0x5000, 0, 1, 0x6000, 0x5000], 1)?);
+    assert!(rt; gives(m, RecCreate, [0x1000, 0x5000, 0, 1, 0x6000, 0x6000], 1)?);
+    assert!(rt; gives(m, RecCreate, [0x1000, 0x5000, 0, 2, 0x6000, 0x7000], 1)?);
+    assert!(rt; gives(m, RecCreate, [0x1000, 0x9000, 0, 1, 0x6000, 0x7000], 1)?);
+    assert!(rt; gives(m, RecCreate, [0x1000, 0x5000, 0, 1, 0x9000, 0x7000], 1)?);
+    assert!(rt; gives(m, RecCreate, [0x1000, 0x5000, 0, 1, 0x6000, 0x9000], 1)?);
+    assert!(rt; gives(m, RecCreate, [0x1000, 0x5000, 1, 1, 0x6000, 0x7000], 1)?);
+    assert!(rt; gives(m, RecDestroy, [0x5000, 0, 0, 0, 0, 0], 1)?);
+    assert!(rt; gives(m, RealmActivate, [0x1000, 0, 0, 0, 0, 0], 0)?);
+    assert!(rt; gives(m, RecCreate, [0x1000, 0x5000, 1, 1, 0x6000, 0x7000], 2)?);
+    assert!(rt; gives(m, RecCreate, [0x1000, 0x5000, 1, 2, 0x6000, 0x7000], 1)?);
+    Ok(())
+}
+
+#[test]
+fn a_realm_has_eight_indexes(rt: HostRuntime) -> Result<(), Fail> {
+    use FunctionId::{RealmCreate, RecCreate, RecDestroy};
+    let mut machine = delegated_machine(rt.alloc())?;
+    let m = &mut machine;
+    assert!(rt; gives(m, RealmCreate, [0x1000, 0x2000, 0x27, 1, 1, 0], 0)?);
+    for index in 0..8u64 {
+        assert!(rt; gives(m, RecCreate, [0x1000, 0x5000, index, 0, 0x6000, 0x7000], 0)?);
+        assert!(rt; gives(m, RecDestroy, [0x5000, 0, 0, 0, 0, 0], 0)?);
+    }
+    assert!(rt; gives(m, RecCreate, [0x1000, 0x5000, 8, 0, 0x6000, 0x7000], 1)?);
     Ok(())
 }

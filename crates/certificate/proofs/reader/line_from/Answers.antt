@@ -20,31 +20,31 @@ returns-in_err-cpu-clause-none c =
 pub returns-in_err-number-clause-none : goal.returns-in_err-number-clause-none
 returns-in_err-number-clause-none c =
     rw c.from_residual-in_err-number.ensures
-    (IsNoLine-number _ c.in_ok-next_part.field-0.now _ c.next_part.new.self c.number_from.new.parts (sym c.of-parts.ensures ∙ c.in_ok-next_part.ensures.next)
+    (IsNoLine-number _ c.in_ok-next_part.field-0.now _ c.next_part.new.self c.number_below.new.parts (sym c.of-parts.ensures ∙ c.in_ok-next_part.ensures.next)
     c.in_ok-cpu.ensures.found c.in_err-number.ensures.none)
 
 pub returns-in_default-clause-none : goal.returns-in_default-clause-none
 returns-in_default-clause-none c =
-    IsNoLine-unfinished _ c.in_ok-next_part.field-0.now _ _ c.next_part.new.self c.number_from.new.parts c.number_from-2.new.parts
+    IsNoLine-unfinished _ c.in_ok-next_part.field-0.now _ _ c.next_part.new.self c.number_below.new.parts c.number_below-2.new.parts
     (sym c.of-parts.ensures ∙ c.in_ok-next_part.ensures.next) (c.in_ok-kind.ensures.found ∙ ap kind_part c.in-Unfinished.is)
     c.in_ok-cpu.ensures.found c.in_ok-number.ensures.found
     (λ reply is_reply is_text. c.in_default.not-Ok reply (c.reply_from.ensures.only reply is_reply is_text))
 
 pub returns-in-None-clause-found : goal.returns-in-None-clause-found
 returns-in-None-clause-found c =
-    IsLineOf-keep _ c.in_ok-next_part.field-0.now c.next_part.new.self c.number_from.new.parts c.number_from-2.new.parts _ _
+    IsLineOf-keep _ c.in_ok-next_part.field-0.now c.next_part.new.self c.number_below.new.parts c.number_below-2.new.parts _ _
     (sym c.of-parts.ensures ∙ c.in_ok-next_part.ensures.next) (c.in_ok-kind.ensures.found ∙ ap kind_part c.in-Keep.is)
     c.in_ok-cpu.ensures.found c.in_ok-number.ensures.found c.in-None.ensures.over c.in_ok-cpu.ensures.below c.in_ok-number.ensures.below
 
 pub returns-in-Some-clause-none : goal.returns-in-Some-clause-none
 returns-in-Some-clause-none c =
-    IsNoLine-keep _ c.in_ok-next_part.field-0.now _ _ c.in-Some.field-0.now c.next_part.new.self c.number_from.new.parts c.number_from-2.new.parts _
+    IsNoLine-keep _ c.in_ok-next_part.field-0.now _ _ c.in-Some.field-0.now c.next_part.new.self c.number_below.new.parts c.number_below-2.new.parts _
     (sym c.of-parts.ensures ∙ c.in_ok-next_part.ensures.next) (c.in_ok-kind.ensures.found ∙ ap kind_part c.in-Keep.is)
     c.in_ok-cpu.ensures.found c.in_ok-number.ensures.found c.in-Some.ensures.next
 
 pub returns-in-Ok-clause-found : goal.returns-in-Ok-clause-found
 returns-in-Ok-clause-found c =
-    IsLineOf-unfinished _ c.in_ok-next_part.field-0.now c.next_part.new.self c.number_from.new.parts c.number_from-2.new.parts _ _ c.in-Ok.reply
+    IsLineOf-unfinished _ c.in_ok-next_part.field-0.now c.next_part.new.self c.number_below.new.parts c.number_below-2.new.parts _ _ c.in-Ok.reply
     (sym c.of-parts.ensures ∙ c.in_ok-next_part.ensures.next) (c.in_ok-kind.ensures.found ∙ ap kind_part c.in-Unfinished.is)
     c.in_ok-cpu.ensures.found c.in_ok-number.ensures.found c.in-Ok.ensures.found.1 c.in_ok-cpu.ensures.below c.in_ok-number.ensures.below
     c.in-Ok.ensures.found.0

@@ -14,17 +14,17 @@ pub returns-in-Err-BadLine-read-clause-valid : goal.returns-in-Err-BadLine-read-
 returns-in-Err-BadLine-read-clause-valid c =
     let bad = rw c.in-Err-BadLine-read.field-0-is at c.in-Err-BadLine-read.ensures.fault in
     rw c.in-Err-BadLine-read.line-is
-    (Judges-valid (verdict.CertificateFault c.in-Err-BadLine-read.line) c.args.history.now c.args.certificate.now ((c.in-Ok.history, c.in-Ok.ensures.found), bad))
+    (Judges-valid (verdict.CertificateFault c.in-Err-BadLine-read.line) c.args.history.now c.args.certificate.now ((c.in-Ok.history.recorded, c.in-Ok.ensures.found), bad))
 
 pub returns-clause-judged : goal.returns-clause-judged
 returns-clause-judged c =
     IfOk-weaker c.judge.result _ _
-    (λ v order. Judges-from_order v c.args.history.now c.args.certificate.now c.in-Ok.history c.in-Ok-read.certificate c.in-Ok.ensures.found c.in-Ok-read.ensures.found order)
+    (λ v order. Judges-from_order v c.args.history.now c.args.certificate.now c.in-Ok.history.recorded c.in-Ok-read.certificate c.in-Ok.ensures.found c.in-Ok-read.ensures.found order)
     c.judge.ensures
 
 pub returns-clause-valid : goal.returns-clause-valid
 returns-clause-valid c =
     IfOk-weaker c.judge.result _ _
     (λ v order. Judges-valid v c.args.history.now c.args.certificate.now
-    (Judges-from_order v c.args.history.now c.args.certificate.now c.in-Ok.history c.in-Ok-read.certificate c.in-Ok.ensures.found c.in-Ok-read.ensures.found order))
+    (Judges-from_order v c.args.history.now c.args.certificate.now c.in-Ok.history.recorded c.in-Ok-read.certificate c.in-Ok.ensures.found c.in-Ok-read.ensures.found order))
     c.judge.ensures

@@ -21,33 +21,33 @@ returns-in_err-cpu-clause-none c =
 pub returns-in_err-number-clause-none : goal.returns-in_err-number-clause-none
 returns-in_err-number-clause-none c =
     rw c.from_residual-in_err-number.ensures
-    (IsNoEvent-number _ _ c.in_ok-next_part.field-0.now _ c.next_part.new.self c.number_from.new.parts
+    (IsNoEvent-number _ _ c.in_ok-next_part.field-0.now _ c.next_part.new.self c.number_below.new.parts
     (sym c.of-parts.ensures ∙ c.in_ok-next_part.ensures.next) c.in_ok-cpu.ensures.found c.in_err-number.ensures.none)
 
 pub returns-in_default-clause-none : goal.returns-in_default-clause-none
 returns-in_default-clause-none c =
-    IsNoEvent-call _ _ c.in_ok-next_part.field-0.now _ _ c.next_part.new.self c.number_from.new.parts c.number_from-2.new.parts
+    IsNoEvent-call _ _ c.in_ok-next_part.field-0.now _ _ c.next_part.new.self c.number_below.new.parts c.number_below-2.new.parts
     (sym c.of-parts.ensures ∙ c.in_ok-next_part.ensures.next) (c.in_ok-kind.ensures.found ∙ ap kind_part c.in-Call.is)
     c.in_ok-cpu.ensures.found c.in_ok-number.ensures.found
     (λ command is_command is_text. c.in_default.not-Ok command (c.command_from.ensures.only command is_command is_text))
 
 pub returns-in_default-reply_from-clause-none : goal.returns-in_default-reply_from-clause-none
 returns-in_default-reply_from-clause-none c =
-    IsNoEvent-return _ _ c.in_ok-next_part.field-0.now _ _ c.next_part.new.self c.number_from.new.parts c.number_from-2.new.parts
+    IsNoEvent-return _ _ c.in_ok-next_part.field-0.now _ _ c.next_part.new.self c.number_below.new.parts c.number_below-2.new.parts
     (sym c.of-parts.ensures ∙ c.in_ok-next_part.ensures.next) (c.in_ok-kind.ensures.found ∙ ap kind_part c.in-Return.is)
     c.in_ok-cpu.ensures.found c.in_ok-number.ensures.found
     (λ given is_reply is_text. c.in_default-reply_from.not-Ok given (c.reply_from.ensures.only given is_reply is_text))
 
 pub returns-in-Ok-clause-found : goal.returns-in-Ok-clause-found
 returns-in-Ok-clause-found c =
-    IsEventOf-call _ _ c.in_ok-next_part.field-0.now _ _ c.next_part.new.self c.number_from.new.parts c.number_from-2.new.parts c.in-Ok.command
+    IsEventOf-call _ _ c.in_ok-next_part.field-0.now _ _ c.next_part.new.self c.number_below.new.parts c.number_below-2.new.parts c.in-Ok.command
     (sym c.of-parts.ensures ∙ c.in_ok-next_part.ensures.next) (c.in_ok-kind.ensures.found ∙ ap kind_part c.in-Call.is)
     c.in_ok-cpu.ensures.found c.in_ok-number.ensures.found c.in-Ok.ensures.found.1 (rw c.from.ensures at c.in_ok-cpu.ensures.below)
     c.in-Ok.ensures.found.0
 
 pub returns-in-Ok-reply_from-clause-found : goal.returns-in-Ok-reply_from-clause-found
 returns-in-Ok-reply_from-clause-found c =
-    IsEventOf-return _ _ c.in_ok-next_part.field-0.now _ _ c.next_part.new.self c.number_from.new.parts c.number_from-2.new.parts c.in-Ok-reply_from.reply
+    IsEventOf-return _ _ c.in_ok-next_part.field-0.now _ _ c.next_part.new.self c.number_below.new.parts c.number_below-2.new.parts c.in-Ok-reply_from.reply
     (sym c.of-parts.ensures ∙ c.in_ok-next_part.ensures.next) (c.in_ok-kind.ensures.found ∙ ap kind_part c.in-Return.is)
     c.in_ok-cpu.ensures.found c.in_ok-number.ensures.found c.in-Ok-reply_from.ensures.found.1 (rw c.from.ensures at c.in_ok-cpu.ensures.below)
     c.in-Ok-reply_from.ensures.found.0

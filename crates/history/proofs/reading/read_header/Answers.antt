@@ -10,6 +10,6 @@ returns-in_default-header_from-clause-fault c =
 
 pub returns-clause-read : goal.returns-clause-read
 returns-clause-read c =
-    rw c.in_ok-history.ensures
+    rw c.new-history.ensures
     (history_text-header c.in-Some-header_from.config c.args.text.now c.in-Some.line.now c.in-Some.rest.now c.in-Some.ensures.line
     c.in-Some-header_from.ensures.found)

@@ -1,4 +1,4 @@
-use Rattle.std.proofs.Common.{◌-◌, ◌<◌, arith}
+use Rattle.std.proofs.Common.{arith}
 use Rattle.rtt_walk.proofs.Steps.{root_is_reached, next_is_held, next_is_reached, next_level, walk_ends}
 use Rattle.rtt_walk.proofs.links.walk.Goals as goal
 
@@ -15,7 +15,7 @@ read-reached-requires-in-loop-reached g c =
 
 pub loop-reached-preserved : goal.loop-reached-preserved
 loop-reached-preserved g c =
-    next_is_reached _ _ _ _ _ _ c.in-Table.next _ _ _ _ c.loop-reached.invariant c.loop-reached-test.true c.in-Table.is
+    next_is_reached _ _ _ _ _ _ c.in-Table.next _ _ _ _ c.loop-reached.invariant (omega (arith, c.loop-reached-test.true)) c.in-Table.is
     (rw c.new.ensures at c.read-reached-in-loop-reached.ensures)
 
 pub loop-reached-smaller : goal.loop-reached-smaller

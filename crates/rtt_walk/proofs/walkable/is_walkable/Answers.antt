@@ -1,14 +1,17 @@
-use Rattle.std.proofs.Common.{refl, sym, arith}
-use Rattle.rtt_walk.proofs.Walkables.{sound_more, walkable_from_sound}
+use Rattle.std.proofs.Common.{◌*◌, refl, arith}
+use Rattle.rtt_walk.proofs.Walkables.{walkable_from_sound, sound_from_walkable}
 use Rattle.rtt_walk.proofs.walkable.is_walkable.Goals as goal
 
-pub loop-number-preserved : goal.loop-number-preserved
-loop-number-preserved g c =
-    sound_more (g.C.Cells.cells c.args.cells.now) c.place-top.result c.args.ipa c.args.root c.loop-number.number c.loop-number.invariant
-    (c.if-not-is_sound_at.ensures refl)
+pub returns-then-not-is_sound_at : goal.returns-then-not-is_sound_at
+returns-then-not-is_sound_at g c =
+    let sound = sound_from_walkable (g.C.Cells.cells c.args.cells.now) c.args.root c.args.ipa c.args.max (c.loop-number.number * 4096) c.place-top.result
+    c.in-Some.table.now c.in-Some.ensures c.place-top.ensures in
+    (λ bad. absurd (cc), λ walkable. c.if-not-is_sound_at.ensures.1 (sound walkable))
 
 pub returns : goal.returns
-returns g c _ =
-    walkable_from_sound (g.C.Cells.cells c.args.cells.now) c.args.granules c.args.root c.args.ipa c.args.max c.place-top.result c.in-Some.table.now
-    c.requires.granules c.in-Some.ensures c.place-top.ensures (sym c.if-not-covers.ensures) c.if-top-max.false
-    (λ k below. c.loop-number.invariant k (omega (arith, c.loop-number-test.false)))
+returns g c = (
+  λ _. walkable_from_sound (g.C.Cells.cells c.args.cells.now) c.args.granules c.args.root c.args.ipa c.args.max c.place-top.result c.in-Some.table.now
+      c.requires.granules c.in-Some.ensures c.place-top.ensures (c.if-not-may_start.ensures.0 refl)
+      (λ k below. c.loop-number.invariant k (omega (arith, c.loop-number-test.false))),
+  λ _. refl,
+)

@@ -6,4 +6,4 @@ use Rattle.checker.specs.Replay.{IsReplayOf}
 use Rattle.checker.proofs.replay.Replay.first_missing.Given as goal
 
 abbrev pub invariant-loop-place : goal.invariant-loop-place
-invariant-loop-place l = (lines : List Line) → IsReplayOf l.self l.history lines → AreNamedBelow l.history.events lines l.place
+invariant-loop-place l = (lines : List Line) → IsReplayOf l.self l.history.recorded lines → AreNamedBelow l.history.recorded.events lines l.place

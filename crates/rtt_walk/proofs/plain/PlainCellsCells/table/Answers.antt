@@ -1,4 +1,4 @@
-use Rattle.std.proofs.Common.{◌≡◌, ◌/◌, ◌%◌, ◌<◌, ◌≤◌, length, refl, sym, ◌∙◌, inl, inr, arith}
+use Rattle.std.proofs.Common.{refl, sym, ◌∙◌, inl, inr, arith}
 use Rattle.rtt_walk.proofs.PlainReads.{no_plain_table, plain_table}
 use Rattle.rtt_walk.proofs.plain.PlainCellsCells.table.Goals.{then-address-ne0-via-then-address-ne0, then-address-ne0-via-else-address-ne0+then-place-len}
 use Rattle.rtt_walk.proofs.plain.PlainCellsCells.table.Goals as goal

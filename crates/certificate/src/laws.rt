@@ -1,0 +1,38 @@
+//! The laws of the reader and the writer: each is the contract of a function that calls both.
+
+ghost use Rattle.std.specs.Prelude.{◌≡◌, ℕ, Err, IfOk, IfErr};
+ghost use Rattle.rmm_spec.specs.CertificateText.{InCertificates};
+ghost use Rattle.certificate.specs.Faults.{IsFaultOf};
+ghost use Rattle.certificate.specs.declared.fault.CertFault.TheVariants.{BadLine};
+
+use crate::certificate::Certificate;
+use crate::fault::CertFault;
+use crate::reader::read;
+use crate::writing::write;
+use std::alloc::{AllocError, Global};
+
+/// What is written reads back as it was: no line of it is bad.
+pub fn read_back(alloc: Global, certificate: &Certificate) -> Result<Certificate, AllocError>
+    ensures { IfOk result (λ again. again ≡ certificate.now) }
+{
+    let _well_formed = certificate.len();
+    let mut text = Vec::new(alloc);
+    write(certificate, &mut text)?;
+    match read(alloc, text.as_slice()) {
+        Ok(again) => Ok(again),
+        Err(CertFault::NoMemory) => Err(AllocError),
+        Err(CertFault::BadLine(_)) => unreachable!(),
+    }
+}
+
+/// What is read is written as it was, byte for byte. A text with a bad line stands for no certificate.
+pub fn rewritten(alloc: Global, text: &[u8]) -> Result<Vec<u8>, CertFault>
+    ensures same { IfOk result (λ again. again.items ≡ text.now) }
+    ensures fault { IfErr result (IsFaultOf text.now) }
+    ensures outside { (line : ℕ) → result ≡ Err (BadLine line) → ¬ InCertificates text.now }
+{
+    let certificate = read(alloc, text)?;
+    let mut again = Vec::new(alloc);
+    write(&certificate, &mut again)?;
+    Ok(again)
+}

@@ -1,8 +1,0 @@
-use Rattle.history.proofs.DeskLaws.{continues_iff}
-use Rattle.history.proofs.events.History.continues.Goals as goal
-
--- the desk of the event's CPU decides
-pub returns-in-Some : goal.returns-in-Some
-returns-in-Some c =
-    let found = rw c.cpu_of.ensures at c.in-Some.ensures.some in
-    continues_iff c.args.self.now.setup.cpus c.args.self.now.events c.args.event.now c.in-Some.desk.now c.takes.result found.0 found.1 c.takes.ensures

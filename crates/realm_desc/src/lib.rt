@@ -1,0 +1,23 @@
+//! Realms and their RECs as the machine and the monitor keep them, and how each command changes one (DEN0137, Realm and REC).
+//! It promises that a value is the record of the definitions, and that each method is its row's test or its row's change.
+//! Each change asks for its row's test as a premise, and the test is a method beside it, so that none is made twice.
+//! Nothing here takes memory, waits or fails. Addresses are in bytes.
+//! The specification machine stands on it.
+#![tactic(auto)]
+
+mod hash_algorithm;
+mod pending_exit;
+mod realm;
+mod rec;
+mod ripas_request;
+mod space;
+#[cfg(test)]
+mod tests;
+
+pub use hash_algorithm::HashAlgorithm;
+pub use pending_exit::PendingExit;
+pub use realm::Realm;
+pub use rec::Rec;
+pub use ripas_request::RipasRequest;
+pub use rmm_spec::{RealmState, Ripas};
+pub use space::Space;

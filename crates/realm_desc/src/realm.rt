@@ -1,0 +1,153 @@
+//! A realm, and what the commands on realms and RECs do to it.
+
+ghost use Rattle.std.specs.Prelude.{◌≡◌, ◌==◌, ◌&&◌, nat_lt, IsTrue};
+ghost use Rattle.rmm_spec.specs.declared.tag.RealmState.TheVariants as realm_state;
+ghost use Rattle.rmm_spec.specs.State as spec;
+ghost use Rattle.rmm_spec.specs.Step.Realm.{new_realm};
+ghost use Rattle.rmm_spec.specs.Step.Rec.{with_next_rec};
+ghost use Rattle.realm_desc.specs.View.{width_of, level_of, algorithm_number, flags_of};
+
+use crate::hash_algorithm::HashAlgorithm;
+use crate::space::Space;
+use granule_state::Pa;
+use measure::{Rem, Rim, begin, extend_words};
+use rmm_spec::RealmState;
+use std::marker::Model;
+
+/// How many RECs a realm can have in all.
+const RECS: u64 = 8;
+
+// The number of the function that makes a REC, which is measured with it.
+const REC_CREATE: u64 = 0xc400_015a;
+
+/// A realm, as its descriptor says (DEN0137, RD).
+#[tactic(auto, unfolding(crate::specs::View::realm_record, crate::specs::View::realm_fields))]
+#[derive(Clone, Copy, Debug, PartialEq, Eq)]
+pub struct Realm {
+    state: RealmState,
+    space: Space,
+    vmid: u8,
+    algorithm: HashAlgorithm,
+    root: Pa,
+    next_index: u8,
+    rim: Rim,
+    rems: [Rem; 4],
+}
+
+impl Model for Realm {
+    ghost use Rattle.rmm_spec.specs.State.{RealmRecord};
+
+    ghost Value = { RealmRecord };
+
+    ghost use Rattle.realm_desc.specs.View.{realm_record, realm_fields, realm_fields-realm_record};
+
+    ghost view = { realm_record };
+
+    ghost inverse = { realm_fields };
+
+    ghost inverse_ok = { λ a h. realm_fields-realm_record a };
+}
+
+#[tactic(auto, unfolding(crate::specs::View::realm_record))]
+impl Realm {
+    /// A realm that was just made, with no REC yet.
+    pub fn new(root: Pa, space: Space, vmid: u8, algorithm: HashAlgorithm) -> Self
+        ensures { result ≡ new_realm root (width_of space) (level_of space) vmid (algorithm_number algorithm) }
+    {
+        Realm {
+            state: RealmState::New,
+            space,
+            vmid,
+            algorithm,
+            root,
+            next_index: 0,
+            rim: begin(space.width(), space.start_level(), algorithm.number()),
+            rems: [Rem::start(); 4],
+        }
+    }
+
+    /// Whether it may still be built, and may not run.
+    pub fn is_new(&self) -> bool
+        ensures { result ≡ spec.is_new self.now }
+    {
+        self.state == RealmState::New
+    }
+
+    /// Lets it run, and be built no further.
+    pub fn activate(&mut self)
+        requires { IsTrue (spec.is_new self.old) }
+        ensures { self.new ≡ record self.old { state = realm_state.Active } }
+    {
+        self.state = RealmState::Active;
+    }
+
+    /// Whether its next REC has this index: indexes rise by one and stay below 8.
+    pub fn takes_index(&self, index: u64) -> bool
+        ensures { result ≡ (index == self.now.next_index && nat_lt index 8) }
+    {
+        index == u64::from(self.next_index) && index < RECS
+    }
+
+    /// Counts and measures one REC more.
+    #[tactic(auto, unfolding(crate::specs::View::realm_record, rmm_spec::specs::Function::number_of))]
+    pub fn add_rec(&mut self, index: u8, runnable: bool)
+        requires { IsTrue (index == self.old.next_index && nat_lt index 8) }
+        ensures { self.new ≡ with_next_rec self.old index (flags_of runnable) }
+    {
+        self.next_index += 1;
+        self.rim = extend_words(
+            &self.rim,
+            &[REC_CREATE, u64::from(index), u64::from(runnable)],
+        );
+    }
+
+    pub fn state(&self) -> RealmState
+        ensures { result ≡ self.now.state }
+    {
+        self.state
+    }
+
+    pub fn space(&self) -> Space
+        ensures width { width_of result ≡ self.now.width }
+        ensures level { level_of result ≡ self.now.start_level }
+    {
+        self.space
+    }
+
+    pub fn vmid(&self) -> u8
+        ensures { result ≡ self.now.vmid }
+    {
+        self.vmid
+    }
+
+    pub fn algorithm(&self) -> HashAlgorithm
+        ensures { algorithm_number result ≡ self.now.algo }
+    {
+        self.algorithm
+    }
+
+    /// Where the root of its translation tables lies.
+    pub fn root(&self) -> Pa
+        ensures { result ≡ self.now.root }
+    {
+        self.root
+    }
+
+    pub fn next_index(&self) -> u8
+        ensures { result ≡ self.now.next_index }
+    {
+        self.next_index
+    }
+
+    pub fn rim(&self) -> Rim
+        ensures { result ≡ self.now.rim }
+    {
+        self.rim
+    }
+
+    pub fn rems(&self) -> [Rem; 4]
+        ensures { result ≡ self.now.rems }
+    {
+        self.rems
+    }
+}

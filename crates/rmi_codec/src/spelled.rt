@@ -1,0 +1,37 @@
+//! Which commands and replies have a text.
+
+ghost use Rattle.std.specs.Prelude.{◌↔◌, IsTrue};
+ghost use Rattle.rmm_spec.specs.CommandText.{AreWords, IsCommand, IsReply};
+
+use crate::function::{is_served, words_of};
+use rmm_spec::{Command, Reply};
+
+// Numbers of 64 bits are words.
+fn are_words(words: &[u64])
+    ensures { AreWords words.now }
+{
+    for word in words {
+        let _in_range = *word;
+    }
+}
+
+/// Whether a command has a text: its function is served, and it has as many words as the function takes.
+pub fn has_text(command: &Command) -> bool
+    ensures { IsTrue result ↔ IsCommand command.now }
+{
+    are_words(command.words.as_slice());
+    is_served(command.function) && command.words.len() == words_of(command.function)
+}
+
+/// Every reply has a text.
+pub fn reply_has_text(reply: &Reply)
+    ensures { IsReply reply.now }
+{
+    match reply {
+        Reply::Ok(words) => are_words(words.as_slice()),
+        Reply::Err(status, index) => {
+            let _in_range = (*status, *index);
+        }
+        Reply::Misplaced => {}
+    }
+}

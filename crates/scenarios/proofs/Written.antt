@@ -1,0 +1,18 @@
+-- One write more of a line.
+use Rattle.std.proofs.Common.{arith, ◌≡◌, ◌∙◌, ◌≤◌, ℕ, ◌+◌, ◌-◌, List, ◌++◌, length, take, drop, ap, sym}
+use Rattle.std.proofs.Math.Seq.{take-add}
+use Rattle.std.proofs.lemmas.List.{append_assoc, length-drop, take_rest}
+
+-- what the device took of the rest lies within the whole
+pub within-further : (bytes : List ℕ) (at count : ℕ) → at ≤ length bytes → count ≤ length (take (length bytes - at) (drop at bytes)) → at + count ≤ length bytes
+within-further bytes at count h k =
+    let rest_is : length (take (length bytes - at) (drop at bytes)) ≡ length bytes - at = ap length (take_rest bytes at) ∙ length-drop at bytes in
+    omega arith
+
+-- the first bytes of a whole, and then the first of the rest
+pub take-further : (before bytes now after : List ℕ) (at count : ℕ) → now ≡ before ++ take at bytes
+    → after ≡ now ++ take count (take (length bytes - at) (drop at bytes)) → after ≡ before ++ take (at + count) bytes
+take-further before bytes now after at count e f =
+    f ∙ ap (λ (xs : List ℕ). xs ++ take count (take (length bytes - at) (drop at bytes))) e
+    ∙ ap (λ (xs : List ℕ). before ++ take at bytes ++ take count xs) (take_rest bytes at)
+    ∙ append_assoc before (take at bytes) (take count (drop at bytes)) ∙ ap (λ (xs : List ℕ). before ++ xs) (sym (take-add at count bytes))

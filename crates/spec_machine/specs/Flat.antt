@@ -1,0 +1,35 @@
+-- The flat state that what is kept of the granules stands for.
+use Rattle.std.specs.Prelude.{ℕ, ◌/◌, ◌&&◌, nat_lt, ◌==◌, if◌then◌else◌, List, Option, Some, None, slice_index_or}
+use Rattle.rmm_spec.specs.declared.entry.Entry.{Entry}
+use Rattle.rmm_spec.specs.declared.entry.Entry.TheVariants.{Unassigned, UnassignedNs}
+use Rattle.rmm_spec.specs.declared.tag.Ripas.TheVariants.{Empty}
+use Rattle.rmm_spec.specs.declared.tag.Tag.TheVariants.{Undelegated}
+use Rattle.rmm_spec.specs.State.{State, RealmRecord, is_granule}
+use Rattle.spec_machine.specs.declared.store.Store.{Store}
+
+-- what is kept for an address, with one item a granule; what is no granule has the default
+abbrev pub kept_at : {A : Type 0} → ℕ → List A → A → ℕ → A
+kept_at granules items default address =
+    if is_granule granules address then slice_index_or items (address / 4096) default else default
+
+-- a realm has one table, its root
+abbrev pub root_table : Option RealmRecord → ℕ → ℕ → Option ℕ
+root_table None level number = None
+root_table (Some realm) level number = if level == realm.start_level && number == 0 then Some realm.root else None
+
+-- the root's entries are those of a realm that was just made
+abbrev pub root_leaf : Option RealmRecord → ℕ → ℕ → Option Entry
+root_leaf None level number = None
+root_leaf (Some realm) level number =
+    if level == realm.start_level && number / 512 == 0 then Some (if nat_lt number 256 then Unassigned Empty else UnassignedNs) else None
+
+-- no command that is served changes a table or a leaf, so they are read off the realms
+unfoldable pub flat : Store → State
+flat store = record {
+  granules = store.config.granules;
+  tag = kept_at store.config.granules store.tags.items Undelegated;
+  realm = kept_at store.config.granules store.realms.items None;
+  rec = kept_at store.config.granules store.recs.items None;
+  table = λ rd. root_table (kept_at store.config.granules store.realms.items None rd);
+  leaf = λ rd. root_leaf (kept_at store.config.granules store.realms.items None rd);
+}
