@@ -6,7 +6,7 @@ use Rattle.std.proofs.lemmas.Int.Digits.{all_below_base_digits_of, digits_of_ste
 use Rattle.std.proofs.lemmas.List.{append_assoc, length-map, map-append, take_more, take_all, take-map, take-append-drop}
 use Rattle.std.proofs.lemmas.List.Elements.{All-from_recursion}
 use Rattle.std.proofs.lemmas.Nat.{div-mul-add, mod-mul-add}
-use Rattle.std.proofs.Math.Nat.{le-mul_of_pos_right, div-lt_iff_lt-mul, pow-suc, pow-le-pow_right}
+use Rattle.std.proofs.Math.Nat.{le-mul_of_pos_right, pow-suc, pow-le-pow_right}
 use Rattle.rmm_spec.specs.Text.{glyph, numeral, fixed_hex}
 use Rattle.rmm_spec.proofs.Texts.{glyph-injective, map-glyph-injective, numeral_some, numeral-zero, numeral-IsPart, fixed_hex-suc, AllByRecursion-append}
 
@@ -120,12 +120,6 @@ pub length-numeral-le : (base k n : ℕ) → 2 ≤ base → 0 < k → n < base ^
 length-numeral-le base k zero big some small = omega (arith, ap length (numeral-zero base))
 length-numeral-le base k (suc n) big some small =
     omega (arith, ap length (numeral_some base (suc n) (omega arith)), length-map (digits_of base (suc n)) glyph, length-digits_of-le base k (suc n) big small)
-
--- a number past the greatest that has room for one digit more
-pub past_limit : (number base digit n : ℕ) → 0 < base → (18446744073709551615 - digit) / base < number → number * base + digit ≤ n → n < 2 ^ 64 → ⊥
-past_limit number base digit n some past bound limit =
-    let above : 18446744073709551615 - digit < number * base = (div-lt_iff_lt-mul some).0 past in
-    omega arith
 
 -- one digit written behind the digits above it
 pub digits_of-push : (base n : ℕ) (old more new : List ℕ) → 2 ≤ base → 0 < n → more ≡ old ++ map glyph (digits_of base (n / base)) → new ≡ more ++ glyph (n % base) ∷ [] → new ≡ old ++ map glyph (digits_of base n)

@@ -1,6 +1,6 @@
 //! Numbers in a base, with the highest digit first and without leading zeros.
 
-ghost use Rattle.std.specs.Prelude.{◌≡◌, ◌≢◌, ℕ, ◌<◌, ◌≤◌, ◌^◌, ◌++◌, length, map, take, Some, IfSome, IfNone, OnOk, OnErr};
+ghost use Rattle.std.specs.Prelude.{◌≡◌, ◌≢◌, ℕ, ◌<◌, ◌≤◌, ◌+◌, ◌*◌, ◌^◌, ◌++◌, length, map, take, Some, IfSome, IfNone, OnOk, OnErr};
 ghost use Rattle.std.specs.Int.Digits.{digits_of};
 ghost use Rattle.rmm_spec.specs.Text.{glyph, numeral};
 
@@ -17,6 +17,15 @@ pub(crate) fn digit_from(byte: u8) -> Option<u64>
         b'a'..=b'f' => Some(u64::from(byte - b'a' + 10)),
         _ => None,
     }
+}
+
+// The number with one digit more, where it has 64 bits.
+#[inline(always)]
+fn with_digit(number: u64, base: u64, digit: u64) -> Option<u64>
+    ensures some { IfSome result (λ n. n ≡ number * base + digit) }
+    ensures none { IfNone result (2 ^ 64 ≤ number * base + digit) }
+{
+    number.checked_mul(base)?.checked_add(digit)
 }
 
 // The number of 64 bits that a part spells.
@@ -39,10 +48,7 @@ pub(crate) fn numeral_from(part: &[u8], base: u64) -> Option<u64>
         if digit >= base {
             return None;
         }
-        if number > (u64::MAX - digit) / base {
-            return None;
-        }
-        number = number * base + digit;
+        number = with_digit(number, base, digit)?;
     }
     Some(number)
 }

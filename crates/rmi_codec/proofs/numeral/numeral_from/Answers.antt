@@ -1,7 +1,7 @@
 use Rattle.std.proofs.Common.{◌≡◌, ◌<◌, ◌≤◌, ◌+◌, ◌*◌, length, Some, sym, ap, ◌∙◌, arith}
 use Rattle.std.proofs.lemmas.Bool.Decides.{nat_tests}
 use Rattle.rmm_spec.proofs.Texts.{glyph-injective, numeral-injective}
-use Rattle.rmi_codec.proofs.NumberLaws.{SpellsSoFar-more, numeral-from_SpellsSoFar, numeral-from_zero, le_from_SpellsSoFar, no_numeral-at_byte, no_numeral-leading_zero, no_numeral-nil, past_limit}
+use Rattle.rmi_codec.proofs.NumberLaws.{SpellsSoFar-more, numeral-from_SpellsSoFar, numeral-from_zero, le_from_SpellsSoFar, no_numeral-at_byte, no_numeral-leading_zero, no_numeral-nil}
 use Rattle.rmi_codec.proofs.numeral.numeral_from.Goals as goal
 
 pub returns-then-is_empty-clause-only : goal.returns-then-is_empty-clause-only
@@ -31,20 +31,19 @@ returns-then-digit-base-clause-only c = λ n _ e.
     absurd (no_numeral-at_byte c.args.base c.args.part.now c.loop-byte.byte-index n c.requires.least c.loop-byte-test.true
     (λ digit. let small = digit.1 in let same = glyph-injective digit.0 c.in_ok-digit.digit (digit.2 ∙ sym shown.1) in omega arith) e)
 
-pub returns-then-number-digit-clause-only : goal.returns-then-number-digit-clause-only
-returns-then-number-digit-clause-only c = λ n small e.
+pub returns-in_err-number-clause-only : goal.returns-in_err-number-clause-only
+returns-in_err-number-clause-only c = λ n small e.
     let digit = c.in_ok-digit.ensures.found in
-    let d = c.in_ok-digit.digit in
     let b = c.args.base in
-    let number = c.loop-byte.number in
-    let so_far = SpellsSoFar-more b c.args.part.now c.loop-byte.byte-index number d c.requires.least c.loop-byte-test.true c.loop-byte.invariant c.if-digit-base.false digit.1 in
-    let bound : number * b + d ≤ n = le_from_SpellsSoFar b c.args.part.now _ _ n c.requires.least so_far e in
-    absurd (past_limit number b d n (omega arith) c.if-number-digit.true bound small)
+    let so_far = SpellsSoFar-more b c.args.part.now c.loop-byte.byte-index c.loop-byte.number _ c.requires.least c.loop-byte-test.true c.loop-byte.invariant c.if-digit-base.false digit.1 in
+    let bound = le_from_SpellsSoFar b c.args.part.now _ _ n c.requires.least so_far e in
+    let past = c.in_err-number.ensures.none in
+    absurd (omega arith)
 
 pub loop-byte-preserved : goal.loop-byte-preserved
 loop-byte-preserved c =
     let digit = c.in_ok-digit.ensures.found in
-    SpellsSoFar-more c.args.base c.args.part.now c.loop-byte.byte-index c.loop-byte.number _ c.requires.least c.loop-byte-test.true c.loop-byte.invariant c.if-digit-base.false digit.1
+    rw c.in_ok-number.ensures.some (SpellsSoFar-more c.args.base c.args.part.now c.loop-byte.byte-index c.loop-byte.number _ c.requires.least c.loop-byte-test.true c.loop-byte.invariant c.if-digit-base.false digit.1)
 
 pub returns-clause-found : goal.returns-clause-found
 returns-clause-found c =
