@@ -4,11 +4,9 @@ ghost use Rattle.std.specs.Prelude.{◌≡◌, List, ℕ};
 ghost use Rattle.rmm_spec.specs.Measure.{rim_begin, rim_extended};
 
 use crate::feed::feed_words;
+use rmm_spec::FunctionId;
 use sha2::{Digest, Sha256};
 use std::marker::Model;
-
-// The number of the function that makes a realm, which is the first word of each RIM.
-const REALM_CREATE: u64 = 0xc400_0158;
 
 /// A realm initial measurement, 32 bytes.
 #[derive(Clone, Copy, Debug, PartialEq, Eq)]
@@ -40,7 +38,8 @@ pub fn begin(width: u64, level: u64, algo: u64) -> Rim
     ensures { result ≡ rim_begin width level algo }
 {
     let mut hasher = Sha256::new();
-    feed_words(&mut hasher, &[REALM_CREATE, width, level, algo]);
+    let words = [FunctionId::RealmCreate.number(), width, level, algo];
+    feed_words(&mut hasher, &words);
     Rim {
         bytes: hasher.finalize(),
     }

@@ -11,14 +11,11 @@ use crate::hash_algorithm::HashAlgorithm;
 use crate::space::Space;
 use granule_state::Pa;
 use measure::{Rem, Rim, begin, extend_words};
-use rmm_spec::RealmState;
+use rmm_spec::{FunctionId, RealmState};
 use std::marker::Model;
 
 /// How many RECs a realm can have in all.
 const RECS: u64 = 8;
-
-// The number of the function that makes a REC, which is measured with it.
-const REC_CREATE: u64 = 0xc400_015a;
 
 /// A realm, as its descriptor says (DEN0137, RD).
 #[tactic(auto, unfolding(crate::specs::View::realm_record, crate::specs::View::realm_fields))]
@@ -95,9 +92,10 @@ impl Realm {
         ensures { self.new ≡ with_next_rec self.old index (flags_of runnable) }
     {
         self.next_index += 1;
+        let function = FunctionId::RecCreate.number();
         self.rim = extend_words(
             &self.rim,
-            &[REC_CREATE, u64::from(index), u64::from(runnable)],
+            &[function, u64::from(index), u64::from(runnable)],
         );
     }
 

@@ -8,7 +8,7 @@ ghost use Rattle.rmi_codec.specs.Faults.{IsCommandFault};
 
 use crate::fault::CodecFault;
 use crate::fixed_hex::push_fixed_hex;
-use crate::function::{function_from, number_from, words_of};
+use crate::function::{function_from, words_of};
 use crate::parts::Parts;
 use crate::word::{push_words, words_from};
 use rmm_spec::Command;
@@ -50,7 +50,7 @@ pub fn push_command(out: &mut Vec<u8>, command: &Command) -> Result<(), AllocErr
     ensures ok { OnOk result (out.new.items ≡ out.old.items ++ command_text command.now) }
     ensures kept { OnErr result (take (length out.old.items) out.new.items ≡ out.old.items) }
 {
-    push_fixed_hex(out, 8, number_from(command.function))?;
+    push_fixed_hex(out, 8, command.function.number())?;
     push_words(out, command.words.as_slice())
 }
 

@@ -8,42 +8,6 @@ ghost use Rattle.rmm_spec.specs.Text.{fixed_hex};
 use crate::fixed_hex::fixed_hex_from;
 use rmm_spec::FunctionId;
 
-// The number of a function.
-#[tactic(auto, unfolding(rmm_spec::specs::Function::number_of))]
-pub(crate) fn number_from(function: FunctionId) -> u64
-    ensures { result ≡ number_of function }
-{
-    match function {
-        FunctionId::GranuleDelegate => 0xc400_0151,
-        FunctionId::GranuleUndelegate => 0xc400_0152,
-        FunctionId::DataCreate => 0xc400_0153,
-        FunctionId::DataCreateUnknown => 0xc400_0154,
-        FunctionId::DataDestroy => 0xc400_0155,
-        FunctionId::RealmActivate => 0xc400_0157,
-        FunctionId::RealmCreate => 0xc400_0158,
-        FunctionId::RealmDestroy => 0xc400_0159,
-        FunctionId::RecCreate => 0xc400_015a,
-        FunctionId::RecDestroy => 0xc400_015b,
-        FunctionId::RecEnter => 0xc400_015c,
-        FunctionId::RttCreate => 0xc400_015d,
-        FunctionId::RttDestroy => 0xc400_015e,
-        FunctionId::RttMapUnprotected => 0xc400_015f,
-        FunctionId::RttReadEntry => 0xc400_0161,
-        FunctionId::RttUnmapUnprotected => 0xc400_0162,
-        FunctionId::RttInitRipas => 0xc400_0168,
-        FunctionId::RttSetRipas => 0xc400_0169,
-        FunctionId::MeasurementRead => 0xc400_0192,
-        FunctionId::MeasurementExtend => 0xc400_0193,
-        FunctionId::RealmConfig => 0xc400_0196,
-        FunctionId::IpaStateSet => 0xc400_0197,
-        FunctionId::IpaStateGet => 0xc400_0198,
-        FunctionId::HostCall => 0xc400_0199,
-        FunctionId::CpuOff => 0x8400_0002,
-        FunctionId::SystemOff => 0x8400_0008,
-        FunctionId::Exit => 1,
-    }
-}
-
 // The function of a number, served or not.
 #[tactic(auto, unfolding(rmm_spec::specs::Function::number_of))]
 fn function_numbered(number: u64) -> Option<FunctionId>

@@ -1,6 +1,6 @@
 //! The definitions that every other crate is proved against, and the plain enums that they speak of.
 //! Read `specs/` in the order of `specs/Lib.antt`: texts, the state, the commands' rows, runs, linearizations, owners.
-//! It promises nothing of its own beyond `laws.rt` and `profile_laws.rt`: public functions, each of whose contracts is a law.
+//! It promises each function's number, and the laws in `laws.rt` and `profile_laws.rt`: public functions whose contracts they are.
 //! After Arm's RMM specification 1.0 (DEN0137) as this project's profile restates it in `docs/PROFILE.md`.
 //! Every crate of this repository stands on it.
 #![tactic(auto)]

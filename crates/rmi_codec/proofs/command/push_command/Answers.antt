@@ -15,6 +15,6 @@ returns-clause-ok c =
     let command = c.args.command.now in
     on_ok_weaker c.push_words.result
     (λ e. line_pushed old mid _ (fixed_hex 8 (number_of command.function)) (map word command.words.items)
-    (c.in_ok-push_fixed_hex.ensures.ok ∙ ap (λ n. old ++ fixed_hex 8 n) c.number_from.ensures)
+    (c.in_ok-push_fixed_hex.ensures.ok ∙ ap (λ n. old ++ fixed_hex 8 n) c.number.ensures)
     (e ∙ ap (λ words. mid ++ spaced (map word words)) c.as_slice.ensures.value))
     c.push_words.ensures.ok
