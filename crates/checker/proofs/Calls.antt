@@ -18,6 +18,21 @@ pub record HasOnePlaces (events : List Event) : Type 0 where
       → IsReturned events other cpu number told → place ≡ other
   pub is_known : (cpu number : ℕ) → IsFinished events cpu number → IsKnown events cpu number
 
+-- what is told of the place of a call or of a return is that call's
+pub told_at_call : (events : List Event) (place cpu number : ℕ) (command : Command) → (made : Command) × IsCalled events place cpu number made
+    → (c : ℕ) × (n : ℕ) × IsCalled events place c n command → IsCalled events place cpu number command
+told_at_call events place cpu number command here there =
+    let both : Some (Called cpu number here.0) ≡ Some (Called there.0 there.1 command) = sym here.1 ∙ there.2 in
+    let same : here.0 ≡ command = cc in
+    here.1 ∙ ap (λ (m : Command). Some (Called cpu number m)) same
+
+pub told_at_return : (events : List Event) (place cpu number : ℕ) (given : Reply) → (told : Reply) × IsReturned events place cpu number told
+    → (c : ℕ) × (n : ℕ) × IsReturned events place c n given → IsReturned events place cpu number given
+told_at_return events place cpu number given here there =
+    let both : Some (Returned cpu number here.0) ≡ Some (Returned there.0 there.1 given) = sym here.1 ∙ there.2 in
+    let same : here.0 ≡ given = cc in
+    here.1 ∙ ap (λ (g : Reply). Some (Returned cpu number g)) same
+
 -- the commands of a call's places are one
 pub same_command : (events : List Event) → HasOnePlaces events → (place other cpu number : ℕ) (command made : Command)
     → IsCalled events place cpu number command → IsCalled events other cpu number made → command ≡ made

@@ -72,19 +72,25 @@ impl Replay {
         requires counted { length self.old.named.items ≡ length history.now.recorded.events }
         ensures { IfOk result (λ why. JudgesLine why self.old self.new history.now.recorded (line.Keep cpu number)) }
     {
-        let Some(call) = history.call_of(cpu, number) else {
+        let Some(places) = history.places_of(cpu, number) else {
             return Ok(Some(Reason::Unknown));
         };
-        if self.named[call.called as usize] {
+        if self.named[places.called as usize] {
             return Ok(Some(Reason::Repeated));
         }
-        let Some(answer) = &call.answer else {
+        let Some(returned) = places.returned else {
             return Ok(Some(Reason::Kind));
         };
-        if answer.returned < self.latest {
+        if returned < self.latest {
             return Ok(Some(Reason::Order));
         }
-        let given = self.commit(cpu, call.called, &call.command, &answer.reply)?;
+        let Some(command) = history.command_at(places.called as usize) else {
+            unreachable!()
+        };
+        let Some(reply) = history.reply_at(returned as usize) else {
+            unreachable!()
+        };
+        let given = self.commit(cpu, places.called, &command, &reply)?;
         Ok(if given { None } else { Some(Reason::Reply) })
     }
 
@@ -99,16 +105,19 @@ impl Replay {
         requires counted { length self.old.named.items ≡ length history.now.recorded.events }
         ensures { IfOk result (λ why. JudgesLine why self.old self.new history.now.recorded (line.Unfinished cpu number reply.now)) }
     {
-        let Some(call) = history.call_of(cpu, number) else {
+        let Some(places) = history.places_of(cpu, number) else {
             return Ok(Some(Reason::Unknown));
         };
-        if self.named[call.called as usize] {
+        if self.named[places.called as usize] {
             return Ok(Some(Reason::Repeated));
         }
-        if call.answer.is_some() {
+        if places.returned.is_some() {
             return Ok(Some(Reason::Kind));
         }
-        let given = self.commit(cpu, call.called, &call.command, reply)?;
+        let Some(command) = history.command_at(places.called as usize) else {
+            unreachable!()
+        };
+        let given = self.commit(cpu, places.called, &command, reply)?;
         Ok(if given { None } else { Some(Reason::Reply) })
     }
 
@@ -168,8 +177,8 @@ fn has_returned(history: &History, cpu: u8, number: u32) -> bool
     requires { IsHistory history.now.recorded }
     ensures { IsTrue result ↔ IsFinished history.now.recorded.events cpu number }
 {
-    match history.call_of(cpu, number) {
-        Some(call) => call.answer.is_some(),
+    match history.places_of(cpu, number) {
+        Some(places) => places.returned.is_some(),
         None => false,
     }
 }

@@ -1,8 +1,8 @@
 -- Laws on the index, one event longer.
 use Rattle.std.proofs.Common.{◌≡◌, ℕ, zero, suc, ◌+◌, ◌<◌, ◌≤◌, Bool, true, false, eqb, List, [], ◌∷◌, ◌++◌, length, get_or, set, Option, Some, None, if◌then◌else◌, refl, arith, sym, ap, ◌∙◌, subst, ⊎_elim}
-use Rattle.std.specs.Prelude.{slice_get, is_some, IsSome, IsTrue, ◌↔◌}
+use Rattle.std.specs.Prelude.{slice_get, is_some, IsSome, IsTrue, MatchOption, ◌↔◌}
 use Rattle.std.proofs.lemmas.Bool.{cases_Bool, cases_order, cases_eq, eqb-true, eq-eqb}
-use Rattle.std.proofs.lemmas.Option.{none-some, slice_get_within, same_Some}
+use Rattle.std.proofs.lemmas.Option.{none-some}
 use Rattle.std.proofs.lemmas.List.{length_push, get_or_push, get_or_append_left, get_or-set_same, get_or-set_other, length-set, take_at}
 use Rattle.rmm_spec.specs.declared.command.Command.{Command}
 use Rattle.rmm_spec.specs.declared.event.Event.{Event}
@@ -14,6 +14,7 @@ use Rattle.rmm_spec.specs.Linearization.{IsCalled, IsReturned, IsKnown, IsFinish
 use Rattle.rmm_spec.proofs.Places.{rank, open_count, stand_of_record, rank-slice_get, length-stand_from, below-IsKnown, below-IsFinished, call_is_event}
 use Rattle.rmm_spec.proofs.Records.{events_of-push_same, events_of-push_other, stand_from-push_at, IsHistory-push}
 use Rattle.history.specs.declared.desk.Desk.{Desk}
+use Rattle.history.specs.Calls.{ArePlacesOf}
 use Rattle.history.specs.Index.{HasRank, IsDesk, IsIndexed}
 
 -- what stands at a place stays there
@@ -223,47 +224,52 @@ pub unknown_past : (events : List Event) (cpu number : ℕ) (desk : Desk) → Is
     → length desk.places.items ≤ number + number → IsKnown events cpu number → ⊥
 unknown_past events cpu number desk had is_record past known = omega (arith, below-IsKnown cpu number events is_record known, had.counted)
 
-pub unfinished_past : (events : List Event) (cpu number : ℕ) (desk : Desk) → IsDesk events cpu desk → IsRecord (events_of cpu events)
+unfinished_past : (events : List Event) (cpu number : ℕ) (desk : Desk) → IsDesk events cpu desk → IsRecord (events_of cpu events)
     → length desk.places.items ≤ number + number + 1 → IsFinished events cpu number → ⊥
 unfinished_past events cpu number desk had is_record past finished = omega (arith, below-IsFinished cpu number events is_record finished, had.counted)
 
-pub rank_within : (events : List Event) (cpu ranked place : ℕ) → HasRank events cpu ranked place → place < length events
-rank_within events cpu ranked place has = slice_get_within events place has.event has.is_event
-
 -- the place that a desk has for a rank
-pub rank_at : (events : List Event) (cpu ranked place : ℕ) (desk : Desk) → IsDesk events cpu desk → ranked < length desk.places.items
+rank_at : (events : List Event) (cpu ranked place : ℕ) (desk : Desk) → IsDesk events cpu desk → ranked < length desk.places.items
     → place ≡ get_or desk.places.items ranked 0 → HasRank events cpu ranked place
 rank_at events cpu ranked place desk had within is_place = subst (HasRank events cpu ranked) (sym is_place) (had.each ranked within)
 
--- what is read at the place of a call or a return
-same_read : (events : List Event) (cpu ranked place : ℕ) (read : Event) → HasRank events cpu ranked place → slice_get events place ≡ Some read
-    → (cpu_of read ≡ cpu) × (rank read ≡ ranked)
-same_read events cpu ranked place read has is_read =
-    let same : has.event ≡ read = same_Some has.event read (sym has.is_event ∙ is_read) in
-    (subst (λ (e : Event). cpu_of e ≡ cpu) same has.of_cpu, subst (λ (e : Event). rank e ≡ ranked) same has.is_ranked)
+-- the event of a call's rank is that call, and the event of a return's rank its return
+call_at : (events : List Event) (cpu number place : ℕ) → HasRank events cpu (number + number) place
+    → (command : Command) × IsCalled events place cpu number command
+call_at events cpu number place has = of_event has.event has.is_event has.of_cpu has.is_ranked
+  where
+    of_event : (event : Event) → slice_get events place ≡ Some event → cpu_of event ≡ cpu → rank event ≡ number + number
+        → (command : Command) × IsCalled events place cpu number command
+    of_event (Called c n command) is_event same ranked =
+        let number_is : n ≡ number = omega (arith, ranked) in
+        (command, is_event ∙ ap (λ (x : ℕ). Some (Called x n command)) same ∙ ap (λ (x : ℕ). Some (Called cpu x command)) number_is)
+    of_event (Returned c n given) is_event same ranked = absurd (omega (arith, ranked))
 
-pub call_read : (events : List Event) (cpu number place c n : ℕ) (told : Command) (read : Event) → HasRank events cpu (number + number) place
-    → slice_get events place ≡ Some read → read ≡ Called c n told → IsCalled events place cpu number told
-call_read events cpu number place c n told read has is_read is =
-    let same = same_read events cpu (number + number) place (Called c n told) has (is_read ∙ ap (λ (e : Event). Some e) is) in
-    let number_is : n ≡ number = omega (arith, same.1) in
-    is_read ∙ ap (λ (e : Event). Some e) is ∙ ap (λ (x : ℕ). Some (Called x n told)) same.0 ∙ ap (λ (x : ℕ). Some (Called cpu x told)) number_is
+return_at : (events : List Event) (cpu number place : ℕ) → HasRank events cpu (number + number + 1) place
+    → (given : Reply) × IsReturned events place cpu number given
+return_at events cpu number place has = of_event has.event has.is_event has.of_cpu has.is_ranked
+  where
+    of_event : (event : Event) → slice_get events place ≡ Some event → cpu_of event ≡ cpu → rank event ≡ number + number + 1
+        → (given : Reply) × IsReturned events place cpu number given
+    of_event (Called c n command) is_event same ranked = absurd (omega (arith, ranked))
+    of_event (Returned c n given) is_event same ranked =
+        let number_is : n ≡ number = omega (arith, ranked) in
+        (given, is_event ∙ ap (λ (x : ℕ). Some (Returned x n given)) same ∙ ap (λ (x : ℕ). Some (Returned cpu x given)) number_is)
 
-pub return_read : (events : List Event) (cpu number place c n : ℕ) (told : Reply) (read : Event) → HasRank events cpu (number + number + 1) place
-    → slice_get events place ≡ Some read → read ≡ Returned c n told → IsReturned events place cpu number told
-return_read events cpu number place c n told read has is_read is =
-    let same = same_read events cpu (number + number + 1) place (Returned c n told) has (is_read ∙ ap (λ (e : Event). Some e) is) in
-    let number_is : n ≡ number = omega (arith, same.1) in
-    is_read ∙ ap (λ (e : Event). Some e) is ∙ ap (λ (x : ℕ). Some (Returned x n told)) same.0 ∙ ap (λ (x : ℕ). Some (Returned cpu x told)) number_is
-
-pub call_not_return : (events : List Event) (cpu number place c n : ℕ) (told : Reply) (read : Event) → HasRank events cpu (number + number) place
-    → slice_get events place ≡ Some read → read ≡ Returned c n told → ⊥
-call_not_return events cpu number place c n told read has is_read is =
-    let same = same_read events cpu (number + number) place (Returned c n told) has (is_read ∙ ap (λ (e : Event). Some e) is) in
-    omega (arith, same.1)
-
-pub return_not_call : (events : List Event) (cpu number place c n : ℕ) (told : Command) (read : Event) → HasRank events cpu (number + number + 1) place
-    → slice_get events place ≡ Some read → read ≡ Called c n told → ⊥
-return_not_call events cpu number place c n told read has is_read is =
-    let same = same_read events cpu (number + number + 1) place (Called c n told) has (is_read ∙ ap (λ (e : Event). Some e) is) in
-    omega (arith, same.1)
+-- what a desk has for the ranks of a call and of its return are their places
+pub ArePlacesOf-desk : (events : List Event) (cpu number : ℕ) (desk : Desk) (called : ℕ) (returned : Option ℕ) → IsDesk events cpu desk → IsRecord (events_of cpu events)
+    → number + number < length desk.places.items → called ≡ get_or desk.places.items (number + number) 0
+    → MatchOption returned (length desk.places.items ≤ number + number + 1)
+    (λ place. (number + number + 1 < length desk.places.items) × (place ≡ get_or desk.places.items (number + number + 1) 0))
+    → ArePlacesOf events cpu number (record { called = called; returned = returned })
+ArePlacesOf-desk events cpu number desk called returned had is_record within is_called is_returned = record {
+  called = call_at events cpu number called (rank_at events cpu (number + number) called desk had within is_called);
+  returned = of_return returned is_returned;
+}
+  where
+    of_return : (place : Option ℕ)
+        → MatchOption place (length desk.places.items ≤ number + number + 1)
+        (λ at. (number + number + 1 < length desk.places.items) × (at ≡ get_or desk.places.items (number + number + 1) 0))
+        → MatchOption place (¬ IsFinished events cpu number) (λ at. (given : Reply) × IsReturned events at cpu number given)
+    of_return None past = unfinished_past events cpu number desk had is_record past
+    of_return (Some at) is = return_at events cpu number at (rank_at events cpu (number + number + 1) at desk had is.0 is.1)

@@ -2,7 +2,8 @@
 
 ghost use Rattle.std.specs.Prelude.{◌≡◌, ℕ, ◌+◌, ◌^◌, ◌<◌, ◌≤◌, ◌↔◌, [], ◌∷◌, ◌++◌, length, vec_len, vec_capacity, slice_get, Some, IsOk, IsTrue, IfOk, IfSome, IfNone, OnOk, OnErr};
 ghost use Rattle.rmm_spec.specs.declared.command.Command.{Command};
-ghost use Rattle.rmm_spec.specs.Linearization.{IsCalled};
+ghost use Rattle.rmm_spec.specs.declared.reply.Reply.{Reply};
+ghost use Rattle.rmm_spec.specs.Linearization.{IsCalled, IsReturned};
 ghost use Rattle.history.specs.EventLog.{words_at, HasWithin, IsEntered};
 
 use arrayvec::ArrayVec;
@@ -106,15 +107,15 @@ impl EventLog {
     }
 
     /// Records an event at the end. It takes no memory where there is room.
-    pub fn push(&mut self, event: Event) -> Result<(), AllocError>
+    pub fn push(&mut self, event: &Event) -> Result<(), AllocError>
         requires { length self.old.events < MOST_EVENTS }
-        ensures ok { OnOk result (self.new.events ≡ self.old.events ++ event ∷ []) }
+        ensures ok { OnOk result (self.new.events ≡ self.old.events ++ event.now ∷ []) }
         ensures err { OnErr result (self.new.events ≡ self.old.events) }
         ensures sure { 1 ≤ self.old.room → IsOk result }
         ensures room { self.old.room ≤ self.new.room + 1 }
     {
         self.heads.reserve(1)?;
-        let head = enter(&mut self.words, &event)?;
+        let head = enter(&mut self.words, event)?;
         self.heads.push_reserved(head);
         Ok(())
     }
@@ -168,6 +169,39 @@ impl EventLog {
             return None;
         };
         Some((cpu, number))
+    }
+
+    /// The command of the call at a place, where the event there is a call.
+    pub fn command_at(&self, place: usize) -> Option<Command>
+        requires { place < length self.now.events }
+        ensures some { IfSome result (λ command. (cpu : ℕ) × (number : ℕ) × IsCalled self.now.events place cpu number command) }
+        ensures none { IfNone result ((cpu number : ℕ) (command : Command) → ¬ IsCalled self.now.events place cpu number command) }
+    {
+        match &self.heads[place] {
+            Head::Called {
+                function,
+                words,
+                ..
+            } => Some(Command {
+                function: *function,
+                words: words_at(&self.words, *words),
+            }),
+            _ => None,
+        }
+    }
+
+    /// The reply of the return at a place, where the event there is a return.
+    pub fn reply_at(&self, place: usize) -> Option<Reply>
+        requires { place < length self.now.events }
+        ensures some { IfSome result (λ given. (cpu : ℕ) × (number : ℕ) × IsReturned self.now.events place cpu number given) }
+        ensures none { IfNone result ((cpu number : ℕ) (given : Reply) → ¬ IsReturned self.now.events place cpu number given) }
+    {
+        match &self.heads[place] {
+            Head::Called { .. } => None,
+            Head::Answered { words, .. } => Some(Reply::Ok(words_at(&self.words, *words))),
+            Head::Refused { status, index, .. } => Some(Reply::Err(*status, *index)),
+            Head::Misplaced { .. } => Some(Reply::Misplaced),
+        }
     }
 }
 
@@ -235,9 +269,10 @@ fn words_at(words: &[u64], stretch: Stretch) -> ArrayVec<u64, 10>
     ensures { result ≡ words_at words.now stretch }
 {
     let first = stretch.first as usize;
-    let Ok(found) = ArrayVec::try_from(&words[first..first + stretch.count as usize]) else {
-        unreachable!()
-    };
+    let mut found = ArrayVec::new();
+    found
+        .try_extend_from_slice(&words[first..first + stretch.count as usize])
+        .unwrap();
     found
 }
 
@@ -257,14 +292,18 @@ mod tests {
         words
     }
 
+    fn command() -> Command {
+        Command {
+            function: FunctionId::RecEnter,
+            words: ten_words(),
+        }
+    }
+
     fn called() -> Event {
         Event::Called {
             cpu: 7,
             number: 0,
-            command: Command {
-                function: FunctionId::RecEnter,
-                words: ten_words(),
-            },
+            command: command(),
         }
     }
 
@@ -281,11 +320,11 @@ mod tests {
         let mut log = EventLog::new(rt.alloc());
         assert!(rt; log.is_empty());
         log.make_room()?;
-        log.push(called())?;
-        log.push(returned(Reply::Ok(two_words())))?;
-        log.push(returned(Reply::Err(3, 1)))?;
-        log.push(returned(Reply::Misplaced))?;
-        log.push(called())?;
+        log.push(&called())?;
+        log.push(&returned(Reply::Ok(two_words())))?;
+        log.push(&returned(Reply::Err(3, 1)))?;
+        log.push(&returned(Reply::Misplaced))?;
+        log.push(&called())?;
         assert_eq!(rt; log.len(), 5);
         assert_eq!(rt; log.event(0), called());
         assert_eq!(rt; log.event(1), returned(Reply::Ok(two_words())));
@@ -294,6 +333,12 @@ mod tests {
         assert_eq!(rt; log.event(4), called());
         assert_eq!(rt; log.called_at(0), Some((7, 0)));
         assert_eq!(rt; log.called_at(1), None);
+        assert_eq!(rt; log.command_at(4), Some(command()));
+        assert_eq!(rt; log.command_at(1), None);
+        assert_eq!(rt; log.reply_at(0), None);
+        assert_eq!(rt; log.reply_at(1), Some(Reply::Ok(two_words())));
+        assert_eq!(rt; log.reply_at(2), Some(Reply::Err(3, 1)));
+        assert_eq!(rt; log.reply_at(3), Some(Reply::Misplaced));
         Ok(())
     }
 }

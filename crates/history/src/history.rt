@@ -2,9 +2,10 @@
 
 ghost use Rattle.std.specs.Prelude.{◌≡◌, ℕ, ◌+◌, ◌<◌, ◌≤◌, ◌↔◌, [], ◌∷◌, ◌++◌, length, slice_get, Some, IsTrue, IsOk, IfSome, IfNone, OnOk, OnErr};
 ghost use Rattle.rmm_spec.specs.declared.command.Command.{Command};
+ghost use Rattle.rmm_spec.specs.declared.reply.Reply.{Reply};
 ghost use Rattle.rmm_spec.specs.HistoryText.{IsHistory, CanFollow, cpu_of};
-ghost use Rattle.rmm_spec.specs.Linearization.{IsCalled, IsKnown};
-ghost use Rattle.history.specs.Calls.{IsCallOf};
+ghost use Rattle.rmm_spec.specs.Linearization.{IsCalled, IsReturned, IsKnown};
+ghost use Rattle.history.specs.Calls.{ArePlacesOf, IsCallOf};
 ghost use Rattle.history.specs.Index.{IsDesk};
 ghost use Rattle.history.specs.Next.{HasText, Continues};
 
@@ -19,7 +20,15 @@ use std::marker::Model;
 /// The most lines of a history's text, its header counted.
 pub const MOST_LINES: usize = MOST_EVENTS + 1;
 
-/// A call of a history. Places count the events from 0.
+/// Where a call of a history was made, and where it returned. Places count the events from 0.
+#[derive(Clone, Copy, Debug, PartialEq, Eq)]
+pub struct Places {
+    pub called: u32,
+    /// Nothing where the call hasn't returned.
+    pub returned: Option<u32>,
+}
+
+/// A call of a history.
 #[derive(Debug, Drop, PartialEq, Eq)]
 pub struct Call {
     pub called: u32,
@@ -108,6 +117,24 @@ impl History {
         self.events.called_at(place)
     }
 
+    /// The command of the call at a place, where the event there is a call.
+    pub fn command_at(&self, place: usize) -> Option<Command>
+        requires { place < length self.now.recorded.events }
+        ensures some { IfSome result (λ command. (cpu : ℕ) × (number : ℕ) × IsCalled self.now.recorded.events place cpu number command) }
+        ensures none { IfNone result ((cpu number : ℕ) (command : Command) → ¬ IsCalled self.now.recorded.events place cpu number command) }
+    {
+        self.events.command_at(place)
+    }
+
+    /// The reply of the return at a place, where the event there is a return.
+    pub fn reply_at(&self, place: usize) -> Option<Reply>
+        requires { place < length self.now.recorded.events }
+        ensures some { IfSome result (λ given. (cpu : ℕ) × (number : ℕ) × IsReturned self.now.recorded.events place cpu number given) }
+        ensures none { IfNone result ((cpu number : ℕ) (given : Reply) → ¬ IsReturned self.now.recorded.events place cpu number given) }
+    {
+        self.events.reply_at(place)
+    }
+
     /// The law that every value keeps.
     pub fn well_formed(&self)
         ensures { IsHistory self.now.recorded }
@@ -161,9 +188,22 @@ impl History {
         let place = self.events.len() as u32;
         let desk = &mut self.desks[cpu_of(&event) as usize];
         desk.make_room()?;
-        self.events.push(event)?;
+        self.events.push(&event)?;
         desk.enter(place);
         Ok(())
+    }
+
+    /// Where the call of that number of a CPU was made, and where it returned.
+    pub fn places_of(&self, cpu: u8, number: u32) -> Option<Places>
+        ensures some { IfSome result (ArePlacesOf self.now.recorded.events cpu number) }
+        ensures none { IfNone result (¬ IsKnown self.now.recorded.events cpu number) }
+    {
+        let desk = self.desk(cpu)?;
+        let called = desk.called(number)?;
+        Some(Places {
+            called,
+            returned: desk.returned(number),
+        })
     }
 
     /// The call of that number of a CPU.
@@ -171,14 +211,13 @@ impl History {
         ensures some { IfSome result (IsCallOf self.now.recorded.events cpu number) }
         ensures none { IfNone result (¬ IsKnown self.now.recorded.events cpu number) }
     {
-        let desk = self.desk(cpu)?;
-        let called = desk.called(number)?;
-        let Event::Called { command, .. } = self.event(called as usize) else {
+        let Places { called, returned } = self.places_of(cpu, number)?;
+        let Some(command) = self.command_at(called as usize) else {
             unreachable!()
         };
-        let answer = match desk.returned(number) {
+        let answer = match returned {
             Some(returned) => {
-                let Event::Returned { reply, .. } = self.event(returned as usize) else {
+                let Some(reply) = self.reply_at(returned as usize) else {
                     unreachable!()
                 };
                 Some(Answer { returned, reply })

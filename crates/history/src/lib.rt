@@ -18,7 +18,7 @@ mod writing;
 
 pub use fault::HistoryFault;
 pub use granule_state::Config;
-pub use history::{Answer, Call, History, MOST_LINES};
+pub use history::{Answer, Call, History, MOST_LINES, Places};
 pub use laws::{read_back, rewritten};
 pub use reading::read;
 pub use rmm_spec::{Command, Event, Reply};

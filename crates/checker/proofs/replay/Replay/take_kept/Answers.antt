@@ -1,46 +1,72 @@
 -- The machine's answer, after the look-ups of a kept line.
+use Rattle.std.proofs.lemmas.Option.{slice_get_within}
+use Rattle.rmm_spec.specs.declared.event.Event.TheVariants.{Called, Returned}
 use Rattle.rmm_spec.specs.declared.line.Line.TheVariants.{Keep}
 use Rattle.spec_machine.specs.View.{state_of}
 use Rattle.rmm_spec.proofs.Places.{call_is_event}
+use Rattle.checker.proofs.Calls.{told_at_call, told_at_return}
 use Rattle.checker.proofs.Judging.{IsReady-kept, Progress-line, FailsBy-line, called_within, FailsBy-set}
 use Rattle.checker.proofs.replay.Replay.take_kept.Goals as goal
 
 pub returns-then-index : goal.returns-then-index
 returns-then-index c = λ before is_replay.
     let old = c.args.self.now in
+    let made = c.in-Some.ensures.some.called in
     FailsBy-set c.args.history.now.recorded before old.named.items old.latest (state_of old.machine) is_replay (Keep c.args.cpu c.args.number)
-    c.in-Some.call.called c.in-Some.call.command c.index.result.now c.in-Some.ensures.some.called c.index.ensures c.if-index.true
+    c.in-Some.places.called made.0 c.index.result.now made.1 c.index.ensures c.if-index.true
+
+pub command_at-requires : goal.command_at-requires
+command_at-requires c =
+    let made = c.in-Some.ensures.some.called in
+    slice_get_within c.args.history.now.recorded.events c.in-Some.places.called (Called c.args.cpu c.args.number made.0) made.1
+
+pub reply_at-requires : goal.reply_at-requires
+reply_at-requires c =
+    let told = rw c.in-Some-returned.is at c.in-Some.ensures.some.returned in
+    slice_get_within c.args.history.now.recorded.events c.in-Some-returned.returned (Returned c.args.cpu c.args.number told.0) told.1
 
 pub commit-requires-clause-within : goal.commit-requires-clause-within
 commit-requires-clause-within c =
-    called_within c.args.history.now.recorded c.args.self.now.named.items c.in-Some.call.called c.args.cpu c.args.number c.in-Some.call.command
-    c.requires.counted c.in-Some.ensures.some.called
+    let made = c.in-Some.ensures.some.called in
+    called_within c.args.history.now.recorded c.args.self.now.named.items c.in-Some.places.called c.args.cpu c.args.number made.0 c.requires.counted made.1
 
 pub commit-requires-clause-served : goal.commit-requires-clause-served
 commit-requires-clause-served c =
-    (call_is_event c.args.history.now.recorded c.in-Some.call.called c.args.cpu c.args.number c.in-Some.call.command
-    c.requires.is_history c.in-Some.ensures.some.called).1.served
+    let made = c.in-Some-command_at.ensures.some in
+    (call_is_event c.args.history.now.recorded c.in-Some.places.called made.0 made.1 c.in-Some-command_at.command c.requires.is_history made.2).1.served
 
 pub returns-then-given : goal.returns-then-given
 returns-then-given c = λ before is_replay.
     let old = c.args.self.now in
-    let call = c.in-Some.call in
-    let told = rw c.in-Some-answer.is at c.in-Some.ensures.some.answer in
+    let events = c.args.history.now.recorded.events in
+    let places = c.in-Some.places in
+    let returned = c.in-Some-returned.returned in
+    let command = c.in-Some-command_at.command in
+    let reply = c.in-Some-reply_at.reply in
+    let has_returned = rw c.in-Some-returned.is at c.in-Some.ensures.some.returned in
     let ready = IsReady-kept c.args.history.now.recorded c.requires.is_history before old.named.items old.latest (state_of old.machine) is_replay
-    c.args.cpu c.args.number call.called call.command c.index.result.now c.in-Some-answer.answer.returned c.in-Some-answer.answer.reply
-    c.in-Some.ensures.some.called c.index.ensures c.if-index.false told c.if-answer-self.false in
+    c.args.cpu c.args.number places.called command c.index.result.now returned reply
+    (told_at_call events places.called c.args.cpu c.args.number command c.in-Some.ensures.some.called c.in-Some-command_at.ensures.some)
+    c.index.ensures c.if-index.false
+    (told_at_return events returned c.args.cpu c.args.number reply has_returned c.in-Some-reply_at.ensures.some) c.if-returned-self.false in
     let commits = rw c.if-given.true at c.in_ok-given.ensures.given in
     Progress-line c.args.history.now.recorded c.requires.is_history before old.named.items old.latest (state_of old.machine) is_replay
-    (Keep c.args.cpu c.args.number) call.called call.command c.in-Some-answer.answer.reply ready _ _ _ commits.step commits.named commits.latest
+    (Keep c.args.cpu c.args.number) places.called command reply ready _ _ _ commits.step commits.named commits.latest
 
 pub returns-else-given : goal.returns-else-given
 returns-else-given c = λ before is_replay.
     let old = c.args.self.now in
-    let call = c.in-Some.call in
-    let told = rw c.in-Some-answer.is at c.in-Some.ensures.some.answer in
+    let events = c.args.history.now.recorded.events in
+    let places = c.in-Some.places in
+    let returned = c.in-Some-returned.returned in
+    let command = c.in-Some-command_at.command in
+    let reply = c.in-Some-reply_at.reply in
+    let has_returned = rw c.in-Some-returned.is at c.in-Some.ensures.some.returned in
     let ready = IsReady-kept c.args.history.now.recorded c.requires.is_history before old.named.items old.latest (state_of old.machine) is_replay
-    c.args.cpu c.args.number call.called call.command c.index.result.now c.in-Some-answer.answer.returned c.in-Some-answer.answer.reply
-    c.in-Some.ensures.some.called c.index.ensures c.if-index.false told c.if-answer-self.false in
+    c.args.cpu c.args.number places.called command c.index.result.now returned reply
+    (told_at_call events places.called c.args.cpu c.args.number command c.in-Some.ensures.some.called c.in-Some-command_at.ensures.some)
+    c.index.ensures c.if-index.false
+    (told_at_return events returned c.args.cpu c.args.number reply has_returned c.in-Some-reply_at.ensures.some) c.if-returned-self.false in
     let refuses = rw c.if-given.false at c.in_ok-given.ensures.given in
     FailsBy-line c.args.history.now.recorded c.requires.is_history before old.named.items old.latest (state_of old.machine) is_replay
-    (Keep c.args.cpu c.args.number) call.called call.command c.in-Some-answer.answer.reply ready refuses
+    (Keep c.args.cpu c.args.number) places.called command reply ready refuses

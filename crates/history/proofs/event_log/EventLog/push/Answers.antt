@@ -15,6 +15,6 @@ invariant_of-self-2 c =
 pub returns-clause-ok : goal.returns-clause-ok
 returns-clause-ok c =
     let inside = c.self.inside in
-    events_in-entered inside.words.items c.enter.new.words.items inside.heads.items c.push_reserved.new.self.items c.args.event c.in_ok-head.head
+    events_in-entered inside.words.items c.enter.new.words.items inside.heads.items c.push_reserved.new.self.items c.args.event.now c.in_ok-head.head
     c.self.invariant c.in_ok-head.ensures.ok (c.push_reserved.ensures.items ∙ ap (λ hs. hs ++ c.in_ok-head.head ∷ []) c.reserve.ensures.items)
-    ∙ ap (λ log. log.events ++ c.args.event ∷ []) c.self.view_is
+    ∙ ap (λ log. log.events ++ c.args.event.now ∷ []) c.self.view_is
