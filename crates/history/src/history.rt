@@ -185,10 +185,22 @@ impl History {
         ensures succeeds { 1 ≤ self.old.room → IsOk result }
         ensures left { self.old.room ≤ self.new.room + 1 }
     {
+        self.append(&event)
+    }
+
+    /// Records an event at the end, as `push` does. An event is large, so it isn't moved on the way.
+    pub(crate) fn append(&mut self, event: &Event) -> Result<(), AllocError>
+        requires follows { CanFollow self.old.recorded event.now }
+        requires line { length self.old.recorded.events + 1 < MOST_LINES }
+        ensures ok { OnOk result (self.new.recorded ≡ record self.old.recorded { events = self.old.recorded.events ++ event.now ∷ [] }) }
+        ensures err { OnErr result (self.new.recorded ≡ self.old.recorded) }
+        ensures succeeds { 1 ≤ self.old.room → IsOk result }
+        ensures left { self.old.room ≤ self.new.room + 1 }
+    {
         let place = self.events.len() as u32;
-        let desk = &mut self.desks[cpu_of(&event) as usize];
+        let desk = &mut self.desks[cpu_of(event) as usize];
         desk.make_room()?;
-        self.events.push(&event)?;
+        self.events.push(event)?;
         desk.enter(place);
         Ok(())
     }

@@ -53,13 +53,14 @@ fn read_event<'a>(history: &mut History, rest: &'a [u8]) -> Result<&'a [u8], His
     let Some((line, more)) = next_line(rest) else {
         return Err(bad_line);
     };
-    let Some(event) = event_from(history.config().cpus(), line) else {
+    let event = event_from(history.config().cpus(), line);
+    let Some(event) = &event else {
         return Err(bad_line);
     };
-    if !history.continues(&event) {
+    if !history.continues(event) {
         return Err(bad_line);
     }
-    history.push(event)?;
+    history.append(event)?;
     Ok(more)
 }
 
