@@ -1,15 +1,15 @@
 -- What a reader's faults say of a whole line, from what they say of its rest.
-use Rattle.std.proofs.Common.{◌≡◌, ◌≢◌, ℕ, ◌+◌, ◌<◌, true, ◌==◌, List, [], ◌∷◌, ◌++◌, map, length, get_or, drop, codes, inl, inr, refl, sym, ap, subst, ◌∙◌, arith, add-one}
+use Rattle.std.proofs.Common.{◌≡◌, ◌≢◌, ℕ, ◌+◌, ◌^◌, ◌<◌, ◌≤◌, true, ◌==◌, List, [], ◌∷◌, ◌++◌, map, length, get_or, drop, codes, inl, inr, refl, sym, ap, subst, ◌∙◌, arith, add-one}
 use Rattle.std.specs.List.{Any, Contains}
 use Rattle.std.proofs.lemmas.Bool.Decides.{nat_tests}
 use Rattle.std.proofs.lemmas.List.{get_or_at, length-append, length-map}
 use Rattle.rmm_spec.specs.declared.function_id.FunctionId.{FunctionId}
 use Rattle.rmm_spec.specs.Function.{number_of, word_count}
-use Rattle.rmm_spec.specs.Text.{word, fixed_hex}
-use Rattle.rmm_spec.proofs.Texts.{bytes_apart, fixed_hex-injective, number_of-injective, number_of-lt}
+use Rattle.rmm_spec.specs.Text.{decimal, word, fixed_hex}
+use Rattle.rmm_spec.proofs.Texts.{bytes_apart, decimal-injective, fixed_hex-injective, number_of-injective, number_of-lt}
 use Rattle.rmi_codec.specs.declared.fault.CodecFault.{CodecFault}
 use Rattle.rmi_codec.specs.declared.fault.CodecFault.TheVariants.{UnknownNumber, WordCount, BadWord, BadSpacing, BadForm}
-use Rattle.rmi_codec.specs.Faults.{IsNoWord, IsNoByte, IsCommandFault, IsReplyFault, IsWordsFault, IsSmallFault, IsEndFault}
+use Rattle.rmi_codec.specs.Faults.{IsNoWord, IsNoByte, IsCommandFault, IsReplyFault, IsPartFault, IsWordsFault, IsSmallFault, IsEndFault}
 use Rattle.rmi_codec.proofs.PartLaws.{word_count-le}
 
 -- a part that stands behind others is one of them all
@@ -38,6 +38,32 @@ pub Any-read : (P : List ℕ → Type 0) (entry front parts rest : List (List �
 Any-read P entry front parts rest part read next h =
     let Q : List (List ℕ) → Type 0 = λ ps. Any P ps in
     subst Q (sym (read ∙ ap (λ ps. front ++ ps) next)) (Any-among P front part rest h)
+
+-- a fault of a part that is to be a word is one of the words
+pub IsWordsFault-from_part : (excess told : CodecFault) (xs : List ℕ) (entry parts : List (List ℕ)) → entry ≡ map word xs ++ parts → parts ≢ [] → ((w : ℕ) (rest : List (List ℕ)) → w < 2 ^ 64 → parts ≢ word w ∷ rest) → IsPartFault told parts → IsWordsFault excess told entry
+IsWordsFault-from_part excess UnknownNumber xs entry parts read some none h = absurd h
+IsWordsFault-from_part excess WordCount xs entry parts read some none h = absurd h
+IsWordsFault-from_part excess BadWord xs entry [] read some none h = absurd (some refl)
+IsWordsFault-from_part excess BadWord xs entry (part ∷ rest) read some none h =
+    inl (refl, Any-read IsNoWord entry (map word xs) (part ∷ rest) rest part read refl (λ w small same. none w rest small (ap (λ p. p ∷ rest) same)))
+IsWordsFault-from_part excess BadSpacing xs entry parts read some none h =
+    inr (inl (refl, Contains-nil_among entry (map word xs) parts h.0 [] read h.1 refl))
+IsWordsFault-from_part excess BadForm xs entry parts read some none h = absurd (some h)
+
+-- and one of a part that is to be a status is one of the status
+pub IsSmallFault-from_part : (told : CodecFault) (parts : List (List ℕ)) → ((n : ℕ) (rest : List (List ℕ)) → n < 2 ^ 64 → parts ≢ decimal n ∷ rest) → IsPartFault told parts → IsSmallFault told parts
+IsSmallFault-from_part UnknownNumber parts none h = h
+IsSmallFault-from_part WordCount parts none h = h
+IsSmallFault-from_part BadWord [] none h = absurd (h refl)
+IsSmallFault-from_part BadWord (part ∷ rest) none h =
+    Any-read IsNoByte (part ∷ rest) [] (part ∷ rest) rest part refl refl (λ n small same. none n rest (omega arith) (ap (λ p. p ∷ rest) same))
+IsSmallFault-from_part BadSpacing parts none h = Contains-nil_among parts [] parts h.0 [] refl h.1 refl
+IsSmallFault-from_part BadForm parts none h = h
+
+-- a number of more than a byte
+pub BadWord-from_great : (parts rest : List (List ℕ)) (number : ℕ) → parts ≡ decimal number ∷ rest → 256 ≤ number → IsSmallFault BadWord parts
+BadWord-from_great parts rest number next great =
+    Any-read IsNoByte parts [] parts rest (decimal number) refl next (λ n small same. let number-is = decimal-injective number n same in omega arith)
 
 -- ten words are read, and a part is left
 pub more_than_ten : (xs : List ℕ) (entry parts rest : List (List ℕ)) (part : List ℕ) → length xs ≡ 10 → entry ≡ map word xs ++ parts → parts ≡ part ∷ rest → 10 < length entry

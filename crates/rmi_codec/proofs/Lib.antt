@@ -1,4 +1,5 @@
 pub mod FaultLaws
 pub mod NumberLaws
 pub mod PartLaws
+pub mod PrefixLaws
 pub mod HeadLaws

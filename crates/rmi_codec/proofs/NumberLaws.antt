@@ -8,7 +8,7 @@ use Rattle.std.proofs.lemmas.List.Elements.{All-from_recursion}
 use Rattle.std.proofs.lemmas.Nat.{div-mul-add, mod-mul-add}
 use Rattle.std.proofs.Math.Nat.{le-mul_of_pos_right, pow-suc, pow-le-pow_right}
 use Rattle.rmm_spec.specs.Text.{glyph, numeral, fixed_hex}
-use Rattle.rmm_spec.proofs.Texts.{glyph-injective, map-glyph-injective, numeral_some, numeral-zero, numeral-IsPart, fixed_hex-suc, AllByRecursion-append}
+use Rattle.rmm_spec.proofs.Texts.{glyph-injective, map-glyph-injective, numeral_some, numeral-zero, fixed_hex-suc, AllByRecursion-append}
 
 -- the first bytes are the digits of a number, and the first of them isn't 0
 pub record SpellsSoFar (base : ℕ) (part : List ℕ) (count number : ℕ) : Type 0 where
@@ -46,17 +46,6 @@ SpellsSoFar-more base part count number d big inside so_far small is =
       first = so_far.first;
     }
 
--- all bytes are read
-pub numeral-from_SpellsSoFar : (base : ℕ) (part : List ℕ) (count number : ℕ) → 0 < length part → length part ≤ count → SpellsSoFar base part count number → part ≡ numeral base number
-numeral-from_SpellsSoFar base part count number some all so_far =
-    sym (take_all count part all) ∙ so_far.spelled ∙ sym (numeral_some base number (so_far.positive (omega arith)))
-
--- the one digit 0
-pub numeral-from_zero : (base : ℕ) (part : List ℕ) → length part ≡ 1 → get_or part 0 0 ≡ 48 → part ≡ numeral base 0
-numeral-from_zero base [] one first = absurd (omega arith)
-numeral-from_zero base (byte ∷ []) one first = ap (λ b. b ∷ []) first ∙ sym (numeral-zero base)
-numeral-from_zero base (byte ∷ next ∷ part) one first = absurd (omega arith)
-
 map-glyph-digits : (base : ℕ) (ds : List ℕ) → AllBelowBase base ds → AllByRecursion (IsDigit base) (map glyph ds)
 map-glyph-digits base [] h = tt
 map-glyph-digits base (d ∷ ds) h = ((d, h.0, refl), map-glyph-digits base ds h.1)
@@ -91,9 +80,6 @@ pub no_numeral-leading_zero : (base : ℕ) (part : List ℕ) (n : ℕ) → 2 ≤
 no_numeral-leading_zero base part n big first long e =
     let n-is : n ≡ 0 = zero_from_first base n big (ap (λ bytes. get_or bytes 0 0) (sym e) ∙ first) in
     long (ap length (e ∙ ap (numeral base) n-is ∙ numeral-zero base))
-
-pub no_numeral-nil : (base : ℕ) (part : List ℕ) (n : ℕ) → 2 ≤ base → length part ≡ 0 → part ≡ numeral base n → ⊥
-no_numeral-nil base part n big none e = let is_part = numeral-IsPart base n big in let some = is_part.some in omega (arith, ap length e)
 
 front_le : (base : ℕ) (ds : List ℕ) (k : ℕ) → 0 < base → number_from_digits base (take k ds) ≤ number_from_digits base ds
 front_le base ds k big =

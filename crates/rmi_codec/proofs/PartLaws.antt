@@ -1,11 +1,12 @@
 -- Lines read part by part: the first space, words, and the three forms of a reply.
-use Rattle.std.proofs.Common.{◌≡◌, ◌≢◌, ℕ, ◌+◌, ◌^◌, ◌<◌, ◌≤◌, Bool, true, false, ◌==◌, cond, ltb, List, [], ◌∷◌, ◌++◌, map, length, get_or, take, drop, codes, Some, None, Result, Ok, position, refl, sym, ap, ◌∙◌, arith, lit≤}
+use Rattle.std.proofs.Common.{◌≡◌, ◌≢◌, ℕ, ◌+◌, ◌^◌, ◌<◌, ◌≤◌, Bool, true, false, if◌then◌else◌, ◌==◌, cond, ltb, List, [], ◌∷◌, ◌++◌, map, length, get_or, take, drop, codes, Some, None, Option, position, refl, sym, ap, ◌∙◌, arith, lit≤}
 use Rattle.std.specs.List.{AllByRecursion, position_or_len, slice_split}
+use Rattle.std.specs.Option.{unwrap_or}
 use Rattle.std.proofs.lemmas.Bool.Decides.{nat_tests}
-use Rattle.std.proofs.lemmas.List.{append-nil, append_assoc, drop-drop, length-append, length-map, map-append, take_at, take_more, take-take}
+use Rattle.std.proofs.lemmas.List.{append-nil, append_assoc, drop-drop, length-append, length-map, map-append, take_all, take_at, take_more, take-take}
 use Rattle.std.proofs.lemmas.List.Elements.{All-from_get_or}
 use Rattle.std.proofs.lemmas.List.Quantifiers.{position-Some}
-use Rattle.std.proofs.lemmas.List.Splits.{join_with_byte-slice_split, slice_split_none, slice_split_first}
+use Rattle.std.proofs.lemmas.List.Splits.{join_with_byte-slice_split, slice_split_none, slice_split_first, length-slice_split}
 use Rattle.std.proofs.lemmas.List.Sums.{position_or_len_is, fails_before_first}
 use Rattle.arrayvec.specs.ArrayVec.{ArrayVec}
 use Rattle.rmm_spec.specs.declared.function_id.FunctionId.{FunctionId}
@@ -15,14 +16,14 @@ use Rattle.rmm_spec.specs.declared.reply.Reply.TheVariants as reply
 use Rattle.rmm_spec.specs.CommandText.{AreWords, IsReply, reply_parts}
 use Rattle.rmm_spec.specs.Function.{word_count}
 use Rattle.rmm_spec.specs.Text.{decimal, word, line_text, parts_of}
-use Rattle.rmm_spec.proofs.Texts.{IsPart, bytes_apart, map-word-injective}
-use Rattle.rmi_codec.specs.Spaced.{spaced}
+use Rattle.rmm_spec.proofs.Texts.{IsPart, bytes_apart, decimal-injective}
+use Rattle.rmi_codec.specs.Spaced.{parts_behind, spaced}
 
 abbrev is_space : ℕ → Bool
 is_space byte = byte == 32
 
--- the first part ends at the first space
-pub parts_of-Some : (line : List ℕ) (end : ℕ) → position (λ byte. byte == 32) line ≡ Some end → (end < length line) × (parts_of line ≡ take end line ∷ parts_of (drop 1 (drop end line)))
+-- where a line has a space, its first part ends at the first one
+parts_of-Some : (line : List ℕ) (end : ℕ) → position (λ byte. byte == 32) line ≡ Some end → (end < length line) × (parts_of line ≡ take end line ∷ parts_of (drop 1 (drop end line)))
 parts_of-Some line end e =
     let h = position-Some is_space line end 0 e in
     let inside : end < length line = h.0 in
@@ -36,11 +37,41 @@ none_from_test true n e = absurd (cc)
 none_from_test false n e = refl
 
 -- without a space the line is the one part
-pub parts_of-None : (line : List ℕ) → position (λ byte. byte == 32) line ≡ None → parts_of line ≡ line ∷ []
+parts_of-None : (line : List ℕ) → position (λ byte. byte == 32) line ≡ None → parts_of line ≡ line ∷ []
 parts_of-None line e =
     let test : ltb (position_or_len is_space line) (length line) ≡ false = none_from_test _ (position_or_len is_space line) e in
     let past : length line ≤ position_or_len is_space line = grind (arith, nat_tests) in
     slice_split_none is_space line (All-from_get_or (λ byte. is_space byte ≡ false) line 0 (λ k h. fails_before_first is_space line k 0 (omega arith)))
+
+-- nothing stands behind the end of a line
+pub parts_behind-end : (line : List ℕ) (end : ℕ) → end ≡ length line → parts_behind end line ≡ []
+parts_behind-end line end last = let test : (end == length line) ≡ true = grind (arith, nat_tests) in rw test
+
+-- behind a space stand the parts of the rest
+pub parts_behind-space : (line : List ℕ) (end : ℕ) → end ≢ length line → parts_behind end line ≡ parts_of (drop 1 (drop end line))
+parts_behind-space line end goes_on = let test : (end == length line) ≡ false = grind (arith, nat_tests) in rw test
+
+-- the first part ends at the first space, where there is one
+cut_first : (line : List ℕ) (o : Option ℕ) → position is_space line ≡ o → parts_of line ≡ take (unwrap_or o (length line)) line ∷ parts_behind (unwrap_or o (length line)) line
+cut_first line None e =
+    parts_of-None line e ∙ ap (λ part. part ∷ []) (sym (take_all (length line) line (omega arith)))
+    ∙ ap (λ rest. take (length line) line ∷ rest) (sym (parts_behind-end line (length line) refl))
+cut_first line (Some end) e =
+    let cut = parts_of-Some line end e in
+    cut.1 ∙ ap (λ rest. take end line ∷ rest) (sym (parts_behind-space line end (λ last. omega (arith, cut.0, last))))
+
+-- the first part ends at the first space, or with the line
+pub parts_of-first : (line : List ℕ) → parts_of line ≡ take (unwrap_or (position is_space line) (length line)) line ∷ parts_behind (unwrap_or (position is_space line) (length line)) line
+parts_of-first line = cut_first line (position is_space line) refl
+
+-- a line has a part
+pub parts_of-some : (line : List ℕ) → parts_of line ≢ []
+parts_of-some line e = omega (arith, ap length e, length-slice_split is_space line)
+
+-- what is left is nothing where the line is over, and nowhere else
+pub over_only : (line : List ℕ) (is_over : Bool) (parts : List (List ℕ)) → (if is_over then [] else parts_of line) ≡ parts → (is_over ≡ true → parts ≡ []) × (parts ≡ [] → is_over ≡ true)
+over_only line true parts view = ((λ _. sym view), (λ _. refl))
+over_only line false parts view = ((λ bad. absurd (cc)), (λ none. absurd (parts_of-some line (view ∙ none))))
 
 -- a text is the line of its parts
 pub line_text-from_parts : (text : List ℕ) (parts : List (List ℕ)) → parts_of text ≡ parts → text ≡ line_text parts
@@ -57,6 +88,10 @@ no_empty_part bytes part rest others parts test next e is_part =
 pub no_empty_first_part : (bytes : List ℕ) (rest parts ps : List (List ℕ)) → (length bytes == 0) ≡ true → parts ≡ bytes ∷ rest → parts ≡ ps → AllByRecursion IsPart ps → ⊥
 no_empty_first_part bytes rest parts [] test next e are_parts = let bad : [] ≡ bytes ∷ rest = sym e ∙ next in cc
 no_empty_first_part bytes rest parts (part ∷ ps) test next e are_parts = no_empty_part bytes part rest ps parts test next e are_parts.0
+
+-- parts begin with one number
+pub same_first : (parts rest others : List (List ℕ)) (m n : ℕ) → parts ≡ decimal m ∷ rest → parts ≡ decimal n ∷ others → m ≡ n
+same_first parts rest others m n next e = decimal-injective m n (ap (λ ps. get_or ps 0 []) (sym next ∙ e))
 
 -- the parts behind the first, as a writer puts them
 pub line_text-spaced : (part : List ℕ) (parts : List (List ℕ)) → line_text (part ∷ parts) ≡ part ++ spaced parts
@@ -97,6 +132,13 @@ pub word_among : (xs ws : List ℕ) (entry parts rest : List (List ℕ)) (part :
 word_among xs ws entry parts rest part read next are_words e =
     word-at ws (map word xs) rest part are_words (sym e ∙ read ∙ ap (λ ps. map word xs ++ ps) next)
 
+-- where a part is left, it is a word
+pub words_go_on : (xs ws : List ℕ) (entry parts : List (List ℕ)) → entry ≡ map word xs ++ parts → parts ≢ [] → ((w : ℕ) (rest : List (List ℕ)) → w < 2 ^ 64 → parts ≢ word w ∷ rest) → AreWords ws → entry ≡ map word ws → ⊥
+words_go_on xs ws entry [] read some none are_words e = some refl
+words_go_on xs ws entry (part ∷ rest) read some none are_words e =
+    let among = word_among xs ws entry (part ∷ rest) rest part read refl are_words e in
+    none among.0 rest among.1 (ap (λ p. p ∷ rest) among.2)
+
 -- one word more is read
 pub words_read-more : (xs : List ℕ) (w : ℕ) (entry parts rest : List (List ℕ)) (part : List ℕ) → entry ≡ map word xs ++ parts → parts ≡ part ∷ rest → part ≡ word w → entry ≡ map word (xs ++ w ∷ []) ++ rest
 words_read-more xs w entry parts rest part read next is =
@@ -108,11 +150,6 @@ words_read-more xs w entry parts rest part read next is =
 pub words_left : (xs ws : List ℕ) (entry parts rest : List (List ℕ)) (part : List ℕ) → entry ≡ map word xs ++ parts → parts ≡ part ∷ rest → entry ≡ map word ws → length xs < length ws
 words_left xs ws entry parts rest part read next e =
     omega (arith, ap length (sym e ∙ read), length-append (map word xs) parts, length-map ws word, length-map xs word, ap length next)
-
--- all are read
-pub words_read : (xs ws : List ℕ) (entry parts : List (List ℕ)) → entry ≡ map word xs ++ parts → parts ≡ [] → entry ≡ map word ws → xs ≡ ws
-words_read xs ws entry parts read over e =
-    map-word-injective xs ws (sym (read ∙ ap (λ ps. map word xs ++ ps) over ∙ append-nil (map word xs)) ∙ e)
 
 -- ---- replies
 
@@ -140,13 +177,6 @@ unfolding reply_parts
 no_other_form (reply.Ok ws) form rest parts next e ok err misplaced = ok (ap (λ ps. get_or ps 0 []) (sym next ∙ e))
 no_other_form (reply.Err status index) form rest parts next e ok err misplaced = err (ap (λ ps. get_or ps 0 []) (sym next ∙ e))
 no_other_form reply.Misplaced form rest parts next e ok err misplaced = misplaced (ap (λ ps. get_or ps 0 []) (sym next ∙ e))
-
--- an empty part is none
-pub empty_no_part : (bytes part : List ℕ) → (length bytes == 0) ≡ true → bytes ≡ part → IsPart part → ⊥
-empty_no_part bytes part test same is_part =
-    let none : length bytes ≡ 0 = grind (arith, nat_tests) in
-    let some = is_part.some in
-    omega (arith, ap length same)
 
 -- no function takes more words than there is room for
 pub word_count-le : (f : FunctionId) → word_count f ≤ 10
@@ -213,6 +243,3 @@ refusal_pushed old a b c new status index first second third last =
 pub refusal_kept : (old a b c new : List ℕ) (status : ℕ) → a ≡ old ++ codes "err " → b ≡ a ++ decimal status → c ≡ b ++ 32 ∷ [] → take (length c) new ≡ c → take (length old) new ≡ old
 refusal_kept old a b c new status first second third kept =
     kept-trans old c new _ (refusal_begun old a b c status first second third) kept
-
-pub Ok-injective : {T E : Type 0} (x y : T) → ◌≡◌ {A = Result T E} (Ok x) (Ok y) → x ≡ y
-Ok-injective x y e = cc

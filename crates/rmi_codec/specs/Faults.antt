@@ -36,6 +36,14 @@ IsReplyFault BadSpacing parts = Contains parts []
 IsReplyFault BadForm parts =
     (form : List ℕ) (rest : List (List ℕ)) → parts ≡ form ∷ rest → IsFormFault form rest
 
+-- of a first part that isn't the number that it is to be
+abbrev pub IsPartFault : CodecFault → List (List ℕ) → Type 0
+IsPartFault UnknownNumber parts = ⊥
+IsPartFault WordCount parts = ⊥
+IsPartFault BadWord parts = parts ≢ []
+IsPartFault BadSpacing parts = (rest : List (List ℕ)) × (parts ≡ [] ∷ rest)
+IsPartFault BadForm parts = parts ≡ []
+
 -- of the words at the end of a line, of which more than ten are told by the fault that the reader chose
 abbrev pub IsWordsFault : CodecFault → CodecFault → List (List ℕ) → Type 0
 IsWordsFault excess told parts =

@@ -10,7 +10,8 @@ use crate::fault::CodecFault;
 use crate::fixed_hex::push_fixed_hex;
 use crate::function::{function_from, words_of};
 use crate::parts::Parts;
-use crate::word::{push_words, words_from};
+use crate::word::{push_words, read_words};
+use arrayvec::ArrayVec;
 use rmm_spec::Command;
 use std::alloc::AllocError;
 
@@ -29,7 +30,8 @@ pub fn command_from(mut parts: Parts<'_>) -> Result<Command, CodecFault>
     let Some(function) = function_from(part) else {
         return Err(CodecFault::UnknownNumber);
     };
-    let words = words_from(parts, CodecFault::WordCount)?;
+    let mut words = ArrayVec::new();
+    read_words(&mut words, parts, CodecFault::WordCount)?;
     if words.len() != words_of(function) {
         return Err(CodecFault::WordCount);
     }

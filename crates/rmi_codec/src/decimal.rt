@@ -1,9 +1,10 @@
 //! Decimals.
 
-ghost use Rattle.std.specs.Prelude.{◌≡◌, ℕ, ◌<◌, ◌^◌, ◌++◌, length, take, Some, IfSome, OnOk, OnErr};
+ghost use Rattle.std.specs.Prelude.{◌≡◌, ◌≢◌, ℕ, ◌<◌, ◌^◌, ◌∷◌, ◌++◌, List, length, take, Some, IfSome, IfNone, OnOk, OnErr};
 ghost use Rattle.rmm_spec.specs.Text.{decimal};
 
 use crate::numeral::{numeral_from, push_numeral};
+use crate::parts::Parts;
 use std::alloc::AllocError;
 
 /// The number that a part spells, where it is a decimal of 64 bits without leading zeros.
@@ -13,6 +14,17 @@ pub fn decimal_from(part: &[u8]) -> Option<u64>
     ensures only { (n : ℕ) → n < 2 ^ 64 → part.now ≡ decimal n → result ≡ Some n }
 {
     numeral_from(part, 10)
+}
+
+// Takes the next part off, where it is a decimal of 64 bits. Else nothing is taken.
+#[inline(always)]
+#[tactic(auto, unfolding(rmm_spec::specs::Text::decimal))]
+pub(crate) fn next_decimal(parts: &mut Parts<'_>) -> Option<u64>
+    ensures found { IfSome result (λ n. parts.old ≡ decimal n ∷ parts.new) }
+    ensures none { IfNone result ((n : ℕ) (rest : List (List ℕ)) → n < 2 ^ 64 → parts.old ≢ decimal n ∷ rest) }
+    ensures kept { IfNone result (parts.new ≡ parts.old) }
+{
+    parts.next_numeral(10)
 }
 
 /// Appends a decimal. Where memory is refused, a beginning of it may have been appended.

@@ -1,5 +1,8 @@
 //! Why a text is refused.
 
+ghost use Rattle.rmi_codec.specs.Faults.{IsPartFault};
+
+use crate::parts::Parts;
 use thiserror::Error;
 
 /// Why a text isn't a command or a reply. Where several apply, which one is told is left open.
@@ -20,4 +23,17 @@ pub enum CodecFault {
     /// A reply begins with none of its three forms, or has too many or too few parts for it.
     #[error("not a form of a reply")]
     BadForm,
+}
+
+// Why the next part is no number, where it is none.
+#[cold]
+#[inline(never)]
+pub(crate) fn part_fault(parts: &mut Parts<'_>) -> CodecFault
+    ensures { IsPartFault result parts.old }
+{
+    match parts.next_part() {
+        None => CodecFault::BadForm,
+        Some(part) if part.is_empty() => CodecFault::BadSpacing,
+        Some(_) => CodecFault::BadWord,
+    }
 }

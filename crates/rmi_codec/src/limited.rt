@@ -4,7 +4,7 @@ ghost use Rattle.std.specs.Prelude.{◌≡◌, ◌<◌, ◌∷◌, IfSome, IfNon
 ghost use Rattle.rmm_spec.specs.Text.{decimal};
 ghost use Rattle.rmi_codec.specs.Limited.{HasNoNumber};
 
-use crate::decimal::decimal_from;
+use crate::decimal::next_decimal;
 use crate::parts::Parts;
 
 /// Takes a decimal below a limit off the parts.
@@ -13,7 +13,7 @@ pub fn number_below(parts: &mut Parts<'_>, limit: u32) -> Option<u32>
     ensures found { IfSome result (λ n. parts.old ≡ decimal n ∷ parts.new) }
     ensures none { IfNone result (HasNoNumber limit parts.old) }
 {
-    let number = decimal_from(parts.next_part()?)?;
+    let number = next_decimal(parts)?;
     if number >= u64::from(limit) {
         return None;
     }

@@ -1,22 +1,41 @@
 //! Numbers in a base, with the highest digit first and without leading zeros.
 
-ghost use Rattle.std.specs.Prelude.{◌≡◌, ◌≢◌, ℕ, ◌<◌, ◌≤◌, ◌+◌, ◌*◌, ◌^◌, ◌++◌, length, map, take, Some, IfSome, IfNone, OnOk, OnErr};
+ghost use Rattle.std.specs.Prelude.{◌≡◌, ◌≢◌, ℕ, ◌<◌, ◌≤◌, ◌+◌, ◌*◌, ◌^◌, ◌∷◌, ◌++◌, List, length, get_or, map, take, Some, IsTrue, IsFalse, IfSome, IfNone, OnOk, OnErr};
 ghost use Rattle.std.specs.Int.Digits.{digits_of};
-ghost use Rattle.rmm_spec.specs.Text.{glyph, numeral};
+ghost use Rattle.rmm_spec.specs.Text.{glyph, numeral, parts_of};
+ghost use Rattle.rmi_codec.specs.Spaced.{parts_behind};
 
 use std::alloc::AllocError;
 
-// The hex digit that a byte shows.
+// The decimal digit that a byte shows.
+#[inline(always)]
+fn decimal_digit_from(byte: u8) -> Option<u64>
+    ensures found { IfSome result (λ d. (d < 10) × (glyph d ≡ byte)) }
+    ensures none { IfNone result ((d : ℕ) → d < 10 → glyph d ≢ byte) }
+{
+    let digit = u32::from(byte).wrapping_sub(u32::from(b'0'));
+    if digit < 10 {
+        Some(u64::from(digit))
+    } else {
+        None
+    }
+}
+
+// The hex digit that a byte shows. No branch but the last depends on the byte: digits can't be foreseen.
 #[inline(always)]
 pub(crate) fn digit_from(byte: u8) -> Option<u64>
     ensures found { IfSome result (λ d. (d < 16) × (glyph d ≡ byte)) }
     ensures none { IfNone result ((d : ℕ) → d < 16 → glyph d ≢ byte) }
 {
-    match byte {
-        b'0'..=b'9' => Some(u64::from(byte - b'0')),
-        b'a'..=b'f' => Some(u64::from(byte - b'a' + 10)),
-        _ => None,
-    }
+    let wide = u32::from(byte);
+    let low = wide.wrapping_sub(u32::from(b'0'));
+    let letter = wide.wrapping_sub(u32::from(b'a'));
+    let digit = if low < 10 {
+        u64::from(low)
+    } else {
+        u64::from(letter) + 10
+    };
+    if digit < 16 { Some(digit) } else { None }
 }
 
 // The number with one digit more, where it has 64 bits.
@@ -28,6 +47,64 @@ fn with_digit(number: u64, base: u64, digit: u64) -> Option<u64>
     number.checked_mul(base)?.checked_add(digit)
 }
 
+// The digit of a base that a byte shows.
+#[inline(always)]
+fn digit_below(byte: u8, base: u64) -> Option<u64>
+    requires { base ≤ 16 }
+    ensures found { IfSome result (λ d. (d < base) × (glyph d ≡ byte)) }
+    ensures none { IfNone result ((d : ℕ) → d < base → glyph d ≢ byte) }
+{
+    let digit = if base <= 10 {
+        decimal_digit_from(byte)?
+    } else {
+        digit_from(byte)?
+    };
+    if digit < base { Some(digit) } else { None }
+}
+
+// Whether a part that stands before this place of a line ends there.
+#[inline(always)]
+fn is_end(line: &[u8], place: usize) -> bool
+    requires { place ≤ length line.now }
+    ensures ended { IsTrue result → place < length line.now → get_or line.now place 0 ≡ 32 }
+    ensures inside { IsFalse result → place < length line.now }
+    ensures goes_on { IsFalse result → get_or line.now place 0 ≢ 32 }
+{
+    place == line.len() || line[place] == b' '
+}
+
+// The number of 64 bits that the first part of a line spells, with the place behind the part.
+#[inline(always)]
+pub(crate) fn numeral_prefix(line: &[u8], base: u64) -> Option<(u64, usize)>
+    requires least { 2 ≤ base }
+    requires most { base ≤ 16 }
+    ensures found { IfSome result (λ p. parts_of line.now ≡ numeral base p.0 ∷ parts_behind p.1 line.now) }
+    ensures inside { IfSome result (λ p. p.1 ≤ length line.now) }
+    ensures none { IfNone result ((n : ℕ) (rest : List (List ℕ)) → n < 2 ^ 64
+        → parts_of line.now ≢ numeral base n ∷ rest) }
+{
+    if is_end(line, 0) {
+        return None;
+    }
+    if line[0] == b'0' {
+        return if is_end(line, 1) { Some((0, 1)) } else { None };
+    }
+    let mut number: u64 = 0;
+    let mut end: usize = 0;
+    while end < line.len() {
+        let Some(digit) = digit_below(line[end], base) else {
+            return if is_end(line, end) {
+                Some((number, end))
+            } else {
+                None
+            };
+        };
+        number = with_digit(number, base, digit)?;
+        end += 1;
+    }
+    Some((number, end))
+}
+
 // The number of 64 bits that a part spells.
 #[inline(always)]
 pub(crate) fn numeral_from(part: &[u8], base: u64) -> Option<u64>
@@ -36,21 +113,12 @@ pub(crate) fn numeral_from(part: &[u8], base: u64) -> Option<u64>
     ensures found { IfSome result (λ n. part.now ≡ numeral base n) }
     ensures only { (n : ℕ) → n < 2 ^ 64 → part.now ≡ numeral base n → result ≡ Some n }
 {
-    if part.is_empty() {
-        return None;
+    let (number, end) = numeral_prefix(part, base)?;
+    if end == part.len() {
+        Some(number)
+    } else {
+        None
     }
-    if part[0] == b'0' {
-        return if part.len() == 1 { Some(0) } else { None };
-    }
-    let mut number: u64 = 0;
-    for byte in part {
-        let digit = digit_from(*byte)?;
-        if digit >= base {
-            return None;
-        }
-        number = with_digit(number, base, digit)?;
-    }
-    Some(number)
 }
 
 // The byte that shows a digit.

@@ -1,8 +1,10 @@
 //! A line, cut at its spaces.
 
-ghost use Rattle.std.specs.Prelude.{◌≡◌, ◌==◌, [], ◌∷◌, IfSome, IfNone, position};
-ghost use Rattle.rmm_spec.specs.Text.{parts_of};
+ghost use Rattle.std.specs.Prelude.{◌≡◌, ◌≢◌, ◌==◌, ◌↔◌, ℕ, ◌<◌, ◌≤◌, ◌^◌, [], ◌∷◌, List, length, IsTrue, IfSome, IfNone, position};
+ghost use Rattle.rmm_spec.specs.Text.{numeral, parts_of};
+ghost use Rattle.rmi_codec.specs.Spaced.{parts_behind};
 
+use crate::numeral::numeral_prefix;
 use std::marker::Model;
 
 /// The parts of a line that are left to read. A line of n spaces has n + 1 parts, and a part may be empty.
@@ -29,6 +31,21 @@ fn first_space(line: &[u8]) -> Option<usize>
     line.iter().position(|byte| *byte == b' ')
 }
 
+// What stands behind a place of a line: its end or a space.
+#[inline(always)]
+fn behind(line: &[u8], end: usize) -> Parts<'_>
+    requires { end ≤ length line.now }
+    ensures { result ≡ parts_behind end line.now }
+{
+    if end < line.len() {
+        return Parts::of(line.split_at(end).1.split_at(1).1);
+    }
+    Parts {
+        rest: line,
+        is_over: true,
+    }
+}
+
 impl<'a> Parts<'a> {
     /// All parts of a line, which is given without its newline.
     pub fn of(line: &'a [u8]) -> Parts<'a>
@@ -49,12 +66,34 @@ impl<'a> Parts<'a> {
         if self.is_over {
             return None;
         }
-        let Some(end) = first_space(self.rest) else {
-            self.is_over = true;
-            return Some(self.rest);
-        };
-        let (part, rest) = self.rest.split_at(end);
-        self.rest = rest.split_at(1).1;
+        let end = first_space(self.rest).unwrap_or(self.rest.len());
+        let part = self.rest.split_at(end).0;
+        *self = behind(self.rest, end);
         Some(part)
+    }
+
+    /// Takes the next part off, where it spells a number of 64 bits in this base. Else nothing is taken.
+    #[inline(always)]
+    pub(crate) fn next_numeral(&mut self, base: u64) -> Option<u64>
+        requires least { 2 ≤ base }
+        requires most { base ≤ 16 }
+        ensures found { IfSome result (λ n. self.old ≡ numeral base n ∷ self.new) }
+        ensures none { IfNone result ((n : ℕ) (rest : List (List ℕ)) → n < 2 ^ 64 → self.old ≢ numeral base n ∷ rest) }
+        ensures kept { IfNone result (self.new ≡ self.old) }
+    {
+        if self.is_over {
+            return None;
+        }
+        let (number, end) = numeral_prefix(self.rest, base)?;
+        *self = behind(self.rest, end);
+        Some(number)
+    }
+
+    /// Whether no part is left.
+    #[inline(always)]
+    pub(crate) fn is_over(&self) -> bool
+        ensures { IsTrue result ↔ (self.now ≡ []) }
+    {
+        self.is_over
     }
 }

@@ -6,25 +6,13 @@ ghost use Rattle.rmm_spec.specs.CommandText.{IsReply, reply_parts, reply_text};
 ghost use Rattle.rmm_spec.specs.Text.{decimal, parts_of};
 ghost use Rattle.rmi_codec.specs.Faults.{IsReplyFault, IsSmallFault, IsEndFault};
 
-use crate::decimal::{decimal_from, push_decimal};
-use crate::fault::CodecFault;
+use crate::decimal::{next_decimal, push_decimal};
+use crate::fault::{CodecFault, part_fault};
 use crate::parts::Parts;
-use crate::word::{push_words, words_from};
+use crate::word::{push_words, read_words};
+use arrayvec::ArrayVec;
 use rmm_spec::Reply;
 use std::alloc::AllocError;
-
-// A status or an index.
-fn small_from(part: &[u8]) -> Option<u8>
-    ensures found { IfSome result (λ n. part.now ≡ decimal n) }
-    ensures only { (n : ℕ) → n < 256 → part.now ≡ decimal n → result ≡ Some n }
-{
-    let number = decimal_from(part)?;
-    if number < 256 {
-        Some(number as u8)
-    } else {
-        None
-    }
-}
 
 // Reads a status or an index from the next part.
 fn take_small(parts: &mut Parts<'_>) -> Result<u8, CodecFault>
@@ -32,16 +20,13 @@ fn take_small(parts: &mut Parts<'_>) -> Result<u8, CodecFault>
     ensures only { (n : ℕ) (rest : List (List ℕ)) → n < 256 → parts.old ≡ decimal n ∷ rest → result ≡ Ok n }
     ensures fault { IfErr result (λ e. IsSmallFault e parts.old) }
 {
-    let Some(part) = parts.next_part() else {
-        return Err(CodecFault::BadForm);
+    let Some(number) = next_decimal(parts) else {
+        return Err(part_fault(parts));
     };
-    if part.is_empty() {
-        return Err(CodecFault::BadSpacing);
+    if number >= 256 {
+        return Err(CodecFault::BadWord);
     }
-    match small_from(part) {
-        Some(number) => Ok(number),
-        None => Err(CodecFault::BadWord),
-    }
+    Ok(number as u8)
 }
 
 // Whether nothing is left of a line.
@@ -63,7 +48,8 @@ fn ok_from(parts: Parts<'_>) -> Result<Reply, CodecFault>
     ensures only { (r : Reply) → IsReply r → codes "ok" ∷ parts.entry ≡ reply_parts r → result ≡ Ok r }
     ensures fault { IfErr result (λ e. IsReplyFault e (codes "ok" ∷ parts.entry)) }
 {
-    let words = words_from(parts, CodecFault::BadForm)?;
+    let mut words = ArrayVec::new();
+    read_words(&mut words, parts, CodecFault::BadForm)?;
     Ok(Reply::Ok(words))
 }
 

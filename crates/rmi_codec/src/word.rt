@@ -1,24 +1,26 @@
 //! Words: numbers of 64 bits in lower-case hex.
 
-ghost use Rattle.std.specs.Prelude.{◌≡◌, ℕ, ◌<◌, ◌≤◌, ◌^◌, [], ◌∷◌, ◌++◌, List, length, map, take, Ok, Some, IfOk, IfErr, IfSome, OnOk, OnErr};
+ghost use Rattle.std.specs.Prelude.{◌≡◌, ◌≢◌, ℕ, ◌<◌, ◌≤◌, ◌^◌, [], ◌∷◌, ◌++◌, List, length, map, take, Ok, Some, IsOk, IfOk, IfErr, IfSome, IfNone, OnOk, OnErr};
 ghost use Rattle.rmm_spec.specs.CommandText.{AreWords};
 ghost use Rattle.rmm_spec.specs.Text.{word};
 ghost use Rattle.rmi_codec.specs.Faults.{IsWordsFault};
 ghost use Rattle.rmi_codec.specs.Spaced.{spaced};
 
-use crate::fault::CodecFault;
-use crate::numeral::{numeral_from, push_numeral};
+use crate::fault::{CodecFault, part_fault};
+use crate::numeral::push_numeral;
 use crate::parts::Parts;
 use arrayvec::ArrayVec;
 use std::alloc::AllocError;
 
-// The word that a part spells.
+// Takes the next part off, where it is a word. Else nothing is taken.
+#[inline(always)]
 #[tactic(auto, unfolding(rmm_spec::specs::Text::word))]
-pub(crate) fn word_from(part: &[u8]) -> Option<u64>
-    ensures found { IfSome result (λ n. part.now ≡ word n) }
-    ensures only { (n : ℕ) → n < 2 ^ 64 → part.now ≡ word n → result ≡ Some n }
+fn next_word(parts: &mut Parts<'_>) -> Option<u64>
+    ensures found { IfSome result (λ w. parts.old ≡ word w ∷ parts.new) }
+    ensures none { IfNone result ((w : ℕ) (rest : List (List ℕ)) → w < 2 ^ 64 → parts.old ≢ word w ∷ rest) }
+    ensures kept { IfNone result (parts.new ≡ parts.old) }
 {
-    numeral_from(part, 16)
+    parts.next_numeral(16)
 }
 
 // Appends a word.
@@ -42,30 +44,27 @@ pub(crate) fn push_words(out: &mut Vec<u8>, words: &[u64]) -> Result<(), AllocEr
     Ok(())
 }
 
-// Reads words to the end of a line, at most ten. With more the fault is `excess`.
-pub(crate) fn words_from(
+// Reads words to the end of a line, at most ten, into a place without any. With more the fault is `excess`.
+pub(crate) fn read_words(
+    words: &mut ArrayVec<u64, 10>,
     mut parts: Parts<'_>,
     excess: CodecFault,
-) -> Result<ArrayVec<u64, 10>, CodecFault>
-    ensures found { IfOk result (λ ws. parts.entry ≡ map word ws.items) }
-    ensures words { IfOk result (λ ws. AreWords ws.items) }
-    ensures count { IfOk result (λ ws. length ws.items ≤ 10) }
-    ensures only { (ws : List ℕ) → AreWords ws → length ws ≤ 10 → parts.entry ≡ map word ws
-        → result ≡ Ok (record { items = ws }) }
+) -> Result<(), CodecFault>
+    requires { words.old.items ≡ [] }
+    ensures found { OnOk result (parts.entry ≡ map word words.new.items) }
+    ensures words { OnOk result (AreWords words.new.items) }
+    ensures count { OnOk result (length words.new.items ≤ 10) }
+    ensures only { (ws : List ℕ) → AreWords ws → length ws ≤ 10 → parts.entry ≡ map word ws → IsOk result }
     ensures fault { IfErr result (λ e. IsWordsFault excess e parts.entry) }
 {
-    let mut words = ArrayVec::new();
-    while let Some(part) = parts.next_part() {
-        if part.is_empty() {
-            return Err(CodecFault::BadSpacing);
-        }
-        let Some(word) = word_from(part) else {
-            return Err(CodecFault::BadWord);
+    while !parts.is_over() {
+        let Some(word) = next_word(&mut parts) else {
+            return Err(part_fault(&mut parts));
         };
         if words.is_full() {
             return Err(excess);
         }
         words.push(word);
     }
-    Ok(words)
+    Ok(())
 }

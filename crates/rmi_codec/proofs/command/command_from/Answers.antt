@@ -1,13 +1,12 @@
-use Rattle.std.proofs.Common.{◌≡◌, ◌≤◌, ℕ, Ok, ap, sym, ◌∙◌, length, map, arith}
-use Rattle.arrayvec.specs.ArrayVec.{ArrayVec}
+use Rattle.std.proofs.Common.{◌≡◌, ◌≤◌, Ok, ap, sym, ◌∙◌, length, map, arith}
 use Rattle.rmm_spec.specs.CommandText.{command_parts}
 use Rattle.rmm_spec.specs.Function.{number_of, word_count}
 use Rattle.rmm_spec.specs.Text.{word, fixed_hex}
-use Rattle.rmm_spec.proofs.Texts.{command_parts-some, command_parts-are_parts}
+use Rattle.rmm_spec.proofs.Texts.{command_parts-some, command_parts-are_parts, map-word-injective}
 use Rattle.std.proofs.lemmas.Result.{err_from_is_err_and}
 use Rattle.std.proofs.lemmas.List.{length-map}
 use Rattle.rmi_codec.proofs.FaultLaws.{IsCommandFault-from_words, WordCount-from}
-use Rattle.rmi_codec.proofs.PartLaws.{Ok-injective, no_empty_first_part, word_count-le}
+use Rattle.rmi_codec.proofs.PartLaws.{no_empty_first_part, word_count-le}
 use Rattle.rmi_codec.proofs.command.command_from.Goals as goal
 
 pub returns-in_default-clause-only : goal.returns-in_default-clause-only
@@ -26,14 +25,14 @@ returns-in_default-function_from-clause-only c = λ d is e.
     let none = c.in_default-function_from.ensures.only d.function is.served number in
     cc
 
-pub returns-in_err-words-clause-only : goal.returns-in_err-words-clause-only
+pub returns-in_err-read_words-clause-only : goal.returns-in_err-read_words-clause-only
 unfolding command_parts
-returns-in_err-words-clause-only c = λ d is e.
+returns-in_err-read_words-clause-only c = λ d is e.
     let next = c.in-Some.ensures.next in
     let rest : c.next_part.new.self ≡ map word d.words.items = cc in
     let counted = is.counted in
     let few : length d.words.items ≤ 10 = omega (arith, word_count-le d.function) in
-    let bad = c.in_err-words.ensures.only d.words.items is.words few rest in
+    let bad = c.in_err-read_words.ensures.only d.words.items is.words few rest in
     cc
 
 pub returns-then-len-words_of-clause-only : goal.returns-then-len-words_of-clause-only
@@ -43,11 +42,9 @@ returns-then-len-words_of-clause-only c = λ d is e.
     let number : c.in-Some.part.now ≡ fixed_hex 8 (number_of d.function) = cc in
     let rest : c.next_part.new.self ≡ map word d.words.items = cc in
     let counted = is.counted in
-    let few : length d.words.items ≤ 10 = omega (arith, word_count-le d.function) in
     let some = c.in-Some-function_from.ensures.only d.function is.served number in
     let function : c.in-Some-function_from.function ≡ d.function = cc in
-    let words = c.in_ok-words.ensures.only d.words.items is.words few rest in
-    let items : c.in_ok-words.words.items ≡ d.words.items = ap (λ (v : ArrayVec ℕ). v.items) (Ok-injective c.in_ok-words.words (record { items = d.words.items }) words) in
+    let items : c.read_words.new.words.items ≡ d.words.items = map-word-injective _ _ (sym c.in_ok-read_words.ensures.found ∙ rest) in
     absurd (c.if-len-words_of.true (c.len.ensures.value ∙ ap length items ∙ counted ∙ ap word_count (sym function) ∙ sym c.words_of.ensures))
 
 pub returns-clause-found : goal.returns-clause-found
@@ -56,11 +53,11 @@ returns-clause-found c =
     let function = c.in-Some-function_from.ensures.found in
     let next = c.in-Some.ensures.next in
     let number = function.1 in
-    let words = c.in_ok-words.ensures.found in (
+    let words = c.in_ok-read_words.ensures.found in (
       record {
         served = function.0;
         counted = sym c.len.ensures.value ∙ c.if-len-words_of.false ∙ c.words_of.ensures;
-        words = c.in_ok-words.ensures.words;
+        words = c.in_ok-read_words.ensures.words;
       },
       cc,
     )
@@ -72,21 +69,19 @@ returns-clause-only c = λ d is e.
     let number : c.in-Some.part.now ≡ fixed_hex 8 (number_of d.function) = cc in
     let rest : c.next_part.new.self ≡ map word d.words.items = cc in
     let counted = is.counted in
-    let few : length d.words.items ≤ 10 = omega (arith, word_count-le d.function) in
     let some = c.in-Some-function_from.ensures.only d.function is.served number in
     let function : c.in-Some-function_from.function ≡ d.function = cc in
-    let words = c.in_ok-words.ensures.only d.words.items is.words few rest in
-    let items : c.in_ok-words.words.items ≡ d.words.items = ap (λ (v : ArrayVec ℕ). v.items) (Ok-injective c.in_ok-words.words (record { items = d.words.items }) words) in
+    let items : c.read_words.new.words.items ≡ d.words.items = map-word-injective _ _ (sym c.in_ok-read_words.ensures.found ∙ rest) in
     λ i. Ok (record { function = function i; words = record { items = items i } })
 
-pub returns-in_err-words-clause-fault : goal.returns-in_err-words-clause-fault
-returns-in_err-words-clause-fault c =
+pub returns-in_err-read_words-clause-fault : goal.returns-in_err-read_words-clause-fault
+returns-in_err-read_words-clause-fault c =
     let function = c.in-Some-function_from.ensures.found in
     let p = err_from_is_err_and c.from_residual.result c.from_residual.ensures.1 in
-    rw (p.1, p.2) (IsCommandFault-from_words c.in-Some-function_from.function c.in-Some.part.now c.next_part.new.self c.args.parts _ c.in-Some.ensures.next function.1 c.in_err-words.ensures.fault)
+    rw (p.1, p.2) (IsCommandFault-from_words c.in-Some-function_from.function c.in-Some.part.now c.next_part.new.self c.args.parts _ c.in-Some.ensures.next function.1 c.in_err-read_words.ensures.fault)
 
 pub returns-then-len-words_of-clause-fault : goal.returns-then-len-words_of-clause-fault
 returns-then-len-words_of-clause-fault c =
     let function = c.in-Some-function_from.ensures.found in
     WordCount-from c.in-Some-function_from.function c.in-Some.part.now c.next_part.new.self c.args.parts c.in-Some.ensures.next function.1
-    (λ e. c.if-len-words_of.true (c.len.ensures.value ∙ sym (length-map c.in_ok-words.words.items word) ∙ ap length (sym c.in_ok-words.ensures.found) ∙ e ∙ sym c.words_of.ensures))
+    (λ e. c.if-len-words_of.true (c.len.ensures.value ∙ sym (length-map c.read_words.new.words.items word) ∙ ap length (sym c.in_ok-read_words.ensures.found) ∙ e ∙ sym c.words_of.ensures))

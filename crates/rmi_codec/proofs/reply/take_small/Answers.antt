@@ -1,16 +1,21 @@
-use Rattle.std.proofs.Common.{◌∙◌, sym, [], refl}
-use Rattle.rmm_spec.specs.Text.{decimal}
-use Rattle.rmm_spec.proofs.Texts.{decimal-IsPart}
-use Rattle.rmi_codec.specs.Faults.{IsNoByte}
-use Rattle.rmi_codec.proofs.FaultLaws.{Any-read}
-use Rattle.rmi_codec.proofs.PartLaws.{no_empty_part}
+use Rattle.std.proofs.Common.{Ok, ap, arith}
+use Rattle.rmi_codec.proofs.FaultLaws.{BadWord-from_great, IsSmallFault-from_part}
+use Rattle.rmi_codec.proofs.PartLaws.{same_first}
 use Rattle.rmi_codec.proofs.reply.take_small.Goals as goal
 
-pub returns-then-is_empty-clause-only : goal.returns-then-is_empty-clause-only
-returns-then-is_empty-clause-only c = λ n rest _ e.
-    absurd (no_empty_part c.in-Some.part.now (decimal n) _ rest _ (sym c.is_empty.ensures ∙ c.if-is_empty.true) c.in-Some.ensures.next e (decimal-IsPart n))
+pub returns-in_default-clause-fault : goal.returns-in_default-clause-fault
+returns-in_default-clause-fault c =
+    IsSmallFault-from_part c.part_fault.result c.args.parts.now c.in_default.ensures.none (rw (← c.in_default.ensures.kept) c.part_fault.ensures)
 
-pub returns-in-None-clause-fault : goal.returns-in-None-clause-fault
-returns-in-None-clause-fault c =
-    Any-read IsNoByte c.args.parts.now [] c.args.parts.now _ c.in-Some.part.now refl c.in-Some.ensures.next
-    (λ n small same. let none = c.in-None.ensures.only n small same in cc)
+pub returns-then-number-ge256-clause-only : goal.returns-then-number-ge256-clause-only
+returns-then-number-ge256-clause-only c = λ n rest small e.
+    let number-is = same_first c.args.parts.now _ rest c.in-Some.number n c.in-Some.ensures.found e in
+    let great = c.if-number-ge256.true in
+    absurd (omega arith)
+
+pub returns-then-number-ge256-clause-fault : goal.returns-then-number-ge256-clause-fault
+returns-then-number-ge256-clause-fault c = BadWord-from_great c.args.parts.now _ c.in-Some.number c.in-Some.ensures.found c.if-number-ge256.true
+
+pub returns-clause-only : goal.returns-clause-only
+returns-clause-only c = λ n rest _ e.
+    ap Ok (same_first c.args.parts.now _ rest c.in-Some.number n c.in-Some.ensures.found e)

@@ -1,14 +1,14 @@
 use Rattle.std.proofs.Common.{◌≡◌, ◌++◌, ◌≤◌, map, length}
 use Rattle.rmm_spec.specs.CommandText.{AreWords}
 use Rattle.rmm_spec.specs.Text.{word}
-use Rattle.rmi_codec.proofs.word.words_from.Given as goal
+use Rattle.rmi_codec.proofs.word.read_words.Given as goal
 
-abbrev pub invariant-loop-part : goal.invariant-loop-part
-invariant-loop-part l = record {
+abbrev pub invariant-loop-parts : goal.invariant-loop-parts
+invariant-loop-parts l = record {
   read : l.fn.parts ≡ map word l.words.items ++ l.parts;
   words : AreWords l.words.items;
   count : length l.words.items ≤ 10;
 }
 
-abbrev pub decreases-loop-part : goal.decreases-loop-part
-decreases-loop-part l = length l.parts
+abbrev pub decreases-loop-parts : goal.decreases-loop-parts
+decreases-loop-parts l = length l.parts
