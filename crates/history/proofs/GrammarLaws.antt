@@ -1,5 +1,5 @@
 -- How a reader of a history, with its lines so far, comes to the history of a text or to its bad line.
-use Rattle.std.proofs.Common.{◌≡◌, ◌≢◌, ℕ, ◌+◌, ◌<◌, ◌≤◌, List, [], ◌∷◌, ◌++◌, map, length, take, refl, sym, ap, ◌∙◌, subst, arith, ⊎_elim, append_assoc, Bool, true, false, ◌==◌, Some, Result, Err}
+use Rattle.std.proofs.Common.{◌≡◌, ◌≢◌, ℕ, ◌+◌, ◌<◌, ◌≤◌, List, [], ◌∷◌, ◌++◌, map, length, take, refl, sym, ap, ◌∙◌, subst, arith, ⊎_elim, append_assoc, Bool, false, ◌==◌, Some, Result, Err}
 use Rattle.std.specs.Prelude.{IsTrue, ◌↔◌, IfErr, slice_get}
 use Rattle.std.specs.List.{AllByRecursion}
 use Rattle.std.proofs.lemmas.Bool.{cases_lt, false≢true}
@@ -10,7 +10,7 @@ use Rattle.std.proofs.lemmas.List.Splits.{join_with_byte-slice_split}
 use Rattle.rmm_spec.specs.declared.event.Event.{Event}
 use Rattle.rmm_spec.specs.declared.event.Event.TheVariants.{Called, Returned}
 use Rattle.rmm_spec.specs.Text.{IsBadLine, line_text, lines_text, parts_of}
-use Rattle.rmm_spec.specs.HistoryText.{Setup, History, IsHistory, InHistories, CanFollow, cpu_of, events_of, IsRecord, setup_parts, event_parts, history_text}
+use Rattle.rmm_spec.specs.HistoryText.{Setup, History, IsHistory, InHistories, CanFollow, cpu_of, setup_parts, event_parts, history_text}
 use Rattle.rmm_spec.proofs.Lines.{HasNoNewline, AreOneLineEach, IsLineGrammar, IsBadLine-line, IsBadLine-unfinished, IsBadLine-full, IsOneLine-from_parts, AreOneLineEach-map, map_cut, lines_text-push, IsBadLine-end}
 use Rattle.rmm_spec.proofs.Texts.{setup_parts-are_parts, setup_parts-injective, event_parts-are_parts, event_parts-some, event_parts-injective}
 use Rattle.rmm_spec.proofs.Places.{rank}
@@ -19,6 +19,7 @@ use Rattle.rmm_spec.proofs.HistoryGrammar.{not-IsBadLine-history}
 use Rattle.history.specs.Faults.{IsFaultOf}
 use Rattle.history.specs.declared.fault.HistoryFault.{HistoryFault}
 use Rattle.history.specs.declared.fault.HistoryFault.TheVariants.{BadLine}
+use Rattle.history.specs.Next.{Continues, HasNext}
 use Rattle.history.specs.Spelling.{IsHeaderOf, IsNoHeader, call_number, IsEventOf, IsNoEvent}
 use Rattle.history.proofs.DeskLaws.{next_rank, cpu_below}
 
@@ -75,13 +76,6 @@ history_text-header setup text front more is_text is_header =
     is_text ∙ ap (λ b. b ++ 10 ∷ more) (sym spelled) ∙ sym (append_assoc (line_text (setup_parts setup)) (10 ∷ []) more)
 
 -- ---- the events
-
--- the line after a history's is that of an event which may follow
-pub record HasNext (history : History) (line : List (List ℕ)) : Type 0 where
-  pub event : Event
-  pub can_follow : CanFollow history event
-  pub room : length history.events + 1 < 1000000
-  pub spelled : event_parts event ≡ line
 
 pub HasNext-lines : (history : History) (line : List (List ℕ)) → IsHistory history → AreHistoryLines (history_lines history ++ line ∷ []) → HasNext history line
 HasNext-lines history line is_history taken =
@@ -181,14 +175,12 @@ no_event history line none next =
     (record { is_event = next.can_follow.is_event; spelled = sym next.spelled })
 
 -- the event that has the parts doesn't go on
-pub no_record : (history : History) (line : List (List ℕ)) (event : Event) (answer : Bool) → IsEventOf history.setup.cpus line event
-    → IsTrue answer ↔ ((cpu_of event < history.setup.cpus) × IsRecord (events_of (cpu_of event) (history.events ++ event ∷ []))) → answer ≡ false
+pub no_continuation : (history : History) (line : List (List ℕ)) (event : Event) → IsEventOf history.setup.cpus line event → (Continues history event → ⊥)
     → HasNext history line → ⊥
-no_record history line event answer is_event continues fails next =
+no_continuation history line event is_event stops next =
     let same : next.event ≡ event = event_parts-injective next.event event (next.spelled ∙ is_event.spelled) in
     let can_follow : CanFollow history event = subst (CanFollow history) same next.can_follow in
-    let holds : answer ≡ true = continues.1 (cpu_below history.setup.cpus event is_event.is_event, can_follow.record_goes_on) in
-    false≢true (sym fails ∙ holds)
+    stops (cpu_below history.setup.cpus event is_event.is_event, can_follow.record_goes_on)
 
 -- the text with the next event, and what is left
 pub history_text-push : (history : History) (event : Event) (rest front more : List ℕ) → rest ≡ front ++ 10 ∷ more → IsEventOf history.setup.cpus (parts_of front) event
@@ -217,12 +209,3 @@ pub bad_line_outside : {T : Type 0} (text : List ℕ) (result : Result T History
     → InHistories text → ⊥
 bad_line_outside text result line told is given =
     not-IsBadLine-history text line given (subst (λ r. IfErr r (IsFaultOf text)) is told)
-
--- what follows in the code can follow
-pub CanFollow-continues : (history : History) (line : List (List ℕ)) (event : Event) (answer : Bool) → IsEventOf history.setup.cpus line event
-    → IsTrue answer ↔ ((cpu_of event < history.setup.cpus) × IsRecord (events_of (cpu_of event) (history.events ++ event ∷ []))) → answer ≡ true
-    → CanFollow history event
-CanFollow-continues history line event answer is_event continues holds = record {
-  is_event = is_event.is_event;
-  record_goes_on = (continues.0 holds).1;
-}

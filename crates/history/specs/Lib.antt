@@ -1,4 +1,5 @@
 pub mod View
+pub mod EventRef
 pub mod EventLog
 pub mod Index
 pub mod Room

@@ -2,10 +2,11 @@
 
 ghost use Rattle.std.specs.Prelude.{◌≡◌, ℕ, ◌+◌, ◌<◌, ◌≤◌, ◌↔◌, [], ◌∷◌, ◌++◌, length, slice_index, slice_index_or, IsTrue, IsOk, OnOk, MatchOption};
 ghost use Rattle.rmm_spec.proofs.Places.{rank};
+ghost use Rattle.history.specs.EventRef.{event_seen};
 ghost use Rattle.history.specs.Room.{spare};
 ghost use Rattle.history.specs.declared.desk.Desk.{Desk};
 
-use rmm_spec::Event;
+use crate::event_ref::EventRef;
 use std::alloc::{AllocError, Global};
 
 /// The places of a CPU's events. Calls and returns take turns, so that call n stands at 2n and its return behind it.
@@ -25,12 +26,12 @@ impl Desk {
     }
 
     /// Whether an event of this CPU is its next.
-    pub fn takes(&self, event: &Event) -> bool
-        ensures { IsTrue result ↔ (rank event.now ≡ length self.now.places.items) }
+    pub fn takes(&self, event: EventRef<'_>) -> bool
+        ensures { IsTrue result ↔ (rank (event_seen event.entry) ≡ length self.now.places.items) }
     {
         let rank = match event {
-            Event::Called { number, .. } => 2 * *number as usize,
-            Event::Returned { number, .. } => 2 * *number as usize + 1,
+            EventRef::Called { number, .. } => 2 * number as usize,
+            EventRef::Returned { number, .. } => 2 * number as usize + 1,
         };
         rank == self.places.len()
     }

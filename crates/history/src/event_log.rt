@@ -5,7 +5,9 @@ ghost use Rattle.rmm_spec.specs.declared.command.Command.{Command};
 ghost use Rattle.rmm_spec.specs.declared.reply.Reply.{Reply};
 ghost use Rattle.rmm_spec.specs.Linearization.{IsCalled, IsReturned};
 ghost use Rattle.history.specs.EventLog.{words_at, HasWithin, IsEntered};
+ghost use Rattle.history.specs.EventRef.{event_seen};
 
+use crate::event_ref::EventRef;
 use arrayvec::ArrayVec;
 use rmm_spec::{Command, Event, FunctionId, Reply};
 use std::alloc::{AllocError, Global};
@@ -107,9 +109,9 @@ impl EventLog {
     }
 
     /// Records an event at the end. It takes no memory where there is room.
-    pub fn push(&mut self, event: &Event) -> Result<(), AllocError>
+    pub fn push(&mut self, event: EventRef<'_>) -> Result<(), AllocError>
         requires { length self.old.events < MOST_EVENTS }
-        ensures ok { OnOk result (self.new.events ≡ self.old.events ++ event.now ∷ []) }
+        ensures ok { OnOk result (self.new.events ≡ self.old.events ++ event_seen event.entry ∷ []) }
         ensures err { OnErr result (self.new.events ≡ self.old.events) }
         ensures sure { 1 ≤ self.old.room → IsOk result }
         ensures room { self.old.room ≤ self.new.room + 1 }
@@ -206,40 +208,37 @@ impl EventLog {
 }
 
 /// Enters the words of an event behind all others, and gives its head.
-fn enter(words: &mut Vec<u64>, event: &Event) -> Result<Head, AllocError>
+fn enter(words: &mut Vec<u64>, event: EventRef<'_>) -> Result<Head, AllocError>
     requires { length words.old.items < 2 ^ 32 }
-    ensures ok { IfOk result (IsEntered words.old.items words.new.items event.now) }
+    ensures ok { IfOk result (IsEntered words.old.items words.new.items (event_seen event.entry)) }
     ensures err { OnErr result (words.new.items ≡ words.old.items) }
     ensures sure { vec_len words.old + 10 ≤ vec_capacity words.old → IsOk result }
     ensures capacity { vec_capacity words.old ≤ vec_capacity words.new }
 {
     match event {
-        Event::Called {
+        EventRef::Called {
             cpu,
             number,
             command,
         } => Ok(Head::Called {
-            cpu: *cpu,
+            cpu,
             function: command.function,
-            number: *number,
+            number,
             words: append(words, &command.words)?,
         }),
-        Event::Returned { cpu, number, reply } => match reply {
+        EventRef::Returned { cpu, number, reply } => match reply {
             Reply::Ok(given) => Ok(Head::Answered {
-                cpu: *cpu,
-                number: *number,
+                cpu,
+                number,
                 words: append(words, given)?,
             }),
             Reply::Err(status, index) => Ok(Head::Refused {
-                cpu: *cpu,
-                number: *number,
+                cpu,
+                number,
                 status: *status,
                 index: *index,
             }),
-            Reply::Misplaced => Ok(Head::Misplaced {
-                cpu: *cpu,
-                number: *number,
-            }),
+            Reply::Misplaced => Ok(Head::Misplaced { cpu, number }),
         },
     }
 }
@@ -320,11 +319,11 @@ mod tests {
         let mut log = EventLog::new(rt.alloc());
         assert!(rt; log.is_empty());
         log.make_room()?;
-        log.push(&called())?;
-        log.push(&returned(Reply::Ok(two_words())))?;
-        log.push(&returned(Reply::Err(3, 1)))?;
-        log.push(&returned(Reply::Misplaced))?;
-        log.push(&called())?;
+        log.push(EventRef::of(&called()))?;
+        log.push(EventRef::of(&returned(Reply::Ok(two_words()))))?;
+        log.push(EventRef::of(&returned(Reply::Err(3, 1))))?;
+        log.push(EventRef::of(&returned(Reply::Misplaced)))?;
+        log.push(EventRef::of(&called()))?;
         assert_eq!(rt; log.len(), 5);
         assert_eq!(rt; log.event(0), called());
         assert_eq!(rt; log.event(1), returned(Reply::Ok(two_words())));

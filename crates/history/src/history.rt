@@ -6,11 +6,13 @@ ghost use Rattle.rmm_spec.specs.declared.reply.Reply.{Reply};
 ghost use Rattle.rmm_spec.specs.HistoryText.{IsHistory, CanFollow, cpu_of};
 ghost use Rattle.rmm_spec.specs.Linearization.{IsCalled, IsReturned, IsKnown};
 ghost use Rattle.history.specs.Calls.{ArePlacesOf, IsCallOf};
+ghost use Rattle.history.specs.EventRef.{event_seen};
 ghost use Rattle.history.specs.Index.{IsDesk};
 ghost use Rattle.history.specs.Next.{HasText, Continues};
 
 use crate::desk::{Desk, make_room_at};
 use crate::event_log::{EventLog, MOST_EVENTS};
+use crate::event_ref::EventRef;
 use granule_state::Config;
 use rmi_codec::reply_has_text;
 use rmm_spec::{Command, Event, Reply};
@@ -146,12 +148,12 @@ impl History {
     pub fn fits(&self, event: &Event) -> bool
         ensures { IsTrue result ↔ CanFollow self.now.recorded event.now }
     {
-        has_text(event) && self.continues(event)
+        has_text(event) && self.continues(EventRef::of(event))
     }
 
     /// Whether an event is of one of the CPUs and its next.
-    pub(crate) fn continues(&self, event: &Event) -> bool
-        ensures { IsTrue result ↔ Continues self.now.recorded event.now }
+    pub(crate) fn continues(&self, event: EventRef<'_>) -> bool
+        ensures { IsTrue result ↔ Continues self.now.recorded (event_seen event.entry) }
     {
         match self.desk(cpu_of(event)) {
             Some(desk) => desk.takes(event),
@@ -185,14 +187,14 @@ impl History {
         ensures succeeds { 1 ≤ self.old.room → IsOk result }
         ensures left { self.old.room ≤ self.new.room + 1 }
     {
-        self.append(&event)
+        self.append(EventRef::of(&event))
     }
 
-    /// Records an event at the end, as `push` does. An event is large, so it isn't moved on the way.
-    pub(crate) fn append(&mut self, event: &Event) -> Result<(), AllocError>
-        requires follows { CanFollow self.old.recorded event.now }
+    /// Records an event at the end, as `push` does.
+    pub(crate) fn append(&mut self, event: EventRef<'_>) -> Result<(), AllocError>
+        requires follows { CanFollow self.old.recorded (event_seen event) }
         requires line { length self.old.recorded.events + 1 < MOST_LINES }
-        ensures ok { OnOk result (self.new.recorded ≡ record self.old.recorded { events = self.old.recorded.events ++ event.now ∷ [] }) }
+        ensures ok { OnOk result (self.new.recorded ≡ record self.old.recorded { events = self.old.recorded.events ++ event_seen event.entry ∷ [] }) }
         ensures err { OnErr result (self.new.recorded ≡ self.old.recorded) }
         ensures succeeds { 1 ≤ self.old.room → IsOk result }
         ensures left { self.old.room ≤ self.new.room + 1 }
@@ -257,11 +259,11 @@ impl History {
     }
 }
 
-fn cpu_of(event: &Event) -> u8
-    ensures { result ≡ cpu_of event.now }
+fn cpu_of(event: EventRef<'_>) -> u8
+    ensures { result ≡ cpu_of (event_seen event.entry) }
 {
     match event {
-        Event::Called { cpu, .. } | Event::Returned { cpu, .. } => *cpu,
+        EventRef::Called { cpu, .. } | EventRef::Returned { cpu, .. } => cpu,
     }
 }
 

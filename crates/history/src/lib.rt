@@ -7,6 +7,7 @@
 
 mod desk;
 mod event_log;
+mod event_ref;
 mod fault;
 mod history;
 mod laws;

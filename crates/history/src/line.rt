@@ -1,14 +1,13 @@
 //! The lines of a history.
 
-ghost use Rattle.std.specs.Prelude.{◌≡◌, IfSome, IfNone};
-ghost use Rattle.rmm_spec.specs.Text.{parts_of};
-ghost use Rattle.history.specs.Spelling.{kind_part, IsHeaderOf, IsNoHeader, IsEventOf, IsNoEvent};
+ghost use Rattle.std.specs.Prelude.{◌≡◌, ◌<◌, ◌∷◌, IfSome, IfNone};
+ghost use Rattle.rmm_spec.specs.Text.{decimal, parts_of};
+ghost use Rattle.history.specs.Spelling.{kind_part, IsHeaderOf, IsNoHeader, IsNoEvent};
 ghost use Rattle.history.specs.declared.line.Kind.{Kind};
 
 use crate::history::MOST_LINES;
 use granule_state::Config;
-use rmi_codec::{Parts, command_from, decimal_from, number_below, reply_from};
-use rmm_spec::Event;
+use rmi_codec::{Parts, decimal_from, number_below};
 
 /// The machine's size that a header spells.
 pub fn header_from(bytes: &[u8]) -> Option<Config>
@@ -29,7 +28,7 @@ pub fn header_from(bytes: &[u8]) -> Option<Config>
 
 /// What a line after the header begins with.
 #[derive(Clone, Copy)]
-enum Kind {
+pub enum Kind {
     Call,
     Return,
 }
@@ -46,31 +45,14 @@ fn kind_from(part: &[u8]) -> Option<Kind>
     }
 }
 
-/// The event that a line spells, for a machine of so many CPUs.
-pub fn event_from(cpus: u8, bytes: &[u8]) -> Option<Event>
-    ensures found { IfSome result (IsEventOf cpus (parts_of bytes.now)) }
-    ensures none { IfNone result (IsNoEvent cpus (parts_of bytes.now)) }
+/// The kind of an event with the CPU and the number of its call, which stand before its command or reply.
+pub fn beginning_from(cpus: u8, parts: &mut Parts<'_>) -> Option<(Kind, u8, u32)>
+    ensures found { IfSome result (λ b. parts.old ≡ kind_part b.0 ∷ decimal b.1 ∷ decimal b.2 ∷ parts.new) }
+    ensures below { IfSome result (λ b. b.1 < cpus) }
+    ensures none { IfNone result (IsNoEvent cpus parts.old) }
 {
-    let mut parts = Parts::of(bytes);
     let kind = kind_from(parts.next_part()?)?;
-    let cpu = number_below(&mut parts, u32::from(cpus))? as u8;
-    let number = number_below(&mut parts, MOST_LINES as u32)?;
-    match kind {
-        Kind::Call => {
-            let Ok(command) = command_from(parts) else {
-                return None;
-            };
-            Some(Event::Called {
-                cpu,
-                number,
-                command,
-            })
-        }
-        Kind::Return => {
-            let Ok(reply) = reply_from(parts) else {
-                return None;
-            };
-            Some(Event::Returned { cpu, number, reply })
-        }
-    }
+    let cpu = number_below(parts, u32::from(cpus))? as u8;
+    let number = number_below(parts, MOST_LINES as u32)?;
+    Some((kind, cpu, number))
 }

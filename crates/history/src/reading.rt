@@ -1,14 +1,18 @@
 //! Texts, read to histories.
 
-ghost use Rattle.std.specs.Prelude.{◌≡◌, ◌<◌, ◌++◌, length, IfOk, IfErr};
-ghost use Rattle.rmm_spec.specs.HistoryText.{IsHistoryText, history_text};
+ghost use Rattle.std.specs.Prelude.{◌≡◌, ◌+◌, ◌<◌, [], ◌∷◌, ◌++◌, length, false, IsTrue, IfOk, IfErr};
+ghost use Rattle.rmm_spec.specs.HistoryText.{IsEvent, IsHistoryText, history_text};
+ghost use Rattle.rmm_spec.specs.Text.{parts_of};
+ghost use Rattle.history.specs.EventRef.{event_seen};
 ghost use Rattle.history.specs.Faults.{IsFaultOf};
+ghost use Rattle.history.specs.Next.{Continues, HasNext, HasRecorded};
 
+use crate::event_ref::EventRef;
 use crate::fault::HistoryFault;
-use crate::history::History;
-use crate::line::{event_from, header_from};
-use rmi_codec::next_line;
-use std::alloc::Global;
+use crate::history::{History, MOST_LINES};
+use crate::line::{Kind, beginning_from, header_from};
+use rmi_codec::{Parts, command_from, next_line, reply_from};
+use std::alloc::{AllocError, Global};
 
 /// Reads a history. A line that would be its 1,000,001st is bad, and so is the first of a text without any.
 pub fn read(alloc: Global, text: &[u8]) -> Result<History, HistoryFault>
@@ -53,15 +57,61 @@ fn read_event<'a>(history: &mut History, rest: &'a [u8]) -> Result<&'a [u8], His
     let Some((line, more)) = next_line(rest) else {
         return Err(bad_line);
     };
-    let event = event_from(history.config().cpus(), line);
-    let Some(event) = &event else {
-        return Err(bad_line);
-    };
-    if !history.continues(event) {
+    if !record_line(history, line)? {
         return Err(bad_line);
     }
-    history.append(event)?;
     Ok(more)
+}
+
+/// Records the event that a line spells, where one is spelled that can be next.
+fn record_line(history: &mut History, line: &[u8]) -> Result<bool, AllocError>
+    requires room { length history.old.recorded.events + 1 < MOST_LINES }
+    ensures recorded { IfOk result (λ done. IsTrue done → HasRecorded history.old.recorded history.new.recorded (parts_of line.now)) }
+    ensures refused { IfOk result (λ done. done ≡ false → ¬ HasNext history.old.recorded (parts_of line.now)) }
+{
+    let mut parts = Parts::of(line);
+    let cpus = history.config().cpus();
+    let Some((kind, cpu, number)) = beginning_from(cpus, &mut parts) else {
+        return Ok(false);
+    };
+    match kind {
+        Kind::Call => {
+            let Ok(command) = command_from(parts) else {
+                return Ok(false);
+            };
+            let command = &command;
+            record(
+                history,
+                EventRef::Called {
+                    cpu,
+                    number,
+                    command,
+                },
+            )
+        }
+        Kind::Return => {
+            let Ok(reply) = reply_from(parts) else {
+                return Ok(false);
+            };
+            let reply = &reply;
+            record(history, EventRef::Returned { cpu, number, reply })
+        }
+    }
+}
+
+/// Records an event, where it is its CPU's next.
+fn record(history: &mut History, event: EventRef<'_>) -> Result<bool, AllocError>
+    requires is_event { IsEvent history.old.recorded.setup.cpus (event_seen event) }
+    requires room { length history.old.recorded.events + 1 < MOST_LINES }
+    ensures recorded { IfOk result (λ done. IsTrue done
+        → history.new.recorded ≡ record history.old.recorded { events = history.old.recorded.events ++ event_seen event.entry ∷ [] }) }
+    ensures refused { IfOk result (λ done. done ≡ false → ¬ Continues history.old.recorded (event_seen event.entry)) }
+{
+    if !history.continues(event) {
+        return Ok(false);
+    }
+    history.append(event)?;
+    Ok(true)
 }
 
 #[cfg(test)]

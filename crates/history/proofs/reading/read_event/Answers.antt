@@ -1,6 +1,5 @@
 use Rattle.std.proofs.Common.{◌≢◌, ◌<◌, ℕ, List, [], length, ap, arith}
-use Rattle.rmm_spec.specs.Text.{parts_of}
-use Rattle.history.proofs.GrammarLaws.{full_lines, bad_line, unfinished_line, line_too_many, no_event, no_record, history_text-push}
+use Rattle.history.proofs.GrammarLaws.{full_lines, bad_line, unfinished_line, line_too_many, history_text-push}
 use Rattle.history.proofs.reading.read_event.Goals as goal
 
 -- the text goes on
@@ -18,24 +17,14 @@ returns-in_default-clause-fault c =
     rw c.len.ensures
     (unfinished_line c.args.history.now.recorded c.args.rest.now c.well_formed-2.ensures c.in_default.ensures.unfinished (goes_on c.args.rest.now c.requires))
 
-pub returns-in_default-event-clause-fault : goal.returns-in_default-event-clause-fault
-returns-in_default-event-clause-fault c =
-    let none = rw (c.in_default-event.is, c.cpus.ensures.count, c.config.ensures) at c.event_from-event.ensures.none in
+pub returns-then-not-branch-clause-fault : goal.returns-then-not-branch-clause-fault
+returns-then-not-branch-clause-fault c =
     rw c.len.ensures
     (bad_line c.args.history.now.recorded c.args.rest.now c.in-Some.line.now c.in-Some.more.now c.well_formed-2.ensures c.in-Some.ensures.line
-    c.in-Some.ensures.no_newline (no_event c.args.history.now.recorded (parts_of c.in-Some.line.now) none))
-
-pub returns-then-not-continues-clause-fault : goal.returns-then-not-continues-clause-fault
-returns-then-not-continues-clause-fault c =
-    let found = rw (c.in-Some-event.is, c.cpus.ensures.count, c.config.ensures) at c.event_from-event.ensures.found in
-    rw c.len.ensures
-    (bad_line c.args.history.now.recorded c.args.rest.now c.in-Some.line.now c.in-Some.more.now c.well_formed-2.ensures c.in-Some.ensures.line
-    c.in-Some.ensures.no_newline
-    (no_record c.args.history.now.recorded (parts_of c.in-Some.line.now) c.in-Some-event.event c.continues.result found c.continues.ensures
-    c.if-not-continues.true))
+    c.in-Some.ensures.no_newline (c.in_ok-record_line.ensures.refused c.if-not-branch.true))
 
 pub returns-clause-read : goal.returns-clause-read
 returns-clause-read c =
-    let found = rw (c.in-Some-event.is, c.cpus.ensures.count, c.config.ensures) at c.event_from-event.ensures.found in
-    rw c.in_ok-append.ensures.ok
-    (history_text-push c.args.history.now.recorded c.in-Some-event.event c.args.rest.now c.in-Some.line.now c.in-Some.more.now c.in-Some.ensures.line found)
+    let done = c.in_ok-record_line.ensures.recorded c.if-not-branch.false in
+    rw done.recorded
+    (history_text-push c.args.history.now.recorded done.event c.args.rest.now c.in-Some.line.now c.in-Some.more.now c.in-Some.ensures.line done.is_event)

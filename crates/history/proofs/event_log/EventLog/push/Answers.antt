@@ -1,4 +1,5 @@
 use Rattle.std.proofs.Common.{◌<◌, ◌++◌, ◌∷◌, [], length, sym, ap, ◌∙◌, subst}
+use Rattle.history.specs.EventRef.{event_seen}
 use Rattle.history.proofs.EventLogLaws.{IsHeld-entered, events_in-entered}
 use Rattle.history.specs.EventLog.{events_in}
 use Rattle.history.specs.declared.event_log.TheConstants.{MOST_EVENTS}
@@ -15,6 +16,6 @@ invariant_of-self-2 c =
 pub returns-clause-ok : goal.returns-clause-ok
 returns-clause-ok c =
     let inside = c.self.inside in
-    events_in-entered inside.words.items c.enter.new.words.items inside.heads.items c.push_reserved.new.self.items c.args.event.now c.in_ok-head.head
+    events_in-entered inside.words.items c.enter.new.words.items inside.heads.items c.push_reserved.new.self.items (event_seen c.args.event) c.in_ok-head.head
     c.self.invariant c.in_ok-head.ensures.ok (c.push_reserved.ensures.items ∙ ap (λ hs. hs ++ c.in_ok-head.head ∷ []) c.reserve.ensures.items)
-    ∙ ap (λ log. log.events ++ c.args.event.now ∷ []) c.self.view_is
+    ∙ ap (λ log. log.events ++ (event_seen c.args.event) ∷ []) c.self.view_is

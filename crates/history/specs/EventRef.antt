@@ -1,0 +1,9 @@
+-- What an event that is seen says.
+use Rattle.rmm_spec.specs.declared.event.Event.{Event}
+use Rattle.rmm_spec.specs.declared.event.Event.TheVariants as event
+use Rattle.history.specs.declared.event_ref.EventRef.{EventRef}
+use Rattle.history.specs.declared.event_ref.EventRef.TheVariants as seen
+
+abbrev pub event_seen : EventRef → Event
+event_seen (seen.Called cpu number command) = event.Called cpu number command.now
+event_seen (seen.Returned cpu number reply) = event.Returned cpu number reply.now

@@ -1,0 +1,44 @@
+//! Events, seen where their parts lie.
+
+ghost use Rattle.std.specs.Prelude.{◌≡◌};
+ghost use Rattle.history.specs.EventRef.{event_seen};
+
+use rmm_spec::{Command, Event, Reply};
+
+/// An event whose command or reply lies elsewhere. An event of its own is large to move.
+#[derive(Clone, Copy)]
+pub enum EventRef<'a> {
+    Called {
+        cpu: u8,
+        number: u32,
+        command: &'a Command,
+    },
+    Returned {
+        cpu: u8,
+        number: u32,
+        reply: &'a Reply,
+    },
+}
+
+impl<'a> EventRef<'a> {
+    pub fn of(event: &'a Event) -> EventRef<'a>
+        ensures { event_seen result ≡ event.now }
+    {
+        match event {
+            Event::Called {
+                cpu,
+                number,
+                command,
+            } => EventRef::Called {
+                cpu: *cpu,
+                number: *number,
+                command,
+            },
+            Event::Returned { cpu, number, reply } => EventRef::Returned {
+                cpu: *cpu,
+                number: *number,
+                reply,
+            },
+        }
+    }
+}
