@@ -4,7 +4,7 @@
 usage: speed.py [LINES ..]
 
 Without words it takes 10000, 100000 and 1000000 lines. Each size is measured under both loads of generate.py. The files
-are generated anew, and each time is the least of five runs, taken in turns. Memory is the greatest resident size of one
+are generated anew, and each time is the least of twenty runs, taken in turns. Memory is the greatest resident size of one
 run of the checker, and beside it that size over the history's lines.
 """
 import os
@@ -16,7 +16,7 @@ import time
 HERE = os.path.dirname(os.path.abspath(__file__))
 TOP = os.path.dirname(HERE)
 PROGRAM = os.path.join(TOP, "crates", "rmmcheck", "out", "rmmcheck")
-RUNS = 5
+RUNS = 20
 
 
 def run(words):
