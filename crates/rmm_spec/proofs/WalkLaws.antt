@@ -5,9 +5,10 @@ use Rattle.std.proofs.lemmas.Bool.Decides.{nat_tests}
 use Rattle.rmm_spec.specs.declared.entry.Entry.{Entry}
 use Rattle.rmm_spec.specs.declared.entry.Entry.TheVariants.{Unassigned, Assigned, Table, UnassignedNs, AssignedNs}
 use Rattle.rmm_spec.specs.State.{State}
+use Rattle.rmm_spec.specs.declared.accepted.Stretch.{Stretch}
+use Rattle.rmm_spec.specs.Step.Ripas.{can_be_set, has_room, IsReached}
+use Rattle.rmm_spec.proofs.Tests.{both_ways}
 use Rattle.rmm_spec.specs.Walk.{entry_size, table_size, entry_number, table_number, is_multiple, is_table, linked_entry, entry_at, entry_for, reach, IsWalk}
-use Rattle.rmm_spec.specs.Step.Ripas.{IsStretch, has_room}
-use Rattle.rmm_spec.proofs.RowLaws.{both_ways}
 
 -- ---- sizes
 
@@ -177,14 +178,17 @@ entry_in_table base size multiple =
     rw number (omega arith)
 
 -- where an entry is a stretch by itself: it ends by top, and by the end of its table
-pub first_stretch : (s : State) (rd base top level : ℕ) (passes : Entry → Bool) → level ≤ 3
-    → IsTrue (has_room base top level) → IsTrue (passes (entry_for s rd level base))
-    → IsStretch s rd base top level passes (base + entry_size level)
+pub first_reached : (s : State) (stretch : Stretch) → stretch.level ≤ 3
+    → IsTrue (has_room stretch.base stretch.top stretch.level)
+    → IsTrue (can_be_set stretch.purpose (entry_for s stretch.rd stretch.level stretch.base))
+    → IsReached s stretch (stretch.base + entry_size stretch.level)
 unfolding table_number
-first_stretch s rd base top level passes within room here =
-    let tests = both_true (is_multiple base (entry_size level)) (nat_le (base + entry_size level) top) room in
+first_reached s stretch within room here =
+    let base = stretch.base in
+    let level = stretch.level in
+    let tests = both_true (is_multiple base (entry_size level)) (nat_le (base + entry_size level) stretch.top) room in
     let multiple : base % entry_size level ≡ 0 = grind (arith, nat_tests, tests.0) in
-    let ends : base + entry_size level ≤ top = grind (arith, nat_tests, tests.1) in
+    let ends : base + entry_size level ≤ stretch.top = grind (arith, nat_tests, tests.1) in
     record {
       count = 1;
       some = omega arith;

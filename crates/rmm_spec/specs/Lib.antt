@@ -8,11 +8,13 @@ pub mod State
 pub mod Walk
 pub mod Table
 pub mod Measure
+pub mod Call
 pub mod Rows
+pub mod Change
 pub mod Step
 pub mod Run
 pub mod Script
 pub mod Linearization
-pub mod Change
+pub mod Footprint
 pub mod Ownership
 pub mod Judgement

@@ -1,16 +1,16 @@
 -- Who owns a granule, read from commands and replies alone, and that the state agrees: no granule has two owners,
 -- and what a realm's protected addresses reach is data of that realm alone. This project's own statement of isolation.
-use Rattle.std.specs.Prelude.{◌≡◌, ℕ, ◌≤◌, Bool, true, false, ◌&&◌, ◌==◌, if◌then◌else◌, List, [], ◌∷◌, ◌⊎◌, ◌↔◌, length, slice_index, Contains, Some, IsSome}
+use Rattle.std.specs.Prelude.{◌≡◌, ℕ, ◌≤◌, Bool, true, false, ◌&&◌, ◌==◌, if◌then◌else◌, List, [], ◌∷◌, ◌++◌, ◌⊎◌, ◌↔◌, length, slice_index, Contains, Option, Some, None, IsSome, unwrap_or}
 use Rattle.std.specs.List.{filter}
 use Rattle.rmm_spec.specs.declared.entry.Entry.TheVariants.{Assigned}
 use Rattle.rmm_spec.specs.declared.tag.Ripas.{Ripas}
-use Rattle.rmm_spec.specs.declared.function_id.FunctionId.{FunctionId}
-use Rattle.rmm_spec.specs.declared.function_id.FunctionId.TheVariants.{RealmCreate, RealmDestroy, RecCreate, RecDestroy, RttCreate, RttDestroy, DataCreate, DataCreateUnknown, DataDestroy}
+use Rattle.rmm_spec.specs.declared.call.Call.{Call}
+use Rattle.rmm_spec.specs.declared.call.Call.TheVariants as call
 use Rattle.rmm_spec.specs.declared.reply.Reply.{Reply}
 use Rattle.rmm_spec.specs.declared.reply.Reply.TheVariants as reply
 use Rattle.rmm_spec.specs.declared.tag.Tag.{Tag}
 use Rattle.rmm_spec.specs.declared.tag.Tag.TheVariants.{Undelegated, Delegated, Rd, Rec, RecAux, Data, Rtt}
-use Rattle.rmm_spec.specs.Function.{number_of}
+use Rattle.rmm_spec.specs.Call.{call_of}
 use Rattle.rmm_spec.specs.State.{State, RecRecord, tag_number}
 use Rattle.rmm_spec.specs.Run.{JournalEntry}
 
@@ -36,40 +36,63 @@ is_accepted (reply.Ok words) = true
 is_accepted (reply.Err status index) = false
 is_accepted reply.Misplaced = false
 
--- the words of the latest accepted command of that function that has the value at a place among its words, or none
-abbrev pub latest : FunctionId → ℕ → ℕ → List JournalEntry → List ℕ
-latest function place value [] = []
-latest function place value (entry ∷ earlier) =
-    if is_accepted entry.given && number_of entry.command.function == number_of function && slice_index entry.command.words.items place == value
-    then entry.command.words.items else latest function place value earlier
+-- what the latest accepted command that is one of these made, or this where none was
+abbrev pub latest : {A : Type 0} → (Call → Option A) → A → List JournalEntry → A
+latest made otherwise [] = otherwise
+latest made otherwise (entry ∷ earlier) =
+    unwrap_or (if is_accepted entry.given then made (call_of entry.command) else None) (latest made otherwise earlier)
 
--- the open claims after an accepted command with these words and reply words; earlier entries latest first
-abbrev pub claims_accepted : FunctionId → List ℕ → List ℕ → List JournalEntry → List Claim → List Claim
-claims_accepted RealmCreate words given earlier held =
-    let rd = slice_index words 0 in claim rd Rd rd ∷ claim (slice_index words 1) Rtt rd ∷ held
-claims_accepted RealmDestroy words given earlier held =
-    let rd = slice_index words 0 in
-    let root = slice_index (latest RealmCreate 0 rd earlier) 1 in
-    without_claim (claim rd Rd rd) (without_claim (claim root Rtt rd) held)
-claims_accepted RecCreate words given earlier held =
-    let rd = slice_index words 0 in
-    claim (slice_index words 1) Rec rd ∷ claim (slice_index words 4) RecAux rd ∷ claim (slice_index words 5) RecAux rd ∷ held
-claims_accepted RecDestroy words given earlier held =
-    let rec = slice_index words 0 in
-    let made = latest RecCreate 1 rec earlier in
-    let rd = slice_index made 0 in
-    without_claim (claim rec Rec rd) (without_claim (claim (slice_index made 4) RecAux rd) (without_claim (claim (slice_index made 5) RecAux rd) held))
-claims_accepted RttCreate words given earlier held = claim (slice_index words 1) Rtt (slice_index words 0) ∷ held
-claims_accepted RttDestroy words given earlier held = without_claim (claim (slice_index given 0) Rtt (slice_index words 0)) held
-claims_accepted DataCreate words given earlier held = claim (slice_index words 1) Data (slice_index words 0) ∷ held
-claims_accepted DataCreateUnknown words given earlier held = claim (slice_index words 1) Data (slice_index words 0) ∷ held
-claims_accepted DataDestroy words given earlier held = without_claim (claim (slice_index given 0) Data (slice_index words 0)) held
-claims_accepted _ words given earlier held = held
+-- the root of the realm, where the command made it
+abbrev pub root_made : ℕ → Call → Option ℕ
+root_made rd (call.RealmCreate other root width level vmid algo) = if other == rd then Some root else None
+root_made rd _ = None
+
+-- a REC's realm and auxiliary granules
+pub record RecParts : Type 0 where
+  pub rd : ℕ
+  pub aux0 : ℕ
+  pub aux1 : ℕ
+
+-- the parts of the REC, where the command made it
+abbrev pub rec_made : ℕ → Call → Option RecParts
+rec_made rec (call.RecCreate rd other mpidr flags aux0 aux1) = if other == rec then Some (record { rd = rd; aux0 = aux0; aux1 = aux1 }) else None
+rec_made rec _ = None
+
+abbrev pub latest_root : ℕ → List JournalEntry → ℕ
+latest_root rd earlier = latest (root_made rd) 0 earlier
+
+abbrev pub latest_rec : ℕ → List JournalEntry → RecParts
+latest_rec rec earlier = latest (rec_made rec) (record { rd = 0; aux0 = 0; aux1 = 0 }) earlier
+
+abbrev pub rec_claims : ℕ → RecParts → List Claim
+rec_claims rec parts = claim rec Rec parts.rd ∷ claim parts.aux0 RecAux parts.rd ∷ claim parts.aux1 RecAux parts.rd ∷ []
+
+-- the claims that an accepted command opens
+unfoldable pub claims_opened : Call → List Claim
+claims_opened (call.RealmCreate rd root width level vmid algo) = claim rd Rd rd ∷ claim root Rtt rd ∷ []
+claims_opened (call.RecCreate rd rec mpidr flags aux0 aux1) = rec_claims rec (record { rd = rd; aux0 = aux0; aux1 = aux1 })
+claims_opened (call.RttCreate rd rtt ipa level) = claim rtt Rtt rd ∷ []
+claims_opened (call.DataCreate rd granule ipa source flags digest) = claim granule Data rd ∷ []
+claims_opened (call.DataCreateUnknown rd granule ipa) = claim granule Data rd ∷ []
+claims_opened _ = []
+
+-- the claims that an accepted command with these reply words closes; earlier commits latest first
+unfoldable pub claims_closed : Call → List ℕ → List JournalEntry → List Claim
+claims_closed (call.RealmDestroy rd) words earlier = claim rd Rd rd ∷ claim (latest_root rd earlier) Rtt rd ∷ []
+claims_closed (call.RecDestroy rec) words earlier = rec_claims rec (latest_rec rec earlier)
+claims_closed (call.RttDestroy rd ipa level) words earlier = claim (slice_index words 0) Rtt rd ∷ []
+claims_closed (call.DataDestroy rd ipa) words earlier = claim (slice_index words 0) Data rd ∷ []
+claims_closed _ words earlier = []
+
+-- the open claims without each of those that are closed
+abbrev pub without_claims : List Claim → List Claim → List Claim
+without_claims [] claims = claims
+without_claims (closed ∷ others) claims = without_claim closed (without_claims others claims)
 
 -- the open claims after one more commit
 abbrev pub claims_after : Reply → JournalEntry → List JournalEntry → List Claim → List Claim
 claims_after (reply.Ok given) entry earlier held =
-    claims_accepted entry.command.function entry.command.words.items given.items earlier held
+    claims_opened (call_of entry.command) ++ without_claims (claims_closed (call_of entry.command) given.items earlier) held
 claims_after (reply.Err status index) entry earlier held = held
 claims_after reply.Misplaced entry earlier held = held
 

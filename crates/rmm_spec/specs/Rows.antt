@@ -1,30 +1,32 @@
 -- A command's rows as data: what must hold, and what is answered where it doesn't.
-use Rattle.std.specs.Prelude.{◌≡◌, ℕ, zero, suc, ◌+◌, Bool, false, not, List, [], ◌∷◌, ◌⊎◌, IsTrue, is_none, slice_index}
+-- Statuses and their order are those of DEN0137 (RMI_ERROR_INPUT, RMI_ERROR_REALM, RMI_ERROR_REC, RMI_ERROR_RTT).
+use Rattle.std.specs.Prelude.{ℕ, Bool, List, [], ◌∷◌, Result, Ok, Err, if◌then◌else◌}
+use Rattle.rmm_spec.specs.declared.accepted.Accepted.{Accepted}
+use Rattle.rmm_spec.specs.declared.accepted.Accepted.TheVariants.{Done}
+use Rattle.rmm_spec.specs.declared.change.Change.{Change}
 use Rattle.rmm_spec.specs.declared.reply.Reply.{Reply}
 use Rattle.rmm_spec.specs.declared.reply.Reply.TheVariants as reply
 use Rattle.rmm_spec.specs.declared.tag.Tag.{Tag}
-use Rattle.rmm_spec.specs.State.{State, RecRecord, has_tag, is_inside}
+use Rattle.rmm_spec.specs.State.{State, has_tag}
 
 pub record Row : Type 0 where
   pub holds : Bool
   pub otherwise : Reply
 
-abbrev pub ok : List ℕ → Reply
-ok words = reply.Ok (record { items = words })
-
--- The reply is that of the first row that doesn't hold, and nothing changes. Where all hold, Rest says the rest.
-abbrev pub Answers : List Row → State → Reply → State → Type 0 → Type 0
-Answers [] old given new Rest = Rest
-Answers (row ∷ rows) old given new Rest =
-    (IsTrue row.holds × Answers rows old given new Rest) ⊎ ((row.holds ≡ false) × (given ≡ row.otherwise) × (new ≡ old))
+-- the reply of the first row that doesn't hold, or what is done where all hold
+abbrev pub decided : List Row → Accepted → Result Accepted Reply
+decided [] accepted = Ok accepted
+decided (row ∷ rows) accepted = if row.holds then decided rows accepted else Err row.otherwise
 
 abbrev pub row : Bool → Reply → Row
 row holds otherwise = record { holds = holds; otherwise = otherwise }
 
--- so many words from a place on
-abbrev pub words_at : List ℕ → ℕ → ℕ → List ℕ
-words_at words place zero = []
-words_at words place (suc count) = slice_index words place ∷ words_at words (place + 1) count
+abbrev pub ok : List ℕ → Reply
+ok words = reply.Ok (record { items = words })
+
+-- the reply has these words, and this is changed
+abbrev pub done : List ℕ → Change → Accepted
+done words change = Done (record { items = words }) change
 
 -- ---- statuses
 
@@ -46,22 +48,21 @@ table_error level = reply.Err 4 level
 
 -- ---- rows
 
--- the host's commands are given outside of RECs
-abbrev pub outside : State → ℕ → Row
-outside s cpu = row (not (is_inside s cpu)) reply.Misplaced
-
--- a realm's calls and the exit are given inside of a REC
-abbrev pub inside : State → ℕ → Row
-inside s cpu = row (is_inside s cpu) reply.Misplaced
-
--- a REC that waits to leave gives no calls
-abbrev pub unpending : RecRecord → Row
-unpending rec = row (is_none rec.pending) reply.Misplaced
-
 -- what the words say is allowed, else ERROR_INPUT
 abbrev pub input : Bool → Row
 input allowed = row allowed input_error
 
--- the granule has the tag, else ERROR_INPUT
-abbrev pub tagged : State → ℕ → Tag → Row
-tagged s address tag = row (has_tag s address tag) (reply.Err 1 0)
+-- each is allowed, before the rows behind
+abbrev pub inputs : List Bool → List Row → List Row
+inputs [] rows = rows
+inputs (allowed ∷ others) rows = input allowed ∷ inputs others rows
+
+-- a granule that a command names, and the tag that it needs there
+pub record Needed : Type 0 where
+  pub granule : ℕ
+  pub tag : Tag
+
+-- each granule has its tag, else ERROR_INPUT, before the rows behind
+abbrev pub tagged : State → List Needed → List Row → List Row
+tagged s [] rows = rows
+tagged s (needed ∷ others) rows = input (has_tag s needed.granule needed.tag) ∷ tagged s others rows

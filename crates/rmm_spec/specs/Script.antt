@@ -1,12 +1,60 @@
--- Worked scripts: runs of CPU 0 on a machine of 16 granules, written out with their replies.
-use Rattle.std.specs.Prelude.{ℕ, List, [], ◌∷◌}
+-- Worked scripts: runs of CPU 0 on a machine of 16 granules, written out with their replies, and how one is replayed.
+use Rattle.std.specs.Prelude.{ℕ, Bool, true, false, ◌&&◌, ◌==◌, if◌then◌else◌, List, [], ◌∷◌, Option, Some, None, Result, Ok, Err, option_map}
+use Rattle.std.specs.Option.{option_and_then}
+use Rattle.rmm_spec.specs.declared.accepted.Accepted.{Accepted}
+use Rattle.rmm_spec.specs.declared.accepted.Accepted.TheVariants.{Done, Reaches}
 use Rattle.rmm_spec.specs.declared.function_id.FunctionId.{FunctionId}
 use Rattle.rmm_spec.specs.declared.function_id.FunctionId.TheVariants.{GranuleDelegate, DataCreate, DataCreateUnknown, DataDestroy, RealmActivate, RealmCreate, RealmDestroy, RecCreate, RecDestroy, RecEnter, RttCreate, RttDestroy, RttMapUnprotected, RttReadEntry, RttInitRipas, RttSetRipas, MeasurementRead, MeasurementExtend, IpaStateSet, IpaStateGet, HostCall, CpuOff, SystemOff, Exit}
 use Rattle.rmm_spec.specs.declared.reply.Reply.{Reply}
 use Rattle.rmm_spec.specs.declared.reply.Reply.TheVariants as reply
 use Rattle.rmm_spec.specs.HistoryText.{Setup}
 use Rattle.rmm_spec.specs.Rows.{ok}
+use Rattle.rmm_spec.specs.Call.{call_of}
+use Rattle.rmm_spec.specs.Change.{changed}
+use Rattle.rmm_spec.specs.State.{State}
+use Rattle.rmm_spec.specs.Step.{outcome}
+use Rattle.rmm_spec.specs.Step.Ripas.{is_reached, reached_change}
 use Rattle.rmm_spec.specs.Run.{JournalEntry}
+
+-- ---- replays
+
+abbrev pub are_same_words : List ℕ → List ℕ → Bool
+are_same_words [] [] = true
+are_same_words (a ∷ others) (b ∷ rest) = a == b && are_same_words others rest
+are_same_words [] (b ∷ rest) = false
+are_same_words (a ∷ others) [] = false
+
+abbrev pub is_same_reply : Reply → Reply → Bool
+is_same_reply (reply.Ok a) (reply.Ok b) = are_same_words a.items b.items
+is_same_reply (reply.Err a i) (reply.Err b j) = a == b && i == j
+is_same_reply reply.Misplaced reply.Misplaced = true
+is_same_reply _ _ = false
+
+-- the one word, where it is allowed
+abbrev pub end_among : List ℕ → (ℕ → Bool) → Option ℕ
+end_among [] is_allowed = None
+end_among (top ∷ []) is_allowed = if is_allowed top then Some top else None
+end_among (top ∷ (other ∷ others)) is_allowed = None
+
+-- the end of a stretch that a reply gives, where the specification allows it
+abbrev pub end_given : Reply → (ℕ → Bool) → Option ℕ
+end_given (reply.Ok words) is_allowed = end_among words.items is_allowed
+end_given (reply.Err status index) is_allowed = None
+end_given reply.Misplaced is_allowed = None
+
+-- the next state, where what the specification answers is this reply
+abbrev pub next_by : Result Accepted Reply → State → Reply → Option State
+next_by (Err refusal) s given = if is_same_reply given refusal then Some s else None
+next_by (Ok (Done words change)) s given = if is_same_reply given (reply.Ok words) then Some (changed s change) else None
+next_by (Ok (Reaches stretch)) s given = option_map (λ top. changed s (reached_change stretch top)) (end_given given (is_reached s stretch))
+
+-- the last state, where the specification gives each reply
+unfoldable pub replay : State → List JournalEntry → Option State
+replay s [] = Some s
+replay s (entry ∷ entries) =
+    option_and_then (λ next. replay next entries) (next_by (outcome s entry.cpu (call_of entry.command)) s entry.given)
+
+-- ---- scripts
 
 -- the machine of the scripts
 abbrev pub script_setup : Setup

@@ -1,6 +1,6 @@
 -- The flat state of the specification machine: maps from addresses, of which none knows how a monitor keeps them.
 -- After DEN0137 (granules, realms, RECs, translation tables), cut down to this project's profile.
-use Rattle.std.specs.Prelude.{ℕ, zero, suc, ◌+◌, ◌*◌, ◌/◌, ◌%◌, Bool, false, ◌&&◌, ◌||◌, nat_lt, nat_le, ◌==◌, if◌then◌else◌, List, [], Option, Some, None, option_map, unwrap_or}
+use Rattle.std.specs.Prelude.{ℕ, zero, suc, ◌+◌, ◌*◌, ◌/◌, ◌%◌, Bool, true, false, ◌&&◌, ◌||◌, nat_lt, nat_le, ◌==◌, if◌then◌else◌, List, [], Option, Some, None, option_map, unwrap_or}
 use Rattle.rmm_spec.specs.declared.entry.Entry.{Entry}
 use Rattle.rmm_spec.specs.declared.entry.Entry.TheVariants.{Unassigned, Assigned, Table, UnassignedNs, AssignedNs}
 use Rattle.rmm_spec.specs.declared.tag.RealmState.{RealmState}
@@ -176,6 +176,11 @@ has_tag s address tag = is_granule s.granules address && tag_number (s.tag addre
 abbrev pub any_below : ℕ → (ℕ → Bool) → Bool
 any_below zero passes = false
 any_below (suc n) passes = passes n || any_below n passes
+
+-- whether each number below n passes
+abbrev pub all_below : ℕ → (ℕ → Bool) → Bool
+all_below zero passes = true
+all_below (suc n) passes = passes n && all_below n passes
 
 abbrev pub is_cpu : ℕ → Option ℕ → Bool
 is_cpu cpu None = false

@@ -1,4 +1,7 @@
 -- What the machine may reply to a command, and its next state.
+pub mod Words
+pub mod Named
+pub mod Front
 pub mod Granule
 pub mod Realm
 pub mod Rec
@@ -7,51 +10,75 @@ pub mod Data
 pub mod Unprotected
 pub mod Ripas
 pub mod RealmCall
-use Rattle.std.specs.Prelude.{ℕ, List}
+use Rattle.std.specs.Prelude.{◌≡◌, ℕ, Bool, not, ◌&&◌, [], ◌∷◌, Result, Ok, Err, if◌then◌else◌, is_none}
+use Rattle.rmm_spec.specs.declared.accepted.Accepted.{Accepted}
+use Rattle.rmm_spec.specs.declared.accepted.Accepted.TheVariants.{Done, Reaches}
+use Rattle.rmm_spec.specs.declared.call.Call.{Call}
+use Rattle.rmm_spec.specs.declared.call.Call.TheVariants as call
 use Rattle.rmm_spec.specs.declared.command.Command.{Command}
-use Rattle.rmm_spec.specs.declared.function_id.FunctionId.{FunctionId}
-use Rattle.rmm_spec.specs.declared.function_id.FunctionId.TheVariants.{GranuleDelegate, GranuleUndelegate, DataCreate, DataCreateUnknown, DataDestroy, RealmActivate, RealmCreate, RealmDestroy, RecCreate, RecDestroy, RecEnter, RttCreate, RttDestroy, RttMapUnprotected, RttReadEntry, RttUnmapUnprotected, RttInitRipas, RttSetRipas, MeasurementRead, MeasurementExtend, RealmConfig, IpaStateSet, IpaStateGet, HostCall, CpuOff, SystemOff, Exit}
 use Rattle.rmm_spec.specs.declared.reply.Reply.{Reply}
-use Rattle.rmm_spec.specs.State.{State}
-use Rattle.rmm_spec.specs.Step.Granule.{DelegatesGranule, UndelegatesGranule}
-use Rattle.rmm_spec.specs.Step.Realm.{CreatesRealm, ActivatesRealm, DestroysRealm}
-use Rattle.rmm_spec.specs.Step.Rec.{CreatesRec, DestroysRec, EntersRec}
-use Rattle.rmm_spec.specs.Step.Table.{CreatesTable, DestroysTable, ReadsEntry}
-use Rattle.rmm_spec.specs.Step.Data.{CreatesData, CreatesUnknownData, DestroysData}
-use Rattle.rmm_spec.specs.Step.Unprotected.{MapsUnprotected, UnmapsUnprotected}
-use Rattle.rmm_spec.specs.Step.Ripas.{InitializesRipas, SetsRipas}
-use Rattle.rmm_spec.specs.Step.RealmCall.{ReadsMeasurement, ExtendsMeasurement, ReadsRealmConfig, SetsIpaState, ReadsIpaState, CallsHost, TurnsCpuOff, TurnsSystemOff, ExitsRec}
+use Rattle.rmm_spec.specs.declared.reply.Reply.TheVariants as reply
+use Rattle.rmm_spec.specs.Call.{Class, ByHost, ByRealm, ByExit, call_of, class_of}
+use Rattle.rmm_spec.specs.Change.{changed}
+use Rattle.rmm_spec.specs.State.{State, is_inside, rec_inside, rec_at}
+use Rattle.rmm_spec.specs.Rows.{ok}
+use Rattle.rmm_spec.specs.Step.Granule.{granule_delegate, granule_undelegate}
+use Rattle.rmm_spec.specs.Step.Realm.{realm_create, realm_activate, realm_destroy}
+use Rattle.rmm_spec.specs.Step.Rec.{rec_create, rec_destroy, rec_enter}
+use Rattle.rmm_spec.specs.Step.Table.{rtt_create, rtt_destroy, rtt_read_entry}
+use Rattle.rmm_spec.specs.Step.Data.{data_create, data_create_unknown, data_destroy}
+use Rattle.rmm_spec.specs.Step.Unprotected.{rtt_map_unprotected, rtt_unmap_unprotected}
+use Rattle.rmm_spec.specs.Step.Ripas.{rtt_init_ripas, rtt_set_ripas, IsReached, reached_change}
+use Rattle.rmm_spec.specs.Step.RealmCall.{measurement_read, measurement_extend, realm_config, ipa_state_set, ipa_state_get, host_call, cpu_off, system_off, rec_exit}
 
--- a function's relation between the state, the CPU that calls, the words, the reply and the next state
-abbrev pub StepOf : FunctionId → State → ℕ → List ℕ → Reply → State → Type 0
-StepOf GranuleDelegate old cpu words given new = DelegatesGranule old cpu words given new
-StepOf GranuleUndelegate old cpu words given new = UndelegatesGranule old cpu words given new
-StepOf DataCreate old cpu words given new = CreatesData old cpu words given new
-StepOf DataCreateUnknown old cpu words given new = CreatesUnknownData old cpu words given new
-StepOf DataDestroy old cpu words given new = DestroysData old cpu words given new
-StepOf RealmActivate old cpu words given new = ActivatesRealm old cpu words given new
-StepOf RealmCreate old cpu words given new = CreatesRealm old cpu words given new
-StepOf RealmDestroy old cpu words given new = DestroysRealm old cpu words given new
-StepOf RecCreate old cpu words given new = CreatesRec old cpu words given new
-StepOf RecDestroy old cpu words given new = DestroysRec old cpu words given new
-StepOf RecEnter old cpu words given new = EntersRec old cpu words given new
-StepOf RttCreate old cpu words given new = CreatesTable old cpu words given new
-StepOf RttDestroy old cpu words given new = DestroysTable old cpu words given new
-StepOf RttMapUnprotected old cpu words given new = MapsUnprotected old cpu words given new
-StepOf RttReadEntry old cpu words given new = ReadsEntry old cpu words given new
-StepOf RttUnmapUnprotected old cpu words given new = UnmapsUnprotected old cpu words given new
-StepOf RttInitRipas old cpu words given new = InitializesRipas old cpu words given new
-StepOf RttSetRipas old cpu words given new = SetsRipas old cpu words given new
-StepOf MeasurementRead old cpu words given new = ReadsMeasurement old cpu words given new
-StepOf MeasurementExtend old cpu words given new = ExtendsMeasurement old cpu words given new
-StepOf RealmConfig old cpu words given new = ReadsRealmConfig old cpu words given new
-StepOf IpaStateSet old cpu words given new = SetsIpaState old cpu words given new
-StepOf IpaStateGet old cpu words given new = ReadsIpaState old cpu words given new
-StepOf HostCall old cpu words given new = CallsHost old cpu words given new
-StepOf CpuOff old cpu words given new = TurnsCpuOff old cpu words given new
-StepOf SystemOff old cpu words given new = TurnsSystemOff old cpu words given new
-StepOf Exit old cpu words given new = ExitsRec old cpu words given new
+-- A host's commands are given outside of RECs. A realm's calls and a REC's exit are given inside of one, and a REC that
+-- waits to leave gives no calls.
+abbrev pub is_placed : State → ℕ → Class → Bool
+is_placed s cpu ByHost = not (is_inside s cpu)
+is_placed s cpu ByRealm = is_inside s cpu && is_none (rec_at s (rec_inside s cpu)).pending
+is_placed s cpu ByExit = is_inside s cpu
+
+-- what a command leads to where it is placed: the reply of the first row that doesn't hold, or what is done
+unfoldable pub answer_of : State → ℕ → Call → Result Accepted Reply
+answer_of s cpu (call.GranuleDelegate granule) = granule_delegate s granule
+answer_of s cpu (call.GranuleUndelegate granule) = granule_undelegate s granule
+answer_of s cpu (call.DataCreate rd granule ipa source flags digest) = data_create s rd granule ipa source flags digest
+answer_of s cpu (call.DataCreateUnknown rd granule ipa) = data_create_unknown s rd granule ipa
+answer_of s cpu (call.DataDestroy rd ipa) = data_destroy s rd ipa
+answer_of s cpu (call.RealmActivate rd) = realm_activate s rd
+answer_of s cpu (call.RealmCreate rd root width level vmid algo) = realm_create s rd root width level vmid algo
+answer_of s cpu (call.RealmDestroy rd) = realm_destroy s rd
+answer_of s cpu (call.RecCreate rd rec mpidr flags aux0 aux1) = rec_create s rd rec mpidr flags aux0 aux1
+answer_of s cpu (call.RecDestroy rec) = rec_destroy s rec
+answer_of s cpu (call.RecEnter rec) = rec_enter s cpu rec
+answer_of s cpu (call.RttCreate rd rtt ipa level) = rtt_create s rd rtt ipa level
+answer_of s cpu (call.RttDestroy rd ipa level) = rtt_destroy s rd ipa level
+answer_of s cpu (call.RttMapUnprotected rd ipa page) = rtt_map_unprotected s rd ipa page
+answer_of s cpu (call.RttReadEntry rd ipa level) = rtt_read_entry s rd ipa level
+answer_of s cpu (call.RttUnmapUnprotected rd ipa) = rtt_unmap_unprotected s rd ipa
+answer_of s cpu (call.RttInitRipas rd base top) = rtt_init_ripas s rd base top
+answer_of s cpu (call.RttSetRipas rd rec base top) = rtt_set_ripas s rd rec base top
+answer_of s cpu (call.MeasurementRead index) = measurement_read s (rec_inside s cpu) index
+answer_of s cpu (call.MeasurementExtend index size values) = measurement_extend s (rec_inside s cpu) index size values
+answer_of s cpu call.RealmConfig = realm_config s (rec_inside s cpu)
+answer_of s cpu (call.IpaStateSet base top ripas) = ipa_state_set s (rec_inside s cpu) base top ripas
+answer_of s cpu (call.IpaStateGet ipa) = ipa_state_get s (rec_inside s cpu) ipa
+answer_of s cpu (call.HostCall imm) = host_call s (rec_inside s cpu) imm
+answer_of s cpu call.CpuOff = cpu_off s (rec_inside s cpu)
+answer_of s cpu call.SystemOff = system_off s (rec_inside s cpu)
+answer_of s cpu call.Exit = rec_exit s (rec_inside s cpu)
+
+-- what the specification answers to a command of the CPU: a refusal, or what is done
+unfoldable pub outcome : State → ℕ → Call → Result Accepted Reply
+outcome s cpu call = if is_placed s cpu (class_of call) then answer_of s cpu call else Err reply.Misplaced
+
+-- a refusal is the reply, and nothing changes; else the reply and the next state are those of what is done
+abbrev pub CarriesOut : Result Accepted Reply → State → Reply → State → Type 0
+CarriesOut (Err refusal) old given new = (given ≡ refusal) × (new ≡ old)
+CarriesOut (Ok (Done words change)) old given new = (given ≡ reply.Ok words) × (new ≡ changed old change)
+CarriesOut (Ok (Reaches stretch)) old given new =
+    (top : ℕ) × (IsReached old stretch top × (given ≡ ok (top ∷ [])) × (new ≡ changed old (reached_change stretch top)))
 
 -- from old, the machine may give this reply to the command of this CPU and go on to new
 abbrev pub Step : State → ℕ → Command → Reply → State → Type 0
-Step old cpu command given new = StepOf command.function old cpu command.words.items given new
+Step old cpu command given new = CarriesOut (outcome old cpu (call_of command)) old given new

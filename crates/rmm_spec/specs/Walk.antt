@@ -1,10 +1,11 @@
 -- Translation tables: what an entry of each level covers, and the walk to the deepest table that covers an address.
 -- After DEN0137 (RTT walk), with granules of 4096 bytes, tables of 512 entries, and levels 0 to 3.
-use Rattle.std.specs.Prelude.{◌≡◌, ℕ, zero, suc, ◌+◌, ◌-◌, ◌*◌, ◌/◌, ◌%◌, ◌^◌, ◌<◌, ◌≤◌, Bool, true, false, ◌&&◌, ◌||◌, nat_lt, nat_le, ◌==◌, if◌then◌else◌, Option, Some, None, is_some}
+use Rattle.std.specs.Prelude.{◌≡◌, ℕ, zero, suc, ◌+◌, ◌-◌, ◌*◌, ◌/◌, ◌%◌, ◌^◌, ◌<◌, ◌≤◌, Bool, true, false, ◌&&◌, ◌||◌, nat_lt, nat_le, ◌==◌, if◌then◌else◌, Option, Some, None, is_some, unwrap_or}
 use Rattle.rmm_spec.specs.declared.entry.Entry.{Entry}
 use Rattle.rmm_spec.specs.declared.entry.Entry.TheVariants.{Unassigned, Assigned, Table, UnassignedNs, AssignedNs}
 use Rattle.rmm_spec.specs.declared.tag.Ripas.{Ripas}
-use Rattle.rmm_spec.specs.declared.tag.Ripas.TheVariants.{Empty}
+use Rattle.rmm_spec.specs.declared.tag.Ripas.TheVariants.{Empty, Ram, Destroyed}
+use Rattle.rmm_spec.specs.declared.walked.Walked.{Walked}
 use Rattle.rmm_spec.specs.State.{State, RealmRecord, any_below}
 
 -- how many bytes an entry of the level covers: a page at level 3, and 512 times as many at each level above
@@ -44,6 +45,11 @@ is_unprotected realm ipa = is_multiple ipa 4096 && nat_le (half realm) ipa && na
 
 -- ---- entries
 
+abbrev pub is_ram : Ripas → Bool
+is_ram Ram = true
+is_ram Empty = false
+is_ram Destroyed = false
+
 abbrev pub is_table : Entry → Bool
 is_table (Table granule) = true
 is_table (Unassigned ripas) = false
@@ -64,6 +70,14 @@ is_assigned (Unassigned ripas) = false
 is_assigned (Table granule) = false
 is_assigned UnassignedNs = false
 is_assigned (AssignedNs page) = false
+
+-- whether an entry is unassigned memory
+abbrev pub is_unassigned_ram : Entry → Bool
+is_unassigned_ram (Unassigned ripas) = is_ram ripas
+is_unassigned_ram (Assigned ripas granule) = false
+is_unassigned_ram (Table granule) = false
+is_unassigned_ram UnassignedNs = false
+is_unassigned_ram (AssignedNs page) = false
 
 abbrev pub is_unassigned_ns : Entry → Bool
 is_unassigned_ns UnassignedNs = true
@@ -128,6 +142,16 @@ entry_for s rd level ipa = entry_at s rd level (entry_number level ipa)
 unfoldable pub reach : State → ℕ → ℕ → ℕ → ℕ
 reach s rd ipa zero = 0
 reach s rd ipa (suc l) = if is_some (s.table rd (suc l) (table_number (suc l) ipa)) then suc l else reach s rd ipa l
+
+-- where the walk for the address up to max ends
+abbrev pub walk : State → ℕ → ℕ → ℕ → Walked
+walk s rd ipa max =
+    let level = reach s rd ipa max in
+    record {
+      level = level;
+      granule = unwrap_or (s.table rd level (table_number level ipa)) 0;
+      entry = entry_for s rd level ipa;
+    }
 
 -- The walk for the address up to max ends at a table, of which this is the level, the granule and the entry.
 pub record IsWalk (s : State) (rd ipa max level granule : ℕ) (entry : Entry) : Type 0 where

@@ -1,5 +1,6 @@
 //! A command: a function and its words.
 
+use crate::call::Call;
 use crate::function_id::FunctionId;
 use arrayvec::ArrayVec;
 
@@ -8,4 +9,16 @@ use arrayvec::ArrayVec;
 pub struct Command {
     pub function: FunctionId,
     pub words: ArrayVec<u64, 10>,
+}
+
+impl Command {
+    ghost use Rattle.std.specs.Prelude.{◌≡◌};
+    ghost use Rattle.rmm_spec.specs.Call.{call_of};
+
+    /// The command with its words by name.
+    pub fn call(&self) -> Call
+        ensures { result ≡ call_of self.now }
+    {
+        Call::of(self.function, self.words.as_slice())
+    }
 }

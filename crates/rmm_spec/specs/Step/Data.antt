@@ -1,23 +1,22 @@
 -- Granules become pages of a realm's protected memory and are taken back
 -- (DEN0137, RMI_DATA_CREATE, RMI_DATA_CREATE_UNKNOWN, RMI_DATA_DESTROY).
-use Rattle.std.specs.Prelude.{◌≡◌, ℕ, ◌&&◌, nat_le, ◌==◌, if◌then◌else◌, List, [], ◌∷◌, replicate, slice_index}
+use Rattle.std.specs.Prelude.{ℕ, ◌&&◌, nat_lt, ◌==◌, List, [], ◌∷◌, Result, Some, None}
+use Rattle.rmm_spec.specs.declared.accepted.Accepted.{Accepted}
+use Rattle.rmm_spec.specs.declared.call.Call.TheVariants.{DataCreate, DataCreateUnknown, DataDestroy}
+use Rattle.rmm_spec.specs.declared.change.EntryChange.{EntryChange}
+use Rattle.rmm_spec.specs.declared.change.Change.TheVariants.{EntriesChanged}
+use Rattle.rmm_spec.specs.declared.change.EntryChange.TheVariants.{Replaced}
+use Rattle.rmm_spec.specs.declared.change.RealmUpdate.TheVariants.{PageMeasured}
+use Rattle.rmm_spec.specs.declared.entry.Entry.{Entry}
 use Rattle.rmm_spec.specs.declared.entry.Entry.TheVariants.{Unassigned, Assigned}
-use Rattle.rmm_spec.specs.declared.function_id.FunctionId.TheVariants.{DataCreate}
 use Rattle.rmm_spec.specs.declared.reply.Reply.{Reply}
 use Rattle.rmm_spec.specs.declared.tag.Ripas.{Ripas}
 use Rattle.rmm_spec.specs.declared.tag.Ripas.TheVariants.{Empty, Ram, Destroyed}
-use Rattle.rmm_spec.specs.declared.tag.Tag.TheVariants.{Undelegated, Delegated, Rd, Data}
-use Rattle.rmm_spec.specs.Function.{number_of}
-use Rattle.rmm_spec.specs.State.{State, RealmRecord, with_tag, with_realm, with_leaf, realm_at, is_new, ripas_number}
-use Rattle.rmm_spec.specs.Walk.{entry_number, entry_for, reach, is_protected, is_unassigned, is_assigned, entry_address, entry_ripas}
-use Rattle.rmm_spec.specs.Measure.{rim_extended}
-use Rattle.rmm_spec.specs.Rows.{Answers, row, outside, input, tagged, ok, realm_error, table_error, words_at}
-
--- the realm with one page measured; its digest counts where the flags ask for it
-abbrev pub with_measured_page : RealmRecord → ℕ → ℕ → List ℕ → RealmRecord
-with_measured_page realm ipa flags digest = record realm {
-  rim = rim_extended realm.rim (number_of DataCreate ∷ ipa ∷ flags ∷ (if flags == 1 then digest else replicate 4 0));
-}
+use Rattle.rmm_spec.specs.declared.tag.Tag.TheVariants.{Delegated, Data}
+use Rattle.rmm_spec.specs.State.{State, realm_at, is_new}
+use Rattle.rmm_spec.specs.Walk.{entry_number, walk, half, is_unassigned, is_assigned, is_unassigned_ram, entry_address, entry_ripas}
+use Rattle.rmm_spec.specs.Rows.{row, input, decided, done, realm_error, table_error}
+use Rattle.rmm_spec.specs.Step.Front.{with_front}
 
 -- the RIPAS of a page that was taken back: what was memory is lost
 abbrev pub ripas_after_data : Ripas → Ripas
@@ -25,67 +24,45 @@ ripas_after_data Ram = Destroyed
 ripas_after_data Empty = Empty
 ripas_after_data Destroyed = Destroyed
 
--- DATA_CREATE rd data ipa src flags c0 c1 c2 c3
-unfoldable pub CreatesData : State → ℕ → List ℕ → Reply → State → Type 0
-CreatesData old cpu words given new =
-    let rd = slice_index words 0 in
-    let granule = slice_index words 1 in
-    let ipa = slice_index words 2 in
-    let source = slice_index words 3 in
-    let flags = slice_index words 4 in
-    let digest = words_at words 5 4 in
-    let realm = realm_at old rd in
-    let reached = reach old rd ipa 3 in
-    let entry = entry_for old rd reached ipa in
-    Answers
-    (outside old cpu
-    ∷ tagged old rd Rd
-    ∷ tagged old granule Delegated
-    ∷ tagged old source Undelegated
-    ∷ input (nat_le flags 1)
-    ∷ input (is_protected realm ipa)
-    ∷ row (is_new realm) (realm_error 0)
-    ∷ row (reached == 3) (table_error reached)
-    ∷ row (is_unassigned entry && ripas_number (entry_ripas entry) == 1) (table_error 3)
-    ∷ [])
-    old given new
-    ((given ≡ ok []) × (new ≡ with_leaf (with_realm (with_tag old granule Data) rd (with_measured_page realm ipa flags digest))
-    rd 3 (entry_number 3 ipa) (Assigned Ram granule)))
+-- the entry of a page is replaced
+abbrev pub page_entry : ℕ → Entry → EntryChange
+page_entry ipa entry = Replaced (entry_number 3 ipa) entry
 
--- DATA_CREATE_UNKNOWN rd data ipa
-unfoldable pub CreatesUnknownData : State → ℕ → List ℕ → Reply → State → Type 0
-CreatesUnknownData old cpu words given new =
-    let rd = slice_index words 0 in
-    let granule = slice_index words 1 in
-    let ipa = slice_index words 2 in
-    let reached = reach old rd ipa 3 in
-    let entry = entry_for old rd reached ipa in
-    Answers
-    (outside old cpu
-    ∷ tagged old rd Rd
-    ∷ tagged old granule Delegated
-    ∷ input (is_protected (realm_at old rd) ipa)
-    ∷ row (reached == 3) (table_error reached)
-    ∷ row (is_unassigned entry) (table_error 3)
-    ∷ [])
-    old given new
-    ((given ≡ ok []) × (new ≡ with_leaf (with_tag old granule Data) rd 3 (entry_number 3 ipa) (Assigned (entry_ripas entry) granule)))
+unfoldable pub data_create : State → ℕ → ℕ → ℕ → ℕ → ℕ → List ℕ → Result Accepted Reply
+data_create s rd granule ipa source flags digest =
+    let realm = realm_at s rd in
+    let end = walk s rd ipa 3 in
+    decided
+    (with_front s (DataCreate rd granule ipa source flags digest)
+    (input (nat_lt ipa (half realm)) -- ipa_bound
+    ∷ row (is_new realm) (realm_error 0) -- realm_state
+    ∷ row (end.level == 3) (table_error end.level) -- rtt_walk
+    ∷ row (is_unassigned_ram end.entry) (table_error 3) -- rtte_state
+    ∷ []))
+    (done [] (EntriesChanged rd 3 (page_entry ipa (Assigned Ram granule)) (Some (record { granule = granule; tag = Data }))
+    (Some (record { rd = rd; update = PageMeasured ipa flags digest })) None))
 
--- DATA_DESTROY rd ipa
-unfoldable pub DestroysData : State → ℕ → List ℕ → Reply → State → Type 0
-DestroysData old cpu words given new =
-    let rd = slice_index words 0 in
-    let ipa = slice_index words 1 in
-    let reached = reach old rd ipa 3 in
-    let entry = entry_for old rd reached ipa in
-    let granule = entry_address entry in
-    Answers
-    (outside old cpu
-    ∷ tagged old rd Rd
-    ∷ input (is_protected (realm_at old rd) ipa)
-    ∷ row (reached == 3) (table_error reached)
-    ∷ row (is_assigned entry) (table_error 3)
-    ∷ [])
-    old given new
-    ((given ≡ ok (granule ∷ [])) × (new ≡ with_leaf (with_tag old granule Delegated) rd 3 (entry_number 3 ipa)
-    (Unassigned (ripas_after_data (entry_ripas entry)))))
+unfoldable pub data_create_unknown : State → ℕ → ℕ → ℕ → Result Accepted Reply
+data_create_unknown s rd granule ipa =
+    let end = walk s rd ipa 3 in
+    decided
+    (with_front s (DataCreateUnknown rd granule ipa)
+    (input (nat_lt ipa (half (realm_at s rd))) -- ipa_bound
+    ∷ row (end.level == 3) (table_error end.level) -- rtt_walk
+    ∷ row (is_unassigned end.entry) (table_error 3) -- rtte_state
+    ∷ []))
+    (done [] (EntriesChanged rd 3 (page_entry ipa (Assigned (entry_ripas end.entry) granule))
+    (Some (record { granule = granule; tag = Data })) None None))
+
+unfoldable pub data_destroy : State → ℕ → ℕ → Result Accepted Reply
+data_destroy s rd ipa =
+    let end = walk s rd ipa 3 in
+    let granule = entry_address end.entry in
+    decided
+    (with_front s (DataDestroy rd ipa)
+    (input (nat_lt ipa (half (realm_at s rd))) -- ipa_bound
+    ∷ row (end.level == 3) (table_error end.level) -- rtt_walk
+    ∷ row (is_assigned end.entry) (table_error 3) -- rtte_state
+    ∷ []))
+    (done (granule ∷ []) (EntriesChanged rd 3 (page_entry ipa (Unassigned (ripas_after_data (entry_ripas end.entry))))
+    (Some (record { granule = granule; tag = Delegated })) None None))

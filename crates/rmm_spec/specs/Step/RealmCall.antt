@@ -1,120 +1,79 @@
 -- What a realm asks of the monitor from inside a REC, and how a REC leaves to its host
 -- (DEN0137, RSI commands and REC exit; PSCI CPU_OFF and SYSTEM_OFF). Exit as a command is this project's own.
-use Rattle.std.specs.Prelude.{◌≡◌, ℕ, ◌-◌, false, ◌&&◌, nat_lt, nat_le, ◌==◌, if◌then◌else◌, List, [], ◌∷◌, take, Option, Some, None, slice_index, slice_index_or, slice_set}
-use Rattle.rmm_spec.specs.declared.function_id.FunctionId.TheVariants.{CpuOff, SystemOff}
+-- Each speaks of the REC at an address: the one that runs on the calling CPU.
+use Rattle.std.specs.Prelude.{ℕ, nat_lt, nat_le, ◌==◌, if◌then◌else◌, List, [], ◌∷◌, Result, Option, Some, None}
+use Rattle.rmm_spec.specs.declared.accepted.Accepted.{Accepted}
+use Rattle.rmm_spec.specs.declared.call.Call.TheVariants as call
+use Rattle.rmm_spec.specs.declared.change.Change.{Change}
+use Rattle.rmm_spec.specs.declared.change.Change.TheVariants.{Unchanged, RecordsChanged}
+use Rattle.rmm_spec.specs.declared.change.RealmUpdate.{RealmUpdate}
+use Rattle.rmm_spec.specs.declared.change.RealmUpdate.TheVariants as realm_update
+use Rattle.rmm_spec.specs.declared.change.RecUpdate.{RecUpdate}
+use Rattle.rmm_spec.specs.declared.change.RecUpdate.TheVariants as rec_update
 use Rattle.rmm_spec.specs.declared.reply.Reply.{Reply}
-use Rattle.rmm_spec.specs.declared.tag.RealmState.TheVariants as realm_state
 use Rattle.rmm_spec.specs.declared.tag.Ripas.{Ripas}
 use Rattle.rmm_spec.specs.declared.tag.Ripas.TheVariants.{Empty, Ram}
-use Rattle.rmm_spec.specs.Function.{number_of}
-use Rattle.rmm_spec.specs.State.{State, RealmRecord, RecRecord, Request, Pending, Psci, RipasChange, HostCall, with_realm, with_rec, rec_inside, realm_at, rec_at, request_of, ripas_number}
-use Rattle.rmm_spec.specs.Walk.{entry_for, reach, half, is_multiple, is_protected, entry_ripas}
-use Rattle.rmm_spec.specs.Measure.{words_bytes, measurement_words, rem_extended}
-use Rattle.rmm_spec.specs.Rows.{Answers, inside, unpending, input, ok, words_at}
+use Rattle.rmm_spec.specs.Change.{measurement_at}
+use Rattle.rmm_spec.specs.Measure.{measurement_words}
+use Rattle.rmm_spec.specs.State.{State, Request, Pending, Psci, RipasChange, HostCall, realm_at, rec_at, request_of, ripas_number}
+use Rattle.rmm_spec.specs.Walk.{walk, half, entry_ripas}
+use Rattle.rmm_spec.specs.Rows.{row, input, decided, done}
+use Rattle.rmm_spec.specs.Step.Front.{with_front}
 
--- the REC waits to leave
-abbrev pub with_pending : RecRecord → Pending → RecRecord
-with_pending rec pending = record rec { pending = Some pending }
+-- a record of the REC, or of its realm, is replaced
+abbrev pub rec_change : ℕ → RecUpdate → Change
+rec_change rec update = RecordsChanged None (Some (record { rec = rec; update = update }))
 
--- the RIM, or one of the four REMs, which count from 1
-abbrev pub measurement_at : RealmRecord → ℕ → List ℕ
-measurement_at realm i = if i == 0 then realm.rim else slice_index_or realm.rems (i - 1) []
+abbrev pub realm_change : ℕ → RealmUpdate → Change
+realm_change rd update = RecordsChanged (Some (record { rd = rd; update = update })) None
 
--- MEASUREMENT_READ i
-unfoldable pub ReadsMeasurement : State → ℕ → List ℕ → Reply → State → Type 0
-ReadsMeasurement old cpu words given new =
-    let i = slice_index words 0 in
-    let rec = rec_at old (rec_inside old cpu) in
-    let realm = realm_at old rec.owner in
-    Answers (inside old cpu ∷ unpending rec ∷ input (nat_le i 4) ∷ []) old given new
-    ((given ≡ ok (measurement_words (measurement_at realm i))) × (new ≡ old))
+unfoldable pub measurement_read : State → ℕ → ℕ → Result Accepted Reply
+measurement_read s rec index =
+    decided (with_front s (call.MeasurementRead index) [])
+    (done (measurement_words (measurement_at (realm_at s (rec_at s rec).owner) index)) Unchanged)
 
--- MEASUREMENT_EXTEND i size v0 v1 v2 v3 v4 v5 v6 v7
-unfoldable pub ExtendsMeasurement : State → ℕ → List ℕ → Reply → State → Type 0
-ExtendsMeasurement old cpu words given new =
-    let i = slice_index words 0 in
-    let size = slice_index words 1 in
-    let bytes = take size (words_bytes (words_at words 2 8)) in
-    let rec = rec_at old (rec_inside old cpu) in
-    let realm = realm_at old rec.owner in
-    Answers
-    (inside old cpu
-    ∷ unpending rec
-    ∷ input (nat_le 1 i && nat_le i 4)
-    ∷ input (nat_le 1 size && nat_le size 0x40)
-    ∷ [])
-    old given new
-    ((given ≡ ok []) × (new ≡ with_realm old rec.owner
-    (record realm { rems = slice_set realm.rems (i - 1) (rem_extended (measurement_at realm i) bytes) })))
+unfoldable pub measurement_extend : State → ℕ → ℕ → ℕ → List ℕ → Result Accepted Reply
+measurement_extend s rec index size values =
+    decided (with_front s (call.MeasurementExtend index size values) [])
+    (done [] (realm_change (rec_at s rec).owner (realm_update.MeasurementExtended index size values)))
 
--- REALM_CONFIG
-unfoldable pub ReadsRealmConfig : State → ℕ → List ℕ → Reply → State → Type 0
-ReadsRealmConfig old cpu words given new =
-    let rec = rec_at old (rec_inside old cpu) in
-    let realm = realm_at old rec.owner in
-    Answers (inside old cpu ∷ unpending rec ∷ []) old given new
-    ((given ≡ ok (realm.width ∷ realm.algo ∷ [])) × (new ≡ old))
+unfoldable pub realm_config : State → ℕ → Result Accepted Reply
+realm_config s rec =
+    let realm = realm_at s (rec_at s rec).owner in
+    decided (with_front s call.RealmConfig []) (done (realm.width ∷ realm.algo ∷ []) Unchanged)
 
 -- the RIPAS that a realm can ask for, by its number
 abbrev pub ripas_asked : ℕ → Ripas
-ripas_asked n = if n == 0 then Empty else Ram
+ripas_asked number = if number == 0 then Empty else Ram
 
--- IPA_STATE_SET base top ripas
-unfoldable pub SetsIpaState : State → ℕ → List ℕ → Reply → State → Type 0
-SetsIpaState old cpu words given new =
-    let base = slice_index words 0 in
-    let top = slice_index words 1 in
-    let ripas = slice_index words 2 in
-    let address = rec_inside old cpu in
-    let rec = rec_at old address in
-    let realm = realm_at old rec.owner in
-    let request : Request = record { base = base; top = top; ripas = ripas_asked ripas } in
-    Answers
-    (inside old cpu
-    ∷ unpending rec
-    ∷ input (is_multiple base 4096 && is_multiple top 4096)
-    ∷ input (nat_lt base top && nat_le top (half realm))
-    ∷ input (nat_le ripas 1)
-    ∷ [])
-    old given new
-    ((given ≡ ok []) × (new ≡ with_rec old address (with_pending (record rec { request = Some request }) RipasChange)))
+unfoldable pub ipa_state_set : State → ℕ → ℕ → ℕ → ℕ → Result Accepted Reply
+ipa_state_set s rec base top ripas =
+    decided
+    (with_front s (call.IpaStateSet base top ripas)
+    (input (nat_le top (half (realm_at s (rec_at s rec).owner))) -- rgn_bound
+    ∷ []))
+    (done [] (rec_change rec (rec_update.RipasRequested base top (ripas_asked ripas))))
 
--- IPA_STATE_GET ipa
-unfoldable pub ReadsIpaState : State → ℕ → List ℕ → Reply → State → Type 0
-ReadsIpaState old cpu words given new =
-    let ipa = slice_index words 0 in
-    let rec = rec_at old (rec_inside old cpu) in
-    let realm = realm_at old rec.owner in
-    let reached = reach old rec.owner ipa 3 in
-    Answers (inside old cpu ∷ unpending rec ∷ input (is_protected realm ipa) ∷ []) old given new
-    ((given ≡ ok (ripas_number (entry_ripas (entry_for old rec.owner reached ipa)) ∷ [])) × (new ≡ old))
+unfoldable pub ipa_state_get : State → ℕ → ℕ → Result Accepted Reply
+ipa_state_get s rec ipa =
+    let rd = (rec_at s rec).owner in
+    decided
+    (with_front s (call.IpaStateGet ipa)
+    (input (nat_lt ipa (half (realm_at s rd))) -- ipa_bound
+    ∷ []))
+    (done (ripas_number (entry_ripas (walk s rd ipa 3).entry) ∷ []) Unchanged)
 
--- HOST_CALL imm
-unfoldable pub CallsHost : State → ℕ → List ℕ → Reply → State → Type 0
-CallsHost old cpu words given new =
-    let imm = slice_index words 0 in
-    let address = rec_inside old cpu in
-    let rec = rec_at old address in
-    Answers (inside old cpu ∷ unpending rec ∷ input (nat_lt imm 0x10000) ∷ []) old given new
-    ((given ≡ ok []) × (new ≡ with_rec old address (with_pending rec (HostCall imm))))
+unfoldable pub host_call : State → ℕ → ℕ → Result Accepted Reply
+host_call s rec imm = decided (with_front s (call.HostCall imm) []) (done [] (rec_change rec (rec_update.HostCalled imm)))
 
--- CPU_OFF
-unfoldable pub TurnsCpuOff : State → ℕ → List ℕ → Reply → State → Type 0
-TurnsCpuOff old cpu words given new =
-    let address = rec_inside old cpu in
-    let rec = rec_at old address in
-    Answers (inside old cpu ∷ unpending rec ∷ []) old given new
-    ((given ≡ ok []) × (new ≡ with_rec old address (with_pending (record rec { runnable = false }) (Psci (number_of CpuOff)))))
+unfoldable pub cpu_off : State → ℕ → Result Accepted Reply
+cpu_off s rec = decided (with_front s call.CpuOff []) (done [] (rec_change rec rec_update.TurnedOff))
 
--- SYSTEM_OFF
-unfoldable pub TurnsSystemOff : State → ℕ → List ℕ → Reply → State → Type 0
-TurnsSystemOff old cpu words given new =
-    let address = rec_inside old cpu in
-    let rec = rec_at old address in
-    let realm = realm_at old rec.owner in
-    Answers (inside old cpu ∷ unpending rec ∷ []) old given new
-    ((given ≡ ok []) × (new ≡ with_rec (with_realm old rec.owner (record realm { state = realm_state.SystemOff }))
-    address (with_pending rec (Psci (number_of SystemOff)))))
+unfoldable pub system_off : State → ℕ → Result Accepted Reply
+system_off s rec =
+    decided (with_front s call.SystemOff [])
+    (done [] (RecordsChanged (Some (record { rd = (rec_at s rec).owner; update = realm_update.TurnedOff }))
+    (Some (record { rec = rec; update = rec_update.SystemTurnedOff }))))
 
 -- why a REC leaves, as its host is told: 1 interrupt, 3 PSCI call, 4 RIPAS change, 5 host call
 abbrev pub exit_words : Request → Option Pending → List ℕ
@@ -123,10 +82,7 @@ exit_words request (Some (Psci function)) = 3 ∷ function ∷ 0 ∷ 0 ∷ []
 exit_words request (Some RipasChange) = 4 ∷ request.base ∷ request.top ∷ ripas_number request.ripas ∷ []
 exit_words request (Some (HostCall imm)) = 5 ∷ imm ∷ 0 ∷ 0 ∷ []
 
--- Exit
-unfoldable pub ExitsRec : State → ℕ → List ℕ → Reply → State → Type 0
-ExitsRec old cpu words given new =
-    let address = rec_inside old cpu in
-    let rec = rec_at old address in
-    Answers (inside old cpu ∷ []) old given new
-    ((given ≡ ok (exit_words (request_of rec) rec.pending)) × (new ≡ with_rec old address (record rec { cpu = None; pending = None })))
+unfoldable pub rec_exit : State → ℕ → Result Accepted Reply
+rec_exit s rec =
+    let old = rec_at s rec in
+    decided (with_front s call.Exit []) (done (exit_words (request_of old) old.pending) (rec_change rec rec_update.Exited))

@@ -1,85 +1,96 @@
 -- The RIPAS of a stretch of protected memory is set before a realm runs, or as one of its RECs asked
 -- (DEN0137, RMI_RTT_INIT_RIPAS, RMI_RTT_SET_RIPAS). How far one command gets is the monitor's choice.
-use Rattle.std.specs.Prelude.{◌≡◌, ℕ, ◌+◌, ◌*◌, ◌<◌, ◌≤◌, Bool, not, ◌&&◌, nat_lt, nat_le, ◌==◌, List, [], ◌∷◌, IsTrue, Some, is_some, is_none, slice_index}
+use Rattle.std.specs.Prelude.{◌≡◌, ℕ, ◌+◌, ◌-◌, ◌*◌, ◌/◌, ◌<◌, ◌≤◌, Bool, not, ◌&&◌, nat_lt, nat_le, ◌==◌, [], ◌∷◌, IsTrue, Result, Ok, Some, None, is_some, is_none}
+use Rattle.rmm_spec.specs.declared.accepted.Accepted.{Accepted}
+use Rattle.rmm_spec.specs.declared.accepted.Accepted.TheVariants.{Reaches}
+use Rattle.rmm_spec.specs.declared.accepted.Stretch.{Stretch}
+use Rattle.rmm_spec.specs.declared.accepted.StretchUse.{StretchUse}
+use Rattle.rmm_spec.specs.declared.accepted.StretchUse.TheVariants.{Init, Requested}
+use Rattle.rmm_spec.specs.declared.call.Call.TheVariants.{RttInitRipas, RttSetRipas}
+use Rattle.rmm_spec.specs.declared.change.Change.{Change}
+use Rattle.rmm_spec.specs.declared.change.Change.TheVariants.{EntriesChanged}
+use Rattle.rmm_spec.specs.declared.change.EntryChange.TheVariants.{RipasSet}
+use Rattle.rmm_spec.specs.declared.change.RealmUpdate.TheVariants.{StretchMeasured}
+use Rattle.rmm_spec.specs.declared.change.RecUpdate.TheVariants.{RequestMoved}
 use Rattle.rmm_spec.specs.declared.entry.Entry.{Entry}
-use Rattle.rmm_spec.specs.declared.function_id.FunctionId.TheVariants.{RttInitRipas}
 use Rattle.rmm_spec.specs.declared.reply.Reply.{Reply}
 use Rattle.rmm_spec.specs.declared.tag.Ripas.TheVariants.{Ram}
-use Rattle.rmm_spec.specs.declared.tag.Tag.TheVariants.{Rd, Rec}
-use Rattle.rmm_spec.specs.Function.{number_of}
-use Rattle.rmm_spec.specs.State.{State, RealmRecord, with_realm, with_rec, with_ripas, realm_at, rec_at, request_of, is_new}
-use Rattle.rmm_spec.specs.Walk.{entry_size, table_size, entry_number, table_number, entry_at, entry_for, reach, half, is_multiple, is_table, is_assigned, is_unassigned}
-use Rattle.rmm_spec.specs.Measure.{rim_extended}
-use Rattle.rmm_spec.specs.Rows.{Answers, row, outside, input, tagged, ok, realm_error, rec_error, table_error}
+use Rattle.rmm_spec.specs.State.{State, realm_at, rec_at, request_of, is_new, all_below}
+use Rattle.rmm_spec.specs.Walk.{entry_size, table_size, entry_number, table_number, entry_at, walk, half, is_multiple, is_table, is_assigned, is_unassigned}
+use Rattle.rmm_spec.specs.Rows.{row, input, decided, realm_error, rec_error, table_error}
+use Rattle.rmm_spec.specs.Step.Front.{with_front}
+use Rattle.rmm_spec.specs.Step.Words.{is_page}
 
--- From base up to out_top is a stretch of one or more entries of one table of the level, all of which pass, and it ends by top.
-pub record IsStretch (s : State) (rd base top level : ℕ) (passes : Entry → Bool) (out_top : ℕ) : Type 0 where
+-- ---- how far a command gets
+
+-- whether the RIPAS of an entry may be set: never a link's, and before a realm runs no page's
+abbrev pub can_be_set : StretchUse → Entry → Bool
+can_be_set Init entry = not (is_table entry) && not (is_assigned entry)
+can_be_set (Requested rec ripas) entry = not (is_table entry)
+
+-- From base up to top is a stretch of one or more entries of one table of the level, of which each may be set, and it ends
+-- by the top that was asked for.
+pub record IsReached (s : State) (stretch : Stretch) (top : ℕ) : Type 0 where
   pub count : ℕ
   pub some : 1 ≤ count
-  pub is_end : out_top ≡ base + count * entry_size level
-  pub within : out_top ≤ top
-  pub in_table : out_top ≤ (table_number level base + 1) * table_size level
-  pub each : (k : ℕ) → k < count → IsTrue (passes (entry_at s rd level (entry_number level base + k)))
+  pub is_end : top ≡ stretch.base + count * entry_size stretch.level
+  pub within : top ≤ stretch.top
+  pub in_table : top ≤ (table_number stretch.level stretch.base + 1) * table_size stretch.level
+  pub each : (k : ℕ) → k < count
+      → IsTrue (can_be_set stretch.purpose (entry_at s stretch.rd stretch.level (entry_number stretch.level stretch.base + k)))
+
+-- the same as a test, which looks at each entry of the stretch
+unfoldable pub is_reached : State → Stretch → ℕ → Bool
+is_reached s stretch top =
+    nat_lt stretch.base top
+    && is_multiple (top - stretch.base) (entry_size stretch.level)
+    && nat_le top stretch.top
+    && nat_le top ((table_number stretch.level stretch.base + 1) * table_size stretch.level)
+    && all_below ((top - stretch.base) / entry_size stretch.level)
+    (λ k. can_be_set stretch.purpose (entry_at s stretch.rd stretch.level (entry_number stretch.level stretch.base + k)))
+
+-- what is changed where the stretch, whose entries have these numbers, is set up to top
+abbrev pub stretch_change : StretchUse → ℕ → ℕ → ℕ → ℕ → ℕ → ℕ → Change
+stretch_change Init rd level base first last top =
+    EntriesChanged rd level (RipasSet first last Ram) None (Some (record { rd = rd; update = StretchMeasured base top })) None
+stretch_change (Requested rec ripas) rd level base first last top =
+    EntriesChanged rd level (RipasSet first last ripas) None None (Some (record { rec = rec; update = RequestMoved top }))
+
+-- what is changed where the stretch is set up to top
+unfoldable pub reached_change : Stretch → ℕ → Change
+reached_change stretch top =
+    stretch_change stretch.purpose stretch.rd stretch.level stretch.base
+    (entry_number stretch.level stretch.base) (entry_number stretch.level top) top
+
+-- ---- the commands
 
 -- whether the first entry of a stretch begins at base and ends by top
 abbrev pub has_room : ℕ → ℕ → ℕ → Bool
 has_room base top level = is_multiple base (entry_size level) && nat_le (base + entry_size level) top
 
--- before a realm runs, its pages aren't said to be anything else
-abbrev pub can_init : Entry → Bool
-can_init entry = not (is_table entry) && not (is_assigned entry)
+unfoldable pub rtt_init_ripas : State → ℕ → ℕ → ℕ → Result Accepted Reply
+rtt_init_ripas s rd base top =
+    let realm = realm_at s rd in
+    let end = walk s rd base 3 in
+    decided
+    (with_front s (RttInitRipas rd base top)
+    (input (nat_le top (half realm)) -- top_bound
+    ∷ row (is_new realm) (realm_error 0) -- realm_state
+    ∷ row (is_unassigned end.entry && has_room base top end.level) (table_error end.level) -- rtte_state, base_align, no_progress
+    ∷ []))
+    (Reaches (record { rd = rd; base = base; top = top; level = end.level; purpose = Init }))
 
-abbrev pub can_set : Entry → Bool
-can_set entry = not (is_table entry)
-
--- the realm with one stretch measured
-abbrev pub with_measured_stretch : RealmRecord → ℕ → ℕ → RealmRecord
-with_measured_stretch realm base out_top = record realm {
-  rim = rim_extended realm.rim (number_of RttInitRipas ∷ base ∷ out_top ∷ []);
-}
-
--- RTT_INIT_RIPAS rd base top
-unfoldable pub InitializesRipas : State → ℕ → List ℕ → Reply → State → Type 0
-InitializesRipas old cpu words given new =
-    let rd = slice_index words 0 in
-    let base = slice_index words 1 in
-    let top = slice_index words 2 in
-    let realm = realm_at old rd in
-    let reached = reach old rd base 3 in
-    Answers
-    (outside old cpu
-    ∷ tagged old rd Rd
-    ∷ input (is_multiple base 4096 && is_multiple top 4096)
-    ∷ input (nat_lt base top && nat_le top (half realm))
-    ∷ row (is_new realm) (realm_error 0)
-    ∷ row (is_unassigned (entry_for old rd reached base) && has_room base top reached) (table_error reached)
-    ∷ [])
-    old given new
-    ((out_top : ℕ) × (IsStretch old rd base top reached can_init out_top × (given ≡ ok (out_top ∷ []))
-    × (new ≡ with_ripas (with_realm old rd (with_measured_stretch realm base out_top))
-    rd reached (entry_number reached base) (entry_number reached out_top) Ram)))
-
--- RTT_SET_RIPAS rd rec base top
-unfoldable pub SetsRipas : State → ℕ → List ℕ → Reply → State → Type 0
-SetsRipas old cpu words given new =
-    let rd = slice_index words 0 in
-    let address = slice_index words 1 in
-    let base = slice_index words 2 in
-    let top = slice_index words 3 in
-    let rec = rec_at old address in
-    let request = request_of rec in
-    let reached = reach old rd base 3 in
-    Answers
-    (outside old cpu
-    ∷ tagged old rd Rd
-    ∷ tagged old address Rec
-    ∷ row (rec.owner == rd) rec_error
-    ∷ row (is_none rec.cpu) rec_error
-    ∷ input (is_some rec.request && base == request.base)
-    ∷ input (nat_le top request.top && nat_lt base top && is_multiple top 4096)
-    ∷ row (has_room base top reached) (table_error reached)
-    ∷ [])
-    old given new
-    ((out_top : ℕ) × (IsStretch old rd base top reached can_set out_top × (given ≡ ok (out_top ∷ []))
-    × (new ≡ with_ripas (with_rec old address (record rec { request = Some (record request { base = out_top }) }))
-    rd reached (entry_number reached base) (entry_number reached out_top) request.ripas)))
+unfoldable pub rtt_set_ripas : State → ℕ → ℕ → ℕ → ℕ → Result Accepted Reply
+rtt_set_ripas s rd rec base top =
+    let old = rec_at s rec in
+    let request = request_of old in
+    let end = walk s rd base 3 in
+    decided
+    (with_front s (RttSetRipas rd rec base top)
+    (row (old.owner == rd) rec_error -- rec_owner
+    ∷ row (is_none old.cpu) rec_error -- rec_state
+    ∷ input (is_some old.request && base == request.base) -- base_bound
+    ∷ input (nat_le top request.top && nat_lt base top && is_page top) -- top_bound, size_valid, top_align
+    ∷ row (has_room base top end.level) (table_error end.level) -- base_align, no_progress
+    ∷ []))
+    (Reaches (record { rd = rd; base = base; top = top; level = end.level; purpose = Requested rec request.ripas }))

@@ -1,43 +1,39 @@
 -- The host's pages are mapped into the unprotected half of a realm's address space and unmapped
 -- (DEN0137, RMI_RTT_MAP_UNPROTECTED, RMI_RTT_UNMAP_UNPROTECTED).
-use Rattle.std.specs.Prelude.{◌≡◌, ℕ, ◌^◌, ◌&&◌, nat_lt, ◌==◌, List, [], ◌∷◌, slice_index}
+use Rattle.std.specs.Prelude.{ℕ, Bool, ◌&&◌, nat_lt, nat_le, ◌==◌, [], ◌∷◌, Result, None}
+use Rattle.rmm_spec.specs.declared.accepted.Accepted.{Accepted}
+use Rattle.rmm_spec.specs.declared.call.Call.TheVariants.{RttMapUnprotected, RttUnmapUnprotected}
+use Rattle.rmm_spec.specs.declared.change.Change.TheVariants.{EntriesChanged}
+use Rattle.rmm_spec.specs.declared.change.EntryChange.TheVariants.{Replaced}
 use Rattle.rmm_spec.specs.declared.entry.Entry.TheVariants.{UnassignedNs, AssignedNs}
 use Rattle.rmm_spec.specs.declared.reply.Reply.{Reply}
-use Rattle.rmm_spec.specs.declared.tag.Tag.TheVariants.{Rd}
-use Rattle.rmm_spec.specs.State.{State, with_leaf, realm_at}
-use Rattle.rmm_spec.specs.Walk.{entry_number, entry_for, reach, is_multiple, is_unprotected, is_unassigned_ns, is_assigned_ns}
-use Rattle.rmm_spec.specs.Rows.{Answers, row, outside, input, tagged, ok, table_error}
+use Rattle.rmm_spec.specs.State.{State, RealmRecord, realm_at}
+use Rattle.rmm_spec.specs.Walk.{entry_number, walk, full, half, is_unassigned_ns, is_assigned_ns}
+use Rattle.rmm_spec.specs.Rows.{row, input, decided, done, table_error}
+use Rattle.rmm_spec.specs.Step.Front.{with_front}
 
--- RTT_MAP_UNPROTECTED rd ipa pa
-unfoldable pub MapsUnprotected : State → ℕ → List ℕ → Reply → State → Type 0
-MapsUnprotected old cpu words given new =
-    let rd = slice_index words 0 in
-    let ipa = slice_index words 1 in
-    let page = slice_index words 2 in
-    let reached = reach old rd ipa 3 in
-    Answers
-    (outside old cpu
-    ∷ tagged old rd Rd
-    ∷ input (is_unprotected (realm_at old rd) ipa)
-    ∷ input (is_multiple page 4096 && nat_lt page (2 ^ 48))
-    ∷ row (reached == 3) (table_error reached)
-    ∷ row (is_unassigned_ns (entry_for old rd reached ipa)) (table_error 3)
-    ∷ [])
-    old given new
-    ((given ≡ ok []) × (new ≡ with_leaf old rd 3 (entry_number 3 ipa) (AssignedNs page)))
+-- whether an address lies in the upper half of the realm's address space
+abbrev pub is_upper : RealmRecord → ℕ → Bool
+is_upper realm ipa = nat_le (half realm) ipa && nat_lt ipa (full realm)
 
--- RTT_UNMAP_UNPROTECTED rd ipa
-unfoldable pub UnmapsUnprotected : State → ℕ → List ℕ → Reply → State → Type 0
-UnmapsUnprotected old cpu words given new =
-    let rd = slice_index words 0 in
-    let ipa = slice_index words 1 in
-    let reached = reach old rd ipa 3 in
-    Answers
-    (outside old cpu
-    ∷ tagged old rd Rd
-    ∷ input (is_unprotected (realm_at old rd) ipa)
-    ∷ row (reached == 3) (table_error reached)
-    ∷ row (is_assigned_ns (entry_for old rd reached ipa)) (table_error 3)
-    ∷ [])
-    old given new
-    ((given ≡ ok []) × (new ≡ with_leaf old rd 3 (entry_number 3 ipa) UnassignedNs))
+unfoldable pub rtt_map_unprotected : State → ℕ → ℕ → ℕ → Result Accepted Reply
+rtt_map_unprotected s rd ipa page =
+    let end = walk s rd ipa 3 in
+    decided
+    (with_front s (RttMapUnprotected rd ipa page)
+    (input (is_upper (realm_at s rd) ipa) -- ipa_bound
+    ∷ row (end.level == 3) (table_error end.level) -- rtt_walk
+    ∷ row (is_unassigned_ns end.entry) (table_error 3) -- rtte_state
+    ∷ []))
+    (done [] (EntriesChanged rd 3 (Replaced (entry_number 3 ipa) (AssignedNs page)) None None None))
+
+unfoldable pub rtt_unmap_unprotected : State → ℕ → ℕ → Result Accepted Reply
+rtt_unmap_unprotected s rd ipa =
+    let end = walk s rd ipa 3 in
+    decided
+    (with_front s (RttUnmapUnprotected rd ipa)
+    (input (is_upper (realm_at s rd) ipa) -- ipa_bound
+    ∷ row (end.level == 3) (table_error end.level) -- rtt_walk
+    ∷ row (is_assigned_ns end.entry) (table_error 3) -- rtte_state
+    ∷ []))
+    (done [] (EntriesChanged rd 3 (Replaced (entry_number 3 ipa) UnassignedNs) None None None))
