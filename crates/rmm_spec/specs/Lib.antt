@@ -12,6 +12,8 @@ pub mod Call
 pub mod Rows
 pub mod Change
 pub mod Step
+pub mod Sound
+pub mod Applicable
 pub mod Run
 pub mod Script
 pub mod Linearization

@@ -1,0 +1,18 @@
+//! The laws over the definitions of `rmm_spec`: each is the contract of a public function that does nothing.
+//! It promises that a reply decides the next state and some reply has one, that each run keeps every granule to at most one
+//! realm, and that worked scripts are runs: what would fail if a definition were mistyped or a row were missing.
+//! Laws are proved by kind of change, so a further command owes that its rows are what its change requires.
+//! The checker depends on it.
+#![tactic(auto)]
+
+mod laws;
+mod profile_laws;
+
+pub use laws::{
+    a_reply_exists, first_parts_are_runs, refusals_change_nothing, reply_decides,
+    runs_are_isolated, undelegation_restores,
+};
+pub use profile_laws::{
+    a_page_is_given_once, commands_keep_other_maps, fresh_root_covers_space, reach_is_the_walk,
+    walks_begin_at_root, walks_end_unlinked, worked_scripts_are_runs,
+};
