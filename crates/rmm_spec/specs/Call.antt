@@ -1,4 +1,5 @@
--- Commands by name: what a function's words mean. Names and their order are DEN0137's; Exit is this project's own.
+-- Commands by name: what a function's words mean. Functions are named as in DEN0137; the words and their order are this
+-- profile's, and so is Exit.
 use Rattle.std.specs.Prelude.{ℕ, zero, suc, ◌+◌, List, [], ◌∷◌, slice_index}
 use Rattle.rmm_spec.specs.declared.call.Call.{Call}
 use Rattle.rmm_spec.specs.declared.call.Call.TheVariants as call
@@ -62,4 +63,21 @@ class_of (call.HostCall imm) = ByRealm
 class_of call.CpuOff = ByRealm
 class_of call.SystemOff = ByRealm
 class_of call.Exit = ByExit
-class_of _ = ByHost
+class_of (call.GranuleDelegate granule) = ByHost
+class_of (call.GranuleUndelegate granule) = ByHost
+class_of (call.DataCreate rd granule ipa source flags digest) = ByHost
+class_of (call.DataCreateUnknown rd granule ipa) = ByHost
+class_of (call.DataDestroy rd ipa) = ByHost
+class_of (call.RealmActivate rd) = ByHost
+class_of (call.RealmCreate rd root width level vmid algo) = ByHost
+class_of (call.RealmDestroy rd) = ByHost
+class_of (call.RecCreate rd rec mpidr flags aux0 aux1) = ByHost
+class_of (call.RecDestroy rec) = ByHost
+class_of (call.RecEnter rec) = ByHost
+class_of (call.RttCreate rd rtt ipa level) = ByHost
+class_of (call.RttDestroy rd ipa level) = ByHost
+class_of (call.RttMapUnprotected rd ipa page) = ByHost
+class_of (call.RttReadEntry rd ipa level) = ByHost
+class_of (call.RttUnmapUnprotected rd ipa) = ByHost
+class_of (call.RttInitRipas rd base top) = ByHost
+class_of (call.RttSetRipas rd rec base top) = ByHost

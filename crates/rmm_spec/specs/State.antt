@@ -231,7 +231,7 @@ no_rec = record {
   pending = None;
 }
 
--- what is read where a REC has no request: rows before say that it has one, or its words are not shown
+-- what is read where a REC has no request: its base 0 is what REC_ENTER then reports, and no other command shows it
 abbrev pub no_request : Request
 no_request = record { base = 0; top = 0; ripas = Empty }
 

@@ -70,7 +70,7 @@ answer_of s cpu call.Exit = rec_exit s (rec_inside s cpu)
 
 -- what the specification answers to a command of the CPU: a refusal, or what is done
 unfoldable pub outcome : State → ℕ → Call → Result Accepted Reply
-outcome s cpu call = if is_placed s cpu (class_of call) then answer_of s cpu call else Err reply.Misplaced
+outcome s cpu given = if is_placed s cpu (class_of given) then answer_of s cpu given else Err reply.Misplaced
 
 -- a refusal is the reply, and nothing changes; else the reply and the next state are those of what is done
 abbrev pub CarriesOut : Result Accepted Reply → State → Reply → State → Type 0

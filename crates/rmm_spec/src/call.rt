@@ -2,8 +2,8 @@
 
 use crate::function_id::FunctionId;
 
-/// A command as its function and words mean it, each word by its name in DEN0137. Addresses and sizes are in bytes; a word
-/// that the caller left out is zero. A measurement's digest or values are words in their order.
+/// A command as its function and words mean it. Functions are named as in DEN0137; which words there are is this profile's
+/// selection. Addresses and sizes are in bytes; a word that the caller left out is zero.
 #[derive(Clone, Copy, Debug, PartialEq, Eq)]
 pub enum Call {
     GranuleDelegate {

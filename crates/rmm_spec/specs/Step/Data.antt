@@ -37,7 +37,7 @@ data_create s rd granule ipa source flags digest =
     (input (nat_lt ipa (half realm)) -- ipa_bound
     ∷ row (is_new realm) (realm_error 0) -- realm_state
     ∷ row (end.level == 3) (table_error end.level) -- rtt_walk
-    ∷ row (is_unassigned_ram end.entry) (table_error 3) -- rtte_state
+    ∷ row (is_unassigned_ram end.entry) (table_error 3) -- rtte_state, rtte_ripas
     ∷ []))
     (done [] (EntriesChanged rd 3 (page_entry ipa (Assigned Ram granule)) (Some (record { granule = granule; tag = Data }))
     (Some (record { rd = rd; update = PageMeasured ipa flags digest })) None))

@@ -1,6 +1,6 @@
--- The granules that a command names, each with the tag that it needs there; each answers ERROR_INPUT where it has another,
--- or where the word is no granule's address (in DEN0137 the conditions X_align, X_bound and X_state of the word X).
--- SET_RIPAS apart, no other granule is read before these: a realm call finds its own through its REC.
+-- The granules that a command names, each with the tag that it needs there. Where one has another tag, or the word is no
+-- granule's address, the reply is ERROR_INPUT (in DEN0137 the conditions on a word's alignment, bound and granule state).
+-- A realm call names none: it finds its realm through its REC, as REC_ENTER does.
 use Rattle.std.specs.Prelude.{ℕ, List, [], ◌∷◌}
 use Rattle.rmm_spec.specs.declared.call.Call.{Call}
 use Rattle.rmm_spec.specs.declared.call.Call.TheVariants as call
@@ -31,4 +31,12 @@ named (call.RttReadEntry rd ipa level) = needed rd Rd ∷ []
 named (call.RttUnmapUnprotected rd ipa) = needed rd Rd ∷ []
 named (call.RttInitRipas rd base top) = needed rd Rd ∷ []
 named (call.RttSetRipas rd rec base top) = needed rd Rd ∷ needed rec Rec ∷ []
-named _ = []
+named (call.MeasurementRead index) = []
+named (call.MeasurementExtend index size values) = []
+named call.RealmConfig = []
+named (call.IpaStateSet base top ripas) = []
+named (call.IpaStateGet ipa) = []
+named (call.HostCall imm) = []
+named call.CpuOff = []
+named call.SystemOff = []
+named call.Exit = []

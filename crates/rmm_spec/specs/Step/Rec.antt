@@ -15,7 +15,7 @@ rec_create s rd rec mpidr flags aux0 aux1 =
     decided
     (with_front s (RecCreate rd rec mpidr flags aux0 aux1)
     (row (is_new realm) (realm_error 0) -- realm_state
-    ∷ input (mpidr == realm.next_index && nat_lt mpidr 8) -- mpidr_index
+    ∷ input (mpidr == realm.next_index && nat_lt mpidr 8) -- mpidr_index; own: below 8
     ∷ []))
     (done [] (RecMade rd rec mpidr flags aux0 aux1))
 

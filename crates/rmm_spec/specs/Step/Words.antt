@@ -1,5 +1,6 @@
--- What a command's words must say by themselves, whatever the state; each answers ERROR_INPUT where it fails.
--- The name behind each is that of the failure condition in DEN0137, where it has one.
+-- What a command's words must say by themselves, whatever the state. Where one doesn't hold the reply is ERROR_INPUT.
+-- The name behind each is that of the failure condition in DEN0137; "own" is this profile's. RTT_SET_RIPAS has none here: what
+-- it requires of base and top stands behind rows with other replies.
 use Rattle.std.specs.Prelude.{ℕ, ◌-◌, ◌^◌, Bool, not, ◌&&◌, ◌||◌, nat_lt, nat_le, ◌==◌, List, [], ◌∷◌}
 use Rattle.rmm_spec.specs.declared.call.Call.{Call}
 use Rattle.rmm_spec.specs.declared.call.Call.TheVariants.{DataCreate, DataCreateUnknown, DataDestroy, RealmCreate, RecCreate, RttCreate, RttDestroy, RttMapUnprotected, RttReadEntry, RttUnmapUnprotected, RttInitRipas, MeasurementRead, MeasurementExtend, IpaStateSet, IpaStateGet, HostCall}
@@ -14,7 +15,7 @@ is_space width level = (width == 0x27 && level == 1) || (width == 0x30 && level 
 
 unfoldable pub words_of : Call → List Bool
 words_of (DataCreate rd granule ipa source flags digest) =
-    nat_le flags 1 -- flags
+    nat_le flags 1 -- own
     ∷ is_page ipa -- ipa_align
     ∷ []
 words_of (DataCreateUnknown rd granule ipa) = is_page ipa ∷ [] -- ipa_align
@@ -27,7 +28,7 @@ words_of (RealmCreate rd root width level vmid algo) =
     ∷ []
 words_of (RecCreate rd rec mpidr flags aux0 aux1) =
     (not (rec == aux0) && not (rec == aux1) && not (aux0 == aux1)) -- aux_alias
-    ∷ nat_le flags 1 -- flags
+    ∷ nat_le flags 1 -- own
     ∷ []
 words_of (RttCreate rd rtt ipa level) =
     nat_le level 3 -- level_bound
@@ -39,7 +40,7 @@ words_of (RttDestroy rd ipa level) =
     ∷ []
 words_of (RttMapUnprotected rd ipa page) =
     is_page ipa -- ipa_align
-    ∷ (is_page page && nat_lt page (2 ^ 48)) -- desc
+    ∷ (is_page page && nat_lt page (2 ^ 48)) -- own
     ∷ []
 words_of (RttReadEntry rd ipa level) =
     nat_le level 3 -- level_bound
@@ -47,7 +48,7 @@ words_of (RttReadEntry rd ipa level) =
     ∷ []
 words_of (RttUnmapUnprotected rd ipa) = is_page ipa ∷ [] -- ipa_align
 words_of (RttInitRipas rd base top) =
-    (is_page base && is_page top) -- base_align, top_align
+    (is_page base && is_page top) -- own, top_gran_align
     ∷ nat_lt base top -- size_valid
     ∷ []
 words_of (MeasurementRead index) = nat_le index 4 ∷ [] -- index_bound
@@ -61,5 +62,5 @@ words_of (IpaStateSet base top ripas) =
     ∷ nat_le ripas 1 -- ripas_valid
     ∷ []
 words_of (IpaStateGet ipa) = is_page ipa ∷ [] -- ipa_align
-words_of (HostCall imm) = nat_lt imm 0x10000 ∷ [] -- imm
+words_of (HostCall imm) = nat_lt imm 0x10000 ∷ [] -- own
 words_of _ = []
