@@ -13,9 +13,9 @@ use std::alloc::AllocError;
 
 /// Appends a certificate's text, or nothing where memory is refused, which it is only where the buffer has no room for the text.
 pub fn write(certificate: &Certificate, out: &mut Vec<u8>) -> Result<(), AllocError>
-    ensures ok { OnOk result (out.new.items ≡ out.old.items ++ certificate_text certificate.now) }
+    ensures ok { OnOk result (out.new.items ≡ out.old.items ++ certificate_text certificate.now.lines) }
     ensures err { OnErr result (out.new.items ≡ out.old.items) }
-    ensures full { OnErr result (vec_capacity out.old < vec_len out.old + length (certificate_text certificate.now)) }
+    ensures full { OnErr result (vec_capacity out.old < vec_len out.old + length (certificate_text certificate.now.lines)) }
 {
     let start = out.len();
     let written = push_certificate(out, certificate);
@@ -24,10 +24,10 @@ pub fn write(certificate: &Certificate, out: &mut Vec<u8>) -> Result<(), AllocEr
 
 // Appends a certificate's text. Where memory is refused, a beginning of it may have been appended.
 fn push_certificate(out: &mut Vec<u8>, certificate: &Certificate) -> Result<(), AllocError>
-    ensures ok { OnOk result (out.new.items ≡ out.old.items ++ certificate_text certificate.now) }
+    ensures ok { OnOk result (out.new.items ≡ out.old.items ++ certificate_text certificate.now.lines) }
     ensures kept { OnErr result (take (length out.old.items) out.new.items ≡ out.old.items) }
-    ensures beginning { OnErr result (IsBeginning out.new.items (out.old.items ++ certificate_text certificate.now)) }
-    ensures full { OnErr result (vec_capacity out.old < vec_len out.old + length (certificate_text certificate.now)) }
+    ensures beginning { OnErr result (IsBeginning out.new.items (out.old.items ++ certificate_text certificate.now.lines)) }
+    ensures full { OnErr result (vec_capacity out.old < vec_len out.old + length (certificate_text certificate.now.lines)) }
     ensures capacity { vec_capacity out.old ≤ vec_capacity out.new }
 {
     for i in 0..certificate.len() {

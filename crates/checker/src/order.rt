@@ -17,7 +17,7 @@ pub(crate) fn judge(
     certificate: &Certificate,
 ) -> Result<Verdict, AllocError>
     requires { IsHistory history.now.recorded }
-    ensures { IfOk result (λ verdict. JudgesOrder verdict history.now.recorded certificate.now) }
+    ensures { IfOk result (λ verdict. JudgesOrder verdict history.now.recorded certificate.now.lines) }
 {
     let mut replay = Replay::new(alloc, history)?;
     for i in 0..certificate.len() {

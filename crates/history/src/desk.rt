@@ -78,6 +78,7 @@ pub fn make_room_at(desks: &mut [Desk; 8]) -> Result<(), AllocError>
     ensures kept { (cpu : ℕ) (other : Desk) → cpu < 8
         → (slice_index_or desks.new cpu other).places.items ≡ (slice_index_or desks.old cpu other).places.items }
     ensures ok { OnOk result ((cpu : ℕ) (other : Desk) → cpu < 8 → 1 ≤ spare (slice_index_or desks.new cpu other).places) }
+    ensures succeeds { ((cpu : ℕ) (other : Desk) → cpu < 8 → 1 ≤ spare (slice_index_or desks.old cpu other).places) → IsOk result }
     ensures grows { (cpu : ℕ) (other : Desk) → cpu < 8
         → spare (slice_index_or desks.old cpu other).places ≤ spare (slice_index_or desks.new cpu other).places }
 {

@@ -172,6 +172,7 @@ impl History {
     pub fn make_room(&mut self) -> Result<(), AllocError>
         ensures kept { self.new.recorded ≡ self.old.recorded }
         ensures ok { OnOk result (1 ≤ self.new.room) }
+        ensures succeeds { 1 ≤ self.old.room → IsOk result }
         ensures grows { self.old.room ≤ self.new.room }
     {
         self.events.make_room()?;

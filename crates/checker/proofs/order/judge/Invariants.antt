@@ -4,4 +4,4 @@ use Rattle.checker.specs.Replay.{IsReplayOf}
 use Rattle.checker.proofs.order.judge.Given as goal
 
 abbrev pub invariant-loop-i : goal.invariant-loop-i
-invariant-loop-i l = IsReplayOf l.replay l.history.recorded (take l.i l.certificate)
+invariant-loop-i l = IsReplayOf l.replay l.history.recorded (take l.i l.certificate.lines)
