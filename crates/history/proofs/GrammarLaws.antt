@@ -13,7 +13,7 @@ use Rattle.rmm_spec.specs.Text.{IsBadLine, line_text, lines_text, parts_of}
 use Rattle.rmm_spec.specs.HistoryText.{Setup, History, IsHistory, InHistories, IsHistoryText, CanFollow, cpu_of, setup_parts, event_parts, history_text}
 use Rattle.rmm_spec.proofs.Lines.{HasNoNewline, AreOneLineEach, IsLineGrammar, IsBadLine-line, IsBadLine-unfinished, IsBadLine-full, IsOneLine-from_parts, AreOneLineEach-map, map_cut, lines_text-push, IsBadLine-end}
 use Rattle.rmm_spec.proofs.Texts.{setup_parts-are_parts, setup_parts-injective, event_parts-are_parts, event_parts-some, event_parts-injective}
-use Rattle.rmm_spec.proofs.Places.{rank}
+use Rattle.history.specs.Index.{rank}
 use Rattle.rmm_spec.proofs.Records.{CanFollow-from_push, IsHistory-push}
 use Rattle.rmm_spec.proofs.HistoryGrammar.{not-IsBadLine-history}
 use Rattle.history.specs.Faults.{BeginsWith, IsFaultOf, IsFaultAfter, IsFaultOfRewriting}
@@ -21,7 +21,7 @@ use Rattle.history.specs.declared.fault.HistoryFault.{HistoryFault}
 use Rattle.history.specs.declared.fault.HistoryFault.TheVariants.{BadLine, NoMemory}
 use Rattle.history.specs.Next.{Continues, HasNext}
 use Rattle.history.specs.Spelling.{IsHeaderOf, IsNoHeader, call_number, IsEventOf, IsNoEvent}
-use Rattle.history.proofs.DeskLaws.{next_rank, cpu_below}
+use Rattle.history.proofs.SubhistoryLaws.{next_rank, cpu_below}
 
 -- the lines of a history, each as its parts
 abbrev pub history_lines : History → List (List (List ℕ))

@@ -11,11 +11,11 @@ use Rattle.rmm_spec.specs.declared.reply.Reply.{Reply}
 use Rattle.rmm_spec.specs.CommandText.{IsCommand}
 use Rattle.rmm_spec.specs.HistoryText.{Setup, IsSetup, IsHistory, IsEvent, CanFollow, Stand, start, stand_after, stand_from, events_of, cpu_of, IsRecord}
 use Rattle.rmm_spec.specs.Linearization.{IsCalled, IsReturned, IsKnown, IsFinished}
-use Rattle.rmm_spec.proofs.Places.{rank, open_count, stand_of_record, rank-slice_get, length-stand_from, below-IsKnown, below-IsFinished, call_is_event}
+use Rattle.rmm_spec.proofs.Places.{open_count, stand_of_record, rank-slice_get, length-stand_from, below-IsKnown, below-IsFinished, call_is_event}
 use Rattle.rmm_spec.proofs.Records.{events_of-push_same, events_of-push_other, stand_from-push_at, IsHistory-push}
-use Rattle.history.specs.declared.desk.Desk.{Desk}
+use Rattle.history.specs.declared.subhistory.Subhistory.{Subhistory}
 use Rattle.history.specs.Calls.{ArePlacesOf}
-use Rattle.history.specs.Index.{HasRank, IsDesk, IsIndexed}
+use Rattle.history.specs.Index.{rank, HasRank, IsSubhistory, IsIndexed}
 
 -- what stands at a place stays there
 pub slice_get-append : {X : Type 0} (xs ys : List X) (place : ℕ) (x : X) → slice_get xs place ≡ Some x → slice_get (xs ++ ys) place ≡ Some x
@@ -62,9 +62,9 @@ next_rank events event is_record =
     rank-slice_get (cpu_of event) (events ++ event ∷ []) (length events) event is_record (slice_get-push events event) refl
     ∙ ap (λ (es : List Event). length (events_of (cpu_of event) es)) (take_at events (event ∷ []) (length events) refl)
 
--- ---- a desk
+-- ---- a subhistory
 
--- the places of a desk, after a push
+-- the places of a subhistory, after a push
 old_places : (P : ℕ → ℕ → Type 0) (places : List ℕ) (place : ℕ) → ((n : ℕ) → n < length places → P n (get_or places n 0)) → P (length places) place
     → (n : ℕ) → n < length (places ++ place ∷ []) → P n (get_or (places ++ place ∷ []) n 0)
 old_places P places place each here n within =
@@ -91,24 +91,24 @@ HasRank-push events event cpu ranked place had = record {
   is_ranked = had.is_ranked;
 }
 
--- a desk with the same places
-pub IsDesk-same : (events : List Event) (cpu : ℕ) (old new : Desk) → new.places.items ≡ old.places.items → IsDesk events cpu old → IsDesk events cpu new
-IsDesk-same events cpu old new same had = record {
+-- a subhistory with the same places
+pub IsSubhistory-same : (events : List Event) (cpu : ℕ) (old new : Subhistory) → new.places.items ≡ old.places.items → IsSubhistory events cpu old → IsSubhistory events cpu new
+IsSubhistory-same events cpu old new same had = record {
   counted = ap length same ∙ had.counted;
   each = same_places (HasRank events cpu) old.places.items new.places.items same had.each;
 }
 
 -- an event of another CPU
-IsDesk-other : (events : List Event) (event : Event) (cpu : ℕ) (desk : Desk) → eqb (cpu_of event) cpu ≡ false → IsDesk events cpu desk → IsDesk (events ++ event ∷ []) cpu desk
-IsDesk-other events event cpu desk other had = record {
+IsSubhistory-other : (events : List Event) (event : Event) (cpu : ℕ) (subhistory : Subhistory) → eqb (cpu_of event) cpu ≡ false → IsSubhistory events cpu subhistory → IsSubhistory (events ++ event ∷ []) cpu subhistory
+IsSubhistory-other events event cpu subhistory other had = record {
   counted = had.counted ∙ ap length (sym (events_of-push_other cpu events event other));
-  each = λ n within. HasRank-push events event cpu n (get_or desk.places.items n 0) (had.each n within);
+  each = λ n within. HasRank-push events event cpu n (get_or subhistory.places.items n 0) (had.each n within);
 }
 
 -- the CPU's next event, entered
-IsDesk-enters : (events : List Event) (event : Event) (cpu : ℕ) (old new : Desk) → cpu_of event ≡ cpu → rank event ≡ length old.places.items
-    → new.places.items ≡ old.places.items ++ length events ∷ [] → IsDesk events cpu old → IsDesk (events ++ event ∷ []) cpu new
-IsDesk-enters events event cpu old new same ranked entered had = record {
+IsSubhistory-enters : (events : List Event) (event : Event) (cpu : ℕ) (old new : Subhistory) → cpu_of event ≡ cpu → rank event ≡ length old.places.items
+    → new.places.items ≡ old.places.items ++ length events ∷ [] → IsSubhistory events cpu old → IsSubhistory (events ++ event ∷ []) cpu new
+IsSubhistory-enters events event cpu old new same ranked entered had = record {
   counted = ap length entered ∙ length_push old.places.items (length events) ∙ ap (λ n. n + 1) had.counted
       ∙ sym (ap length (events_of-push_same cpu events event same) ∙ length_push (events_of cpu events) event);
   each = same_places (HasRank (events ++ event ∷ []) cpu) (old.places.items ++ length events ∷ []) new.places.items entered
@@ -117,18 +117,18 @@ IsDesk-enters events event cpu old new same ranked entered had = record {
       (record { event = event; is_event = slice_get-push events event; of_cpu = same; is_ranked = ranked }));
 }
 
--- a desk without places
-IsDesk-nil : (cpu : ℕ) (desk : Desk) → desk.places.items ≡ [] → IsDesk [] cpu desk
-IsDesk-nil cpu desk none = record {
+-- a subhistory without places
+IsSubhistory-nil : (cpu : ℕ) (subhistory : Subhistory) → subhistory.places.items ≡ [] → IsSubhistory [] cpu subhistory
+IsSubhistory-nil cpu subhistory none = record {
   counted = ap length none;
   each = λ n within. absurd (omega (arith, within, ap length none));
 }
 
--- the desk's test says whether the record goes on
-pub continues_iff : (cpus : ℕ) (events : List Event) (event : Event) (desk : Desk) (answer : Bool) → cpu_of event < cpus
-    → IsRecord (events_of (cpu_of event) events) → IsDesk events (cpu_of event) desk → IsTrue answer ↔ (rank event ≡ length desk.places.items)
+-- the subhistory's test says whether the record goes on
+pub continues_iff : (cpus : ℕ) (events : List Event) (event : Event) (subhistory : Subhistory) (answer : Bool) → cpu_of event < cpus
+    → IsRecord (events_of (cpu_of event) events) → IsSubhistory events (cpu_of event) subhistory → IsTrue answer ↔ (rank event ≡ length subhistory.places.items)
     → IsTrue answer ↔ ((cpu_of event < cpus) × IsRecord (events_of (cpu_of event) (events ++ event ∷ [])))
-continues_iff cpus events event desk answer below is_record had says = (
+continues_iff cpus events event subhistory answer below is_record had says = (
   λ taken. (below, goes_on events event is_record (says.0 taken ∙ had.counted)),
   λ both. says.1 (next_rank events event both.1 ∙ sym had.counted),
 )
@@ -140,71 +140,71 @@ pub cpu_below : (cpus : ℕ) (event : Event) → IsEvent cpus event → cpu_of e
 cpu_below cpus (Called cpu number command) is_event = is_event.0
 cpu_below cpus (Returned cpu number given) is_event = is_event.0
 
--- the CPU of an event that can follow has a desk
-pub has_desk : (setup : Setup) (events : List Event) (desks : List Desk) (event : Event) → IsIndexed setup events desks
+-- the CPU of an event that can follow has a subhistory
+pub has_subhistory : (setup : Setup) (events : List Event) (subhistories : List Subhistory) (event : Event) → IsIndexed setup events subhistories
     → CanFollow (record { setup = setup; events = events }) event → cpu_of event < 8
-has_desk setup events desks event indexed can_follow =
+has_subhistory setup events subhistories event indexed can_follow =
     let history = indexed.is_history in
     let limits = history.setup in
     omega (arith, cpu_below setup.cpus event can_follow.is_event, limits.most_cpus)
 
 -- the index of no events
-pub IsIndexed-nil : (setup : Setup) (desks : List Desk) → IsSetup setup → length desks ≡ 8
-    → ((cpu : ℕ) (other : Desk) → cpu < 8 → (get_or desks cpu other).places.items ≡ []) → IsIndexed setup [] desks
-IsIndexed-nil setup desks is_setup counted each = record {
+pub IsIndexed-nil : (setup : Setup) (subhistories : List Subhistory) → IsSetup setup → length subhistories ≡ 8
+    → ((cpu : ℕ) (other : Subhistory) → cpu < 8 → (get_or subhistories cpu other).places.items ≡ []) → IsIndexed setup [] subhistories
+IsIndexed-nil setup subhistories is_setup counted each = record {
   is_history = record { setup = is_setup; events = tt; records = λ cpu. refl; lines = omega arith };
   counted = counted;
-  each = λ cpu other within. IsDesk-nil cpu (get_or desks cpu other) (each cpu other within);
+  each = λ cpu other within. IsSubhistory-nil cpu (get_or subhistories cpu other) (each cpu other within);
 }
 
--- the index with desks that have the same places
-pub IsIndexed-same : (setup : Setup) (events : List Event) (old new : List Desk) → length new ≡ 8
-    → ((cpu : ℕ) (other : Desk) → cpu < 8 → (get_or new cpu other).places.items ≡ (get_or old cpu other).places.items)
+-- the index with subhistories that have the same places
+pub IsIndexed-same : (setup : Setup) (events : List Event) (old new : List Subhistory) → length new ≡ 8
+    → ((cpu : ℕ) (other : Subhistory) → cpu < 8 → (get_or new cpu other).places.items ≡ (get_or old cpu other).places.items)
     → IsIndexed setup events old → IsIndexed setup events new
 IsIndexed-same setup events old new counted same indexed = record {
   is_history = indexed.is_history;
   counted = counted;
-  each = λ cpu other within. IsDesk-same events cpu (get_or old cpu other) (get_or new cpu other) (same cpu other within) (indexed.each cpu other within);
+  each = λ cpu other within. IsSubhistory-same events cpu (get_or old cpu other) (get_or new cpu other) (same cpu other within) (indexed.each cpu other within);
 }
 
--- the index with another desk for a CPU
-IsIndexed-set : (setup : Setup) (events more : List Event) (desks : List Desk) (at : ℕ) (new : Desk) → IsHistory (record { setup = setup; events = more })
-    → length desks ≡ 8 → at < 8 → IsDesk more at new
-    → ((cpu : ℕ) (other : Desk) → cpu < 8 → (cpu ≡ at → ⊥) → IsDesk more cpu (get_or desks cpu other)) → IsIndexed setup more (set desks at new)
-IsIndexed-set setup events more desks at new is_history counted within_desks desk others = record {
+-- the index with another subhistory for a CPU
+IsIndexed-set : (setup : Setup) (events more : List Event) (subhistories : List Subhistory) (at : ℕ) (new : Subhistory) → IsHistory (record { setup = setup; events = more })
+    → length subhistories ≡ 8 → at < 8 → IsSubhistory more at new
+    → ((cpu : ℕ) (other : Subhistory) → cpu < 8 → (cpu ≡ at → ⊥) → IsSubhistory more cpu (get_or subhistories cpu other)) → IsIndexed setup more (set subhistories at new)
+IsIndexed-set setup events more subhistories at new is_history counted within_subhistories subhistory others = record {
   is_history = is_history;
-  counted = length-set desks at new ∙ counted;
+  counted = length-set subhistories at new ∙ counted;
   each = λ cpu other within. ⊎_elim
       (λ (here : cpu ≡ at).
-      subst (λ k. IsDesk more k (get_or (set desks at new) k other)) (sym here)
-      (subst (IsDesk more at) (sym (get_or-set_same desks at new other (omega (arith, counted)))) desk))
+      subst (λ k. IsSubhistory more k (get_or (set subhistories at new) k other)) (sym here)
+      (subst (IsSubhistory more at) (sym (get_or-set_same subhistories at new other (omega (arith, counted)))) subhistory))
       (λ (elsewhere : cpu ≡ at → ⊥).
-      subst (IsDesk more cpu) (sym (get_or-set_other desks at cpu new other elsewhere)) (others cpu other within elsewhere))
+      subst (IsSubhistory more cpu) (sym (get_or-set_other subhistories at cpu new other elsewhere)) (others cpu other within elsewhere))
       (cases_eq cpu at);
 }
 
--- the index where the desk's growth was refused
-pub IsIndexed-refused : (setup : Setup) (events : List Event) (desks : List Desk) (at : ℕ) (other new : Desk) → IsIndexed setup events desks → at < 8
-    → new.places.items ≡ (get_or desks at other).places.items → IsIndexed setup events (set desks at new)
-IsIndexed-refused setup events desks at other new indexed within same =
-    IsIndexed-set setup events events desks at new indexed.is_history indexed.counted within
-    (IsDesk-same events at (get_or desks at other) new same (indexed.each at other within))
+-- the index where the subhistory's growth was refused
+pub IsIndexed-refused : (setup : Setup) (events : List Event) (subhistories : List Subhistory) (at : ℕ) (other new : Subhistory) → IsIndexed setup events subhistories → at < 8
+    → new.places.items ≡ (get_or subhistories at other).places.items → IsIndexed setup events (set subhistories at new)
+IsIndexed-refused setup events subhistories at other new indexed within same =
+    IsIndexed-set setup events events subhistories at new indexed.is_history indexed.counted within
+    (IsSubhistory-same events at (get_or subhistories at other) new same (indexed.each at other within))
     (λ cpu another below elsewhere. indexed.each cpu another below)
 
 -- the index where the event was recorded
-pub IsIndexed-push : (setup : Setup) (events : List Event) (desks : List Desk) (event : Event) (other new : Desk) → IsIndexed setup events desks
+pub IsIndexed-push : (setup : Setup) (events : List Event) (subhistories : List Subhistory) (event : Event) (other new : Subhistory) → IsIndexed setup events subhistories
     → CanFollow (record { setup = setup; events = events }) event → length events + 1 < 1000000
-    → new.places.items ≡ (get_or desks (cpu_of event) other).places.items ++ length events ∷ []
-    → IsIndexed setup (events ++ event ∷ []) (set desks (cpu_of event) new)
-IsIndexed-push setup events desks event other new indexed can_follow room entered =
-    let within = has_desk setup events desks event indexed can_follow in
+    → new.places.items ≡ (get_or subhistories (cpu_of event) other).places.items ++ length events ∷ []
+    → IsIndexed setup (events ++ event ∷ []) (set subhistories (cpu_of event) new)
+IsIndexed-push setup events subhistories event other new indexed can_follow room entered =
+    let within = has_subhistory setup events subhistories event indexed can_follow in
     let had = indexed.each (cpu_of event) other within in
-    IsIndexed-set setup events (events ++ event ∷ []) desks (cpu_of event) new
+    IsIndexed-set setup events (events ++ event ∷ []) subhistories (cpu_of event) new
     (IsHistory-push (record { setup = setup; events = events }) event indexed.is_history can_follow room) indexed.counted within
-    (IsDesk-enters events event (cpu_of event) (get_or desks (cpu_of event) other) new refl
+    (IsSubhistory-enters events event (cpu_of event) (get_or subhistories (cpu_of event) other) new refl
     (next_rank events event can_follow.record_goes_on ∙ sym had.counted) entered had)
     (λ cpu another below elsewhere.
-    IsDesk-other events event cpu (get_or desks cpu another)
+    IsSubhistory-other events event cpu (get_or subhistories cpu another)
     (⊎_elim (λ (same : eqb (cpu_of event) cpu ≡ true). absurd (elsewhere (sym (eqb-true (cpu_of event) cpu same))))
     (λ (differ : eqb (cpu_of event) cpu ≡ false). differ) (cases_Bool (eqb (cpu_of event) cpu)))
     (indexed.each cpu another below))
@@ -220,18 +220,18 @@ unknown_cpu setup events cpu is_history past number known =
     omega (arith, made.0)
 
 -- a call past the places isn't known, and one whose return is past them isn't finished
-pub unknown_past : (events : List Event) (cpu number : ℕ) (desk : Desk) → IsDesk events cpu desk → IsRecord (events_of cpu events)
-    → length desk.places.items ≤ number + number → IsKnown events cpu number → ⊥
-unknown_past events cpu number desk had is_record past known = omega (arith, below-IsKnown cpu number events is_record known, had.counted)
+pub unknown_past : (events : List Event) (cpu number : ℕ) (subhistory : Subhistory) → IsSubhistory events cpu subhistory → IsRecord (events_of cpu events)
+    → length subhistory.places.items ≤ number + number → IsKnown events cpu number → ⊥
+unknown_past events cpu number subhistory had is_record past known = omega (arith, below-IsKnown cpu number events is_record known, had.counted)
 
-unfinished_past : (events : List Event) (cpu number : ℕ) (desk : Desk) → IsDesk events cpu desk → IsRecord (events_of cpu events)
-    → length desk.places.items ≤ number + number + 1 → IsFinished events cpu number → ⊥
-unfinished_past events cpu number desk had is_record past finished = omega (arith, below-IsFinished cpu number events is_record finished, had.counted)
+unfinished_past : (events : List Event) (cpu number : ℕ) (subhistory : Subhistory) → IsSubhistory events cpu subhistory → IsRecord (events_of cpu events)
+    → length subhistory.places.items ≤ number + number + 1 → IsFinished events cpu number → ⊥
+unfinished_past events cpu number subhistory had is_record past finished = omega (arith, below-IsFinished cpu number events is_record finished, had.counted)
 
--- the place that a desk has for a rank
-rank_at : (events : List Event) (cpu ranked place : ℕ) (desk : Desk) → IsDesk events cpu desk → ranked < length desk.places.items
-    → place ≡ get_or desk.places.items ranked 0 → HasRank events cpu ranked place
-rank_at events cpu ranked place desk had within is_place = subst (HasRank events cpu ranked) (sym is_place) (had.each ranked within)
+-- the place that a subhistory has for a rank
+rank_at : (events : List Event) (cpu ranked place : ℕ) (subhistory : Subhistory) → IsSubhistory events cpu subhistory → ranked < length subhistory.places.items
+    → place ≡ get_or subhistory.places.items ranked 0 → HasRank events cpu ranked place
+rank_at events cpu ranked place subhistory had within is_place = subst (HasRank events cpu ranked) (sym is_place) (had.each ranked within)
 
 -- the event of a call's rank is that call, and the event of a return's rank its return
 call_at : (events : List Event) (cpu number place : ℕ) → HasRank events cpu (number + number) place
@@ -256,20 +256,20 @@ return_at events cpu number place has = of_event has.event has.is_event has.of_c
         let number_is : n ≡ number = omega (arith, ranked) in
         (given, is_event ∙ ap (λ (x : ℕ). Some (Returned x n given)) same ∙ ap (λ (x : ℕ). Some (Returned cpu x given)) number_is)
 
--- what a desk has for the ranks of a call and of its return are their places
-pub ArePlacesOf-desk : (events : List Event) (cpu number : ℕ) (desk : Desk) (called : ℕ) (returned : Option ℕ) → IsDesk events cpu desk → IsRecord (events_of cpu events)
-    → number + number < length desk.places.items → called ≡ get_or desk.places.items (number + number) 0
-    → MatchOption returned (length desk.places.items ≤ number + number + 1)
-    (λ place. (number + number + 1 < length desk.places.items) × (place ≡ get_or desk.places.items (number + number + 1) 0))
+-- what a subhistory has for the ranks of a call and of its return are their places
+pub ArePlacesOf-subhistory : (events : List Event) (cpu number : ℕ) (subhistory : Subhistory) (called : ℕ) (returned : Option ℕ) → IsSubhistory events cpu subhistory → IsRecord (events_of cpu events)
+    → number + number < length subhistory.places.items → called ≡ get_or subhistory.places.items (number + number) 0
+    → MatchOption returned (length subhistory.places.items ≤ number + number + 1)
+    (λ place. (number + number + 1 < length subhistory.places.items) × (place ≡ get_or subhistory.places.items (number + number + 1) 0))
     → ArePlacesOf events cpu number (record { called = called; returned = returned })
-ArePlacesOf-desk events cpu number desk called returned had is_record within is_called is_returned = record {
-  called = call_at events cpu number called (rank_at events cpu (number + number) called desk had within is_called);
+ArePlacesOf-subhistory events cpu number subhistory called returned had is_record within is_called is_returned = record {
+  called = call_at events cpu number called (rank_at events cpu (number + number) called subhistory had within is_called);
   returned = of_return returned is_returned;
 }
   where
     of_return : (place : Option ℕ)
-        → MatchOption place (length desk.places.items ≤ number + number + 1)
-        (λ at. (number + number + 1 < length desk.places.items) × (at ≡ get_or desk.places.items (number + number + 1) 0))
+        → MatchOption place (length subhistory.places.items ≤ number + number + 1)
+        (λ at. (number + number + 1 < length subhistory.places.items) × (at ≡ get_or subhistory.places.items (number + number + 1) 0))
         → MatchOption place (¬ IsFinished events cpu number) (λ at. (given : Reply) × IsReturned events at cpu number given)
-    of_return None past = unfinished_past events cpu number desk had is_record past
-    of_return (Some at) is = return_at events cpu number at (rank_at events cpu (number + number + 1) at desk had is.0 is.1)
+    of_return None past = unfinished_past events cpu number subhistory had is_record past
+    of_return (Some at) is = return_at events cpu number at (rank_at events cpu (number + number + 1) at subhistory had is.0 is.1)

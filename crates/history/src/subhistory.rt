@@ -4,23 +4,23 @@ ghost use Rattle.std.specs.Prelude.{◌≡◌, ℕ, ◌+◌, ◌<◌, ◌≤◌,
 ghost use Rattle.rmm_spec.proofs.Places.{rank};
 ghost use Rattle.history.specs.EventRef.{event_seen};
 ghost use Rattle.history.specs.Room.{spare};
-ghost use Rattle.history.specs.declared.desk.Desk.{Desk};
+ghost use Rattle.history.specs.declared.subhistory.Subhistory.{Subhistory};
 
 use crate::event_ref::EventRef;
 use std::alloc::{AllocError, Global};
 
 /// The places of a CPU's events. Calls and returns take turns, so that call n stands at 2n and its return behind it.
 #[derive(Debug, Drop)]
-pub struct Desk {
+pub struct Subhistory {
     pub places: Vec<u32>,
 }
 
-impl Desk {
+impl Subhistory {
     /// No event yet.
-    pub fn new(alloc: Global) -> Desk
+    pub fn new(alloc: Global) -> Subhistory
         ensures { result.places.items ≡ [] }
     {
-        Desk {
+        Subhistory {
             places: Vec::new(alloc),
         }
     }
@@ -72,18 +72,18 @@ impl Desk {
     }
 }
 
-/// Makes room for one more event at each desk.
-pub fn make_room_at(desks: &mut [Desk; 8]) -> Result<(), AllocError>
-    ensures counted { length desks.new ≡ 8 }
-    ensures kept { (cpu : ℕ) (other : Desk) → cpu < 8
-        → (slice_index_or desks.new cpu other).places.items ≡ (slice_index_or desks.old cpu other).places.items }
-    ensures ok { OnOk result ((cpu : ℕ) (other : Desk) → cpu < 8 → 1 ≤ spare (slice_index_or desks.new cpu other).places) }
-    ensures succeeds { ((cpu : ℕ) (other : Desk) → cpu < 8 → 1 ≤ spare (slice_index_or desks.old cpu other).places) → IsOk result }
-    ensures grows { (cpu : ℕ) (other : Desk) → cpu < 8
-        → spare (slice_index_or desks.old cpu other).places ≤ spare (slice_index_or desks.new cpu other).places }
+/// Makes room for one more event at each subhistory.
+pub fn make_room_at(subhistories: &mut [Subhistory; 8]) -> Result<(), AllocError>
+    ensures counted { length subhistories.new ≡ 8 }
+    ensures kept { (cpu : ℕ) (other : Subhistory) → cpu < 8
+        → (slice_index_or subhistories.new cpu other).places.items ≡ (slice_index_or subhistories.old cpu other).places.items }
+    ensures ok { OnOk result ((cpu : ℕ) (other : Subhistory) → cpu < 8 → 1 ≤ spare (slice_index_or subhistories.new cpu other).places) }
+    ensures succeeds { ((cpu : ℕ) (other : Subhistory) → cpu < 8 → 1 ≤ spare (slice_index_or subhistories.old cpu other).places) → IsOk result }
+    ensures grows { (cpu : ℕ) (other : Subhistory) → cpu < 8
+        → spare (slice_index_or subhistories.old cpu other).places ≤ spare (slice_index_or subhistories.new cpu other).places }
 {
-    for cpu in 0..desks.len() {
-        desks[cpu].make_room()?;
+    for cpu in 0..subhistories.len() {
+        subhistories[cpu].make_room()?;
     }
     Ok(())
 }
