@@ -3,3 +3,4 @@ pub mod RoomLaws
 pub mod GrammarLaws
 pub mod SpellingLaws
 mod EventLogLaws
+pub mod WriteLaws
