@@ -4,8 +4,8 @@ use Rattle.certificate.specs.LineRef.{line_seen}
 use Rattle.spec_machine.specs.View.{state_of}
 use Rattle.checker.proofs.Faults.{FirstFault-from_FailsBy, Progress-next, Progress-whole, FirstFault-missing, Accepts-from_Passes}
 use Rattle.checker.proofs.Judging.{HasOnePlaces-from_history}
-use Rattle.checker.proofs.order.judge.Goals as goal
-use Rattle.checker.proofs.order.judge.Goals.{in-Some-first_missing, in-None}
+use Rattle.checker.proofs.order.judge_order.Goals as goal
+use Rattle.checker.proofs.order.judge_order.Goals.{in-Some-first_missing, in-None}
 
 pub returns-in-Some : goal.returns-in-Some
 returns-in-Some c =
