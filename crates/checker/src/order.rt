@@ -11,7 +11,7 @@ use rmm_spec::{Reason, Verdict};
 use std::alloc::{AllocError, Global};
 
 /// Whether the certificate's order is a linearization of the history, or the first step that fails.
-pub(crate) fn judge(
+pub(crate) fn judge_order(
     alloc: Global,
     history: &History,
     certificate: &Certificate,
