@@ -1,0 +1,25 @@
+-- What contracts see of a recorder and its passes.
+use Rattle.std.specs.Prelude.{ℕ, Bool, List}
+use Rattle.atomic_table.specs.Seated.{TableId}
+use Rattle.rmm_spec.specs.declared.event.Event.{Event}
+use Rattle.rmm_spec.specs.HistoryText.{Stand}
+
+-- which queue it is, how many events it holds at most, and of how many CPUs
+pub record RecorderView : Type 0 where
+  pub queue : TableId
+  pub capacity : ℕ
+
+-- a CPU's own list of events, where it leads, and whether an event was lost
+pub record CpuView : Type 0 where
+  pub queue : TableId
+  pub cpus : ℕ
+  pub cpu : ℕ
+  pub events : List Event
+  pub stand : Stand
+  pub is_stopped : Bool
+
+-- all events that were drained
+pub record ScribeView : Type 0 where
+  pub queue : TableId
+  pub cpus : ℕ
+  pub events : List Event
