@@ -38,6 +38,7 @@ are_records-more cpus all old = record { each = more all old.each; records = old
     event_more : (event : Event) → IsEvent cpus event → IsEvent (cpus + 1) event
     event_more (Called cpu number command) is_event = (omega (arith, is_event.0), is_event.1)
     event_more (Returned cpu number given) is_event = (omega (arith, is_event.0), is_event.1)
+
     more : (events : List Event) → AllByRecursion (IsEvent cpus) events → AllByRecursion (IsEvent (cpus + 1)) events
     more [] each = tt
     more (event ∷ events) each = (event_more event each.0, more events each.1)
@@ -132,10 +133,10 @@ records n place page event holder is_event goes_on queued pages room book at =
     let mine = cpu_page_of ledger all place page (cpu_of event) holder (kept.each place page at) in
     let new : Page = record page { events = page.events ++ event ∷ [] } in
     let own : page.events ++ event ∷ [] ≡ events_of (cpu_of event) (all ++ event ∷ []) =
-        ap (λ (es : List Event). es ++ event ∷ []) mine.own ∙ sym (events_of-push_same (cpu_of event) all event refl) in
+    ap (λ (es : List Event). es ++ event ∷ []) mine.own ∙ sym (events_of-push_same (cpu_of event) all event refl) in
     let more : all ++ event ∷ [] ≡ ledger.drained ++ (queued ++ event ∷ []) = append_assoc ledger.drained queued (event ∷ []) in
     let is_new : IsCpuPage ledger (all ++ event ∷ []) (cpu_of event) place new =
-        record { is_seated = mine.is_seated; is_there = mine.is_there; same_cpus = mine.same_cpus; own = own } in (
+    record { is_seated = mine.is_seated; is_there = mine.is_there; same_cpus = mine.same_cpus; own = own } in (
       new,
       (
         ledger,
@@ -146,8 +147,8 @@ records n place page event holder is_event goes_on queued pages room book at =
               (events_of-push_other cpu all event (ne_eqb (cpu_of event) cpu (λ same. let is_seated = mine.is_seated in absurd (omega arith))) ∙ kept.unseated cpu none);
           each = subst (λ (es : List Event). (other : ℕ) (p : Page) → get_elem? (set pages place new) other ≡ some p → IsPageOf p.holder ledger es other p) more
               (each_set (λ other p. IsPageOf p.holder ledger (all ++ event ∷ []) other p) pages place new
-                  (subst (λ h. IsPageOf h ledger (all ++ event ∷ []) place new) (sym holder) is_new)
-                  (λ other p apart is. page-recorded ledger all event place other p p.holder mine.is_there apart (kept.each other p is)));
+              (subst (λ h. IsPageOf h ledger (all ++ event ∷ []) place new) (sym holder) is_new)
+              (λ other p apart is. page-recorded ledger all event place other p p.holder mine.is_there apart (kept.each other p is)));
         },
       ),
       refl,
@@ -190,8 +191,8 @@ drains place page holder event queued pages book at =
     } in
     let cpu = cpu_of event in
     let beginning : IsRecord (events_of cpu drained) =
-        IsRecord-beginning (events_of cpu drained) (events_of cpu queued)
-            (subst IsRecord (ap (events_of cpu) same ∙ filter-append (λ e. eqb (cpu_of e) cpu) drained queued) (kept.are_records.records cpu)) in (
+    IsRecord-beginning (events_of cpu drained) (events_of cpu queued)
+    (subst IsRecord (ap (events_of cpu) same ∙ filter-append (λ e. eqb (cpu_of e) cpu) drained queued) (kept.are_records.records cpu)) in (
       new,
       (
         after,
@@ -200,8 +201,8 @@ drains place page holder event queued pages book at =
           unseated = λ other none. subst (λ (es : List Event). events_of other es ≡ []) same (kept.unseated other none);
           each = subst (λ (es : List Event). (other : ℕ) (p : Page) → get_elem? (set pages place new) other ≡ some p → IsPageOf p.holder after es other p) same
               (each_set (λ other p. IsPageOf p.holder after all other p) pages place new
-                  (subst (λ h. IsPageOf h after all place new) (sym holder) is_new)
-                  (λ other p apart is. page-drained ledger all drained place other p p.holder mine.is_there apart (kept.each other p is)));
+              (subst (λ h. IsPageOf h after all place new) (sym holder) is_new)
+              (λ other p apart is. page-drained ledger all drained place other p p.holder mine.is_there apart (kept.each other p is)));
         },
       ),
       record {
@@ -240,8 +241,8 @@ counts place page holder none queued pages book at =
         unseated = kept.unseated;
         each = each_push (λ other p. IsPageOf p.holder after all other p) (set pages place new) nobody_page tt
             (each_set (λ other p. IsPageOf p.holder after all other p) pages place new
-                (subst (λ h. IsPageOf h after all place new) (sym holder) is_new)
-                (λ other p apart is. page-counted ledger all place other p p.holder (sym mine.same_seated ∙ none) mine.is_there apart (kept.each other p is)));
+            (subst (λ h. IsPageOf h after all place new) (sym holder) is_new)
+            (λ other p apart is. page-counted ledger all place other p p.holder (sym mine.same_seated ∙ none) mine.is_there apart (kept.each other p is)));
       },
     )
 
@@ -304,7 +305,7 @@ seats place page holder queued pages book at =
         unseated = λ cpu none. kept.unseated cpu (omega arith);
         each = each_push (λ other p. IsPageOf p.holder after all other p) (set pages place new) (cpu_page page.cpus page.seated) is_last
             (each_set (λ other p. IsPageOf p.holder after all other p) pages place new
-                (subst (λ h. IsPageOf h after all place new) (sym holder) is_new)
-                (λ other p apart is. page-seated ledger all place last other p p.holder mine.is_there apart (kept.each other p is)));
+            (subst (λ h. IsPageOf h after all place new) (sym holder) is_new)
+            (λ other p apart is. page-seated ledger all place last other p p.holder mine.is_there apart (kept.each other p is)));
       },
     )

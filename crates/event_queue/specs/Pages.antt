@@ -7,9 +7,12 @@ use Rattle.event_queue.specs.declared.book.Holder.TheVariants.{Cpu, Scribe, Nobo
 use Rattle.event_queue.specs.declared.book.Page.{Page}
 use Rattle.event_queue.specs.Records.{MayBeQueued}
 
--- the scribe's, before any CPU is counted
+-- the scribe's before any event, where so many CPUs are counted and so many of them have a page
+abbrev pub scribe_page : ℕ → ℕ → Page
+scribe_page cpus seated = record { holder = Scribe; cpus = cpus; seated = seated; events = [] }
+
 abbrev pub opening_page : Page
-opening_page = record { holder = Scribe; cpus = 0; seated = 0; events = [] }
+opening_page = scribe_page 0 0
 
 -- of no use
 abbrev pub nobody_page : Page

@@ -1,8 +1,8 @@
 -- What contracts see of a recorder and its passes.
-use Rattle.std.specs.Prelude.{ℕ, Bool, List}
+use Rattle.std.specs.Prelude.{ℕ, Bool, false, List, []}
 use Rattle.atomic_table.specs.Seated.{TableId}
 use Rattle.rmm_spec.specs.declared.event.Event.{Event}
-use Rattle.rmm_spec.specs.HistoryText.{Stand}
+use Rattle.rmm_spec.specs.HistoryText.{Stand, start}
 
 -- which queue it is, how many events it holds at most, and of how many CPUs
 pub record RecorderView : Type 0 where
@@ -23,3 +23,7 @@ pub record ScribeView : Type 0 where
   pub queue : TableId
   pub cpus : ℕ
   pub events : List Event
+
+-- a CPU's before its first call
+abbrev pub before_calls : TableId → ℕ → ℕ → CpuView
+before_calls queue cpus cpu = record { queue = queue; cpus = cpus; cpu = cpu; events = []; stand = start; is_stopped = false }

@@ -6,6 +6,7 @@ ghost use Rattle.rmm_spec.specs.CommandText.{IsCommand};
 ghost use Rattle.rmm_spec.specs.HistoryText.{start, stand_from};
 ghost use Rattle.event_queue.specs.Pages.{cpu_page};
 ghost use Rattle.event_queue.specs.Records.{WasFull};
+ghost use Rattle.event_queue.specs.View.{before_calls};
 
 use crate::book::{PagePass, Queue, Records};
 use crate::full::Full;
@@ -76,20 +77,12 @@ impl CpuPass {
     }
 
     /// The pass of a CPU before its first call.
-    pub(crate) fn seated(pass: PagePass, cpu: u8, cpus: u8) -> CpuPass
-        requires cpu { cpu < cpus }
+    pub(crate) fn seated(pass: PagePass, cpu: u8) -> CpuPass
+        requires cpu { cpu < (page_of pass).cpus }
         requires clear { pass.me.1 ≡ [] }
-        requires page { page_of pass ≡ cpu_page cpus cpu }
-        ensures { result ≡ record {
-            queue = pass.table_id;
-            cpus = cpus;
-            cpu = cpu;
-            events = [];
-            stand = start;
-            is_stopped = false;
-        } }
+        requires page { page_of pass ≡ cpu_page (page_of pass).cpus cpu }
+        ensures { result ≡ before_calls pass.table_id (page_of pass).cpus cpu }
     {
-        let _ = cpus;
         CpuPass {
             pass,
             cpu,
@@ -112,8 +105,8 @@ impl CpuPass {
         requires number { self.old.stand.next ≤ 999999 }
         ensures number { IfOk result (λ number. number ≡ self.old.stand.next) }
         ensures called { OnOk result (self.new ≡ record self.old {
-            events = self.old.events ++ Event.Called self.old.cpu self.old.stand.next command ∷ [];
-            stand = record { next = self.old.stand.next + 1; is_open = true };
+          events = self.old.events ++ Event.Called self.old.cpu self.old.stand.next command ∷ [];
+          stand = record { next = self.old.stand.next + 1; is_open = true };
         }) }
         ensures full { OnErr result (self.new ≡ self.old) }
         ensures cause { OnErr result (WasFull (ruled_capacity queue.now) self.old.cpus self.old.cpu self.old.events) }
@@ -144,8 +137,8 @@ impl CpuPass {
         requires queue { queue.now.table.shared.table_id ≡ self.old.queue }
         requires open { IsTrue self.old.stand.is_open }
         ensures returned { OnOk result (self.new ≡ record self.old {
-            events = self.old.events ++ Event.Returned self.old.cpu (self.old.stand.next - 1) reply ∷ [];
-            stand = record { next = self.old.stand.next; is_open = false };
+          events = self.old.events ++ Event.Returned self.old.cpu (self.old.stand.next - 1) reply ∷ [];
+          stand = record { next = self.old.stand.next; is_open = false };
         }) }
         ensures full { OnErr result (self.new ≡ record self.old { is_stopped = true }) }
         ensures cause { OnErr result (WasFull (ruled_capacity queue.now) self.old.cpus self.old.cpu self.old.events) }
