@@ -16,3 +16,6 @@ pub use full::Full;
 pub use history::{Command, Event, History, Reply};
 pub use recorder::Recorder;
 pub use scribe_pass::ScribePass;
+
+#[cfg(test)]
+mod tests;

@@ -7,7 +7,7 @@ ghost use Rattle.rmm_spec.specs.HistoryText.{start};
 ghost use Rattle.crossbeam_queue.specs.Passes.{IsPassOf, view as page_of};
 ghost use Rattle.event_queue.specs.Pages.{opening_page, scribe_page};
 ghost use Rattle.event_queue.specs.Records.{WasFull};
-ghost use Rattle.event_queue.specs.View.{ScribeView, before_calls};
+ghost use Rattle.event_queue.specs.View.{CanDrain, before_calls};
 
 use crate::book::{Counts, PagePass, Queue, Seats};
 use crate::cpu_pass::CpuPass;
@@ -102,9 +102,7 @@ impl Recorder {
         scribe: &mut ScribePass,
         history: &mut History,
     ) -> Result<usize, AllocError>
-        requires queue { scribe.old.queue ≡ self.now.queue }
-        requires cpus { history.old.recorded.setup.cpus ≡ scribe.old.cpus }
-        requires events { history.old.recorded.events ≡ scribe.old.events }
+        requires { CanDrain self.now.queue scribe.old history.old.recorded }
         ensures taken { (taken : List Event) × (scribe.new ≡ record scribe.old { events = scribe.old.events ++ taken })
             × (length taken ≤ self.now.capacity) × IfOk result (λ count. count ≡ length taken) }
         ensures history { history.new.recorded ≡ record history.old.recorded { events = scribe.new.events } }
@@ -125,9 +123,7 @@ impl Recorder {
         scribe: &mut ScribePass,
         history: &mut History,
     ) -> Result<bool, AllocError>
-        requires queue { scribe.old.queue ≡ self.now.queue }
-        requires cpus { history.old.recorded.setup.cpus ≡ scribe.old.cpus }
-        requires events { history.old.recorded.events ≡ scribe.old.events }
+        requires { CanDrain self.now.queue scribe.old history.old.recorded }
         ensures moved { IfOk result (λ moved. IsTrue moved → (event : Event) × (scribe.new ≡ record scribe.old { events = scribe.old.events ++ event ∷ [] })) }
         ensures stays { IfOk result (λ moved. moved ≡ false → scribe.new ≡ scribe.old) }
         ensures err { OnErr result (scribe.new ≡ scribe.old) }
