@@ -11,17 +11,18 @@ use std::io;
 use std::io::{ErrorKind, Read, Seek, SeekFrom, Write};
 use std::rt::{Env, Files};
 
-/// A file that gives a few bytes a read, and fails once it was read so often.
+/// A file that gives a few bytes a read, and fails in this way once it was read so often.
 #[derive(Clone, Copy)]
 pub struct Paper {
     pub bytes: &'static [u8],
     pub reads: usize,
+    pub failure: ErrorKind,
 }
 
 impl Read for Paper {
     fn read(&mut self, buf: &mut [u8]) -> io::Result<usize> {
         if self.reads == 0 {
-            return Err(io::Error::from(ErrorKind::Other));
+            return Err(io::Error::from(self.failure));
         }
         self.reads -= 1;
         let count = self.bytes.len().min(buf.len()).min(7);

@@ -1,9 +1,10 @@
 //! `judge` over devices of the test's, each of which fails at one of its calls.
 
 ghost use Rattle.std.specs.Prelude.{IsTrue, Some, ◌++◌};
-ghost use Rattle.scenarios.specs.Sink.{prepared_room};
+ghost use Rattle.judging.specs.Sink.{prepared_room};
 
-use scenarios::{JudgeFault, MOST_BYTES, ReadError, Sink, Source, WriteError, judge};
+use judging::{MOST_BYTES, ReadError, WriteError};
+use scenarios::{JudgeFault, Sink, Source, judge};
 use std::alloc::{AllocError, Global};
 use std::test::Fail;
 
@@ -97,6 +98,8 @@ impl TornSink {
 
 impl Sink for TornSink {
     ghost taken = { λ sink. sink.taken.items };
+
+    ghost contents = { λ sink. Some sink.taken.items };
 
     ghost room = { λ sink. prepared_room sink.taken.len sink.taken.cap sink.failures };
 

@@ -4,6 +4,7 @@ use crate::desk::{Desk, Paper};
 use scenarios::run;
 use std::alloc::Global;
 use std::cell::RefCell;
+use std::io::ErrorKind;
 use std::test::Fail;
 
 const HISTORY: &[u8] = b"rmh1 4 1\nc 0 0 c4000151 1000\nr 0 0 ok\n";
@@ -11,7 +12,20 @@ const HISTORY: &[u8] = b"rmh1 4 1\nc 0 0 c4000151 1000\nr 0 0 ok\n";
 const CERTIFICATE: &[u8] = b"k 0 0\n";
 
 fn paper(bytes: &'static [u8], reads: usize) -> Option<Paper> {
-    Some(Paper { bytes, reads })
+    Some(Paper {
+        bytes,
+        reads,
+        failure: ErrorKind::Other,
+    })
+}
+
+// A file for which no memory is left once it was read so often.
+fn large_paper(bytes: &'static [u8], reads: usize) -> Option<Paper> {
+    Some(Paper {
+        bytes,
+        reads,
+        failure: ErrorKind::OutOfMemory,
+    })
 }
 
 // A runtime on which the words ask for a check and all goes well.
@@ -104,6 +118,24 @@ fn first_fault_ends_the_program(rt: HostRuntime) -> Result<(), Fail> {
             line.as_str() == expected.as_str(),
             "{line} in place of {fault}"
         );
+    }
+    Ok(())
+}
+
+#[test]
+fn refused_memory_is_reported(rt: HostRuntime) -> Result<(), Fail> {
+    let (whole_history, whole_certificate) = (paper(HISTORY, 100), paper(CERTIFICATE, 100));
+    let cases = [
+        (large_paper(HISTORY, 0), whole_certificate),
+        (large_paper(HISTORY, 3), whole_certificate),
+        (whole_history, large_paper(CERTIFICATE, 1)),
+    ];
+    for (history, certificate) in cases {
+        let mut desk = desk(rt.alloc(), "rmmcheck check h c");
+        desk.history = history;
+        desk.certificate = certificate;
+        let line = outcome(desk)?;
+        assert!(rt; line.as_str() == "3||rmmcheck: no memory\n", "{line}");
     }
     Ok(())
 }

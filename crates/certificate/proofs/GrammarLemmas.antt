@@ -1,18 +1,17 @@
 -- How a reader of a certificate, with its lines so far, comes to the certificate of a text or to its bad line.
-use Rattle.std.proofs.Common.{◌≡◌, ◌≢◌, ℕ, ◌+◌, ◌<◌, ◌≤◌, List, [], ◌∷◌, ◌++◌, map, length, take, Bool, false, Some, Result, Err, sym, ap, ◌∙◌, subst, arith, append_assoc, length-append, ⊎_elim}
-use Rattle.std.specs.Prelude.{IsTrue, ◌↔◌, IfErr, slice_get}
+use Rattle.std.proofs.Common.{◌≡◌, ◌≢◌, ℕ, ◌+◌, ◌<◌, ◌≤◌, List, [], ◌∷◌, ◌++◌, map, length, Bool, false, Result, Err, sym, ap, ◌∙◌, subst, arith, append_assoc, length-append, ⊎_elim}
+use Rattle.std.specs.Prelude.{IsTrue, ◌↔◌, IfErr}
 use Rattle.std.proofs.lemmas.Bool.{cases_lt, false≢true}
-use Rattle.std.proofs.lemmas.Option.{slice_get_within, get_or_from_slice_get}
-use Rattle.std.proofs.lemmas.List.{length-map, map_push, take_more}
+use Rattle.std.proofs.lemmas.List.{append-nil, length-map, map_push}
 use Rattle.std.proofs.lemmas.List.Splits.{join_with_byte-slice_split}
-use Rattle.certificate.specs.Faults.{IsFaultOf}
+use Rattle.certificate.specs.Faults.{BeginsWith, IsFaultOf}
 use Rattle.certificate.specs.declared.fault.CertFault.{CertFault}
-use Rattle.certificate.specs.declared.fault.CertFault.TheVariants.{BadLine}
+use Rattle.certificate.specs.declared.fault.CertFault.TheVariants.{BadLine, NoMemory}
 use Rattle.certificate.specs.Spelling.{IsLineOf, IsNoLine}
 use Rattle.rmm_spec.proofs.CertificateLines.{certificates_by_lines, line_parts-one_line, InCertificates-from_lines, not-IsBadLine-certificate}
 use Rattle.rmm_spec.proofs.Lines.{HasNoNewline, IsBadLine-line, IsBadLine-unfinished, IsBadLine-full, map_last, lines_text-push}
 use Rattle.rmm_spec.proofs.Texts.{AllByRecursion-append}
-use Rattle.rmm_spec.specs.CertificateText.{IsLine, IsCertificate, InCertificates, certificate_text, line_parts}
+use Rattle.rmm_spec.specs.CertificateText.{IsLine, IsCertificate, IsCertificateText, InCertificates, certificate_text, line_parts}
 use Rattle.rmm_spec.specs.Text.{IsBadLine, line_text, lines_text, parts_of}
 use Rattle.rmm_spec.specs.declared.line.Line.{Line}
 
@@ -78,16 +77,30 @@ full_lines lines answer is_certificate says full =
     (λ (past : 1000000 ≤ length lines). omega (arith, few))
     (cases_lt (length lines) 1000000)
 
--- the text with one line more
-pub certificate_text-more : (lines : List Line) (i : ℕ) (next : Line) → slice_get lines i ≡ Some next
-    → certificate_text (take (i + 1) lines) ≡ certificate_text (take i lines) ++ (line_text (line_parts next) ++ 10 ∷ [])
-certificate_text-more lines i next is_next =
-    let more : take (i + 1) lines ≡ take i lines ++ next ∷ [] =
-    take_more lines i next (slice_get_within lines i next is_next) ∙ ap (λ x. take i lines ++ x ∷ []) (get_or_from_slice_get lines i next next is_next) in
-    ap certificate_text more ∙ ap lines_text (map_push line_parts (take i lines) next) ∙ lines_text-push (map line_parts (take i lines)) (line_parts next)
+-- memory can be refused for a line that follows those that were read
+pub BeginsWith-next : (lines : List Line) (next : Line) (text bytes rest later : List ℕ) → IsCertificate lines → length lines < 1000000 → text ≡ certificate_text lines ++ rest
+    → rest ≡ bytes ++ 10 ∷ later → IsLineOf (parts_of bytes) next → IsFaultOf text NoMemory
+BeginsWith-next lines next text bytes rest later is_certificate room is_text rest_is of_line = (
+  lines ++ next ∷ [],
+  omega (arith, length-append lines (next ∷ [])),
+  record {
+    more = later;
+    is_certificate = IsCertificate-push lines next is_certificate of_line.is_line room;
+    is_text = certificate_text-push lines next text bytes rest later is_text rest_is of_line;
+  },
+)
 
--- a bad line that is told of a text says that it is in no certificate's
+-- memory can be refused for the writing of a certificate that has a line
+pub BeginsWith-written : (lines : List Line) (text : List ℕ) → IsCertificateText text lines → 0 < length (certificate_text lines) → IsFaultOf text NoMemory
+BeginsWith-written [] text is some = absurd (omega arith)
+BeginsWith-written (line ∷ lines) text is some = (
+  line ∷ lines,
+  omega arith,
+  record { more = []; is_certificate = is.is_certificate; is_text = is.is_text ∙ sym (append-nil (certificate_text (line ∷ lines))) },
+)
+
+-- a bad line that is reported of a text says that it is in no certificate's
 pub bad_line_outside : {T : Type 0} (text : List ℕ) (result : Result T CertFault) (line : ℕ) → IfErr result (IsFaultOf text) → result ≡ Err (BadLine line)
     → InCertificates text → ⊥
-bad_line_outside text result line told is given =
-    not-IsBadLine-certificate text line given (subst (λ r. IfErr r (IsFaultOf text)) is told)
+bad_line_outside text result line fault is given =
+    not-IsBadLine-certificate text line given (subst (λ r. IfErr r (IsFaultOf text)) is fault)

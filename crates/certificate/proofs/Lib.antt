@@ -1,3 +1,4 @@
 mod HeldLemmas
 mod SpellingLemmas
 mod GrammarLemmas
+pub mod WriteLemmas

@@ -27,3 +27,14 @@ pub record IsHeld (names : List Named) (replies : List Reply) : Type 0 where
   pub is_certificate : IsCertificate (lines_of names replies)
   pub each_reply : AllByRecursion (HasReply (length replies)) names
   pub few_replies : length replies ≤ length names
+
+-- What contracts see of a certificate: its lines, and how many more lines, and replies of unfinished ones, are sure to take no memory.
+pub record Claimed : Type 0 where
+  pub lines : List Line
+  pub line_room : ℕ
+  pub reply_room : ℕ
+
+-- the line takes no memory
+abbrev pub HasRoomFor : Line → Claimed → Type 0
+HasRoomFor (line.Keep cpu number) claimed = 1 ≤ claimed.line_room
+HasRoomFor (line.Unfinished cpu number reply) claimed = (1 ≤ claimed.line_room) × (1 ≤ claimed.reply_room)

@@ -1,6 +1,6 @@
 //! The lines of a certificate, as they are held.
 
-ghost use Rattle.std.specs.Prelude.{◌≡◌, ◌+◌, ◌<◌, ◌≤◌, ◌↔◌, [], ◌∷◌, ◌++◌, length, IsTrue, OnOk, OnErr, slice_get};
+ghost use Rattle.std.specs.Prelude.{◌≡◌, ◌+◌, ◌<◌, ◌≤◌, ◌↔◌, [], ◌∷◌, ◌++◌, length, IsTrue, IsOk, OnOk, OnErr, slice_get};
 ghost use Rattle.rmm_spec.specs.CertificateText.{IsLine, IsCertificate};
 
 use rmm_spec::{Line, Reply};
@@ -27,14 +27,16 @@ pub struct Certificate {
 }
 
 impl Model for Certificate {
-    ghost use Rattle.std.specs.Prelude.{List};
-    ghost use Rattle.rmm_spec.specs.declared.line.Line.{Line};
+    ghost use Rattle.std.specs.Prelude.{◌-◌, vec_len, vec_capacity};
+    ghost use Rattle.certificate.specs.View.{Claimed, lines_of, IsHeld};
 
-    ghost Value = { List Line };
+    ghost Value = { Claimed };
 
-    ghost use Rattle.certificate.specs.View.{lines_of, IsHeld};
-
-    ghost view = { λ c. lines_of c.names.items c.replies.items };
+    ghost view = { λ c. record {
+      lines = lines_of c.names.items c.replies.items;
+      line_room = vec_capacity c.names - vec_len c.names;
+      reply_room = vec_capacity c.replies - vec_len c.replies;
+    } };
 
     ghost invariant = { λ c. IsHeld c.names.items c.replies.items };
 }
@@ -57,10 +59,11 @@ pub enum LineRef<'a> {
 
 impl Certificate {
     ghost use Rattle.certificate.specs.LineRef.{line_seen};
+    ghost use Rattle.certificate.specs.View.{HasRoomFor};
 
     /// A certificate without lines.
     pub fn new(alloc: Global) -> Certificate
-        ensures { result ≡ [] }
+        ensures { result.lines ≡ [] }
     {
         Certificate {
             names: Vec::new(alloc),
@@ -70,22 +73,22 @@ impl Certificate {
 
     /// How many lines there are.
     pub fn len(&self) -> usize
-        ensures count { result ≡ length self.now }
-        ensures well_formed { IsCertificate self.now }
+        ensures count { result ≡ length self.now.lines }
+        ensures well_formed { IsCertificate self.now.lines }
     {
         self.names.len()
     }
 
     pub fn is_empty(&self) -> bool
-        ensures { IsTrue result ↔ (self.now ≡ []) }
+        ensures { IsTrue result ↔ (self.now.lines ≡ []) }
     {
         self.names.is_empty()
     }
 
     /// The line at a place, counted from 0.
     pub fn line(&self, i: usize) -> LineRef<'_>
-        requires { i < length self.now }
-        ensures { slice_get self.now i ≡ Some (line_seen result) }
+        requires { i < length self.now.lines }
+        ensures { slice_get self.now.lines i ≡ Some (line_seen result) }
     {
         match self.names[i] {
             Named::Keep { cpu, number } => LineRef::Keep { cpu, number },
@@ -99,17 +102,18 @@ impl Certificate {
 
     /// Whether there is room for another line.
     pub fn has_room(&self) -> bool
-        ensures { IsTrue result ↔ (length self.now < MOST_LINES) }
+        ensures { IsTrue result ↔ (length self.now.lines < MOST_LINES) }
     {
         self.len() < MOST_LINES
     }
 
-    /// Appends a line. Where memory is refused, nothing changes.
+    /// Appends a line. Where memory is refused, no line changes.
     pub fn push(&mut self, line: Line) -> Result<(), AllocError>
         requires is_line { IsLine line }
-        requires room { length self.old < MOST_LINES }
-        ensures ok { OnOk result (self.new ≡ self.old ++ line ∷ []) }
-        ensures err { OnErr result (self.new ≡ self.old) }
+        requires room { length self.old.lines < MOST_LINES }
+        ensures ok { OnOk result (self.new.lines ≡ self.old.lines ++ line ∷ []) }
+        ensures err { OnErr result (self.new.lines ≡ self.old.lines) }
+        ensures succeeds { HasRoomFor line self.old → IsOk result }
     {
         self.names.reserve(1)?;
         let name = match line {

@@ -13,7 +13,7 @@ use std::alloc::{AllocError, Global};
 
 /// What is written reads back as it was: no line of it is bad.
 pub fn read_back(alloc: Global, certificate: &Certificate) -> Result<Certificate, AllocError>
-    ensures { IfOk result (λ again. again ≡ certificate.now) }
+    ensures { IfOk result (λ again. again.lines ≡ certificate.now.lines) }
 {
     let _well_formed = certificate.len();
     let mut text = Vec::new(alloc);

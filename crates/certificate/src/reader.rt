@@ -58,7 +58,7 @@ fn line_from(bytes: &[u8]) -> Option<Line>
 
 /// Reads a certificate. The empty text is the one without lines, and a line past the most that there may be is bad.
 pub fn read(alloc: Global, text: &[u8]) -> Result<Certificate, CertFault>
-    ensures found { IfOk result (IsCertificateText text.now) }
+    ensures found { IfOk result (λ certificate. IsCertificateText text.now certificate.lines) }
     ensures fault { IfErr result (IsFaultOf text.now) }
 {
     let mut lines = Certificate::new(alloc);

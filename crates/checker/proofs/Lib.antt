@@ -7,3 +7,4 @@ pub mod Judging
 pub mod Scan
 pub mod Excludes
 pub mod Verdicts
+pub mod Beginnings

@@ -8,7 +8,7 @@ ghost use Rattle.rmm_spec.specs.CertificateText.{IsCertificateText};
 ghost use Rattle.rmm_spec.specs.Linearization.{IsLinearization};
 ghost use Rattle.rmm_spec.specs.Judgement.{Judges};
 
-use crate::order::judge;
+use crate::order::judge_order;
 use certificate::CertFault;
 use history::HistoryFault;
 use rmm_spec::Verdict;
@@ -32,7 +32,7 @@ pub fn check(alloc: Global, history: &[u8], certificate: &[u8]) -> Result<Verdic
         Err(CertFault::BadLine(line)) => return Ok(Verdict::CertificateFault(line)),
         Err(CertFault::NoMemory) => return Err(AllocError),
     };
-    judge(alloc, &history, &certificate)
+    judge_order(alloc, &history, &certificate)
 }
 
 #[cfg(test)]

@@ -11,13 +11,13 @@ use rmm_spec::{Reason, Verdict};
 use std::alloc::{AllocError, Global};
 
 /// Whether the certificate's order is a linearization of the history, or the first step that fails.
-pub(crate) fn judge(
+pub(crate) fn judge_order(
     alloc: Global,
     history: &History,
     certificate: &Certificate,
 ) -> Result<Verdict, AllocError>
     requires { IsHistory history.now.recorded }
-    ensures { IfOk result (λ verdict. JudgesOrder verdict history.now.recorded certificate.now) }
+    ensures { IfOk result (λ verdict. JudgesOrder verdict history.now.recorded certificate.now.lines) }
 {
     let mut replay = Replay::new(alloc, history)?;
     for i in 0..certificate.len() {

@@ -3,25 +3,25 @@ use Rattle.std.proofs.Common.{◌≡◌, ◌≢◌, ℕ, ◌+◌, ◌<◌, ◌�
 use Rattle.std.specs.Prelude.{IsTrue, ◌↔◌, IfErr, slice_get}
 use Rattle.std.specs.List.{AllByRecursion}
 use Rattle.std.proofs.lemmas.Bool.{cases_lt, false≢true}
-use Rattle.std.proofs.lemmas.List.{length-map, map_push, length_push, take_more}
+use Rattle.std.proofs.lemmas.List.{append-nil, length-map, map_push, length_push, take_more}
 use Rattle.std.proofs.lemmas.Option.{slice_get_within, get_or_from_slice_get}
 use Rattle.std.proofs.lemmas.List.Sums.{length-filter, count_by-le-length}
 use Rattle.std.proofs.lemmas.List.Splits.{join_with_byte-slice_split}
 use Rattle.rmm_spec.specs.declared.event.Event.{Event}
 use Rattle.rmm_spec.specs.declared.event.Event.TheVariants.{Called, Returned}
 use Rattle.rmm_spec.specs.Text.{IsBadLine, line_text, lines_text, parts_of}
-use Rattle.rmm_spec.specs.HistoryText.{Setup, History, IsHistory, InHistories, CanFollow, cpu_of, setup_parts, event_parts, history_text}
+use Rattle.rmm_spec.specs.HistoryText.{Setup, History, IsHistory, InHistories, IsHistoryText, CanFollow, cpu_of, setup_parts, event_parts, history_text}
 use Rattle.rmm_spec.proofs.Lines.{HasNoNewline, AreOneLineEach, IsLineGrammar, IsBadLine-line, IsBadLine-unfinished, IsBadLine-full, IsOneLine-from_parts, AreOneLineEach-map, map_cut, lines_text-push, IsBadLine-end}
 use Rattle.rmm_spec.proofs.Texts.{setup_parts-are_parts, setup_parts-injective, event_parts-are_parts, event_parts-some, event_parts-injective}
-use Rattle.rmm_spec.proofs.Places.{rank}
-use Rattle.rmm_spec.proofs.Records.{CanFollow-from_push}
+use Rattle.history.specs.Index.{rank}
+use Rattle.rmm_spec.proofs.Records.{CanFollow-from_push, IsHistory-push}
 use Rattle.rmm_spec.proofs.HistoryGrammar.{not-IsBadLine-history}
-use Rattle.history.specs.Faults.{IsFaultOf}
+use Rattle.history.specs.Faults.{BeginsWith, IsFaultOf, IsFaultAfter, IsFaultOfRewriting}
 use Rattle.history.specs.declared.fault.HistoryFault.{HistoryFault}
-use Rattle.history.specs.declared.fault.HistoryFault.TheVariants.{BadLine}
+use Rattle.history.specs.declared.fault.HistoryFault.TheVariants.{BadLine, NoMemory}
 use Rattle.history.specs.Next.{Continues, HasNext}
 use Rattle.history.specs.Spelling.{IsHeaderOf, IsNoHeader, call_number, IsEventOf, IsNoEvent}
-use Rattle.history.proofs.DeskLaws.{next_rank, cpu_below}
+use Rattle.history.proofs.SubhistoryLaws.{next_rank, cpu_below}
 
 -- the lines of a history, each as its parts
 abbrev pub history_lines : History → List (List (List ℕ))
@@ -104,11 +104,6 @@ HasNext-lines history line is_history taken =
         history_at : Setup → List Event → History
         history_at x y = record { setup = x; events = y }
 
--- one item more
-take-slice_get : {X : Type 0} (xs : List X) (place : ℕ) (x : X) → slice_get xs place ≡ Some x → take (place + 1) xs ≡ take place xs ++ x ∷ []
-take-slice_get xs place x is =
-    take_more xs place x (slice_get_within xs place x is) ∙ ap (λ y. take place xs ++ y ∷ []) (get_or_from_slice_get xs place x x is)
-
 -- the number of the next line, counted from 1
 counted : (history : History) (text : List ℕ) → IsBadLine InHistories text (length (history_lines history) + 1) → IsBadLine InHistories text (length history.events + 2)
 counted history text bad =
@@ -182,6 +177,16 @@ no_continuation history line event is_event stops next =
     let can_follow : CanFollow history event = subst (CanFollow history) same next.can_follow in
     stops (cpu_below history.setup.cpus event is_event.is_event, can_follow.record_goes_on)
 
+-- the event that has the parts may be next where its CPU's record goes on
+pub HasNext-continues : (history : History) (line : List (List ℕ)) (event : Event) → IsEventOf history.setup.cpus line event → length history.events + 1 < 1000000
+    → Continues history event → HasNext history line
+HasNext-continues history line event is_event room goes_on = record {
+  event = event;
+  can_follow = record { is_event = is_event.is_event; record_goes_on = goes_on.1 };
+  room = room;
+  spelled = sym is_event.spelled;
+}
+
 -- the text with the next event, and what is left
 pub history_text-push : (history : History) (event : Event) (rest front more : List ℕ) → rest ≡ front ++ 10 ∷ more → IsEventOf history.setup.cpus (parts_of front) event
     → history_text history ++ rest ≡ history_text (record history { events = history.events ++ event ∷ [] }) ++ more
@@ -194,18 +199,33 @@ history_text-push history event rest front more rest_is is_event =
     ∙ ap (λ t. t ++ more) (sym (ap (λ (ls : List (List (List ℕ))). lines_text (setup_parts history.setup ∷ ls)) (map_push event_parts history.events event)
     ∙ lines_text-push lines (event_parts event)))
 
--- the text with one event more
-pub history_text-more : (setup : Setup) (events : List Event) (place : ℕ) (event : Event) → slice_get events place ≡ Some event
-    → history_text (record { setup = setup; events = take (place + 1) events })
-    ≡ history_text (record { setup = setup; events = take place events }) ++ (line_text (event_parts event) ++ 10 ∷ [])
-history_text-more setup events place event is_event =
-    let so_far = take place events in
-    ap (λ (es : List Event). lines_text (setup_parts setup ∷ map event_parts es)) (take-slice_get events place event is_event)
-    ∙ ap (λ (ls : List (List (List ℕ))). lines_text (setup_parts setup ∷ ls)) (map_push event_parts so_far event)
-    ∙ lines_text-push (history_lines (record { setup = setup; events = so_far })) (event_parts event)
+-- the next line is an event's that may follow
+pub BeginsWith-next : (history : History) (rest front more : List ℕ) → IsHistory history → rest ≡ front ++ 10 ∷ more → (next : HasNext history (parts_of front))
+    → BeginsWith (history_text history ++ rest) (record history { events = history.events ++ next.event ∷ [] })
+BeginsWith-next history rest front more is_history rest_is next = record {
+  more = more;
+  is_history = IsHistory-push history next.event is_history next.can_follow next.room;
+  is_text = history_text-push history next.event rest front more rest_is (record { is_event = next.can_follow.is_event; spelled = sym next.spelled });
+}
 
--- a bad line that is told of a text says that it is in no history's
-pub bad_line_outside : {T : Type 0} (text : List ℕ) (result : Result T HistoryFault) (line : ℕ) → IfErr result (IsFaultOf text) → result ≡ Err (BadLine line)
+-- a fault at the line after a history is one of the text
+pub IsFaultOf-after : (history : History) (text whole : List ℕ) (fault : HistoryFault) → text ≡ whole → IsFaultAfter history whole fault → IsFaultOf text fault
+IsFaultOf-after history text whole (BadLine line) is bad = subst (λ t. IsBadLine InHistories t line) (sym is) bad
+IsFaultOf-after history text whole NoMemory is next = (
+  record history { events = history.events ++ next.0 ∷ [] },
+  omega (arith, length_push history.events next.0),
+  record { more = next.1.more; is_history = next.1.is_history; is_text = is ∙ next.1.is_text },
+)
+
+pub IsFaultOfRewriting-read : (text : List ℕ) (fault : HistoryFault) → IsFaultOf text fault → IsFaultOfRewriting text fault
+IsFaultOfRewriting-read text (BadLine line) bad = bad
+IsFaultOfRewriting-read text NoMemory begun = (begun.0, begun.2)
+
+pub BeginsWith-whole : (text : List ℕ) (history : History) → IsHistoryText text history → BeginsWith text history
+BeginsWith-whole text history is = record { more = []; is_history = is.is_history; is_text = is.is_text ∙ sym (append-nil (history_text history)) }
+
+-- a bad line that is reported of a text says that it is in no history's
+pub bad_line_outside : {T : Type 0} (text : List ℕ) (result : Result T HistoryFault) (line : ℕ) → IfErr result (IsFaultOfRewriting text) → result ≡ Err (BadLine line)
     → InHistories text → ⊥
-bad_line_outside text result line told is given =
-    not-IsBadLine-history text line given (subst (λ r. IfErr r (IsFaultOf text)) is told)
+bad_line_outside text result line fault is given =
+    not-IsBadLine-history text line given (subst (λ r. IfErr r (IsFaultOfRewriting text)) is fault)

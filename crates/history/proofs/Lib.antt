@@ -1,5 +1,6 @@
-pub mod DeskLaws
+pub mod SubhistoryLaws
 pub mod RoomLaws
 pub mod GrammarLaws
 pub mod SpellingLaws
-mod EventLogLaws
+mod EntryLaws
+pub mod WriteLaws

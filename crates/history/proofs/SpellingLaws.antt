@@ -11,7 +11,7 @@ use Rattle.history.specs.declared.line.Kind.{Kind}
 use Rattle.history.specs.declared.line.Kind.TheVariants.{Call, Return}
 use Rattle.history.specs.Spelling.{kind_part, call_number, IsEventOf, IsNoEvent}
 use Rattle.rmi_codec.specs.Limited.{HasNoNumber}
-use Rattle.history.proofs.DeskLaws.{cpu_below}
+use Rattle.history.proofs.SubhistoryLaws.{cpu_below}
 
 abbrev pub kind_of : Event → Kind
 kind_of (Called cpu number command) = Call

@@ -1,11 +1,28 @@
 -- What a fault says of the text.
-use Rattle.std.specs.Prelude.{⊤, ℕ, List}
+use Rattle.std.specs.Prelude.{◌≡◌, ℕ, ◌<◌, List, [], ◌∷◌, ◌++◌, length}
+use Rattle.rmm_spec.specs.declared.event.Event.{Event}
 use Rattle.rmm_spec.specs.Text.{IsBadLine}
-use Rattle.rmm_spec.specs.HistoryText.{InHistories}
+use Rattle.rmm_spec.specs.HistoryText.{History, IsHistory, InHistories, history_text}
 use Rattle.history.specs.declared.fault.HistoryFault.{HistoryFault}
 use Rattle.history.specs.declared.fault.HistoryFault.TheVariants.{BadLine, NoMemory}
 
--- a bad line is the first one, and of refused memory nothing is said
+-- the first lines of the text are the history
+pub record BeginsWith (text : List ℕ) (history : History) : Type 0 where
+  pub more : List ℕ
+  pub is_history : IsHistory history
+  pub is_text : text ≡ history_text history ++ more
+
+-- of a reader: a bad line is the first one, and memory was refused for an event that was read
 abbrev pub IsFaultOf : List ℕ → HistoryFault → Type 0
 IsFaultOf text (BadLine line) = IsBadLine InHistories text line
-IsFaultOf text NoMemory = ⊤
+IsFaultOf text NoMemory = (history : History) × (0 < length history.events) × BeginsWith text history
+
+-- of a reader that has read a history: memory was refused for the event behind it
+abbrev pub IsFaultAfter : History → List ℕ → HistoryFault → Type 0
+IsFaultAfter history text (BadLine line) = IsBadLine InHistories text line
+IsFaultAfter history text NoMemory = (event : Event) × BeginsWith text (record history { events = history.events ++ event ∷ [] })
+
+-- of a reader and a writer: memory may have been refused for the writing of a history without events too
+abbrev pub IsFaultOfRewriting : List ℕ → HistoryFault → Type 0
+IsFaultOfRewriting text (BadLine line) = IsBadLine InHistories text line
+IsFaultOfRewriting text NoMemory = (history : History) × BeginsWith text history

@@ -1,9 +1,16 @@
 -- The index by which a call is found.
-use Rattle.std.specs.Prelude.{◌≡◌, ℕ, ◌<◌, List, length, slice_get, slice_index, slice_index_or, Some}
+use Rattle.std.specs.Prelude.{◌≡◌, ℕ, ◌+◌, ◌<◌, List, length, slice_get, slice_index, slice_index_or, Some}
 use Rattle.rmm_spec.specs.declared.event.Event.{Event}
 use Rattle.rmm_spec.specs.HistoryText.{Setup, IsHistory, cpu_of, events_of}
-use Rattle.rmm_spec.proofs.Places.{rank}
-use Rattle.history.specs.declared.desk.Desk.{Desk}
+use Rattle.rmm_spec.specs.declared.event.Event.TheVariants.{Called, Returned}
+use Rattle.history.specs.Entry.{events_in, IsHeld}
+use Rattle.history.specs.declared.entry.Entry.{Entry}
+use Rattle.history.specs.declared.subhistory.Subhistory.{Subhistory}
+
+-- which of its CPU's events an event is, counted from 0
+abbrev pub rank : Event → ℕ
+rank (Called cpu number command) = number + number
+rank (Returned cpu number given) = number + number + 1
 
 -- the place is that of the CPU's event of that rank
 pub record HasRank (events : List Event) (cpu ranked place : ℕ) : Type 0 where
@@ -12,13 +19,18 @@ pub record HasRank (events : List Event) (cpu ranked place : ℕ) : Type 0 where
   pub of_cpu : cpu_of event ≡ cpu
   pub is_ranked : rank event ≡ ranked
 
--- the desk has the place of each event of the CPU, by its rank
-pub record IsDesk (events : List Event) (cpu : ℕ) (desk : Desk) : Type 0 where
-  pub counted : length desk.places.items ≡ length (events_of cpu events)
-  pub each : (ranked : ℕ) → ranked < length desk.places.items → HasRank events cpu ranked (slice_index desk.places.items ranked)
+-- the subhistory has the place of each event of the CPU, by its rank
+pub record IsSubhistory (events : List Event) (cpu : ℕ) (subhistory : Subhistory) : Type 0 where
+  pub counted : length subhistory.places.items ≡ length (events_of cpu events)
+  pub each : (ranked : ℕ) → ranked < length subhistory.places.items → HasRank events cpu ranked (slice_index subhistory.places.items ranked)
 
--- a desk for each CPU that a machine can have, of a well-formed history
-pub record IsIndexed (setup : Setup) (events : List Event) (desks : List Desk) : Type 0 where
+-- a subhistory for each CPU that a machine can have, of a well-formed history
+pub record IsIndexed (setup : Setup) (events : List Event) (subhistories : List Subhistory) : Type 0 where
   pub is_history : IsHistory (record { setup = setup; events = events })
-  pub counted : length desks ≡ 8
-  pub each : (cpu : ℕ) (other : Desk) → cpu < 8 → IsDesk events cpu (slice_index_or desks cpu other)
+  pub counted : length subhistories ≡ 8
+  pub each : (cpu : ℕ) (other : Subhistory) → cpu < 8 → IsSubhistory events cpu (slice_index_or subhistories cpu other)
+
+-- the fields of a history
+pub record IsStored (setup : Setup) (words : List ℕ) (entries : List Entry) (subhistories : List Subhistory) : Type 0 where
+  pub held : IsHeld words entries
+  pub indexed : IsIndexed setup (events_in words entries) subhistories

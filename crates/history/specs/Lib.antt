@@ -1,6 +1,6 @@
 pub mod View
 pub mod EventRef
-pub mod EventLog
+pub mod Entry
 pub mod Index
 pub mod Room
 pub mod Next

@@ -12,7 +12,7 @@ pub enum HistoryFault {
     /// The first line with which the text is no beginning of a history, counted from 1.
     #[error("line {0} is bad")]
     BadLine(u64),
-    /// Memory was refused, and nothing is said of the text.
+    /// Memory was refused for an event of the text.
     #[error("out of memory")]
     NoMemory,
 }

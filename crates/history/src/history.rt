@@ -7,17 +7,20 @@ ghost use Rattle.rmm_spec.specs.HistoryText.{IsHistory, CanFollow, cpu_of};
 ghost use Rattle.rmm_spec.specs.Linearization.{IsCalled, IsReturned, IsKnown};
 ghost use Rattle.history.specs.Calls.{ArePlacesOf, IsCallOf};
 ghost use Rattle.history.specs.EventRef.{event_seen};
-ghost use Rattle.history.specs.Index.{IsDesk};
+ghost use Rattle.history.specs.Index.{IsSubhistory};
 ghost use Rattle.history.specs.Next.{HasText, Continues};
 
-use crate::desk::{Desk, make_room_at};
-use crate::event_log::{EventLog, MOST_EVENTS};
+use crate::entry::{Entry, reserve_event, store, words_at};
 use crate::event_ref::EventRef;
+use crate::subhistory::{Subhistory, make_room_at};
 use granule_state::Config;
 use rmi_codec::reply_has_text;
 use rmm_spec::{Command, Event, Reply};
 use std::alloc::{AllocError, Global};
 use std::marker::Model;
+
+/// The most events of a history.
+pub(crate) const MOST_EVENTS: usize = 999_999;
 
 /// The most lines of a history's text, its header counted.
 pub const MOST_LINES: usize = MOST_EVENTS + 1;
@@ -50,8 +53,9 @@ pub struct Answer {
 #[derive(Debug, Drop)]
 pub struct History {
     config: Config,
-    events: EventLog,
-    desks: [Desk; 8],
+    entries: Vec<Entry>,
+    words: Vec<u64>,
+    subhistories: [Subhistory; 8],
 }
 
 impl Model for History {
@@ -59,15 +63,16 @@ impl Model for History {
 
     ghost Value = { Recording };
 
-    ghost use Rattle.history.specs.Index.{IsIndexed};
-    ghost use Rattle.history.specs.Room.{least_spare};
+    ghost use Rattle.history.specs.Entry.{events_in, room_of};
+    ghost use Rattle.history.specs.Index.{IsStored};
+    ghost use Rattle.history.specs.Room.{spare, least_spare};
 
     ghost view = { λ h. record {
-      recorded = record { setup = h.config; events = h.events.events };
-      room = least_spare h.events.room h.desks;
+      recorded = record { setup = h.config; events = events_in h.words.items h.entries.items };
+      room = least_spare (room_of (spare h.entries) (spare h.words)) h.subhistories;
     } };
 
-    ghost invariant = { λ h. IsIndexed h.config h.events.events h.desks };
+    ghost invariant = { λ h. IsStored h.config h.words.items h.entries.items h.subhistories };
 }
 
 impl History {
@@ -78,8 +83,9 @@ impl History {
         let _in_limits = config.cpus();
         History {
             config,
-            events: EventLog::new(alloc),
-            desks: std::array::from_fn(|_cpu| Desk::new(alloc)),
+            entries: Vec::new(alloc),
+            words: Vec::new(alloc),
+            subhistories: std::array::from_fn(|_cpu| Subhistory::new(alloc)),
         }
     }
 
@@ -93,13 +99,13 @@ impl History {
     pub fn len(&self) -> usize
         ensures { result ≡ length self.now.recorded.events }
     {
-        self.events.len()
+        self.entries.len()
     }
 
     pub fn is_empty(&self) -> bool
         ensures { IsTrue result ↔ (self.now.recorded.events ≡ []) }
     {
-        self.events.is_empty()
+        self.entries.is_empty()
     }
 
     /// The event at a place.
@@ -107,7 +113,38 @@ impl History {
         requires { place < length self.now.recorded.events }
         ensures { slice_get self.now.recorded.events place ≡ Some result }
     {
-        self.events.event(place)
+        match self.entries[place] {
+            Entry::Called {
+                cpu,
+                function,
+                number,
+                words,
+            } => {
+                let words = words_at(&self.words, words);
+                Event::Called {
+                    cpu,
+                    number,
+                    command: Command { function, words },
+                }
+            }
+            Entry::Answered { cpu, number, words } => {
+                let reply = Reply::Ok(words_at(&self.words, words));
+                Event::Returned { cpu, number, reply }
+            }
+            Entry::Refused {
+                cpu,
+                number,
+                status,
+                index,
+            } => {
+                let reply = Reply::Err(status, index);
+                Event::Returned { cpu, number, reply }
+            }
+            Entry::Misplaced { cpu, number } => {
+                let reply = Reply::Misplaced;
+                Event::Returned { cpu, number, reply }
+            }
+        }
     }
 
     /// The CPU and the number of the call at a place, where the event there is a call.
@@ -116,7 +153,10 @@ impl History {
         ensures some { IfSome result (λ call. (command : Command) × IsCalled self.now.recorded.events place call.0 call.1 command) }
         ensures none { IfNone result ((cpu number : ℕ) (command : Command) → ¬ IsCalled self.now.recorded.events place cpu number command) }
     {
-        self.events.called_at(place)
+        let Entry::Called { cpu, number, .. } = self.entries[place] else {
+            return None;
+        };
+        Some((cpu, number))
     }
 
     /// The command of the call at a place, where the event there is a call.
@@ -125,7 +165,17 @@ impl History {
         ensures some { IfSome result (λ command. (cpu : ℕ) × (number : ℕ) × IsCalled self.now.recorded.events place cpu number command) }
         ensures none { IfNone result ((cpu number : ℕ) (command : Command) → ¬ IsCalled self.now.recorded.events place cpu number command) }
     {
-        self.events.command_at(place)
+        match &self.entries[place] {
+            Entry::Called {
+                function,
+                words,
+                ..
+            } => Some(Command {
+                function: *function,
+                words: words_at(&self.words, *words),
+            }),
+            _ => None,
+        }
     }
 
     /// The reply of the return at a place, where the event there is a return.
@@ -134,14 +184,19 @@ impl History {
         ensures some { IfSome result (λ given. (cpu : ℕ) × (number : ℕ) × IsReturned self.now.recorded.events place cpu number given) }
         ensures none { IfNone result ((cpu number : ℕ) (given : Reply) → ¬ IsReturned self.now.recorded.events place cpu number given) }
     {
-        self.events.reply_at(place)
+        match &self.entries[place] {
+            Entry::Called { .. } => None,
+            Entry::Answered { words, .. } => Some(Reply::Ok(words_at(&self.words, *words))),
+            Entry::Refused { status, index, .. } => Some(Reply::Err(*status, *index)),
+            Entry::Misplaced { .. } => Some(Reply::Misplaced),
+        }
     }
 
     /// The law that every value keeps.
     pub fn well_formed(&self)
         ensures { IsHistory self.now.recorded }
     {
-        let _events = &self.events;
+        let _entries = &self.entries;
     }
 
     /// Whether an event may be recorded next. Room for its line is asked apart from this.
@@ -155,8 +210,8 @@ impl History {
     pub(crate) fn continues(&self, event: EventRef<'_>) -> bool
         ensures { IsTrue result ↔ Continues self.now.recorded (event_seen event.entry) }
     {
-        match self.desk(cpu_of(event)) {
-            Some(desk) => desk.takes(event),
+        match self.subhistory(cpu_of(event)) {
+            Some(subhistory) => subhistory.takes(event),
             None => false,
         }
     }
@@ -172,10 +227,11 @@ impl History {
     pub fn make_room(&mut self) -> Result<(), AllocError>
         ensures kept { self.new.recorded ≡ self.old.recorded }
         ensures ok { OnOk result (1 ≤ self.new.room) }
+        ensures succeeds { 1 ≤ self.old.room → IsOk result }
         ensures grows { self.old.room ≤ self.new.room }
     {
-        self.events.make_room()?;
-        make_room_at(&mut self.desks)
+        reserve_event(&mut self.entries, &mut self.words)?;
+        make_room_at(&mut self.subhistories)
     }
 
     /// Records an event at the end. Where memory is refused, nothing is recorded.
@@ -199,11 +255,11 @@ impl History {
         ensures succeeds { 1 ≤ self.old.room → IsOk result }
         ensures left { self.old.room ≤ self.new.room + 1 }
     {
-        let place = self.events.len() as u32;
-        let desk = &mut self.desks[cpu_of(event) as usize];
-        desk.make_room()?;
-        self.events.push(event)?;
-        desk.enter(place);
+        let place = self.entries.len() as u32;
+        let subhistory = &mut self.subhistories[cpu_of(event) as usize];
+        subhistory.make_room()?;
+        store(&mut self.entries, &mut self.words, event)?;
+        subhistory.enter(place);
         Ok(())
     }
 
@@ -212,11 +268,11 @@ impl History {
         ensures some { IfSome result (ArePlacesOf self.now.recorded.events cpu number) }
         ensures none { IfNone result (¬ IsKnown self.now.recorded.events cpu number) }
     {
-        let desk = self.desk(cpu)?;
-        let called = desk.called(number)?;
+        let subhistory = self.subhistory(cpu)?;
+        let called = subhistory.called(number)?;
         Some(Places {
             called,
-            returned: desk.returned(number),
+            returned: subhistory.returned(number),
         })
     }
 
@@ -245,14 +301,14 @@ impl History {
         })
     }
 
-    /// The desk of a CPU, where the machine has that CPU.
-    fn desk(&self, cpu: u8) -> Option<&Desk>
-        ensures some { IfSome result (λ desk. (cpu < self.now.recorded.setup.cpus) × IsDesk self.now.recorded.events cpu desk.now) }
+    /// The subhistory of a CPU, where the machine has that CPU.
+    fn subhistory(&self, cpu: u8) -> Option<&Subhistory>
+        ensures some { IfSome result (λ subhistory. (cpu < self.now.recorded.setup.cpus) × IsSubhistory self.now.recorded.events cpu subhistory.now) }
         ensures history { IsHistory self.now.recorded }
         ensures none { IfNone result (self.now.recorded.setup.cpus ≤ cpu) }
     {
         if cpu < self.config.cpus() {
-            Some(&self.desks[cpu as usize])
+            Some(&self.subhistories[cpu as usize])
         } else {
             None
         }

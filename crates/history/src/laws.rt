@@ -2,7 +2,7 @@
 
 ghost use Rattle.std.specs.Prelude.{◌≡◌, ℕ, Err, IfOk, IfErr};
 ghost use Rattle.rmm_spec.specs.HistoryText.{InHistories};
-ghost use Rattle.history.specs.Faults.{IsFaultOf};
+ghost use Rattle.history.specs.Faults.{IsFaultOfRewriting};
 ghost use Rattle.history.specs.declared.fault.HistoryFault.TheVariants.{BadLine};
 
 use crate::fault::HistoryFault;
@@ -28,7 +28,7 @@ pub fn read_back(alloc: Global, history: &History) -> Result<History, AllocError
 /// What is read is written as it was, byte for byte. A text with a bad line stands for no history.
 pub fn rewritten(alloc: Global, text: &[u8]) -> Result<Vec<u8>, HistoryFault>
     ensures same { IfOk result (λ again. again.items ≡ text.now) }
-    ensures fault { IfErr result (IsFaultOf text.now) }
+    ensures fault { IfErr result (IsFaultOfRewriting text.now) }
     ensures outside { (line : ℕ) → result ≡ Err (BadLine line) → ¬ InHistories text.now }
 {
     let history = read(alloc, text)?;

@@ -5,14 +5,14 @@
 //! The checker, the world and the recorder of events stand on it.
 #![tactic(auto)]
 
-mod desk;
-mod event_log;
+mod entry;
 mod event_ref;
 mod fault;
 mod history;
 mod laws;
 mod line;
 mod reading;
+mod subhistory;
 #[cfg(test)]
 mod tests;
 mod writing;

@@ -1,10 +1,10 @@
 //! Texts, read to histories.
 
-ghost use Rattle.std.specs.Prelude.{◌≡◌, ◌+◌, ◌<◌, [], ◌∷◌, ◌++◌, length, false, IsTrue, IfOk, IfErr};
-ghost use Rattle.rmm_spec.specs.HistoryText.{IsEvent, IsHistoryText, history_text};
-ghost use Rattle.rmm_spec.specs.Text.{parts_of};
+ghost use Rattle.std.specs.Prelude.{◌≡◌, ◌+◌, ◌<◌, [], ◌∷◌, ◌++◌, length, false, IsTrue, IfOk, IfErr, IfSome, IfNone, OnErr};
+ghost use Rattle.rmm_spec.specs.HistoryText.{IsEvent, InHistories, IsHistoryText, history_text};
+ghost use Rattle.rmm_spec.specs.Text.{IsBadLine, parts_of};
 ghost use Rattle.history.specs.EventRef.{event_seen};
-ghost use Rattle.history.specs.Faults.{IsFaultOf};
+ghost use Rattle.history.specs.Faults.{IsFaultOf, IsFaultAfter};
 ghost use Rattle.history.specs.Next.{Continues, HasNext, HasRecorded};
 
 use crate::event_ref::EventRef;
@@ -19,7 +19,9 @@ pub fn read(alloc: Global, text: &[u8]) -> Result<History, HistoryFault>
     ensures found { IfOk result (λ history. IsHistoryText text.now history.recorded) }
     ensures fault { IfErr result (IsFaultOf text.now) }
 {
-    let (mut history, mut rest) = read_header(alloc, text)?;
+    let Some((mut history, mut rest)) = read_header(alloc, text) else {
+        return Err(HistoryFault::BadLine(1));
+    };
     while !rest.is_empty() {
         rest = read_event(&mut history, rest)?;
     }
@@ -27,19 +29,19 @@ pub fn read(alloc: Global, text: &[u8]) -> Result<History, HistoryFault>
     Ok(history)
 }
 
-/// Reads the first line, and gives the text after it.
-fn read_header(alloc: Global, text: &[u8]) -> Result<(History, &[u8]), HistoryFault>
-    ensures read { IfOk result (λ start. text.now ≡ history_text start.0.recorded ++ start.1.now) }
-    ensures fault { IfErr result (IsFaultOf text.now) }
+/// Reads the first line, where it is a header, and gives the text after it.
+fn read_header(alloc: Global, text: &[u8]) -> Option<(History, &[u8])>
+    ensures read { IfSome result (λ start. text.now ≡ history_text start.0.recorded ++ start.1.now) }
+    ensures bad { IfNone result (IsBadLine InHistories text.now 1) }
 {
     let Some((line, rest)) = next_line(text) else {
-        return Err(HistoryFault::BadLine(1));
+        return None;
     };
     let Some(config) = header_from(line) else {
-        return Err(HistoryFault::BadLine(1));
+        return None;
     };
     let history = History::new(alloc, config);
-    Ok((history, rest))
+    Some((history, rest))
 }
 
 /// Reads the line after those that are read, and gives the text after it.
@@ -47,7 +49,7 @@ fn read_event<'a>(history: &mut History, rest: &'a [u8]) -> Result<&'a [u8], His
     requires { 0 < length rest.now }
     ensures read { IfOk result (λ more. history_text history.old.recorded ++ rest.now ≡ history_text history.new.recorded ++ more.now) }
     ensures shorter { IfOk result (λ more. length more.now < length rest.now) }
-    ensures fault { IfErr result (IsFaultOf (history_text history.old.recorded ++ rest.now)) }
+    ensures fault { IfErr result (IsFaultAfter history.old.recorded (history_text history.old.recorded ++ rest.now)) }
 {
     history.well_formed();
     let bad_line = HistoryFault::BadLine(history.len() as u64 + 2);
@@ -68,6 +70,7 @@ fn record_line(history: &mut History, line: &[u8]) -> Result<bool, AllocError>
     requires room { length history.old.recorded.events + 1 < MOST_LINES }
     ensures recorded { IfOk result (λ done. IsTrue done → HasRecorded history.old.recorded history.new.recorded (parts_of line.now)) }
     ensures refused { IfOk result (λ done. done ≡ false → ¬ HasNext history.old.recorded (parts_of line.now)) }
+    ensures no_memory { OnErr result (HasNext history.old.recorded (parts_of line.now)) }
 {
     let mut parts = Parts::of(line);
     let cpus = history.config().cpus();
@@ -106,6 +109,7 @@ fn record(history: &mut History, event: EventRef<'_>) -> Result<bool, AllocError
     ensures recorded { IfOk result (λ done. IsTrue done
         → history.new.recorded ≡ record history.old.recorded { events = history.old.recorded.events ++ event_seen event.entry ∷ [] }) }
     ensures refused { IfOk result (λ done. done ≡ false → ¬ Continues history.old.recorded (event_seen event.entry)) }
+    ensures no_memory { OnErr result (Continues history.old.recorded (event_seen event.entry)) }
 {
     if !history.continues(event) {
         return Ok(false);

@@ -1,34 +1,47 @@
 //! Histories, written as texts.
 
-ghost use Rattle.std.specs.Prelude.{◌≡◌, ◌++◌, [], ◌∷◌, length, take, OnOk, OnErr};
+ghost use Rattle.std.specs.Prelude.{◌≡◌, ◌+◌, ◌<◌, ◌≤◌, ◌++◌, [], ◌∷◌, map, length, take, vec_len, vec_capacity, OnOk, OnErr};
+ghost use Rattle.rmi_codec.specs.Beginning.{IsBeginning};
+ghost use Rattle.rmi_codec.specs.Spaced.{spaced};
 ghost use Rattle.rmm_spec.specs.HistoryText.{event_parts, history_text, setup_parts};
-ghost use Rattle.rmm_spec.specs.Text.{line_text};
+ghost use Rattle.rmm_spec.specs.Text.{decimal, line_text, lines_text};
 
 use crate::history::History;
 use granule_state::Config;
-use rmi_codec::{push_command, push_head, push_next, push_reply};
+use rmi_codec::{all_or_nothing, push_command, push_head, push_numbers, push_reply};
 use rmm_spec::Event;
 use std::alloc::AllocError;
 
-/// Appends a history's text, or nothing where memory is refused.
+/// Appends a history's text, or nothing where memory is refused, which it is only where the buffer has no room for the text.
 pub fn write(history: &History, out: &mut Vec<u8>) -> Result<(), AllocError>
     ensures ok { OnOk result (out.new.items ≡ out.old.items ++ history_text history.now.recorded) }
     ensures err { OnErr result (out.new.items ≡ out.old.items) }
+    ensures full { OnErr result (vec_capacity out.old < vec_len out.old + length (history_text history.now.recorded)) }
 {
     let start = out.len();
     let written = push_history(out, history);
-    if written.is_err() {
-        out.truncate(start);
-    }
-    written
+    all_or_nothing(out, start, written)
 }
 
 /// Appends a history's text. Where memory is refused, a beginning of it may have been appended.
 fn push_history(out: &mut Vec<u8>, history: &History) -> Result<(), AllocError>
     ensures ok { OnOk result (out.new.items ≡ out.old.items ++ history_text history.now.recorded) }
     ensures kept { OnErr result (take (length out.old.items) out.new.items ≡ out.old.items) }
+    ensures beginning { OnErr result (IsBeginning out.new.items (out.old.items ++ history_text history.now.recorded)) }
+    ensures full { OnErr result (vec_capacity out.old < vec_len out.old + length (history_text history.now.recorded)) }
+    ensures capacity { vec_capacity out.old ≤ vec_capacity out.new }
 {
     push_header(out, history.config())?;
+    push_events(out, history)
+}
+
+fn push_events(out: &mut Vec<u8>, history: &History) -> Result<(), AllocError>
+    ensures ok { OnOk result (out.new.items ≡ out.old.items ++ lines_text (map event_parts history.now.recorded.events)) }
+    ensures kept { OnErr result (take (length out.old.items) out.new.items ≡ out.old.items) }
+    ensures beginning { OnErr result (IsBeginning out.new.items (out.old.items ++ lines_text (map event_parts history.now.recorded.events))) }
+    ensures full { OnErr result (vec_capacity out.old < vec_len out.old + length (lines_text (map event_parts history.now.recorded.events))) }
+    ensures capacity { vec_capacity out.old ≤ vec_capacity out.new }
+{
     for place in 0..history.len() {
         push_event(out, &history.event(place))?;
     }
@@ -38,10 +51,25 @@ fn push_history(out: &mut Vec<u8>, history: &History) -> Result<(), AllocError>
 fn push_header(out: &mut Vec<u8>, config: Config) -> Result<(), AllocError>
     ensures ok { OnOk result (out.new.items ≡ out.old.items ++ (line_text (setup_parts config) ++ 10 ∷ [])) }
     ensures kept { OnErr result (take (length out.old.items) out.new.items ≡ out.old.items) }
+    ensures beginning { OnErr result (IsBeginning out.new.items (out.old.items ++ (line_text (setup_parts config) ++ 10 ∷ []))) }
+    ensures full { OnErr result (vec_capacity out.old < vec_len out.old + length (line_text (setup_parts config) ++ 10 ∷ [])) }
+    ensures capacity { vec_capacity out.old ≤ vec_capacity out.new }
 {
     out.extend_from_slice(b"rmh1")?;
-    push_next(out, config.granules())?;
-    push_next(out, u64::from(config.cpus()))?;
+    push_sizes(out, config)
+}
+
+#[tactic(auto, using(std::proofs::lemmas::Grind::common_steps, rmi_codec::proofs::WriteLaws::writing))]
+fn push_sizes(out: &mut Vec<u8>, config: Config) -> Result<(), AllocError>
+    ensures ok { OnOk result (out.new.items ≡ out.old.items ++ (spaced (decimal config.granules ∷ decimal config.cpus ∷ []) ++ 10 ∷ [])) }
+    ensures kept { OnErr result (take (length out.old.items) out.new.items ≡ out.old.items) }
+    ensures beginning { OnErr result (IsBeginning out.new.items
+        (out.old.items ++ (spaced (decimal config.granules ∷ decimal config.cpus ∷ []) ++ 10 ∷ []))) }
+    ensures full { OnErr result (vec_capacity out.old
+        < vec_len out.old + length (spaced (decimal config.granules ∷ decimal config.cpus ∷ []) ++ 10 ∷ [])) }
+    ensures capacity { vec_capacity out.old ≤ vec_capacity out.new }
+{
+    push_numbers(out, config.granules(), u64::from(config.cpus()))?;
     out.push(b'\n')?;
     Ok(())
 }
@@ -49,15 +77,22 @@ fn push_header(out: &mut Vec<u8>, config: Config) -> Result<(), AllocError>
 fn push_event(out: &mut Vec<u8>, event: &Event) -> Result<(), AllocError>
     ensures ok { OnOk result (out.new.items ≡ out.old.items ++ (line_text (event_parts event.now) ++ 10 ∷ [])) }
     ensures kept { OnErr result (take (length out.old.items) out.new.items ≡ out.old.items) }
+    ensures beginning { OnErr result (IsBeginning out.new.items (out.old.items ++ (line_text (event_parts event.now) ++ 10 ∷ []))) }
+    ensures full { OnErr result (vec_capacity out.old < vec_len out.old + length (line_text (event_parts event.now) ++ 10 ∷ [])) }
+    ensures capacity { vec_capacity out.old ≤ vec_capacity out.new }
 {
     push_parts(out, event)?;
     out.push(b'\n')?;
     Ok(())
 }
 
+#[tactic(auto, using(std::proofs::lemmas::Grind::common_steps, crate::proofs::WriteLaws::event_texts))]
 fn push_parts(out: &mut Vec<u8>, event: &Event) -> Result<(), AllocError>
     ensures ok { OnOk result (out.new.items ≡ out.old.items ++ line_text (event_parts event.now)) }
     ensures kept { OnErr result (take (length out.old.items) out.new.items ≡ out.old.items) }
+    ensures beginning { OnErr result (IsBeginning out.new.items (out.old.items ++ line_text (event_parts event.now))) }
+    ensures full { OnErr result (vec_capacity out.old < vec_len out.old + length (line_text (event_parts event.now))) }
+    ensures capacity { vec_capacity out.old ≤ vec_capacity out.new }
 {
     match event {
         Event::Called {

@@ -2,4 +2,4 @@ pub mod FaultLaws
 pub mod NumberLaws
 pub mod PartLaws
 pub mod PrefixLaws
-pub mod HeadLaws
+pub mod WriteLaws

@@ -107,13 +107,10 @@ length-numeral-le base k zero big some small = omega (arith, ap length (numeral-
 length-numeral-le base k (suc n) big some small =
     omega (arith, ap length (numeral_some base (suc n) (omega arith)), length-map (digits_of base (suc n)) glyph, length-digits_of-le base k (suc n) big small)
 
--- one digit written behind the digits above it
-pub digits_of-push : (base n : ℕ) (old more new : List ℕ) → 2 ≤ base → 0 < n → more ≡ old ++ map glyph (digits_of base (n / base)) → new ≡ more ++ glyph (n % base) ∷ [] → new ≡ old ++ map glyph (digits_of base n)
-digits_of-push base n old more new big some above last =
-    last ∙ ap (λ front. front ++ glyph (n % base) ∷ []) above
-    ∙ append_assoc old (map glyph (digits_of base (n / base))) (glyph (n % base) ∷ [])
-    ∙ ap (λ end. old ++ end) (sym (map-append glyph (digits_of base (n / base)) (n % base ∷ [])))
-    ∙ ap (λ ds. old ++ map glyph ds) (sym (digits_of_step base n big some))
+-- the last digit stands behind the digits above it
+pub digits_more : (base n : ℕ) → 2 ≤ base → 0 < n → map glyph (digits_of base n) ≡ map glyph (digits_of base (n / base)) ++ glyph (n % base) ∷ []
+digits_more base n big some =
+    ap (λ ds. map glyph ds) (digits_of_step base n big some) ∙ map-append glyph (digits_of base (n / base)) (n % base ∷ [])
 
 -- ---- eight digits
 
@@ -173,11 +170,11 @@ SpellsFixed-end part count number digits count-is long so_far =
     let P : ℕ → Type 0 = λ k. number < 16 ^ k in
     (sym (take_all count part (omega arith)) ∙ so_far.spelled ∙ ap (λ k. fixed_hex k number) count-is, subst P count-is so_far.small)
 
--- one digit written behind the digits above it
-pub fixed_hex-push : (count n : ℕ) (old more new : List ℕ) → 0 < count → more ≡ old ++ fixed_hex (count - 1) (n / 16) → new ≡ more ++ glyph (n % 16) ∷ [] → new ≡ old ++ fixed_hex count n
-fixed_hex-push zero n old more new some above last = absurd (omega arith)
-fixed_hex-push (suc count) n old more new some above last =
-    let less : suc count - 1 ≡ count = omega arith in
-    last ∙ ap (λ front. front ++ glyph (n % 16) ∷ []) (above ∙ ap (λ k. old ++ fixed_hex k (n / 16)) less)
-    ∙ append_assoc old (fixed_hex count (n / 16)) (glyph (n % 16) ∷ [])
-    ∙ ap (λ end. old ++ end) (sym (fixed_hex-suc count n))
+pub fixed_hex_none : (count n : ℕ) → count ≡ 0 → fixed_hex count n ≡ []
+fixed_hex_none count n none = ap (λ k. fixed_hex k n) none ∙ fixed_hex-zero n
+
+pub fixed_hex_more : (count n : ℕ) → 0 < count → fixed_hex count n ≡ fixed_hex (count - 1) (n / 16) ++ glyph (n % 16) ∷ []
+fixed_hex_more zero n some = absurd (omega arith)
+fixed_hex_more (suc count) n some =
+    let less : count ≡ suc count - 1 = omega arith in
+    fixed_hex-suc count n ∙ ap (λ k. fixed_hex k (n / 16) ++ glyph (n % 16) ∷ []) less

@@ -93,30 +93,6 @@ no_empty_first_part bytes rest parts (part ∷ ps) test next e are_parts = no_em
 pub same_first : (parts rest others : List (List ℕ)) (m n : ℕ) → parts ≡ decimal m ∷ rest → parts ≡ decimal n ∷ others → m ≡ n
 same_first parts rest others m n next e = decimal-injective m n (ap (λ ps. get_or ps 0 []) (sym next ∙ e))
 
--- the parts behind the first, as a writer puts them
-pub line_text-spaced : (part : List ℕ) (parts : List (List ℕ)) → line_text (part ∷ parts) ≡ part ++ spaced parts
-line_text-spaced part [] = sym (append-nil part)
-line_text-spaced part (next ∷ parts) = ap (λ rest. part ++ 32 ∷ rest) (line_text-spaced next parts)
-
-spaced-push : (parts : List (List ℕ)) (part : List ℕ) → spaced (parts ++ part ∷ []) ≡ spaced parts ++ 32 ∷ part
-spaced-push [] part = ap (λ rest. 32 ∷ rest) (append-nil part)
-spaced-push (first ∷ parts) part =
-    ap (λ rest. 32 ∷ first ++ rest) (spaced-push parts part) ∙ ap (λ rest. 32 ∷ rest) (sym (append_assoc first (spaced parts) (32 ∷ part)))
-
--- one word more
-pub spaced-more : (words : List ℕ) (i w : ℕ) → i < length words → w ≡ get_or words i 0 → spaced (map word (take (i + 1) words)) ≡ spaced (map word (take i words)) ++ 32 ∷ word w
-spaced-more words i w inside is =
-    ap (λ ws. spaced (map word ws)) (take_more words i 0 inside)
-    ∙ ap (λ last. spaced (map word (take i words ++ last ∷ []))) (sym is)
-    ∙ ap spaced (map-append word (take i words) (w ∷ []))
-    ∙ spaced-push (map word (take i words)) (word w)
-
--- what a first step appended stays out of what the next one keeps
-pub kept-trans : (old mid new more : List ℕ) → mid ≡ old ++ more → take (length mid) new ≡ mid → take (length old) new ≡ old
-kept-trans old mid new more e kept =
-    let le : length old ≤ length mid = omega (arith, ap length e, length-append old more) in
-    sym (take-take (length old) (length mid) new le) ∙ ap (take (length old)) (kept ∙ e) ∙ take_at old more (length old) refl
-
 -- ---- words
 
 word-at : (ws : List ℕ) (front rest : List (List ℕ)) (part : List ℕ) → AreWords ws → map word ws ≡ front ++ part ∷ rest → (w : ℕ) × (w < 2 ^ 64) × (part ≡ word w)
@@ -208,38 +184,3 @@ word_count-le HostCall = lit≤ tt
 word_count-le CpuOff = lit≤ tt
 word_count-le SystemOff = lit≤ tt
 word_count-le Exit = lit≤ tt
-
--- ---- writers
-
--- a line is written where its first part is, and then the others, each behind a space
-pub line_pushed : (old mid new part : List ℕ) (parts : List (List ℕ)) → mid ≡ old ++ part → new ≡ mid ++ spaced parts → new ≡ old ++ line_text (part ∷ parts)
-line_pushed old mid new part parts first others =
-    others ∙ ap (λ front. front ++ spaced parts) first ∙ append_assoc old part (spaced parts)
-    ∙ ap (λ line. old ++ line) (sym (line_text-spaced part parts))
-
--- one word more is written
-pub words_pushed : (old out mid new words : List ℕ) (i w : ℕ) → i < length words → w ≡ get_or words i 0 → out ≡ old ++ spaced (map word (take i words)) → mid ≡ out ++ 32 ∷ [] → new ≡ mid ++ word w → new ≡ old ++ spaced (map word (take (i + 1) words))
-words_pushed old out mid new words i w inside is before space after =
-    let so_far = spaced (map word (take i words)) in
-    after ∙ ap (λ front. front ++ word w) space ∙ append_assoc out (32 ∷ []) (word w)
-    ∙ ap (λ front. front ++ 32 ∷ word w) before ∙ append_assoc old so_far (32 ∷ word w)
-    ∙ ap (λ rest. old ++ rest) (sym (spaced-more words i w inside is))
-
-refusal_begun : (old a b c : List ℕ) (status : ℕ) → a ≡ old ++ codes "err " → b ≡ a ++ decimal status → c ≡ b ++ 32 ∷ [] → c ≡ old ++ (codes "err " ++ (decimal status ++ 32 ∷ []))
-refusal_begun old a b c status first second third =
-    third ∙ ap (λ front. front ++ 32 ∷ []) (second ∙ ap (λ front. front ++ decimal status) first)
-    ∙ append_assoc (old ++ codes "err ") (decimal status) (32 ∷ [])
-    ∙ append_assoc old (codes "err ") (decimal status ++ 32 ∷ [])
-
--- a refusal is written part by part
-pub refusal_pushed : (old a b c new : List ℕ) (status index : ℕ) → a ≡ old ++ codes "err " → b ≡ a ++ decimal status → c ≡ b ++ 32 ∷ [] → new ≡ c ++ decimal index → new ≡ old ++ line_text (codes "err" ∷ decimal status ∷ decimal index ∷ [])
-refusal_pushed old a b c new status index first second third last =
-    let begun = refusal_begun old a b c status first second third in
-    last ∙ ap (λ front. front ++ decimal index) begun
-    ∙ append_assoc old (codes "err " ++ (decimal status ++ 32 ∷ [])) (decimal index)
-    ∙ ap (λ rest. old ++ (codes "err " ++ rest)) (append_assoc (decimal status) (32 ∷ []) (decimal index))
-
--- what was there before a refusal is kept, however far it gets
-pub refusal_kept : (old a b c new : List ℕ) (status : ℕ) → a ≡ old ++ codes "err " → b ≡ a ++ decimal status → c ≡ b ++ 32 ∷ [] → take (length c) new ≡ c → take (length old) new ≡ old
-refusal_kept old a b c new status first second third kept =
-    kept-trans old c new _ (refusal_begun old a b c status first second third) kept

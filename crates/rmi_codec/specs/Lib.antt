@@ -1,3 +1,5 @@
 pub mod Faults
 pub mod Spaced
 pub mod Limited
+pub mod Beginning
+pub mod Head

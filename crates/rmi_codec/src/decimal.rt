@@ -1,7 +1,8 @@
 //! Decimals.
 
-ghost use Rattle.std.specs.Prelude.{◌≡◌, ◌≢◌, ℕ, ◌<◌, ◌^◌, ◌∷◌, ◌++◌, List, length, take, Some, IfSome, IfNone, OnOk, OnErr};
+ghost use Rattle.std.specs.Prelude.{◌≡◌, ◌≢◌, ℕ, ◌<◌, ◌^◌, ◌∷◌, ◌++◌, List, length, take, Some, IfSome, IfNone, OnOk, OnErr, ◌≤◌, ◌+◌, vec_len, vec_capacity};
 ghost use Rattle.rmm_spec.specs.Text.{decimal};
+ghost use Rattle.rmi_codec.specs.Beginning.{IsBeginning};
 
 use crate::numeral::{numeral_from, push_numeral};
 use crate::parts::Parts;
@@ -32,6 +33,9 @@ pub(crate) fn next_decimal(parts: &mut Parts<'_>) -> Option<u64>
 pub fn push_decimal(out: &mut Vec<u8>, number: u64) -> Result<(), AllocError>
     ensures ok { OnOk result (out.new.items ≡ out.old.items ++ decimal number) }
     ensures kept { OnErr result (take (length out.old.items) out.new.items ≡ out.old.items) }
+    ensures beginning { OnErr result (IsBeginning out.new.items (out.old.items ++ decimal number)) }
+    ensures full { OnErr result (vec_capacity out.old < vec_len out.old + length (decimal number)) }
+    ensures capacity { vec_capacity out.old ≤ vec_capacity out.new }
 {
     push_numeral(out, number, 10)
 }

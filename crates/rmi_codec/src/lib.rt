@@ -19,15 +19,17 @@ mod reply;
 mod spelled;
 #[cfg(test)]
 mod tests;
+mod whole;
 mod word;
 
 pub use command::{command_from, push_command, read_command, write_command};
 pub use decimal::{decimal_from, push_decimal};
 pub use fault::CodecFault;
-pub use head::{push_head, push_next};
+pub use head::{push_head, push_numbers};
 pub use limited::number_below;
 pub use lines::next_line;
 pub use parts::Parts;
 pub use reply::{push_reply, read_reply, reply_from, write_reply};
 pub use rmm_spec::{Command, FunctionId, Reply};
 pub use spelled::{has_text, reply_has_text};
+pub use whole::all_or_nothing;

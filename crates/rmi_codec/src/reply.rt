@@ -1,14 +1,17 @@
 //! Replies.
 
-ghost use Rattle.std.specs.Prelude.{◌≡◌, ◌<◌, ◌++◌, [], ◌∷◌, ℕ, List, map, length, take, Ok, Some, codes, IsOk, IfOk, IfErr, IfSome, OnOk, OnErr};
+ghost use Rattle.std.specs.Prelude.{◌≡◌, ◌<◌, ◌++◌, [], ◌∷◌, ℕ, List, map, length, take, Ok, Some, codes, IsOk, IfOk, IfErr, IfSome, OnOk, OnErr, ◌≤◌, ◌+◌, vec_len, vec_capacity};
 ghost use Rattle.rmm_spec.specs.declared.reply.Reply.{Reply};
 ghost use Rattle.rmm_spec.specs.CommandText.{IsReply, reply_parts, reply_text};
 ghost use Rattle.rmm_spec.specs.Text.{decimal, parts_of};
 ghost use Rattle.rmi_codec.specs.Faults.{IsReplyFault, IsSmallFault, IsEndFault};
+ghost use Rattle.rmi_codec.specs.Beginning.{IsBeginning};
 
-use crate::decimal::{next_decimal, push_decimal};
+use crate::decimal::next_decimal;
 use crate::fault::{CodecFault, part_fault};
+use crate::head::push_numbers;
 use crate::parts::Parts;
+use crate::whole::all_or_nothing;
 use crate::word::{push_words, read_words};
 use arrayvec::ArrayVec;
 use rmm_spec::Reply;
@@ -109,20 +112,26 @@ pub fn read_reply(text: &str) -> Result<Reply, CodecFault>
 }
 
 // Appends a refusal.
+#[tactic(auto, unfolding(rmm_spec::specs::CommandText::reply_parts))]
 fn push_err(out: &mut Vec<u8>, status: u8, index: u8) -> Result<(), AllocError>
     ensures ok { OnOk result (out.new.items ≡ out.old.items ++ reply_text (Reply.Err status index)) }
     ensures kept { OnErr result (take (length out.old.items) out.new.items ≡ out.old.items) }
+    ensures beginning { OnErr result (IsBeginning out.new.items (out.old.items ++ reply_text (Reply.Err status index))) }
+    ensures full { OnErr result (vec_capacity out.old < vec_len out.old + length (reply_text (Reply.Err status index))) }
+    ensures capacity { vec_capacity out.old ≤ vec_capacity out.new }
 {
-    out.extend_from_slice(b"err ")?;
-    push_decimal(out, u64::from(status))?;
-    out.push(b' ')?;
-    push_decimal(out, u64::from(index))
+    out.extend_from_slice(b"err")?;
+    push_numbers(out, u64::from(status), u64::from(index))
 }
 
 /// Appends a reply's text. Where memory is refused, a beginning of it may have been appended.
+#[tactic(auto, using(std::proofs::lemmas::Grind::common_steps, crate::proofs::WriteLaws::writing), unfolding(rmm_spec::specs::CommandText::reply_parts))]
 pub fn push_reply(out: &mut Vec<u8>, reply: &Reply) -> Result<(), AllocError>
     ensures ok { OnOk result (out.new.items ≡ out.old.items ++ reply_text reply.now) }
     ensures kept { OnErr result (take (length out.old.items) out.new.items ≡ out.old.items) }
+    ensures beginning { OnErr result (IsBeginning out.new.items (out.old.items ++ reply_text reply.now)) }
+    ensures full { OnErr result (vec_capacity out.old < vec_len out.old + length (reply_text reply.now)) }
+    ensures capacity { vec_capacity out.old ≤ vec_capacity out.new }
 {
     match reply {
         Reply::Ok(words) => {
@@ -134,15 +143,13 @@ pub fn push_reply(out: &mut Vec<u8>, reply: &Reply) -> Result<(), AllocError>
     }
 }
 
-/// Appends a reply's text, or nothing where memory is refused.
+/// Appends a reply's text, or nothing where memory is refused, which it is only where the buffer has no room for the text.
 pub fn write_reply(reply: &Reply, out: &mut Vec<u8>) -> Result<(), AllocError>
     ensures ok { OnOk result (out.new.items ≡ out.old.items ++ reply_text reply.now) }
     ensures err { OnErr result (out.new.items ≡ out.old.items) }
+    ensures full { OnErr result (vec_capacity out.old < vec_len out.old + length (reply_text reply.now)) }
 {
     let start = out.len();
     let written = push_reply(out, reply);
-    if written.is_err() {
-        out.truncate(start);
-    }
-    written
+    all_or_nothing(out, start, written)
 }

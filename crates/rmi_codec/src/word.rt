@@ -1,10 +1,11 @@
 //! Words: numbers of 64 bits in lower-case hex.
 
-ghost use Rattle.std.specs.Prelude.{◌≡◌, ◌≢◌, ℕ, ◌<◌, ◌≤◌, ◌^◌, [], ◌∷◌, ◌++◌, List, length, map, take, Ok, Some, IsOk, IfOk, IfErr, IfSome, IfNone, OnOk, OnErr};
+ghost use Rattle.std.specs.Prelude.{◌≡◌, ◌≢◌, ℕ, ◌<◌, ◌≤◌, ◌^◌, [], ◌∷◌, ◌++◌, List, length, map, take, Ok, Some, IsOk, IfOk, IfErr, IfSome, IfNone, OnOk, OnErr, ◌+◌, vec_len, vec_capacity};
 ghost use Rattle.rmm_spec.specs.CommandText.{AreWords};
 ghost use Rattle.rmm_spec.specs.Text.{word};
 ghost use Rattle.rmi_codec.specs.Faults.{IsWordsFault};
 ghost use Rattle.rmi_codec.specs.Spaced.{spaced};
+ghost use Rattle.rmi_codec.specs.Beginning.{IsBeginning};
 
 use crate::fault::{CodecFault, part_fault};
 use crate::numeral::push_numeral;
@@ -23,22 +24,29 @@ fn next_word(parts: &mut Parts<'_>) -> Option<u64>
     parts.next_numeral(16)
 }
 
-// Appends a word.
+// Appends a word behind a space.
 #[tactic(auto, unfolding(rmm_spec::specs::Text::word))]
-pub(crate) fn push_word(out: &mut Vec<u8>, number: u64) -> Result<(), AllocError>
-    ensures ok { OnOk result (out.new.items ≡ out.old.items ++ word number) }
+fn push_word(out: &mut Vec<u8>, number: u64) -> Result<(), AllocError>
+    ensures ok { OnOk result (out.new.items ≡ out.old.items ++ 32 ∷ word number) }
     ensures kept { OnErr result (take (length out.old.items) out.new.items ≡ out.old.items) }
+    ensures beginning { OnErr result (IsBeginning out.new.items (out.old.items ++ 32 ∷ word number)) }
+    ensures full { OnErr result (vec_capacity out.old < vec_len out.old + length (32 ∷ word number)) }
+    ensures capacity { vec_capacity out.old ≤ vec_capacity out.new }
 {
+    out.push(b' ')?;
     push_numeral(out, number, 16)
 }
 
 // Appends words, each behind a space.
+#[tactic(auto, using(std::proofs::lemmas::Grind::common_steps, crate::proofs::WriteLaws::writing))]
 pub(crate) fn push_words(out: &mut Vec<u8>, words: &[u64]) -> Result<(), AllocError>
     ensures ok { OnOk result (out.new.items ≡ out.old.items ++ spaced (map word words.now)) }
     ensures kept { OnErr result (take (length out.old.items) out.new.items ≡ out.old.items) }
+    ensures beginning { OnErr result (IsBeginning out.new.items (out.old.items ++ spaced (map word words.now))) }
+    ensures full { OnErr result (vec_capacity out.old < vec_len out.old + length (spaced (map word words.now))) }
+    ensures capacity { vec_capacity out.old ≤ vec_capacity out.new }
 {
     for word in words {
-        out.push(b' ')?;
         push_word(out, *word)?;
     }
     Ok(())

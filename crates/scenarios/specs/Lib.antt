@@ -1,5 +1,1 @@
-pub mod Judgement
-pub mod Sink
-pub mod Source
-pub mod Status
 pub mod Words

@@ -1,5 +1,9 @@
 -- The command line, over clap's own definitions of what a command takes and which value an argument gets.
 use Rattle.std.specs.Prelude.{◌≡◌, List, [], Option, Some, true, codes, option_and_then}
+use Rattle.judging.specs.declared.fault.Fault.{Fault}
+use Rattle.judging.specs.declared.fault.Fault.TheVariants as fault
+use Rattle.scenarios.specs.declared.words.WordsFault.{WordsFault}
+use Rattle.scenarios.specs.declared.words.WordsFault.TheVariants as words_fault_is
 use Rattle.clap.specs.declared.parser.matches.ArgMatches.{ArgMatches}
 use Rattle.clap.specs.Words.{App, Row, Rule, Text, fault_of, first_of, new_app, new_rule, subcommand_of, subcommand_rows_of, with_rule, with_subcommand}
 
@@ -35,3 +39,8 @@ pub record AsksCheck (words : List Text) (history certificate : Text) : Type 0 w
   pub no_fault : fault_of rmmcheck_command words ≡ []
   pub history_given : value_given (codes "HISTORY") words ≡ Some history
   pub certificate_given : value_given (codes "CERT") words ≡ Some certificate
+
+-- what the program ends with where the words give no paths
+abbrev pub words_fault : WordsFault → Fault
+words_fault words_fault_is.Arguments = fault.Arguments
+words_fault words_fault_is.NoMemory = fault.NoMemory

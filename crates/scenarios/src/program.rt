@@ -1,26 +1,24 @@
 //! The program over any runtime: words, files, the verdict's line, the exit status.
 
-ghost use Rattle.std.specs.Prelude.{◌≤◌};
+ghost use Rattle.std.specs.Prelude.{◌≡◌, ◌≤◌};
 
-use crate::file::FileSource;
-use crate::output::OutputSink;
-use crate::{Fault, JudgeFault, Paths, judge, paths_given, status};
+use crate::words::paths_given;
 use checker::Verdict;
+use judging::{Ending, Fault, FileSource, OutputSink, Paths, ends_with, judge};
 use std::rt::{Env, Files};
 use std::{env, fs, io};
 
-/// Runs the program and answers its exit status: 0 for yes, 1 for no, 2 for words or texts at fault, 3 for a device or memory.
+/// Runs the program and returns its exit status: 0 for yes, 1 for no, 2 for words or texts at fault, 3 for a device or memory.
+/// Where the line of a fault can't be written to standard error, the status alone reports it.
 pub fn run<R: Env + Files + Print + Eprint + AllocGlobal>(rt: &R) -> u8
     ensures { result ≤ 3 }
 {
-    let words = match words_of(rt) {
-        Ok(words) => words,
-        Err(fault) => return end(rt, fault),
+    let words = words_of(rt);
+    let ending = match &words {
+        Ok(words) => ends_with(checked(rt, words.as_slice())),
+        Err(fault) => ends_with(Err(*fault)),
     };
-    match checked(rt, words.as_slice()) {
-        Ok(verdict) => status(&verdict),
-        Err(fault) => end(rt, fault),
-    }
+    end(rt, ending)
 }
 
 fn checked<'a, R: Files + Print + AllocGlobal>(
@@ -45,13 +43,7 @@ fn check_files<'a, R: Files + Print + AllocGlobal>(
     let mut history = FileSource::new(rt.alloc(), history);
     let mut certificate = FileSource::new(rt.alloc(), certificate);
     let mut sink = OutputSink::new(rt.alloc(), io::writer(rt));
-    match judge(rt.alloc(), &mut history, &mut certificate, &mut sink) {
-        Ok(verdict) => Ok(verdict),
-        Err(JudgeFault::ReadHistory) => Err(Fault::CannotRead(paths.history)),
-        Err(JudgeFault::ReadCertificate) => Err(Fault::CannotRead(paths.certificate)),
-        Err(JudgeFault::Write) => Err(Fault::CannotWrite),
-        Err(JudgeFault::NoMemory) => Err(Fault::NoMemory),
-    }
+    judge(rt.alloc(), &mut history, &mut certificate, &mut sink).map_err(|fault| paths.fault(fault))
 }
 
 // The words of the command line. One that is no UTF-8 is a fault of arguments.
@@ -63,11 +55,12 @@ fn words_of<R: Env + AllocGlobal>(rt: &R) -> Result<Vec<String>, Fault<'static>>
     }
 }
 
-// Tells the fault on standard error. Where that can't be written either, the status alone tells it.
-fn end<R: Eprint>(rt: &R, fault: Fault<'_>) -> u8
-    ensures { result ≤ 3 }
+// Writes the fault's line, where there is one.
+fn end<R: Eprint>(rt: &R, ending: Ending<'_>) -> u8
+    ensures { result ≡ ending.entry.status }
 {
-    let status = fault.status();
-    let _ = rt.eprintln(fault);
-    status
+    if let Some(fault) = ending.fault {
+        let _ = rt.eprintln(fault);
+    }
+    ending.status
 }

@@ -2,35 +2,48 @@
 
 ghost use Rattle.std.specs.Prelude.{◌≡◌, ◌≢◌, ℕ, List, IfOk, IfSome, IfNone, Err, Some, codes, map, option_map, string_bytes};
 ghost use Rattle.clap.specs.Words.{app_of, kind_of};
-ghost use Rattle.scenarios.specs.Words.{AsksCheck, rmmcheck_command, value_in};
+ghost use Rattle.scenarios.specs.Words.{AsksCheck, rmmcheck_command, value_in, words_fault};
 
-use crate::Fault;
 use clap::error::ErrorKind;
 use clap::{Arg, ArgMatches, Command, Error};
+use judging::{Fault, Paths};
 use std::alloc::{AllocError, Global};
 
-/// The two paths of a `check`, as they were given.
-#[derive(Clone, Copy, Debug, PartialEq, Eq)]
-pub struct Paths<'a> {
-    pub history: &'a str,
-    pub certificate: &'a str,
+/// Why the words gave no paths.
+#[derive(Clone, Copy, Debug, PartialEq, Eq, thiserror::Error)]
+pub enum WordsFault {
+    #[error("the words are no `check HISTORY CERT`")]
+    Arguments,
+    #[error("no memory")]
+    NoMemory,
+}
+
+impl From<WordsFault> for Fault<'_> {
+    ghost from_gives = { λ fault ended. ended ≡ words_fault fault };
+
+    fn from(fault: WordsFault) -> Self {
+        match fault {
+            WordsFault::Arguments => Fault::Arguments,
+            WordsFault::NoMemory => Fault::NoMemory,
+        }
+    }
 }
 
 /// Reads `rmmcheck check HISTORY CERT`, of which the first word is the program's name.
 /// A request for help is refused as any other words are. A path that begins with a dash stands after `--`.
-pub fn paths_given<'a>(alloc: Global, words: &'a [String]) -> Result<Paths<'a>, Fault<'a>>
+pub fn paths_given<'a>(alloc: Global, words: &'a [String]) -> Result<Paths<'a>, WordsFault>
     ensures found { IfOk result (λ paths.
         AsksCheck (map string_bytes words.now) paths.history.now paths.certificate.now) }
-    ensures refused { result ≡ Err Fault.Arguments → (history certificate : List ℕ)
+    ensures refused { result ≡ Err WordsFault.Arguments → (history certificate : List ℕ)
         → AsksCheck (map string_bytes words.now) history certificate → ⊥ }
 {
     let Ok(program) = program(alloc) else {
-        return Err(Fault::NoMemory);
+        return Err(WordsFault::NoMemory);
     };
     match program.try_get_matches_from(words) {
         Ok(matches) => match paths_in(&matches) {
             Some(paths) => Ok(paths),
-            None => Err(Fault::Arguments),
+            None => Err(WordsFault::Arguments),
         },
         Err(error) => Err(refusal(&error)),
     }
@@ -75,11 +88,13 @@ fn value<'a>(matches: &ArgMatches<'a>, id: &str) -> Option<&'a str>
     }
 }
 
-fn refusal<'a>(error: &Error) -> Fault<'a>
-    ensures { result ≡ Fault.Arguments → kind_of error.now ≢ ErrorKind.OutOfMemory }
+// Refused memory, and any other fault of the words.
+fn refusal(error: &Error) -> WordsFault
+    ensures arguments { result ≡ WordsFault.Arguments → kind_of error.now ≢ ErrorKind.OutOfMemory }
+    ensures memory { result ≡ WordsFault.NoMemory → kind_of error.now ≡ ErrorKind.OutOfMemory }
 {
     match error.kind() {
-        ErrorKind::OutOfMemory => Fault::NoMemory,
-        _ => Fault::Arguments,
+        ErrorKind::OutOfMemory => WordsFault::NoMemory,
+        _ => WordsFault::Arguments,
     }
 }

@@ -5,16 +5,16 @@ use Rattle.certificate.proofs.laws.read_back.Goals as goal
 
 pub returns-in-Ok : goal.returns-in-Ok
 returns-in-Ok c =
-    let lines = c.args.certificate.now in
+    let lines = c.args.certificate.now.lines in
     let written : IsCertificateText c.as_slice.result.now lines = record {
       is_certificate = c.len-well_formed.ensures.well_formed;
       is_text = c.as_slice.ensures.value ∙ c.in_ok-write.ensures.ok ∙ ap (λ front. front ++ certificate_text lines) c.new-text.ensures.items;
     } in
-    same_certificate c.as_slice.result.now c.in-Ok.again lines c.in-Ok.ensures.found written
+    same_certificate c.as_slice.result.now c.in-Ok.again.lines lines c.in-Ok.ensures.found written
 
 pub unreachable-requires : goal.unreachable-requires
 unreachable-requires c =
-    let lines = c.args.certificate.now in
+    let lines = c.args.certificate.now.lines in
     let written : IsCertificateText c.as_slice.result.now lines = record {
       is_certificate = c.len-well_formed.ensures.well_formed;
       is_text = c.as_slice.ensures.value ∙ c.in_ok-write.ensures.ok ∙ ap (λ front. front ++ certificate_text lines) c.new-text.ensures.items;

@@ -4,8 +4,8 @@ use Rattle.certificate.proofs.reader.read.Given as goal
 
 abbrev pub invariant-loop-rest : goal.invariant-loop-rest
 invariant-loop-rest l = record {
-  text : l.text ≡ certificate_text l.lines ++ l.rest;
-  well_formed : IsCertificate l.lines;
+  text : l.text ≡ certificate_text l.lines.lines ++ l.rest;
+  well_formed : IsCertificate l.lines.lines;
 }
 
 abbrev pub decreases-loop-rest : goal.decreases-loop-rest

@@ -1,7 +1,12 @@
-use Rattle.std.proofs.Common.{◌≡◌, ◌++◌, take}
+use Rattle.std.proofs.Common.{◌≡◌, ◌≤◌, ◌+◌, ◌++◌, drop, length, take, vec_capacity}
 use Rattle.rmm_spec.specs.CertificateText.{certificate_text}
 use Rattle.certificate.proofs.writing.push_certificate.Given as goal
 
--- the lines so far are written
+-- what is written and what is left to write are the whole text
 abbrev pub invariant-loop-i : goal.invariant-loop-i
-invariant-loop-i l = l.out.items ≡ l.fn.out.items ++ certificate_text (take l.i l.certificate)
+invariant-loop-i l = record {
+  written : l.out.items ++ certificate_text (drop l.i l.certificate.lines) ≡ l.fn.out.items ++ certificate_text l.certificate.lines;
+  left : length l.out.items + length (certificate_text (drop l.i l.certificate.lines)) ≡ length l.fn.out.items + length (certificate_text l.certificate.lines);
+  kept : take (length l.fn.out.items) l.out.items ≡ l.fn.out.items;
+  capacity : vec_capacity l.fn.out ≤ vec_capacity l.out;
+}

@@ -18,13 +18,13 @@ returns-in-Err-BadLine-read-clause-valid c =
 
 pub returns-clause-judged : goal.returns-clause-judged
 returns-clause-judged c =
-    IfOk-weaker c.judge.result _ _
-    (λ v order. Judges-from_order v c.args.history.now c.args.certificate.now c.in-Ok.history.recorded c.in-Ok-read.certificate c.in-Ok.ensures.found c.in-Ok-read.ensures.found order)
-    c.judge.ensures
+    IfOk-weaker c.judge_order.result _ _
+    (λ v order. Judges-from_order v c.args.history.now c.args.certificate.now c.in-Ok.history.recorded c.in-Ok-read.certificate.lines c.in-Ok.ensures.found c.in-Ok-read.ensures.found order)
+    c.judge_order.ensures
 
 pub returns-clause-valid : goal.returns-clause-valid
 returns-clause-valid c =
-    IfOk-weaker c.judge.result _ _
+    IfOk-weaker c.judge_order.result _ _
     (λ v order. Judges-valid v c.args.history.now c.args.certificate.now
-    (Judges-from_order v c.args.history.now c.args.certificate.now c.in-Ok.history.recorded c.in-Ok-read.certificate c.in-Ok.ensures.found c.in-Ok-read.ensures.found order))
-    c.judge.ensures
+    (Judges-from_order v c.args.history.now c.args.certificate.now c.in-Ok.history.recorded c.in-Ok-read.certificate.lines c.in-Ok.ensures.found c.in-Ok-read.ensures.found order))
+    c.judge_order.ensures

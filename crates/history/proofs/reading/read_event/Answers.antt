@@ -1,5 +1,6 @@
 use Rattle.std.proofs.Common.{◌≢◌, ◌<◌, ℕ, List, [], length, ap, arith}
-use Rattle.history.proofs.GrammarLaws.{full_lines, bad_line, unfinished_line, line_too_many, history_text-push}
+use Rattle.std.proofs.lemmas.Result.{err_from_is_err_and}
+use Rattle.history.proofs.GrammarLaws.{BeginsWith-next, full_lines, bad_line, unfinished_line, line_too_many, history_text-push}
 use Rattle.history.proofs.reading.read_event.Goals as goal
 
 -- the text goes on
@@ -28,3 +29,12 @@ returns-clause-read c =
     let done = c.in_ok-record_line.ensures.recorded c.if-not-branch.false in
     rw done.recorded
     (history_text-push c.args.history.now.recorded done.event c.args.rest.now c.in-Some.line.now c.in-Some.more.now c.in-Some.ensures.line done.is_event)
+
+pub returns-in_err-record_line-clause-fault : goal.returns-in_err-record_line-clause-fault
+returns-in_err-record_line-clause-fault c =
+    let p = err_from_is_err_and c.from_residual.result c.from_residual.ensures.1 in
+    let next = c.in_err-record_line.ensures.no_memory in
+    rw (p.1, p.2) (
+      next.event,
+      BeginsWith-next c.args.history.now.recorded c.args.rest.now c.in-Some.line.now c.in-Some.more.now c.well_formed-2.ensures c.in-Some.ensures.line next,
+    )

@@ -1,9 +1,9 @@
 use Rattle.std.proofs.Common.{refl}
-use Rattle.std.proofs.lemmas.Result.{IfOk-weaker}
+use Rattle.std.proofs.lemmas.Result.{IfOk-weaker, on_err_weaker}
 use Rattle.rmm_spec.specs.Text.{parts_of}
 use Rattle.history.specs.Spelling.{kind_part}
 use Rattle.history.specs.declared.line.Kind.TheVariants.{Call, Return}
-use Rattle.history.proofs.GrammarLaws.{no_event, no_continuation}
+use Rattle.history.proofs.GrammarLaws.{no_event, no_continuation, HasNext-continues}
 use Rattle.history.proofs.SpellingLaws.{IsNoEvent-call, IsNoEvent-return, IsEventOf-call, IsEventOf-return}
 use Rattle.history.proofs.reading.record_line.Goals as goal
 
@@ -60,3 +60,20 @@ returns-in-Ok-reply_from-clause-refused c =
     c.in-Ok-reply_from.ensures.found.1 below c.in-Ok-reply_from.ensures.found.0 in
     IfOk-weaker c.record-in-Return.result _ _
     (λ done stops is_not. no_continuation c.args.history.now.recorded (parts_of c.args.line.now) _ is_event (stops is_not)) c.record-in-Return.ensures.refused
+
+pub returns-in-Ok-clause-no_memory : goal.returns-in-Ok-clause-no_memory
+returns-in-Ok-clause-no_memory c =
+    let cut = rw (c.of-parts.ensures, c.in-Call.is) at c.in-Some.ensures.found in
+    let below = rw (c.cpus-cpus.ensures.count, c.config.ensures) at c.in-Some.ensures.below in
+    let is_event = IsEventOf-call _ _ (kind_part Call) _ _ _ _ c.beginning_from.new.parts c.in-Ok.command cut refl refl refl c.in-Ok.ensures.found.1 below
+    c.in-Ok.ensures.found.0 in
+    on_err_weaker c.record.result (HasNext-continues c.args.history.now.recorded (parts_of c.args.line.now) _ is_event c.requires.room) c.record.ensures.no_memory
+
+pub returns-in-Ok-reply_from-clause-no_memory : goal.returns-in-Ok-reply_from-clause-no_memory
+returns-in-Ok-reply_from-clause-no_memory c =
+    let cut = rw (c.of-parts.ensures, c.in-Return.is) at c.in-Some.ensures.found in
+    let below = rw (c.cpus-cpus.ensures.count, c.config.ensures) at c.in-Some.ensures.below in
+    let is_event = IsEventOf-return _ _ (kind_part Return) _ _ _ _ c.beginning_from.new.parts c.in-Ok-reply_from.reply cut refl refl refl
+    c.in-Ok-reply_from.ensures.found.1 below c.in-Ok-reply_from.ensures.found.0 in
+    on_err_weaker c.record-in-Return.result (HasNext-continues c.args.history.now.recorded (parts_of c.args.line.now) _ is_event c.requires.room)
+    c.record-in-Return.ensures.no_memory

@@ -10,7 +10,7 @@ pushed : (c : goal.After-push_reserved)
     → IsPushed c.self.inside.names.items c.self.inside.replies.items c.push_reserved.new.self.items c.match-line.self-inside.replies.items c.args.line
 pushed c =
     let room : length (lines_of c.self.inside.names.items c.self.inside.replies.items) < 1000000 =
-    subst (λ ls. length ls < 1000000) (sym c.self.view_is) c.requires.room in
+    subst (λ claimed. length claimed.lines < 1000000) (sym c.self.view_is) c.requires.room in
     elim c.match-line.branch [
       | in-Keep w ↦
           IsPushed-keep c.self.inside.names.items c.push_reserved.new.self.items c.self.inside.replies.items c.match-line.self-inside.replies.items
@@ -36,4 +36,4 @@ pub invariant_of-self-2 : goal.invariant_of-self-2
 invariant_of-self-2 c = (pushed c).held
 
 pub returns-clause-ok : goal.returns-clause-ok
-returns-clause-ok c = (pushed c).lines ∙ ap (λ ls. ls ++ c.args.line ∷ []) c.self.view_is
+returns-clause-ok c = (pushed c).lines ∙ ap (λ claimed. claimed.lines ++ c.args.line ∷ []) c.self.view_is

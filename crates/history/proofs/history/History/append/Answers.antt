@@ -1,6 +1,10 @@
-use Rattle.std.proofs.Common.{arith, ◌≡◌, ◌<◌, length, false, true}
+use Rattle.std.proofs.Common.{arith, ◌≡◌, ◌<◌, length, false, true, refl}
+use Rattle.std.proofs.lemmas.List.{length-map}
+use Rattle.history.specs.Entry.{event_of, events_in, room_of}
+use Rattle.history.specs.Room.{spare}
 use Rattle.history.specs.EventRef.{event_seen}
-use Rattle.history.proofs.DeskLaws.{IsIndexed-push, has_desk}
+use Rattle.history.proofs.SubhistoryLaws.{IsIndexed-push, IsIndexed-refused, has_subhistory}
+use Rattle.history.proofs.EntryLaws.{IsHeld-stored, events_in-stored}
 use Rattle.history.proofs.RoomLaws.{least_spare-limit, room_left, room_at}
 use Rattle.history.proofs.history.History.append.Goals as goal
 
@@ -8,50 +12,82 @@ pub returns-in_err-make_room-clause-succeeds : goal.returns-in_err-make_room-cla
 returns-in_err-make_room-clause-succeeds c =
     let inside = c.self.inside in
     let follows = rw (← c.self.view_is) at c.requires.follows in
-    let within : c.cpu_of.result < length inside.desks =
-    omega (arith, c.cpu_of.ensures, c.self.invariant.counted, has_desk inside.config inside.events.events inside.desks (event_seen c.args.event) c.self.invariant follows) in
+    let within : c.cpu_of.result < length inside.subhistories =
+    omega (arith, c.cpu_of.ensures, c.self.invariant.indexed.counted, has_subhistory inside.config (events_in inside.words.items inside.entries.items) inside.subhistories (event_seen c.args.event) c.self.invariant.indexed follows) in
     rw (← c.self.view_is) (λ some.
-    let bad : false ≡ true = c.in_err-make_room.ensures.succeeds (room_at _ inside.desks c.cpu_of.result c.index-self-cpu_of.result within some) in absurd cc)
+    let bad : false ≡ true = c.in_err-make_room.ensures.succeeds (room_at _ inside.subhistories c.cpu_of.result c.index-self-cpu_of.result within some) in absurd cc)
 
 pub returns-in_err-make_room-clause-left : goal.returns-in_err-make_room-clause-left
 returns-in_err-make_room-clause-left c =
     let inside = c.self.inside in
     let follows = rw (← c.self.view_is) at c.requires.follows in
-    let within : c.cpu_of.result < length inside.desks =
-    omega (arith, c.cpu_of.ensures, c.self.invariant.counted, has_desk inside.config inside.events.events inside.desks (event_seen c.args.event) c.self.invariant follows) in
+    let within : c.cpu_of.result < length inside.subhistories =
+    omega (arith, c.cpu_of.ensures, c.self.invariant.indexed.counted, has_subhistory inside.config (events_in inside.words.items inside.entries.items) inside.subhistories (event_seen c.args.event) c.self.invariant.indexed follows) in
     rw (← c.self.view_is)
-    (room_left _ _ inside.desks c.cpu_of.result c.index-self-cpu_of.result _ within (omega arith) (omega (arith, c.make_room.ensures.grows)))
+    (room_left _ _ inside.subhistories c.cpu_of.result c.index-self-cpu_of.result _ within (omega arith) (omega (arith, c.make_room.ensures.grows)))
 
-pub returns-in_err-push-clause-succeeds : goal.returns-in_err-push-clause-succeeds
-returns-in_err-push-clause-succeeds c =
+pub returns-in_err-store-clause-succeeds : goal.returns-in_err-store-clause-succeeds
+returns-in_err-store-clause-succeeds c =
     let inside = c.self.inside in
     rw (← c.self.view_is) (λ some.
-    let bad : false ≡ true = c.in_err-push.ensures.sure (omega (arith, some, least_spare-limit inside.events.room inside.desks)) in absurd cc)
+    let bad : false ≡ true = c.in_err-store.ensures.succeeds (omega (arith, some, least_spare-limit (room_of (spare inside.entries) (spare inside.words)) inside.subhistories)) in absurd cc)
 
-pub returns-in_err-push-clause-left : goal.returns-in_err-push-clause-left
-returns-in_err-push-clause-left c =
+pub returns-in_err-store-clause-left : goal.returns-in_err-store-clause-left
+returns-in_err-store-clause-left c =
     let inside = c.self.inside in
     let follows = rw (← c.self.view_is) at c.requires.follows in
-    let within : c.cpu_of.result < length inside.desks =
-    omega (arith, c.cpu_of.ensures, c.self.invariant.counted, has_desk inside.config inside.events.events inside.desks (event_seen c.args.event) c.self.invariant follows) in
+    let within : c.cpu_of.result < length inside.subhistories =
+    omega (arith, c.cpu_of.ensures, c.self.invariant.indexed.counted, has_subhistory inside.config (events_in inside.words.items inside.entries.items) inside.subhistories (event_seen c.args.event) c.self.invariant.indexed follows) in
     rw (← c.self.view_is)
-    (room_left _ _ inside.desks c.cpu_of.result c.index-self-cpu_of.result _ within c.push.ensures.room (omega (arith, c.make_room.ensures.grows)))
+    (room_left _ _ inside.subhistories c.cpu_of.result c.index-self-cpu_of.result _ within c.store.ensures.left (omega (arith, c.make_room.ensures.grows)))
 
 pub returns-clause-left : goal.returns-clause-left
 returns-clause-left c =
     let inside = c.self.inside in
     let follows = rw (← c.self.view_is) at c.requires.follows in
-    let within : c.cpu_of.result < length inside.desks =
-    omega (arith, c.cpu_of.ensures, c.self.invariant.counted, has_desk inside.config inside.events.events inside.desks (event_seen c.args.event) c.self.invariant follows) in
+    let within : c.cpu_of.result < length inside.subhistories =
+    omega (arith, c.cpu_of.ensures, c.self.invariant.indexed.counted, has_subhistory inside.config (events_in inside.words.items inside.entries.items) inside.subhistories (event_seen c.args.event) c.self.invariant.indexed follows) in
     rw (← c.self.view_is)
-    (room_left _ _ inside.desks c.cpu_of.result c.index-self-cpu_of.result _ within c.push.ensures.room
+    (room_left _ _ inside.subhistories c.cpu_of.result c.index-self-cpu_of.result _ within c.store.ensures.left
     (omega (arith, c.make_room.ensures.grows, c.enter.ensures.left)))
+
+pub store-requires : goal.store-requires
+store-requires c =
+    let inside = c.self.inside in
+    let line = rw (← c.self.view_is) at c.requires.line in
+    omega (arith, line, c.self.invariant.held.few_words, length-map inside.entries.items (event_of inside.words.items))
 
 pub invariant_of-self-2 : goal.invariant_of-self-2
 invariant_of-self-2 c =
     let inside = c.self.inside in
     let follows = rw (← c.self.view_is) at c.requires.follows in
     let line = rw (← c.self.view_is) at c.requires.line in
-    let entered = rw (c.make_room.ensures.kept, c.len-place.ensures.count, c.cpu_of.ensures) at c.enter.ensures.entered in
-    rw (c.in_ok-push.ensures.ok, c.cpu_of.ensures)
-    (IsIndexed-push inside.config inside.events.events inside.desks (event_seen c.args.event) c.index-self-cpu_of.result _ c.self.invariant follows line entered)
+    let stored = c.in_ok-store.ensures.ok in
+    let events = events_in-stored inside.words.items _ inside.entries.items _ _ c.self.invariant.held stored in
+    let counted : c.len-place.result ≡ length (events_in inside.words.items inside.entries.items) =
+    omega (arith, c.len-place.ensures, length-map inside.entries.items (event_of inside.words.items), inside.entries.ok.0) in
+    let entered = rw (c.make_room.ensures.kept, counted, c.cpu_of.ensures) at c.enter.ensures.entered in
+    record {
+      held = IsHeld-stored inside.words.items _ inside.entries.items _ _ c.self.invariant.held stored;
+      indexed = rw (events, c.cpu_of.ensures)
+          (IsIndexed-push inside.config (events_in inside.words.items inside.entries.items) inside.subhistories (event_seen c.args.event)
+          c.index-self-cpu_of.result _ c.self.invariant.indexed follows line entered);
+    }
+
+pub returns-clause-ok : goal.returns-clause-ok
+returns-clause-ok c =
+    let inside = c.self.inside in
+    rw (← c.self.view_is) (rw (events_in-stored inside.words.items _ inside.entries.items _ _ c.self.invariant.held c.in_ok-store.ensures.ok) refl)
+
+pub invariant_of-self-in_err-store : goal.invariant_of-self-in_err-store
+invariant_of-self-in_err-store c =
+    let inside = c.self.inside in
+    let follows = rw (← c.self.view_is) at c.requires.follows in
+    let events = events_in inside.words.items inside.entries.items in
+    let within : c.cpu_of.result < 8 =
+    omega (arith, c.cpu_of.ensures, has_subhistory inside.config events inside.subhistories (event_seen c.args.event) c.self.invariant.indexed follows) in
+    rw (c.in_err-store.ensures.same_entries, c.in_err-store.ensures.same_words) (record {
+      held = c.self.invariant.held;
+      indexed = IsIndexed-refused inside.config events inside.subhistories c.cpu_of.result c.index-self-cpu_of.result _ c.self.invariant.indexed within
+          c.make_room.ensures.kept;
+    })

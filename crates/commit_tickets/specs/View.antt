@@ -1,0 +1,24 @@
+-- What contracts see of a journal and a token.
+use Rattle.std.specs.Prelude.{ℕ, Bool, false, List, []}
+use Rattle.rmm_spec.specs.declared.command.Command.{Command}
+use Rattle.rmm_spec.specs.declared.reply.Reply.{Reply}
+use Rattle.rmm_spec.specs.HistoryText.{Setup}
+use Rattle.rmm_spec.specs.Run.{JournalEntry}
+use Rattle.commit_tickets.specs.declared.token.Committed.{Committed}
+
+-- a machine's size, and all commits in their order
+pub record JournalView : Type 0 where
+  pub setup : Setup
+  pub entries : List JournalEntry
+
+-- a CPU's own commits, in their order
+pub record TokenView : Type 0 where
+  pub cpu : ℕ
+  pub is_stopped : Bool
+  pub mine : List Committed
+
+abbrev pub before_commits : ℕ → TokenView
+before_commits cpu = record { cpu = cpu; is_stopped = false; mine = [] }
+
+abbrev pub entry : ℕ → Command → Reply → JournalEntry
+entry cpu command reply = record { cpu = cpu; command = command; given = reply }

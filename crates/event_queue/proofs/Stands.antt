@@ -1,0 +1,74 @@
+-- Where a CPU stands after its next event.
+use Rattle.std.proofs.Common.{◌≡◌, ℕ, ◌+◌, ◌-◌, ◌<◌, ◌≤◌, Bool, true, false, eqb, if◌then◌else◌, List, [], ◌∷◌, ◌++◌, Option, Some, None, refl, arith, sym, ap, ◌∙◌, subst, append-nil, eq-eqb}
+use Rattle.std.specs.Prelude.{is_some, IsSome, not, ◌&&◌}
+use Rattle.rmm_spec.specs.declared.command.Command.{Command}
+use Rattle.rmm_spec.specs.declared.reply.Reply.{Reply}
+use Rattle.rmm_spec.specs.declared.event.Event.{Event}
+use Rattle.rmm_spec.specs.declared.event.Event.TheVariants.{Called, Returned}
+use Rattle.rmm_spec.specs.HistoryText.{Stand, start, stand_from, stand_after, IsRecord}
+use Rattle.rmm_spec.proofs.Places.{length-stand_from}
+use Rattle.rmm_spec.proofs.Records.{stand_from-push_at}
+use Rattle.event_queue.specs.declared.book.Page.{Page}
+use Rattle.event_queue.specs.Pages.{IsSeated}
+
+-- events that lead somewhere are a record
+is_record : (events : List Event) (last : Stand) → stand_from start events ≡ Some last → IsRecord events
+is_record events last leads = ap (λ (o : Option Stand). is_some o) leads
+
+-- after its next call
+stand-called : (events : List Event) (cpu next : ℕ) (is_open : Bool) (command : Command) → stand_from start events ≡ Some (record { next = next; is_open = is_open })
+    → is_open ≡ false → stand_from start (events ++ Called cpu next command ∷ []) ≡ Some (record { next = next + 1; is_open = true })
+stand-called events cpu next is_open command leads closed =
+    stand_from-push_at events (Called cpu next command) (record { next = next; is_open = is_open }) leads
+    ∙ ap (λ b. if not b && eqb next next then Some (record { next = next + 1; is_open = true }) else None) closed
+    ∙ ap (λ b. if b then Some (record { next = next + 1; is_open = true }) else None) (eq-eqb next next refl)
+
+-- a CPU with an open call has called
+some_called : (events : List Event) (next : ℕ) (is_open : Bool) → stand_from start events ≡ Some (record { next = next; is_open = is_open })
+    → is_open ≡ true → 1 ≤ next
+some_called events next is_open leads opened =
+    let counted = length-stand_from start events (record { next = next; is_open = true })
+    (leads ∙ ap (λ b. Some (record { next = next; is_open = b })) opened) in
+    omega (arith, counted)
+
+-- after the open call returned
+stand-returned : (events : List Event) (cpu next : ℕ) (is_open : Bool) (given : Reply) → stand_from start events ≡ Some (record { next = next; is_open = is_open })
+    → is_open ≡ true → stand_from start (events ++ Returned cpu (next - 1) given ∷ []) ≡ Some (record { next = next; is_open = false })
+stand-returned events cpu next is_open given leads opened =
+    let some = some_called events next is_open leads opened in
+    let same : next - 1 + 1 ≡ next = omega arith in
+    stand_from-push_at events (Returned cpu (next - 1) given) (record { next = next; is_open = is_open }) leads
+    ∙ ap (λ b. if b && eqb (next - 1 + 1) next then Some (record { next = next; is_open = false }) else None) opened
+    ∙ ap (λ b. if b then Some (record { next = next; is_open = false }) else None) (eq-eqb (next - 1 + 1) next same)
+
+-- ---- the page of a CPU
+
+-- a CPU that is closed can call
+pub call_goes_on : (page : Page) (cpu next : ℕ) (is_open : Bool) (command : Command) → IsSeated page cpu next is_open → is_open ≡ false
+    → IsRecord (page.events ++ Called cpu next command ∷ [])
+call_goes_on page cpu next is_open command old closed =
+    is_record (page.events ++ Called cpu next command ∷ []) (record { next = next + 1; is_open = true }) (stand-called page.events cpu next is_open command old.stand closed)
+
+-- and then it is open
+pub seated-called : (page new : Page) (cpu next : ℕ) (is_open : Bool) (command : Command) → IsSeated page cpu next is_open → is_open ≡ false
+    → new ≡ record page { events = page.events ++ Called cpu next command ∷ [] } → IsSeated new cpu (next + 1) true
+seated-called page new cpu next is_open command old closed is_new =
+    subst (λ (p : Page). IsSeated p cpu (next + 1) true) (sym is_new)
+    (record { holder = old.holder; within = old.within; stand = stand-called page.events cpu next is_open command old.stand closed })
+
+-- a CPU that is open has called
+pub open_has_called : (page : Page) (cpu next : ℕ) (is_open : Bool) → IsSeated page cpu next is_open → is_open ≡ true → 1 ≤ next
+open_has_called page cpu next is_open old opened = some_called page.events next is_open old.stand opened
+
+-- its call can return
+pub return_goes_on : (page : Page) (cpu next : ℕ) (is_open : Bool) (given : Reply) → IsSeated page cpu next is_open → is_open ≡ true
+    → IsRecord (page.events ++ Returned cpu (next - 1) given ∷ [])
+return_goes_on page cpu next is_open given old opened =
+    is_record (page.events ++ Returned cpu (next - 1) given ∷ []) (record { next = next; is_open = false }) (stand-returned page.events cpu next is_open given old.stand opened)
+
+-- and then it is closed
+pub seated-returned : (page new : Page) (cpu next : ℕ) (is_open : Bool) (given : Reply) → IsSeated page cpu next is_open → is_open ≡ true
+    → new ≡ record page { events = page.events ++ Returned cpu (next - 1) given ∷ [] } → IsSeated new cpu next false
+seated-returned page new cpu next is_open given old opened is_new =
+    subst (λ (p : Page). IsSeated p cpu next false) (sym is_new)
+    (record { holder = old.holder; within = old.within; stand = stand-returned page.events cpu next is_open given old.stand opened })

@@ -1,0 +1,4 @@
+pub mod Records
+pub mod Pages
+pub mod Book
+pub mod View

@@ -1,0 +1,35 @@
+-- What contracts see of a recorder and its passes.
+use Rattle.std.specs.Prelude.{◌≡◌, ℕ, Bool, false, List, []}
+use Rattle.atomic_table.specs.Seated.{TableId}
+use Rattle.rmm_spec.specs.declared.event.Event.{Event}
+use Rattle.rmm_spec.specs.HistoryText.{History, Stand, start}
+
+-- which queue it is, how many events it holds at most, and of how many CPUs
+pub record RecorderView : Type 0 where
+  pub queue : TableId
+  pub capacity : ℕ
+
+-- a CPU's own list of events, where it leads, and whether an event was lost
+pub record CpuView : Type 0 where
+  pub queue : TableId
+  pub cpus : ℕ
+  pub cpu : ℕ
+  pub events : List Event
+  pub stand : Stand
+  pub is_stopped : Bool
+
+-- all events that were drained
+pub record ScribeView : Type 0 where
+  pub queue : TableId
+  pub cpus : ℕ
+  pub events : List Event
+
+-- a CPU's before its first call
+abbrev pub before_calls : TableId → ℕ → ℕ → CpuView
+before_calls queue cpus cpu = record { queue = queue; cpus = cpus; cpu = cpu; events = []; stand = start; is_stopped = false }
+
+-- the history is the one that the scribe drains this queue into
+pub record CanDrain (queue : TableId) (scribe : ScribeView) (history : History) : Type 0 where
+  pub same_queue : scribe.queue ≡ queue
+  pub same_cpus : history.setup.cpus ≡ scribe.cpus
+  pub same_events : history.events ≡ scribe.events

@@ -1,0 +1,21 @@
+//! Events of running CPUs, on their way through a bounded queue into a history.
+//! It promises that each CPU's events, drained and queued, are its pass's own list, under every schedule of the threads.
+//! A refused push found the queue full, and what a drain takes from the queue stands in the history, in order.
+//! Calls here may wait for other threads, and what they promise holds where they return.
+//! The monitor and the run of two threads depend on it.
+#![tactic(auto)]
+
+mod book;
+mod cpu_pass;
+mod full;
+mod recorder;
+mod scribe_pass;
+
+pub use cpu_pass::CpuPass;
+pub use full::Full;
+pub use history::{Command, Event, History, Reply};
+pub use recorder::Recorder;
+pub use scribe_pass::ScribePass;
+
+#[cfg(test)]
+mod tests;

@@ -1,0 +1,58 @@
+-- What the entries of a history and their words stand for.
+use Rattle.std.specs.Prelude.{⊤, ◌≡◌, ℕ, ◌+◌, ◌*◌, ◌/◌, ◌≤◌, min, List, [], ◌∷◌, ◌++◌, map, length, take, drop}
+use Rattle.std.specs.List.{AllByRecursion}
+use Rattle.arrayvec.specs.ArrayVec.{ArrayVec}
+use Rattle.rmm_spec.specs.declared.event.Event.{Event}
+use Rattle.rmm_spec.specs.declared.event.Event.TheVariants as event
+use Rattle.rmm_spec.specs.declared.reply.Reply.TheVariants as reply
+use Rattle.history.specs.declared.entry.Entry.{Entry}
+use Rattle.history.specs.declared.entry.Entry.TheVariants as stored
+use Rattle.history.specs.declared.entry.Stretch.{Stretch}
+
+-- room by the entries and the words that still fit
+abbrev pub room_of : ℕ → ℕ → ℕ
+room_of entries words = min entries (words / 10)
+
+abbrev pub words_at : List ℕ → Stretch → ArrayVec ℕ
+words_at words stretch = record { items = take stretch.count (drop stretch.first words) }
+
+-- the event of an entry, whose words stand among all words
+abbrev pub event_of : List ℕ → Entry → Event
+event_of words (stored.Called cpu function number stretch) =
+    event.Called cpu number (record { function = function; words = words_at words stretch })
+event_of words (stored.Answered cpu number stretch) = event.Returned cpu number (reply.Ok (words_at words stretch))
+event_of words (stored.Refused cpu number status index) = event.Returned cpu number (reply.Err status index)
+event_of words (stored.Misplaced cpu number) = event.Returned cpu number reply.Misplaced
+
+abbrev pub events_in : List ℕ → List Entry → List Event
+events_in words entries = map (event_of words) entries
+
+-- of so many words, the stretch has at most ten
+abbrev pub HasWithin : ℕ → Stretch → Type 0
+HasWithin count stretch = (stretch.first + stretch.count ≤ count) × (stretch.count ≤ 10)
+
+-- the words of an entry are among so many
+abbrev pub HasWords : ℕ → Entry → Type 0
+HasWords count (stored.Called cpu function number stretch) = HasWithin count stretch
+HasWords count (stored.Answered cpu number stretch) = HasWithin count stretch
+HasWords count (stored.Refused cpu number status index) = ⊤
+HasWords count (stored.Misplaced cpu number) = ⊤
+
+-- Each entry has its words, and there are no more words than entries may have.
+pub record IsHeld (words : List ℕ) (entries : List Entry) : Type 0 where
+  pub each : AllByRecursion (HasWords (length words)) entries
+  pub few_words : length words ≤ 10 * length entries
+
+-- The words after an event was entered are the old ones and at most ten more, and the entry is the event's.
+pub record IsEntered (old new : List ℕ) (event : Event) (entered : Entry) : Type 0 where
+  pub more : List ℕ
+  pub appended : new ≡ old ++ more
+  pub few : length more ≤ 10
+  pub has_words : HasWords (length new) entered
+  pub is_event : event_of new entered ≡ event
+
+-- the event was stored at the end
+pub record HasStored (old_words : List ℕ) (old_entries : List Entry) (words : List ℕ) (entries : List Entry) (event : Event) : Type 0 where
+  pub entry : Entry
+  pub is_entered : IsEntered old_words words event entry
+  pub is_last : entries ≡ old_entries ++ entry ∷ []

@@ -1,0 +1,44 @@
+-- What the answer of a judgement says of its two sources and its sink.
+use Rattle.std.specs.Prelude.{ℕ, List, ⊤, Option, Result, Ok, Err}
+use Rattle.rmm_spec.specs.declared.verdict.Verdict.{Verdict}
+use Rattle.rmm_spec.specs.Judgement.{Judges}
+use Rattle.rmm_spec.specs.VerdictText.{verdict_line}
+use Rattle.judging.specs.declared.judgement.JudgeFault.{JudgeFault}
+use Rattle.judging.specs.declared.judgement.JudgeFault.TheVariants as fault
+use Rattle.judging.specs.Sink.{HoldsBeginning}
+
+-- this holds where a verdict was reached, whether or not its line could be written
+abbrev pub OnVerdict : Result Verdict JudgeFault → Type 0 → Type 0
+OnVerdict (Ok verdict) P = P
+OnVerdict (Err fault.Write) P = P
+OnVerdict (Err fault.ReadHistory) P = ⊤
+OnVerdict (Err fault.ReadCertificate) P = ⊤
+OnVerdict (Err fault.NoMemory) P = ⊤
+
+-- a verdict on the two texts, of whose line the sink took a beginning
+pub record BreaksOff (history certificate before after : List ℕ) (held_before held_after : Option (List ℕ)) : Type 0 where
+  pub verdict : Verdict
+  pub judged : Judges verdict history certificate
+  pub begun : HoldsBeginning (verdict_line verdict) before after held_before held_after
+
+-- how many failures of each device the answer reports
+abbrev pub history_failures : {T : Type 0} → Result T JudgeFault → ℕ
+history_failures (Ok value) = 0
+history_failures (Err fault.ReadHistory) = 1
+history_failures (Err fault.ReadCertificate) = 0
+history_failures (Err fault.Write) = 0
+history_failures (Err fault.NoMemory) = 0
+
+abbrev pub certificate_failures : {T : Type 0} → Result T JudgeFault → ℕ
+certificate_failures (Ok value) = 0
+certificate_failures (Err fault.ReadHistory) = 0
+certificate_failures (Err fault.ReadCertificate) = 1
+certificate_failures (Err fault.Write) = 0
+certificate_failures (Err fault.NoMemory) = 0
+
+abbrev pub sink_failures : {T : Type 0} → Result T JudgeFault → ℕ
+sink_failures (Ok value) = 0
+sink_failures (Err fault.ReadHistory) = 0
+sink_failures (Err fault.ReadCertificate) = 0
+sink_failures (Err fault.Write) = 1
+sink_failures (Err fault.NoMemory) = 0

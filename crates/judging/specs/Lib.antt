@@ -1,0 +1,4 @@
+pub mod Judgement
+pub mod Sink
+pub mod Source
+pub mod Ending

@@ -1,9 +1,0 @@
-use Rattle.std.proofs.Common.{◌≡◌, ◌-◌, ◌^◌, length}
-use Rattle.std.specs.Io.KnownBytes.{Keeps}
-use Rattle.scenarios.proofs.source.read_whole.Given as goal
-
-abbrev pub invariant-loop : goal.invariant-loop
-invariant-loop g l = Keeps (g.S.Source.text l.fn.source) (g.S.Source.text l.source) × (g.S.Source.failures l.source ≡ g.S.Source.failures l.fn.source)
-
-abbrev pub decreases-loop : goal.decreases-loop
-decreases-loop g l = 2 ^ 40 - length (g.S.Source.given l.source)
