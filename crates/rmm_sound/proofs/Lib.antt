@@ -1,0 +1,4 @@
+pub mod ByRows
+pub mod Cases
+pub mod Tags
+pub mod Retagged
