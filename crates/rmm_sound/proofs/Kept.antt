@@ -6,6 +6,7 @@ use Rattle.rmm_spec.specs.declared.tag.Ripas.{Ripas}
 use Rattle.rmm_spec.specs.declared.tag.Tag.TheVariants.{Rd, Rec, RecAux, Data, Rtt}
 use Rattle.rmm_spec.specs.State.{State, RealmRecord, RecRecord, Request, RipasChange, has_tag, runs_on}
 use Rattle.rmm_spec.specs.Walk.{entry_size, half}
+use Rattle.rmm_spec.specs.Step.Words.{is_space}
 use Rattle.rmm_spec.specs.Sound.{AreRealms, AreRecs, AreTables, AreLeaves, IsRequest, IsTableOf, IsLeafOf, has_aux}
 
 -- ---- realms that agree in what does not change
@@ -51,6 +52,10 @@ leaf_of_width (AssignedNs page) q r level number same is = rw same is
 -- a root is that of a realm like the one that had it
 pub root_of_like : (table : ℕ → ℕ → Option ℕ) (q r : RealmRecord) → IsLike q r → table q.start_level 0 ≡ Some q.root → table r.start_level 0 ≡ Some r.root
 root_of_like table q r like root = ap (λ level. table level 0) like.start_level ∙ root ∙ ap Some (sym like.root)
+
+-- an address space is one that a realm can have, where it is that of one
+pub space_of_like : (q r : RealmRecord) → IsLike q r → IsTrue (is_space q.width q.start_level) → IsTrue (is_space r.width r.start_level)
+space_of_like q r like space = rw (like.width, like.start_level) space
 
 -- ---- groups
 

@@ -4,3 +4,7 @@ pub mod Tags
 pub mod Retagged
 pub mod Kept
 pub mod RecChanged
+pub mod RecMade
+pub mod RealmChanged
+pub mod Searches
+pub mod Records
