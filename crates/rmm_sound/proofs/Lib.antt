@@ -8,3 +8,5 @@ pub mod RecMade
 pub mod RealmChanged
 pub mod Searches
 pub mod Records
+pub mod Spaces
+pub mod RealmMade

@@ -44,3 +44,8 @@ tags_apart s g a tag other has has_other differ =
     let here : s.tag g ≡ other = rw same (tag-has_tag s a other has_other) in
     let both : tag ≡ other = sym (tag-has_tag s g tag has) ∙ here in
     both_ways (eq-eqb (tag_number tag) (tag_number other) (ap tag_number both)) differ)
+
+-- a granule of one tag has no other
+pub has_tag-other : (s : State) (a : ℕ) (tag other : Tag) → IsTrue (has_tag s a tag) → AreOther tag other → has_tag s a other ≡ false
+unfolding has_tag
+has_tag-other s a tag other has differ = rw (tag-has_tag s a tag has, differ) (and_right (is_granule s.granules a) false refl)
