@@ -60,3 +60,20 @@ some_either false x y there = there
 pub none_of : {A : Type 0} (found : Option A) → is_some found ≡ false → found ≡ None
 none_of None none = refl
 none_of (Some x) none = both_ways refl none
+
+-- what is left was there, and not where something was taken out
+pub left_of : {A : Type 0} (taken : Bool) (old : Option A) (x : A) → (if taken then None else old) ≡ Some x → (taken ≡ false) × (old ≡ Some x)
+left_of true old x none = nothing_there refl none
+left_of false old x at = (refl, at)
+
+-- what was there is left where nothing was taken out
+pub left_at : {A : Type 0} (taken : Bool) (old : Option A) (x : A) → taken ≡ false → old ≡ Some x → (if taken then None else old) ≡ Some x
+left_at taken old x miss at = rw miss at
+
+-- by two tests, one after the other
+pub by_two : {A : Type 0} (Has : A → Type 0) (first second : Bool) (x y z : A)
+    → (IsTrue first → Has x) → (first ≡ false → IsTrue second → Has y) → (first ≡ false → second ≡ false → Has z)
+    → Has (if first then x else (if second then y else z))
+by_two Has true second x y z one two three = one refl
+by_two Has false true x y z one two three = two refl refl
+by_two Has false false x y z one two three = three refl refl

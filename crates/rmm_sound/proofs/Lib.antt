@@ -10,3 +10,5 @@ pub mod Searches
 pub mod Records
 pub mod Spaces
 pub mod RealmMade
+pub mod LeavesChanged
+pub mod TableMade

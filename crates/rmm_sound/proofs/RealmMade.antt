@@ -12,7 +12,7 @@ use Rattle.rmm_spec.specs.Change.{new_realm}
 use Rattle.rmm_spec.specs.Step.Words.{is_space}
 use Rattle.rmm_spec.specs.Sound.{AreRealms, AreRecs, AreTables, AreLeaves, IsSound, IsTableOf, IsLeafOf}
 use Rattle.rmm_spec.proofs.TagLaws.{tag-has_tag, granule_from_tag}
-use Rattle.rmm_sound.proofs.Cases.{by_address, by_spot, both_ways, nothing_there, spot_itself, spot_other, spot_level, at_itself, some_either, none_of, choice}
+use Rattle.rmm_sound.proofs.Cases.{by_address, by_spot, both_ways, nothing_there, spot_itself, spot_other, spot_level, at_itself, some_either, none_of, left_of, left_at}
 use Rattle.rmm_sound.proofs.Kept.{recs_kept}
 use Rattle.rmm_sound.proofs.Spaces.{root_is_table, root_leaf}
 use Rattle.rmm_sound.proofs.Tags.{AreOther, has_tag-here, has_tag-elsewhere, has_tag-beside, has_tag-gone, has_tag-other, tags_apart}
@@ -165,11 +165,6 @@ put_realm_sound s rd root width level vmid algo sound can =
       };
     }
 
--- what is left has another address
-left_of : {A : Type 0} (g rd : ℕ) (old : Option A) (x : A) → (if g == rd then None else old) ≡ Some x → ((g == rd) ≡ false) × (old ≡ Some x)
-left_of g rd old x = by_address (λ found. found ≡ Some x → ((g == rd) ≡ false) × (old ≡ Some x)) g rd None old
-    (λ _ none. nothing_there refl none) (λ apart e. (apart, e))
-
 -- an entry that is left is a leaf or a link, as it was
 complete_left : (gone : Bool) (table below : Option ℕ) (leaf : Option Entry) → (IsTrue (is_some table) → IsTrue (is_some leaf || is_some below))
     → IsTrue (is_some (if gone then None else table)) → IsTrue (is_some (if gone then None else leaf) || is_some (if gone then None else below))
@@ -186,11 +181,11 @@ taken_realm_sound s rd sound tag childless =
     let kept : (g : ℕ) (asked : Tag) → AreOther Rd asked → AreOther Delegated asked → has_tag t g asked ≡ has_tag s g asked =
     λ g asked had gets. has_tag-beside s rd g Delegated asked (rw was had) gets in
     let realm : (g : ℕ) (r : RealmRecord) → t.realm g ≡ Some r → ((g == rd) ≡ false) × (s.realm g ≡ Some r) =
-    λ g r. left_of g rd (s.realm g) r in
+    λ g r. left_of (g == rd) (s.realm g) r in
     let table : (g l n granule : ℕ) → t.table g l n ≡ Some granule → ((g == rd) ≡ false) × (s.table g l n ≡ Some granule) =
-    λ g l n granule. left_of g rd (s.table g l n) granule in
+    λ g l n granule. left_of (g == rd) (s.table g l n) granule in
     let leaf : (g l n : ℕ) (e : Entry) → t.leaf g l n ≡ Some e → ((g == rd) ≡ false) × (s.leaf g l n ≡ Some e) =
-    λ g l n e. left_of g rd (s.leaf g l n) e in
+    λ g l n e. left_of (g == rd) (s.leaf g l n) e in
     let owners : (g : ℕ) (c : RecRecord) → s.rec g ≡ Some c → (c.owner == rd) ≡ false = λ g c at. sym (ap (is_owned_by rd) at) ∙ childless g in
     record {
       outside = λ g none. by_address (λ found. found ≡ Undelegated) g rd Delegated (s.tag g)
@@ -212,7 +207,7 @@ taken_realm_sound s rd sound tag childless =
         roots = λ g r e. rw (realm g r e).0 (sound.tables.roots g r (realm g r e).1);
         tagged = λ g l n granule e. kept granule Rtt refl refl ∙ sound.tables.tagged g l n granule (table g l n granule e).1;
         owned = λ g l n granule e. let owner = sound.tables.owned g l n granule (table g l n granule e).1 in
-            (owner.0, rw (table g l n granule e).0 owner.1, owner.2);
+            (owner.0, left_at (g == rd) (s.realm g) owner.0 (table g l n granule e).0 owner.1, owner.2);
         below = λ g l n granule r e f under. rw (realm g r f).0 (sound.tables.below g l n granule r (table g (suc l) n granule e).1 (realm g r f).1 under);
         apart = λ a l n b m k granule e f. sound.tables.apart a l n b m k granule (table a l n granule e).1 (table b m k granule f).1;
       };
