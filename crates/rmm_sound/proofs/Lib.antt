@@ -1,0 +1,14 @@
+pub mod ByRows
+pub mod Cases
+pub mod Tags
+pub mod Retagged
+pub mod Kept
+pub mod RecChanged
+pub mod RecMade
+pub mod RealmChanged
+pub mod Searches
+pub mod Records
+pub mod Spaces
+pub mod RealmMade
+pub mod LeavesChanged
+pub mod TableMade
