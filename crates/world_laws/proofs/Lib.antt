@@ -1,0 +1,4 @@
+pub mod Lists
+pub mod Opening
+pub mod Recorded
+pub mod Certified
