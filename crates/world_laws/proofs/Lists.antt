@@ -1,5 +1,6 @@
 -- Places in lists: after one element more, and of a list that is mapped.
-use Rattle.std.proofs.Common.{◌≡◌, ℕ, zero, suc, Bool, true, false, ◌==◌, if◌then◌else◌, List, [], ◌∷◌, ◌++◌, map, length, Some, slice_get, ◌⊎◌, inl, inr, refl, ap, eqb-true}
+use Rattle.std.proofs.Common.{◌≡◌, ℕ, zero, suc, Bool, true, false, ◌==◌, if◌then◌else◌, List, [], ◌∷◌, ◌++◌, map, length, Some, slice_get, ◌⊎◌, inl, inr, refl, sym, ◌∙◌, ap, eqb-true, eq-eqb}
+use Rattle.std.proofs.lemmas.Bool.{false≢true}
 use Rattle.std.proofs.lemmas.Option.{none-some, same_Some}
 use Rattle.rmm_spec.specs.Cell.{put}
 
@@ -42,6 +43,10 @@ pub map-push : {X Y : Type 0} (f : X → Y) (xs : List X) (x : X) → map f (xs 
 map-push f [] x = refl
 map-push f (first ∷ xs) x = ap (λ zs. f first ∷ zs) (map-push f xs x)
 
+-- two keys that a test tells apart are not one
+pub keys_apart : (other key : ℕ) → (other == key) ≡ false → other ≡ key → ⊥
+keys_apart other key apart same = false≢true (sym apart ∙ eq-eqb other key same)
+
 -- what holds of the value put in, and of the map elsewhere, holds of the map with it put in
 pub put_elim : {A : Type 0} (P : A → Type 0) (values : ℕ → A) (key : ℕ) (value : A) (other : ℕ)
     → (other ≡ key → P value) → ((other == key) ≡ false → P (values other)) → P (put values key value other)
@@ -50,3 +55,7 @@ put_elim {A} P values key value other same apart = by (other == key) refl
     by : (b : Bool) → (other == key) ≡ b → P (if b then value else values other)
     by true is = same (eqb-true other key is)
     by false is = apart is
+
+-- a map with a value put in is the same elsewhere
+pub put-other : {A : Type 0} (values : ℕ → A) (key : ℕ) (value : A) (other : ℕ) → (other ≡ key → ⊥) → put values key value other ≡ values other
+put-other values key value other apart = put_elim (λ v. v ≡ values other) values key value other (λ same. absurd (apart same)) (λ is. refl)

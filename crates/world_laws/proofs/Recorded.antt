@@ -1,7 +1,6 @@
 -- What journal and events say of each other in every world that moves lead to.
 use Rattle.std.proofs.Common.{◌≡◌, ℕ, suc, ◌+◌, ◌<◌, false, List, [], ◌∷◌, ◌++◌, map, length, Option, Some, None, slice_get, ◌⊎◌, inl, inr, refl, sym, ap, ◌∙◌, subst, arith}
 use Rattle.std.specs.Prelude.{◌==◌}
-use Rattle.std.proofs.lemmas.Bool.{eq-eqb, false≢true}
 use Rattle.std.proofs.lemmas.Option.{none-some, slice_get_within}
 use Rattle.rmm_spec.specs.declared.command.Command.{Command}
 use Rattle.rmm_spec.specs.declared.event.Event.{Event}
@@ -17,7 +16,7 @@ use Rattle.rmm_spec.specs.Flat.{flat_state}
 use Rattle.rmm_spec.specs.Local.{Hold, Agrees, put_all}
 use Rattle.rmm_spec.specs.World.{World, Phase, Between, Deciding, Decided, GivenUp, Stopped, Commitment, opening_world, held_cells, phase_learnt, without_granule, Move, Moves, Happens, HappenAll, IsShapedWorld, IsDeciding, Calls, Takes, Frees, Commits, GivesUp, Returns, Stops}
 use Rattle.rmm_spec.specs.World as world
-use Rattle.world_laws.proofs.Lists.{slice_get-append, slice_get-push, slice_get-push_cases, map-push, put_elim}
+use Rattle.world_laws.proofs.Lists.{slice_get-append, slice_get-push, slice_get-push_cases, map-push, put_elim, keys_apart}
 use Rattle.world_laws.proofs.Opening.{flat_state-opening, IsShapedWorld-opening}
 
 -- ---- journal and events
@@ -333,9 +332,6 @@ AtPhase-learnt learnt Stopped cpu journal events was = was
 AtPhase-known : (w : World) (cpu : ℕ) (p : Phase) → IsAccounted w → w.phase cpu ≡ p → AtPhase p cpu w.journal w.events
 AtPhase-known w cpu p accounted is = subst (λ q. AtPhase q cpu w.journal w.events) is (accounted.phases cpu)
 
-other_apart : (other cpu : ℕ) → (other == cpu) ≡ false → cpu ≡ other → ⊥
-other_apart other cpu apart same = false≢true (sym apart ∙ eq-eqb other cpu (sym same))
-
 IsAccounted-Calls : (old : World) (cpu : ℕ) (new : World) → IsAccounted old → Calls old cpu new → IsAccounted new
 IsAccounted-Calls old cpu new accounted calls =
     let fresh : AreBelow old.journal cpu calls.number = AtPhase-known old cpu (Between calls.number) accounted calls.is_between in
@@ -378,7 +374,7 @@ IsAccounted-Commits old cpu given held new accounted commits =
       recorded = AreRecorded-committed old.journal old.events entry at_phase.1.0 accounted.recorded at_phase.0 at_phase.1.1;
       phases = phases-put old.phase cpu (Decided number command given) (old.journal ++ entry ∷ []) old.events
           (AtPhase-own old.journal entry old.events at_phase.0)
-          (λ other apart. AtPhase-other (old.phase other) other old.journal entry old.events (other_apart other cpu apart) (accounted.phases other));
+          (λ other apart. AtPhase-other (old.phase other) other old.journal entry old.events (λ same. keys_apart other cpu apart (sym same)) (accounted.phases other));
       run = subst (λ entries. IsRun (opening old.setup) entries (flat_state old.setup.granules (put_all old.cells held.cells)))
           (sym (map-push entry_of old.journal entry))
           (IsRun-push (opening old.setup) (map entry_of old.journal) (flat_state old.setup.granules old.cells) (entry_of entry)

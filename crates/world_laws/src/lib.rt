@@ -7,4 +7,6 @@
 
 mod laws;
 
-pub use laws::every_run_is_certified;
+pub use laws::{
+    a_lock_has_one_holder, every_run_is_certified, no_wait_cycle, stuck_behind_stopped,
+};
