@@ -20,3 +20,10 @@ pub mod Linearization
 pub mod Footprint
 pub mod Ownership
 pub mod Judgement
+pub mod Cell
+pub mod Flat
+pub mod Shape
+pub mod Local
+pub mod World
+pub mod Locks
+pub mod Waits

@@ -1,0 +1,9 @@
+pub mod Lists
+pub mod Opening
+pub mod Recorded
+pub mod Certified
+pub mod Members
+pub mod Locked
+pub mod Ranks
+pub mod Circles
+pub mod Turned

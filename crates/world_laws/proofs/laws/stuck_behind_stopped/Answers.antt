@@ -1,0 +1,10 @@
+use Rattle.rmm_spec.specs.World.{opening_world}
+use Rattle.world_laws.proofs.Recorded.{IsAccounted-opening, IsAccounted-HappenAll}
+use Rattle.world_laws.proofs.Locked.{IsLocked-opening, IsLocked-HappenAll}
+use Rattle.world_laws.proofs.Circles.{WaitsBehindStopped-stuck}
+use Rattle.world_laws.proofs.laws.stuck_behind_stopped.Goals as goal
+
+pub returns : goal.returns
+returns c = λ setup programs moves w happen stuck.
+    WaitsBehindStopped-stuck w (IsAccounted-HappenAll (opening_world setup programs) moves w (IsAccounted-opening setup programs) happen).shaped
+    (IsLocked-HappenAll (opening_world setup programs) moves w (IsLocked-opening setup programs) happen) stuck
