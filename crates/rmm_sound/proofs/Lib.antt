@@ -12,3 +12,8 @@ pub mod Spaces
 pub mod RealmMade
 pub mod LeavesChanged
 pub mod TableMade
+pub mod ChangesMade
+pub mod Entries
+pub mod EntriesChanged
+pub mod Changes
+pub mod Walked
