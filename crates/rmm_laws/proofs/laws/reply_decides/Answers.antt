@@ -1,5 +1,7 @@
-use Rattle.rmm_spec.proofs.laws.reply_decides.Goals as goal
-use Rattle.rmm_spec.proofs.StepLaws.{step-decides}
+use Rattle.rmm_spec.specs.Call.{call_of}
+use Rattle.rmm_spec.specs.Step.{outcome}
+use Rattle.rmm_laws.proofs.StepLaws.{carried-decides}
+use Rattle.rmm_laws.proofs.laws.reply_decides.Goals as goal
 
 pub returns : goal.returns
-returns c = step-decides
+returns c = λ old a b cpu command given. carried-decides (outcome old cpu (call_of command)) old given a b

@@ -1,0 +1,4 @@
+pub mod Tests
+pub mod RowLaws
+pub mod StepLaws
+pub mod RunLaws
