@@ -1,10 +1,9 @@
 -- Runs in parts, and that commands and replies decide a run's states.
 use Rattle.std.proofs.Common.{◌≡◌, ℕ, zero, suc, List, [], ◌∷◌, ◌++◌, take, refl, sym, ◌∙◌}
-use Rattle.rmm_spec.specs.Call.{call_of}
 use Rattle.rmm_spec.specs.State.{State}
-use Rattle.rmm_spec.specs.Step.{outcome, Step}
+use Rattle.rmm_spec.specs.Step.{Step}
 use Rattle.rmm_spec.specs.Run.{JournalEntry, IsRun}
-use Rattle.rmm_laws.proofs.StepLaws.{carried-decides}
+use Rattle.rmm_laws.proofs.StepLaws.{step-decides}
 
 -- two runs, one after the other, are one
 pub run-append : (entries later : List JournalEntry) (old middle last : State)
@@ -36,5 +35,5 @@ run-take (suc count) (entry ∷ entries) old last (next, step, run) =
 pub run-decides : (entries : List JournalEntry) (old a b : State) → IsRun old entries a → IsRun old entries b → a ≡ b
 run-decides [] old a b p q = p ∙ sym q
 run-decides (entry ∷ entries) old a b (next, step, run) (other, other_step, other_run) =
-    let same = carried-decides (outcome old entry.cpu (call_of entry.command)) old entry.given next other step other_step in
+    let same = step-decides old next other entry.cpu entry.command entry.given step other_step in
     run-decides entries next a b run (rw (← same) at other_run)

@@ -3,14 +3,17 @@ use Rattle.std.proofs.Common.{◌≡◌, ℕ, true, false, List, [], ◌∷◌, 
 use Rattle.rmm_spec.specs.declared.accepted.Accepted.{Accepted}
 use Rattle.rmm_spec.specs.declared.accepted.Accepted.TheVariants.{Done, Reaches}
 use Rattle.rmm_spec.specs.declared.accepted.Stretch.{Stretch}
+use Rattle.rmm_spec.specs.declared.command.Command.{Command}
 use Rattle.rmm_spec.specs.declared.reply.Reply.{Reply}
 use Rattle.rmm_spec.specs.declared.reply.Reply.TheVariants as reply
+use Rattle.rmm_spec.specs.Call.{call_of}
 use Rattle.rmm_spec.specs.Change.{changed}
 use Rattle.rmm_spec.specs.Ownership.{is_accepted}
 use Rattle.rmm_spec.specs.Rows.{ok}
 use Rattle.rmm_spec.specs.State.{State}
-use Rattle.rmm_spec.specs.Step.{CarriesOut}
+use Rattle.rmm_spec.specs.Step.{outcome, CarriesOut, Step}
 use Rattle.rmm_spec.specs.Step.Ripas.{IsReached, reached_change}
+use Rattle.rmm_laws.proofs.Ends.{outcome-end}
 use Rattle.rmm_laws.proofs.Tests.{both_ways}
 
 -- the first word of a reply
@@ -25,7 +28,7 @@ unfolding first_word
 word_of a b same = ap first_word same
 
 -- a reply decides the next state
-pub carried-decides : (found : Result Accepted Reply) (old : State) (given : Reply) (a b : State)
+carried-decides : (found : Result Accepted Reply) (old : State) (given : Reply) (a b : State)
     → CarriesOut found old given a → CarriesOut found old given b → a ≡ b
 carried-decides (Err refusal) old given a b p q = p.1 ∙ sym q.1
 carried-decides (Ok (Done words change)) old given a b p q = p.1 ∙ sym q.1
@@ -33,16 +36,30 @@ carried-decides (Ok (Reaches stretch)) old given a b (top, (_, is_ok, is_next)) 
     is_next ∙ ap (λ end. changed old (reached_change stretch end)) (word_of top other (sym is_ok ∙ other_ok)) ∙ sym other_next
 
 -- a reply other than an acceptance changes nothing
-pub refused-unchanged : (found : Result Accepted Reply) (old : State) (given : Reply) (new : State)
+refused-unchanged : (found : Result Accepted Reply) (old : State) (given : Reply) (new : State)
     → CarriesOut found old given new → is_accepted given ≡ false → new ≡ old
 refused-unchanged (Err refusal) old given new p refused = p.1
 refused-unchanged (Ok (Done words change)) old given new p refused = both_ways (rw p.0 refl) refused
 refused-unchanged (Ok (Reaches stretch)) old given new (top, (_, is_ok, _)) refused = both_ways (rw is_ok refl) refused
 
 -- some reply has a next state, where each stretch has an end
-pub carried-exists : (found : Result Accepted Reply) (old : State) → ((stretch : Stretch) → found ≡ Ok (Reaches stretch) → (top : ℕ) × IsReached old stretch top)
+carried-exists : (found : Result Accepted Reply) (old : State) → ((stretch : Stretch) → found ≡ Ok (Reaches stretch) → (top : ℕ) × IsReached old stretch top)
     → (given : Reply) × (next : State) × CarriesOut found old given next
 carried-exists (Err refusal) old ends = (refusal, old, (refl, refl))
 carried-exists (Ok (Done words change)) old ends = (reply.Ok words, changed old change, (refl, refl))
 carried-exists (Ok (Reaches stretch)) old ends =
     let end = ends stretch refl in (ok (end.0 ∷ []), changed old (reached_change stretch end.0), (end.0, (end.1, refl, refl)))
+
+-- ---- steps
+
+-- a reply decides the next state
+pub step-decides : (old a b : State) (cpu : ℕ) (command : Command) (given : Reply) → Step old cpu command given a → Step old cpu command given b → a ≡ b
+step-decides old a b cpu command given = carried-decides (outcome old cpu (call_of command)) old given a b
+
+-- a reply other than an acceptance changes nothing
+pub step-refuses : (old next : State) (cpu : ℕ) (command : Command) (given : Reply) → Step old cpu command given next → is_accepted given ≡ false → next ≡ old
+step-refuses old next cpu command given = refused-unchanged (outcome old cpu (call_of command)) old given next
+
+-- some reply has a next state
+pub step-exists : (old : State) (cpu : ℕ) (command : Command) → (given : Reply) × (next : State) × Step old cpu command given next
+step-exists old cpu command = carried-exists (outcome old cpu (call_of command)) old (outcome-end old cpu (call_of command))
