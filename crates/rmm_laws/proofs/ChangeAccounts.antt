@@ -184,8 +184,10 @@ rec_destroyed-accounts s rec aux0 aux1 sound can =
       apart = tt;
       closed = (
         ((r, is_there, refl), either rec (if rec == aux0 then Delegated else if rec == rec then Delegated else s.tag rec) (choice_unused (rec == aux0) Delegated (if rec == rec then Delegated else s.tag rec) (inr refl) (tag_here rec Delegated (s.tag rec) (inr refl)))),
-        (((rec, r, is_there, refl, inl refl), either r.aux0 (if r.aux0 == aux0 then Delegated else if r.aux0 == rec then Delegated else s.tag r.aux0) (rw (eq-eqb r.aux0 aux0 (sym can.is_aux0)) (inr refl))),
-        (((rec, r, is_there, refl, inr refl), rw (eq-eqb r.aux1 aux1 (sym can.is_aux1)) (inr refl)), tt)),
+        (
+          ((rec, r, is_there, refl, inl refl), either r.aux0 (if r.aux0 == aux0 then Delegated else if r.aux0 == rec then Delegated else s.tag r.aux0) (rw (eq-eqb r.aux0 aux0 (sym can.is_aux0)) (inr refl))),
+          (((rec, r, is_there, refl, inr refl), rw (eq-eqb r.aux1 aux1 (sym can.is_aux1)) (inr refl)), tt),
+        ),
       );
       kept = keeps-kept s (changed s (RecDestroyed rec aux0 aux1)) closes (record {
         realms = same-realms s closes;
@@ -338,8 +340,10 @@ module _ (s : State) (sound : IsSound s) (realm : Option RealmChange) (rec : Opt
     opened = tt;
     apart = tt;
     closed = (
-      ((level, number, ripas, entry-page s rd level number granule ripas is),
-      records-unused s (Some (record { granule = granule; tag = Delegated })) realm rec granule (tag_here granule Delegated (s.tag granule) (inr refl))),
+      (
+        (level, number, ripas, entry-page s rd level number granule ripas is),
+        records-unused s (Some (record { granule = granule; tag = Delegated })) realm rec granule (tag_here granule Delegated (s.tag granule) (inr refl)),
+      ),
       tt,
     );
     kept = replaced-kept (Some (record { granule = granule; tag = Delegated })) (claim granule Data rd ∷ [])

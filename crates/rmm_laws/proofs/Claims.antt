@@ -171,8 +171,13 @@ pub opened_on : (P : Claim → Type 0) (granule : ℕ) (cs held : List Claim) �
 opened_on P granule [] held all apart = inl (tt, refl)
 opened_on P granule (c ∷ cs) held (p, all) (first, apart) = elim (cases_eq c.granule granule) [
   | inl here ↦
-      inr (c, here, p, claims_on-opened granule c (cs ++ held) here
-      ∙ ap (λ rest. c ∷ rest) (claims_on-elsewhere granule cs held (apart-elsewhere c cs granule here first)))
+      inr (
+        c,
+        here,
+        p,
+        claims_on-opened granule c (cs ++ held) here
+            ∙ ap (λ rest. c ∷ rest) (claims_on-elsewhere granule cs held (apart-elsewhere c cs granule here first)),
+      )
   | inr away ↦
       (let same = claims_on-opened_elsewhere granule c (cs ++ held) away in
       elim (opened_on P granule cs held all apart) [
