@@ -1,12 +1,10 @@
--- The open claims on one granule, as claims are opened and closed, and what a commit does to claims.
-use Rattle.std.proofs.Common.{◌≡◌, ℕ, suc, zero, ◌==◌, Bool, true, false, ◌&&◌, List, [], ◌∷◌, ◌⊎◌, filter, Contains, IsTrue, refl, sym, ◌∙◌, ap, inl, inr, arith}
-use Rattle.std.proofs.lemmas.Bool.{and_parts, and_from, eqb-true, eq-eqb, ne_eqb}
-use Rattle.rmm_spec.specs.declared.reply.Reply.{Reply}
-use Rattle.rmm_spec.specs.declared.reply.Reply.TheVariants as reply
-use Rattle.rmm_spec.specs.Run.{JournalEntry}
+-- The open claims on one granule, as claims are opened and closed.
+use Rattle.std.proofs.Common.{◌≡◌, ℕ, suc, zero, ◌==◌, Bool, true, false, ◌&&◌, List, [], ◌∷◌, ◌++◌, ◌⊎◌, filter, Contains, refl, sym, ◌∙◌, ap, inl, inr, arith}
+use Rattle.std.proofs.lemmas.Bool.{cases_eq, and_parts, and_from, eqb-true, eq-eqb, ne_eqb}
+use Rattle.std.specs.List.{AllByRecursion}
 use Rattle.rmm_spec.specs.State.{tag_number}
-use Rattle.rmm_spec.specs.Ownership.{Claim, is_same_claim, without_claim, is_accepted, claims_accepted, claims_after}
-use Rattle.rmm_spec.proofs.RowLaws.{IsRefusal, both_ways}
+use Rattle.rmm_spec.specs.Ownership.{Claim, is_same_claim, without_claim, without_claims}
+use Rattle.rmm_laws.proofs.Tests.{both_ways}
 
 -- the open claims on a granule, repeats kept
 abbrev pub claims_on : ℕ → List Claim → List Claim
@@ -130,18 +128,86 @@ Contains-from_claims_on granule wanted (c ∷ claims) among =
 pub Contains-one : {X : Type 0} (x y : X) → Contains (x ∷ []) y → x ≡ y
 Contains-one x y among = elim (Contains-cases x y [] among) [ inl is ↦ is | inr none ↦ absurd (Contains-none y none) ]
 
--- ---- what a commit does to the open claims
+-- ---- several claims
 
--- a refusal claims nothing
-pub claims_after-refused : (given : Reply) (entry : JournalEntry) (earlier : List JournalEntry) (held : List Claim) → IsRefusal given
-    → claims_after given entry earlier held ≡ held
-claims_after-refused (reply.Ok given) entry earlier held refused = both_ways refl refused
-claims_after-refused (reply.Err status index) entry earlier held refused = refl
-claims_after-refused reply.Misplaced entry earlier held refused = refl
+-- none of the claims is on the granule
+abbrev pub AreElsewhere : ℕ → List Claim → Type 0
+AreElsewhere granule cs = AllByRecursion (λ (c : Claim). c.granule ≡ granule → ⊥) cs
 
--- an acceptance claims what its words and the reply's say
-pub claims_after-accepted : (given : Reply) (entry : JournalEntry) (earlier : List JournalEntry) (held : List Claim) → IsTrue (is_accepted given)
-    → (words : List ℕ) × (claims_after given entry earlier held ≡ claims_accepted entry.command.function entry.command.words.items words earlier held)
-claims_after-accepted (reply.Ok given) entry earlier held accepted = (given.items, refl)
-claims_after-accepted (reply.Err status index) entry earlier held accepted = both_ways accepted refl
-claims_after-accepted reply.Misplaced entry earlier held accepted = both_ways accepted refl
+-- no two of the claims are on one granule
+abbrev pub AreApart : List Claim → Type 0
+AreApart [] = Unit {0}
+AreApart (c ∷ cs) = AllByRecursion (λ (d : Claim). (c.granule == d.granule) ≡ false) cs × AreApart cs
+
+-- the claim is one of these
+abbrev pub IsAmong : Claim → List Claim → Type 0
+IsAmong c [] = ⊥
+IsAmong c (d ∷ ds) = (d ≡ c) ⊎ IsAmong c ds
+
+-- what is elsewhere is none of these
+pub elsewhere-among : (c : Claim) (cs : List Claim) → AreElsewhere c.granule cs → IsAmong c cs → ⊥
+elsewhere-among c [] elsewhere among = among
+elsewhere-among c (d ∷ ds) (away, others) (inl here) = away (ap (λ (x : Claim). x.granule) here)
+elsewhere-among c (d ∷ ds) (away, others) (inr later) = elsewhere-among c ds others later
+
+-- claims that are apart from one on the granule are elsewhere
+apart-elsewhere : (c : Claim) (cs : List Claim) (granule : ℕ) → c.granule ≡ granule → AllByRecursion (λ (d : Claim). (c.granule == d.granule) ≡ false) cs → AreElsewhere granule cs
+apart-elsewhere c [] granule here apart = tt
+apart-elsewhere c (d ∷ ds) granule here (first, others) = (
+  λ on. both_ways (eq-eqb c.granule d.granule (here ∙ sym on)) first,
+  apart-elsewhere c ds granule here others,
+)
+
+-- claims that are opened elsewhere
+claims_on-elsewhere : (granule : ℕ) (cs held : List Claim) → AreElsewhere granule cs → claims_on granule (cs ++ held) ≡ claims_on granule held
+claims_on-elsewhere granule [] held elsewhere = refl
+claims_on-elsewhere granule (c ∷ cs) held (away, others) =
+    claims_on-opened_elsewhere granule c (cs ++ held) away ∙ claims_on-elsewhere granule cs held others
+
+-- of claims that are apart none is opened on the granule, or just one
+pub opened_on : (P : Claim → Type 0) (granule : ℕ) (cs held : List Claim) → AllByRecursion P cs → AreApart cs
+    → (AreElsewhere granule cs × (claims_on granule (cs ++ held) ≡ claims_on granule held))
+    ⊎ ((c : Claim) × (c.granule ≡ granule) × P c × (claims_on granule (cs ++ held) ≡ c ∷ claims_on granule held))
+opened_on P granule [] held all apart = inl (tt, refl)
+opened_on P granule (c ∷ cs) held (p, all) (first, apart) = elim (cases_eq c.granule granule) [
+  | inl here ↦
+      inr (
+        c,
+        here,
+        p,
+        claims_on-opened granule c (cs ++ held) here
+            ∙ ap (λ rest. c ∷ rest) (claims_on-elsewhere granule cs held (apart-elsewhere c cs granule here first)),
+      )
+  | inr away ↦
+      (let same = claims_on-opened_elsewhere granule c (cs ++ held) away in
+      elim (opened_on P granule cs held all apart) [
+        | inl others ↦ inl ((away, others.0), same ∙ others.1)
+        | inr found ↦ inr (found.0, found.1, found.2, same ∙ found.3)
+      ])
+]
+
+-- where no claim is open on a granule none is closed
+pub none_closed : (granule : ℕ) (cs held : List Claim) → claims_on granule held ≡ [] → claims_on granule (without_claims cs held) ≡ []
+none_closed granule [] held none = none
+none_closed granule (c ∷ cs) held none =
+    let rest = none_closed granule cs held none in
+    elim (cases_eq c.granule granule) [
+      | inl here ↦ claims_on-closed granule c (without_claims cs held) here ∙ ap (without_claim c) rest
+      | inr away ↦ claims_on-closed_elsewhere granule c (without_claims cs held) away ∙ rest
+    ]
+
+-- the one claim on a granule is closed, or none of the claims is on it
+pub closed_on : (P : Claim → Type 0) (c : Claim) (cs held : List Claim) → claims_on c.granule held ≡ c ∷ []
+    → ((d : Claim) → P d → d.granule ≡ c.granule → d ≡ c) → AllByRecursion P cs
+    → (P c × (claims_on c.granule (without_claims cs held) ≡ []))
+    ⊎ (AreElsewhere c.granule cs × (claims_on c.granule (without_claims cs held) ≡ c ∷ []))
+closed_on P c [] held one same all = inr (tt, one)
+closed_on P c (d ∷ ds) held one same (p, all) =
+    let rest = without_claims ds held in
+    elim (closed_on P c ds held one same all) [
+      | inl gone ↦ inl (gone.0, none_closed c.granule (d ∷ []) rest gone.1)
+      | inr stays ↦ elim (cases_eq d.granule c.granule) [
+        | inl here ↦ (let it = same d p here in inl (rw (← it) p, rw it (claims_on-closed_only c rest stays.1)))
+        | inr away ↦ inr ((away, stays.0), claims_on-closed_elsewhere c.granule d rest away ∙ stays.1)
+      ]
+    ]

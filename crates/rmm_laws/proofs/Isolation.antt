@@ -1,108 +1,132 @@
--- Runs of served commands are isolated, by what stays true along them.
-use Rattle.std.specs.List.{AllByRecursion}
-use Rattle.std.proofs.Common.{◌≡◌, ℕ, List, [], ◌∷◌, Some, None, take, subst, Contains, IsTrue, zero, suc}
-use Rattle.rmm_spec.specs.declared.command.Command.{Command}
-use Rattle.rmm_spec.specs.declared.event.Event.{Event}
-use Rattle.rmm_spec.specs.declared.event.Event.TheVariants.{Called}
-use Rattle.rmm_spec.specs.declared.line.Line.{Line}
-use Rattle.rmm_spec.specs.Function.{is_served}
-use Rattle.rmm_spec.specs.HistoryText.{Setup, History, IsEvent, IsHistory}
-use Rattle.rmm_spec.specs.State.{State, opening}
-use Rattle.rmm_spec.specs.Step.{Step}
-use Rattle.rmm_spec.specs.Run.{JournalEntry, IsRun, AreServed}
-use Rattle.rmm_spec.specs.Linearization.{IsCalled, AreEntriesOf}
-use Rattle.rmm_spec.specs.Ownership.{Claim, claim, claims, claims_after, claims_from, owners, IsTied, Spot, IsIsolated}
+-- Along a run the state is sound, the open claims are its ties, and the commits say what made its realms and RECs.
+use Rattle.std.proofs.Common.{◌≡◌, ℕ, false, ◌⊎◌, ◌++◌, List, [], ◌∷◌, None, Some, Result, Ok, Err, take, refl, sym, ◌∙◌, ap, ap₂, subst, inl, inr}
+use Rattle.rmm_spec.specs.declared.accepted.Accepted.{Accepted}
+use Rattle.rmm_spec.specs.declared.accepted.Accepted.TheVariants.{Done, Reaches}
+use Rattle.rmm_spec.specs.declared.change.Change.{Change}
+use Rattle.rmm_spec.specs.declared.change.Change.TheVariants.{Unchanged, Retagged, RealmMade, RealmDestroyed, RecMade, RecDestroyed, RecordsChanged, TableMade, TableDestroyed, EntriesChanged}
+use Rattle.rmm_spec.specs.declared.reply.Reply.{Reply}
+use Rattle.rmm_spec.specs.declared.reply.Reply.TheVariants as reply
+use Rattle.rmm_spec.specs.declared.tag.Tag.TheVariants.{Rd, Rtt}
+use Rattle.rmm_spec.specs.Applicable.{CanApply}
+use Rattle.rmm_spec.specs.Call.{call_of}
+use Rattle.rmm_spec.specs.Change.{changed}
+use Rattle.rmm_spec.specs.HistoryText.{Setup, History}
 use Rattle.rmm_spec.specs.Judgement.{IsIsolatedThroughout}
-use Rattle.rmm_spec.proofs.Holdings.{tied-once, one_claim, claimed-tag, unclaimed-unused, claimed-tied, tied-claimed}
-use Rattle.rmm_spec.proofs.Purposes.{TableAt, PageAt, role_of, IsFor, tied-from_purpose, purpose_of-tied}
-use Rattle.rmm_spec.proofs.Accounts.{IsAccounted, opening-accounted}
-use Rattle.rmm_spec.proofs.AccountSteps.{step-accounted}
+use Rattle.rmm_spec.specs.Ownership.{Claim, claim, is_accepted, latest_root, latest_rec, root_made, rec_made, rec_claims, claims, claims_opened, claims_closed, claims_after, claims_from, without_claims, IsIsolated}
+use Rattle.rmm_spec.specs.Run.{JournalEntry, IsRun}
+use Rattle.rmm_spec.specs.Rows.{ok}
+use Rattle.rmm_spec.specs.Sound.{IsSound}
+use Rattle.rmm_spec.specs.State.{State, realm_at, rec_at, opening}
+use Rattle.rmm_spec.specs.Step.{outcome, CarriesOut, Step}
+use Rattle.rmm_spec.specs.Step.Ripas.{reached_change}
+use Rattle.rmm_laws.proofs.ChangeAccounts.{roots_at, recs_at, change-accounts}
+use Rattle.rmm_laws.proofs.ChangeWords.{opened, closed, root_of, rec_of}
+use Rattle.rmm_laws.proofs.CommandFacts.{Tells, OutcomeTells}
+use Rattle.rmm_laws.proofs.Facts.{realm_there, rec_there}
+use Rattle.rmm_laws.proofs.Owners.{AreOwned, changed-owned, owned-isolated}
+use Rattle.rmm_laws.proofs.Premises.{AreSoundnessLaws}
+use Rattle.rmm_laws.proofs.Recorded.{IsRecorded, root_in, parts_in, roots-after, recs-after}
+use Rattle.rmm_laws.proofs.Steps.{outcome-tells}
+use Rattle.rmm_laws.proofs.Tests.{both_ways}
 
--- ---- what is kept along runs
+-- Of the commits so far (latest first), the open claims and the state.
+pub record IsAccounted (earlier : List JournalEntry) (held : List Claim) (s : State) : Type 0 where
+  pub sound : IsSound s
+  pub owned : AreOwned held s
+  pub roots : IsRecorded root_in (λ rd. latest_root rd earlier) s.realm
+  pub recs : IsRecorded parts_in (λ rec. latest_rec rec earlier) s.rec
 
--- What each commit keeps, of the commits so far (latest first), the open claims and the state, holds after a run.
-pub run-keeps : (Kept : List JournalEntry → List Claim → State → Type 0)
-    → ((earlier : List JournalEntry) (held : List Claim) (old new : State) (entry : JournalEntry) → Kept earlier held old
-    → IsTrue (is_served entry.command.function) → Step old entry.cpu entry.command entry.given new → Kept (entry ∷ earlier) (claims_after entry.given entry earlier held) new)
-    → (entries : List JournalEntry) (earlier : List JournalEntry) (held : List Claim) (old last : State)
-    → AreServed entries → Kept earlier held old → IsRun old entries last → (all : List JournalEntry) × Kept all (claims_from earlier held entries) last
-run-keeps Kept step [] earlier held old last served kept run = (earlier, rw run kept)
-run-keeps Kept step (entry ∷ entries) earlier held old last (here, served) kept (next, first, rest) =
-    run-keeps Kept step entries (entry ∷ earlier) (claims_after entry.given entry earlier held) next last served
-    (step earlier held old next entry kept here first) rest
+-- what the commits say is closed is what the state says
+closed-same : (earlier : List JournalEntry) (held : List Claim) (s : State) (change : Change) → IsAccounted earlier held s → CanApply s change
+    → closed (λ rd. latest_root rd earlier) (λ rec. latest_rec rec earlier) change ≡ closed (roots_at s) (recs_at s) change
+closed-same earlier held s (RealmDestroyed rd root) a can =
+    ap (λ r. claim rd Rd rd ∷ claim r Rtt rd ∷ []) (a.roots rd (realm_at s rd) (realm_there s rd a.sound can.rd_tag))
+closed-same earlier held s (RecDestroyed rec aux0 aux1) a can = ap (rec_claims rec) (a.recs rec (rec_at s rec) (rec_there s rec a.sound can.rec_tag))
+closed-same earlier held s (TableDestroyed rd level number rtt entry) a can = refl
+closed-same earlier held s (EntriesChanged rd level entries page realm rec) a can = refl
+closed-same earlier held s Unchanged a can = refl
+closed-same earlier held s (Retagged change) a can = refl
+closed-same earlier held s (RealmMade rd root width level vmid algo) a can = refl
+closed-same earlier held s (RecMade rd rec mpidr flags aux0 aux1) a can = refl
+closed-same earlier held s (RecordsChanged realm rec) a can = refl
+closed-same earlier held s (TableMade rd level number rtt entry) a can = refl
 
--- ---- isolated
+module _ (laws : AreSoundnessLaws) (earlier : List JournalEntry) (held : List Claim) (old : State) (entry : JournalEntry) (a : IsAccounted earlier held old) where
+  -- a refusal leaves all as it is
+  refused-accounted : (given : Reply) → entry.given ≡ given → is_accepted given ≡ false → IsAccounted (entry ∷ earlier) (claims_after given entry earlier held) old
+  refused-accounted (reply.Ok words) is refused = both_ways refl refused
+  refused-accounted (reply.Err status index) is refused = record {
+    sound = a.sound;
+    owned = a.owned;
+    roots = rw is a.roots;
+    recs = rw is a.recs;
+  }
+  refused-accounted reply.Misplaced is refused = record {
+    sound = a.sound;
+    owned = a.owned;
+    roots = rw is a.roots;
+    recs = rw is a.recs;
+  }
 
--- spots with equal parts are one
-same_spot : (a b : Spot) → a.realm ≡ b.realm → a.level ≡ b.level → a.number ≡ b.number → a ≡ b
-same_spot a b realm level number = λ i. record { realm = realm i; level = level i; number = number i }
+  -- an acceptance makes a change that opens and closes claims
+  accepted-accounted : (words : List ℕ) (change : Change) → entry.given ≡ ok words → Tells entry.command.function entry.command.words.items words change → CanApply old change
+      → IsAccounted (entry ∷ earlier) (claims_after (ok words) entry earlier held) (changed old change)
+  accepted-accounted words change is tells can =
+      let call = call_of entry.command in
+      let closes : claims_closed call words earlier ≡ closed (roots_at old) (recs_at old) change = tells.closes earlier ∙ closed-same earlier held old change a can in
+      let owned = changed-owned old (changed old change) (opened change) (closed (roots_at old) (recs_at old) change) held a.sound (change-accounts old change a.sound can) a.owned in
+      record {
+        sound = laws.keeps old change a.sound can;
+        owned = subst (λ opens. AreOwned (opens ++ without_claims (claims_closed call words earlier) held) (changed old change)) (sym tells.opens)
+            (subst (λ cs. AreOwned (opened change ++ without_claims cs held) (changed old change)) (sym closes) owned);
+        roots = λ rd realm there. rw (is, tells.roots rd) (roots-after old change (λ x. latest_root x earlier) a.sound can a.roots rd realm there);
+        recs = λ rec r there. rw (is, tells.recs rec) (recs-after old change (λ x. latest_rec x earlier) a.sound can a.recs rec r there);
+      }
 
--- what is accounted for is isolated
-accounted-isolated : (earlier entries : List JournalEntry) (s : State) → IsAccounted earlier (claims entries) s → IsIsolated entries s
-unfolding owners
-accounted-isolated earlier entries s a =
-    let held = claims entries in
-    let once = tied-once role_of held (IsFor s) s.tag a.holding in
-    record {
-      one_owner = one_claim role_of held (IsFor s) s.tag a.holding;
-      roles = claimed-tag role_of held (IsFor s) s.tag a.holding;
-      ownerless = unclaimed-unused role_of held (IsFor s) s.tag a.holding;
-      ties = λ granule role realm. (
-        λ among. (let found = claimed-tied role_of held (IsFor s) s.tag a.holding granule role realm among in
-            subst (λ r. IsTied r s granule realm) found.1 (tied-from_purpose s granule found.0 realm found.2)),
-        λ tied. (let found = purpose_of-tied s granule role realm tied in
-            subst (λ r. Contains held (claim granule r realm)) found.1 (tied-claimed role_of held (IsFor s) s.tag a.holding granule found.0 realm found.2)),
-      );
-      pages = λ p q ripas other granule first second.
-          let both = once granule (PageAt p.level p.number) (PageAt q.level q.number) p.realm q.realm (ripas, first) (other, second) in
-          let level : p.level ≡ q.level = cc in
-          let number : p.number ≡ q.number = cc in
-          same_spot p q both.1 level number;
-      tables = λ p q granule first second.
-          let both = once granule (TableAt p.level p.number) (TableAt q.level q.number) p.realm q.realm first second in
-          let level : p.level ≡ q.level = cc in
-          let number : p.number ≡ q.number = cc in
-          same_spot p q both.1 level number;
-    }
+  -- whatever is carried out
+  carried-accounted : (found : Result Accepted Reply) (new : State) → outcome old entry.cpu (call_of entry.command) ≡ found
+      → OutcomeTells entry.command.function entry.command.words.items found → CarriesOut found old entry.given new
+      → IsAccounted (entry ∷ earlier) (claims_after entry.given entry earlier held) new
+  carried-accounted (Err refusal) new is tells p = rw p.1 (refused-accounted entry.given refl (rw p.0 tells))
+  carried-accounted (Ok (Done words change)) new is tells p =
+      subst (λ given. IsAccounted (entry ∷ earlier) (claims_after given entry earlier held) new) (sym p.0)
+      (rw p.1 (accepted-accounted words.items change p.0 tells (laws.applies old entry.cpu (call_of entry.command) words change a.sound is)))
+  carried-accounted (Ok (Reaches stretch)) new is tells (top, (reached, is_ok, is_next)) =
+      subst (λ given. IsAccounted (entry ∷ earlier) (claims_after given entry earlier held) new) (sym is_ok)
+      (rw is_next (accepted-accounted (top ∷ []) (reached_change stretch top) is_ok (tells top)
+      (laws.reaches old entry.cpu (call_of entry.command) stretch top a.sound is reached)))
 
--- whatever run of served commands leaves every granule at most one realm's, in one role
-pub run-isolated : (setup : Setup) (entries : List JournalEntry) (last : State) → AreServed entries
-    → IsRun (opening setup) entries last → IsIsolated entries last
+-- each commit stays accounted for
+step-accounted : AreSoundnessLaws → (earlier : List JournalEntry) (held : List Claim) (old new : State) (entry : JournalEntry) → IsAccounted earlier held old
+    → Step old entry.cpu entry.command entry.given new → IsAccounted (entry ∷ earlier) (claims_after entry.given entry earlier held) new
+step-accounted laws earlier held old new entry a step =
+    let found = outcome old entry.cpu (call_of entry.command) in
+    carried-accounted laws earlier held old entry a found new refl (outcome-tells entry.command old entry.cpu found refl) step
+
+-- and so a run
+run-accounted : AreSoundnessLaws → (entries earlier : List JournalEntry) (held : List Claim) (old last : State) → IsAccounted earlier held old → IsRun old entries last
+    → (all : List JournalEntry) × IsAccounted all (claims_from earlier held entries) last
+run-accounted laws [] earlier held old last a run = (earlier, rw run a)
+run-accounted laws (entry ∷ entries) earlier held old last a (next, step, run) =
+    run-accounted laws entries (entry ∷ earlier) (claims_after entry.given entry earlier held) next last (step-accounted laws earlier held old next entry a step) run
+
+-- at the opening nothing is claimed, and nothing is there
+opening-accounted : AreSoundnessLaws → (setup : Setup) → IsAccounted [] [] (opening setup)
+unfolding opening
+opening-accounted laws setup = record {
+  sound = laws.opens setup;
+  owned = record { each = λ granule. inl (refl, inl refl) };
+  roots = λ rd realm there. absurd (let bad : None ≡ Some realm = there in cc);
+  recs = λ rec r there. absurd (let bad : None ≡ Some r = there in cc);
+}
+
+-- whatever a run leaves, every granule is at most one realm's, in one role
+pub run-isolated : AreSoundnessLaws → (setup : Setup) (entries : List JournalEntry) (last : State) → IsRun (opening setup) entries last → IsIsolated entries last
 unfolding claims
-run-isolated setup entries last served run =
-    let kept = run-keeps IsAccounted step-accounted entries [] [] (opening setup) last served (opening-accounted setup) run in
-    accounted-isolated kept.0 entries last kept.1
-
--- the first of served commits are served
-take-served : (count : ℕ) (entries : List JournalEntry) → AreServed entries → AreServed (take count entries)
-take-served zero entries served = tt
-take-served (suc count) [] served = tt
-take-served (suc count) (entry ∷ entries) (here, served) = (here, take-served count entries served)
+run-isolated laws setup entries last run =
+    let kept = run-accounted laws entries [] [] (opening setup) last (opening-accounted laws setup) run in
+    owned-isolated entries last kept.1.sound kept.1.owned
 
 -- and so after each first part of its commits
-pub isolated_throughout : (history : History) (entries : List JournalEntry) → AreServed entries → IsIsolatedThroughout history entries
-isolated_throughout history entries served count s _ run =
-    run-isolated history.setup (take count entries) s (take-served count entries served) run
-
--- ---- what a history records is served
-
--- a call that a history records is of a served command
-called-served : (cpus : ℕ) (events : List Event) (place cpu number : ℕ) (command : Command) → AllByRecursion (IsEvent cpus) events
-    → IsCalled events place cpu number command → IsTrue (is_served command.function)
-called-served cpus [] place cpu number command all called = absurd (let bad : None ≡ Some (Called cpu number command) = called in cc)
-called-served cpus (event ∷ events) zero cpu number command (here, later) called =
-    let same : event ≡ Called cpu number command = cc in
-    let is_event : IsEvent cpus (Called cpu number command) = rw same at here in
-    is_event.1.served
-called-served cpus (event ∷ events) (suc place) cpu number command (here, later) called = called-served cpus events place cpu number command later called
-
--- the commits that a certificate claims of a history are of served commands
-pub entries-served : (history : History) (lines : List Line) (entries : List JournalEntry) → IsHistory history
-    → AreEntriesOf history.events lines entries → AreServed entries
-entries-served history [] [] is_history claimed = tt
-entries-served history [] (entry ∷ entries) is_history claimed = absurd claimed
-entries-served history (line ∷ lines) [] is_history claimed = absurd claimed
-entries-served history (line ∷ lines) (entry ∷ entries) is_history (here, claimed) = (
-  called-served history.setup.cpus history.events here.called _ _ entry.command is_history.events here.is_called,
-  entries-served history lines entries is_history claimed,
-)
+pub isolated_throughout : AreSoundnessLaws → (history : History) (entries : List JournalEntry) → IsIsolatedThroughout history entries
+isolated_throughout laws history entries count s _ run = run-isolated laws history.setup (take count entries) s run

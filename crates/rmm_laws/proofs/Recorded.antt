@@ -1,157 +1,152 @@
 -- What made a realm or a REC that there is, is read from the commits: the latest that names it.
-use Rattle.std.proofs.Common.{◌≡◌, ℕ, ◌==◌, true, false, ◌&&◌, if◌then◌else◌, List, ◌∷◌, Option, Some, None, IsTrue, refl, sym, ◌∙◌, ap, inl, inr, slice_index}
-use Rattle.std.proofs.lemmas.Bool.{and_left, and_right, and_from, eq-eqb, ne_eqb, eqb-true}
-use Rattle.rmm_spec.specs.declared.function_id.FunctionId.{FunctionId}
-use Rattle.rmm_spec.specs.declared.function_id.FunctionId.TheVariants.{RealmCreate, RecCreate}
-use Rattle.rmm_spec.specs.Function.{number_of}
-use Rattle.rmm_spec.specs.State.{State, RealmRecord, RecRecord, with_realm, without_realm, without_rec}
-use Rattle.rmm_spec.specs.Run.{JournalEntry}
-use Rattle.rmm_spec.specs.Ownership.{is_accepted, latest}
-use Rattle.rmm_spec.proofs.RowLaws.{both_ways}
-use Rattle.rmm_spec.proofs.Rooted.{chosen}
+use Rattle.std.proofs.Common.{◌≡◌, ℕ, ◌==◌, Bool, true, false, ◌⊎◌, if◌then◌else◌, Option, Some, None, is_some, unwrap_or, List, [], ◌∷◌, IsTrue, refl, sym, ◌∙◌, ap, ap₂, subst, inl, inr}
+use Rattle.std.proofs.lemmas.Bool.{eqb-true, eq-eqb, ne_eqb}
+use Rattle.rmm_spec.specs.declared.change.Change.{Change}
+use Rattle.rmm_spec.specs.declared.change.Change.TheVariants.{Unchanged, Retagged, RealmMade, RealmDestroyed, RecMade, RecDestroyed, RecordsChanged, TableMade, TableDestroyed, EntriesChanged}
+use Rattle.rmm_spec.specs.declared.change.EntryChange.{EntryChange}
+use Rattle.rmm_spec.specs.declared.change.EntryChange.TheVariants.{Replaced, RipasSet}
+use Rattle.rmm_spec.specs.declared.change.RealmChange.{RealmChange}
+use Rattle.rmm_spec.specs.declared.change.RealmUpdate.{RealmUpdate}
+use Rattle.rmm_spec.specs.declared.change.RealmUpdate.TheVariants as realm_update
+use Rattle.rmm_spec.specs.declared.change.RecChange.{RecChange}
+use Rattle.rmm_spec.specs.declared.change.TagChange.{TagChange}
+use Rattle.rmm_spec.specs.Applicable.{CanChangeRealm, CanChangeRec, CanApply}
+use Rattle.rmm_spec.specs.Change.{new_realm, new_rec, realm_updated, rec_updated, with_tag_change, with_realm_change, with_rec_change, with_entry_change, changed}
+use Rattle.rmm_spec.specs.Ownership.{RecParts}
+use Rattle.rmm_spec.specs.Sound.{IsSound}
+use Rattle.rmm_spec.specs.State.{State, RealmRecord, RecRecord, realm_at, rec_at}
+use Rattle.rmm_laws.proofs.ChangeWords.{root_of, rec_of}
+use Rattle.rmm_laws.proofs.Facts.{realm_there, rec_there, realm_at-there, rec_at-there}
+use Rattle.rmm_laws.proofs.Keeps.{with_records, rec_updated-like, tag_change-rest, realm_change-rest, rec_change-rest}
+use Rattle.rmm_laws.proofs.Tests.{both_ways, chosen, there}
 
--- ---- the latest commit of a function that has a value among its words
+-- each value of the map is recorded: this is read from it
+abbrev pub IsRecorded : {V R : Type 0} → (V → R) → (ℕ → R) → (ℕ → Option V) → Type 0
+IsRecorded {V} {R} read recorded values = (x : ℕ) (v : V) → values x ≡ Some v → recorded x ≡ read v
 
--- a refusal isn't it
-latest-refused : (function : FunctionId) (place value : ℕ) (entry : JournalEntry) (earlier : List JournalEntry) → is_accepted entry.given ≡ false
-    → latest function place value (entry ∷ earlier) ≡ latest function place value earlier
-latest-refused function place value entry earlier refused = rw refused refl
+abbrev pub root_in : RealmRecord → ℕ
+root_in realm = realm.root
 
--- nor is a commit of another function
-latest-other : (function : FunctionId) (place value : ℕ) (entry : JournalEntry) (earlier : List JournalEntry)
-    → (number_of entry.command.function == number_of function) ≡ false → latest function place value (entry ∷ earlier) ≡ latest function place value earlier
-latest-other function place value entry earlier other =
-    let is_it = is_accepted entry.given in
-    let here = slice_index entry.command.words.items place == value in
-    let no : (is_it && number_of entry.command.function == number_of function && here) ≡ false =
-    and_left (is_it && number_of entry.command.function == number_of function) here (and_right is_it (number_of entry.command.function == number_of function) other) in
-    rw no refl
+abbrev pub parts_in : RecRecord → RecParts
+parts_in rec = record { rd = rec.owner; aux0 = rec.aux0; aux1 = rec.aux1 }
 
--- nor one with another value
-latest-elsewhere : (function : FunctionId) (place value : ℕ) (entry : JournalEntry) (earlier : List JournalEntry)
-    → (slice_index entry.command.words.items place == value) ≡ false → latest function place value (entry ∷ earlier) ≡ latest function place value earlier
-latest-elsewhere function place value entry earlier elsewhere =
-    let first = is_accepted entry.given && number_of entry.command.function == number_of function in
-    let here = slice_index entry.command.words.items place == value in
-    let no : (first && here) ≡ false = and_right first here elsewhere in
-    rw no refl
+-- a test whether two numbers are equal, the other way round
+swapped : (a b : ℕ) (test : Bool) → (a == b) ≡ test → (b == a) ≡ test
+swapped a b true same = eq-eqb b a (sym (eqb-true a b same))
+swapped a b false apart = ne_eqb b a (λ same. both_ways (eq-eqb a b (sym same)) apart)
 
--- an accepted one of the function with the value is it
-latest-here : (function : FunctionId) (place value : ℕ) (entry : JournalEntry) (earlier : List JournalEntry) → IsTrue (is_accepted entry.given)
-    → entry.command.function ≡ function → slice_index entry.command.words.items place ≡ value → latest function place value (entry ∷ earlier) ≡ entry.command.words.items
-latest-here function place value entry earlier accepted is here =
-    let of_function = number_of entry.command.function == number_of function in
-    let at_value = slice_index entry.command.words.items place == value in
-    let yes : (is_accepted entry.given && of_function && at_value) ≡ true =
-    and_from (is_accepted entry.given && of_function) at_value
-    (and_from (is_accepted entry.given) of_function accepted (eq-eqb (number_of entry.command.function) (number_of function) (ap number_of is)))
-    (eq-eqb (slice_index entry.command.words.items place) value here) in
-    rw yes refl
-
--- ---- realms
-
--- a realm's root is what the latest commit that made a realm there says
-abbrev pub AreRealmsRecorded : List JournalEntry → (ℕ → Option RealmRecord) → Type 0
-AreRealmsRecorded earlier realms =
-    (rd : ℕ) (realm : RealmRecord) → realms rd ≡ Some realm → slice_index (latest RealmCreate 0 rd earlier) 1 ≡ realm.root
-
--- each realm was there, with its root
-abbrev pub KeepRoots : (ℕ → Option RealmRecord) → (ℕ → Option RealmRecord) → Type 0
-KeepRoots old new = (rd : ℕ) (realm : RealmRecord) → new rd ≡ Some realm → (before : RealmRecord) × (old rd ≡ Some before) × (before.root ≡ realm.root)
-
--- the same map
-pub same-roots : (realms : ℕ → Option RealmRecord) → KeepRoots realms realms
-same-roots realms = λ rd realm there. (realm, there, refl)
-
--- a realm's record is replaced by one of the same root
-pub with_realm-roots : (s : State) (rd : ℕ) (old new : RealmRecord) → s.realm rd ≡ Some old → new.root ≡ old.root → KeepRoots s.realm (with_realm s rd new).realm
-with_realm-roots s rd old new there root = λ other realm found. elim (chosen (other == rd) (Some new) (s.realm other) (Some realm) found) [
-  | inl p ↦
-      (let same : new ≡ realm = cc in
-      let here : s.realm other ≡ Some old = ap s.realm (eqb-true other rd p.0) ∙ there in
-      (old, here, sym root ∙ ap (λ (x : RealmRecord). x.root) same))
-  | inr p ↦ (realm, p.1, refl)
+-- a value is put in, or replaced, and is recorded
+put-recorded : {V R : Type 0} (read : V → R) (recorded : ℕ → R) (values : ℕ → Option V) (place : ℕ) (new : V) → IsRecorded read recorded values → recorded place ≡ read new
+    → IsRecorded read recorded (λ x. if x == place then Some new else values x)
+put-recorded read recorded values place new before here x v is = elim (chosen (x == place) (Some new) (values x) (Some v) is) [
+  | inl p ↦ (let same : new ≡ v = (let both : Some new ≡ Some v = p.1 in cc) in ap recorded (eqb-true x place p.0) ∙ here ∙ ap read same)
+  | inr p ↦ before x v p.1
 ]
 
--- a realm is gone
-pub without_realm-roots : (s : State) (rd : ℕ) → KeepRoots s.realm (without_realm s rd).realm
-without_realm-roots s rd = λ other realm found. elim (chosen (other == rd) None (s.realm other) (Some realm) found) [
-  | inl p ↦ absurd (let bad : None ≡ Some realm = p.1 in cc)
-  | inr p ↦ (realm, p.1, refl)
+-- a value is put in that a commit makes
+made-recorded : {V R : Type 0} (read : V → R) (recorded : ℕ → R) (values : ℕ → Option V) (place : ℕ) (new : V) (made : R) → IsRecorded read recorded values → made ≡ read new
+    → IsRecorded read (λ x. unwrap_or (if place == x then Some made else None) (recorded x)) (λ x. if x == place then Some new else values x)
+made-recorded read recorded values place new made before here x v is = elim (chosen (x == place) (Some new) (values x) (Some v) is) [
+  | inl p ↦ (let same : new ≡ v = (let both : Some new ≡ Some v = p.1 in cc) in rw (swapped x place true p.0) (here ∙ ap read same))
+  | inr p ↦ rw (swapped x place false p.0) (before x v p.1)
 ]
 
--- a refusal makes no realm
-pub realms_recorded-refused : (earlier : List JournalEntry) (entry : JournalEntry) (realms : ℕ → Option RealmRecord) → is_accepted entry.given ≡ false
-    → AreRealmsRecorded earlier realms → AreRealmsRecorded (entry ∷ earlier) realms
-realms_recorded-refused earlier entry realms refused recorded = λ rd realm there.
-    ap (λ words. slice_index words 1) (latest-refused RealmCreate 0 rd entry earlier refused) ∙ recorded rd realm there
-
--- nor does another function
-pub realms_recorded-kept : (earlier : List JournalEntry) (entry : JournalEntry) (old new : ℕ → Option RealmRecord)
-    → (number_of entry.command.function == number_of RealmCreate) ≡ false → KeepRoots old new
-    → AreRealmsRecorded earlier old → AreRealmsRecorded (entry ∷ earlier) new
-realms_recorded-kept earlier entry old new other keep recorded = λ rd realm there.
-    let kept = keep rd realm there in
-    ap (λ words. slice_index words 1) (latest-other RealmCreate 0 rd entry earlier other) ∙ recorded rd kept.0 kept.1 ∙ kept.2
-
--- a realm that is made has the root of the commit's words
-pub realms_recorded-made : (earlier : List JournalEntry) (entry : JournalEntry) (old : ℕ → Option RealmRecord) (made : RealmRecord) → IsTrue (is_accepted entry.given)
-    → entry.command.function ≡ RealmCreate → slice_index entry.command.words.items 1 ≡ made.root → AreRealmsRecorded earlier old
-    → AreRealmsRecorded (entry ∷ earlier) (λ other. if other == slice_index entry.command.words.items 0 then Some made else old other)
-realms_recorded-made earlier entry old made accepted is root recorded = λ rd realm there.
-    let named = slice_index entry.command.words.items 0 in
-    elim (chosen (rd == named) (Some made) (old rd) (Some realm) there) [
-      | inl p ↦
-          (let same : made ≡ realm = cc in
-          ap (λ words. slice_index words 1) (latest-here RealmCreate 0 rd entry earlier accepted is (sym (eqb-true rd named p.0))) ∙ root ∙ ap (λ (x : RealmRecord). x.root) same)
-      | inr p ↦ ap (λ words. slice_index words 1)
-          (latest-elsewhere RealmCreate 0 rd entry earlier (ne_eqb named rd (λ same. both_ways (eq-eqb rd named (sym same)) p.0))) ∙ recorded rd realm p.1
-    ]
-
--- ---- RECs
-
--- the words name the REC's realm and its auxiliary granules
-abbrev pub IsMadeBy : List ℕ → RecRecord → Type 0
-IsMadeBy words rec = (slice_index words 0 ≡ rec.owner) × (slice_index words 4 ≡ rec.aux0) × (slice_index words 5 ≡ rec.aux1)
-
--- a REC's realm and granules are what the latest commit that made a REC there says
-abbrev pub AreRecsRecorded : List JournalEntry → (ℕ → Option RecRecord) → Type 0
-AreRecsRecorded earlier recs = (address : ℕ) (rec : RecRecord) → recs address ≡ Some rec → IsMadeBy (latest RecCreate 1 address earlier) rec
-
--- each REC was there, as it is
-abbrev pub KeepRecs : (ℕ → Option RecRecord) → (ℕ → Option RecRecord) → Type 0
-KeepRecs old new = (address : ℕ) (rec : RecRecord) → new address ≡ Some rec → old address ≡ Some rec
-
--- a REC is gone
-pub without_rec-recs : (s : State) (address : ℕ) → KeepRecs s.rec (without_rec s address).rec
-without_rec-recs s address = λ other rec found. elim (chosen (other == address) None (s.rec other) (Some rec) found) [
-  | inl p ↦ absurd (let bad : None ≡ Some rec = p.1 in cc)
-  | inr p ↦ p.1
+-- a value is taken out
+gone-recorded : {V R : Type 0} (read : V → R) (recorded : ℕ → R) (values : ℕ → Option V) (place : ℕ) → IsRecorded read recorded values
+    → IsRecorded read recorded (λ x. if x == place then None else values x)
+gone-recorded read recorded values place before x v is = elim (chosen (x == place) None (values x) (Some v) is) [
+  | inl p ↦ absurd (let bad : None ≡ Some v = p.1 in cc)
+  | inr p ↦ before x v p.1
 ]
 
--- a refusal makes no REC
-pub recs_recorded-refused : (earlier : List JournalEntry) (entry : JournalEntry) (recs : ℕ → Option RecRecord) → is_accepted entry.given ≡ false
-    → AreRecsRecorded earlier recs → AreRecsRecorded (entry ∷ earlier) recs
-recs_recorded-refused earlier entry recs refused recorded = λ address rec there.
-    rw (latest-refused RecCreate 1 address entry earlier refused) (recorded address rec there)
+-- ---- records are replaced
 
--- nor does another function
-pub recs_recorded-kept : (earlier : List JournalEntry) (entry : JournalEntry) (old new : ℕ → Option RecRecord)
-    → (number_of entry.command.function == number_of RecCreate) ≡ false → KeepRecs old new
-    → AreRecsRecorded earlier old → AreRecsRecorded (entry ∷ earlier) new
-recs_recorded-kept earlier entry old new other keep recorded = λ address rec there.
-    rw (latest-other RecCreate 1 address entry earlier other) (recorded address rec (keep address rec there))
+-- an update leaves a realm's root
+realm_updated-root : (update : RealmUpdate) (r : RealmRecord) → (realm_updated update r).root ≡ r.root
+unfolding realm_updated
+realm_updated-root realm_update.Activated r = refl
+realm_updated-root realm_update.TurnedOff r = refl
+realm_updated-root (realm_update.RecCounted mpidr flags) r = refl
+realm_updated-root (realm_update.PageMeasured ipa flags digest) r = refl
+realm_updated-root (realm_update.StretchMeasured base top) r = refl
+realm_updated-root (realm_update.MeasurementExtended index size values) r = refl
 
--- a REC that is made has the realm and granules of the commit's words
-pub recs_recorded-made : (earlier : List JournalEntry) (entry : JournalEntry) (old : ℕ → Option RecRecord) (made : RecRecord) → IsTrue (is_accepted entry.given)
-    → entry.command.function ≡ RecCreate → IsMadeBy entry.command.words.items made → AreRecsRecorded earlier old
-    → AreRecsRecorded (entry ∷ earlier) (λ other. if other == slice_index entry.command.words.items 1 then Some made else old other)
-recs_recorded-made earlier entry old made accepted is by recorded = λ address rec there.
-    let named = slice_index entry.command.words.items 1 in
-    elim (chosen (address == named) (Some made) (old address) (Some rec) there) [
-      | inl p ↦
-          (let same : made ≡ rec = cc in
-          rw (latest-here RecCreate 1 address entry earlier accepted is (sym (eqb-true address named p.0)), ← same) by)
-      | inr p ↦
-          rw (latest-elsewhere RecCreate 1 address entry earlier (ne_eqb named address (λ same. both_ways (eq-eqb address named (sym same)) p.0))) (recorded address rec p.1)
-    ]
+-- an update leaves a REC's parts
+rec_updated-parts : (change : RecChange) (r : RecRecord) → parts_in (rec_updated change.update r) ≡ parts_in r
+rec_updated-parts change r =
+    let like = rec_updated-like change.update r in
+    let same : rec_updated change.update r ≡ like.0 = (let both : Some (rec_updated change.update r) ≡ Some like.0 = like.1 in cc) in
+    ap parts_in same ∙ (λ i. record { rd = like.2 i; aux0 = like.3 i; aux1 = like.4 i })
+
+realm_change-recorded : (s t : State) (change : Option RealmChange) (roots : ℕ → ℕ) → IsSound s → CanChangeRealm s change → t.realm ≡ s.realm
+    → IsRecorded root_in roots s.realm → IsRecorded root_in roots (with_realm_change t change).realm
+realm_change-recorded s t None roots sound can same recorded = rw same recorded
+realm_change-recorded s t (Some change) roots sound can same recorded =
+    let is = realm_there s change.rd sound can.0 in
+    let here : t.realm change.rd ≡ Some (realm_at s change.rd) = ap (λ (f : ℕ → Option RealmRecord). f change.rd) same ∙ is in
+    put-recorded root_in roots t.realm change.rd (realm_updated change.update (realm_at t change.rd)) (rw same recorded)
+    (recorded change.rd (realm_at s change.rd) is ∙ sym (realm_updated-root change.update (realm_at t change.rd) ∙ ap root_in (realm_at-there t change.rd (realm_at s change.rd) here)))
+
+rec_change-recorded : (s t : State) (change : Option RecChange) (recs : ℕ → RecParts) → IsSound s → CanChangeRec s change → t.rec ≡ s.rec
+    → IsRecorded parts_in recs s.rec → IsRecorded parts_in recs (with_rec_change t change).rec
+rec_change-recorded s t None recs sound can same recorded = rw same recorded
+rec_change-recorded s t (Some change) recs sound can same recorded =
+    let is = rec_there s change.rec sound can.0 in
+    let here : t.rec change.rec ≡ Some (rec_at s change.rec) = ap (λ (f : ℕ → Option RecRecord). f change.rec) same ∙ is in
+    put-recorded parts_in recs t.rec change.rec (rec_updated change.update (rec_at t change.rec)) (rw same recorded)
+    (recorded change.rec (rec_at s change.rec) is ∙ sym (rec_updated-parts change (rec_at t change.rec) ∙ ap parts_in (rec_at-there t change.rec (rec_at s change.rec) here)))
+
+-- entries leave realms and RECs as they are
+entry_change-rest : (s : State) (rd level : ℕ) (entries : EntryChange) → ((with_entry_change s rd level entries).realm ≡ s.realm) × ((with_entry_change s rd level entries).rec ≡ s.rec)
+entry_change-rest s rd level (Replaced number entry) = (refl, refl)
+entry_change-rest s rd level (RipasSet first last ripas) = (refl, refl)
+
+with_records-roots : (s : State) (page : Option TagChange) (realm : Option RealmChange) (rec : Option RecChange) (roots : ℕ → ℕ) → IsSound s → CanChangeRealm s realm
+    → IsRecorded root_in roots s.realm → IsRecorded root_in roots (with_records s page realm rec).realm
+with_records-roots s page realm rec roots sound can recorded =
+    rw ((rec_change-rest (with_realm_change (with_tag_change s page) realm) rec).3)
+    (realm_change-recorded s (with_tag_change s page) realm roots sound can (tag_change-rest s page).2 recorded)
+
+with_records-recs : (s : State) (page : Option TagChange) (realm : Option RealmChange) (rec : Option RecChange) (recs : ℕ → RecParts) → IsSound s → CanChangeRec s rec
+    → IsRecorded parts_in recs s.rec → IsRecorded parts_in recs (with_records s page realm rec).rec
+with_records-recs s page realm rec recs sound can recorded =
+    rec_change-recorded s (with_realm_change (with_tag_change s page) realm) rec recs sound can
+    ((realm_change-rest (with_tag_change s page) realm).3 ∙ (tag_change-rest s page).3) recorded
+
+-- ---- each kind
+
+-- the roots that are recorded, with that of a realm that the change makes
+pub roots-after : (s : State) (change : Change) (roots : ℕ → ℕ) → IsSound s → CanApply s change → IsRecorded root_in roots s.realm
+    → IsRecorded root_in (λ rd. unwrap_or (root_of rd change) (roots rd)) (changed s change).realm
+unfolding changed
+roots-after s Unchanged roots sound can recorded = recorded
+roots-after s (Retagged change) roots sound can recorded = recorded
+roots-after s (RealmMade rd root width level vmid algo) roots sound can recorded =
+    made-recorded root_in roots s.realm rd (new_realm root width level vmid algo) root recorded refl
+roots-after s (RealmDestroyed rd root) roots sound can recorded = gone-recorded root_in roots s.realm rd recorded
+roots-after s (RecMade rd rec mpidr flags aux0 aux1) roots sound can recorded =
+    put-recorded root_in roots s.realm rd (realm_updated (realm_update.RecCounted mpidr flags) (realm_at s rd)) recorded
+    (recorded rd (realm_at s rd) (realm_there s rd sound can.rd_tag) ∙ sym (realm_updated-root (realm_update.RecCounted mpidr flags) (realm_at s rd)))
+roots-after s (RecDestroyed rec aux0 aux1) roots sound can recorded = recorded
+roots-after s (RecordsChanged realm rec) roots sound can recorded = with_records-roots s None realm rec roots sound can.0 recorded
+roots-after s (TableMade rd level number rtt entry) roots sound can recorded = recorded
+roots-after s (TableDestroyed rd level number rtt entry) roots sound can recorded = recorded
+roots-after s (EntriesChanged rd level entries page realm rec) roots sound can recorded =
+    rw ((entry_change-rest (with_records s page realm rec) rd level entries).0) (with_records-roots s page realm rec roots sound can.2 recorded)
+
+-- the parts of RECs that are recorded, with those of a REC that the change makes
+pub recs-after : (s : State) (change : Change) (recs : ℕ → RecParts) → IsSound s → CanApply s change → IsRecorded parts_in recs s.rec
+    → IsRecorded parts_in (λ rec. unwrap_or (rec_of rec change) (recs rec)) (changed s change).rec
+unfolding changed
+recs-after s Unchanged recs sound can recorded = recorded
+recs-after s (Retagged change) recs sound can recorded = recorded
+recs-after s (RealmMade rd root width level vmid algo) recs sound can recorded = recorded
+recs-after s (RealmDestroyed rd root) recs sound can recorded = recorded
+recs-after s (RecMade rd rec mpidr flags aux0 aux1) recs sound can recorded =
+    made-recorded parts_in recs s.rec rec (new_rec rd mpidr flags aux0 aux1) (record { rd = rd; aux0 = aux0; aux1 = aux1 }) recorded refl
+recs-after s (RecDestroyed rec aux0 aux1) recs sound can recorded = gone-recorded parts_in recs s.rec rec recorded
+recs-after s (RecordsChanged realm rec) recs sound can recorded = with_records-recs s None realm rec recs sound can.1 recorded
+recs-after s (TableMade rd level number rtt entry) recs sound can recorded = recorded
+recs-after s (TableDestroyed rd level number rtt entry) recs sound can recorded = recorded
+recs-after s (EntriesChanged rd level entries page realm rec) recs sound can recorded =
+    rw ((entry_change-rest (with_records s page realm rec) rd level entries).1) (with_records-recs s page realm rec recs sound can.3 recorded)

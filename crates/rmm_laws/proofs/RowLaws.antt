@@ -1,111 +1,79 @@
--- What holds of every command by its rows, whatever its rest says.
-use Rattle.std.proofs.Common.{◌≡◌, ℕ, Bool, true, false, List, [], ◌∷◌, ◌⊎◌, IsTrue, refl, sym, ◌∙◌, inl, inr}
+-- Rows: what a command accepts is what stands behind its rows, and then each of them holds; what it refuses is no acceptance.
+use Rattle.std.proofs.Common.{◌≡◌, Bool, true, false, List, [], ◌∷◌, IsTrue, Result, Ok, Err, if◌then◌else◌, refl, sym, ◌∙◌, ap}
+use Rattle.std.specs.List.{AllByRecursion}
+use Rattle.rmm_spec.specs.declared.accepted.Accepted.{Accepted}
+use Rattle.rmm_spec.specs.declared.call.Call.{Call}
 use Rattle.rmm_spec.specs.declared.reply.Reply.{Reply}
-use Rattle.rmm_spec.specs.State.{State}
-use Rattle.rmm_spec.specs.Rows.{Row, Answers, ok}
 use Rattle.rmm_spec.specs.Ownership.{is_accepted}
+use Rattle.rmm_spec.specs.Rows.{Row, Needed, decided, inputs, tagged}
+use Rattle.rmm_spec.specs.State.{State, has_tag}
+use Rattle.rmm_spec.specs.Step.Front.{with_front}
+use Rattle.rmm_spec.specs.Step.Named.{named}
+use Rattle.rmm_spec.specs.Step.Words.{words_of}
 
+-- each row holds
 abbrev pub AllHold : List Row → Type 0
-AllHold [] = Unit {0}
-AllHold (row ∷ rows) = IsTrue row.holds × AllHold rows
+AllHold rows = AllByRecursion (λ (r : Row). IsTrue r.holds) rows
 
-abbrev pub IsRefusal : Reply → Type 0
-IsRefusal given = is_accepted given ≡ false
+-- each row refuses where it fails
+abbrev pub AllRefuse : List Row → Type 0
+AllRefuse rows = AllByRecursion (λ (r : Row). is_accepted r.otherwise ≡ false) rows
 
--- no row answers by an acceptance
-abbrev pub AreRefusals : List Row → Type 0
-AreRefusals [] = Unit {0}
-AreRefusals (row ∷ rows) = IsRefusal row.otherwise × AreRefusals rows
+-- one row more, by whether it holds
+decided_by : (holds : Bool) (rows : List Row) (refusal : Reply) (accepted found : Accepted)
+    → (decided rows accepted ≡ Ok found → AllHold rows × (accepted ≡ found))
+    → (if holds then decided rows accepted else Err refusal) ≡ Ok found → (IsTrue holds × AllHold rows) × (accepted ≡ found)
+decided_by true rows refusal accepted found later is = let rest = later is in ((refl, rest.0), rest.1)
+decided_by false rows refusal accepted found later is = absurd (let bad : Err refusal ≡ Ok found = is in cc)
 
--- a test can't have both answers
-pub both_ways : {P : Type 0} {b : Bool} → b ≡ true → b ≡ false → P
-both_ways {P} {b} holds fails = absurd (let bad : true ≡ false = sym holds ∙ fails in cc)
+-- where rows lead to something that is done, each holds
+pub decided-accepted : (rows : List Row) (accepted found : Accepted) → decided rows accepted ≡ Ok found → AllHold rows × (accepted ≡ found)
+decided-accepted [] accepted found is = (tt, let same : Ok accepted ≡ Ok found = is in cc)
+decided-accepted (row ∷ rows) accepted found is = decided_by row.holds rows row.otherwise accepted found (decided-accepted rows accepted found) is
 
--- where two answers to one command give one reply, and their rests agree on the next state, so do they
-pub answers_decide : (rows : List Row) (old a b : State) (given : Reply) (RestA RestB : Type 0)
-    → (RestA → RestB → a ≡ b) → Answers rows old given a RestA → Answers rows old given b RestB → a ≡ b
-answers_decide [] old a b given RestA RestB agree p q = agree p q
-answers_decide (row ∷ rows) old a b given RestA RestB agree (inl p) (inl q) =
-    answers_decide rows old a b given RestA RestB agree p.1 q.1
-answers_decide (row ∷ rows) old a b given RestA RestB agree (inl p) (inr q) = both_ways p.0 q.0
-answers_decide (row ∷ rows) old a b given RestA RestB agree (inr p) (inl q) = both_ways q.0 p.0
-answers_decide (row ∷ rows) old a b given RestA RestB agree (inr p) (inr q) = p.2 ∙ sym q.2
+-- one row more, by whether it holds
+decided-refused_by : (holds : Bool) (rows : List Row) (refusal : Reply) (accepted : Accepted) (found : Reply) → is_accepted refusal ≡ false
+    → (decided rows accepted ≡ Err found → is_accepted found ≡ false)
+    → (if holds then decided rows accepted else Err refusal) ≡ Err found → is_accepted found ≡ false
+decided-refused_by true rows refusal accepted found refuses later is = later is
+decided-refused_by false rows refusal accepted found refuses later is =
+    let both : Err refusal ≡ Err found = is in
+    let same : refusal ≡ found = cc in
+    rw (← same) refuses
 
--- an answer is the rest's where all rows hold, or it is a refusal and changes nothing
-pub answers_split : (rows : List Row) (old new : State) (given : Reply) (Rest : Type 0)
-    → AreRefusals rows → Answers rows old given new Rest → (AllHold rows × Rest) ⊎ (IsRefusal given × (new ≡ old))
-answers_split [] old new given Rest refusals answer = inl (tt, answer)
-answers_split (row ∷ rows) old new given Rest refusals (inl p) =
-    elim (answers_split rows old new given Rest refusals.1 p.1) [ inl q ↦ inl ((p.0, q.0), q.1) | inr q ↦ inr q ]
-answers_split (row ∷ rows) old new given Rest refusals (inr p) = inr (rw p.1 refusals.0, p.2)
+-- a reply of a row that doesn't hold is no acceptance
+pub decided-refused : (rows : List Row) (accepted : Accepted) (found : Reply) → AllRefuse rows → decided rows accepted ≡ Err found → is_accepted found ≡ false
+decided-refused [] accepted found refuse is = absurd (let bad : Ok accepted ≡ Err found = is in cc)
+decided-refused (row ∷ rows) accepted found (here, later) is =
+    decided-refused_by row.holds rows row.otherwise accepted found here (decided-refused rows accepted found later) is
 
--- one row more: where it holds there is the later rows' answer, else its own
-answers_exist-row : (row : Row) (rows : List Row) (old : State) (Rest : Reply → State → Type 0) (b : Bool) → row.holds ≡ b
-    → (IsTrue row.holds → (given : Reply) × (new : State) × Answers rows old given new (Rest given new))
-    → (given : Reply) × (new : State) × Answers (row ∷ rows) old given new (Rest given new)
-answers_exist-row row rows old Rest true holds later = let found = later holds in (found.0, found.1, inl (holds, found.2))
-answers_exist-row row rows old Rest false fails later = (row.otherwise, old, inr (fails, refl, refl))
+-- ---- the rows that every command begins with
 
--- there is an answer where the rest has one whenever all rows hold
-pub answers_exist : (rows : List Row) (old : State) (Rest : Reply → State → Type 0)
-    → (AllHold rows → (given : Reply) × (new : State) × Rest given new)
-    → (given : Reply) × (new : State) × Answers rows old given new (Rest given new)
-answers_exist [] old Rest exist = exist tt
-answers_exist (row ∷ rows) old Rest exist =
-    answers_exist-row row rows old Rest row.holds refl (λ holds. answers_exist rows old Rest (λ all. exist (holds, all)))
+inputs-refuse : (tests : List Bool) (rows : List Row) → AllRefuse rows → AllRefuse (inputs tests rows)
+inputs-refuse [] rows refuse = refuse
+inputs-refuse (test ∷ tests) rows refuse = (refl, inputs-refuse tests rows refuse)
 
--- ---- a command by its rows: what the laws need to know of it
+tagged-refuse : (s : State) (needs : List Needed) (rows : List Row) → AllRefuse rows → AllRefuse (tagged s needs rows)
+tagged-refuse s [] rows refuse = refuse
+tagged-refuse s (need ∷ needs) rows refuse = (refl, tagged-refuse s needs rows refuse)
 
--- From old, the command is answered by rows that refuse, and where they all hold by a rest that accepts, that decides the
--- next state by the reply, and that always has a reply.
-pub record ByRows (old : State) (Relation : Reply → State → Type 0) : Type 1 where
-  pub rows : List Row
-  pub Rest : Reply → State → Type 0
-  pub answers : (given : Reply) (new : State) → Relation given new → Answers rows old given new (Rest given new)
-  pub answered : (given : Reply) (new : State) → Answers rows old given new (Rest given new) → Relation given new
-  pub refusals : AreRefusals rows
-  pub accepts : (given : Reply) (new : State) → Rest given new → IsTrue (is_accepted given)
-  pub decides : (given : Reply) (a b : State) → Rest given a → Rest given b → a ≡ b
-  pub exists : AllHold rows → (given : Reply) × (new : State) × Rest given new
+-- they refuse where they fail
+pub front-refuse : (s : State) (call : Call) (rows : List Row) → AllRefuse rows → AllRefuse (with_front s call rows)
+front-refuse s call rows refuse = inputs-refuse (words_of call) (tagged s (named call) rows) (tagged-refuse s (named call) rows refuse)
 
--- the reply decides the next state
-pub by_rows-decides : (old : State) (Relation : Reply → State → Type 0) → ByRows old Relation
-    → (given : Reply) (a b : State) → Relation given a → Relation given b → a ≡ b
-by_rows-decides old Relation by given a b p q =
-    answers_decide by.rows old a b given (by.Rest given a) (by.Rest given b) (by.decides given a b) (by.answers given a p) (by.answers given b q)
+inputs-rest : (tests : List Bool) (rows : List Row) → AllHold (inputs tests rows) → AllByRecursion IsTrue tests × AllHold rows
+inputs-rest [] rows hold = (tt, hold)
+inputs-rest (test ∷ tests) rows (here, later) = let rest = inputs-rest tests rows later in ((here, rest.0), rest.1)
 
--- some reply has a next state
-pub by_rows-exists : (old : State) (Relation : Reply → State → Type 0) → ByRows old Relation
-    → (given : Reply) × (new : State) × Relation given new
-by_rows-exists old Relation by =
-    let found = answers_exist by.rows old by.Rest by.exists in (found.0, found.1, by.answered found.0 found.1 found.2)
+tagged-rest : (s : State) (needs : List Needed) (rows : List Row) → AllHold (tagged s needs rows)
+    → AllByRecursion (λ (n : Needed). IsTrue (has_tag s n.granule n.tag)) needs × AllHold rows
+tagged-rest s [] rows hold = (tt, hold)
+tagged-rest s (need ∷ needs) rows (here, later) = let rest = tagged-rest s needs rows later in ((here, rest.0), rest.1)
 
--- the reply is the rest's where all rows hold, or a refusal that changes nothing
-pub by_rows-split : (old : State) (Relation : Reply → State → Type 0) → (by : ByRows old Relation)
-    → (given : Reply) (new : State) → Relation given new
-    → (AllHold by.rows × by.Rest given new) ⊎ (IsRefusal given × (new ≡ old))
-by_rows-split old Relation by given new p =
-    answers_split by.rows old new given (by.Rest given new) by.refusals (by.answers given new p)
-
--- a refusal changes nothing
-pub by_rows-refuses : (old : State) (Relation : Reply → State → Type 0) → ByRows old Relation
-    → (given : Reply) (new : State) → Relation given new → IsRefusal given → new ≡ old
-by_rows-refuses old Relation by given new p refusal =
-    elim (by_rows-split old Relation by given new p) [ inl q ↦ both_ways (by.accepts given new q.1) refusal | inr q ↦ q.1 ]
-
--- a command that has one reply and one next state where all rows hold
-unfoldable pub by_rows-fixed : (old : State) (Relation : Reply → State → Type 0) (rows : List Row) (words : List ℕ) (next : State)
-    → AreRefusals rows
-    → ((given : Reply) (new : State) → Relation given new → Answers rows old given new ((given ≡ ok words) × (new ≡ next)))
-    → ((given : Reply) (new : State) → Answers rows old given new ((given ≡ ok words) × (new ≡ next)) → Relation given new)
-    → ByRows old Relation
-by_rows-fixed old Relation rows words next refusals answers answered = record {
-  rows = rows;
-  Rest = λ given new. (given ≡ ok words) × (new ≡ next);
-  answers = answers;
-  answered = answered;
-  refusals = refusals;
-  accepts = λ given new rest. rw rest.0 refl;
-  decides = λ given a b p q. p.1 ∙ sym q.1;
-  exists = λ all. (ok words, next, (refl, refl));
-}
+-- where they hold the words are allowed, each granule has its tag, and the rows behind them hold
+pub front-rest : (s : State) (call : Call) (rows : List Row) → AllHold (with_front s call rows)
+    → AllByRecursion IsTrue (words_of call) × AllByRecursion (λ (n : Needed). IsTrue (has_tag s n.granule n.tag)) (named call) × AllHold rows
+front-rest s call rows hold =
+    let words = inputs-rest (words_of call) (tagged s (named call) rows) hold in
+    let tags = tagged-rest s (named call) rows words.1 in
+    (words.0, tags.0, tags.1)

@@ -3,7 +3,7 @@ use Rattle.std.proofs.Common.{◌≡◌, ℕ, zero, suc, List, [], ◌∷◌, �
 use Rattle.rmm_spec.specs.State.{State}
 use Rattle.rmm_spec.specs.Step.{Step}
 use Rattle.rmm_spec.specs.Run.{JournalEntry, IsRun}
-use Rattle.rmm_spec.proofs.StepLaws.{step-decides}
+use Rattle.rmm_laws.proofs.StepLaws.{step-decides}
 
 -- two runs, one after the other, are one
 pub run-append : (entries later : List JournalEntry) (old middle last : State)

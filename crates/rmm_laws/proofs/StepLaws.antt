@@ -1,77 +1,65 @@
--- Each reply decides, each command has a reply, a refusal changes nothing, and what is lent and taken back is as it was.
-use Rattle.std.proofs.Common.{◌≡◌, ℕ, List, [], ◌∷◌, inl, inr, IsTrue, refl, sym, ◌∙◌, ap, slice_index}
+-- Steps, by what a command leads to: a refusal, one change, or a change for each end that a reply may give.
+use Rattle.std.proofs.Common.{◌≡◌, ℕ, true, false, List, [], ◌∷◌, Result, Ok, Err, slice_index, refl, sym, ◌∙◌, ap}
+use Rattle.rmm_spec.specs.declared.accepted.Accepted.{Accepted}
+use Rattle.rmm_spec.specs.declared.accepted.Accepted.TheVariants.{Done, Reaches}
+use Rattle.rmm_spec.specs.declared.accepted.Stretch.{Stretch}
 use Rattle.rmm_spec.specs.declared.command.Command.{Command}
 use Rattle.rmm_spec.specs.declared.reply.Reply.{Reply}
-use Rattle.rmm_spec.specs.declared.tag.Tag.TheVariants.{Undelegated, Delegated}
-use Rattle.rmm_spec.specs.State.{State, with_tag}
-use Rattle.rmm_spec.specs.Rows.{outside, tagged, ok}
-use Rattle.rmm_spec.specs.Step.{Step}
-use Rattle.rmm_spec.specs.Change.{KeepsOthers, changed_parts}
+use Rattle.rmm_spec.specs.declared.reply.Reply.TheVariants as reply
+use Rattle.rmm_spec.specs.Call.{call_of}
+use Rattle.rmm_spec.specs.Change.{changed}
 use Rattle.rmm_spec.specs.Ownership.{is_accepted}
-use Rattle.rmm_spec.specs.Step.Granule.{DelegatesGranule, UndelegatesGranule}
-use Rattle.rmm_spec.proofs.RowLaws.{AllHold, IsRefusal, both_ways, ByRows, by_rows-fixed, by_rows-split}
-use Rattle.rmm_spec.proofs.ReplyExists.{step_exists}
-use Rattle.rmm_spec.proofs.StepParts.{step_decides, step_splits}
-use Rattle.rmm_spec.proofs.TagLaws.{tag-has_tag, with_tag-restored}
+use Rattle.rmm_spec.specs.Rows.{ok}
+use Rattle.rmm_spec.specs.State.{State}
+use Rattle.rmm_spec.specs.Step.{outcome, CarriesOut, Step}
+use Rattle.rmm_spec.specs.Step.Ripas.{IsReached, reached_change}
+use Rattle.rmm_laws.proofs.Ends.{outcome-end}
+use Rattle.rmm_laws.proofs.Tests.{both_ways}
 
--- ---- the rows of each command
+-- the first word of a reply
+first_word : Reply → ℕ
+first_word (reply.Ok words) = slice_index words.items 0
+first_word (reply.Err status index) = 0
+first_word reply.Misplaced = 0
 
--- DELEGATE: the granule has to be the host's, and is lent
-unfoldable pub delegate-by_rows : (old : State) (cpu : ℕ) (words : List ℕ) → ByRows old (DelegatesGranule old cpu words)
-unfolding DelegatesGranule
-delegate-by_rows old cpu words =
-    let g = slice_index words 0 in
-    by_rows-fixed old _ (outside old cpu ∷ tagged old g Undelegated ∷ []) [] (with_tag old g Delegated) (refl, (refl, tt)) (λ _ _ p. p) (λ _ _ p. p)
+-- the word of a reply of one word
+word_of : (a b : ℕ) → ok (a ∷ []) ≡ ok (b ∷ []) → a ≡ b
+unfolding first_word
+word_of a b same = ap first_word same
 
--- UNDELEGATE: the granule has to wait for use, and is given back
-unfoldable pub undelegate-by_rows : (old : State) (cpu : ℕ) (words : List ℕ) → ByRows old (UndelegatesGranule old cpu words)
-unfolding UndelegatesGranule
-undelegate-by_rows old cpu words =
-    let g = slice_index words 0 in
-    by_rows-fixed old _ (outside old cpu ∷ tagged old g Delegated ∷ []) [] (with_tag old g Undelegated) (refl, (refl, tt)) (λ _ _ p. p) (λ _ _ p. p)
+-- a reply decides the next state
+carried-decides : (found : Result Accepted Reply) (old : State) (given : Reply) (a b : State)
+    → CarriesOut found old given a → CarriesOut found old given b → a ≡ b
+carried-decides (Err refusal) old given a b p q = p.1 ∙ sym q.1
+carried-decides (Ok (Done words change)) old given a b p q = p.1 ∙ sym q.1
+carried-decides (Ok (Reaches stretch)) old given a b (top, (_, is_ok, is_next)) (other, (_, other_ok, other_next)) =
+    is_next ∙ ap (λ end. changed old (reached_change stretch end)) (word_of top other (sym is_ok ∙ other_ok)) ∙ sym other_next
 
--- ---- of all commands
+-- a reply other than an acceptance changes nothing
+refused-unchanged : (found : Result Accepted Reply) (old : State) (given : Reply) (new : State)
+    → CarriesOut found old given new → is_accepted given ≡ false → new ≡ old
+refused-unchanged (Err refusal) old given new p refused = p.1
+refused-unchanged (Ok (Done words change)) old given new p refused = both_ways (rw p.0 refl) refused
+refused-unchanged (Ok (Reaches stretch)) old given new (top, (_, is_ok, _)) refused = both_ways (rw is_ok refl) refused
 
--- a reply has at most one next state
-pub step-decides : (old a b : State) (cpu : ℕ) (command : Command) (given : Reply)
-    → Step old cpu command given a → Step old cpu command given b → a ≡ b
-step-decides old a b cpu command given p q = step_decides command.function old cpu command.words.items given a b p q
+-- some reply has a next state, where each stretch has an end
+carried-exists : (found : Result Accepted Reply) (old : State) → ((stretch : Stretch) → found ≡ Ok (Reaches stretch) → (top : ℕ) × IsReached old stretch top)
+    → (given : Reply) × (next : State) × CarriesOut found old given next
+carried-exists (Err refusal) old ends = (refusal, old, (refl, refl))
+carried-exists (Ok (Done words change)) old ends = (reply.Ok words, changed old change, (refl, refl))
+carried-exists (Ok (Reaches stretch)) old ends =
+    let end = ends stretch refl in (ok (end.0 ∷ []), changed old (reached_change stretch end.0), (end.0, (end.1, refl, refl)))
 
--- a command has a reply
-pub step-exists : (old : State) (cpu : ℕ) (command : Command) → (given : Reply) × (new : State) × Step old cpu command given new
-step-exists old cpu command = step_exists command.function old cpu command.words.items
+-- ---- steps
 
--- a refusal changes nothing
-pub step-refuses : (old new : State) (cpu : ℕ) (command : Command) (given : Reply)
-    → Step old cpu command given new → IsRefusal given → new ≡ old
-step-refuses old new cpu command given p refusal =
-    elim (step_splits command.function old cpu command.words.items given new p) [ inl q ↦ q.1 | inr q ↦ both_ways q.0 refusal ]
+-- a reply decides the next state
+pub step-decides : (old a b : State) (cpu : ℕ) (command : Command) (given : Reply) → Step old cpu command given a → Step old cpu command given b → a ≡ b
+step-decides old a b cpu command given = carried-decides (outcome old cpu (call_of command)) old given a b
 
--- whatever a command is answered, it keeps what it may not change
-pub step-keeps : (old new : State) (cpu : ℕ) (command : Command) (given : Reply)
-    → Step old cpu command given new → KeepsOthers (changed_parts command.function) old new
-step-keeps old new cpu command given p =
-    elim (step_splits command.function old cpu command.words.items given new p) [
-      | inl q ↦ rw q.1 (record { granules = refl; tags = λ _. refl; realms = λ _. refl; recs = λ _. refl; tables = λ _. refl; leaves = λ _. refl })
-      | inr q ↦ q.1
-    ]
+-- a reply other than an acceptance changes nothing
+pub step-refuses : (old next : State) (cpu : ℕ) (command : Command) (given : Reply) → Step old cpu command given next → is_accepted given ≡ false → next ≡ old
+step-refuses old next cpu command given = refused-unchanged (outcome old cpu (call_of command)) old given next
 
--- ---- what is done can be undone
-
--- an accepted command's rows hold, and its rest decides
-by_rows-accepted : (old : State) (Relation : Reply → State → Type 0) → (by : ByRows old Relation)
-    → (given : Reply) (new : State) → Relation given new → IsTrue (is_accepted given) → AllHold by.rows × by.Rest given new
-by_rows-accepted old Relation by given new p accepted =
-    elim (by_rows-split old Relation by given new p) [ inl q ↦ q | inr q ↦ both_ways accepted q.0 ]
-
--- a granule that is lent and taken back leaves the state as it was
-pub undelegate-delegate : (old middle new : State) (cpu other : ℕ) (words : List ℕ)
-    → DelegatesGranule old cpu words (ok []) middle → UndelegatesGranule middle other words (ok []) new → new ≡ old
-unfolding delegate-by_rows undelegate-by_rows by_rows-fixed
-undelegate-delegate old middle new cpu other words lent taken =
-    let g = slice_index words 0 in
-    let first = by_rows-accepted old _ (delegate-by_rows old cpu words) (ok []) middle lent refl in
-    let second = by_rows-accepted middle _ (undelegate-by_rows middle other words) (ok []) new taken refl in
-    let free : old.tag g ≡ Undelegated = tag-has_tag old g Undelegated first.0.1.0 in
-    second.1.1 ∙ ap (λ (s : State). with_tag s g Undelegated) first.1.1
-    ∙ ap (λ tag. with_tag (with_tag old g Delegated) g tag) (sym free) ∙ with_tag-restored old g Delegated
+-- some reply has a next state
+pub step-exists : (old : State) (cpu : ℕ) (command : Command) → (given : Reply) × (next : State) × Step old cpu command given next
+step-exists old cpu command = carried-exists (outcome old cpu (call_of command)) old (outcome-end old cpu (call_of command))

@@ -2,15 +2,14 @@
 
 ghost use Rattle.std.specs.Prelude.{◌≡◌, ℕ, take, List, [], false};
 ghost use Rattle.rmm_spec.specs.declared.command.Command.{Command};
+ghost use Rattle.rmm_spec.specs.declared.function_id.FunctionId.TheVariants.{GranuleDelegate, GranuleUndelegate};
 ghost use Rattle.rmm_spec.specs.declared.reply.Reply.{Reply};
-ghost use Rattle.rmm_spec.specs.HistoryText.{Setup, History};
-ghost use Rattle.rmm_spec.specs.State.{State, opening};
+ghost use Rattle.rmm_spec.specs.State.{State};
 ghost use Rattle.rmm_spec.specs.Rows.{ok};
 ghost use Rattle.rmm_spec.specs.Step.{Step};
-ghost use Rattle.rmm_spec.specs.Step.Granule.{DelegatesGranule, UndelegatesGranule};
-ghost use Rattle.rmm_spec.specs.Run.{JournalEntry, IsRun, AreServed};
-ghost use Rattle.rmm_spec.specs.Ownership.{is_accepted, IsIsolated};
-ghost use Rattle.rmm_spec.specs.Judgement.{IsIsolatedThroughout};
+ghost use Rattle.rmm_spec.specs.Run.{JournalEntry, IsRun};
+ghost use Rattle.rmm_spec.specs.Ownership.{is_accepted};
+ghost use Rattle.rmm_laws.specs.Commands as commands;
 
 /// A reply has at most one next state, so who knows a run's commands and replies knows its states.
 pub fn reply_decides()
@@ -33,16 +32,9 @@ pub fn refusals_change_nothing()
 /// A granule that is delegated and then undelegated leaves the state as it was.
 pub fn undelegation_restores()
     ensures { (old middle next : State) (cpu other : ℕ) (words : List ℕ)
-        → DelegatesGranule old cpu words (ok []) middle → UndelegatesGranule middle other words (ok []) next
+        → Step old cpu (commands.command GranuleDelegate words) (ok []) middle
+        → Step middle other (commands.command GranuleUndelegate words) (ok []) next
         → next ≡ old }
-{}
-
-/// After every run of commands that are served, and so after each first part of one, no granule is more than one realm's.
-pub fn runs_are_isolated()
-    ensures isolated { (setup : Setup) (entries : List JournalEntry) (last : State)
-        → AreServed entries → IsRun (opening setup) entries last → IsIsolated entries last }
-    ensures throughout { (history : History) (entries : List JournalEntry)
-        → AreServed entries → IsIsolatedThroughout history entries }
 {}
 
 /// Each first part of a run is a run, so that the states of `runs_are_isolated` are there.

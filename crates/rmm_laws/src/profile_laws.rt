@@ -1,19 +1,18 @@
 //! Laws of the whole profile that would fail if a row were mistyped: each is the contract of a function that does nothing.
 
-ghost use Rattle.std.specs.Prelude.{◌≡◌, ℕ, ◌^◌, ◌<◌, ◌≤◌, List, [], ◌∷◌, Some, false, slice_index};
+ghost use Rattle.std.specs.Prelude.{◌≡◌, ℕ, ◌^◌, ◌<◌, ◌≤◌, List, [], ◌∷◌, ◌++◌, take, Some, false, slice_index};
 ghost use Rattle.rmm_spec.specs.declared.command.Command.{Command};
+ghost use Rattle.rmm_spec.specs.declared.function_id.FunctionId.TheVariants.{RealmCreate, DataCreateUnknown, RttInitRipas, RttSetRipas};
 ghost use Rattle.rmm_spec.specs.declared.reply.Reply.{Reply};
-ghost use Rattle.rmm_spec.specs.HistoryText.{Setup};
-ghost use Rattle.rmm_spec.specs.State.{State, RealmRecord, opening};
+ghost use Rattle.rmm_spec.specs.State.{State, opening};
 ghost use Rattle.rmm_spec.specs.Walk.{table_number, is_table, entry_for, reach, IsWalk};
 ghost use Rattle.rmm_spec.specs.Rows.{ok};
 ghost use Rattle.rmm_spec.specs.Step.{Step};
-ghost use Rattle.rmm_spec.specs.Step.Data.{CreatesUnknownData};
-ghost use Rattle.rmm_spec.specs.Step.Realm.{CreatesRealm};
-ghost use Rattle.rmm_spec.specs.Run.{JournalEntry, IsRun};
+ghost use Rattle.rmm_spec.specs.Run.{IsRun};
 ghost use Rattle.rmm_spec.specs.Script as script;
 ghost use Rattle.rmm_spec.specs.Script.{script_setup};
-ghost use Rattle.rmm_spec.specs.Change.{KeepsOthers, changed_parts};
+ghost use Rattle.rmm_spec.specs.Footprint.{KeepsOthers, changed_parts};
+ghost use Rattle.rmm_laws.specs.Commands as commands;
 
 /// Whatever a command is answered, it keeps the maps that it isn't listed with.
 pub fn commands_keep_other_maps()
@@ -36,16 +35,9 @@ pub fn walks_end_unlinked()
 /// The root of a realm that was just made covers every address of the realm's space, and a walk to its level ends at it.
 pub fn fresh_root_covers_space()
     ensures { (old next : State) (cpu ipa : ℕ) (words : List ℕ)
-        → CreatesRealm old cpu words (ok []) next → ipa < 2 ^ slice_index words 2
+        → Step old cpu (commands.command RealmCreate words) (ok []) next → ipa < 2 ^ slice_index words 2
         → let rd = slice_index words 0 in let level = slice_index words 3 in
         IsWalk next rd ipa level level (slice_index words 1) (entry_for next rd level ipa) }
-{}
-
-/// After every run, a walk to a realm's start level ends at the realm's root.
-pub fn walks_begin_at_root()
-    ensures { (setup : Setup) (entries : List JournalEntry) (s : State) (rd ipa : ℕ) (realm : RealmRecord)
-        → IsRun (opening setup) entries s → s.realm rd ≡ Some realm → ipa < 2 ^ realm.width
-        → IsWalk s rd ipa realm.start_level realm.start_level realm.root (entry_for s rd realm.start_level ipa) }
 {}
 
 /// The worked scripts are runs: the definitions give each of their replies.
@@ -64,5 +56,13 @@ pub fn worked_scripts_are_runs()
 /// After the script that gives a page of one realm to another, the machine doesn't accept that.
 pub fn a_page_is_given_once()
     ensures { (last next : State) → IsRun (opening script_setup) script.data_granule_mapped_twice last
-        → CreatesUnknownData last 0 (0x6000 ∷ 0x5000 ∷ 0 ∷ []) (ok []) next → ⊥ }
+        → Step last 0 (commands.command DataCreateUnknown (0x6000 ∷ 0x5000 ∷ 0 ∷ [])) (ok []) next → ⊥ }
+{}
+
+/// A reply that says more was done than the definitions allow makes no run.
+pub fn longer_stretches_are_no_runs()
+    ensures past_the_table { (last : State) → IsRun (opening script_setup)
+        (take 15 script.ripas_change_past_table ++ script.answered RttSetRipas (0x1000 ∷ 0x5000 ∷ 0x1ff000 ∷ 0x201000 ∷ []) (ok (0x201000 ∷ [])) ∷ []) last → ⊥ }
+    ensures over_a_page { (last : State) → IsRun (opening script_setup)
+        (take 11 script.ripas_before_a_realm_runs ++ script.answered RttInitRipas (0x1000 ∷ 0 ∷ 0x3000 ∷ []) (ok (0x2000 ∷ [])) ∷ []) last → ⊥ }
 {}

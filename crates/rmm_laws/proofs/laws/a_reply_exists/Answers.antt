@@ -1,5 +1,5 @@
-use Rattle.rmm_spec.proofs.laws.a_reply_exists.Goals as goal
-use Rattle.rmm_spec.proofs.StepLaws.{step-exists}
+use Rattle.rmm_laws.proofs.StepLaws.{step-exists}
+use Rattle.rmm_laws.proofs.laws.a_reply_exists.Goals as goal
 
 pub returns : goal.returns
 returns c = step-exists

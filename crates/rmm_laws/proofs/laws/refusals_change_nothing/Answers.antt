@@ -1,5 +1,5 @@
-use Rattle.rmm_spec.proofs.laws.refusals_change_nothing.Goals as goal
-use Rattle.rmm_spec.proofs.StepLaws.{step-refuses}
+use Rattle.rmm_laws.proofs.StepLaws.{step-refuses}
+use Rattle.rmm_laws.proofs.laws.refusals_change_nothing.Goals as goal
 
 pub returns : goal.returns
 returns c = step-refuses

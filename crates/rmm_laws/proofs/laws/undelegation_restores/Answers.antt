@@ -1,5 +1,5 @@
-use Rattle.rmm_spec.proofs.laws.undelegation_restores.Goals as goal
-use Rattle.rmm_spec.proofs.StepLaws.{undelegate-delegate}
+use Rattle.rmm_laws.proofs.Accepts.{undelegated-delegated}
+use Rattle.rmm_laws.proofs.laws.undelegation_restores.Goals as goal
 
 pub returns : goal.returns
-returns c = undelegate-delegate
+returns c = undelegated-delegated

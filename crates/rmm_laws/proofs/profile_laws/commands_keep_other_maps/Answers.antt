@@ -1,5 +1,5 @@
-use Rattle.rmm_spec.proofs.profile_laws.commands_keep_other_maps.Goals as goal
-use Rattle.rmm_spec.proofs.StepLaws.{step-keeps}
+use Rattle.rmm_laws.proofs.Steps.{step-keeps}
+use Rattle.rmm_laws.proofs.profile_laws.commands_keep_other_maps.Goals as goal
 
 pub returns : goal.returns
 returns c = step-keeps

@@ -1,5 +1,5 @@
-use Rattle.rmm_spec.proofs.profile_laws.fresh_root_covers_space.Goals as goal
-use Rattle.rmm_spec.proofs.RealmLaws.{fresh_root}
+use Rattle.rmm_laws.proofs.Accepts.{fresh-root}
+use Rattle.rmm_laws.proofs.profile_laws.fresh_root_covers_space.Goals as goal
 
 pub returns : goal.returns
-returns c = fresh_root
+returns c = fresh-root

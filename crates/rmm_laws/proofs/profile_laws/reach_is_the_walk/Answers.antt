@@ -1,5 +1,5 @@
-use Rattle.rmm_spec.proofs.profile_laws.reach_is_the_walk.Goals as goal
 use Rattle.rmm_spec.proofs.WalkLaws.{reach-is_walk}
+use Rattle.rmm_laws.proofs.profile_laws.reach_is_the_walk.Goals as goal
 
 pub returns : goal.returns
 returns c = reach-is_walk

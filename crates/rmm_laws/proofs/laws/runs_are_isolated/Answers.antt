@@ -1,8 +1,0 @@
-use Rattle.rmm_spec.proofs.laws.runs_are_isolated.Goals as goal
-use Rattle.rmm_spec.proofs.Isolation.{run-isolated, isolated_throughout}
-
-pub returns-clause-isolated : goal.returns-clause-isolated
-returns-clause-isolated c = run-isolated
-
-pub returns-clause-throughout : goal.returns-clause-throughout
-returns-clause-throughout c = isolated_throughout
