@@ -8,7 +8,8 @@ ghost use Rattle.rmm_spec.specs.State.{is_granule};
 use crate::pa::Pa;
 use std::marker::Model;
 
-const GRANULE_BYTES: u64 = 4096;
+/// How many bytes a granule has.
+pub const GRANULE_BYTES: u64 = 4096;
 
 /// How many granules and CPUs a machine has, within the limits of both.
 #[derive(Clone, Copy, Debug, PartialEq, Eq)]
@@ -59,8 +60,8 @@ impl Config {
     }
 }
 
-#[tactic(auto, using(std::proofs::lemmas::Bool::Decides::nat_tests), unfolding(rmm_spec::specs::State::is_granule))]
 /// The granule that begins at an address, or nothing where none does.
+#[tactic(auto, using(std::proofs::lemmas::Bool::Decides::nat_tests), unfolding(rmm_spec::specs::State::is_granule))]
 pub fn granule_at(config: &Config, address: u64) -> Option<Pa>
     ensures { SomeIff result (IsTrue (is_granule config.now.granules address)) address }
 {

@@ -1,5 +1,5 @@
 -- Realms and RECs as the records of the definitions, and how the records give them back.
-use Rattle.std.specs.Prelude.{◌≡◌, ℕ, Bool, ◌==◌, if◌then◌else◌, Option, Some, None, option_map, refl}
+use Rattle.std.specs.Prelude.{◌≡◌, ℕ, ◌==◌, if◌then◌else◌, Option, Some, None, option_map, refl}
 use Rattle.rmm_spec.specs.State as spec
 use Rattle.rmm_spec.specs.State.{RealmRecord, RecRecord, Pending}
 use Rattle.realm_desc.specs.declared.hash_algorithm.HashAlgorithm.{HashAlgorithm}
@@ -28,10 +28,6 @@ space_of width = if width == 0x27 then Bits39 else Bits48
 -- the word that stands for a hash
 abbrev pub algorithm_number : HashAlgorithm → ℕ
 algorithm_number Sha256 = 0
-
--- the word of REC_CREATE that says whether a REC may run
-abbrev pub flags_of : Bool → ℕ
-flags_of runnable = if runnable then 1 else 0
 
 -- why a REC waits, in the definitions' words
 abbrev pub pending_of : PendingExit → Pending

@@ -22,7 +22,7 @@ impl HashAlgorithm {
     }
 
     /// The word that stands for it.
-    pub fn number(self) -> u64
+    pub fn number(self) -> u8
         ensures { result ≡ algorithm_number self }
     {
         match self {

@@ -1,11 +1,10 @@
 //! A realm, and what the commands on realms and RECs do to it.
 
 ghost use Rattle.std.specs.Prelude.{◌≡◌, ◌==◌, ◌&&◌, nat_lt, IsTrue};
-ghost use Rattle.rmm_spec.specs.declared.tag.RealmState.TheVariants as realm_state;
+ghost use Rattle.rmm_spec.specs.declared.change.RealmUpdate.TheVariants.{Activated, RecCounted};
 ghost use Rattle.rmm_spec.specs.State as spec;
-ghost use Rattle.rmm_spec.specs.Step.Realm.{new_realm};
-ghost use Rattle.rmm_spec.specs.Step.Rec.{with_next_rec};
-ghost use Rattle.realm_desc.specs.View.{width_of, level_of, algorithm_number, flags_of};
+ghost use Rattle.rmm_spec.specs.Change.{new_realm, realm_updated};
+ghost use Rattle.realm_desc.specs.View.{width_of, level_of, algorithm_number};
 
 use crate::hash_algorithm::HashAlgorithm;
 use crate::space::Space;
@@ -58,7 +57,11 @@ impl Realm {
             algorithm,
             root,
             next_index: 0,
-            rim: begin(space.width(), space.start_level(), algorithm.number()),
+            rim: begin(
+                u64::from(space.width()),
+                u64::from(space.start_level()),
+                u64::from(algorithm.number()),
+            ),
             rems: [Rem::start(); 4],
         }
     }
@@ -71,9 +74,9 @@ impl Realm {
     }
 
     /// Lets it run, and be built no further.
+    #[tactic(auto, unfolding(crate::specs::View::realm_record, rmm_spec::specs::Change::realm_updated))]
     pub fn activate(&mut self)
-        requires { IsTrue (spec.is_new self.old) }
-        ensures { self.new ≡ record self.old { state = realm_state.Active } }
+        ensures { self.new ≡ realm_updated Activated self.old }
     {
         self.state = RealmState::Active;
     }
@@ -86,17 +89,14 @@ impl Realm {
     }
 
     /// Counts and measures one REC more.
-    #[tactic(auto, unfolding(crate::specs::View::realm_record, rmm_spec::specs::Function::number_of))]
-    pub fn add_rec(&mut self, index: u8, runnable: bool)
+    #[tactic(auto, unfolding(crate::specs::View::realm_record, rmm_spec::specs::Change::realm_updated, rmm_spec::specs::Function::number_of))]
+    pub fn count_rec(&mut self, index: u8, flags: u64)
         requires { IsTrue (index == self.old.next_index && nat_lt index 8) }
-        ensures { self.new ≡ with_next_rec self.old index (flags_of runnable) }
+        ensures { self.new ≡ realm_updated (RecCounted index flags) self.old }
     {
         self.next_index += 1;
         let function = FunctionId::RecCreate.number();
-        self.rim = extend_words(
-            &self.rim,
-            &[function, u64::from(index), u64::from(runnable)],
-        );
+        self.rim = extend_words(&self.rim, &[function, u64::from(index), flags]);
     }
 
     pub fn state(&self) -> RealmState

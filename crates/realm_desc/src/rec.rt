@@ -1,8 +1,8 @@
 //! A REC, one virtual CPU of a realm.
 
 ghost use Rattle.std.specs.Prelude.{◌≡◌, is_none, option_map};
-ghost use Rattle.rmm_spec.specs.Step.Rec.{new_rec};
-ghost use Rattle.realm_desc.specs.View.{flags_of, pending_of};
+ghost use Rattle.rmm_spec.specs.Change.{new_rec};
+ghost use Rattle.realm_desc.specs.View.{pending_of};
 
 use crate::pending_exit::PendingExit;
 use crate::ripas_request::RipasRequest;
@@ -39,16 +39,16 @@ impl Model for Rec {
 
 #[tactic(auto, unfolding(crate::specs::View::rec_record))]
 impl Rec {
-    /// A REC that was just made: it runs on no CPU, and asks for nothing.
-    pub fn new(owner: Pa, index: u8, runnable: bool, aux0: Pa, aux1: Pa) -> Self
-        ensures { result ≡ new_rec owner index (flags_of runnable) aux0 aux1 }
+    /// A REC that was just made: it runs on no CPU, and asks for nothing. It may run where the flags are 1.
+    pub fn new(owner: Pa, index: u8, flags: u64, aux0: Pa, aux1: Pa) -> Self
+        ensures { result ≡ new_rec owner index flags aux0 aux1 }
     {
         Rec {
             owner,
             index,
             aux0,
             aux1,
-            runnable,
+            runnable: flags == 1,
             cpu: None,
             request: None,
             pending: None,

@@ -11,7 +11,7 @@ pub enum Space {
 
 impl Space {
     ghost use Rattle.std.specs.Prelude.{◌≡◌, ◌↔◌, IfSome, IsSome, IsTrue};
-    ghost use Rattle.rmm_spec.specs.Step.Realm.{is_space};
+    ghost use Rattle.rmm_spec.specs.Step.Words.{is_space};
     ghost use Rattle.realm_desc.specs.View.{width_of, level_of};
 
     /// The space of that width whose root is at that level.
@@ -28,7 +28,7 @@ impl Space {
     }
 
     /// How many bits its addresses have.
-    pub fn width(self) -> u64
+    pub fn width(self) -> u8
         ensures { result ≡ width_of self }
     {
         match self {
@@ -38,7 +38,7 @@ impl Space {
     }
 
     /// The level of its root.
-    pub fn start_level(self) -> u64
+    pub fn start_level(self) -> u8
         ensures { result ≡ level_of self }
     {
         match self {

@@ -27,14 +27,14 @@ fn rim_of_two_recs(rt: HostRuntime) -> Result<(), Fail> {
         "39f3ce61f3cc5d6d7208f6b0fecbf6b39274b4605fe90e6ae686b056168c2241"
     );
     assert!(rt; realm.takes_index(0) && !realm.takes_index(1));
-    realm.add_rec(0, true);
+    realm.count_rec(0, 1);
     // the 32 bytes above, 5a0100c400000000 0000000000000000 0100000000000000
     assert_eq!(rt;
         hex(rt.alloc(), realm.rim().as_bytes())?.as_str(),
         "a42c396228319368e7b1e21d4c3c557a6247a50bcf242fc4f8892370b922d36e"
     );
     assert!(rt; realm.takes_index(1) && !realm.takes_index(0));
-    realm.add_rec(1, false);
+    realm.count_rec(1, 0);
     // the 32 bytes above, 5a0100c400000000 0100000000000000 0000000000000000
     assert_eq!(rt;
         hex(rt.alloc(), realm.rim().as_bytes())?.as_str(),
@@ -82,14 +82,14 @@ fn ninth_rec_is_refused(rt: HostRuntime) {
     let mut realm = new_realm(Space::Bits39);
     for index in 0..8u8 {
         assert!(rt; realm.takes_index(u64::from(index)), "at {index}");
-        realm.add_rec(index, false);
+        realm.count_rec(index, 0);
     }
     assert!(rt; !realm.takes_index(8));
 }
 
 #[test]
 fn a_new_rec_waits(rt: HostRuntime) {
-    let rec = Rec::new(Pa::new(0x1000), 3, true, Pa::new(0x6000), Pa::new(0x7000));
+    let rec = Rec::new(Pa::new(0x1000), 3, 1, Pa::new(0x6000), Pa::new(0x7000));
     assert!(rt; rec.is_ready() && rec.is_runnable());
     assert_eq!(rt; rec.index(), 3);
     assert_eq!(rt; rec.aux0().address(), 0x6000);

@@ -1,7 +1,7 @@
 -- How the flat state reads and changes with what is kept.
-use Rattle.std.proofs.Common.{◌≡◌, ℕ, ◌*◌, ◌/◌, ◌%◌, ◌<◌, ◌==◌, nat_lt, Bool, true, false, if◌then◌else◌, ◌≢◌, Option, None, Some, IsSomeAnd, List, length, IsTrue, refl, sym, subst, ◌∙◌, ap, arith, slice_index_or, slice_set, replicate}
+use Rattle.std.proofs.Common.{◌≡◌, ℕ, ◌*◌, ◌/◌, ◌%◌, ◌<◌, ◌==◌, nat_lt, Bool, true, false, if◌then◌else◌, ◌≢◌, Option, None, Some, List, length, IsTrue, refl, sym, ◌∙◌, ap, arith, slice_index_or, slice_set, replicate}
 use Rattle.std.proofs.lemmas.Bool.{and_parts, eqb-true, eq-eqb, ltb-true, ltb-false, false_from_ne_true}
-use Rattle.std.proofs.lemmas.List.{get_or-replicate, get_or_past, get_or_default, get_or-set_same, get_or-set_other, length-replicate}
+use Rattle.std.proofs.lemmas.List.{get_or-replicate, get_or_past, get_or_default, get_or-set_same, get_or-set_other, length-replicate, length-set}
 use denote.Enum.Bare.{sameb}
 use Rattle.rmm_spec.specs.contracts.tag.Tag.{the_type}
 use Rattle.rmm_spec.specs.declared.entry.Entry.TheVariants.{Unassigned, UnassignedNs}
@@ -9,11 +9,10 @@ use Rattle.rmm_spec.specs.declared.tag.Ripas.TheVariants.{Empty}
 use Rattle.rmm_spec.specs.declared.tag.Tag.{Tag}
 use Rattle.rmm_spec.specs.declared.tag.Tag.TheVariants.{Undelegated}
 use Rattle.rmm_spec.specs.HistoryText.{Setup}
-use Rattle.rmm_spec.specs.State.{RealmRecord, RecRecord, opening, with_tag, with_realm, without_realm, with_root, is_spot, tag_number, is_granule, has_tag}
-use Rattle.rmm_spec.proofs.RowLaws.{both_ways}
-use Rattle.rmm_spec.proofs.TagLaws.{sameb-tag_number}
-use Rattle.spec_machine.specs.declared.store.Store.{Store}
-use Rattle.spec_machine.specs.Flat.{flat, kept_at, root_table, root_leaf}
+use Rattle.rmm_spec.specs.State.{State, RealmRecord, RecRecord, opening, with_realm, without_realm, with_root, is_spot, tag_number, is_granule, has_tag}
+use Rattle.rmm_spec.proofs.Tests.{both_ways}
+use Rattle.rmm_spec.proofs.TagLaws.{sameb-tag_number, granule_from_tag}
+use Rattle.spec_machine.specs.Flat.{flat, kept_at, with_roots, root_table, root_leaf}
 
 -- ---- granules and their places
 
@@ -23,6 +22,10 @@ unfolding is_granule
 place_within granules address granule =
     let parts = and_parts (address % 4096 == 0) (nat_lt address (granules * 4096)) granule in
     omega (arith, ltb-true address (granules * 4096) parts.1)
+
+-- and for what has a tag
+pub place_tagged : (s : State) (address : ℕ) (tag : Tag) → IsTrue (has_tag s address tag) → address / 4096 < s.granules
+place_tagged s address tag has = place_within s.granules address (granule_from_tag s address tag has)
 
 -- no two granules have one place
 pub place-apart : (granules a b : ℕ) → IsTrue (is_granule granules a) → IsTrue (is_granule granules b) → a / 4096 ≡ b / 4096 → a ≡ b
@@ -52,7 +55,7 @@ get_or-replicate_all n i item true below = get_or-replicate n i item item (ltb-t
 get_or-replicate_all n i item false past =
     get_or_past (replicate n item) i item (omega (arith, ltb-false i n past, length-replicate n item))
 
-pub kept_at-replicate : {A : Type 0} → (granules n address : ℕ) (item : A) (b : Bool) → is_granule granules address ≡ b
+kept_at-replicate : {A : Type 0} → (granules n address : ℕ) (item : A) (b : Bool) → is_granule granules address ≡ b
     → kept_at granules (replicate n item) item address ≡ item
 kept_at-replicate granules n address item true granule = rw granule (get_or-replicate_all n (address / 4096) item (nat_lt (address / 4096) n) refl)
 kept_at-replicate granules n address item false none = rw none refl
@@ -73,145 +76,78 @@ kept_at-set_cases granules items default item address other false true placed fi
     both_ways (rw (← eqb-true other address same) at first) second
 kept_at-set_cases granules items default item address other false false placed first second apart = rw second refl
 
-pub kept_at-set : {A : Type 0} → (granules : ℕ) (items : List A) (default item : A) (address other : ℕ)
+-- a map with one place changed
+abbrev pub put : {A : Type 0} → (ℕ → A) → ℕ → A → ℕ → A
+put kept address item other = if other == address then item else kept other
+
+pub kept_at-set : {A : Type 0} → (granules : ℕ) (items : List A) (default item : A) (address : ℕ)
     → length items ≡ granules → IsTrue (is_granule granules address)
-    → kept_at granules (slice_set items (address / 4096) item) default other
-    ≡ (if other == address then item else kept_at granules items default other)
-kept_at-set granules items default item address other placed granule =
-    kept_at-set_cases granules items default item address other (is_granule granules other) (other == address) placed granule refl refl
+    → kept_at granules (slice_set items (address / 4096) item) default ≡ put (kept_at granules items default) address item
+kept_at-set granules items default item address placed granule = λ i. λ other.
+    kept_at-set_cases granules items default item address other (is_granule granules other) (other == address) placed granule refl refl i
 
--- ---- the lists of a store
+-- two items are changed, and three
+pub kept_at-set_two : {A : Type 0} → (granules : ℕ) (items : List A) (default first second : A) (a b : ℕ)
+    → length items ≡ granules → IsTrue (is_granule granules a) → IsTrue (is_granule granules b)
+    → kept_at granules (slice_set (slice_set items (a / 4096) first) (b / 4096) second) default
+    ≡ put (put (kept_at granules items default) a first) b second
+kept_at-set_two granules items default first second a b placed at_a at_b =
+    kept_at-set granules (slice_set items (a / 4096) first) default second b (length-set items (a / 4096) first ∙ placed) at_b
+    ∙ ap (λ kept. put kept b second) (kept_at-set granules items default first a placed at_a)
 
-pub tags-placed : (store : Store) → length store.tags.items ≡ store.config.granules
-tags-placed store = omega (arith, store.tags.ok.0, store.tags_placed)
+pub kept_at-set_three : {A : Type 0} → (granules : ℕ) (items : List A) (default first second third : A) (a b c : ℕ)
+    → length items ≡ granules → IsTrue (is_granule granules a) → IsTrue (is_granule granules b) → IsTrue (is_granule granules c)
+    → kept_at granules (slice_set (slice_set (slice_set items (a / 4096) first) (b / 4096) second) (c / 4096) third) default
+    ≡ put (put (put (kept_at granules items default) a first) b second) c third
+kept_at-set_three granules items default first second third a b c placed at_a at_b at_c =
+    kept_at-set_two granules (slice_set items (a / 4096) first) default second third b c (length-set items (a / 4096) first ∙ placed) at_b at_c
+    ∙ ap (λ kept. put (put kept b second) c third) (kept_at-set granules items default first a placed at_a)
 
-pub realms-placed : (store : Store) → length store.realms.items ≡ store.config.granules
-realms-placed store = omega (arith, store.realms.ok.0, store.realms_placed)
+-- ---- states by their roots
 
-pub recs-placed : (store : Store) → length store.recs.items ≡ store.config.granules
-recs-placed store = omega (arith, store.recs.ok.0, store.recs_placed)
-
--- ---- the flat state of a store
-
--- a store of which nothing is said stands for the opening
-pub flat-opening : (store : Store) (setup : Setup) (n : ℕ) → store.config ≡ setup → store.tags.items ≡ replicate n Undelegated
-    → store.realms.items ≡ replicate n None → store.recs.items ≡ replicate n None → flat store ≡ opening setup
+-- lists of which nothing is said stand for the opening
+pub flat-opening : (setup : Setup) (n : ℕ) → flat setup.granules (replicate n Undelegated) (replicate n None) (replicate n None) ≡ opening setup
 unfolding flat opening
-flat-opening store setup n size tags realms recs =
-    let granules : ℕ = store.config.granules in
-    let tag : (a : ℕ) → kept_at granules store.tags.items Undelegated a ≡ Undelegated =
-    λ a. ap (λ items. kept_at granules items Undelegated a) tags ∙ kept_at-replicate granules n a Undelegated (is_granule granules a) refl in
-    let realm : (a : ℕ) → kept_at granules store.realms.items None a ≡ None =
-    λ a. ap (λ items. kept_at granules items None a) realms ∙ kept_at-replicate granules n a None (is_granule granules a) refl in
-    let rec : (a : ℕ) → kept_at granules store.recs.items None a ≡ None =
-    λ a. ap (λ items. kept_at granules items None a) recs ∙ kept_at-replicate granules n a None (is_granule granules a) refl in
+flat-opening setup n =
+    let g : ℕ = setup.granules in
     λ i. record {
-      granules = (size i).granules;
-      tag = λ a. tag a i;
-      realm = λ a. realm a i;
-      rec = λ a. rec a i;
-      table = λ a. root_table (realm a i);
-      leaf = λ a. root_leaf (realm a i);
-    }
-
--- the realm there is looked up by its place, and a step at it follows
-realm-changed : (old new : Store) (rd : ℕ) (realm : Option RealmRecord) → IsTrue (is_granule old.config.granules rd)
-    → new.config ≡ old.config → new.realms.items ≡ slice_set old.realms.items (rd / 4096) realm
-    → (a : ℕ) → kept_at new.config.granules new.realms.items None a ≡ (if a == rd then realm else kept_at old.config.granules old.realms.items None a)
-realm-changed old new rd realm granule size changed a =
-    ap (λ (setup : Setup). kept_at setup.granules new.realms.items None a) size
-    ∙ ap (λ (items : List (Option RealmRecord)). kept_at old.config.granules items None a) changed
-    ∙ kept_at-set old.config.granules old.realms.items None realm rd a (realms-placed old) granule
-
-realm-same : (old new : Store) → new.config ≡ old.config → new.realms.items ≡ old.realms.items
-    → (a : ℕ) → kept_at new.config.granules new.realms.items None a ≡ kept_at old.config.granules old.realms.items None a
-realm-same old new size same a =
-    ap (λ (setup : Setup). kept_at setup.granules new.realms.items None a) size
-    ∙ ap (λ (items : List (Option RealmRecord)). kept_at old.config.granules items None a) same
-
-tag-same : (old new : Store) → new.config ≡ old.config → new.tags.items ≡ old.tags.items
-    → (a : ℕ) → kept_at new.config.granules new.tags.items Undelegated a ≡ kept_at old.config.granules old.tags.items Undelegated a
-tag-same old new size same a =
-    ap (λ (setup : Setup). kept_at setup.granules new.tags.items Undelegated a) size
-    ∙ ap (λ (items : List Tag). kept_at old.config.granules items Undelegated a) same
-
-rec-same : (old new : Store) → new.config ≡ old.config → new.recs.items ≡ old.recs.items
-    → (a : ℕ) → kept_at new.config.granules new.recs.items None a ≡ kept_at old.config.granules old.recs.items None a
-rec-same old new size same a =
-    ap (λ (setup : Setup). kept_at setup.granules new.recs.items None a) size
-    ∙ ap (λ (items : List (Option RecRecord)). kept_at old.config.granules items None a) same
-
--- the store with one tag changed stands for the state with one tag changed
-pub flat-with_tag : (old new : Store) (address : ℕ) (tag : Tag) → IsTrue (is_granule (flat old).granules address)
-    → new.config ≡ old.config → new.tags.items ≡ slice_set old.tags.items (address / 4096) tag
-    → new.realms.items ≡ old.realms.items → new.recs.items ≡ old.recs.items
-    → flat new ≡ with_tag (flat old) address tag
-unfolding flat
-flat-with_tag old new address tag granule size tags realms recs = λ i. record {
-  granules = (size i).granules;
-  tag = λ a. (ap (λ (setup : Setup). kept_at setup.granules new.tags.items Undelegated a) size
-      ∙ ap (λ (items : List Tag). kept_at old.config.granules items Undelegated a) tags
-      ∙ kept_at-set old.config.granules old.tags.items Undelegated tag address a (tags-placed old) granule) i;
-  realm = λ a. realm-same old new size realms a i;
-  rec = λ a. rec-same old new size recs a i;
-  table = λ a. root_table (realm-same old new size realms a i);
-  leaf = λ a. root_leaf (realm-same old new size realms a i);
-}
-
--- and so for a REC put in or taken out
-pub flat-rec : (old new : Store) (address : ℕ) (rec : Option RecRecord) → IsTrue (is_granule (flat old).granules address)
-    → new.config ≡ old.config → new.tags.items ≡ old.tags.items → new.realms.items ≡ old.realms.items
-    → new.recs.items ≡ slice_set old.recs.items (address / 4096) rec
-    → flat new ≡ record (flat old) { rec = λ other. if other == address then rec else (flat old).rec other }
-unfolding flat
-flat-rec old new address rec granule size tags realms recs = λ i. record {
-  granules = (size i).granules;
-  tag = λ a. tag-same old new size tags a i;
-  realm = λ a. realm-same old new size realms a i;
-  rec = λ a. (ap (λ (setup : Setup). kept_at setup.granules new.recs.items None a) size
-      ∙ ap (λ (items : List (Option RecRecord)). kept_at old.config.granules items None a) recs
-      ∙ kept_at-set old.config.granules old.recs.items None rec address a (recs-placed old) granule) i;
-  table = λ a. root_table (realm-same old new size realms a i);
-  leaf = λ a. root_leaf (realm-same old new size realms a i);
-}
-
--- a realm where none was has its root and nothing else
-root_table-added : (a rd l n : ℕ) (realm : RealmRecord) (old : Option RealmRecord) (b : Bool) → (a == rd) ≡ b → (b ≡ true → old ≡ None)
-    → root_table (if a == rd then Some realm else old) l n
-    ≡ (if is_spot rd realm.start_level 0 a l n then Some realm.root else root_table old l n)
-root_table-added a rd l n realm old true same none = rw (same, none refl) refl
-root_table-added a rd l n realm old false apart none = rw apart refl
-
-root_leaf-added : (a rd l n : ℕ) (realm : RealmRecord) (old : Option RealmRecord) (b : Bool) → (a == rd) ≡ b → (b ≡ true → old ≡ None)
-    → root_leaf (if a == rd then Some realm else old) l n
-    ≡ (if is_spot rd realm.start_level 0 a l (n / 512) then Some (if nat_lt n 256 then Unassigned Empty else UnassignedNs) else root_leaf old l n)
-root_leaf-added a rd l n realm old true same none = rw (same, none refl) refl
-root_leaf-added a rd l n realm old false apart none = rw apart refl
-
-pub flat-with_root : (old new : Store) (rd : ℕ) (realm : RealmRecord) → IsTrue (is_granule (flat old).granules rd) → (flat old).realm rd ≡ None
-    → new.config ≡ old.config → new.tags.items ≡ old.tags.items
-    → new.realms.items ≡ slice_set old.realms.items (rd / 4096) (Some realm) → new.recs.items ≡ old.recs.items
-    → flat new ≡ with_root (with_realm (flat old) rd realm) rd realm.start_level realm.root
-unfolding flat
-flat-with_root old new rd realm granule none size tags realms recs =
-    let changed = realm-changed old new rd (Some realm) granule size realms in
-    let was : (a : ℕ) → (a == rd) ≡ true → kept_at old.config.granules old.realms.items None a ≡ None =
-    λ a same. ap (λ x. kept_at old.config.granules old.realms.items None x) (eqb-true a rd same) ∙ none in
-    λ i. record {
-      granules = (size i).granules;
-      tag = λ a. tag-same old new size tags a i;
-      realm = λ a. changed a i;
-      rec = λ a. rec-same old new size recs a i;
-      table = λ a l n. (ap (λ (o : Option RealmRecord). root_table o l n) (changed a)
-          ∙ root_table-added a rd l n realm (kept_at old.config.granules old.realms.items None a) (a == rd) refl (was a)) i;
-      leaf = λ a l n. (ap (λ (o : Option RealmRecord). root_leaf o l n) (changed a)
-          ∙ root_leaf-added a rd l n realm (kept_at old.config.granules old.realms.items None a) (a == rd) refl (was a)) i;
+      granules = g;
+      tag = λ a. kept_at-replicate g n a Undelegated (is_granule g a) refl i;
+      realm = λ a. kept_at-replicate g n a None (is_granule g a) refl i;
+      rec = λ a. kept_at-replicate g n a None (is_granule g a) refl i;
+      table = λ a. root_table (kept_at-replicate {A = Option RealmRecord} g n a None (is_granule g a) refl i);
+      leaf = λ a. root_leaf (kept_at-replicate {A = Option RealmRecord} g n a None (is_granule g a) refl i);
     }
 
 -- what a realm's tables and leaves are read off
-abbrev IsSameRoot : Option RealmRecord → RealmRecord → Type 0
-IsSameRoot old realm = IsSomeAnd old (λ r. (r.root ≡ realm.root) × (r.start_level ≡ realm.start_level))
+abbrev pub IsSameRoot : Option RealmRecord → RealmRecord → Type 0
+IsSameRoot None realm = ⊥
+IsSameRoot (Some r) realm = (r.root ≡ realm.root) × (r.start_level ≡ realm.start_level)
 
+-- a realm where none was has its root and nothing else
+root_table-made : (a rd l n : ℕ) (realm : RealmRecord) (old : Option RealmRecord) (b : Bool) → (a == rd) ≡ b → (b ≡ true → old ≡ None)
+    → root_table (if a == rd then Some realm else old) l n
+    ≡ (if is_spot rd realm.start_level 0 a l n then Some realm.root else root_table old l n)
+root_table-made a rd l n realm old true same none = rw (same, none refl) refl
+root_table-made a rd l n realm old false apart none = rw apart refl
+
+root_leaf-made : (a rd l n : ℕ) (realm : RealmRecord) (old : Option RealmRecord) (b : Bool) → (a == rd) ≡ b → (b ≡ true → old ≡ None)
+    → root_leaf (if a == rd then Some realm else old) l n
+    ≡ (if is_spot rd realm.start_level 0 a l (n / 512) then Some (if nat_lt n 256 then Unassigned Empty else UnassignedNs) else root_leaf old l n)
+root_leaf-made a rd l n realm old true same none = rw (same, none refl) refl
+root_leaf-made a rd l n realm old false apart none = rw apart refl
+
+pub with_roots-made : (g rd : ℕ) (tag : ℕ → Tag) (old : ℕ → Option RealmRecord) (rec : ℕ → Option RecRecord) (realm : RealmRecord)
+    → old rd ≡ None
+    → with_roots g tag (put old rd (Some realm)) rec ≡ with_root (with_realm (with_roots g tag old rec) rd realm) rd realm.start_level realm.root
+with_roots-made g rd tag old rec realm none =
+    let was : (a : ℕ) → (a == rd) ≡ true → old a ≡ None = λ a same. ap old (eqb-true a rd same) ∙ none in
+    λ i. record (with_realm (with_roots g tag old rec) rd realm) {
+      table = λ a l n. root_table-made a rd l n realm (old a) (a == rd) refl (was a) i;
+      leaf = λ a l n. root_leaf-made a rd l n realm (old a) (a == rd) refl (was a) i;
+    }
+
+-- a realm that is replaced by one with the same root leaves tables and leaves as they are
 root_table-kept : (a rd l n : ℕ) (realm : RealmRecord) (old : Option RealmRecord) (b : Bool) → (a == rd) ≡ b → (b ≡ true → IsSameRoot old realm)
     → root_table (if a == rd then Some realm else old) l n ≡ root_table old l n
 root_table-kept a rd l n realm (Some r) true same root = rw (same, (root refl).0, (root refl).1) refl
@@ -224,28 +160,17 @@ root_leaf-kept a rd l n realm (Some r) true same root = rw (same, (root refl).1)
 root_leaf-kept a rd l n realm None true same root = absurd (root refl)
 root_leaf-kept a rd l n realm old false apart root = rw apart refl
 
--- a realm that is replaced by one with the same root leaves tables and leaves as they are
-pub flat-with_realm : (old new : Store) (rd : ℕ) (realm : RealmRecord) → IsTrue (is_granule (flat old).granules rd)
-    → IsSomeAnd ((flat old).realm rd) (λ r. (r.root ≡ realm.root) × (r.start_level ≡ realm.start_level))
-    → new.config ≡ old.config → new.tags.items ≡ old.tags.items
-    → new.realms.items ≡ slice_set old.realms.items (rd / 4096) (Some realm) → new.recs.items ≡ old.recs.items
-    → flat new ≡ with_realm (flat old) rd realm
-unfolding flat
-flat-with_realm old new rd realm granule root size tags realms recs =
-    let changed = realm-changed old new rd (Some realm) granule size realms in
-    let was : (a : ℕ) → (a == rd) ≡ true → IsSameRoot (kept_at old.config.granules old.realms.items None a) realm =
-    λ a same. subst (λ x. IsSameRoot (kept_at old.config.granules old.realms.items None x) realm) (sym (eqb-true a rd same)) root in
-    λ i. record {
-      granules = (size i).granules;
-      tag = λ a. tag-same old new size tags a i;
-      realm = λ a. changed a i;
-      rec = λ a. rec-same old new size recs a i;
-      table = λ a l n. (ap (λ (o : Option RealmRecord). root_table o l n) (changed a)
-          ∙ root_table-kept a rd l n realm (kept_at old.config.granules old.realms.items None a) (a == rd) refl (was a)) i;
-      leaf = λ a l n. (ap (λ (o : Option RealmRecord). root_leaf o l n) (changed a)
-          ∙ root_leaf-kept a rd l n realm (kept_at old.config.granules old.realms.items None a) (a == rd) refl (was a)) i;
+pub with_roots-kept : (g rd : ℕ) (tag : ℕ → Tag) (old : ℕ → Option RealmRecord) (rec : ℕ → Option RecRecord) (realm : RealmRecord)
+    → IsSameRoot (old rd) realm → with_roots g tag (put old rd (Some realm)) rec ≡ with_realm (with_roots g tag old rec) rd realm
+with_roots-kept g rd tag old rec realm same =
+    let was : (a : ℕ) → (a == rd) ≡ true → IsSameRoot (old a) realm =
+    λ a equal. rw (eqb-true a rd equal) same in
+    λ i. record (with_realm (with_roots g tag old rec) rd realm) {
+      table = λ a l n. root_table-kept a rd l n realm (old a) (a == rd) refl (was a) i;
+      leaf = λ a l n. root_leaf-kept a rd l n realm (old a) (a == rd) refl (was a) i;
     }
 
+-- a realm that is taken out takes its root with it
 root_table-removed : (l n : ℕ) (old : Option RealmRecord) (b : Bool) → root_table (if b then None else old) l n ≡ (if b then None else root_table old l n)
 root_table-removed l n old true = refl
 root_table-removed l n old false = refl
@@ -254,41 +179,26 @@ root_leaf-removed : (l n : ℕ) (old : Option RealmRecord) (b : Bool) → root_l
 root_leaf-removed l n old true = refl
 root_leaf-removed l n old false = refl
 
--- a realm that is taken out takes its root with it
-pub flat-without_realm : (old new : Store) (rd : ℕ) → IsTrue (is_granule (flat old).granules rd)
-    → new.config ≡ old.config → new.tags.items ≡ old.tags.items
-    → new.realms.items ≡ slice_set old.realms.items (rd / 4096) None → new.recs.items ≡ old.recs.items
-    → flat new ≡ without_realm (flat old) rd
-unfolding flat
-flat-without_realm old new rd granule size tags realms recs =
-    let changed = realm-changed old new rd None granule size realms in
-    λ i. record {
-      granules = (size i).granules;
-      tag = λ a. tag-same old new size tags a i;
-      realm = λ a. changed a i;
-      rec = λ a. rec-same old new size recs a i;
-      table = λ a l n. (ap (λ (o : Option RealmRecord). root_table o l n) (changed a)
-          ∙ root_table-removed l n (kept_at old.config.granules old.realms.items None a) (a == rd)) i;
-      leaf = λ a l n. (ap (λ (o : Option RealmRecord). root_leaf o l n) (changed a)
-          ∙ root_leaf-removed l n (kept_at old.config.granules old.realms.items None a) (a == rd)) i;
-    }
+pub with_roots-removed : (g rd : ℕ) (tag : ℕ → Tag) (old : ℕ → Option RealmRecord) (rec : ℕ → Option RecRecord)
+    → with_roots g tag (put old rd None) rec ≡ without_realm (with_roots g tag old rec) rd
+with_roots-removed g rd tag old rec = λ i. record (without_realm (with_roots g tag old rec) rd) {
+  table = λ a l n. root_table-removed l n (old a) (a == rd) i;
+  leaf = λ a l n. root_leaf-removed l n (old a) (a == rd) i;
+}
 
 -- ---- reading
 
 -- a granule has the tag that is kept for it
-pub has_tag-kept : (store : Store) (address : ℕ) (kept tag : Tag) → IsTrue (is_granule store.config.granules address)
-    → kept ≡ slice_index_or store.tags.items (address / 4096) kept → sameb the_type kept tag ≡ has_tag (flat store) address tag
+pub has_tag-kept : (granules : ℕ) (tags : List Tag) (realms : List (Option RealmRecord)) (recs : List (Option RecRecord)) (address : ℕ) (kept tag : Tag)
+    → length tags ≡ granules → IsTrue (is_granule granules address)
+    → kept ≡ slice_index_or tags (address / 4096) kept → sameb the_type kept tag ≡ has_tag (flat granules tags realms recs) address tag
 unfolding flat has_tag
-has_tag-kept store address kept tag granule read =
-    let same : kept ≡ kept_at store.config.granules store.tags.items Undelegated address =
-    kept_at-granule store.config.granules address store.tags.items Undelegated kept (tags-placed store) granule read in
-    sameb-tag_number kept tag ∙ ap (λ t. tag_number t == tag_number tag) same
+has_tag-kept granules tags realms recs address kept tag placed granule read =
+    sameb-tag_number kept tag
+    ∙ ap (λ t. tag_number t == tag_number tag) (kept_at-granule granules address tags Undelegated kept placed granule read)
     ∙ rw granule refl
 
 -- what is no granule has no tag
-pub has_tag-none : (store : Store) (address : ℕ) (tag : Tag) → (IsTrue (is_granule store.config.granules address) → ⊥)
-    → false ≡ has_tag (flat store) address tag
-unfolding flat has_tag
-has_tag-none store address tag none =
-    let fails : is_granule store.config.granules address ≡ false = false_from_ne_true (is_granule store.config.granules address) none in
-    sym (rw fails refl)
+pub has_tag-none : (s : State) (address : ℕ) (tag : Tag) → (IsTrue (is_granule s.granules address) → ⊥) → false ≡ has_tag s address tag
+unfolding has_tag
+has_tag-none s address tag none = rw (false_from_ne_true (is_granule s.granules address) none) refl

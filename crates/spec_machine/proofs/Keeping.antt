@@ -6,7 +6,7 @@ use Rattle.rmm_spec.specs.declared.tag.Tag.{Tag}
 use Rattle.rmm_spec.specs.declared.tag.Tag.TheVariants.{Delegated, Rd, Rec, RecAux, Rtt}
 use Rattle.rmm_spec.specs.HistoryText.{Setup}
 use Rattle.rmm_spec.specs.State.{State, RealmRecord, RecRecord, opening, with_tag, with_realm, tag_number, is_granule, has_tag, has_vmid, is_owned_by, is_vmid_used, has_rec, is_inside, runs_on, any_below}
-use Rattle.rmm_spec.proofs.RowLaws.{both_ways}
+use Rattle.rmm_spec.proofs.Tests.{both_ways}
 use Rattle.rmm_spec.proofs.TagLaws.{granule_from_tag}
 use Rattle.spec_machine.specs.Kept.{IsSound, IsKept, has_root, is_free, names, count_below, rec_count}
 use Rattle.spec_machine.proofs.Flats.{place_within, place-apart, get_or-replicate_all}
@@ -318,14 +318,3 @@ aux1-granule s a rec sound there = granule_from_tag s rec.aux1 RecAux (rec_granu
 pub owner-granule : (s : State) (a : ℕ) (rec : RecRecord) → IsSound s → s.rec a ≡ Some rec → IsTrue (is_granule s.granules rec.owner)
 owner-granule s a rec sound there =
     sound.owners a rec.owner (ap (is_owned_by rec.owner) there ∙ eq-eqb rec.owner rec.owner refl)
-
--- tags that are changed one after another
-pub tagged-twice : (s a b : State) (x y z : ℕ) (first second : Tag) → a ≡ with_tag s x first → b ≡ with_tag a y second → y ≡ z
-    → b ≡ with_tag (with_tag s x first) z second
-tagged-twice s a b x y z first second once twice same =
-    twice ∙ ap (λ (t : State). with_tag t y second) once ∙ ap (λ n. with_tag (with_tag s x first) n second) same
-
--- the item that is there
-pub there-some : {A : Type 0} → (o : Option A) (P : A → Type 0) → IsSomeAnd o P → (x : A) × (o ≡ Some x) × P x
-there-some (Some x) P fact = (x, refl, fact)
-there-some None P fact = absurd fact

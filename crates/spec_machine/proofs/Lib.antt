@@ -3,5 +3,6 @@ pub mod Tags
 pub mod Counts
 pub mod Soundness
 pub mod Keeping
-pub mod Decided
 pub mod Roots
+pub mod Changes
+pub mod Rows

@@ -5,7 +5,7 @@ use Rattle.rmm_spec.specs.declared.tag.Tag.{Tag}
 use Rattle.rmm_spec.specs.declared.tag.Tag.TheVariants.{Delegated, Rd, Rec, RecAux, Rtt}
 use Rattle.rmm_spec.specs.HistoryText.{Setup}
 use Rattle.rmm_spec.specs.State.{State, RealmRecord, RecRecord, opening, with_tag, with_realm, without_realm, with_root, with_rec, without_rec, tag_number, is_granule, has_tag, is_owned_by, runs_on}
-use Rattle.rmm_spec.proofs.RowLaws.{both_ways}
+use Rattle.rmm_spec.proofs.Tests.{both_ways}
 use Rattle.rmm_spec.proofs.TagLaws.{granule_from_tag}
 use Rattle.spec_machine.specs.Kept.{IsSound, has_root, has_aux, is_free}
 use Rattle.spec_machine.proofs.Tags.{has_tag-apart, has_tag-free, has_tag-put, has_tag-taken, has_tag-kept}

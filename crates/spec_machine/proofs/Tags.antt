@@ -3,7 +3,7 @@ use Rattle.std.proofs.Common.{◌≡◌, ℕ, ◌==◌, ◌&&◌, ◌||◌, nat_
 use Rattle.std.proofs.lemmas.Bool.{and_parts, eqb-true, eq-eqb}
 use Rattle.rmm_spec.specs.declared.tag.Tag.{Tag}
 use Rattle.rmm_spec.specs.State.{State, with_tag, tag_number, is_granule, has_tag}
-use Rattle.rmm_spec.proofs.RowLaws.{both_ways}
+use Rattle.rmm_spec.proofs.Tests.{both_ways}
 use Rattle.rmm_spec.proofs.TagLaws.{tag-has_tag, granule_from_tag}
 use Rattle.spec_machine.specs.Kept.{is_free}
 

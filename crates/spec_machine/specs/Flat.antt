@@ -3,9 +3,9 @@ use Rattle.std.specs.Prelude.{ℕ, ◌/◌, ◌&&◌, nat_lt, ◌==◌, if◌the
 use Rattle.rmm_spec.specs.declared.entry.Entry.{Entry}
 use Rattle.rmm_spec.specs.declared.entry.Entry.TheVariants.{Unassigned, UnassignedNs}
 use Rattle.rmm_spec.specs.declared.tag.Ripas.TheVariants.{Empty}
+use Rattle.rmm_spec.specs.declared.tag.Tag.{Tag}
 use Rattle.rmm_spec.specs.declared.tag.Tag.TheVariants.{Undelegated}
-use Rattle.rmm_spec.specs.State.{State, RealmRecord, is_granule}
-use Rattle.spec_machine.specs.declared.store.Store.{Store}
+use Rattle.rmm_spec.specs.State.{State, RealmRecord, RecRecord, is_granule}
 
 -- what is kept for an address, with one item a granule; what is no granule has the default
 abbrev pub kept_at : {A : Type 0} → ℕ → List A → A → ℕ → A
@@ -24,12 +24,17 @@ root_leaf (Some realm) level number =
     if level == realm.start_level && number / 512 == 0 then Some (if nat_lt number 256 then Unassigned Empty else UnassignedNs) else None
 
 -- no command that is served changes a table or a leaf, so they are read off the realms
-unfoldable pub flat : Store → State
-flat store = record {
-  granules = store.config.granules;
-  tag = kept_at store.config.granules store.tags.items Undelegated;
-  realm = kept_at store.config.granules store.realms.items None;
-  rec = kept_at store.config.granules store.recs.items None;
-  table = λ rd. root_table (kept_at store.config.granules store.realms.items None rd);
-  leaf = λ rd. root_leaf (kept_at store.config.granules store.realms.items None rd);
+abbrev pub with_roots : ℕ → (ℕ → Tag) → (ℕ → Option RealmRecord) → (ℕ → Option RecRecord) → State
+with_roots granules tag realm rec = record {
+  granules = granules;
+  tag = tag;
+  realm = realm;
+  rec = rec;
+  table = λ rd. root_table (realm rd);
+  leaf = λ rd. root_leaf (realm rd);
 }
+
+-- the state of so many granules, with one item of each list a granule
+unfoldable pub flat : ℕ → List Tag → List (Option RealmRecord) → List (Option RecRecord) → State
+flat granules tags realms recs =
+    with_roots granules (kept_at granules tags Undelegated) (kept_at granules realms None) (kept_at granules recs None)

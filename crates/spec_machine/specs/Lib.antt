@@ -1,3 +1,4 @@
 pub mod Flat
 pub mod Kept
+pub mod Served
 pub mod View

@@ -4,4 +4,4 @@ use Rattle.spec_machine.specs.declared.machine.Machine.{Machine}
 use Rattle.spec_machine.specs.Flat.{flat}
 
 unfoldable pub state_of : Machine → State
-state_of machine = flat machine.store
+state_of machine = flat machine.config.granules machine.tags.items machine.realms.items machine.recs.items

@@ -5,14 +5,15 @@
 //! The checker of histories stands on it.
 #![tactic(auto)]
 
+mod change;
 mod granule;
+mod granules;
 mod machine;
 mod realm;
 mod rec;
 mod reply;
-mod store;
 #[cfg(test)]
 mod tests;
 
 pub use machine::Machine;
-pub use rmm_spec::{Command, FunctionId, Reply};
+pub use rmm_spec::{Accepted, Command, FunctionId, Reply};

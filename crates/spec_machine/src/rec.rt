@@ -1,102 +1,74 @@
 //! The commands that make a REC and take it apart.
 
-ghost use Rattle.std.specs.Prelude.{◌≡◌, ◌==◌, ◌&&◌, not};
-
 use crate::machine::Machine;
-use crate::reply::{ERROR_INPUT, ERROR_REALM, ERROR_REC, is_err, is_misplaced, is_ok, word};
-use granule_state::Pa;
-use realm_desc::Rec;
-use rmm_spec::{Reply, Tag};
+use crate::reply::{done, input_error, realm_error, rec_error};
+use rmm_spec::{Accepted, Change, Reply, Tag};
 
 impl Machine {
-    ghost use Rattle.std.specs.Prelude.{◌≡◌, ◌&&◌, IsTrue, false};
-    ghost use Rattle.rmm_spec.specs.State.{State, has_tag};
-    ghost use Rattle.rmm_spec.specs.Step.Rec.{CreatesRec, DestroysRec};
+    ghost use Rattle.std.specs.Prelude.{◌≡◌};
+    ghost use Rattle.rmm_spec.specs.Step.Rec.{rec_create, rec_destroy};
     ghost use Rattle.spec_machine.specs.View.{state_of};
 
-    pub(crate) fn create_rec(&mut self, cpu: u8, words: &[u64], reply: &Reply) -> bool
-        ensures step { IsTrue result
-            → CreatesRec (state_of self.old) cpu words.now reply.now (state_of self.new) }
-        ensures only { result ≡ false → (next : State)
-            → ¬ CreatesRec (state_of self.old) cpu words.now reply.now next }
-        ensures kept { result ≡ false → state_of self.new ≡ state_of self.old }
+    #[tactic(auto, unfolding(rmm_spec::specs::Step::Rec::rec_create, rmm_spec::specs::Step::Words::words_of, rmm_spec::specs::Step::Named::named, rmm_spec::specs::State::realm_at))]
+    pub(crate) fn rec_create(
+        &self,
+        rd: u64,
+        rec: u64,
+        mpidr: u64,
+        flags: u64,
+        aux0: u64,
+        aux1: u64,
+    ) -> Result<Accepted, Reply>
+        ensures { result ≡ rec_create (state_of self.now) rd rec mpidr flags aux0 aux1 }
     {
-        let rd = word(words, 0);
-        let address = word(words, 1);
-        let index = word(words, 2);
-        let flags = word(words, 3);
-        let aux0 = word(words, 4);
-        let aux1 = word(words, 5);
-        if self.is_inside(cpu) {
-            return is_misplaced(reply);
-        }
-        if !are_apart(address, aux0, aux1) {
-            return is_err(reply, ERROR_INPUT, 0);
+        if !(rec != aux0 && rec != aux1 && aux0 != aux1) {
+            return Err(input_error());
         }
         if flags > 1 {
-            return is_err(reply, ERROR_INPUT, 0);
+            return Err(input_error());
         }
-        let Some(mut realm) = self.realm(rd) else {
-            return is_err(reply, ERROR_INPUT, 0);
+        let Some(realm) = self.realm(rd) else {
+            return Err(input_error());
         };
-        if !self.are_delegated(address, aux0, aux1) {
-            return is_err(reply, ERROR_INPUT, 0);
+        if !self.has_tag(rec, Tag::Delegated) {
+            return Err(input_error());
+        }
+        if !self.has_tag(aux0, Tag::Delegated) {
+            return Err(input_error());
+        }
+        if !self.has_tag(aux1, Tag::Delegated) {
+            return Err(input_error());
         }
         if !realm.is_new() {
-            return is_err(reply, ERROR_REALM, 0);
+            return Err(realm_error(0));
         }
-        if !realm.takes_index(index) {
-            return is_err(reply, ERROR_INPUT, 0);
+        if !realm.takes_index(mpidr) {
+            return Err(input_error());
         }
-        if !is_ok(reply, &[]) {
-            return false;
-        }
-        let (index, runnable) = (index as u8, flags == 1);
-        let rec = Rec::new(Pa::new(rd), index, runnable, Pa::new(aux0), Pa::new(aux1));
-        self.add_rec(address, rec);
-        realm.add_rec(index, runnable);
-        self.set_realm(rd, realm);
-        true
+        Ok(done(Change::RecMade {
+            rd,
+            rec,
+            mpidr: mpidr as u8,
+            flags,
+            aux0,
+            aux1,
+        }))
     }
 
-    pub(crate) fn destroy_rec(&mut self, cpu: u8, words: &[u64], reply: &Reply) -> bool
-        ensures step { IsTrue result
-            → DestroysRec (state_of self.old) cpu words.now reply.now (state_of self.new) }
-        ensures only { result ≡ false → (next : State)
-            → ¬ DestroysRec (state_of self.old) cpu words.now reply.now next }
-        ensures kept { result ≡ false → state_of self.new ≡ state_of self.old }
+    #[tactic(auto, unfolding(rmm_spec::specs::Step::Rec::rec_destroy, rmm_spec::specs::Step::Words::words_of, rmm_spec::specs::Step::Named::named, rmm_spec::specs::State::rec_at))]
+    pub(crate) fn rec_destroy(&self, address: u64) -> Result<Accepted, Reply>
+        ensures { result ≡ rec_destroy (state_of self.now) address }
     {
-        let address = word(words, 0);
-        if self.is_inside(cpu) {
-            return is_misplaced(reply);
-        }
         let Some(rec) = self.rec(address) else {
-            return is_err(reply, ERROR_INPUT, 0);
+            return Err(input_error());
         };
         if !rec.is_ready() {
-            return is_err(reply, ERROR_REC, 0);
+            return Err(rec_error());
         }
-        if !is_ok(reply, &[]) {
-            return false;
-        }
-        self.remove_rec(address, rec);
-        true
+        Ok(done(Change::RecDestroyed {
+            rec: address,
+            aux0: rec.aux0().address(),
+            aux1: rec.aux1().address(),
+        }))
     }
-
-    // Whether all three are delegated granules.
-    fn are_delegated(&self, a: u64, b: u64, c: u64) -> bool
-        ensures { result ≡ (has_tag (state_of self.now) a Tag.Delegated && has_tag (state_of self.now) b Tag.Delegated
-            && has_tag (state_of self.now) c Tag.Delegated) }
-    {
-        self.has_tag(a, Tag::Delegated)
-            && self.has_tag(b, Tag::Delegated)
-            && self.has_tag(c, Tag::Delegated)
-    }
-}
-
-// Whether no two of the three are equal.
-fn are_apart(a: u64, b: u64, c: u64) -> bool
-    ensures { result ≡ (not (a == b) && not (a == c) && not (b == c)) }
-{
-    a != b && a != c && b != c
 }

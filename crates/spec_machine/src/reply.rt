@@ -1,42 +1,45 @@
-//! Words of commands, and replies compared in place.
+//! Refusals and acceptances, as the definitions' rows say them, and replies compared in place.
 
-ghost use Rattle.std.specs.Prelude.{◌≡◌, ◌↔◌, IsTrue, slice_index};
-ghost use Rattle.rmm_spec.specs.Rows.{ok};
+ghost use Rattle.std.specs.Prelude.{◌≡◌, ◌↔◌, IsTrue, []};
+ghost use Rattle.rmm_spec.specs.Rows as rows;
 
-use rmm_spec::Reply;
+use arrayvec::ArrayVec;
+use rmm_spec::{Accepted, Change, Reply};
 
-/// A word of a command, or the state of what it names, doesn't fit the command (DEN0137, RMI_ERROR_INPUT).
-pub const ERROR_INPUT: u8 = 1;
+/// A word, or the state of what it names, doesn't fit the command (DEN0137, RMI_ERROR_INPUT).
+pub fn input_error() -> Reply
+    ensures { result ≡ rows.input_error }
+{
+    Reply::Err(1, 0)
+}
 
 /// The realm has come too far for the command, or not far enough (DEN0137, RMI_ERROR_REALM).
-pub const ERROR_REALM: u8 = 2;
-
-/// The REC runs (DEN0137, RMI_ERROR_REC).
-pub const ERROR_REC: u8 = 3;
-
-/// A word of a command. One that isn't there counts as zero.
-pub fn word(words: &[u64], index: usize) -> u64
-    ensures { result ≡ slice_index words.now index }
+pub fn realm_error(index: u8) -> Reply
+    ensures { result ≡ rows.realm_error index }
 {
-    words.get(index).copied().unwrap_or(0)
+    Reply::Err(2, index)
+}
+
+/// The REC is in no state for the command (DEN0137, RMI_ERROR_REC).
+pub fn rec_error() -> Reply
+    ensures { result ≡ rows.rec_error }
+{
+    Reply::Err(3, 0)
+}
+
+/// The change is made, and the reply has no words.
+pub fn done(change: Change) -> Accepted
+    ensures { result ≡ rows.done [] change }
+{
+    Accepted::Done {
+        words: ArrayVec::new(),
+        change,
+    }
 }
 
 /// Whether the command was carried out and gave these words.
-pub fn is_ok(reply: &Reply, words: &[u64]) -> bool
-    ensures { IsTrue result ↔ (reply.now ≡ ok words.now) }
+pub fn is_ok(reply: &Reply, words: &ArrayVec<u64, 10>) -> bool
+    ensures { IsTrue result ↔ (reply.now ≡ Reply.Ok words.now) }
 {
-    matches!(reply, Reply::Ok(given) if given.as_slice() == words)
-}
-
-/// Whether the reply is this status with this index.
-pub fn is_err(reply: &Reply, status: u8, index: u8) -> bool
-    ensures { IsTrue result ↔ (reply.now ≡ Reply.Err status index) }
-{
-    matches!(reply, Reply::Err(s, i) if *s == status && *i == index)
-}
-
-pub fn is_misplaced(reply: &Reply) -> bool
-    ensures { IsTrue result ↔ (reply.now ≡ Reply.Misplaced) }
-{
-    matches!(reply, Reply::Misplaced)
+    matches!(reply, Reply::Ok(given) if given.as_slice() == words.as_slice())
 }
