@@ -17,8 +17,8 @@ use Rattle.rmm_spec.proofs.Texts.{AllByRecursion-append}
 -- a reply at the end leaves the earlier lines as they are
 line_of-push : (replies : List Reply) (reply : Reply) (name : Named) → HasReply (length replies) name → line_of (replies ++ reply ∷ []) name ≡ line_of replies name
 line_of-push replies reply (named.Keep cpu number) has = refl
-line_of-push replies reply (named.Unfinished cpu number place) has =
-    ap (λ r. line.Unfinished cpu number r) (get_or_append_left replies (reply ∷ []) Misplaced place has)
+line_of-push replies reply (named.Unfinished cpu number index) has =
+    ap (λ r. line.Unfinished cpu number r) (get_or_append_left replies (reply ∷ []) Misplaced index has)
 
 lines_of-push_reply : (names : List Named) (replies : List Reply) (reply : Reply) → AllByRecursion (HasReply (length replies)) names
     → lines_of names (replies ++ reply ∷ []) ≡ lines_of names replies
@@ -31,7 +31,7 @@ lines_of-push_reply (name ∷ names) replies reply each =
 -- more replies leave each name its own
 HasReply-more : (count : ℕ) (name : Named) → HasReply count name → HasReply (count + 1) name
 HasReply-more count (named.Keep cpu number) has = tt
-HasReply-more count (named.Unfinished cpu number place) has = let below : place < count = has in omega arith
+HasReply-more count (named.Unfinished cpu number index) has = let below : index < count = has in omega arith
 
 -- the lines after a kept one
 lines_of-keep : (names : List Named) (replies : List Reply) (cpu number : ℕ)

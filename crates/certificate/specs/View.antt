@@ -9,15 +9,15 @@ use Rattle.rmm_spec.specs.CertificateText.{IsCertificate}
 use Rattle.rmm_spec.specs.declared.reply.Reply.{Reply}
 use Rattle.rmm_spec.specs.declared.reply.Reply.TheVariants.{Misplaced}
 
--- the line of a name, whose reply stands at its place
+-- the line of a name, whose reply has its index
 abbrev pub line_of : List Reply → Named → Line
 line_of replies (named.Keep cpu number) = line.Keep cpu number
-line_of replies (named.Unfinished cpu number place) = line.Unfinished cpu number (slice_index_or replies place Misplaced)
+line_of replies (named.Unfinished cpu number index) = line.Unfinished cpu number (slice_index_or replies index Misplaced)
 
 -- a name's reply is there
 abbrev pub HasReply : ℕ → Named → Type 0
 HasReply count (named.Keep cpu number) = ⊤
-HasReply count (named.Unfinished cpu number place) = place < count
+HasReply count (named.Unfinished cpu number index) = index < count
 
 abbrev pub lines_of : List Named → List Reply → List Line
 lines_of names replies = map (line_of replies) names

@@ -10,11 +10,11 @@ use std::marker::Model;
 /// The most lines that a certificate has.
 pub const MOST_LINES: usize = 1_000_000;
 
-/// A line without its reply, which stands at a place among the replies.
+/// A line without its reply, which has an index among the replies.
 #[derive(Clone, Copy, Debug)]
 enum Named {
     Keep { cpu: u8, number: u32 },
-    Unfinished { cpu: u8, number: u32, place: u32 },
+    Unfinished { cpu: u8, number: u32, index: u32 },
 }
 
 const _: () = prove!(size_of::<Named>() <= 16);
@@ -85,17 +85,17 @@ impl Certificate {
         self.names.is_empty()
     }
 
-    /// The line at a place, counted from 0.
+    /// The line of an index, counted from 0.
     pub fn line(&self, i: usize) -> LineRef<'_>
         requires { i < length self.now.lines }
         ensures { slice_get self.now.lines i ≡ Some (line_seen result) }
     {
         match self.names[i] {
             Named::Keep { cpu, number } => LineRef::Keep { cpu, number },
-            Named::Unfinished { cpu, number, place } => LineRef::Unfinished {
+            Named::Unfinished { cpu, number, index } => LineRef::Unfinished {
                 cpu,
                 number,
-                reply: &self.replies[place as usize],
+                reply: &self.replies[index as usize],
             },
         }
     }
@@ -119,9 +119,9 @@ impl Certificate {
         let name = match line {
             Line::Keep { cpu, number } => Named::Keep { cpu, number },
             Line::Unfinished { cpu, number, reply } => {
-                let place = self.replies.len() as u32;
+                let index = self.replies.len() as u32;
                 self.replies.push(reply)?;
-                Named::Unfinished { cpu, number, place }
+                Named::Unfinished { cpu, number, index }
             }
         };
         self.names.push_reserved(name);

@@ -30,10 +30,6 @@ Contains-nil_among entry front parts rest part read next test =
     let whole : entry ≡ front ++ [] ∷ rest = read ∙ ap (λ ps. front ++ ps) (next ∙ ap (λ p. p ∷ rest) (sym (nil_from_test part test))) in
     subst P (sym whole) (Contains-among front [] rest)
 
--- an empty first part
-pub Contains-nil_first : (parts rest : List (List ℕ)) (part : List ℕ) → parts ≡ part ∷ rest → (length part == 0) ≡ true → Contains parts []
-Contains-nil_first parts rest part next test = Contains-nil_among parts [] parts rest part refl next test
-
 pub Any-read : (P : List ℕ → Type 0) (entry front parts rest : List (List ℕ)) (part : List ℕ) → entry ≡ front ++ parts → parts ≡ part ∷ rest → P part → Any P entry
 Any-read P entry front parts rest part read next h =
     let Q : List (List ℕ) → Type 0 = λ ps. Any P ps in
@@ -64,11 +60,6 @@ IsSmallFault-from_part BadForm parts none h = h
 pub BadWord-from_great : (parts rest : List (List ℕ)) (number : ℕ) → parts ≡ decimal number ∷ rest → 256 ≤ number → IsSmallFault BadWord parts
 BadWord-from_great parts rest number next great =
     Any-read IsNoByte parts [] parts rest (decimal number) refl next (λ n small same. let number-is = decimal-injective number n same in omega arith)
-
--- ten words are read, and a part is left
-pub more_than_ten : (xs : List ℕ) (entry parts rest : List (List ℕ)) (part : List ℕ) → length xs ≡ 10 → entry ≡ map word xs ++ parts → parts ≡ part ∷ rest → 10 < length entry
-more_than_ten xs entry parts rest part full read next =
-    omega (arith, ap length read, length-append (map word xs) parts, length-map xs word, ap length next)
 
 Any-cons : {X : Type 0} (P : X → Type 0) (x : X) (xs : List X) → Any P xs → Any P (x ∷ xs)
 Any-cons P x xs h = (h.0 + 1, h.1, omega (arith, h.2), rw (add-one h.0) h.3, h.4)
@@ -179,9 +170,3 @@ IsReplyFault-from_end BadForm rest h = λ form others e.
       (λ err. absurd (bytes_apart 109 101 refl (form-is ∙ ap (λ bytes. get_or bytes 0 0) err))),
       (λ _ over. h (tails ∙ over)),
     )
-
--- none of the three forms
-pub IsReplyFault-from_form : (form : List ℕ) (rest parts : List (List ℕ)) → parts ≡ form ∷ rest → form ≢ codes "ok" → form ≢ codes "err" → form ≢ codes "misplaced" → IsReplyFault BadForm parts
-IsReplyFault-from_form form rest parts next ok err misplaced = λ other others e.
-    let same : form ≡ other = ap (λ ps. get_or ps 0 []) (sym next ∙ e) in
-    ((λ is. absurd (ok (same ∙ is))), (λ is. absurd (err (same ∙ is))), (λ is. absurd (misplaced (same ∙ is))))

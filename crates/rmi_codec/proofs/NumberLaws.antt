@@ -101,12 +101,6 @@ le_from_SpellsSoFar base part count number (suc n) big so_far e =
     let number-is = ap (number_from_digits base) digits ∙ number_digits_of base number big in
     omega (arith, le, back, number-is)
 
--- a number below a power has as many digits at most
-pub length-numeral-le : (base k n : ℕ) → 2 ≤ base → 0 < k → n < base ^ k → length (numeral base n) ≤ k
-length-numeral-le base k zero big some small = omega (arith, ap length (numeral-zero base))
-length-numeral-le base k (suc n) big some small =
-    omega (arith, ap length (numeral_some base (suc n) (omega arith)), length-map (digits_of base (suc n)) glyph, length-digits_of-le base k (suc n) big small)
-
 -- the last digit stands behind the digits above it
 pub digits_more : (base n : ℕ) → 2 ≤ base → 0 < n → map glyph (digits_of base n) ≡ map glyph (digits_of base (n / base)) ++ glyph (n % base) ∷ []
 digits_more base n big some =
@@ -144,13 +138,6 @@ SpellsFixed-more part count number d inside so_far small is =
           ∙ sym digits;
       small = omega arith;
     }
-
--- so few digits have room in 64 bits
-pub SpellsFixed-room : (part : List ℕ) (count number : ℕ) → count < 8 → SpellsFixed part count number → number < 16 ^ 8
-SpellsFixed-room part count number few so_far =
-    let small = so_far.small in
-    let powers : 16 ^ count ≤ 16 ^ 8 = pow-le-pow_right (lit< tt) {i = count} {j = 8} (omega arith) in
-    omega arith
 
 fixed_hex-digits : (count n : ℕ) → AllByRecursion (IsDigit 16) (fixed_hex count n)
 fixed_hex-digits zero n = rw (fixed_hex-zero n) tt

@@ -115,18 +115,6 @@ words_go_on xs ws entry (part ∷ rest) read some none are_words e =
     let among = word_among xs ws entry (part ∷ rest) rest part read refl are_words e in
     none among.0 rest among.1 (ap (λ p. p ∷ rest) among.2)
 
--- one word more is read
-pub words_read-more : (xs : List ℕ) (w : ℕ) (entry parts rest : List (List ℕ)) (part : List ℕ) → entry ≡ map word xs ++ parts → parts ≡ part ∷ rest → part ≡ word w → entry ≡ map word (xs ++ w ∷ []) ++ rest
-words_read-more xs w entry parts rest part read next is =
-    read ∙ ap (λ ps. map word xs ++ ps) (next ∙ ap (λ p. p ∷ rest) is)
-    ∙ sym (append_assoc (map word xs) (word w ∷ []) rest)
-    ∙ ap (λ ps. ps ++ rest) (sym (map-append word xs (w ∷ [])))
-
--- how many words there are, where one part is left behind those that were read
-pub words_left : (xs ws : List ℕ) (entry parts rest : List (List ℕ)) (part : List ℕ) → entry ≡ map word xs ++ parts → parts ≡ part ∷ rest → entry ≡ map word ws → length xs < length ws
-words_left xs ws entry parts rest part read next e =
-    omega (arith, ap length (sym e ∙ read), length-append (map word xs) parts, length-map ws word, length-map xs word, ap length next)
-
 -- ---- replies
 
 pub reply_parts-ok : (r : Reply) (rest : List (List ℕ)) → IsReply r → codes "ok" ∷ rest ≡ reply_parts r → (ws : ArrayVec ℕ) × (r ≡ reply.Ok ws) × (rest ≡ map word ws.items) × (length ws.items ≤ 10) × AreWords ws.items

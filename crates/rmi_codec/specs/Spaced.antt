@@ -7,6 +7,6 @@ abbrev pub spaced : List (List ℕ) → List ℕ
 spaced [] = []
 spaced (part ∷ parts) = 32 ∷ part ++ spaced parts
 
--- the parts behind a place of a line: its end or a space
+-- the parts behind the end of a line's first part
 abbrev pub parts_behind : ℕ → List ℕ → List (List ℕ)
 parts_behind end line = if end == length line then [] else parts_of (drop 1 (drop end line))

@@ -63,18 +63,18 @@ fn digit_below(byte: u8, base: u64) -> Option<u64>
     if digit < base { Some(digit) } else { None }
 }
 
-// Whether a part that stands before this place of a line ends there.
+// Whether a part of a line ends here: at a space or with the line.
 #[inline(always)]
-fn is_end(line: &[u8], place: usize) -> bool
-    requires { place ≤ length line.now }
-    ensures ended { IsTrue result → place < length line.now → get_or line.now place 0 ≡ 32 }
-    ensures inside { IsFalse result → place < length line.now }
-    ensures goes_on { IsFalse result → get_or line.now place 0 ≢ 32 }
+fn is_end(line: &[u8], end: usize) -> bool
+    requires { end ≤ length line.now }
+    ensures ended { IsTrue result → end < length line.now → get_or line.now end 0 ≡ 32 }
+    ensures inside { IsFalse result → end < length line.now }
+    ensures goes_on { IsFalse result → get_or line.now end 0 ≢ 32 }
 {
-    place == line.len() || line[place] == b' '
+    end == line.len() || line[end] == b' '
 }
 
-// The number of 64 bits that the first part of a line spells, with the place behind the part.
+// The number of 64 bits that the first part of a line spells, with the part's end.
 #[inline(always)]
 pub(crate) fn numeral_prefix(line: &[u8], base: u64) -> Option<(u64, usize)>
     requires least { 2 ≤ base }

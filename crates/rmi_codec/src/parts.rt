@@ -23,7 +23,7 @@ impl<'a> Model for Parts<'a> {
     ghost view = { λ p. if p.is_over then [] else parts_of p.rest.now };
 }
 
-// Where the first space stands.
+// The index of the first space.
 #[inline(always)]
 fn first_space(line: &[u8]) -> Option<usize>
     ensures { result ≡ position (λ byte. byte == 32) line.now }
@@ -31,7 +31,7 @@ fn first_space(line: &[u8]) -> Option<usize>
     line.iter().position(|byte| *byte == b' ')
 }
 
-// What stands behind a place of a line: its end or a space.
+// What stands behind the end of a line's first part.
 #[inline(always)]
 fn behind(line: &[u8], end: usize) -> Parts<'_>
     requires { end ≤ length line.now }

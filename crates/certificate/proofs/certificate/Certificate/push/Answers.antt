@@ -21,13 +21,13 @@ pushed c =
           (ap (λ x. x.replies.items) w.self-inside-is)
           c.self.invariant c.requires.is_line room
       | in-Unfinished+in_ok-push-in-Unfinished w ↦
-          let place_is : w.len-place.result ≡ length c.self.inside.replies.items = omega (arith, w.len-place.ensures, c.self.inside.replies.ok.0) in
+          let index_is : w.len-index.result ≡ length c.self.inside.replies.items = omega (arith, w.len-index.ensures, c.self.inside.replies.ok.0) in
           IsPushed-unfinished c.self.inside.names.items c.push_reserved.new.self.items c.self.inside.replies.items c.match-line.self-inside.replies.items
           c.args.line w.in-Unfinished.cpu w.in-Unfinished.number w.in-Unfinished.reply w.in-Unfinished.is
           (c.push_reserved.ensures.items ∙ ap (λ x. x.names.items ++ c.match-line.name ∷ []) w.self-inside-is
           ∙ ap (λ xs. xs ++ c.match-line.name ∷ []) c.in_ok-reserve.ensures.items
           ∙ ap (λ x. c.self.inside.names.items ++ x ∷ []) w.name-is
-          ∙ ap (λ n. c.self.inside.names.items ++ named.Unfinished w.in-Unfinished.cpu w.in-Unfinished.number n ∷ []) place_is)
+          ∙ ap (λ n. c.self.inside.names.items ++ named.Unfinished w.in-Unfinished.cpu w.in-Unfinished.number n ∷ []) index_is)
           (ap (λ x. x.replies.items) w.self-inside-is ∙ w.in_ok-push-in-Unfinished.ensures.items)
           c.self.invariant c.requires.is_line room
     ]
