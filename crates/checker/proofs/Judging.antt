@@ -14,7 +14,9 @@ use Rattle.rmm_spec.specs.Step.{Step}
 use Rattle.rmm_spec.specs.Linearization.{IsCalled, IsReturned, IsFinished, cpu_named, number_named, IsOfItsKind, IsTooLate, IsReplyOf, FailsBy}
 use Rattle.rmm_spec.proofs.Places.{one_call_place, one_return_place, finished_is_known}
 use Rattle.checker.specs.Progress.{Progress}
-use Rattle.checker.proofs.Calls.{HasOnePlaces}
+use Rattle.checker.specs.Replay.{IsDue, IsReplayOf}
+use Rattle.checker.specs.declared.replay.Replay.{Replay}
+use Rattle.checker.proofs.Calls.{HasOnePlaces, told_at_call}
 use Rattle.checker.proofs.Progress.{Follows, Progress-push}
 use Rattle.checker.proofs.Faults.{IsRefused-from_step, not-IsTooLate-from_latest, not-IsTooLate-unfinished}
 
@@ -89,31 +91,45 @@ unset_flag : (named : List Bool) (called : ℕ) (flag : Bool) → flag ≡ get_o
 unset_flag named called flag is_read unset = sym (subst (λ (b : Bool). b ≡ get_or named called b) unset is_read)
 
 -- a kept line of a finished call
-pub IsReady-kept : (history : History) → IsHistory history → (before : List Line) (named : List Bool) (latest : ℕ) (old : State)
-    → Progress history before named latest old → (cpu number called : ℕ) (command : Command) (flag : Bool) (returned : ℕ) (told : Reply)
-    → IsCalled history.events called cpu number command → flag ≡ get_or named called flag → flag ≡ false
-    → IsReturned history.events returned cpu number told → latest ≤ returned
-    → IsReady history before named (Keep cpu number) called command told
-IsReady-kept history is_history before named latest old progress cpu number called command flag returned told is_called is_read unset is_returned late = record {
+pub IsDue-kept : (replay : Replay) (history : History) → IsHistory history → (cpu number called : ℕ) (flag : Bool) (returned : ℕ) (told : Reply)
+    → (command : Command) × IsCalled history.events called cpu number command → flag ≡ get_or replay.named.items called flag → flag ≡ false
+    → IsReturned history.events returned cpu number told → replay.latest ≤ returned
+    → IsDue replay history (Keep cpu number) cpu called told
+IsDue-kept replay history is_history cpu number called flag returned told is_called is_read unset is_returned late = record {
+  of_cpu = refl;
   is_called = is_called;
-  unset = unset_flag named called flag is_read unset;
+  unset = unset_flag replay.named.items called flag is_read unset;
   kind = (returned, told, is_returned);
-  in_time = not-IsTooLate-from_latest history (HasOnePlaces-from_history history is_history) before named latest old (Keep cpu number) returned told
+  in_time = λ before progress. not-IsTooLate-from_latest history (HasOnePlaces-from_history history is_history) before _ _ _ (Keep cpu number) returned told
       progress is_returned late;
   is_given = (returned, is_returned);
 }
 
 -- an unfinished line of an unfinished call
-pub IsReady-unfinished : (history : History) (before : List Line) (named : List Bool) (cpu number called : ℕ) (command : Command) (flag : Bool) (claimed : Reply)
-    → IsCalled history.events called cpu number command → flag ≡ get_or named called flag → flag ≡ false
+pub IsDue-unfinished : (replay : Replay) (history : History) (cpu number called : ℕ) (flag : Bool) (claimed : Reply)
+    → (command : Command) × IsCalled history.events called cpu number command → flag ≡ get_or replay.named.items called flag → flag ≡ false
     → ¬ IsFinished history.events cpu number
-    → IsReady history before named (Unfinished cpu number claimed) called command claimed
-IsReady-unfinished history before named cpu number called command flag claimed is_called is_read unset unfinished = record {
+    → IsDue replay history (Unfinished cpu number claimed) cpu called claimed
+IsDue-unfinished replay history cpu number called flag claimed is_called is_read unset unfinished = record {
+  of_cpu = refl;
   is_called = is_called;
-  unset = unset_flag named called flag is_read unset;
+  unset = unset_flag replay.named.items called flag is_read unset;
   kind = unfinished;
-  in_time = not-IsTooLate-unfinished history.events before (Unfinished cpu number claimed) unfinished;
+  in_time = λ before progress. not-IsTooLate-unfinished history.events before (Unfinished cpu number claimed) unfinished;
   is_given = refl;
+}
+
+-- a line that is due waits for the machine alone
+pub IsReady-from_due : (replay : Replay) (history : History) (line : Line) (cpu called : ℕ) (given : Reply) → IsDue replay history line cpu called given
+    → (before : List Line) → IsReplayOf replay history before → (command : Command)
+    → (c : ℕ) × (n : ℕ) × IsCalled history.events called c n command
+    → IsReady history before replay.named.items line called command given
+IsReady-from_due replay history line cpu called given due before progress command made = record {
+  is_called = told_at_call history.events called (cpu_named line) (number_named line) command due.is_called made;
+  unset = due.unset;
+  kind = due.kind;
+  in_time = due.in_time before progress;
+  is_given = due.is_given;
 }
 
 -- what is said of None

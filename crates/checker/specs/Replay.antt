@@ -1,12 +1,12 @@
 -- What a replay holds, seen from the definitions.
-use Rattle.std.specs.Prelude.{◌≡◌, ℕ, true, max, List, [], ◌∷◌, ◌++◌, slice_set, Option, MatchOption}
+use Rattle.std.specs.Prelude.{◌≡◌, ℕ, true, false, max, List, [], ◌∷◌, ◌++◌, slice_set, slice_index_or, Option, MatchOption}
 use Rattle.rmm_spec.specs.declared.command.Command.{Command}
 use Rattle.rmm_spec.specs.declared.line.Line.{Line}
 use Rattle.rmm_spec.specs.declared.reply.Reply.{Reply}
 use Rattle.rmm_spec.specs.declared.verdict.Reason.{Reason}
 use Rattle.rmm_spec.specs.HistoryText.{History}
 use Rattle.rmm_spec.specs.Step.{Step}
-use Rattle.rmm_spec.specs.Linearization.{FailsBy}
+use Rattle.rmm_spec.specs.Linearization.{FailsBy, IsCalled, IsOfItsKind, IsReplyOf, IsTooLate, cpu_named, number_named}
 use Rattle.spec_machine.specs.View.{state_of}
 use Rattle.checker.specs.Progress.{Progress}
 use Rattle.checker.specs.declared.replay.Replay.{Replay}
@@ -25,3 +25,12 @@ pub record Commits (old new : Replay) (cpu called : ℕ) (command : Command) (gi
 abbrev pub JudgesLine : Option Reason → Replay → Replay → History → Line → Type 0
 JudgesLine why old new history line = (before : List Line) → IsReplayOf old history before
     → MatchOption why (IsReplayOf new history (before ++ line ∷ [])) (λ reason. FailsBy reason history.events before (state_of old.machine) line)
+
+-- the line names the call that was made there, which no line so far names, is of the call's kind and in time, and claims the reply
+pub record IsDue (replay : Replay) (history : History) (line : Line) (cpu called : ℕ) (given : Reply) : Type 0 where
+  pub of_cpu : cpu_named line ≡ cpu
+  pub is_called : (command : Command) × IsCalled history.events called (cpu_named line) (number_named line) command
+  pub unset : slice_index_or replay.named.items called false ≡ false
+  pub kind : IsOfItsKind history.events line
+  pub in_time : (before : List Line) → IsReplayOf replay history before → ¬ IsTooLate history.events before line
+  pub is_given : IsReplyOf history.events line given

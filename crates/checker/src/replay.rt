@@ -1,18 +1,20 @@
 //! What is kept of the lines so far.
 
-ghost use Rattle.std.specs.Prelude.{◌≡◌, ℕ, ◌<◌, ◌↔◌, List, [], length, IsTrue, IfOk, MatchOption};
+ghost use Rattle.std.specs.Prelude.{◌≡◌, ℕ, ◌<◌, ◌↔◌, List, [], length, IsTrue, IfOk, IfSome, IfNone, MatchOption};
 ghost use Rattle.std.specs.Bool.{MatchBool};
+ghost use Rattle.rmm_spec.specs.declared.command.Command.{Command};
 ghost use Rattle.rmm_spec.specs.declared.line.Line.{Line};
-ghost use Rattle.rmm_spec.specs.declared.line.Line.TheVariants as line;
+ghost use Rattle.certificate.specs.LineRef.{line_seen};
+ghost use Rattle.history.specs.Calls.{ArePlacesOf};
 ghost use Rattle.rmm_spec.specs.Function.{is_served};
 ghost use Rattle.rmm_spec.specs.HistoryText.{IsHistory};
 ghost use Rattle.rmm_spec.specs.State.{State};
 ghost use Rattle.rmm_spec.specs.Step.{Step};
-ghost use Rattle.rmm_spec.specs.Linearization.{IsFinished, IsFirstMissing};
+ghost use Rattle.rmm_spec.specs.Linearization.{IsCalled, IsFinished, IsFirstMissing, NamesCall, cpu_named, number_named};
 ghost use Rattle.checker.specs.Progress.{AreNamedBelow, IsFinishedCallAt, HasNoFinishedCall};
 
 use certificate::LineRef;
-use history::History;
+use history::{History, Places};
 use rmm_spec::{Command, Reason, Reply};
 use spec_machine::Machine;
 use std::alloc::{AllocError, Global};
@@ -27,8 +29,7 @@ pub(crate) struct Replay {
 }
 
 impl Replay {
-    ghost use Rattle.checker.specs.Replay.{IsReplayOf, Commits, JudgesLine};
-    ghost use Rattle.certificate.specs.LineRef.{line_seen};
+    ghost use Rattle.checker.specs.Replay.{IsReplayOf, Commits, IsDue, JudgesLine};
     ghost use Rattle.spec_machine.specs.View.{state_of};
 
     /// Before the first line.
@@ -54,70 +55,52 @@ impl Replay {
         requires counted { length self.old.named.items ≡ length history.now.recorded.events }
         ensures { IfOk result (λ why. JudgesLine why self.old self.new history.now.recorded (line_seen line.entry)) }
     {
-        match line {
-            LineRef::Keep { cpu, number } => self.take_kept(history, cpu, number),
-            LineRef::Unfinished { cpu, number, reply } => self.take_unfinished(
-                history, cpu, number, reply,
-            ),
-        }
-    }
-
-    fn take_kept(
-        &mut self,
-        history: &History,
-        cpu: u8,
-        number: u32,
-    ) -> Result<Option<Reason>, AllocError>
-        requires is_history { IsHistory history.now.recorded }
-        requires counted { length self.old.named.items ≡ length history.now.recorded.events }
-        ensures { IfOk result (λ why. JudgesLine why self.old self.new history.now.recorded (line.Keep cpu number)) }
-    {
-        let Some(places) = history.places_of(cpu, number) else {
+        let Some(places) = places_named(history, &line) else {
             return Ok(Some(Reason::Unknown));
         };
         if self.named[places.called as usize] {
             return Ok(Some(Reason::Repeated));
         }
-        let Some(returned) = places.returned else {
-            return Ok(Some(Reason::Kind));
-        };
-        if returned < self.latest {
-            return Ok(Some(Reason::Order));
+        match line {
+            LineRef::Keep { cpu, .. } => {
+                let Some(returned) = places.returned else {
+                    return Ok(Some(Reason::Kind));
+                };
+                if returned < self.latest {
+                    return Ok(Some(Reason::Order));
+                }
+                let Some(reply) = history.reply_at(returned as usize) else {
+                    unreachable!()
+                };
+                self.take_reply(history, cpu, places.called, &reply)
+            }
+            LineRef::Unfinished { cpu, reply, .. } => {
+                if places.returned.is_some() {
+                    return Ok(Some(Reason::Kind));
+                }
+                self.take_reply(history, cpu, places.called, reply)
+            }
         }
-        let Some(command) = history.command_at(places.called as usize) else {
-            unreachable!()
-        };
-        let Some(reply) = history.reply_at(returned as usize) else {
-            unreachable!()
-        };
-        let given = self.commit(cpu, places.called, &command, &reply)?;
-        Ok(if given { None } else { Some(Reason::Reply) })
     }
 
-    fn take_unfinished(
+    /// Takes the reply that a line claims of the call that was made at the place, where nothing but the machine can refuse it.
+    fn take_reply(
         &mut self,
         history: &History,
         cpu: u8,
-        number: u32,
+        called: u32,
         reply: &Reply,
     ) -> Result<Option<Reason>, AllocError>
         requires is_history { IsHistory history.now.recorded }
         requires counted { length self.old.named.items ≡ length history.now.recorded.events }
-        ensures { IfOk result (λ why. JudgesLine why self.old self.new history.now.recorded (line.Unfinished cpu number reply.now)) }
+        requires is_called { (number : ℕ) × (command : Command) × IsCalled history.now.recorded.events called cpu number command }
+        ensures { IfOk result (λ why. (line : Line) → IsDue self.old history.now.recorded line cpu called reply.now
+            → JudgesLine why self.old self.new history.now.recorded line) }
     {
-        let Some(places) = history.places_of(cpu, number) else {
-            return Ok(Some(Reason::Unknown));
-        };
-        if self.named[places.called as usize] {
-            return Ok(Some(Reason::Repeated));
-        }
-        if places.returned.is_some() {
-            return Ok(Some(Reason::Kind));
-        }
-        let Some(command) = history.command_at(places.called as usize) else {
+        let Some(command) = history.command_at(called as usize) else {
             unreachable!()
         };
-        let given = self.commit(cpu, places.called, &command, reply)?;
+        let given = self.commit(cpu, called, &command, reply)?;
         Ok(if given { None } else { Some(Reason::Reply) })
     }
 
@@ -159,6 +142,17 @@ impl Replay {
             }
         }
         None
+    }
+}
+
+/// The places of the call that a line names.
+fn places_named(history: &History, line: &LineRef<'_>) -> Option<Places>
+    ensures some { IfSome result (λ places. ArePlacesOf history.now.recorded.events (cpu_named (line_seen line.now)) (number_named (line_seen line.now)) places) }
+    ensures none { IfNone result (¬ NamesCall history.now.recorded.events (line_seen line.now)) }
+{
+    match line {
+        LineRef::Keep { cpu, number } => history.places_of(*cpu, *number),
+        LineRef::Unfinished { cpu, number, .. } => history.places_of(*cpu, *number),
     }
 }
 
