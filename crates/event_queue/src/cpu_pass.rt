@@ -111,9 +111,9 @@ impl CpuPass {
         ensures full { OnErr result (self.new ≡ self.old) }
         ensures cause { OnErr result (WasFull (ruled_capacity queue.now) self.old.cpus self.old.cpu self.old.events) }
     {
-        let number = self.next;
+        let (cpu, number) = (self.cpu, self.next);
         let event = Event::Called {
-            cpu: self.cpu,
+            cpu,
             number,
             command,
         };
@@ -144,11 +144,8 @@ impl CpuPass {
         ensures cause { OnErr result (WasFull (ruled_capacity queue.now) self.old.cpus self.old.cpu self.old.events) }
     {
         reply_has_text(&reply);
-        let event = Event::Returned {
-            cpu: self.cpu,
-            number: self.next - 1,
-            reply,
-        };
+        let (cpu, number) = (self.cpu, self.next - 1);
+        let event = Event::Returned { cpu, number, reply };
         match queue.push_as::<Records, R>(rt, &mut self.pass, event) {
             Ok(()) => {
                 self.is_open = false;

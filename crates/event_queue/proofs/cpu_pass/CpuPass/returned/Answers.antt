@@ -3,8 +3,8 @@ use Rattle.event_queue.proofs.Stands.{open_has_called, return_goes_on, seated-re
 use Rattle.event_queue.proofs.Steps.{records, finds}
 use Rattle.event_queue.proofs.cpu_pass.CpuPass.returned.Goals as goal
 
-pub overflow_sub-event : goal.overflow_sub-event
-overflow_sub-event c = λ c'.
+pub overflow_sub-number : goal.overflow_sub-number
+overflow_sub-number c = λ c'.
     let opened = rw (← c'.self.view_is) at c'.requires.«open» in
     open_has_called _ _ _ _ c'.self.invariant.1 opened
 
