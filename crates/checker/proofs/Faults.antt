@@ -14,7 +14,7 @@ use Rattle.rmm_spec.specs.Step.{Step}
 use Rattle.rmm_spec.specs.Linearization.{IsCalled, IsReturned, IsFinished, cpu_named, number_named, IsTooLate, IsReplyOf, IsRefused, FailsBy, IsFirstMissing, FirstFault, Passes, IsLinearization}
 use Rattle.std.proofs.lemmas.List.{take_all}
 use Rattle.rmm_spec.specs.Judgement.{Accepts}
-use Rattle.rmm_spec.proofs.Isolation.{isolated_throughout, entries-served}
+use Rattle.rmm_laws.proofs.Isolation.{isolated_throughout}
 use Rattle.checker.proofs.Elements.{take-next_at}
 use Rattle.checker.proofs.Calls.{HasOnePlaces, same_command, same_reply}
 use Rattle.checker.specs.Progress.{Progress, AreNamedBelow}
@@ -121,5 +121,4 @@ pub Accepts-from_Passes : (history : History) → IsHistory history → HasOnePl
     → AreNamedBelow history.events lines (length history.events) → Accepts history lines (length lines)
 Accepts-from_Passes history is_history one lines last passes named =
     let linearization = IsLinearization-from_Passes history one lines last passes named in
-    let served = entries-served history lines linearization.entries is_history linearization.run.claimed in
-    record { linearization = linearization; counted = refl; isolated = isolated_throughout history linearization.entries served }
+    record { linearization = linearization; counted = refl; isolated = isolated_throughout history linearization.entries }

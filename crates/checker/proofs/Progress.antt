@@ -17,7 +17,7 @@ use Rattle.rmm_spec.specs.Linearization.{IsCalled, ReturnsBefore, cpu_named, num
 use Rattle.checker.specs.Progress.{IsCallOf, Progress}
 use Rattle.checker.proofs.Elements.{slice_get-append_left, slice_get_push, slice_get_push_cases}
 use Rattle.checker.proofs.Calls.{HasOnePlaces}
-use Rattle.rmm_spec.proofs.RunLaws.{run-snoc}
+use Rattle.rmm_laws.proofs.RunLaws.{run-snoc}
 use Rattle.checker.proofs.Runs.{AreEntriesOf-push}
 
 -- a line that passes after the lines before it

@@ -9,7 +9,7 @@ use Rattle.rmm_spec.specs.declared.reply.Reply.{Reply}
 use Rattle.rmm_spec.specs.State.{State}
 use Rattle.rmm_spec.specs.Step.{Step}
 use Rattle.rmm_spec.specs.Run.{JournalEntry, IsRun}
-use Rattle.rmm_spec.proofs.StepLaws.{step-decides}
+use Rattle.rmm_laws.proofs.StepLaws.{step-decides}
 use Rattle.rmm_spec.specs.Linearization.{IsEntryOf, AreEntriesOf, IsRefused}
 use Rattle.checker.proofs.Calls.{HasOnePlaces, SameEntries, same_entry}
 
