@@ -2,11 +2,9 @@
 //! Their expected lines come from outside, worked out by hand from the profile, never from the program's own output.
 //! They show that the clauses say what was meant, and that calls with enough memory succeed.
 //! `rows` and `realms` have histories with their verdicts, `limits` texts cut short or forged, `program` and `devices` what fails.
-//! Nothing stands on it.
+//! Nothing depends on it.
 #![tactic(auto)]
 
-#[cfg(test)]
-mod desk;
 #[cfg(test)]
 mod devices;
 #[cfg(test)]
@@ -19,6 +17,8 @@ mod realms;
 mod round_trips;
 #[cfg(test)]
 mod rows;
+#[cfg(test)]
+mod runtime;
 #[cfg(test)]
 mod script;
 #[cfg(test)]

@@ -1,6 +1,6 @@
 //! The whole program on a runtime of the test's: words, files, devices.
 
-use crate::desk::{Desk, Paper};
+use crate::runtime::{TestFile, TestRuntime};
 use scenarios::run;
 use std::alloc::Global;
 use std::cell::RefCell;
@@ -11,8 +11,8 @@ const HISTORY: &[u8] = b"rmh1 4 1\nc 0 0 c4000151 1000\nr 0 0 ok\n";
 
 const CERTIFICATE: &[u8] = b"k 0 0\n";
 
-fn paper(bytes: &'static [u8], reads: usize) -> Option<Paper> {
-    Some(Paper {
+fn file(bytes: &'static [u8], reads: usize) -> Option<TestFile> {
+    Some(TestFile {
         bytes,
         reads,
         failure: ErrorKind::Other,
@@ -20,8 +20,8 @@ fn paper(bytes: &'static [u8], reads: usize) -> Option<Paper> {
 }
 
 // A file for which no memory is left once it was read so often.
-fn large_paper(bytes: &'static [u8], reads: usize) -> Option<Paper> {
-    Some(Paper {
+fn file_too_large(bytes: &'static [u8], reads: usize) -> Option<TestFile> {
+    Some(TestFile {
         bytes,
         reads,
         failure: ErrorKind::OutOfMemory,
@@ -29,12 +29,12 @@ fn large_paper(bytes: &'static [u8], reads: usize) -> Option<Paper> {
 }
 
 // A runtime on which the words ask for a check and all goes well.
-fn desk(alloc: Global, words: &'static str) -> Desk {
-    Desk {
+fn runtime(alloc: Global, words: &'static str) -> TestRuntime {
+    TestRuntime {
         alloc,
         words,
-        history: paper(HISTORY, 100),
-        certificate: paper(CERTIFICATE, 100),
+        history: file(HISTORY, 100),
+        certificate: file(CERTIFICATE, 100),
         is_full: false,
         printed: RefCell::new(String::new(alloc)),
         told: RefCell::new(String::new(alloc)),
@@ -42,14 +42,14 @@ fn desk(alloc: Global, words: &'static str) -> Desk {
 }
 
 // What the program ends with and prints, as `status|standard output|standard error`.
-fn outcome(desk: Desk) -> Result<String, Fail> {
-    let status = run(&desk);
-    let Desk {
+fn outcome(runtime: TestRuntime) -> Result<String, Fail> {
+    let status = run(&runtime);
+    let TestRuntime {
         alloc,
         printed,
         told,
         ..
-    } = desk;
+    } = runtime;
     let (printed, told) = (printed.into_inner(), told.into_inner());
     Ok(format!(in alloc; "{status}|{printed}|{told}")?)
 }
@@ -75,7 +75,7 @@ fn words_of_the_program(rt: HostRuntime) -> Result<(), Fail> {
         "rmmcheck check --fast h c",
     ];
     for words in refused {
-        let line = outcome(desk(rt.alloc(), words))?;
+        let line = outcome(runtime(rt.alloc(), words))?;
         assert!(rt;
             line.as_str() == "2||rmmcheck: arguments\n",
             "{line} for {words}"
@@ -89,7 +89,7 @@ fn words_of_the_program(rt: HostRuntime) -> Result<(), Fail> {
         ("rmmcheck check  c", "3||rmmcheck: cannot read \n"),
     ];
     for (words, expected) in taken {
-        let line = outcome(desk(rt.alloc(), words))?;
+        let line = outcome(runtime(rt.alloc(), words))?;
         assert!(rt; line.as_str() == expected, "{line} for {words}");
     }
     Ok(())
@@ -97,8 +97,8 @@ fn words_of_the_program(rt: HostRuntime) -> Result<(), Fail> {
 
 #[test]
 fn first_fault_ends_the_program(rt: HostRuntime) -> Result<(), Fail> {
-    let (whole_history, whole_certificate) = (paper(HISTORY, 100), paper(CERTIFICATE, 100));
-    let (torn_history, torn_certificate) = (paper(HISTORY, 2), paper(CERTIFICATE, 1));
+    let (whole_history, whole_certificate) = (file(HISTORY, 100), file(CERTIFICATE, 100));
+    let (torn_history, torn_certificate) = (file(HISTORY, 2), file(CERTIFICATE, 1));
     // Both files are opened before either is read.
     let cases = [
         (None, None, "cannot read h"),
@@ -108,11 +108,11 @@ fn first_fault_ends_the_program(rt: HostRuntime) -> Result<(), Fail> {
         (whole_history, whole_certificate, "cannot write"),
     ];
     for (history, certificate, fault) in cases {
-        let mut desk = desk(rt.alloc(), "rmmcheck check h c");
-        desk.history = history;
-        desk.certificate = certificate;
-        desk.is_full = true;
-        let line = outcome(desk)?;
+        let mut runtime = runtime(rt.alloc(), "rmmcheck check h c");
+        runtime.history = history;
+        runtime.certificate = certificate;
+        runtime.is_full = true;
+        let line = outcome(runtime)?;
         let expected = format!(in rt.alloc(); "3||rmmcheck: {fault}\n")?;
         assert!(rt;
             line.as_str() == expected.as_str(),
@@ -124,17 +124,17 @@ fn first_fault_ends_the_program(rt: HostRuntime) -> Result<(), Fail> {
 
 #[test]
 fn refused_memory_is_reported(rt: HostRuntime) -> Result<(), Fail> {
-    let (whole_history, whole_certificate) = (paper(HISTORY, 100), paper(CERTIFICATE, 100));
+    let (whole_history, whole_certificate) = (file(HISTORY, 100), file(CERTIFICATE, 100));
     let cases = [
-        (large_paper(HISTORY, 0), whole_certificate),
-        (large_paper(HISTORY, 3), whole_certificate),
-        (whole_history, large_paper(CERTIFICATE, 1)),
+        (file_too_large(HISTORY, 0), whole_certificate),
+        (file_too_large(HISTORY, 3), whole_certificate),
+        (whole_history, file_too_large(CERTIFICATE, 1)),
     ];
     for (history, certificate) in cases {
-        let mut desk = desk(rt.alloc(), "rmmcheck check h c");
-        desk.history = history;
-        desk.certificate = certificate;
-        let line = outcome(desk)?;
+        let mut runtime = runtime(rt.alloc(), "rmmcheck check h c");
+        runtime.history = history;
+        runtime.certificate = certificate;
+        let line = outcome(runtime)?;
         assert!(rt; line.as_str() == "3||rmmcheck: no memory\n", "{line}");
     }
     Ok(())
@@ -149,10 +149,10 @@ fn status_of_the_verdict(rt: HostRuntime) -> Result<(), Fail> {
         (b"".as_slice(), CERTIFICATE, "2|fault history 1\n|"),
     ];
     for (history, certificate, expected) in cases {
-        let mut desk = desk(rt.alloc(), "rmmcheck check h c");
-        desk.history = paper(history, 100);
-        desk.certificate = paper(certificate, 100);
-        let line = outcome(desk)?;
+        let mut runtime = runtime(rt.alloc(), "rmmcheck check h c");
+        runtime.history = file(history, 100);
+        runtime.certificate = file(certificate, 100);
+        let line = outcome(runtime)?;
         assert!(rt; line.as_str() == expected, "{line} in place of {expected}");
     }
     Ok(())

@@ -33,15 +33,15 @@ fn realms_and_recs_come_and_go(rt: HostRuntime) -> Result<(), Fail> {
 #[test]
 fn no_step_has_another_reply(rt: HostRuntime) -> Result<(), Fail> {
     let others = ["ok", "ok 0", "err 1 0", "err 2 0", "err 3 0", "misplaced"];
-    for place in 0..12 {
+    for index in 0..12 {
         for other in others {
             let mut steps = two_lives();
-            if steps[place].reply == other {
+            if steps[index].reply == other {
                 continue;
             }
-            steps[place].reply = other;
+            steps[index].reply = other;
             let line = line_of_script(rt.alloc(), 8, steps.as_slice())?;
-            let expected = format!(in rt.alloc(); "no {} reply\n", place + 9)?;
+            let expected = format!(in rt.alloc(); "no {} reply\n", index + 9)?;
             assert!(rt;
                 line == expected,
                 "{line} in place of {expected} with {other}"

@@ -28,8 +28,8 @@ pub fn line_of_script(alloc: Global, delegated: u8, steps: &[Step]) -> Result<St
         )?;
         write!(certificate, "k 0 {number}\n")?;
     }
-    for (place, Step { command, reply }) in steps.iter().enumerate() {
-        let number = usize::from(delegated) + place;
+    for (index, Step { command, reply }) in steps.iter().enumerate() {
+        let number = usize::from(delegated) + index;
         write!(history, "c 0 {number} {command}\nr 0 {number} {reply}\n")?;
         write!(certificate, "k 0 {number}\n")?;
     }

@@ -1,4 +1,4 @@
-//! Texts with the line that tells their verdict.
+//! Texts with the line of their verdict.
 
 use crate::round_trips::expect_round_trips;
 use checker::{check, verdict_text};

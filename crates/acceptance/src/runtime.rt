@@ -13,13 +13,13 @@ use std::rt::{Env, Files};
 
 /// A file that gives a few bytes a read, and fails in this way once it was read so often.
 #[derive(Clone, Copy)]
-pub struct Paper {
+pub struct TestFile {
     pub bytes: &'static [u8],
     pub reads: usize,
     pub failure: ErrorKind,
 }
 
-impl Read for Paper {
+impl Read for TestFile {
     fn read(&mut self, buf: &mut [u8]) -> io::Result<usize> {
         if self.reads == 0 {
             return Err(io::Error::from(self.failure));
@@ -38,7 +38,7 @@ fn unsupported<T>() -> io::Result<T>
     Err(io::Error::from(ErrorKind::Unsupported))
 }
 
-impl Write for Paper {
+impl Write for TestFile {
     fn write(&mut self, _buf: &[u8]) -> io::Result<usize> {
         unsupported()
     }
@@ -48,13 +48,13 @@ impl Write for Paper {
     }
 }
 
-impl Seek for Paper {
+impl Seek for TestFile {
     fn seek(&mut self, _to: SeekFrom) -> io::Result<u64> {
         unsupported()
     }
 }
 
-impl OpenFile for Paper {
+impl OpenFile for TestFile {
     fn metadata(&self) -> io::Result<Metadata> {
         unsupported()
     }
@@ -74,12 +74,12 @@ impl OpenFile for Paper {
 
 /// The runtime. The paths `h` and `c` lead to its two files, where they are there, and no other path leads anywhere.
 #[derive(Drop)]
-pub struct Desk {
+pub struct TestRuntime {
     pub alloc: Global,
     /// The program's name and its words, with a space between each two.
     pub words: &'static str,
-    pub history: Option<Paper>,
-    pub certificate: Option<Paper>,
+    pub history: Option<TestFile>,
+    pub certificate: Option<TestFile>,
     /// Standard output takes no byte.
     pub is_full: bool,
     pub printed: RefCell<String>,
@@ -96,7 +96,7 @@ fn add<D: Display + Drop>(text: &RefCell<String>, value: D) -> io::Result<()> {
     }
 }
 
-impl Alloc for Desk {
+impl Alloc for TestRuntime {
     type A = Global;
 
     fn alloc(&self) -> Global {
@@ -104,7 +104,7 @@ impl Alloc for Desk {
     }
 }
 
-impl Print for Desk {
+impl Print for TestRuntime {
     fn print<D: Display + Drop>(&self, value: D) -> io::Result<()> {
         if self.is_full {
             return Err(io::Error::from(ErrorKind::StorageFull));
@@ -125,7 +125,7 @@ impl Print for Desk {
     }
 }
 
-impl Eprint for Desk {
+impl Eprint for TestRuntime {
     fn eprint<D: Display + Drop>(&self, value: D) -> io::Result<()> {
         add(&self.told, value)
     }
@@ -136,7 +136,7 @@ impl Eprint for Desk {
     }
 }
 
-impl Env for Desk {
+impl Env for TestRuntime {
     fn arg(&self, i: usize, buf: &mut [u8]) -> Result<usize, FillError> {
         let word = self
             .words
@@ -160,21 +160,21 @@ impl Env for Desk {
     }
 }
 
-impl Files for Desk {
-    type File = Paper;
+impl Files for TestRuntime {
+    type File = TestFile;
 
-    type Dir = Paper;
+    type Dir = TestFile;
 
-    fn open_file(&self, _how: &OpenOptions, path: &str) -> io::Result<Paper> {
-        let paper = match path {
+    fn open_file(&self, _how: &OpenOptions, path: &str) -> io::Result<TestFile> {
+        let file = match path {
             "h" => self.history,
             "c" => self.certificate,
             _ => None,
         };
-        paper.ok_or(io::Error::from(ErrorKind::NotFound))
+        file.ok_or(io::Error::from(ErrorKind::NotFound))
     }
 
-    fn open_dir(&self, _path: &str) -> io::Result<Paper> {
+    fn open_dir(&self, _path: &str) -> io::Result<TestFile> {
         unsupported()
     }
 
