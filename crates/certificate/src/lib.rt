@@ -2,7 +2,7 @@
 //! A text is read in one pass to the lines that it stands for, or to its first bad line.
 //! It promises that reader and writer are inverse on the grammar, `specs/CertificateText.antt` of `rmm_spec`: see `laws.rt`.
 //! A kept line takes 16 bytes and no allocation of its own; the rare unfinished line keeps its reply beside.
-//! The checker stands on it.
+//! The checker depends on it.
 #![tactic(auto)]
 
 mod certificate;

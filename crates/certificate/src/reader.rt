@@ -111,7 +111,7 @@ mod tests {
     }
 
     #[test]
-    fn tells_how_many_lines(rt: HostRuntime) -> Result<(), Fail> {
+    fn reports_how_many_lines(rt: HostRuntime) -> Result<(), Fail> {
         assert!(rt; read(rt.alloc(), b"")?.is_empty());
         assert_eq!(rt; read(rt.alloc(), b"k 0 0\n")?.len(), 1);
         assert_eq!(rt; read(rt.alloc(), b"u 0 0 ok\nk 1 0\n")?.len(), 2);
@@ -119,7 +119,7 @@ mod tests {
     }
 
     #[test]
-    fn tells_the_bad_line(rt: HostRuntime) {
+    fn reports_the_bad_line(rt: HostRuntime) {
         for (text, line) in [
             ("k 0\n", 1),
             ("k 8 0\n", 1),

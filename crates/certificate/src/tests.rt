@@ -56,7 +56,7 @@ fn rewrites_a_text(rt: HostRuntime) -> Result<(), Fail> {
 }
 
 #[test]
-fn tells_what_can_stand(rt: HostRuntime) {
+fn reports_what_can_stand(rt: HostRuntime) {
     assert!(rt;
         is_line(&Line::Keep {
             cpu: 7,

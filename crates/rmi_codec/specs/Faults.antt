@@ -1,4 +1,4 @@
--- What a fault says of the parts of a line. Where several apply, any of them may be told.
+-- What a fault says of the parts of a line. Where several apply, any of them may be reported.
 use Rattle.std.specs.Prelude.{◌≡◌, ◌≢◌, ℕ, ◌^◌, ◌<◌, List, [], ◌∷◌, ◌⊎◌, length, drop, codes, Contains, IsTrue}
 use Rattle.std.specs.List.{Any}
 use Rattle.rmm_spec.specs.declared.function_id.FunctionId.{FunctionId}
@@ -44,10 +44,10 @@ IsPartFault BadWord parts = parts ≢ []
 IsPartFault BadSpacing parts = (rest : List (List ℕ)) × (parts ≡ [] ∷ rest)
 IsPartFault BadForm parts = parts ≡ []
 
--- of the words at the end of a line, of which more than ten are told by the fault that the reader chose
+-- of the words at the end of a line, of which more than ten are reported by the fault that the reader chose
 abbrev pub IsWordsFault : CodecFault → CodecFault → List (List ℕ) → Type 0
-IsWordsFault excess told parts =
-    ((told ≡ BadWord) × Any IsNoWord parts) ⊎ (((told ≡ BadSpacing) × Contains parts []) ⊎ ((told ≡ excess) × (10 < length parts)))
+IsWordsFault excess reported parts =
+    ((reported ≡ BadWord) × Any IsNoWord parts) ⊎ (((reported ≡ BadSpacing) × Contains parts []) ⊎ ((reported ≡ excess) × (10 < length parts)))
 
 -- of a status or an index that is to be the first part
 abbrev pub IsSmallFault : CodecFault → List (List ℕ) → Type 0

@@ -5,7 +5,7 @@ ghost use Rattle.rmi_codec.specs.Faults.{IsPartFault};
 use crate::parts::Parts;
 use thiserror::Error;
 
-/// Why a text isn't a command or a reply. Where several apply, which one is told is left open.
+/// Why a text isn't a command or a reply. Where several apply, which one is reported is left open.
 #[derive(Clone, Copy, Debug, PartialEq, Eq, Error)]
 pub enum CodecFault {
     /// The number is that of no function that is served.

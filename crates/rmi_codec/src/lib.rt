@@ -2,7 +2,7 @@
 //! It promises that a reader accepts exactly the texts of the grammar, and that what is written reads back as it was.
 //! The grammar is in `rmm_spec`: `specs/Text.antt` and `specs/CommandText.antt`.
 //! Readers allocate nothing, and a writer leaves what it was given where memory is refused.
-//! Histories, certificates and scenarios stand on it.
+//! Histories, certificates and the checker depend on it.
 #![tactic(auto)]
 
 mod command;
