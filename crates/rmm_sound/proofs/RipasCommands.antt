@@ -3,7 +3,6 @@ use Rattle.std.proofs.Common.{◌≡◌, ℕ, ◌+◌, ◌-◌, ◌*◌, ◌/◌
 use Rattle.std.specs.Prelude.{Ok}
 use Rattle.std.proofs.lemmas.Bool.{and_parts, and_from, eqb-true, ltb-true, leb-true}
 use Rattle.rmm_spec.specs.declared.accepted.Accepted.{Accepted}
-use Rattle.rmm_spec.specs.declared.accepted.Accepted.TheVariants.{Reaches}
 use Rattle.rmm_spec.specs.declared.accepted.Stretch.{Stretch}
 use Rattle.rmm_spec.specs.declared.accepted.StretchUse.TheVariants.{Init, Requested}
 use Rattle.rmm_spec.specs.State.{State, Request, is_new, realm_at, rec_at, request_of}
@@ -20,6 +19,7 @@ use Rattle.rmm_sound.proofs.Ends.{stretch_can_be_set, reached_page}
 use Rattle.rmm_sound.proofs.Walked.{walked_protected}
 use Rattle.rmm_spec.specs.declared.call.Call.TheVariants as call
 
+-- a stretch becomes memory before the realm runs
 pub rtt_init_ripas_applies : (s : State) (rd base top : ℕ) (a : Accepted) → IsSound s → rtt_init_ripas s rd base top ≡ Ok a → Applies s a
 unfolding rtt_init_ripas words_of named reached_change
 rtt_init_ripas_applies s rd base top a sound is =
@@ -28,7 +28,7 @@ rtt_init_ripas_applies s rd base top a sound is =
     ∷ row (is_new (realm_at s rd)) (realm_error 0)
     ∷ row (is_unassigned (walk s rd base 3).entry && has_room base top (walk s rd base 3).level) (table_error (walk s rd base 3).level)
     ∷ []))
-    (Reaches (record { rd = rd; base = base; top = top; level = (walk s rd base 3).level; purpose = Init })) a is
+    _ a is
     (λ pages ordered rd_tag within new room end reached.
     let bound : top ≤ half (realm_at s rd) = leb-true top (half (realm_at s rd)) within in
     let below : base < top = ltb-true base top ordered in
@@ -44,6 +44,7 @@ rtt_init_ripas_applies s rd base top a sound is =
       tt,
     ))
 
+-- a stretch gets the RIPAS that a REC asked for
 pub rtt_set_ripas_applies : (s : State) (rd rec base top : ℕ) (a : Accepted) → IsSound s → rtt_set_ripas s rd rec base top ≡ Ok a → Applies s a
 unfolding rtt_set_ripas words_of named reached_change
 rtt_set_ripas_applies s rd rec base top a sound is =
@@ -54,7 +55,7 @@ rtt_set_ripas_applies s rd rec base top a sound is =
     ∷ input (nat_le top (request_of (rec_at s rec)).top && nat_lt base top && is_page top)
     ∷ row (has_room base top (walk s rd base 3).level) (table_error (walk s rd base 3).level)
     ∷ []))
-    (Reaches (record { rd = rd; base = base; top = top; level = (walk s rd base 3).level; purpose = Requested rec (request_of (rec_at s rec)).ripas })) a is
+    _ a is
     (λ rd_tag rec_tag owned idle asked fits room end reached.
     let request : Request = request_of (rec_at s rec) in
     let is_request = and_parts (is_some (rec_at s rec).request) (base == request.base) asked in

@@ -3,14 +3,13 @@ use Rattle.std.proofs.Common.{◌≡◌, ℕ, suc, ◌+◌, ◌-◌, ◌*◌, �
 use Rattle.std.specs.Prelude.{Ok}
 use Rattle.std.proofs.lemmas.Bool.{and_parts, not-true, eqb-true, ltb-true, leb-true}
 use Rattle.rmm_spec.specs.declared.accepted.Accepted.{Accepted}
-use Rattle.rmm_spec.specs.declared.change.Change.TheVariants.{Unchanged, TableMade, TableDestroyed}
-use Rattle.rmm_spec.specs.State.{State, realm_at, ripas_number}
-use Rattle.rmm_spec.specs.Walk.{entry_size, entry_number, table_number, entry_at, entry_for, full, is_table, is_in_use, entry_address, entry_ripas, entry_state, reach, walk}
-use Rattle.rmm_spec.specs.Rows.{row, input, done, table_error}
+use Rattle.rmm_spec.specs.State.{State, realm_at}
+use Rattle.rmm_spec.specs.Walk.{entry_size, entry_number, table_number, entry_at, entry_for, full, is_table, is_in_use, entry_address, reach, walk}
+use Rattle.rmm_spec.specs.Rows.{row, input, table_error}
 use Rattle.rmm_spec.specs.Step.Words.{words_of}
 use Rattle.rmm_spec.specs.Step.Named.{named}
 use Rattle.rmm_spec.specs.Step.Front.{with_front}
-use Rattle.rmm_spec.specs.Step.Table.{rtt_create, rtt_destroy, rtt_read_entry, entry_after_table}
+use Rattle.rmm_spec.specs.Step.Table.{rtt_create, rtt_destroy, rtt_read_entry}
 use Rattle.rmm_spec.specs.Sound.{IsSound}
 use Rattle.rmm_sound.proofs.ByRows.{by_rows}
 use Rattle.rmm_sound.proofs.Applies.{Applies}
@@ -19,6 +18,7 @@ use Rattle.rmm_sound.proofs.Entries.{link_there}
 use Rattle.rmm_sound.proofs.Walked.{IsWalked, walked, table_starts, entry_begins}
 use Rattle.rmm_spec.specs.declared.call.Call.TheVariants as call
 
+-- a table is put in
 pub rtt_create_applies : (s : State) (rd rtt ipa level : ℕ) (a : Accepted) → IsSound s → rtt_create s rd rtt ipa level ≡ Ok a → Applies s a
 unfolding rtt_create words_of named
 rtt_create_applies s rd rtt ipa level a sound is =
@@ -28,7 +28,7 @@ rtt_create_applies s rd rtt ipa level a sound is =
     ∷ row ((walk s rd ipa (level - 1)).level == level - 1) (table_error (walk s rd ipa (level - 1)).level)
     ∷ row (not (is_table (walk s rd ipa (level - 1)).entry)) (table_error (level - 1))
     ∷ []))
-    (done [] (TableMade rd level (table_number level ipa) rtt (walk s rd ipa (level - 1)).entry)) a is
+    _ a is
     (λ level_fits aligned rd_tag rtt_tag above below ends leaf.
     let last : level ≤ 3 = leb-true level 3 level_fits in
     let under : (realm_at s rd).start_level < level = ltb-true (realm_at s rd).start_level level above in
@@ -46,6 +46,7 @@ rtt_create_applies s rd rtt ipa level a sound is =
       leaf = not-true _ leaf;
     })
 
+-- a table is taken out
 pub rtt_destroy_applies : (s : State) (rd ipa level : ℕ) (a : Accepted) → IsSound s → rtt_destroy s rd ipa level ≡ Ok a → Applies s a
 unfolding rtt_destroy words_of named
 rtt_destroy_applies s rd ipa level a sound is =
@@ -55,7 +56,7 @@ rtt_destroy_applies s rd ipa level a sound is =
     ∷ row ((walk s rd ipa (level - 1)).level == level - 1 && is_table (walk s rd ipa (level - 1)).entry) (table_error (walk s rd ipa (level - 1)).level)
     ∷ row (not (is_in_use s rd level (table_number level ipa))) (table_error level)
     ∷ []))
-    (done (entry_address (walk s rd ipa (level - 1)).entry ∷ []) (TableDestroyed rd level (table_number level ipa) (entry_address (walk s rd ipa (level - 1)).entry) (entry_after_table (realm_at s rd) ipa))) a is
+    _ a is
     (λ level_fits aligned rd_tag above below linked unused.
     let last : level ≤ 3 = leb-true level 3 level_fits in
     let under : (realm_at s rd).start_level < level = ltb-true (realm_at s rd).start_level level above in
@@ -79,6 +80,7 @@ rtt_destroy_applies s rd ipa level a sound is =
       kind = kind.1;
     })
 
+-- an entry is read
 pub rtt_read_entry_applies : (s : State) (rd ipa level : ℕ) (a : Accepted) → rtt_read_entry s rd ipa level ≡ Ok a → Applies s a
 unfolding rtt_read_entry words_of named
 rtt_read_entry_applies s rd ipa level a is =
@@ -86,5 +88,5 @@ rtt_read_entry_applies s rd ipa level a is =
     (with_front s (call.RttReadEntry rd ipa level) (input (nat_le (realm_at s rd).start_level level)
     ∷ input (nat_lt ipa (full (realm_at s rd)))
     ∷ []))
-    (done ((walk s rd ipa level).level ∷ entry_state (walk s rd ipa level).entry ∷ entry_address (walk s rd ipa level).entry ∷ ripas_number (entry_ripas (walk s rd ipa level).entry) ∷ []) Unchanged) a is
+    _ a is
     (λ level_fits aligned rd_tag above below. tt)
