@@ -11,7 +11,7 @@ Given [] Fact = Fact
 Given (row ∷ rows) Fact = IsTrue row.holds → Given rows Fact
 
 -- one row, by whether it holds
-row_holds : (Later : Type 0) (holds : Bool) (later : Result Accepted Reply) (otherwise : Reply) (a : Accepted)
+pub row_holds : (Later : Type 0) (holds : Bool) (later : Result Accepted Reply) (otherwise : Reply) (a : Accepted)
     → (if holds then later else Err otherwise) ≡ Ok a → (IsTrue holds → later ≡ Ok a → Later) → Later
 row_holds Later true later otherwise a is next = next refl is
 row_holds Later false later otherwise a is next = absurd (let bad : Err otherwise ≡ Ok a = is in cc)

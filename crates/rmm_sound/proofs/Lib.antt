@@ -17,3 +17,13 @@ pub mod Entries
 pub mod EntriesChanged
 pub mod Changes
 pub mod Walked
+pub mod Opening
+pub mod Applies
+pub mod Ends
+pub mod RecordCommands
+pub mod TableCommands
+pub mod PageCommands
+pub mod RipasCommands
+pub mod RealmCalls
+pub mod Commands
+pub mod Runs

@@ -4,3 +4,9 @@
 //! Laws are proved by kind of change, over the groups of what a sound state keeps: realms, RECs, tables, leaves.
 //! The machine and the laws on isolation depend on it.
 #![tactic(auto)]
+
+mod laws;
+
+pub use laws::{
+    accepted_changes_apply, changes_keep_sound, opening_is_sound, runs_are_sound, steps_keep_sound,
+};
