@@ -21,12 +21,11 @@ use Rattle.rmm_spec.specs.Step.{outcome, CarriesOut, Step}
 use Rattle.rmm_spec.specs.Step.Ripas.{reached_change}
 use Rattle.rmm_laws.proofs.ChangeAccounts.{roots_at, recs_at, change-accounts}
 use Rattle.rmm_laws.proofs.ChangeWords.{opened, closed, root_of, rec_of}
-use Rattle.rmm_laws.proofs.CommandFacts.{Tells, OutcomeTells}
+use Rattle.rmm_laws.proofs.CommandFacts.{Tells, OutcomeTells, outcome-tells}
 use Rattle.rmm_laws.proofs.Facts.{realm_there, rec_there}
 use Rattle.rmm_laws.proofs.Owners.{AreOwned, changed-owned, owned-isolated}
 use Rattle.rmm_laws.proofs.Premises.{AreSoundnessLaws}
 use Rattle.rmm_laws.proofs.Recorded.{IsRecorded, root_in, parts_in, roots-after, recs-after}
-use Rattle.rmm_laws.proofs.Steps.{outcome-tells}
 use Rattle.rmm_laws.proofs.Tests.{both_ways}
 
 -- Of the commits so far (latest first), the open claims and the state.
@@ -85,7 +84,7 @@ module _ (laws : AreSoundnessLaws) (earlier : List JournalEntry) (held : List Cl
 
   -- whatever is carried out
   carried-accounted : (found : Result Accepted Reply) (new : State) → outcome old entry.cpu (call_of entry.command) ≡ found
-      → OutcomeTells entry.command.function entry.command.words.items found → CarriesOut found old entry.given new
+      → OutcomeTells old entry.command.function entry.command.words.items found → CarriesOut found old entry.given new
       → IsAccounted (entry ∷ earlier) (claims_after entry.given entry earlier held) new
   carried-accounted (Err refusal) new is tells p = rw p.1 (refused-accounted entry.given refl (rw p.0 tells))
   carried-accounted (Ok (Done words change)) new is tells p =
@@ -93,7 +92,7 @@ module _ (laws : AreSoundnessLaws) (earlier : List JournalEntry) (held : List Cl
       (rw p.1 (accepted-accounted words.items change p.0 tells (laws.applies old entry.cpu (call_of entry.command) words change a.sound is)))
   carried-accounted (Ok (Reaches stretch)) new is tells (top, (reached, is_ok, is_next)) =
       subst (λ given. IsAccounted (entry ∷ earlier) (claims_after given entry earlier held) new) (sym is_ok)
-      (rw is_next (accepted-accounted (top ∷ []) (reached_change stretch top) is_ok (tells top)
+      (rw is_next (accepted-accounted (top ∷ []) (reached_change stretch top) is_ok (tells.1 top)
       (laws.reaches old entry.cpu (call_of entry.command) stretch top a.sound is reached)))
 
 -- each commit stays accounted for
