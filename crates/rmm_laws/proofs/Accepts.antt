@@ -1,10 +1,9 @@
 -- A step with an `ok` reply: the command's rows hold, and its change is made.
-use Rattle.std.proofs.Common.{◌≡◌, ℕ, Bool, true, false, not, ◌==◌, if◌then◌else◌, ◌<◌, ◌^◌, List, [], ◌∷◌, Some, Result, Ok, Err, IsTrue, slice_index, refl, sym, ◌∙◌, ap, subst, arith}
+use Rattle.std.proofs.Common.{◌≡◌, ℕ, Bool, true, false, if◌then◌else◌, ◌<◌, ◌^◌, List, [], Some, Result, Ok, Err, slice_index, refl, sym, ◌∙◌, ap, subst, arith}
 use Rattle.std.proofs.Math.Nat.{div-eq_of_lt}
 use Rattle.rmm_spec.specs.declared.accepted.Accepted.{Accepted}
 use Rattle.rmm_spec.specs.declared.call.Call.{Call}
 use Rattle.rmm_spec.specs.declared.call.Call.TheVariants as call
-use Rattle.rmm_spec.specs.declared.change.Change.TheVariants.{RealmMade}
 use Rattle.rmm_spec.specs.declared.function_id.FunctionId.TheVariants as function
 use Rattle.rmm_spec.specs.declared.reply.Reply.{Reply}
 use Rattle.rmm_spec.specs.declared.reply.Reply.TheVariants as reply
@@ -13,8 +12,8 @@ use Rattle.rmm_spec.specs.Call.{call_from, class_of}
 use Rattle.rmm_spec.specs.Change.{changed}
 use Rattle.rmm_spec.specs.Ownership.{is_accepted}
 use Rattle.rmm_spec.specs.Rows.{Row, ok, decided}
-use Rattle.rmm_spec.specs.State.{State, RealmRecord, with_tag, has_tag}
-use Rattle.rmm_spec.specs.Walk.{table_number, table_size, entry_for, IsWalk}
+use Rattle.rmm_spec.specs.State.{State, RealmRecord, with_tag}
+use Rattle.rmm_spec.specs.Walk.{table_number, entry_for, IsWalk}
 use Rattle.rmm_spec.specs.Step.{is_placed, answer_of, outcome, CarriesOut, Step}
 use Rattle.rmm_spec.specs.Step.Front.{with_front}
 use Rattle.rmm_spec.specs.Step.Granule.{granule_delegate, granule_undelegate}
@@ -26,7 +25,8 @@ use Rattle.rmm_spec.proofs.TagLaws.{tag-has_tag, with_tag-restored}
 use Rattle.rmm_laws.specs.Commands.{command}
 use Rattle.rmm_laws.proofs.Facts.{root_covers}
 use Rattle.rmm_laws.proofs.RowLaws.{AllHold, AllRefuse, decided-accepted, decided-refused, front-refuse, front-rest}
-use Rattle.rmm_laws.proofs.Tests.{both_ways, is_spot-same}
+use Rattle.rmm_spec.proofs.Tests.{both_ways}
+use Rattle.rmm_laws.proofs.Tests.{is_spot-same}
 
 -- by its placing
 placed-carries_by : (placed : Bool) (answer : Result Accepted Reply) (s : State) (given : Reply) (next : State) → is_accepted given ≡ true

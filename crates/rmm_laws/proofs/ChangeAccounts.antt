@@ -1,5 +1,5 @@
 -- Each kind of change opens and closes claims as the state's ties come and go.
-use Rattle.std.proofs.Common.{◌≡◌, ℕ, zero, suc, ◌+◌, ◌-◌, ◌/◌, ◌<◌, ◌≤◌, ◌==◌, Bool, true, false, ◌⊎◌, if◌then◌else◌, nat_lt, nat_le, ◌&&◌, List, [], ◌∷◌, Option, Some, None, is_some, option_map, IsTrue, refl, sym, ◌∙◌, ap, ap₂, subst, inl, inr, arith}
+use Rattle.std.proofs.Common.{◌≡◌, ℕ, ◌+◌, ◌-◌, ◌/◌, ◌<◌, ◌≤◌, ◌==◌, Bool, true, false, ◌⊎◌, if◌then◌else◌, nat_lt, nat_le, ◌&&◌, List, [], ◌∷◌, Option, Some, None, is_some, option_map, IsTrue, refl, sym, ◌∙◌, ap, ap₂, subst, inl, inr, arith}
 use Rattle.std.proofs.lemmas.Bool.{eqb-true, eq-eqb, ne_eqb}
 use Rattle.rmm_spec.specs.declared.change.Change.{Change}
 use Rattle.rmm_spec.specs.declared.change.Change.TheVariants.{Unchanged, Retagged, RealmMade, RealmDestroyed, RecMade, RecDestroyed, RecordsChanged, TableMade, TableDestroyed, EntriesChanged}
@@ -9,14 +9,14 @@ use Rattle.rmm_spec.specs.declared.change.RecChange.{RecChange}
 use Rattle.rmm_spec.specs.declared.change.TagChange.{TagChange}
 use Rattle.rmm_spec.specs.declared.change.RealmUpdate.TheVariants as realm_update
 use Rattle.rmm_spec.specs.declared.entry.Entry.{Entry}
-use Rattle.rmm_spec.specs.declared.entry.Entry.TheVariants.{Unassigned, Assigned, Table, UnassignedNs, AssignedNs}
+use Rattle.rmm_spec.specs.declared.entry.Entry.TheVariants.{Unassigned, Assigned, UnassignedNs}
 use Rattle.rmm_spec.specs.declared.tag.Ripas.{Ripas}
 use Rattle.rmm_spec.specs.declared.tag.Ripas.TheVariants.{Empty}
 use Rattle.rmm_spec.specs.declared.tag.Tag.{Tag}
-use Rattle.rmm_spec.specs.declared.tag.Tag.TheVariants.{Undelegated, Delegated, Rd, Rec, RecAux, Data, Rtt}
+use Rattle.rmm_spec.specs.declared.tag.Tag.TheVariants.{Delegated, Rd, Rec, RecAux, Data, Rtt}
 use Rattle.rmm_spec.specs.Applicable.{CanRetag, CanMakeRealm, CanDestroyRealm, CanMakeRec, CanDestroyRec, CanMakeTable, CanDestroyTable, GoesWith, CanApply}
 use Rattle.rmm_spec.specs.Change.{new_realm, new_rec, realm_updated, with_tag_change, changed}
-use Rattle.rmm_spec.specs.Ownership.{Claim, claim, RecParts, rec_claims}
+use Rattle.rmm_spec.specs.Ownership.{Claim, claim, RecParts}
 use Rattle.rmm_spec.specs.Sound.{IsSound}
 use Rattle.rmm_spec.specs.State.{State, RealmRecord, RecRecord, with_tag, with_leaf, with_ripas, entry_with_ripas, is_spot, has_tag, realm_at, rec_at}
 use Rattle.rmm_spec.specs.Walk.{is_table, is_assigned, entry_at}
@@ -24,9 +24,10 @@ use Rattle.rmm_spec.proofs.TagLaws.{tag-has_tag}
 use Rattle.rmm_laws.proofs.ChangeWords.{of_page, page_opened, page_closed, opened, closed}
 use Rattle.rmm_laws.proofs.Claims.{IsAmong}
 use Rattle.rmm_laws.proofs.Facts.{waits_not, realm_there, rec_there, entry_at-table, page-last, page-entry, entry-page, page-in_use, root_covers, unlinked-root}
-use Rattle.rmm_laws.proofs.Keeps.{IsRecLike, IsPage, Keeps, keeps-kept, keeps-all, same-realms, same-recs, same-tables, same-pages, with_records, records-kept, records-tag, records-leaf}
+use Rattle.rmm_laws.proofs.Keeps.{IsRecLike, IsPage, keeps-kept, keeps-all, same-realms, same-recs, same-tables, same-pages, with_records, records-kept, records-tag, records-leaf}
 use Rattle.rmm_laws.proofs.Owners.{IsKept, Accounts}
-use Rattle.rmm_laws.proofs.Tests.{both_ways, kept_unless, some_value, there, same_value, spot_parts, moved, is_spot-same}
+use Rattle.rmm_spec.proofs.Tests.{both_ways}
+use Rattle.rmm_laws.proofs.Tests.{kept_unless, some_value, there, same_value, spot_parts, moved, is_spot-same}
 use Rattle.rmm_laws.proofs.Ties.{IsUnused}
 
 -- the root of each realm, and the parts of each REC

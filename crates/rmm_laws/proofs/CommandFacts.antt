@@ -33,7 +33,7 @@ use Rattle.rmm_spec.specs.Step.RealmCall.{measurement_read, measurement_extend, 
 use Rattle.rmm_spec.proofs.WalkLaws.{reach-le, walk_ends_unlinked, first_reached}
 use Rattle.rmm_laws.proofs.ChangeWords.{is_within, opened, closed, root_of, rec_of}
 use Rattle.rmm_laws.proofs.RowLaws.{AllHold, AllRefuse, decided-accepted, decided-refused, front-refuse, front-rest}
-use Rattle.rmm_laws.proofs.Tests.{both_ways}
+use Rattle.rmm_spec.proofs.Tests.{both_ways}
 
 -- The change says what the function does to claims with these words and reply words, and is within the function's maps.
 pub record Tells (function : FunctionId) (words given : List ℕ) (change : Change) : Type 0 where

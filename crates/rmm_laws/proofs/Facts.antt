@@ -10,11 +10,12 @@ use Rattle.rmm_spec.specs.declared.tag.Ripas.TheVariants.{Empty}
 use Rattle.rmm_spec.specs.declared.tag.Tag.{Tag}
 use Rattle.rmm_spec.specs.declared.tag.Tag.TheVariants.{Delegated, Rd, Rec}
 use Rattle.rmm_spec.specs.State.{State, RealmRecord, RecRecord, no_realm, no_rec, has_tag, realm_at, rec_at}
-use Rattle.rmm_spec.specs.Walk.{entry_size, table_size, full, is_table, is_assigned, linked_entry, entry_at, is_live, is_in_use, has_link}
+use Rattle.rmm_spec.specs.Walk.{table_size, full, is_table, linked_entry, entry_at, is_live, is_in_use, has_link}
 use Rattle.rmm_spec.specs.Step.Words.{is_space}
 use Rattle.rmm_spec.specs.Sound.{IsSound}
 use Rattle.rmm_spec.proofs.TagLaws.{tag-has_tag}
-use Rattle.rmm_laws.proofs.Tests.{both_ways, some_value, there, any_below-none}
+use Rattle.rmm_spec.proofs.Tests.{both_ways}
+use Rattle.rmm_laws.proofs.Tests.{some_value, there, any_below-none}
 
 -- ---- records
 

@@ -1,5 +1,5 @@
 -- Along a run the state is sound, the open claims are its ties, and the commits say what made its realms and RECs.
-use Rattle.std.proofs.Common.{◌≡◌, ℕ, false, ◌⊎◌, ◌++◌, List, [], ◌∷◌, None, Some, Result, Ok, Err, take, refl, sym, ◌∙◌, ap, ap₂, subst, inl, inr}
+use Rattle.std.proofs.Common.{◌≡◌, ℕ, false, ◌++◌, List, [], ◌∷◌, None, Some, Result, Ok, Err, take, refl, sym, ◌∙◌, ap, subst, inl}
 use Rattle.rmm_spec.specs.declared.accepted.Accepted.{Accepted}
 use Rattle.rmm_spec.specs.declared.accepted.Accepted.TheVariants.{Done, Reaches}
 use Rattle.rmm_spec.specs.declared.change.Change.{Change}
@@ -12,7 +12,7 @@ use Rattle.rmm_spec.specs.Call.{call_of}
 use Rattle.rmm_spec.specs.Change.{changed}
 use Rattle.rmm_spec.specs.HistoryText.{Setup, History}
 use Rattle.rmm_spec.specs.Judgement.{IsIsolatedThroughout}
-use Rattle.rmm_spec.specs.Ownership.{Claim, claim, is_accepted, latest_root, latest_rec, root_made, rec_made, rec_claims, claims, claims_opened, claims_closed, claims_after, claims_from, without_claims, IsIsolated}
+use Rattle.rmm_spec.specs.Ownership.{Claim, claim, is_accepted, latest_root, latest_rec, rec_claims, claims, claims_closed, claims_after, claims_from, without_claims, IsIsolated}
 use Rattle.rmm_spec.specs.Run.{JournalEntry, IsRun}
 use Rattle.rmm_spec.specs.Rows.{ok}
 use Rattle.rmm_spec.specs.Sound.{IsSound}
@@ -20,13 +20,13 @@ use Rattle.rmm_spec.specs.State.{State, realm_at, rec_at, opening}
 use Rattle.rmm_spec.specs.Step.{outcome, CarriesOut, Step}
 use Rattle.rmm_spec.specs.Step.Ripas.{reached_change}
 use Rattle.rmm_laws.proofs.ChangeAccounts.{roots_at, recs_at, change-accounts}
-use Rattle.rmm_laws.proofs.ChangeWords.{opened, closed, root_of, rec_of}
+use Rattle.rmm_laws.proofs.ChangeWords.{opened, closed}
 use Rattle.rmm_laws.proofs.CommandFacts.{Tells, OutcomeTells, outcome-tells}
 use Rattle.rmm_laws.proofs.Facts.{realm_there, rec_there}
 use Rattle.rmm_laws.proofs.Owners.{AreOwned, changed-owned, owned-isolated}
 use Rattle.rmm_laws.proofs.Premises.{AreSoundnessLaws}
 use Rattle.rmm_laws.proofs.Recorded.{IsRecorded, root_in, parts_in, roots-after, recs-after}
-use Rattle.rmm_laws.proofs.Tests.{both_ways}
+use Rattle.rmm_spec.proofs.Tests.{both_ways}
 
 -- Of the commits so far (latest first), the open claims and the state.
 pub record IsAccounted (earlier : List JournalEntry) (held : List Claim) (s : State) : Type 0 where
@@ -89,11 +89,11 @@ module _ (laws : AreSoundnessLaws) (earlier : List JournalEntry) (held : List Cl
   carried-accounted (Err refusal) new is tells p = rw p.1 (refused-accounted entry.given refl (rw p.0 tells))
   carried-accounted (Ok (Done words change)) new is tells p =
       subst (λ given. IsAccounted (entry ∷ earlier) (claims_after given entry earlier held) new) (sym p.0)
-      (rw p.1 (accepted-accounted words.items change p.0 tells (laws.applies old entry.cpu (call_of entry.command) words change a.sound is)))
+      (rw p.1 (accepted-accounted words.items change p.0 tells (laws.applies old entry.cpu entry.command words.items change a.sound is)))
   carried-accounted (Ok (Reaches stretch)) new is tells (top, (reached, is_ok, is_next)) =
       subst (λ given. IsAccounted (entry ∷ earlier) (claims_after given entry earlier held) new) (sym is_ok)
       (rw is_next (accepted-accounted (top ∷ []) (reached_change stretch top) is_ok (tells.1 top)
-      (laws.reaches old entry.cpu (call_of entry.command) stretch top a.sound is reached)))
+      (laws.reaches old entry.cpu entry.command stretch top a.sound is reached)))
 
 -- each commit stays accounted for
 step-accounted : AreSoundnessLaws → (earlier : List JournalEntry) (held : List Claim) (old new : State) (entry : JournalEntry) → IsAccounted earlier held old

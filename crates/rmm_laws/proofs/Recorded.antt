@@ -1,5 +1,5 @@
 -- What made a realm or a REC that there is, is read from the commits: the latest that names it.
-use Rattle.std.proofs.Common.{◌≡◌, ℕ, ◌==◌, Bool, true, false, ◌⊎◌, if◌then◌else◌, Option, Some, None, is_some, unwrap_or, List, [], ◌∷◌, IsTrue, refl, sym, ◌∙◌, ap, ap₂, subst, inl, inr}
+use Rattle.std.proofs.Common.{◌≡◌, ℕ, ◌==◌, Bool, true, false, if◌then◌else◌, Option, Some, None, unwrap_or, refl, sym, ◌∙◌, ap, inl, inr}
 use Rattle.std.proofs.lemmas.Bool.{eqb-true, eq-eqb, ne_eqb}
 use Rattle.rmm_spec.specs.declared.change.Change.{Change}
 use Rattle.rmm_spec.specs.declared.change.Change.TheVariants.{Unchanged, Retagged, RealmMade, RealmDestroyed, RecMade, RecDestroyed, RecordsChanged, TableMade, TableDestroyed, EntriesChanged}
@@ -18,7 +18,8 @@ use Rattle.rmm_spec.specs.State.{State, RealmRecord, RecRecord, realm_at, rec_at
 use Rattle.rmm_laws.proofs.ChangeWords.{root_of, rec_of}
 use Rattle.rmm_laws.proofs.Facts.{realm_there, rec_there, realm_at-there, rec_at-there}
 use Rattle.rmm_laws.proofs.Keeps.{with_records, rec_updated-like, tag_change-rest, realm_change-rest, rec_change-rest}
-use Rattle.rmm_laws.proofs.Tests.{both_ways, chosen, there}
+use Rattle.rmm_spec.proofs.Tests.{both_ways}
+use Rattle.rmm_laws.proofs.Tests.{chosen}
 
 -- each value of the map is recorded: this is read from it
 abbrev pub IsRecorded : {V R : Type 0} → (V → R) → (ℕ → R) → (ℕ → Option V) → Type 0

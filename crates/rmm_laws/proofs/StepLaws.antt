@@ -1,5 +1,5 @@
 -- Steps, by what a command leads to: a refusal, one change, or a change for each end that a reply may give.
-use Rattle.std.proofs.Common.{◌≡◌, ℕ, true, false, List, [], ◌∷◌, Result, Ok, Err, slice_index, refl, sym, ◌∙◌, ap}
+use Rattle.std.proofs.Common.{◌≡◌, ℕ, false, List, [], ◌∷◌, Result, Ok, Err, slice_index, refl, sym, ◌∙◌, ap}
 use Rattle.rmm_spec.specs.declared.accepted.Accepted.{Accepted}
 use Rattle.rmm_spec.specs.declared.accepted.Accepted.TheVariants.{Done, Reaches}
 use Rattle.rmm_spec.specs.declared.command.Command.{Command}
@@ -16,7 +16,7 @@ use Rattle.rmm_spec.specs.Step.{outcome, CarriesOut, Step}
 use Rattle.rmm_spec.specs.Step.Ripas.{reached_change}
 use Rattle.rmm_laws.proofs.CommandFacts.{OutcomeTells, outcome-tells}
 use Rattle.rmm_laws.proofs.Footprints.{same-keeps, changed-keeps}
-use Rattle.rmm_laws.proofs.Tests.{both_ways}
+use Rattle.rmm_spec.proofs.Tests.{both_ways}
 
 -- the first word of a reply
 first_word : Reply → ℕ

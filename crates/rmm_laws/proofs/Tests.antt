@@ -1,11 +1,8 @@
--- Tests that have one answer, and values chosen by a test.
-use Rattle.std.proofs.Common.{◌≡◌, ℕ, zero, suc, ◌+◌, ◌<◌, Bool, true, false, ◌&&◌, ◌||◌, ◌==◌, ◌⊎◌, if◌then◌else◌, Option, Some, None, is_some, IsTrue, refl, sym, ◌∙◌, inl, inr, arith}
+-- Values chosen by a test, and searches.
+use Rattle.std.proofs.Common.{◌≡◌, ℕ, zero, suc, ◌<◌, Bool, true, false, ◌&&◌, ◌||◌, ◌==◌, ◌⊎◌, if◌then◌else◌, Option, Some, None, is_some, refl, sym, ◌∙◌, inl, inr, arith}
 use Rattle.std.proofs.lemmas.Bool.{and_parts, eqb-true, eq-eqb}
 use Rattle.rmm_spec.specs.State.{is_spot, any_below}
-
--- a test can't have both answers
-pub both_ways : {P : Type 0} {b : Bool} → b ≡ true → b ≡ false → P
-both_ways {P} {b} holds fails = absurd (let bad : true ≡ false = sym holds ∙ fails in cc)
+use Rattle.rmm_spec.proofs.Tests.{both_ways}
 
 -- what is chosen is the one or the other
 pub chosen : {A : Type 0} (b : Bool) (x y z : A) → (if b then x else y) ≡ z → ((b ≡ true) × (x ≡ z)) ⊎ ((b ≡ false) × (y ≡ z))
