@@ -1,0 +1,71 @@
+-- What an accepted command does is a change that the state can take; and what is known of the REC that a command is about.
+use Rattle.std.proofs.Common.{◌≡◌, ℕ, Bool, true, false, IsTrue, Option, Some, None, is_some, is_none, refl, sym, ◌∙◌, ap, subst, unwrap_or}
+use Rattle.rmm_spec.specs.declared.accepted.Accepted.{Accepted}
+use Rattle.rmm_spec.specs.declared.accepted.Accepted.TheVariants.{Done, Reaches}
+use Rattle.rmm_spec.specs.declared.tag.Tag.TheVariants.{Rd, Rec}
+use Rattle.rmm_spec.specs.State.{State, RecRecord, Request, Pending, no_request, has_tag, is_cpu, runs_on, is_inside, rec_inside, realm_at, rec_at, request_of}
+use Rattle.rmm_spec.specs.Sound.{IsRequest, IsSound}
+use Rattle.rmm_spec.specs.Step.Ripas.{IsReached, reached_change}
+use Rattle.rmm_spec.specs.Applicable.{CanApply}
+use Rattle.rmm_sound.proofs.Cases.{both_ways}
+use Rattle.rmm_sound.proofs.Searches.{inside_runs, realm_there, rec_there, rec_at-is}
+
+-- what is done can be applied, and so can each end that a stretch may reach
+abbrev pub Applies : State → Accepted → Type 0
+Applies s (Done words change) = CanApply s change
+Applies s (Reaches stretch) = (top : ℕ) → IsReached s stretch top → CanApply s (reached_change stretch top)
+
+-- ---- the REC that a CPU is inside of
+
+-- a REC of a realm that stands, on a CPU
+pub record IsRunning (s : State) (rec : ℕ) : Type 0 where
+  pub tag : IsTrue (has_tag s rec Rec)
+  pub owner : IsTrue (has_tag s (rec_at s rec).owner Rd)
+  pub cpu : IsTrue (is_some (rec_at s rec).cpu)
+
+cpu_there : (cpu : ℕ) (found : Option ℕ) → IsTrue (is_cpu cpu found) → IsTrue (is_some found)
+cpu_there cpu None on = both_ways on refl
+cpu_there cpu (Some other) on = refl
+
+-- a REC that runs on a CPU, by what stands at its address
+running_at : (s : State) (cpu rec : ℕ) (found : Option RecRecord) → IsSound s → s.rec rec ≡ found → IsTrue (runs_on cpu found) → IsRunning s rec
+running_at s cpu rec None sound at runs = both_ways runs refl
+running_at s cpu rec (Some c) sound at runs =
+    let is : c ≡ rec_at s rec = sym (rec_at-is s rec c at) in
+    record {
+      tag = sym (sound.recs.tagged rec) ∙ ap is_some at;
+      owner = subst (λ (x : RecRecord). IsTrue (has_tag s x.owner Rd)) is (sound.recs.owned rec c at);
+      cpu = subst (λ (x : RecRecord). IsTrue (is_some x.cpu)) is (cpu_there cpu c.cpu runs);
+    }
+
+-- the REC that a CPU is inside of runs
+pub inside_running : (s : State) (cpu : ℕ) → IsSound s → IsTrue (is_inside s cpu) → IsRunning s (rec_inside s cpu)
+inside_running s cpu sound inside = running_at s cpu (rec_inside s cpu) _ sound refl (inside_runs s cpu inside)
+
+-- ---- a REC that a command names
+
+not_both : {A B : Type 0} (found : Option A) → IsTrue (is_none found) → IsTrue (is_some found) → B
+not_both None none some = both_ways some refl
+not_both (Some x) none some = both_ways none refl
+
+-- what waits to leave runs, so nothing is pending where none runs
+awaits_by : (s : State) (rec : ℕ) (c : RecRecord) (found : Option Pending) → IsSound s → s.rec rec ≡ Some c → c.pending ≡ found
+    → IsTrue (is_none c.cpu) → IsTrue (is_none found)
+awaits_by s rec c None sound at is idle = refl
+awaits_by s rec c (Some p) sound at is idle = not_both c.cpu idle (sound.recs.running rec c p at is)
+
+pub idle_awaits_nothing : (s : State) (rec : ℕ) → IsSound s → IsTrue (has_tag s rec Rec) → IsTrue (is_none (rec_at s rec).cpu) → IsTrue (is_none (rec_at s rec).pending)
+idle_awaits_nothing s rec sound tag idle = awaits_by s rec (rec_at s rec) _ sound (rec_there s rec sound tag) refl idle
+
+-- a request that there is
+request_read : (found : Option Request) → IsTrue (is_some found) → found ≡ Some (unwrap_or found no_request)
+request_read None there = both_ways there refl
+request_read (Some request) there = refl
+
+-- is of pages of its realm
+pub request_there : (s : State) (rec : ℕ) → IsSound s → IsTrue (has_tag s rec Rec) → IsTrue (is_some (rec_at s rec).request)
+    → IsRequest (realm_at s (rec_at s rec).owner) (request_of (rec_at s rec))
+request_there s rec sound tag there =
+    let c : RecRecord = rec_at s rec in
+    let at : s.rec rec ≡ Some c = rec_there s rec sound tag in
+    sound.recs.requests rec c (realm_at s c.owner) (request_of c) at (realm_there s c.owner sound (sound.recs.owned rec c at)) (request_read c.request there)

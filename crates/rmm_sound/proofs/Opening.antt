@@ -1,0 +1,54 @@
+-- The state in which every granule is the host's is sound: nothing stands in it.
+use Rattle.std.proofs.Common.{◌≡◌, ℕ, ◌==◌, ◌&&◌, false, refl, sym}
+use Rattle.std.proofs.lemmas.Bool.{and_right}
+use Rattle.rmm_spec.specs.declared.tag.Tag.{Tag}
+use Rattle.rmm_spec.specs.declared.tag.Tag.TheVariants.{Undelegated, Rd, Rec}
+use Rattle.rmm_spec.specs.HistoryText.{Setup}
+use Rattle.rmm_spec.specs.State.{State, opening, is_granule, has_tag}
+use Rattle.rmm_spec.specs.Sound.{IsSound}
+use Rattle.rmm_sound.proofs.Cases.{both_ways, nothing_there}
+use Rattle.rmm_sound.proofs.Tags.{AreOther}
+
+-- no granule has another tag than the host's
+opening-tags : (setup : Setup) (g : ℕ) (tag : Tag) → AreOther Undelegated tag → has_tag (opening setup) g tag ≡ false
+unfolding has_tag opening
+opening-tags setup g tag other = rw other (and_right (is_granule setup.granules g) false refl)
+
+pub opening_sound : (setup : Setup) → IsSound (opening setup)
+unfolding opening
+opening_sound setup = record {
+  outside = λ g none. refl;
+  realms = record {
+    tagged = λ g. sym (opening-tags setup g Rd refl);
+    spaces = λ g r at. nothing_there refl at;
+    measured = λ g r at. nothing_there refl at;
+    apart = λ g h r q at. nothing_there refl at;
+  };
+  recs = record {
+    tagged = λ g. sym (opening-tags setup g Rec refl);
+    owned = λ g c at. nothing_there refl at;
+    aux0 = λ g c at. nothing_there refl at;
+    aux1 = λ g c at. nothing_there refl at;
+    two = λ g c at. nothing_there refl at;
+    apart = λ g h x has. both_ways has refl;
+    alone = λ g h cpu runs. both_ways runs refl;
+    running = λ g c p at. nothing_there refl at;
+    asked = λ g c at. nothing_there refl at;
+    requests = λ g c r q at. nothing_there refl at;
+  };
+  tables = record {
+    roots = λ rd r at. nothing_there refl at;
+    tagged = λ rd level number granule at. nothing_there refl at;
+    owned = λ rd level number granule at. nothing_there refl at;
+    below = λ rd level number granule r at. nothing_there refl at;
+    apart = λ rd level number other l n granule at. nothing_there refl at;
+  };
+  leaves = record {
+    placed = λ rd level number e at. nothing_there refl at;
+    unlinked = λ rd level number e at. nothing_there refl at;
+    complete = λ rd level number there. both_ways there refl;
+    kinds = λ rd level number e r at. nothing_there refl at;
+    pages = λ rd level number granule ripas at. nothing_there refl at;
+    apart = λ rd level number other l n granule ripas ripas_too at. nothing_there refl at;
+  };
+}

@@ -1,0 +1,137 @@
+-- Commands that give pages to a realm, map the host's and take them back: what is accepted can be applied.
+use Rattle.std.proofs.Common.{◌≡◌, ℕ, ◌+◌, ◌-◌, ◌*◌, ◌/◌, ◌<◌, ◌≤◌, ◌==◌, ◌&&◌, true, false, IsTrue, nat_lt, nat_le, List, [], ◌∷◌, length, Some, None, refl, ◌∙◌, inl, inr}
+use Rattle.std.specs.Prelude.{Ok}
+use Rattle.std.proofs.lemmas.Bool.{and_parts, eqb-true, ltb-true}
+use Rattle.rmm_spec.specs.declared.accepted.Accepted.{Accepted}
+use Rattle.rmm_spec.specs.declared.change.Change.TheVariants.{EntriesChanged}
+use Rattle.rmm_spec.specs.declared.change.EntryChange.TheVariants.{Replaced}
+use Rattle.rmm_spec.specs.declared.entry.Entry.TheVariants.{Unassigned, Assigned, UnassignedNs, AssignedNs}
+use Rattle.rmm_spec.specs.declared.tag.Ripas.TheVariants.{Ram}
+use Rattle.rmm_spec.specs.declared.tag.Tag.TheVariants.{Delegated, Data}
+use Rattle.rmm_spec.specs.State.{State, is_new, realm_at}
+use Rattle.rmm_spec.specs.Walk.{entry_number, entry_at, full, half, is_table, is_assigned, is_unassigned, is_unassigned_ram, is_unassigned_ns, is_assigned_ns, entry_address, entry_ripas, reach, walk}
+use Rattle.rmm_spec.specs.Rows.{row, input, done, realm_error, table_error}
+use Rattle.rmm_spec.specs.Step.Words.{words_of}
+use Rattle.rmm_spec.specs.Step.Named.{named}
+use Rattle.rmm_spec.specs.Step.Front.{with_front}
+use Rattle.rmm_spec.specs.Step.Data.{data_create, data_create_unknown, data_destroy, page_entry, ripas_after_data}
+use Rattle.rmm_spec.specs.Step.Unprotected.{rtt_map_unprotected, rtt_unmap_unprotected, is_upper}
+use Rattle.rmm_spec.specs.Sound.{IsSound}
+use Rattle.rmm_sound.proofs.ByRows.{by_rows}
+use Rattle.rmm_sound.proofs.Applies.{Applies}
+use Rattle.rmm_sound.proofs.Ends.{at_end, page_replaced, page_protected, page_unprotected, walked_whole}
+use Rattle.rmm_sound.proofs.Walked.{walked_protected, unassigned_kind, ram_kind, assigned_kind, unassigned_ns_kind, assigned_ns_kind}
+use Rattle.rmm_spec.specs.declared.call.Call.TheVariants as call
+use Rattle.rmm_spec.specs.declared.change.RealmUpdate.TheVariants as realm_update
+
+pub data_create_applies : (s : State) (rd granule ipa source flags : ℕ) (digest : List ℕ) (a : Accepted) → IsSound s → length digest ≡ 4 → data_create s rd granule ipa source flags digest ≡ Ok a → Applies s a
+unfolding data_create words_of named
+data_create_applies s rd granule ipa source flags digest a sound whole is =
+    by_rows (Applies s)
+    (with_front s (call.DataCreate rd granule ipa source flags digest) (input (nat_lt ipa (half (realm_at s rd)))
+    ∷ row (is_new (realm_at s rd)) (realm_error 0)
+    ∷ row ((walk s rd ipa 3).level == 3) (table_error (walk s rd ipa 3).level)
+    ∷ row (is_unassigned_ram (walk s rd ipa 3).entry) (table_error 3)
+    ∷ []))
+    (done [] (EntriesChanged rd 3 (page_entry ipa (Assigned Ram granule)) (Some (record { granule = granule; tag = Data })) (Some (record { rd = rd; update = realm_update.PageMeasured ipa flags digest })) None)) a is
+    (λ flags_fit aligned rd_tag page_tag source_tag below new ends free.
+    let at : reach s rd ipa 3 ≡ 3 = eqb-true (reach s rd ipa 3) 3 ends in
+    let inside : ipa < half (realm_at s rd) = ltb-true ipa (half (realm_at s rd)) below in
+    let old = unassigned_kind (entry_at s rd 3 (entry_number 3 ipa)) (ram_kind (entry_at s rd 3 (entry_number 3 ipa)) (at_end (λ e. IsTrue (is_unassigned_ram e)) s rd ipa at free)) in (
+      rd_tag,
+      (
+        page_replaced s rd ipa (Assigned Ram granule) (walked_protected s rd ipa sound rd_tag inside) at old.1 (page_protected s rd ipa inside, refl),
+        inl (page_tag, refl, old.0, (Ram, refl)),
+      ),
+      (rd_tag, whole),
+      tt,
+    ))
+
+pub data_create_unknown_applies : (s : State) (rd granule ipa : ℕ) (a : Accepted) → IsSound s → data_create_unknown s rd granule ipa ≡ Ok a → Applies s a
+unfolding data_create_unknown words_of named
+data_create_unknown_applies s rd granule ipa a sound is =
+    by_rows (Applies s)
+    (with_front s (call.DataCreateUnknown rd granule ipa) (input (nat_lt ipa (half (realm_at s rd)))
+    ∷ row ((walk s rd ipa 3).level == 3) (table_error (walk s rd ipa 3).level)
+    ∷ row (is_unassigned (walk s rd ipa 3).entry) (table_error 3)
+    ∷ []))
+    (done [] (EntriesChanged rd 3 (page_entry ipa (Assigned (entry_ripas (walk s rd ipa 3).entry) granule)) (Some (record { granule = granule; tag = Data })) None None)) a is
+    (λ aligned rd_tag page_tag below ends free.
+    let at : reach s rd ipa 3 ≡ 3 = eqb-true (reach s rd ipa 3) 3 ends in
+    let inside : ipa < half (realm_at s rd) = ltb-true ipa (half (realm_at s rd)) below in
+    let old = unassigned_kind (entry_at s rd 3 (entry_number 3 ipa)) (at_end (λ e. IsTrue (is_unassigned e)) s rd ipa at free) in (
+      rd_tag,
+      (
+        page_replaced s rd ipa (Assigned (entry_ripas (walk s rd ipa 3).entry) granule) (walked_protected s rd ipa sound rd_tag inside) at old.1 (page_protected s rd ipa inside, refl),
+        inl (page_tag, refl, old.0, (entry_ripas (walk s rd ipa 3).entry, refl)),
+      ),
+      tt,
+      tt,
+    ))
+
+pub data_destroy_applies : (s : State) (rd ipa : ℕ) (a : Accepted) → IsSound s → data_destroy s rd ipa ≡ Ok a → Applies s a
+unfolding data_destroy words_of named
+data_destroy_applies s rd ipa a sound is =
+    by_rows (Applies s)
+    (with_front s (call.DataDestroy rd ipa) (input (nat_lt ipa (half (realm_at s rd)))
+    ∷ row ((walk s rd ipa 3).level == 3) (table_error (walk s rd ipa 3).level)
+    ∷ row (is_assigned (walk s rd ipa 3).entry) (table_error 3)
+    ∷ []))
+    (done (entry_address (walk s rd ipa 3).entry ∷ []) (EntriesChanged rd 3 (page_entry ipa (Unassigned (ripas_after_data (entry_ripas (walk s rd ipa 3).entry)))) (Some (record { granule = entry_address (walk s rd ipa 3).entry; tag = Delegated })) None None)) a is
+    (λ aligned rd_tag below ends taken.
+    let at : reach s rd ipa 3 ≡ 3 = eqb-true (reach s rd ipa 3) 3 ends in
+    let inside : ipa < half (realm_at s rd) = ltb-true ipa (half (realm_at s rd)) below in
+    let old = assigned_kind (walk s rd ipa 3).entry taken in (
+      rd_tag,
+      (
+        page_replaced s rd ipa (Unassigned (ripas_after_data (entry_ripas (walk s rd ipa 3).entry))) (walked_protected s rd ipa sound rd_tag inside) at
+            (at_end (λ e. is_table e ≡ false) s rd ipa at old.0) (page_protected s rd ipa inside),
+        inr (refl, refl, (old.1.0, at_end (λ e. e ≡ Assigned old.1.0 (entry_address (walk s rd ipa 3).entry)) s rd ipa at old.1.1)),
+      ),
+      tt,
+      tt,
+    ))
+
+pub rtt_map_unprotected_applies : (s : State) (rd ipa page : ℕ) (a : Accepted) → IsSound s → rtt_map_unprotected s rd ipa page ≡ Ok a → Applies s a
+unfolding rtt_map_unprotected words_of named
+rtt_map_unprotected_applies s rd ipa page a sound is =
+    by_rows (Applies s)
+    (with_front s (call.RttMapUnprotected rd ipa page) (input (is_upper (realm_at s rd) ipa)
+    ∷ row ((walk s rd ipa 3).level == 3) (table_error (walk s rd ipa 3).level)
+    ∷ row (is_unassigned_ns (walk s rd ipa 3).entry) (table_error 3)
+    ∷ []))
+    (done [] (EntriesChanged rd 3 (Replaced (entry_number 3 ipa) (AssignedNs page)) None None None)) a is
+    (λ aligned page_fits rd_tag upper ends free.
+    let at : reach s rd ipa 3 ≡ 3 = eqb-true (reach s rd ipa 3) 3 ends in
+    let bounds = and_parts (nat_le (half (realm_at s rd)) ipa) (nat_lt ipa (full (realm_at s rd))) upper in
+    let old = unassigned_ns_kind (entry_at s rd 3 (entry_number 3 ipa)) (at_end (λ e. IsTrue (is_unassigned_ns e)) s rd ipa at free) in (
+      rd_tag,
+      (
+        page_replaced s rd ipa (AssignedNs page) (walked_whole s rd ipa sound rd_tag (ltb-true ipa (full (realm_at s rd)) bounds.1)) at old.1 (page_unprotected s rd ipa aligned bounds.0, refl),
+        (refl, old.0),
+      ),
+      tt,
+      tt,
+    ))
+
+pub rtt_unmap_unprotected_applies : (s : State) (rd ipa : ℕ) (a : Accepted) → IsSound s → rtt_unmap_unprotected s rd ipa ≡ Ok a → Applies s a
+unfolding rtt_unmap_unprotected words_of named
+rtt_unmap_unprotected_applies s rd ipa a sound is =
+    by_rows (Applies s)
+    (with_front s (call.RttUnmapUnprotected rd ipa) (input (is_upper (realm_at s rd) ipa)
+    ∷ row ((walk s rd ipa 3).level == 3) (table_error (walk s rd ipa 3).level)
+    ∷ row (is_assigned_ns (walk s rd ipa 3).entry) (table_error 3)
+    ∷ []))
+    (done [] (EntriesChanged rd 3 (Replaced (entry_number 3 ipa) UnassignedNs) None None None)) a is
+    (λ aligned rd_tag upper ends free.
+    let at : reach s rd ipa 3 ≡ 3 = eqb-true (reach s rd ipa 3) 3 ends in
+    let bounds = and_parts (nat_le (half (realm_at s rd)) ipa) (nat_lt ipa (full (realm_at s rd))) upper in
+    let old = assigned_ns_kind (entry_at s rd 3 (entry_number 3 ipa)) (at_end (λ e. IsTrue (is_assigned_ns e)) s rd ipa at free) in (
+      rd_tag,
+      (
+        page_replaced s rd ipa UnassignedNs (walked_whole s rd ipa sound rd_tag (ltb-true ipa (full (realm_at s rd)) bounds.1)) at old.1 (page_unprotected s rd ipa aligned bounds.0),
+        (refl, old.0),
+      ),
+      tt,
+      tt,
+    ))

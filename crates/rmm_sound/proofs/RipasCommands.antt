@@ -1,0 +1,87 @@
+-- Commands that set the RIPAS of a stretch: each end that may be reached can be applied.
+use Rattle.std.proofs.Common.{◌≡◌, ℕ, ◌+◌, ◌-◌, ◌*◌, ◌/◌, ◌<◌, ◌≤◌, ◌==◌, ◌&&◌, true, false, IsTrue, nat_lt, nat_le, [], ◌∷◌, Some, None, is_some, is_none, refl, sym, ◌∙◌, subst, arith}
+use Rattle.std.specs.Prelude.{Ok}
+use Rattle.std.proofs.lemmas.Bool.{and_parts, and_from, eqb-true, ltb-true, leb-true}
+use Rattle.rmm_spec.specs.declared.accepted.Accepted.{Accepted}
+use Rattle.rmm_spec.specs.declared.accepted.Accepted.TheVariants.{Reaches}
+use Rattle.rmm_spec.specs.declared.accepted.Stretch.{Stretch}
+use Rattle.rmm_spec.specs.declared.accepted.StretchUse.TheVariants.{Init, Requested}
+use Rattle.rmm_spec.specs.State.{State, Request, is_new, realm_at, rec_at, request_of}
+use Rattle.rmm_spec.specs.Walk.{entry_size, half, is_multiple, is_unassigned, reach, walk}
+use Rattle.rmm_spec.specs.Rows.{row, input, realm_error, rec_error, table_error}
+use Rattle.rmm_spec.specs.Step.Words.{words_of, is_page}
+use Rattle.rmm_spec.specs.Step.Named.{named}
+use Rattle.rmm_spec.specs.Step.Front.{with_front}
+use Rattle.rmm_spec.specs.Step.Ripas.{rtt_init_ripas, rtt_set_ripas, has_room, reached_change}
+use Rattle.rmm_spec.specs.Sound.{IsRequest, IsSound}
+use Rattle.rmm_sound.proofs.ByRows.{by_rows}
+use Rattle.rmm_sound.proofs.Applies.{Applies, request_there}
+use Rattle.rmm_sound.proofs.Ends.{stretch_can_be_set, reached_page}
+use Rattle.rmm_sound.proofs.Walked.{walked_protected}
+use Rattle.rmm_spec.specs.declared.call.Call.TheVariants as call
+
+pub rtt_init_ripas_applies : (s : State) (rd base top : ℕ) (a : Accepted) → IsSound s → rtt_init_ripas s rd base top ≡ Ok a → Applies s a
+unfolding rtt_init_ripas words_of named reached_change
+rtt_init_ripas_applies s rd base top a sound is =
+    by_rows (Applies s)
+    (with_front s (call.RttInitRipas rd base top) (input (nat_le top (half (realm_at s rd)))
+    ∷ row (is_new (realm_at s rd)) (realm_error 0)
+    ∷ row (is_unassigned (walk s rd base 3).entry && has_room base top (walk s rd base 3).level) (table_error (walk s rd base 3).level)
+    ∷ []))
+    (Reaches (record { rd = rd; base = base; top = top; level = (walk s rd base 3).level; purpose = Init })) a is
+    (λ pages ordered rd_tag within new room end reached.
+    let bound : top ≤ half (realm_at s rd) = leb-true top (half (realm_at s rd)) within in
+    let below : base < top = ltb-true base top ordered in
+    let starts = (and_parts (is_unassigned (walk s rd base 3).entry) (has_room base top (walk s rd base 3).level) room).1 in
+    let first = (and_parts (is_multiple base (entry_size (reach s rd base 3))) (nat_le (base + entry_size (reach s rd base 3)) top) starts).0 in (
+      rd_tag,
+      (
+        stretch_can_be_set s (record { rd = rd; base = base; top = top; level = reach s rd base 3; purpose = Init }) end
+            (walked_protected s rd base sound rd_tag (omega arith)) first (omega (arith, reached.within)) reached,
+        refl,
+      ),
+      (rd_tag, tt),
+      tt,
+    ))
+
+pub rtt_set_ripas_applies : (s : State) (rd rec base top : ℕ) (a : Accepted) → IsSound s → rtt_set_ripas s rd rec base top ≡ Ok a → Applies s a
+unfolding rtt_set_ripas words_of named reached_change
+rtt_set_ripas_applies s rd rec base top a sound is =
+    by_rows (Applies s)
+    (with_front s (call.RttSetRipas rd rec base top) (row ((rec_at s rec).owner == rd) rec_error
+    ∷ row (is_none (rec_at s rec).cpu) rec_error
+    ∷ input (is_some (rec_at s rec).request && base == (request_of (rec_at s rec)).base)
+    ∷ input (nat_le top (request_of (rec_at s rec)).top && nat_lt base top && is_page top)
+    ∷ row (has_room base top (walk s rd base 3).level) (table_error (walk s rd base 3).level)
+    ∷ []))
+    (Reaches (record { rd = rd; base = base; top = top; level = (walk s rd base 3).level; purpose = Requested rec (request_of (rec_at s rec)).ripas })) a is
+    (λ rd_tag rec_tag owned idle asked fits room end reached.
+    let request : Request = request_of (rec_at s rec) in
+    let is_request = and_parts (is_some (rec_at s rec).request) (base == request.base) asked in
+    let bounds = and_parts (nat_le top request.top && nat_lt base top) (is_page top) fits in
+    let order = and_parts (nat_le top request.top) (nat_lt base top) bounds.0 in
+    let is_rd : (rec_at s rec).owner ≡ rd = eqb-true (rec_at s rec).owner rd owned in
+    let asks : IsRequest (realm_at s (rec_at s rec).owner) request = request_there s rec sound rec_tag is_request.0 in
+    let bound : request.top ≤ half (realm_at s rd) = subst (λ g. request.top ≤ half (realm_at s g)) is_rd asks.protected in
+    let up_to : top ≤ request.top = leb-true top request.top order.0 in
+    let below : base < top = ltb-true base top order.1 in
+    let first = (and_parts (is_multiple base (entry_size (reach s rd base 3))) (nat_le (base + entry_size (reach s rd base 3)) top) room).0 in
+    let base_page = subst (λ b. IsTrue (is_page b)) (sym (eqb-true base request.base is_request.1)) (and_parts (is_page request.base) (is_page request.top) asks.pages).0 in
+    let walk_end = walked_protected s rd base sound rd_tag (omega arith) in
+    let stretch : Stretch = record { rd = rd; base = base; top = top; level = reach s rd base 3; purpose = Requested rec request.ripas } in (
+      rd_tag,
+      (stretch_can_be_set s stretch end walk_end first (omega (arith, reached.within)) reached, refl),
+      tt,
+      (
+        rec_tag,
+        (
+          idle,
+          is_request.0,
+          record {
+            pages = and_from _ _ (reached_page s stretch end walk_end.last base_page reached) (and_parts (is_page request.base) (is_page request.top) asks.pages).1;
+            ordered = omega (arith, reached.within);
+            protected = asks.protected;
+          },
+        ),
+      ),
+    ))

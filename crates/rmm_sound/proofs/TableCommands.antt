@@ -1,0 +1,90 @@
+-- Commands that make, destroy and read tables: what is accepted can be applied.
+use Rattle.std.proofs.Common.{◌≡◌, ℕ, suc, ◌+◌, ◌-◌, ◌*◌, ◌/◌, ◌<◌, ◌≤◌, ◌==◌, ◌&&◌, not, true, false, IsTrue, nat_lt, nat_le, [], ◌∷◌, Some, None, is_some, refl, sym, ◌∙◌, ap, subst, arith}
+use Rattle.std.specs.Prelude.{Ok}
+use Rattle.std.proofs.lemmas.Bool.{and_parts, not-true, eqb-true, ltb-true, leb-true}
+use Rattle.rmm_spec.specs.declared.accepted.Accepted.{Accepted}
+use Rattle.rmm_spec.specs.declared.change.Change.TheVariants.{Unchanged, TableMade, TableDestroyed}
+use Rattle.rmm_spec.specs.State.{State, realm_at, ripas_number}
+use Rattle.rmm_spec.specs.Walk.{entry_size, entry_number, table_number, entry_at, entry_for, full, is_table, is_in_use, entry_address, entry_ripas, entry_state, reach, walk}
+use Rattle.rmm_spec.specs.Rows.{row, input, done, table_error}
+use Rattle.rmm_spec.specs.Step.Words.{words_of}
+use Rattle.rmm_spec.specs.Step.Named.{named}
+use Rattle.rmm_spec.specs.Step.Front.{with_front}
+use Rattle.rmm_spec.specs.Step.Table.{rtt_create, rtt_destroy, rtt_read_entry, entry_after_table}
+use Rattle.rmm_spec.specs.Sound.{IsSound}
+use Rattle.rmm_sound.proofs.ByRows.{by_rows}
+use Rattle.rmm_sound.proofs.Applies.{Applies}
+use Rattle.rmm_sound.proofs.Ends.{table_number-above, after_table_fits}
+use Rattle.rmm_sound.proofs.Entries.{link_there}
+use Rattle.rmm_sound.proofs.Walked.{IsWalked, walked, table_starts, entry_begins}
+use Rattle.rmm_spec.specs.declared.call.Call.TheVariants as call
+
+pub rtt_create_applies : (s : State) (rd rtt ipa level : ℕ) (a : Accepted) → IsSound s → rtt_create s rd rtt ipa level ≡ Ok a → Applies s a
+unfolding rtt_create words_of named
+rtt_create_applies s rd rtt ipa level a sound is =
+    by_rows (Applies s)
+    (with_front s (call.RttCreate rd rtt ipa level) (input (nat_lt (realm_at s rd).start_level level)
+    ∷ input (nat_lt ipa (full (realm_at s rd)))
+    ∷ row ((walk s rd ipa (level - 1)).level == level - 1) (table_error (walk s rd ipa (level - 1)).level)
+    ∷ row (not (is_table (walk s rd ipa (level - 1)).entry)) (table_error (level - 1))
+    ∷ []))
+    (done [] (TableMade rd level (table_number level ipa) rtt (walk s rd ipa (level - 1)).entry)) a is
+    (λ level_fits aligned rd_tag rtt_tag above below ends leaf.
+    let last : level ≤ 3 = leb-true level 3 level_fits in
+    let under : (realm_at s rd).start_level < level = ltb-true (realm_at s rd).start_level level above in
+    let inside : ipa < full (realm_at s rd) = ltb-true ipa (full (realm_at s rd)) below in
+    let at : reach s rd ipa (level - 1) ≡ level - 1 = eqb-true (reach s rd ipa (level - 1)) (level - 1) ends in
+    let number : table_number level ipa ≡ entry_number (level - 1) ipa = table_number-above level ipa (omega arith) in
+    let end : IsWalked s rd ipa (level - 1) = subst (IsWalked s rd ipa) at (walked s rd ipa (level - 1) sound rd_tag inside (omega arith) (omega arith)) in
+    record {
+      rd_tag = rd_tag;
+      rtt_tag = rtt_tag;
+      below_root = under;
+      place = record { below_root = omega arith; last = last; inside = omega (arith, table_starts level ipa) };
+      parent = subst (λ n. IsTrue (is_some (s.table rd (level - 1) (n / 512)))) (sym number) end.table;
+      is_entry = ap (λ l. entry_for s rd l ipa) at ∙ ap (entry_at s rd (level - 1)) (sym number);
+      leaf = not-true _ leaf;
+    })
+
+pub rtt_destroy_applies : (s : State) (rd ipa level : ℕ) (a : Accepted) → IsSound s → rtt_destroy s rd ipa level ≡ Ok a → Applies s a
+unfolding rtt_destroy words_of named
+rtt_destroy_applies s rd ipa level a sound is =
+    by_rows (Applies s)
+    (with_front s (call.RttDestroy rd ipa level) (input (nat_lt (realm_at s rd).start_level level)
+    ∷ input (nat_lt ipa (full (realm_at s rd)))
+    ∷ row ((walk s rd ipa (level - 1)).level == level - 1 && is_table (walk s rd ipa (level - 1)).entry) (table_error (walk s rd ipa (level - 1)).level)
+    ∷ row (not (is_in_use s rd level (table_number level ipa))) (table_error level)
+    ∷ []))
+    (done (entry_address (walk s rd ipa (level - 1)).entry ∷ []) (TableDestroyed rd level (table_number level ipa) (entry_address (walk s rd ipa (level - 1)).entry) (entry_after_table (realm_at s rd) ipa))) a is
+    (λ level_fits aligned rd_tag above below linked unused.
+    let last : level ≤ 3 = leb-true level 3 level_fits in
+    let under : (realm_at s rd).start_level < level = ltb-true (realm_at s rd).start_level level above in
+    let inside : ipa < full (realm_at s rd) = ltb-true ipa (full (realm_at s rd)) below in
+    let parts = and_parts (reach s rd ipa (level - 1) == level - 1) (is_table (walk s rd ipa (level - 1)).entry) linked in
+    let at : reach s rd ipa (level - 1) ≡ level - 1 = eqb-true (reach s rd ipa (level - 1)) (level - 1) parts.0 in
+    let number : table_number level ipa ≡ entry_number (level - 1) ipa = table_number-above level ipa (omega arith) in
+    let up : suc (level - 1) ≡ level = omega arith in
+    let end : IsWalked s rd ipa (level - 1) = subst (IsWalked s rd ipa) at (walked s rd ipa (level - 1) sound rd_tag inside (omega arith) (omega arith)) in
+    let link = link_there s sound rd (level - 1) (entry_number (level - 1) ipa) end.table (subst (λ l. IsTrue (is_table (entry_for s rd l ipa))) at parts.1) in
+    let address : entry_address (walk s rd ipa (level - 1)).entry ≡ link.0 = ap entry_address (ap (λ l. entry_for s rd l ipa) at ∙ link.2) in
+    let below_it : s.table rd (suc (level - 1)) (table_number level ipa) ≡ Some link.0 = ap (s.table rd (suc (level - 1))) number ∙ link.1 in
+    let begins : table_number level ipa * entry_size (level - 1) ≡ ipa = ap (λ n. n * entry_size (level - 1)) number ∙ entry_begins (level - 1) ipa aligned in
+    let kind = after_table_fits (realm_at s rd) ipa (level - 1) (table_number level ipa) begins in
+    record {
+      rd_tag = rd_tag;
+      below_root = under;
+      there = subst (λ l. s.table rd l (table_number level ipa) ≡ Some link.0) up below_it ∙ ap Some (sym address);
+      unused = not-true _ unused;
+      vacant = kind.0;
+      kind = kind.1;
+    })
+
+pub rtt_read_entry_applies : (s : State) (rd ipa level : ℕ) (a : Accepted) → rtt_read_entry s rd ipa level ≡ Ok a → Applies s a
+unfolding rtt_read_entry words_of named
+rtt_read_entry_applies s rd ipa level a is =
+    by_rows (Applies s)
+    (with_front s (call.RttReadEntry rd ipa level) (input (nat_le (realm_at s rd).start_level level)
+    ∷ input (nat_lt ipa (full (realm_at s rd)))
+    ∷ []))
+    (done ((walk s rd ipa level).level ∷ entry_state (walk s rd ipa level).entry ∷ entry_address (walk s rd ipa level).entry ∷ ripas_number (entry_ripas (walk s rd ipa level).entry) ∷ []) Unchanged) a is
+    (λ level_fits aligned rd_tag above below. tt)
