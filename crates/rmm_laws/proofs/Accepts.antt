@@ -22,11 +22,11 @@ use Rattle.rmm_spec.specs.Step.Realm.{realm_create}
 use Rattle.rmm_spec.specs.Step.Words.{is_space, words_of}
 use Rattle.rmm_spec.specs.Sound.{IsSound}
 use Rattle.rmm_spec.proofs.TagLaws.{tag-has_tag, with_tag-restored}
+use Rattle.rmm_sound.proofs.Cases.{spot_itself}
 use Rattle.rmm_laws.specs.Commands.{command}
 use Rattle.rmm_laws.proofs.Facts.{root_covers}
 use Rattle.rmm_laws.proofs.RowLaws.{AllHold, AllRefuse, decided-accepted, decided-refused, front-refuse, front-rest}
 use Rattle.rmm_spec.proofs.Tests.{both_ways}
-use Rattle.rmm_laws.proofs.Tests.{is_spot-same}
 
 -- by its placing
 placed-carries_by : (placed : Bool) (answer : Result Accepted Reply) (s : State) (given : Reply) (next : State) → is_accepted given ≡ true
@@ -107,7 +107,7 @@ fresh-root old next cpu ipa words step below =
     let c = call.RealmCreate rd root width level (slice_index words 4) (slice_index words 5) in
     let carried = rows-carry old c _ _ (answer_of old cpu c) (ok []) next refl (refl, tt) refl (placed-carries old cpu c (ok []) next refl step) in
     let space = (front-rest old c _ carried.0).0.1.0 in
-    root-walk next rd ipa level root (ap (λ (s : State). s.table rd level 0) carried.1.1 ∙ rw (is_spot-same rd level 0) refl) (root_number width level ipa space below)
+    root-walk next rd ipa level root (ap (λ (s : State). s.table rd level 0) carried.1.1 ∙ rw (spot_itself rd level 0) refl) (root_number width level ipa space below)
 
 -- and so in every sound state
 pub sound-root : (s : State) (rd ipa : ℕ) (realm : RealmRecord) → IsSound s → s.realm rd ≡ Some realm → ipa < 2 ^ realm.width

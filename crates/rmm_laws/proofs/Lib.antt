@@ -15,5 +15,4 @@ pub mod Keeps
 pub mod ChangeAccounts
 pub mod Footprints
 pub mod Recorded
-pub mod Premises
 pub mod Isolation
