@@ -124,6 +124,6 @@ fn decide(machine: &mut Machine, cpu: u8, command: &Command) -> Result<Reply, Al
     if machine.offer(cpu, command, &misplaced)? {
         return Ok(misplaced);
     }
-    rmm_spec::a_reply_exists();
+    rmm_laws::a_reply_exists();
     unreachable!()
 }

@@ -1,10 +1,9 @@
 -- A step with an `ok` reply: the command's rows hold, and its change is made.
-use Rattle.std.proofs.Common.{◌≡◌, ℕ, Bool, true, false, not, ◌==◌, if◌then◌else◌, ◌<◌, ◌^◌, List, [], ◌∷◌, Some, Result, Ok, Err, IsTrue, slice_index, refl, sym, ◌∙◌, ap, subst, arith}
+use Rattle.std.proofs.Common.{◌≡◌, ℕ, Bool, true, false, if◌then◌else◌, ◌<◌, ◌^◌, List, [], Some, Result, Ok, Err, slice_index, refl, sym, ◌∙◌, ap, subst, arith}
 use Rattle.std.proofs.Math.Nat.{div-eq_of_lt}
 use Rattle.rmm_spec.specs.declared.accepted.Accepted.{Accepted}
 use Rattle.rmm_spec.specs.declared.call.Call.{Call}
 use Rattle.rmm_spec.specs.declared.call.Call.TheVariants as call
-use Rattle.rmm_spec.specs.declared.change.Change.TheVariants.{RealmMade}
 use Rattle.rmm_spec.specs.declared.function_id.FunctionId.TheVariants as function
 use Rattle.rmm_spec.specs.declared.reply.Reply.{Reply}
 use Rattle.rmm_spec.specs.declared.reply.Reply.TheVariants as reply
@@ -13,8 +12,8 @@ use Rattle.rmm_spec.specs.Call.{call_from, class_of}
 use Rattle.rmm_spec.specs.Change.{changed}
 use Rattle.rmm_spec.specs.Ownership.{is_accepted}
 use Rattle.rmm_spec.specs.Rows.{Row, ok, decided}
-use Rattle.rmm_spec.specs.State.{State, RealmRecord, with_tag, has_tag}
-use Rattle.rmm_spec.specs.Walk.{table_number, table_size, entry_for, IsWalk}
+use Rattle.rmm_spec.specs.State.{State, RealmRecord, with_tag}
+use Rattle.rmm_spec.specs.Walk.{table_number, entry_for, IsWalk}
 use Rattle.rmm_spec.specs.Step.{is_placed, answer_of, outcome, CarriesOut, Step}
 use Rattle.rmm_spec.specs.Step.Front.{with_front}
 use Rattle.rmm_spec.specs.Step.Granule.{granule_delegate, granule_undelegate}
@@ -23,10 +22,11 @@ use Rattle.rmm_spec.specs.Step.Realm.{realm_create}
 use Rattle.rmm_spec.specs.Step.Words.{is_space, words_of}
 use Rattle.rmm_spec.specs.Sound.{IsSound}
 use Rattle.rmm_spec.proofs.TagLaws.{tag-has_tag, with_tag-restored}
+use Rattle.rmm_sound.proofs.Cases.{spot_itself}
 use Rattle.rmm_laws.specs.Commands.{command}
 use Rattle.rmm_laws.proofs.Facts.{root_covers}
 use Rattle.rmm_laws.proofs.RowLaws.{AllHold, AllRefuse, decided-accepted, decided-refused, front-refuse, front-rest}
-use Rattle.rmm_laws.proofs.Tests.{both_ways, is_spot-same}
+use Rattle.rmm_spec.proofs.Tests.{both_ways}
 
 -- by its placing
 placed-carries_by : (placed : Bool) (answer : Result Accepted Reply) (s : State) (given : Reply) (next : State) → is_accepted given ≡ true
@@ -107,7 +107,7 @@ fresh-root old next cpu ipa words step below =
     let c = call.RealmCreate rd root width level (slice_index words 4) (slice_index words 5) in
     let carried = rows-carry old c _ _ (answer_of old cpu c) (ok []) next refl (refl, tt) refl (placed-carries old cpu c (ok []) next refl step) in
     let space = (front-rest old c _ carried.0).0.1.0 in
-    root-walk next rd ipa level root (ap (λ (s : State). s.table rd level 0) carried.1.1 ∙ rw (is_spot-same rd level 0) refl) (root_number width level ipa space below)
+    root-walk next rd ipa level root (ap (λ (s : State). s.table rd level 0) carried.1.1 ∙ rw (spot_itself rd level 0) refl) (root_number width level ipa space below)
 
 -- and so in every sound state
 pub sound-root : (s : State) (rd ipa : ℕ) (realm : RealmRecord) → IsSound s → s.realm rd ≡ Some realm → ipa < 2 ^ realm.width

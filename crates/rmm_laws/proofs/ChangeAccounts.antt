@@ -1,5 +1,5 @@
 -- Each kind of change opens and closes claims as the state's ties come and go.
-use Rattle.std.proofs.Common.{◌≡◌, ℕ, zero, suc, ◌+◌, ◌-◌, ◌/◌, ◌<◌, ◌≤◌, ◌==◌, Bool, true, false, ◌⊎◌, if◌then◌else◌, nat_lt, nat_le, ◌&&◌, List, [], ◌∷◌, Option, Some, None, is_some, option_map, IsTrue, refl, sym, ◌∙◌, ap, ap₂, subst, inl, inr, arith}
+use Rattle.std.proofs.Common.{◌≡◌, ℕ, ◌+◌, ◌-◌, ◌/◌, ◌<◌, ◌≤◌, ◌==◌, Bool, true, false, ◌⊎◌, if◌then◌else◌, nat_lt, nat_le, ◌&&◌, List, [], ◌∷◌, Option, Some, None, is_some, option_map, IsTrue, refl, sym, ◌∙◌, ap, ap₂, subst, inl, inr, arith}
 use Rattle.std.proofs.lemmas.Bool.{eqb-true, eq-eqb, ne_eqb}
 use Rattle.rmm_spec.specs.declared.change.Change.{Change}
 use Rattle.rmm_spec.specs.declared.change.Change.TheVariants.{Unchanged, Retagged, RealmMade, RealmDestroyed, RecMade, RecDestroyed, RecordsChanged, TableMade, TableDestroyed, EntriesChanged}
@@ -9,24 +9,27 @@ use Rattle.rmm_spec.specs.declared.change.RecChange.{RecChange}
 use Rattle.rmm_spec.specs.declared.change.TagChange.{TagChange}
 use Rattle.rmm_spec.specs.declared.change.RealmUpdate.TheVariants as realm_update
 use Rattle.rmm_spec.specs.declared.entry.Entry.{Entry}
-use Rattle.rmm_spec.specs.declared.entry.Entry.TheVariants.{Unassigned, Assigned, Table, UnassignedNs, AssignedNs}
+use Rattle.rmm_spec.specs.declared.entry.Entry.TheVariants.{Unassigned, Assigned, UnassignedNs}
 use Rattle.rmm_spec.specs.declared.tag.Ripas.{Ripas}
 use Rattle.rmm_spec.specs.declared.tag.Ripas.TheVariants.{Empty}
 use Rattle.rmm_spec.specs.declared.tag.Tag.{Tag}
-use Rattle.rmm_spec.specs.declared.tag.Tag.TheVariants.{Undelegated, Delegated, Rd, Rec, RecAux, Data, Rtt}
+use Rattle.rmm_spec.specs.declared.tag.Tag.TheVariants.{Delegated, Rd, Rec, RecAux, Data, Rtt}
 use Rattle.rmm_spec.specs.Applicable.{CanRetag, CanMakeRealm, CanDestroyRealm, CanMakeRec, CanDestroyRec, CanMakeTable, CanDestroyTable, GoesWith, CanApply}
 use Rattle.rmm_spec.specs.Change.{new_realm, new_rec, realm_updated, with_tag_change, changed}
-use Rattle.rmm_spec.specs.Ownership.{Claim, claim, RecParts, rec_claims}
+use Rattle.rmm_spec.specs.Ownership.{Claim, claim, RecParts}
 use Rattle.rmm_spec.specs.Sound.{IsSound}
 use Rattle.rmm_spec.specs.State.{State, RealmRecord, RecRecord, with_tag, with_leaf, with_ripas, entry_with_ripas, is_spot, has_tag, realm_at, rec_at}
 use Rattle.rmm_spec.specs.Walk.{is_table, is_assigned, entry_at}
 use Rattle.rmm_spec.proofs.TagLaws.{tag-has_tag}
+use Rattle.rmm_sound.proofs.Cases.{spot_itself}
+use Rattle.rmm_sound.proofs.Searches.{realm_there, rec_there}
 use Rattle.rmm_laws.proofs.ChangeWords.{of_page, page_opened, page_closed, opened, closed}
 use Rattle.rmm_laws.proofs.Claims.{IsAmong}
-use Rattle.rmm_laws.proofs.Facts.{waits_not, realm_there, rec_there, entry_at-table, page-last, page-entry, entry-page, page-in_use, root_covers, unlinked-root}
-use Rattle.rmm_laws.proofs.Keeps.{IsRecLike, IsPage, Keeps, keeps-kept, keeps-all, same-realms, same-recs, same-tables, same-pages, with_records, records-kept, records-tag, records-leaf}
+use Rattle.rmm_laws.proofs.Facts.{waits_not, entry_at-table, page-last, page-entry, entry-page, page-in_use, root_covers, unlinked-root}
+use Rattle.rmm_laws.proofs.Keeps.{IsRecLike, IsPage, keeps-kept, keeps-all, same-realms, same-recs, same-tables, same-pages, with_records, records-kept, records-tag, records-leaf}
 use Rattle.rmm_laws.proofs.Owners.{IsKept, Accounts}
-use Rattle.rmm_laws.proofs.Tests.{both_ways, kept_unless, some_value, there, same_value, spot_parts, moved, is_spot-same}
+use Rattle.rmm_spec.proofs.Tests.{both_ways}
+use Rattle.rmm_laws.proofs.Tests.{kept_unless, some_value, there, same_value, spot_parts, moved}
 use Rattle.rmm_laws.proofs.Ties.{IsUnused}
 
 -- the root of each realm, and the parts of each REC
@@ -82,7 +85,7 @@ unfolding changed
 realm_made-accounts s rd root width level vmid algo sound can = record {
   opened = (
     (tag-has_tag s rd Delegated can.rd_tag, (refl, rw (eq-eqb rd rd refl) refl)),
-    ((tag-has_tag s root Delegated can.root_tag, (level, 0, rw (is_spot-same rd level 0) refl)), tt),
+    ((tag-has_tag s root Delegated can.root_tag, (level, 0, rw (spot_itself rd level 0) refl)), tt),
   );
   apart = ((can.apart, tt), (tt, tt));
   closed = tt;
@@ -223,7 +226,7 @@ table_made-accounts s rd level number rtt entry sound can =
     let plain : is_table (entry_at s rd (level - 1) number) ≡ false = rw can.is_entry at can.leaf in
     let absent = λ (granule : ℕ). unlinked-absent s rd level number granule below can.place.last plain in
     record {
-      opened = ((tag-has_tag s rtt Delegated can.rtt_tag, (level, number, rw (is_spot-same rd level number) refl)), tt);
+      opened = ((tag-has_tag s rtt Delegated can.rtt_tag, (level, number, rw (spot_itself rd level number) refl)), tt);
       apart = (tt, tt);
       closed = tt;
       kept = keeps-kept s (changed s (TableMade rd level number rtt entry)) [] (record {
@@ -325,7 +328,7 @@ module _ (s : State) (sound : IsSound s) (realm : Option RealmChange) (rec : Opt
   given-accounts : (granule : ℕ) (ripas : Ripas) → IsTrue (has_tag s granule Delegated) → is_assigned (entry_at s rd level number) ≡ false → entry ≡ Assigned ripas granule
       → Accounts s (replaced (Some (record { granule = granule; tag = Data }))) (claim granule Data rd ∷ []) []
   given-accounts granule ripas waits plain is = record {
-    opened = ((tag-has_tag s granule Delegated waits, (level, number, ripas, rw (is_spot-same rd level number) (ap Some is))), tt);
+    opened = ((tag-has_tag s granule Delegated waits, (level, number, ripas, rw (spot_itself rd level number) (ap Some is))), tt);
     apart = (tt, tt);
     closed = tt;
     kept = replaced-kept (Some (record { granule = granule; tag = Data })) [] (λ other r page. both_ways (rw page refl) plain);

@@ -1,14 +1,13 @@
 -- What each kind of change is, told without the state: the maps that it touches, the claims that it opens and closes,
 -- and the root or REC that it makes.
-use Rattle.std.proofs.Common.{◌≡◌, ℕ, Bool, true, ◌&&◌, ◌==◌, if◌then◌else◌, List, [], ◌∷◌, Option, Some, None}
+use Rattle.std.proofs.Common.{ℕ, Bool, true, ◌&&◌, ◌==◌, if◌then◌else◌, List, [], ◌∷◌, Option, Some, None}
 use Rattle.rmm_spec.specs.declared.change.Change.{Change}
 use Rattle.rmm_spec.specs.declared.change.Change.TheVariants.{Unchanged, Retagged, RealmMade, RealmDestroyed, RecMade, RecDestroyed, RecordsChanged, TableMade, TableDestroyed, EntriesChanged}
 use Rattle.rmm_spec.specs.declared.change.TagChange.{TagChange}
 use Rattle.rmm_spec.specs.declared.tag.Tag.{Tag}
-use Rattle.rmm_spec.specs.declared.tag.Tag.TheVariants.{Undelegated, Delegated, Rd, Rec, RecAux, Data, Rtt}
+use Rattle.rmm_spec.specs.declared.tag.Tag.TheVariants.{Delegated, Rd, Data, Rtt}
 use Rattle.rmm_spec.specs.Footprint.{Part, Tags, Realms, Recs, Tables, Leaves, is_listed}
-use Rattle.rmm_spec.specs.Ownership.{Claim, claim, RecParts, rec_claims, latest_root, latest_rec}
-use Rattle.rmm_spec.specs.Run.{JournalEntry}
+use Rattle.rmm_spec.specs.Ownership.{Claim, claim, RecParts, rec_claims}
 
 -- whether the part is listed, where something is changed in it
 abbrev pub is_listed_for : {A : Type 0} → Option A → Part → List Part → Bool

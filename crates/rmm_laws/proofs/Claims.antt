@@ -1,10 +1,10 @@
 -- The open claims on one granule, as claims are opened and closed.
-use Rattle.std.proofs.Common.{◌≡◌, ℕ, suc, zero, ◌==◌, Bool, true, false, ◌&&◌, List, [], ◌∷◌, ◌++◌, ◌⊎◌, filter, Contains, refl, sym, ◌∙◌, ap, inl, inr, arith}
+use Rattle.std.proofs.Common.{◌≡◌, ℕ, suc, zero, ◌==◌, Bool, true, false, ◌&&◌, List, [], ◌∷◌, ◌++◌, ◌⊎◌, filter, Contains, refl, sym, ◌∙◌, ap, subst, inl, inr, arith}
 use Rattle.std.proofs.lemmas.Bool.{cases_eq, and_parts, and_from, eqb-true, eq-eqb, ne_eqb}
 use Rattle.std.specs.List.{AllByRecursion}
 use Rattle.rmm_spec.specs.State.{tag_number}
 use Rattle.rmm_spec.specs.Ownership.{Claim, is_same_claim, without_claim, without_claims}
-use Rattle.rmm_laws.proofs.Tests.{both_ways}
+use Rattle.rmm_spec.proofs.Tests.{both_ways}
 
 -- the open claims on a granule, repeats kept
 abbrev pub claims_on : ℕ → List Claim → List Claim
@@ -72,61 +72,39 @@ claims_on-closed_elsewhere granule closed [] elsewhere = refl
 claims_on-closed_elsewhere granule closed (c ∷ claims) elsewhere =
     claims_on-closed_elsewhere_by granule closed c claims _ _ refl refl elsewhere (claims_on-closed_elsewhere granule closed claims elsewhere)
 
--- ---- a claim among the open ones, and among those on its granule
+-- ---- a claim among others
 
--- one claim more before those that have it
-Contains-more : {X : Type 0} (x y : X) (xs : List X) → Contains xs y → Contains (x ∷ xs) y
-Contains-more x y xs (k, below, is) = (suc k, omega arith, is)
+-- the claim is one of these
+abbrev pub IsAmong : Claim → List Claim → Type 0
+IsAmong c [] = ⊥
+IsAmong c (d ∷ ds) = (d ≡ c) ⊎ IsAmong c ds
 
--- what a list has is its first, or is among the others
-Contains-cases : {X : Type 0} (x y : X) (xs : List X) → Contains (x ∷ xs) y → (x ≡ y) ⊎ Contains xs y
-Contains-cases x y xs (zero, below, is) = inl is
-Contains-cases x y xs (suc k, below, is) = inr (k, omega arith, is)
+pub among-Contains : (c : Claim) (cs : List Claim) → IsAmong c cs → Contains cs c
+among-Contains c (d ∷ ds) (inl here) = (zero, omega arith, here)
+among-Contains c (d ∷ ds) (inr later) = let found = among-Contains c ds later in (suc found.0, omega arith, found.2)
+among-Contains c [] among = absurd among
 
--- where there is none
-pub Contains-none : {X : Type 0} (y : X) → Contains [] y → ⊥
-Contains-none y (k, below, is) = absurd (omega arith)
-
--- one claim more, by whether it is on the granule
-Contains-claims_on_by : (granule : ℕ) (c wanted : Claim) (claims : List Claim) (here : Bool) → (c.granule == granule) ≡ here → wanted.granule ≡ granule
-    → (Contains claims wanted → Contains (claims_on granule claims) wanted) → Contains (c ∷ claims) wanted → Contains (claims_on granule (c ∷ claims)) wanted
-Contains-claims_on_by granule c wanted claims true here on later among =
-    rw here (elim (Contains-cases c wanted claims among) [
-      | inl first ↦ (zero, omega arith, first)
-      | inr other ↦ Contains-more c wanted (claims_on granule claims) (later other)
-    ])
-Contains-claims_on_by granule c wanted claims false here on later among =
-    rw here (elim (Contains-cases c wanted claims among) [
-      | inl first ↦ both_ways (eq-eqb c.granule granule (ap (λ (x : Claim). x.granule) first ∙ on)) here
-      | inr other ↦ later other
-    ])
+pub Contains-among : (c : Claim) (cs : List Claim) → Contains cs c → IsAmong c cs
+Contains-among c [] (k, below, is) = absurd (omega arith)
+Contains-among c (d ∷ ds) (zero, below, is) = inl is
+Contains-among c (d ∷ ds) (suc k, below, is) = inr (Contains-among c ds (k, omega arith, is))
 
 -- an open claim is among those on its granule
-pub Contains-claims_on : (granule : ℕ) (wanted : Claim) (held : List Claim) → wanted.granule ≡ granule
-    → Contains held wanted → Contains (claims_on granule held) wanted
-Contains-claims_on granule wanted [] on among = among
-Contains-claims_on granule wanted (c ∷ claims) on among =
-    Contains-claims_on_by granule c wanted claims _ refl on (Contains-claims_on granule wanted claims on) among
-
--- one claim more, by whether it is on the granule
-Contains-from_claims_on_by : (granule : ℕ) (c wanted : Claim) (claims : List Claim) (here : Bool) → (c.granule == granule) ≡ here
-    → (Contains (claims_on granule claims) wanted → Contains claims wanted) → Contains (claims_on granule (c ∷ claims)) wanted → Contains (c ∷ claims) wanted
-Contains-from_claims_on_by granule c wanted claims true here later among =
-    elim (Contains-cases c wanted (claims_on granule claims) (rw here at among)) [
-      | inl first ↦ (zero, omega arith, first)
-      | inr other ↦ Contains-more c wanted claims (later other)
-    ]
-Contains-from_claims_on_by granule c wanted claims false here later among = Contains-more c wanted claims (later (rw here at among))
+pub among-on : (c : Claim) (held : List Claim) → IsAmong c held → IsAmong c (claims_on c.granule held)
+among-on c [] among = among
+among-on c (d ∷ ds) (inl here) = rw (claims_on-opened c.granule d ds (ap (λ (x : Claim). x.granule) here)) (inl here)
+among-on c (d ∷ ds) (inr later) = elim (cases_eq d.granule c.granule) [
+  | inl on ↦ rw (claims_on-opened c.granule d ds on) (inr (among-on c ds later))
+  | inr away ↦ rw (claims_on-opened_elsewhere c.granule d ds away) (among-on c ds later)
+]
 
 -- what is among the claims on a granule is open
-pub Contains-from_claims_on : (granule : ℕ) (wanted : Claim) (held : List Claim) → Contains (claims_on granule held) wanted → Contains held wanted
-Contains-from_claims_on granule wanted [] among = among
-Contains-from_claims_on granule wanted (c ∷ claims) among =
-    Contains-from_claims_on_by granule c wanted claims _ refl (Contains-from_claims_on granule wanted claims) among
-
--- the one of one
-pub Contains-one : {X : Type 0} (x y : X) → Contains (x ∷ []) y → x ≡ y
-Contains-one x y among = elim (Contains-cases x y [] among) [ inl is ↦ is | inr none ↦ absurd (Contains-none y none) ]
+pub on-among : (c : Claim) (granule : ℕ) (held : List Claim) → IsAmong c (claims_on granule held) → IsAmong c held
+on-among c granule [] among = among
+on-among c granule (d ∷ ds) among = elim (cases_eq d.granule granule) [
+  | inl on ↦ elim (subst (IsAmong c) (claims_on-opened granule d ds on) among) [ inl here ↦ inl here | inr later ↦ inr (on-among c granule ds later) ]
+  | inr away ↦ inr (on-among c granule ds (subst (IsAmong c) (claims_on-opened_elsewhere granule d ds away) among))
+]
 
 -- ---- several claims
 
@@ -138,11 +116,6 @@ AreElsewhere granule cs = AllByRecursion (λ (c : Claim). c.granule ≡ granule 
 abbrev pub AreApart : List Claim → Type 0
 AreApart [] = Unit {0}
 AreApart (c ∷ cs) = AllByRecursion (λ (d : Claim). (c.granule == d.granule) ≡ false) cs × AreApart cs
-
--- the claim is one of these
-abbrev pub IsAmong : Claim → List Claim → Type 0
-IsAmong c [] = ⊥
-IsAmong c (d ∷ ds) = (d ≡ c) ⊎ IsAmong c ds
 
 -- what is elsewhere is none of these
 pub elsewhere-among : (c : Claim) (cs : List Claim) → AreElsewhere c.granule cs → IsAmong c cs → ⊥

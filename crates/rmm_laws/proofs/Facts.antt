@@ -9,45 +9,20 @@ use Rattle.rmm_spec.specs.declared.tag.Ripas.{Ripas}
 use Rattle.rmm_spec.specs.declared.tag.Ripas.TheVariants.{Empty}
 use Rattle.rmm_spec.specs.declared.tag.Tag.{Tag}
 use Rattle.rmm_spec.specs.declared.tag.Tag.TheVariants.{Delegated, Rd, Rec}
-use Rattle.rmm_spec.specs.State.{State, RealmRecord, RecRecord, no_realm, no_rec, has_tag, realm_at, rec_at}
-use Rattle.rmm_spec.specs.Walk.{entry_size, table_size, full, is_table, is_assigned, linked_entry, entry_at, is_live, is_in_use, has_link}
+use Rattle.rmm_spec.specs.State.{State, RealmRecord, has_tag}
+use Rattle.rmm_spec.specs.Walk.{table_size, full, is_table, linked_entry, entry_at, is_live, is_in_use, has_link}
 use Rattle.rmm_spec.specs.Step.Words.{is_space}
 use Rattle.rmm_spec.specs.Sound.{IsSound}
 use Rattle.rmm_spec.proofs.TagLaws.{tag-has_tag}
-use Rattle.rmm_laws.proofs.Tests.{both_ways, some_value, there, any_below-none}
+use Rattle.rmm_spec.proofs.Tests.{both_ways}
+use Rattle.rmm_sound.proofs.Searches.{any_below-false}
+use Rattle.rmm_laws.proofs.Tests.{some_value, there}
 
 -- ---- records
 
 -- a granule that waits for use has no other tag
 pub waits_not : (s : State) (g : ℕ) (tag : Tag) → (tag ≡ Delegated → ⊥) → IsTrue (has_tag s g Delegated) → IsTrue (has_tag s g tag) → ⊥
 waits_not s g tag other waits has = other (sym (tag-has_tag s g tag has) ∙ tag-has_tag s g Delegated waits)
-
--- what is some value is what is read
-read_some : {A : Type 0} (found : Option A) (x otherwise : A) → found ≡ Some x → found ≡ Some (unwrap_or found otherwise)
-read_some found x otherwise is = is ∙ ap (λ f. Some (unwrap_or f otherwise)) (sym is)
-
--- a realm's record at its RD
-pub realm_there : (s : State) (rd : ℕ) → IsSound s → IsTrue (has_tag s rd Rd) → s.realm rd ≡ Some (realm_at s rd)
-unfolding realm_at
-realm_there s rd sound tagged =
-    let found = some_value (s.realm rd) (sound.realms.tagged rd ∙ tagged) in
-    read_some (s.realm rd) found.0 no_realm found.1
-
--- a REC's record at its granule
-pub rec_there : (s : State) (rec : ℕ) → IsSound s → IsTrue (has_tag s rec Rec) → s.rec rec ≡ Some (rec_at s rec)
-unfolding rec_at
-rec_there s rec sound tagged =
-    let found = some_value (s.rec rec) (sound.recs.tagged rec ∙ tagged) in
-    read_some (s.rec rec) found.0 no_rec found.1
-
--- the record that is there is read
-pub rec_at-there : (s : State) (rec : ℕ) (r : RecRecord) → s.rec rec ≡ Some r → rec_at s rec ≡ r
-unfolding rec_at
-rec_at-there s rec r is = rw is refl
-
-pub realm_at-there : (s : State) (rd : ℕ) (r : RealmRecord) → s.realm rd ≡ Some r → realm_at s rd ≡ r
-unfolding realm_at
-realm_at-there s rd r is = rw is refl
 
 -- ---- entries
 
@@ -100,7 +75,7 @@ pub page-in_use : (s : State) (rd level number granule : ℕ) (ripas : Ripas) �
 unfolding is_in_use
 page-in_use s rd level number granule ripas sound is unused =
     let split : 512 * (number / 512) + number % 512 ≡ number = div-add-mod number 512 in
-    let idle = any_below-none 512 (λ k. is_live (entry_at s rd level (512 * (number / 512) + k))) unused (number % 512) (omega arith) in
+    let idle = any_below-false 512 (λ k. is_live (entry_at s rd level (512 * (number / 512) + k))) unused (number % 512) (omega arith) in
     let live : is_live (entry_at s rd level number) ≡ true = rw (page-entry s rd level number granule ripas sound is) refl in
     both_ways live (subst (λ n. is_live (entry_at s rd level n) ≡ false) split idle)
 
@@ -156,7 +131,7 @@ unlinked-alone s rd r sound is unlinked zero number table =
     let linked = entry_at-table s rd level number found.0 (omega arith) (subst (λ l. s.table rd l number ≡ Some found.0) next found.1) in
     let zeroth : 512 * 0 + number ≡ number = omega arith in
     both_ways linked (subst (λ n. is_table (entry_at s rd level n) ≡ false) zeroth
-    (any_below-none 512 (λ k. is_table (entry_at s rd level (512 * 0 + k))) unlinked number within))
+    (any_below-false 512 (λ k. is_table (entry_at s rd level (512 * 0 + k))) unlinked number within))
 unlinked-alone s rd r sound is unlinked (suc d) number table =
     let level = r.start_level + d in
     let plain : r.start_level + suc d ≡ suc level = omega arith in

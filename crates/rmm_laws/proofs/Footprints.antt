@@ -1,5 +1,5 @@
 -- A change leaves the maps that it isn't within, and each command's change is within the command's maps.
-use Rattle.std.proofs.Common.{◌≡◌, ℕ, Bool, true, false, ◌&&◌, Option, Some, None, List, refl, sym, ◌∙◌}
+use Rattle.std.proofs.Common.{◌≡◌, ℕ, Bool, true, ◌&&◌, Option, Some, None, List, refl, ◌∙◌}
 use Rattle.std.proofs.lemmas.Bool.{and_parts}
 use Rattle.rmm_spec.specs.declared.change.Change.{Change}
 use Rattle.rmm_spec.specs.declared.change.Change.TheVariants.{Unchanged, Retagged, RealmMade, RealmDestroyed, RecMade, RecDestroyed, RecordsChanged, TableMade, TableDestroyed, EntriesChanged}
@@ -12,7 +12,7 @@ use Rattle.rmm_spec.specs.Change.{changed, with_tag_change, with_realm_change, w
 use Rattle.rmm_spec.specs.Footprint.{Part, Tags, Realms, Recs, Tables, Leaves, is_listed, KeepsOthers}
 use Rattle.rmm_spec.specs.State.{State}
 use Rattle.rmm_laws.proofs.ChangeWords.{is_listed_for, is_within}
-use Rattle.rmm_laws.proofs.Tests.{both_ways}
+use Rattle.rmm_spec.proofs.Tests.{both_ways}
 
 -- nothing changes
 pub same-keeps : (parts : List Part) (s : State) → KeepsOthers parts s s

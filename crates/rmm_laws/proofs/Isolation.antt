@@ -19,15 +19,16 @@ use Rattle.rmm_spec.specs.Sound.{IsSound}
 use Rattle.rmm_spec.specs.State.{State, realm_at, rec_at, opening}
 use Rattle.rmm_spec.specs.Step.{outcome, CarriesOut, Step}
 use Rattle.rmm_spec.specs.Step.Ripas.{reached_change}
+use Rattle.rmm_sound.proofs.Changes.{changed_sound}
+use Rattle.rmm_sound.proofs.Opening.{opening_sound}
+use Rattle.rmm_sound.proofs.Runs.{done_applies, reached_applies}
+use Rattle.rmm_sound.proofs.Searches.{realm_there, rec_there}
 use Rattle.rmm_laws.proofs.ChangeAccounts.{roots_at, recs_at, change-accounts}
 use Rattle.rmm_laws.proofs.ChangeWords.{opened, closed, root_of, rec_of}
-use Rattle.rmm_laws.proofs.CommandFacts.{Tells, OutcomeTells}
-use Rattle.rmm_laws.proofs.Facts.{realm_there, rec_there}
+use Rattle.rmm_laws.proofs.CommandFacts.{Tells, OutcomeTells, outcome-tells}
 use Rattle.rmm_laws.proofs.Owners.{AreOwned, changed-owned, owned-isolated}
-use Rattle.rmm_laws.proofs.Premises.{AreSoundnessLaws}
 use Rattle.rmm_laws.proofs.Recorded.{IsRecorded, root_in, parts_in, roots-after, recs-after}
-use Rattle.rmm_laws.proofs.Steps.{outcome-tells}
-use Rattle.rmm_laws.proofs.Tests.{both_ways}
+use Rattle.rmm_spec.proofs.Tests.{both_ways}
 
 -- Of the commits so far (latest first), the open claims and the state.
 pub record IsAccounted (earlier : List JournalEntry) (held : List Claim) (s : State) : Type 0 where
@@ -51,7 +52,7 @@ closed-same earlier held s (RecMade rd rec mpidr flags aux0 aux1) a can = refl
 closed-same earlier held s (RecordsChanged realm rec) a can = refl
 closed-same earlier held s (TableMade rd level number rtt entry) a can = refl
 
-module _ (laws : AreSoundnessLaws) (earlier : List JournalEntry) (held : List Claim) (old : State) (entry : JournalEntry) (a : IsAccounted earlier held old) where
+module _ (earlier : List JournalEntry) (held : List Claim) (old : State) (entry : JournalEntry) (a : IsAccounted earlier held old) where
   -- a refusal leaves all as it is
   refused-accounted : (given : Reply) → entry.given ≡ given → is_accepted given ≡ false → IsAccounted (entry ∷ earlier) (claims_after given entry earlier held) old
   refused-accounted (reply.Ok words) is refused = both_ways refl refused
@@ -76,7 +77,7 @@ module _ (laws : AreSoundnessLaws) (earlier : List JournalEntry) (held : List Cl
       let closes : claims_closed call words earlier ≡ closed (roots_at old) (recs_at old) change = tells.closes earlier ∙ closed-same earlier held old change a can in
       let owned = changed-owned old (changed old change) (opened change) (closed (roots_at old) (recs_at old) change) held a.sound (change-accounts old change a.sound can) a.owned in
       record {
-        sound = laws.keeps old change a.sound can;
+        sound = changed_sound old change a.sound can;
         owned = subst (λ opens. AreOwned (opens ++ without_claims (claims_closed call words earlier) held) (changed old change)) (sym tells.opens)
             (subst (λ cs. AreOwned (opened change ++ without_claims cs held) (changed old change)) (sym closes) owned);
         roots = λ rd realm there. rw (is, tells.roots rd) (roots-after old change (λ x. latest_root x earlier) a.sound can a.roots rd realm there);
@@ -85,48 +86,48 @@ module _ (laws : AreSoundnessLaws) (earlier : List JournalEntry) (held : List Cl
 
   -- whatever is carried out
   carried-accounted : (found : Result Accepted Reply) (new : State) → outcome old entry.cpu (call_of entry.command) ≡ found
-      → OutcomeTells entry.command.function entry.command.words.items found → CarriesOut found old entry.given new
+      → OutcomeTells old entry.command.function entry.command.words.items found → CarriesOut found old entry.given new
       → IsAccounted (entry ∷ earlier) (claims_after entry.given entry earlier held) new
   carried-accounted (Err refusal) new is tells p = rw p.1 (refused-accounted entry.given refl (rw p.0 tells))
   carried-accounted (Ok (Done words change)) new is tells p =
       subst (λ given. IsAccounted (entry ∷ earlier) (claims_after given entry earlier held) new) (sym p.0)
-      (rw p.1 (accepted-accounted words.items change p.0 tells (laws.applies old entry.cpu (call_of entry.command) words change a.sound is)))
+      (rw p.1 (accepted-accounted words.items change p.0 tells (done_applies old entry.cpu entry.command words.items change a.sound is)))
   carried-accounted (Ok (Reaches stretch)) new is tells (top, (reached, is_ok, is_next)) =
       subst (λ given. IsAccounted (entry ∷ earlier) (claims_after given entry earlier held) new) (sym is_ok)
-      (rw is_next (accepted-accounted (top ∷ []) (reached_change stretch top) is_ok (tells top)
-      (laws.reaches old entry.cpu (call_of entry.command) stretch top a.sound is reached)))
+      (rw is_next (accepted-accounted (top ∷ []) (reached_change stretch top) is_ok (tells.1 top)
+      (reached_applies old entry.cpu entry.command stretch top a.sound is reached)))
 
 -- each commit stays accounted for
-step-accounted : AreSoundnessLaws → (earlier : List JournalEntry) (held : List Claim) (old new : State) (entry : JournalEntry) → IsAccounted earlier held old
+step-accounted : (earlier : List JournalEntry) (held : List Claim) (old new : State) (entry : JournalEntry) → IsAccounted earlier held old
     → Step old entry.cpu entry.command entry.given new → IsAccounted (entry ∷ earlier) (claims_after entry.given entry earlier held) new
-step-accounted laws earlier held old new entry a step =
+step-accounted earlier held old new entry a step =
     let found = outcome old entry.cpu (call_of entry.command) in
-    carried-accounted laws earlier held old entry a found new refl (outcome-tells entry.command old entry.cpu found refl) step
+    carried-accounted earlier held old entry a found new refl (outcome-tells entry.command old entry.cpu found refl) step
 
 -- and so a run
-run-accounted : AreSoundnessLaws → (entries earlier : List JournalEntry) (held : List Claim) (old last : State) → IsAccounted earlier held old → IsRun old entries last
+run-accounted : (entries earlier : List JournalEntry) (held : List Claim) (old last : State) → IsAccounted earlier held old → IsRun old entries last
     → (all : List JournalEntry) × IsAccounted all (claims_from earlier held entries) last
-run-accounted laws [] earlier held old last a run = (earlier, rw run a)
-run-accounted laws (entry ∷ entries) earlier held old last a (next, step, run) =
-    run-accounted laws entries (entry ∷ earlier) (claims_after entry.given entry earlier held) next last (step-accounted laws earlier held old next entry a step) run
+run-accounted [] earlier held old last a run = (earlier, rw run a)
+run-accounted (entry ∷ entries) earlier held old last a (next, step, run) =
+    run-accounted entries (entry ∷ earlier) (claims_after entry.given entry earlier held) next last (step-accounted earlier held old next entry a step) run
 
 -- at the opening nothing is claimed, and nothing is there
-opening-accounted : AreSoundnessLaws → (setup : Setup) → IsAccounted [] [] (opening setup)
+opening-accounted : (setup : Setup) → IsAccounted [] [] (opening setup)
 unfolding opening
-opening-accounted laws setup = record {
-  sound = laws.opens setup;
+opening-accounted setup = record {
+  sound = opening_sound setup;
   owned = record { each = λ granule. inl (refl, inl refl) };
   roots = λ rd realm there. absurd (let bad : None ≡ Some realm = there in cc);
   recs = λ rec r there. absurd (let bad : None ≡ Some r = there in cc);
 }
 
 -- whatever a run leaves, every granule is at most one realm's, in one role
-pub run-isolated : AreSoundnessLaws → (setup : Setup) (entries : List JournalEntry) (last : State) → IsRun (opening setup) entries last → IsIsolated entries last
+pub run-isolated : (setup : Setup) (entries : List JournalEntry) (last : State) → IsRun (opening setup) entries last → IsIsolated entries last
 unfolding claims
-run-isolated laws setup entries last run =
-    let kept = run-accounted laws entries [] [] (opening setup) last (opening-accounted laws setup) run in
+run-isolated setup entries last run =
+    let kept = run-accounted entries [] [] (opening setup) last (opening-accounted setup) run in
     owned-isolated entries last kept.1.sound kept.1.owned
 
 -- and so after each first part of its commits
-pub isolated_throughout : AreSoundnessLaws → (history : History) (entries : List JournalEntry) → IsIsolatedThroughout history entries
-isolated_throughout laws history entries count s _ run = run-isolated laws history.setup (take count entries) s run
+pub isolated_throughout : (history : History) (entries : List JournalEntry) → IsIsolatedThroughout history entries
+isolated_throughout history entries count s _ run = run-isolated history.setup (take count entries) s run

@@ -1,5 +1,5 @@
 -- What stays tied where the maps of a state stay, or is closed.
-use Rattle.std.proofs.Common.{◌≡◌, ℕ, ◌==◌, Bool, true, false, ◌⊎◌, if◌then◌else◌, List, [], Option, Some, None, is_some, refl, sym, ◌∙◌, ap, inl, inr}
+use Rattle.std.proofs.Common.{◌≡◌, ℕ, ◌==◌, true, ◌⊎◌, List, [], Option, Some, None, is_some, refl, sym, ◌∙◌, ap, inl, inr}
 use Rattle.rmm_spec.specs.declared.change.RealmChange.{RealmChange}
 use Rattle.rmm_spec.specs.declared.change.RecChange.{RecChange}
 use Rattle.rmm_spec.specs.declared.change.RecUpdate.{RecUpdate}
@@ -12,9 +12,9 @@ use Rattle.rmm_spec.specs.declared.tag.Tag.{Tag}
 use Rattle.rmm_spec.specs.declared.tag.Tag.TheVariants.{Undelegated, Delegated, Rd, Rec, RecAux, Data, Rtt}
 use Rattle.rmm_spec.specs.Change.{realm_updated, rec_updated, with_realm_change, with_rec_change, with_tag_change}
 use Rattle.rmm_spec.specs.State.{State, RealmRecord, RecRecord, realm_at, rec_at}
-use Rattle.rmm_spec.specs.Ownership.{Claim, claim, IsTied, rec_claims}
+use Rattle.rmm_spec.specs.Ownership.{Claim, claim, IsTied}
+use Rattle.rmm_sound.proofs.Searches.{rec_at-is}
 use Rattle.rmm_laws.proofs.Claims.{IsAmong}
-use Rattle.rmm_laws.proofs.Facts.{rec_at-there}
 use Rattle.rmm_laws.proofs.Owners.{IsKept}
 use Rattle.rmm_laws.proofs.Tests.{kept_unless}
 use Rattle.std.proofs.lemmas.Bool.{eqb-true}
@@ -126,7 +126,7 @@ rec_change-keeps s (Some change) = record {
   recs = λ rec r is. kept_unless (IsRecLike r) (rec == change.rec) (Some (rec_updated change.update (rec_at s change.rec))) (s.rec rec) (inl (r, is, refl, refl, refl))
       (λ hit.
       let here : s.rec change.rec ≡ Some r = ap s.rec (sym (eqb-true rec change.rec hit)) ∙ is in
-      inl (rw (rec_at-there s change.rec r here) (rec_updated-like change.update r)));
+      inl (rw (rec_at-is s change.rec r here) (rec_updated-like change.update r)));
   tables = same-tables s [];
   pages = same-pages s [];
 }

@@ -14,8 +14,5 @@ pub mod Facts
 pub mod Keeps
 pub mod ChangeAccounts
 pub mod Footprints
-pub mod Steps
-pub mod Ends
 pub mod Recorded
-pub mod Premises
 pub mod Isolation

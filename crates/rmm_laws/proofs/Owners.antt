@@ -1,14 +1,13 @@
 -- The open claims are the ties of the state, each once: kept by a change that opens and closes as ties come and go.
-use Rattle.std.proofs.Common.{◌≡◌, ℕ, List, [], ◌∷◌, ◌++◌, ◌⊎◌, ◌≤◌, length, Contains, zero, refl, sym, ◌∙◌, ap, subst, inl, inr, arith}
+use Rattle.std.proofs.Common.{◌≡◌, ℕ, List, [], ◌∷◌, ◌++◌, ◌⊎◌, Contains, refl, sym, ◌∙◌, ap, subst, inl, inr, arith}
 use Rattle.std.specs.List.{AllByRecursion}
-use Rattle.rmm_spec.specs.declared.tag.Tag.{Tag}
-use Rattle.rmm_spec.specs.declared.tag.Tag.TheVariants.{Undelegated, Delegated}
+use Rattle.rmm_spec.specs.declared.tag.Tag.TheVariants.{Delegated}
 use Rattle.rmm_spec.specs.Run.{JournalEntry}
 use Rattle.rmm_spec.specs.Sound.{IsSound}
 use Rattle.rmm_spec.specs.State.{State}
 use Rattle.rmm_spec.specs.Ownership.{Claim, claim, claims, without_claims, owners, IsTied, Spot, IsIsolated}
 use Rattle.rmm_spec.proofs.TagLaws.{tag-has_tag}
-use Rattle.rmm_laws.proofs.Claims.{claims_on, Contains-claims_on, Contains-from_claims_on, Contains-none, Contains-one, AreElsewhere, AreApart, IsAmong, elsewhere-among, opened_on, none_closed, closed_on}
+use Rattle.rmm_laws.proofs.Claims.{claims_on, among-Contains, Contains-among, among-on, on-among, AreElsewhere, AreApart, IsAmong, elsewhere-among, opened_on, none_closed, closed_on}
 use Rattle.rmm_laws.proofs.Ties.{IsUnused, tied-tag, tied-used, tied-once}
 
 -- a claim that the state has
@@ -93,17 +92,19 @@ same_spot a b realm level number = λ i. record { realm = realm i; level = level
 -- an open claim is a tie of the state
 claimed-tied : (held : List Claim) (s : State) (c : Claim) → AreOwned held s → Contains held c → IsKept s c
 claimed-tied held s c owned among =
-    let here = Contains-claims_on c.granule c held refl among in
+    let here = among-on c held (Contains-among c held among) in
     elim (owned.each c.granule) [
-      | inl free ↦ absurd (Contains-none c (rw free.0 at here))
-      | inr taken ↦ subst (IsKept s) (Contains-one taken.0 c (rw taken.2 at here)) taken.3
+      | inl free ↦ absurd (subst (IsAmong c) free.0 here)
+      | inr taken ↦ elim (subst (IsAmong c) taken.2 here) [ inl same ↦ subst (IsKept s) same taken.3 | inr bad ↦ absurd bad ]
     ]
 
 -- a tie of the state is an open claim
 tied-claimed : (held : List Claim) (s : State) (c : Claim) → IsSound s → AreOwned held s → IsKept s c → Contains held c
 tied-claimed held s c sound owned kept = elim (owned.each c.granule) [
   | inl free ↦ absurd (tied-used s c.role c.granule c.realm sound kept free.1)
-  | inr taken ↦ Contains-from_claims_on c.granule c held (rw taken.2 (zero, omega arith, kept-once s taken.0 c sound taken.3 kept taken.1))
+  | inr taken ↦
+      among-Contains c held (on-among c c.granule held
+      (subst (IsAmong c) (sym taken.2) (inl (kept-once s taken.0 c sound taken.3 kept taken.1))))
 ]
 
 -- in a sound state whose ties are the open claims no granule is more than one realm's

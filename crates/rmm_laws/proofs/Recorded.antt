@@ -1,5 +1,5 @@
 -- What made a realm or a REC that there is, is read from the commits: the latest that names it.
-use Rattle.std.proofs.Common.{◌≡◌, ℕ, ◌==◌, Bool, true, false, ◌⊎◌, if◌then◌else◌, Option, Some, None, is_some, unwrap_or, List, [], ◌∷◌, IsTrue, refl, sym, ◌∙◌, ap, ap₂, subst, inl, inr}
+use Rattle.std.proofs.Common.{◌≡◌, ℕ, ◌==◌, Bool, true, false, if◌then◌else◌, Option, Some, None, unwrap_or, refl, sym, ◌∙◌, ap, inl, inr}
 use Rattle.std.proofs.lemmas.Bool.{eqb-true, eq-eqb, ne_eqb}
 use Rattle.rmm_spec.specs.declared.change.Change.{Change}
 use Rattle.rmm_spec.specs.declared.change.Change.TheVariants.{Unchanged, Retagged, RealmMade, RealmDestroyed, RecMade, RecDestroyed, RecordsChanged, TableMade, TableDestroyed, EntriesChanged}
@@ -15,10 +15,11 @@ use Rattle.rmm_spec.specs.Change.{new_realm, new_rec, realm_updated, rec_updated
 use Rattle.rmm_spec.specs.Ownership.{RecParts}
 use Rattle.rmm_spec.specs.Sound.{IsSound}
 use Rattle.rmm_spec.specs.State.{State, RealmRecord, RecRecord, realm_at, rec_at}
+use Rattle.rmm_sound.proofs.Searches.{realm_at-is, realm_there, rec_at-is, rec_there}
 use Rattle.rmm_laws.proofs.ChangeWords.{root_of, rec_of}
-use Rattle.rmm_laws.proofs.Facts.{realm_there, rec_there, realm_at-there, rec_at-there}
 use Rattle.rmm_laws.proofs.Keeps.{with_records, rec_updated-like, tag_change-rest, realm_change-rest, rec_change-rest}
-use Rattle.rmm_laws.proofs.Tests.{both_ways, chosen, there}
+use Rattle.rmm_spec.proofs.Tests.{both_ways}
+use Rattle.rmm_laws.proofs.Tests.{chosen}
 
 -- each value of the map is recorded: this is read from it
 abbrev pub IsRecorded : {V R : Type 0} → (V → R) → (ℕ → R) → (ℕ → Option V) → Type 0
@@ -85,7 +86,7 @@ realm_change-recorded s t (Some change) roots sound can same recorded =
     let is = realm_there s change.rd sound can.0 in
     let here : t.realm change.rd ≡ Some (realm_at s change.rd) = ap (λ (f : ℕ → Option RealmRecord). f change.rd) same ∙ is in
     put-recorded root_in roots t.realm change.rd (realm_updated change.update (realm_at t change.rd)) (rw same recorded)
-    (recorded change.rd (realm_at s change.rd) is ∙ sym (realm_updated-root change.update (realm_at t change.rd) ∙ ap root_in (realm_at-there t change.rd (realm_at s change.rd) here)))
+    (recorded change.rd (realm_at s change.rd) is ∙ sym (realm_updated-root change.update (realm_at t change.rd) ∙ ap root_in (realm_at-is t change.rd (realm_at s change.rd) here)))
 
 rec_change-recorded : (s t : State) (change : Option RecChange) (recs : ℕ → RecParts) → IsSound s → CanChangeRec s change → t.rec ≡ s.rec
     → IsRecorded parts_in recs s.rec → IsRecorded parts_in recs (with_rec_change t change).rec
@@ -94,7 +95,7 @@ rec_change-recorded s t (Some change) recs sound can same recorded =
     let is = rec_there s change.rec sound can.0 in
     let here : t.rec change.rec ≡ Some (rec_at s change.rec) = ap (λ (f : ℕ → Option RecRecord). f change.rec) same ∙ is in
     put-recorded parts_in recs t.rec change.rec (rec_updated change.update (rec_at t change.rec)) (rw same recorded)
-    (recorded change.rec (rec_at s change.rec) is ∙ sym (rec_updated-parts change (rec_at t change.rec) ∙ ap parts_in (rec_at-there t change.rec (rec_at s change.rec) here)))
+    (recorded change.rec (rec_at s change.rec) is ∙ sym (rec_updated-parts change (rec_at t change.rec) ∙ ap parts_in (rec_at-is t change.rec (rec_at s change.rec) here)))
 
 -- entries leave realms and RECs as they are
 entry_change-rest : (s : State) (rd level : ℕ) (entries : EntryChange) → ((with_entry_change s rd level entries).realm ≡ s.realm) × ((with_entry_change s rd level entries).rec ≡ s.rec)

@@ -1,5 +1,5 @@
 -- A script that is replayed to a state is a run that leads there.
-use Rattle.std.proofs.Common.{◌≡◌, ℕ, zero, suc, ◌+◌, ◌-◌, ◌*◌, ◌/◌, ◌%◌, ◌^◌, ◌<◌, ◌≤◌, Bool, true, false, ◌&&◌, if◌then◌else◌, ◌==◌, ◌⊎◌, inl, inr, IsTrue, List, [], ◌∷◌, Option, Some, None, is_some, IsSome, option_map, Result, Ok, Err, nat_lt, nat_le, refl, sym, ◌∙◌, ap, ap₂, arith}
+use Rattle.std.proofs.Common.{◌≡◌, ℕ, zero, suc, ◌+◌, ◌-◌, ◌*◌, ◌/◌, ◌%◌, ◌^◌, ◌<◌, ◌≤◌, Bool, true, false, ◌&&◌, if◌then◌else◌, ◌==◌, inl, inr, IsTrue, List, [], ◌∷◌, Option, Some, None, is_some, option_map, Result, Ok, Err, nat_lt, nat_le, refl, sym, ◌∙◌, ap, ap₂, arith}
 use Rattle.std.proofs.Math.Nat.{div-add-mod, mul-mod_left, mul-div_cancel}
 use Rattle.std.proofs.lemmas.Nat.{pow_pos}
 use Rattle.std.proofs.lemmas.Bool.{and_parts, and_from, eqb-true, eq-eqb}
@@ -19,7 +19,8 @@ use Rattle.rmm_spec.specs.State.{State, all_below}
 use Rattle.rmm_spec.specs.Step.{outcome, CarriesOut}
 use Rattle.rmm_spec.specs.Step.Ripas.{can_be_set, IsReached, is_reached, reached_change}
 use Rattle.rmm_spec.specs.Walk.{entry_size, table_size, entry_number, table_number, entry_at, is_multiple}
-use Rattle.rmm_laws.proofs.Tests.{both_ways, last_or_below}
+use Rattle.rmm_spec.proofs.Tests.{both_ways}
+use Rattle.rmm_laws.proofs.Tests.{last_or_below}
 
 -- what is chosen is there where the test holds
 if_some : {A : Type 0} (b : Bool) (x y : A) → (if b then Some x else None) ≡ Some y → (b ≡ true) × (x ≡ y)

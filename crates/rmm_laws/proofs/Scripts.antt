@@ -1,5 +1,5 @@
 -- Worked scripts, replayed by computing; measurements stay folded.
-use Rattle.std.proofs.Common.{◌≡◌, ℕ, Bool, true, false, List, [], ◌∷◌, ◌++◌, take, is_some, refl}
+use Rattle.std.proofs.Common.{◌≡◌, Bool, true, false, List, [], ◌∷◌, ◌++◌, take, is_some, refl}
 use Rattle.std.specs.List.{AllByRecursion}
 use Rattle.rmm_spec.specs.declared.function_id.FunctionId.TheVariants.{DataCreateUnknown, RttInitRipas, RttSetRipas}
 use Rattle.rmm_spec.specs.Call.{call_from, class_of}

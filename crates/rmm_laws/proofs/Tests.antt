@@ -1,11 +1,8 @@
--- Tests that have one answer, and values chosen by a test.
-use Rattle.std.proofs.Common.{◌≡◌, ℕ, zero, suc, ◌+◌, ◌<◌, Bool, true, false, ◌&&◌, ◌||◌, ◌==◌, ◌⊎◌, if◌then◌else◌, Option, Some, None, is_some, IsTrue, refl, sym, ◌∙◌, inl, inr, arith}
+-- Values chosen by a test, and searches.
+use Rattle.std.proofs.Common.{◌≡◌, ℕ, zero, suc, ◌<◌, Bool, true, false, ◌&&◌, ◌||◌, ◌==◌, ◌⊎◌, if◌then◌else◌, Option, Some, None, is_some, refl, sym, ◌∙◌, inl, inr, arith}
 use Rattle.std.proofs.lemmas.Bool.{and_parts, eqb-true, eq-eqb}
 use Rattle.rmm_spec.specs.State.{is_spot, any_below}
-
--- a test can't have both answers
-pub both_ways : {P : Type 0} {b : Bool} → b ≡ true → b ≡ false → P
-both_ways {P} {b} holds fails = absurd (let bad : true ≡ false = sym holds ∙ fails in cc)
+use Rattle.rmm_spec.proofs.Tests.{both_ways}
 
 -- what is chosen is the one or the other
 pub chosen : {A : Type 0} (b : Bool) (x y z : A) → (if b then x else y) ≡ z → ((b ≡ true) × (x ≡ z)) ⊎ ((b ≡ false) × (y ≡ z))
@@ -41,22 +38,6 @@ spot_parts rd level number other l n hit =
 pub moved : {A : Type 0} (f : ℕ → ℕ → ℕ → A) (rd level number other l n : ℕ) → (other ≡ rd) × (l ≡ level) × (n ≡ number) → f rd level number ≡ f other l n
 moved f rd level number other l n same = sym (λ i. f (same.0 i) (same.1 i) (same.2 i))
 
--- a spot is itself
-pub is_spot-same : (rd level number : ℕ) → is_spot rd level number rd level number ≡ true
-is_spot-same rd level number = rw (eq-eqb rd rd refl) (rw (eq-eqb level level refl) (eq-eqb number number refl))
-
--- where one of two tests fails neither holds
-or_fails : (a b : Bool) → (a || b) ≡ false → (a ≡ false) × (b ≡ false)
-or_fails true b fails = both_ways refl fails
-or_fails false b fails = (refl, fails)
-
 -- a number up to the next one is this one, or is below
 pub last_or_below : (k n : ℕ) → k < suc n → (k ≡ n) ⊎ (k < n)
 last_or_below k n below = grind arith
-
--- where no number below n passes, none does
-pub any_below-none : (n : ℕ) (passes : ℕ → Bool) → any_below n passes ≡ false → (k : ℕ) → k < n → passes k ≡ false
-any_below-none zero passes none k below = absurd (omega arith)
-any_below-none (suc n) passes none k below =
-    let parts = or_fails (passes n) (any_below n passes) none in
-    elim (last_or_below k n below) [ inl here ↦ rw here parts.0 | inr less ↦ any_below-none n passes parts.1 k less ]

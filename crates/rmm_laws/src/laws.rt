@@ -4,11 +4,13 @@ ghost use Rattle.std.specs.Prelude.{◌≡◌, ℕ, take, List, [], false};
 ghost use Rattle.rmm_spec.specs.declared.command.Command.{Command};
 ghost use Rattle.rmm_spec.specs.declared.function_id.FunctionId.TheVariants.{GranuleDelegate, GranuleUndelegate};
 ghost use Rattle.rmm_spec.specs.declared.reply.Reply.{Reply};
-ghost use Rattle.rmm_spec.specs.State.{State};
+ghost use Rattle.rmm_spec.specs.HistoryText.{Setup, History};
+ghost use Rattle.rmm_spec.specs.State.{State, opening};
 ghost use Rattle.rmm_spec.specs.Rows.{ok};
 ghost use Rattle.rmm_spec.specs.Step.{Step};
 ghost use Rattle.rmm_spec.specs.Run.{JournalEntry, IsRun};
-ghost use Rattle.rmm_spec.specs.Ownership.{is_accepted};
+ghost use Rattle.rmm_spec.specs.Ownership.{is_accepted, IsIsolated};
+ghost use Rattle.rmm_spec.specs.Judgement.{IsIsolatedThroughout};
 ghost use Rattle.rmm_laws.specs.Commands as commands;
 
 /// A reply has at most one next state, so who knows a run's commands and replies knows its states.
@@ -41,4 +43,11 @@ pub fn undelegation_restores()
 pub fn first_parts_are_runs()
     ensures { (count : ℕ) (entries : List JournalEntry) (old last : State)
         → IsRun old entries last → (middle : State) × IsRun old (take count entries) middle }
+{}
+
+/// After every run, and so after each first part of one, no granule is more than one realm's.
+pub fn runs_are_isolated()
+    ensures isolated { (setup : Setup) (entries : List JournalEntry) (last : State)
+        → IsRun (opening setup) entries last → IsIsolated entries last }
+    ensures throughout { (history : History) (entries : List JournalEntry) → IsIsolatedThroughout history entries }
 {}

@@ -10,9 +10,10 @@ mod profile_laws;
 
 pub use laws::{
     a_reply_exists, first_parts_are_runs, refusals_change_nothing, reply_decides,
-    undelegation_restores,
+    runs_are_isolated, undelegation_restores,
 };
 pub use profile_laws::{
     a_page_is_given_once, commands_keep_other_maps, fresh_root_covers_space,
-    longer_stretches_are_no_runs, reach_is_the_walk, walks_end_unlinked, worked_scripts_are_runs,
+    longer_stretches_are_no_runs, reach_is_the_walk, walks_begin_at_root, walks_end_unlinked,
+    worked_scripts_are_runs,
 };

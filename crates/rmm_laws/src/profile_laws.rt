@@ -4,11 +4,12 @@ ghost use Rattle.std.specs.Prelude.{◌≡◌, ℕ, ◌^◌, ◌<◌, ◌≤◌,
 ghost use Rattle.rmm_spec.specs.declared.command.Command.{Command};
 ghost use Rattle.rmm_spec.specs.declared.function_id.FunctionId.TheVariants.{RealmCreate, DataCreateUnknown, RttInitRipas, RttSetRipas};
 ghost use Rattle.rmm_spec.specs.declared.reply.Reply.{Reply};
-ghost use Rattle.rmm_spec.specs.State.{State, opening};
+ghost use Rattle.rmm_spec.specs.HistoryText.{Setup};
+ghost use Rattle.rmm_spec.specs.State.{State, RealmRecord, opening};
 ghost use Rattle.rmm_spec.specs.Walk.{table_number, is_table, entry_for, reach, IsWalk};
 ghost use Rattle.rmm_spec.specs.Rows.{ok};
 ghost use Rattle.rmm_spec.specs.Step.{Step};
-ghost use Rattle.rmm_spec.specs.Run.{IsRun};
+ghost use Rattle.rmm_spec.specs.Run.{JournalEntry, IsRun};
 ghost use Rattle.rmm_spec.specs.Script as script;
 ghost use Rattle.rmm_spec.specs.Script.{script_setup};
 ghost use Rattle.rmm_spec.specs.Footprint.{KeepsOthers, changed_parts};
@@ -38,6 +39,13 @@ pub fn fresh_root_covers_space()
         → Step old cpu (commands.command RealmCreate words) (ok []) next → ipa < 2 ^ slice_index words 2
         → let rd = slice_index words 0 in let level = slice_index words 3 in
         IsWalk next rd ipa level level (slice_index words 1) (entry_for next rd level ipa) }
+{}
+
+/// After every run, a walk to a realm's start level ends at the realm's root.
+pub fn walks_begin_at_root()
+    ensures { (setup : Setup) (entries : List JournalEntry) (s : State) (rd ipa : ℕ) (realm : RealmRecord)
+        → IsRun (opening setup) entries s → s.realm rd ≡ Some realm → ipa < 2 ^ realm.width
+        → IsWalk s rd ipa realm.start_level realm.start_level realm.root (entry_for s rd realm.start_level ipa) }
 {}
 
 /// The worked scripts are runs: the definitions give each of their replies.

@@ -1,4 +1,4 @@
-use Rattle.rmm_laws.proofs.Steps.{step-keeps}
+use Rattle.rmm_laws.proofs.StepLaws.{step-keeps}
 use Rattle.rmm_laws.proofs.profile_laws.commands_keep_other_maps.Goals as goal
 
 pub returns : goal.returns
