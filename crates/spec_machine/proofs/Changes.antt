@@ -68,8 +68,7 @@ retagged m change can =
     let s : State = state_of m in
     let free = retag-free s change can in
     let tag = kept_at-set g m.tags.items Undelegated change.tag change.granule (tags-placed m) (retag-granule s change can) in
-    is_changed s (flat g (slice_set m.tags.items (change.granule / 4096) change.tag) m.realms.items m.recs.items)
-    (Retagged change) m.vmids.items m.rec_counts.items
+    is_changed _ _ _ _ _
     (λ i. with_roots g (tag i) (realm_kept m) (rec_kept m))
     (kept-with_tag s m.vmids.items m.rec_counts.items change.granule change.tag m.kept free.0 free.1)
 
@@ -86,9 +85,7 @@ realm_made m rd root width level vmid algo small can =
     let at_rd = granule_from_tag s rd Delegated can.rd_tag in
     let tag = kept_at-set_two g m.tags.items Undelegated Rd Rtt rd root (tags-placed m) at_rd (granule_from_tag s root Delegated can.root_tag) in
     let made = kept_at-set g m.realms.items None (Some realm) rd (realms-placed m) at_rd in
-    is_changed s
-    (flat g (slice_set (slice_set m.tags.items (rd / 4096) Rd) (root / 4096) Rtt) (slice_set m.realms.items (rd / 4096) (Some realm)) m.recs.items)
-    (RealmMade rd root width level vmid algo) (slice_set m.vmids.items vmid (Some rd)) m.rec_counts.items
+    is_changed _ _ _ _ _
     ((λ i. with_roots g (tag i) (made i) (rec_kept m))
     ∙ with_roots-made g rd (put (put (tag_kept m) rd Rd) root Rtt) (realm_kept m) (rec_kept m) realm (realm-delegated s rd m.kept.sound can.rd_tag))
     (kept-realm_added s m.vmids.items m.rec_counts.items rd realm m.kept can.rd_tag can.root_tag can.apart small can.unused)
@@ -117,9 +114,7 @@ realm_destroyed m rd root vmid small is_vmid can =
     let at_rd = granule_from_tag s rd Rd can.rd_tag in
     let tag = kept_at-set_two g m.tags.items Undelegated Delegated Delegated rd root (tags-placed m) at_rd (root-at m rd root can) in
     let taken = kept_at-set g m.realms.items None None rd (realms-placed m) at_rd in
-    is_changed s
-    (flat g (slice_set (slice_set m.tags.items (rd / 4096) Delegated) (root / 4096) Delegated) (slice_set m.realms.items (rd / 4096) None) m.recs.items)
-    (RealmDestroyed rd root) (slice_set m.vmids.items vmid None) m.rec_counts.items
+    is_changed _ _ _ _ _
     ((λ i. with_roots g (tag i) (taken i) (rec_kept m))
     ∙ with_roots-removed g rd (put (put (tag_kept m) rd Delegated) root Delegated) (realm_kept m) (rec_kept m))
     (rw (can.is_root, is_vmid) (kept-realm_removed s m.vmids.items m.rec_counts.items rd realm m.kept there (rw is_vmid at small)))
@@ -135,8 +130,7 @@ realm_activated m rd tagged =
     let realm : RealmRecord = realm_updated Activated (realm_at s rd) in
     let there : s.realm rd ≡ Some (realm_at s rd) = realm-there s rd m.kept.sound tagged in
     let put_in = kept_at-set g m.realms.items None (Some realm) rd (realms-placed m) (granule_from_tag s rd Rd tagged) in
-    is_changed s (flat g m.tags.items (slice_set m.realms.items (rd / 4096) (Some realm)) m.recs.items)
-    (RecordsChanged (Some (record { rd = rd; update = Activated })) None) m.vmids.items m.rec_counts.items
+    is_changed _ _ _ _ _
     ((λ i. with_roots g (tag_kept m) (put_in i) (rec_kept m))
     ∙ with_roots-kept g rd (tag_kept m) (realm_kept m) (rec_kept m) realm (rw there (refl, refl)))
     (kept-with_realm s m.vmids.items m.rec_counts.items rd (realm_at s rd) realm m.kept there refl refl)
@@ -162,10 +156,7 @@ rec_made m rd rec mpidr flags aux0 aux1 can =
     (granule_from_tag s aux0 Delegated can.aux0_tag) (granule_from_tag s aux1 Delegated can.aux1_tag) in
     let counted = kept_at-set g m.realms.items None (Some realm) rd (realms-placed m) at_rd in
     let put_in = kept_at-set g m.recs.items None (Some made) rec (recs-placed m) at_rec in
-    is_changed s
-    (flat g (slice_set (slice_set (slice_set m.tags.items (rec / 4096) Rec) (aux0 / 4096) RecAux) (aux1 / 4096) RecAux)
-    (slice_set m.realms.items (rd / 4096) (Some realm)) (slice_set m.recs.items (rec / 4096) (Some made)))
-    (RecMade rd rec mpidr flags aux0 aux1) m.vmids.items more
+    is_changed _ _ _ _ _
     ((λ i. with_roots g (tag i) (counted i) (put_in i))
     ∙ with_roots-kept g rd (put (put (put (tag_kept m) rec Rec) aux0 RecAux) aux1 RecAux) (realm_kept m)
     (put (rec_kept m) rec (Some made)) realm (rw there (refl, refl)))
@@ -242,10 +233,6 @@ rec_destroyed m rec aux0 aux1 owner is_owner can =
     let tag = kept_at-set_three g m.tags.items Undelegated Delegated Delegated Delegated rec aux0 aux1 (tags-placed m) at_rec
     at.aux0_at at.aux1_at in
     let taken = kept_at-set g m.recs.items None None rec (recs-placed m) at_rec in
-    is_changed s
-    (flat g (slice_set (slice_set (slice_set m.tags.items (rec / 4096) Delegated) (aux0 / 4096) Delegated) (aux1 / 4096) Delegated)
-    m.realms.items (slice_set m.recs.items (rec / 4096) None))
-    (RecDestroyed rec aux0 aux1) m.vmids.items
-    (slice_set m.rec_counts.items (owner / 4096) (slice_index_or m.rec_counts.items (owner / 4096) 0 - 1))
+    is_changed _ _ _ _ _
     (λ i. with_roots g (tag i) (realm_kept m) (taken i))
     (rw (can.is_aux0, can.is_aux1, is_owner) (kept-rec_removed s m.vmids.items m.rec_counts.items rec old m.kept there))

@@ -124,7 +124,7 @@ impl Machine {
         requires { CanDestroyRec (state_of self.old) rec aux0 aux1 }
         ensures { state_of self.new ≡ changed (state_of self.old) (Change.RecDestroyed rec aux0 aux1) }
     {
-        let owner = self.rec_at(rec).owner().address();
+        let owner = self.owner_of(rec);
         self.tags[place(rec)] = Tag::Delegated;
         self.tags[place(aux0)] = Tag::Delegated;
         self.tags[place(aux1)] = Tag::Delegated;

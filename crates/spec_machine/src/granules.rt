@@ -80,6 +80,14 @@ impl Machine {
         rec
     }
 
+    /// The realm of the REC, by the address of its descriptor.
+    pub(crate) fn owner_of(&self, address: u64) -> u64
+        requires { IsTrue (has_tag (state_of self.now) address Tag.Rec) }
+        ensures { result ≡ (rec_at (state_of self.now) address).owner }
+    {
+        self.rec_at(address).owner().address()
+    }
+
     /// Whether a realm has the VMID.
     pub(crate) fn is_vmid_used(&self, vmid: u8) -> bool
         ensures { result ≡ is_vmid_used (state_of self.now) vmid }

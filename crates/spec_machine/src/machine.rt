@@ -101,9 +101,9 @@ impl Machine {
         ensures { result ≡ (if is_decided call.now then Some (outcome (state_of self.now) cpu call.now) else None) }
     {
         let answer = match *call {
-            Call::GranuleDelegate { granule } => self.granule_delegate(granule),
-            Call::GranuleUndelegate { granule } => self.granule_undelegate(granule),
-            Call::RealmActivate { rd } => self.realm_activate(rd),
+            Call::GranuleDelegate { granule } => Some(self.granule_delegate(granule)),
+            Call::GranuleUndelegate { granule } => Some(self.granule_undelegate(granule)),
+            Call::RealmActivate { rd } => Some(self.realm_activate(rd)),
             Call::RealmCreate {
                 rd,
                 root,
@@ -111,8 +111,8 @@ impl Machine {
                 level,
                 vmid,
                 algo,
-            } => self.realm_create(rd, root, width, level, vmid, algo),
-            Call::RealmDestroy { rd } => self.realm_destroy(rd),
+            } => Some(self.realm_create(rd, root, width, level, vmid, algo)),
+            Call::RealmDestroy { rd } => Some(self.realm_destroy(rd)),
             Call::RecCreate {
                 rd,
                 rec,
@@ -120,13 +120,13 @@ impl Machine {
                 flags,
                 aux0,
                 aux1,
-            } => self.rec_create(rd, rec, mpidr, flags, aux0, aux1),
-            Call::RecDestroy { rec } => self.rec_destroy(rec),
+            } => Some(self.rec_create(rd, rec, mpidr, flags, aux0, aux1)),
+            Call::RecDestroy { rec } => Some(self.rec_destroy(rec)),
             _ => return None,
         };
         if self.is_inside(cpu) {
             return Some(Err(Reply::Misplaced));
         }
-        Some(answer)
+        answer
     }
 }

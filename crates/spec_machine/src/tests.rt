@@ -178,3 +178,15 @@ fn a_realm_has_eight_indexes(rt: HostRuntime) -> Result<(), Fail> {
     assert!(rt; gives(m, RecCreate, [0x1000, 0x5000, 8, 0, 0x6000, 0x7000], 1)?);
     Ok(())
 }
+
+#[test]
+fn what_is_answered(rt: HostRuntime) -> Result<(), Fail> {
+    let machine = small_machine(rt.alloc())?;
+    let inside = machine.outcome(0, &command(FunctionId::GranuleDelegate, 0x1000));
+    assert!(rt; matches!(&inside, Some(Ok(_))));
+    let outside = machine.outcome(0, &command(FunctionId::GranuleDelegate, 0x4000));
+    assert!(rt; matches!(&outside, Some(Err(Reply::Err(1, 0)))));
+    let unserved = machine.outcome(0, &command(FunctionId::RttReadEntry, 0x1000));
+    assert!(rt; unserved.is_none());
+    Ok(())
+}
