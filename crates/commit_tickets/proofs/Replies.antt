@@ -1,13 +1,12 @@
 -- What the machine may answer a command on granules.
-use Rattle.std.proofs.Common.{◌≡◌, ℕ, List, [], ◌∷◌, ◌⊎◌, inl, inr, IsTrue, ap, subst, ⊎_elim}
+use Rattle.std.proofs.Common.{◌≡◌, ℕ, List, [], ◌⊎◌, inl, inr, IsTrue, ap, subst, ⊎_elim}
 use Rattle.rmm_spec.specs.declared.command.Command.{Command}
 use Rattle.rmm_spec.specs.declared.reply.Reply.{Reply}
 use Rattle.rmm_spec.specs.declared.reply.Reply.TheVariants.{Err, Misplaced}
-use Rattle.rmm_spec.specs.declared.function_id.FunctionId.{FunctionId}
 use Rattle.rmm_spec.specs.declared.function_id.FunctionId.TheVariants.{GranuleDelegate, GranuleUndelegate}
 use Rattle.rmm_spec.specs.Function.{is_served}
 use Rattle.rmm_spec.specs.State.{State}
-use Rattle.rmm_spec.specs.Rows.{Answers, Row, ok}
+use Rattle.rmm_spec.specs.Rows.{ok}
 use Rattle.rmm_spec.specs.Step.{Step, StepOf}
 use Rattle.rmm_spec.specs.Step.Granule.{DelegatesGranule, UndelegatesGranule}
 use Rattle.commit_tickets.specs.Entries.{IsGranuleCommand}
