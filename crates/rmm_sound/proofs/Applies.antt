@@ -1,5 +1,5 @@
 -- What an accepted command does is a change that the state can take; and what is known of the REC that a command is about.
-use Rattle.std.proofs.Common.{◌≡◌, ℕ, Bool, true, false, IsTrue, Option, Some, None, is_some, is_none, refl, sym, ◌∙◌, ap, subst, unwrap_or}
+use Rattle.std.proofs.Common.{◌≡◌, ℕ, IsTrue, Option, Some, None, is_some, is_none, refl, sym, ◌∙◌, ap, subst, unwrap_or}
 use Rattle.rmm_spec.specs.declared.accepted.Accepted.{Accepted}
 use Rattle.rmm_spec.specs.declared.accepted.Accepted.TheVariants.{Done, Reaches}
 use Rattle.rmm_spec.specs.declared.tag.Tag.TheVariants.{Rd, Rec}

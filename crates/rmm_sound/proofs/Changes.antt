@@ -1,5 +1,4 @@
 -- Every change that a state can take keeps it sound: by kind of change.
-use Rattle.std.proofs.Common.{◌≡◌, ℕ, Option, Some, None, IsTrue, refl, sym, ◌∙◌, ap, subst}
 use Rattle.rmm_spec.specs.declared.change.Change.{Change}
 use Rattle.rmm_spec.specs.declared.change.Change.TheVariants.{Unchanged, Retagged, RealmMade, RealmDestroyed, RecMade, RecDestroyed, RecordsChanged, TableMade, TableDestroyed, EntriesChanged}
 use Rattle.rmm_spec.specs.State.{State}

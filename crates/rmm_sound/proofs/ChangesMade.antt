@@ -1,32 +1,23 @@
 -- Each kind of change keeps states sound.
-use Rattle.std.proofs.Common.{◌≡◌, ℕ, zero, suc, ◌+◌, ◌-◌, ◌*◌, ◌/◌, ◌%◌, ◌<◌, ◌≤◌, ◌==◌, ◌||◌, ◌⊎◌, Bool, true, false, if◌then◌else◌, IsTrue, Option, Some, None, is_some, nat_lt, nat_le, refl, sym, ◌∙◌, ap, subst, arith, inl, inr}
+use Rattle.std.proofs.Common.{◌≡◌, ℕ, ◌==◌, false, IsTrue, Option, Some, None, refl, sym, ◌∙◌, ap, subst, inl, inr}
 use Rattle.std.proofs.lemmas.Bool.{eq-eqb, ne_eqb, or_cases, or_from, or_left, or_right, eqb-true, false_from_ne_true}
-use Rattle.rmm_spec.specs.declared.change.Change.{Change}
-use Rattle.rmm_spec.specs.declared.change.Change.TheVariants.{Unchanged, Retagged, RealmMade, RealmDestroyed, RecMade, RecDestroyed, RecordsChanged, TableMade, TableDestroyed, EntriesChanged}
-use Rattle.rmm_spec.specs.declared.change.EntryChange.{EntryChange}
-use Rattle.rmm_spec.specs.declared.change.EntryChange.TheVariants.{Replaced, RipasSet}
-use Rattle.rmm_spec.specs.declared.change.RealmChange.{RealmChange}
+use Rattle.rmm_spec.specs.declared.change.Change.TheVariants.{RecMade, RecDestroyed}
 use Rattle.rmm_spec.specs.declared.change.RealmUpdate.TheVariants as realm_update
-use Rattle.rmm_spec.specs.declared.change.RecChange.{RecChange}
 use Rattle.rmm_spec.specs.declared.change.TagChange.{TagChange}
-use Rattle.rmm_spec.specs.declared.entry.Entry.{Entry}
-use Rattle.rmm_spec.specs.declared.entry.Entry.TheVariants.{Unassigned, Assigned, Table, UnassignedNs, AssignedNs}
-use Rattle.rmm_spec.specs.declared.tag.Ripas.{Ripas}
 use Rattle.rmm_spec.specs.declared.tag.Tag.{Tag}
 use Rattle.rmm_spec.specs.declared.tag.Tag.TheVariants.{Undelegated, Delegated, Rd, Rec, RecAux, Data, Rtt}
-use Rattle.rmm_spec.specs.State.{State, RealmRecord, RecRecord, with_tag, with_realm, without_realm, with_root, with_rec, without_rec, with_table, without_table, with_leaf, with_ripas, has_tag, realm_at, rec_at, is_spot}
-use Rattle.rmm_spec.specs.Walk.{entry_at, half, is_table, is_assigned}
-use Rattle.rmm_spec.specs.Change.{changed, new_realm, new_rec, realm_updated, with_realm_change, with_rec_change, with_tag_change, with_entry_change}
-use Rattle.rmm_spec.specs.Sound.{IsSound, IsTableOf, IsLeafOf, has_aux}
-use Rattle.rmm_spec.specs.Applicable.{CanRetag, CanMakeRealm, CanDestroyRealm, CanMakeRec, CanDestroyRec, CanMakeTable, CanDestroyTable, CanReplace, GoesWith, CanSetRipas, CanChangeEntries, CanChangeRealm, CanChangeRec, IsVacant, CanApply}
+use Rattle.rmm_spec.specs.State.{State, RealmRecord, RecRecord, with_tag, with_realm, without_realm, with_root, with_rec, without_rec, has_tag, realm_at, rec_at}
+use Rattle.rmm_spec.specs.Change.{changed, new_realm, new_rec, realm_updated}
+use Rattle.rmm_spec.specs.Sound.{IsSound, has_aux}
+use Rattle.rmm_spec.specs.Applicable.{CanRetag, CanMakeRealm, CanDestroyRealm, CanMakeRec, CanDestroyRec}
 use Rattle.rmm_spec.proofs.TagLaws.{tag-has_tag, granule_from_tag}
-use Rattle.rmm_sound.proofs.Cases.{by_address, both_ways, nothing_there, left_of}
+use Rattle.rmm_sound.proofs.Cases.{by_address, both_ways, left_of}
 use Rattle.rmm_sound.proofs.Retagged.{IsUnnamed, IsPlain, unnamed_by_tag, retagged_sound, free_retagged_sound}
 use Rattle.rmm_sound.proofs.RealmMade.{put_realm_sound, taken_realm_sound}
 use Rattle.rmm_sound.proofs.RecMade.{put_rec_sound, taken_rec_sound, tags_swapped}
-use Rattle.rmm_sound.proofs.Records.{realm_updated_sound, records_sound, updated_like}
+use Rattle.rmm_sound.proofs.Records.{realm_updated_sound}
 use Rattle.rmm_sound.proofs.Searches.{none_owned, none_has_vmid, realm_there, rec_there}
-use Rattle.rmm_sound.proofs.Tags.{AreOther, has_tag-here, has_tag-elsewhere, has_tag-beside, has_tag-other, tags_apart}
+use Rattle.rmm_sound.proofs.Tags.{has_tag-here, has_tag-elsewhere, has_tag-beside, tags_apart}
 
 -- ---- granules
 

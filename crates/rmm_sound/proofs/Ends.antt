@@ -1,25 +1,24 @@
 -- What a command that walks finds at the end of its walk.
-use Rattle.std.proofs.Common.{◌≡◌, ℕ, zero, suc, ◌+◌, ◌-◌, ◌*◌, ◌/◌, ◌%◌, ◌^◌, ◌<◌, ◌≤◌, ◌==◌, ◌&&◌, not, Bool, true, false, if◌then◌else◌, IsTrue, nat_lt, nat_le, Option, Some, None, is_some, refl, sym, ◌∙◌, ap, subst, arith}
+use Rattle.std.proofs.Common.{◌≡◌, ℕ, zero, suc, ◌+◌, ◌-◌, ◌*◌, ◌/◌, ◌%◌, ◌^◌, ◌<◌, ◌≤◌, not, false, IsTrue, nat_lt, nat_le, refl, sym, ◌∙◌, ap, subst, arith}
 use Rattle.std.proofs.lemmas.Bool.{and_parts, not-true, eqb-true, eq-eqb, ltb-true, ltb-false, leb-true}
 use Rattle.std.proofs.lemmas.Nat.{div-mul-add}
-use Rattle.std.proofs.Math.Nat.{div-add-mod}
 use Rattle.rmm_spec.specs.declared.accepted.Stretch.{Stretch}
 use Rattle.rmm_spec.specs.declared.accepted.StretchUse.{StretchUse}
 use Rattle.rmm_spec.specs.declared.accepted.StretchUse.TheVariants.{Init, Requested}
 use Rattle.rmm_spec.specs.declared.entry.Entry.{Entry}
-use Rattle.rmm_spec.specs.declared.entry.Entry.TheVariants.{Unassigned, Assigned, Table, UnassignedNs, AssignedNs}
+use Rattle.rmm_spec.specs.declared.entry.Entry.TheVariants.{Unassigned, UnassignedNs}
 use Rattle.rmm_spec.specs.declared.tag.Ripas.TheVariants.{Destroyed}
 use Rattle.rmm_spec.specs.declared.tag.Tag.TheVariants.{Rd}
 use Rattle.rmm_spec.specs.State.{State, RealmRecord, has_tag, realm_at}
 use Rattle.rmm_spec.specs.Walk.{entry_size, table_size, entry_number, table_number, full, half, is_multiple, is_table, is_assigned, entry_at, reach, walk}
-use Rattle.rmm_spec.specs.Step.Words.{is_page, is_space}
+use Rattle.rmm_spec.specs.Step.Words.{is_page}
 use Rattle.rmm_spec.specs.Step.Table.{entry_after_table}
 use Rattle.rmm_spec.specs.Step.Ripas.{can_be_set, IsReached}
 use Rattle.rmm_spec.specs.Sound.{IsSound, IsLeafOf}
 use Rattle.rmm_spec.specs.Applicable.{IsVacant, CanReplace, CanSetRipas}
 use Rattle.rmm_spec.proofs.WalkLaws.{table_size-entries, table_number-suc}
 use Rattle.rmm_sound.proofs.Cases.{choice}
-use Rattle.rmm_sound.proofs.Spaces.{entry_size-pos, scaled_le, unscaled_le}
+use Rattle.rmm_sound.proofs.Spaces.{entry_size-pos, unscaled_le}
 use Rattle.rmm_sound.proofs.Walked.{IsWalked, walked, space_there, start_above, entry_starts, entry_begins, table_number-entry}
 
 -- ---- pages

@@ -1,13 +1,13 @@
 -- What a walk reads of an entry is its leaf or its link.
-use Rattle.std.proofs.Common.{◌≡◌, ℕ, zero, suc, ◌+◌, ◌*◌, ◌/◌, ◌%◌, ◌<◌, ◌≤◌, ◌||◌, ◌⊎◌, Bool, true, false, if◌then◌else◌, IsTrue, Option, Some, None, is_some, nat_lt, refl, sym, ◌∙◌, ap, subst, arith, inl, inr, add-one}
+use Rattle.std.proofs.Common.{◌≡◌, ℕ, suc, ◌+◌, ◌*◌, ◌/◌, ◌%◌, ◌<◌, Bool, true, false, if◌then◌else◌, IsTrue, Option, Some, None, is_some, nat_lt, refl, sym, ◌∙◌, ap, subst, arith, inl, inr, add-one}
 use Rattle.std.proofs.lemmas.Bool.{or_cases, lt-ltb}
 use Rattle.rmm_spec.specs.declared.entry.Entry.{Entry}
 use Rattle.rmm_spec.specs.declared.entry.Entry.TheVariants.{Unassigned, Assigned, Table, UnassignedNs, AssignedNs}
-use Rattle.rmm_spec.specs.State.{State, RealmRecord, any_below}
+use Rattle.rmm_spec.specs.State.{State, RealmRecord}
 use Rattle.rmm_spec.specs.Walk.{entry_at, linked_entry, is_table, is_live, is_in_use}
 use Rattle.rmm_spec.specs.Sound.{IsSound, IsLeafOf}
 use Rattle.rmm_spec.specs.Applicable.{IsVacant}
-use Rattle.rmm_sound.proofs.Cases.{both_ways, nothing_there}
+use Rattle.rmm_sound.proofs.Cases.{both_ways}
 use Rattle.rmm_sound.proofs.Searches.{any_below-false}
 
 -- ---- what stands above a leaf or a link

@@ -1,5 +1,5 @@
 -- Tables made and destroyed, and entries changed, keep states sound.
-use Rattle.std.proofs.Common.{◌≡◌, ℕ, zero, suc, ◌+◌, ◌-◌, ◌/◌, ◌<◌, ◌≤◌, ◌==◌, ◌⊎◌, Bool, true, false, if◌then◌else◌, IsTrue, Option, Some, None, is_some, refl, sym, ◌∙◌, ap, subst, arith, inl, inr, unwrap_or}
+use Rattle.std.proofs.Common.{◌≡◌, ℕ, zero, suc, ◌-◌, ◌/◌, ◌==◌, false, IsTrue, Option, Some, None, is_some, refl, sym, ◌∙◌, ap, subst, arith, inl, inr, unwrap_or}
 use Rattle.std.proofs.lemmas.Bool.{eq-eqb, eqb-true, false_from_ne_true}
 use Rattle.rmm_spec.specs.declared.change.EntryChange.{EntryChange}
 use Rattle.rmm_spec.specs.declared.change.EntryChange.TheVariants.{Replaced, RipasSet}
@@ -7,15 +7,14 @@ use Rattle.rmm_spec.specs.declared.change.RealmChange.{RealmChange}
 use Rattle.rmm_spec.specs.declared.change.RecChange.{RecChange}
 use Rattle.rmm_spec.specs.declared.change.TagChange.{TagChange}
 use Rattle.rmm_spec.specs.declared.entry.Entry.{Entry}
-use Rattle.rmm_spec.specs.declared.entry.Entry.TheVariants.{Unassigned, Assigned, Table, UnassignedNs, AssignedNs}
+use Rattle.rmm_spec.specs.declared.entry.Entry.TheVariants.{Assigned}
 use Rattle.rmm_spec.specs.declared.tag.Ripas.{Ripas}
-use Rattle.rmm_spec.specs.declared.tag.Tag.{Tag}
-use Rattle.rmm_spec.specs.declared.tag.Tag.TheVariants.{Undelegated, Delegated, Rd, Rec, RecAux, Data, Rtt}
-use Rattle.rmm_spec.specs.State.{State, RealmRecord, RecRecord, with_tag, with_realm, with_table, without_table, with_leaf, with_ripas, has_tag, realm_at, rec_at, no_realm, is_spot}
+use Rattle.rmm_spec.specs.declared.tag.Tag.TheVariants.{Delegated, RecAux, Data, Rtt}
+use Rattle.rmm_spec.specs.State.{State, RealmRecord, with_tag, with_table, without_table, with_leaf, has_tag, realm_at, rec_at, no_realm}
 use Rattle.rmm_spec.specs.Walk.{entry_at, is_table, is_assigned}
 use Rattle.rmm_spec.specs.Change.{realm_updated, with_realm_change, with_rec_change, with_tag_change, with_entry_change}
-use Rattle.rmm_spec.specs.Sound.{IsSound, IsTableOf, IsLeafOf}
-use Rattle.rmm_spec.specs.Applicable.{CanMakeTable, CanDestroyTable, CanReplace, GoesWith, CanChangeEntries, CanChangeRealm, CanChangeRec}
+use Rattle.rmm_spec.specs.Sound.{IsSound, IsLeafOf}
+use Rattle.rmm_spec.specs.Applicable.{CanMakeTable, CanDestroyTable, CanReplace, CanChangeEntries, CanChangeRealm, CanChangeRec}
 use Rattle.rmm_spec.proofs.TagLaws.{tag-has_tag, granule_from_tag}
 use Rattle.rmm_sound.proofs.Cases.{by_address, by_spot, both_ways, nothing_there, spot_itself}
 use Rattle.rmm_sound.proofs.Entries.{leaf_there, leaf_fits, childless_unused, vacant_above}
@@ -23,10 +22,10 @@ use Rattle.rmm_sound.proofs.Kept.{leaf_of_width}
 use Rattle.rmm_sound.proofs.ChangesMade.{lent_retagged}
 use Rattle.rmm_sound.proofs.LeavesChanged.{with_leaf_sound, with_ripas_sound}
 use Rattle.rmm_sound.proofs.Records.{records_sound, updated_like}
-use Rattle.rmm_sound.proofs.Retagged.{IsUnnamed, IsPlain, unnamed_by_tag, retagged_sound}
+use Rattle.rmm_sound.proofs.Retagged.{IsUnnamed, unnamed_by_tag, retagged_sound}
 use Rattle.rmm_sound.proofs.Searches.{realm_there, realm_at-is}
 use Rattle.rmm_sound.proofs.TableMade.{put_table_sound, taken_table_sound}
-use Rattle.rmm_sound.proofs.Tags.{AreOther, has_tag-here, has_tag-elsewhere, has_tag-beside, tags_apart}
+use Rattle.rmm_sound.proofs.Tags.{has_tag-here, tags_apart}
 
 -- ---- tables
 

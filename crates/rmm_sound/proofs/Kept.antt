@@ -1,13 +1,12 @@
 -- Groups of what a sound state keeps, where a change leaves alone what they speak of.
-use Rattle.std.proofs.Common.{◌≡◌, ℕ, suc, ◌==◌, ◌<◌, ◌≤◌, ◌^◌, ◌-◌, ◌*◌, ◌/◌, Bool, true, false, IsTrue, Option, Some, None, is_some, length, refl, sym, ◌∙◌, ap, subst}
+use Rattle.std.proofs.Common.{◌≡◌, ℕ, suc, ◌/◌, IsTrue, Option, Some, is_some, length, refl, sym, ◌∙◌, ap}
 use Rattle.rmm_spec.specs.declared.entry.Entry.{Entry}
 use Rattle.rmm_spec.specs.declared.entry.Entry.TheVariants.{Unassigned, Assigned, Table, UnassignedNs, AssignedNs}
 use Rattle.rmm_spec.specs.declared.tag.Ripas.{Ripas}
 use Rattle.rmm_spec.specs.declared.tag.Tag.TheVariants.{Rd, Rec, RecAux, Data, Rtt}
-use Rattle.rmm_spec.specs.State.{State, RealmRecord, RecRecord, Request, RipasChange, has_tag, runs_on}
-use Rattle.rmm_spec.specs.Walk.{entry_size, half}
+use Rattle.rmm_spec.specs.State.{State, RealmRecord, RecRecord, Request, has_tag, runs_on}
 use Rattle.rmm_spec.specs.Step.Words.{is_space}
-use Rattle.rmm_spec.specs.Sound.{AreRealms, AreRecs, AreTables, AreLeaves, IsRequest, IsTableOf, IsLeafOf, has_aux}
+use Rattle.rmm_spec.specs.Sound.{AreRealms, AreRecs, AreTables, AreLeaves, IsRequest, IsLeafOf, has_aux}
 
 -- ---- realms that agree in what does not change
 

@@ -1,13 +1,12 @@
 -- Leaves are replaced by leaves, and tables stay.
-use Rattle.std.proofs.Common.{◌≡◌, ℕ, suc, ◌/◌, ◌==◌, ◌&&◌, ◌||◌, Bool, true, false, if◌then◌else◌, IsTrue, nat_lt, nat_le, Option, Some, None, is_some, option_map, refl, sym, ◌∙◌, ap}
-use Rattle.std.proofs.lemmas.Bool.{eq-eqb}
+use Rattle.std.proofs.Common.{◌≡◌, ℕ, ◌==◌, ◌&&◌, Bool, true, false, if◌then◌else◌, IsTrue, nat_lt, nat_le, Option, Some, None, is_some, option_map, refl, sym, ◌∙◌, ap}
 use Rattle.rmm_spec.specs.declared.entry.Entry.{Entry}
 use Rattle.rmm_spec.specs.declared.entry.Entry.TheVariants.{Unassigned, Assigned, Table, UnassignedNs, AssignedNs}
 use Rattle.rmm_spec.specs.declared.tag.Ripas.{Ripas}
-use Rattle.rmm_spec.specs.declared.tag.Tag.TheVariants.{Rd, Rec, RecAux, Data, Rtt}
+use Rattle.rmm_spec.specs.declared.tag.Tag.TheVariants.{Data}
 use Rattle.rmm_spec.specs.State.{State, RealmRecord, with_leaf, with_ripas, entry_with_ripas, is_spot, has_tag}
-use Rattle.rmm_spec.specs.Sound.{AreLeaves, IsSound, IsLeafOf}
-use Rattle.rmm_sound.proofs.Cases.{by_spot, both_ways, nothing_there, spot_itself}
+use Rattle.rmm_spec.specs.Sound.{IsSound, IsLeafOf}
+use Rattle.rmm_sound.proofs.Cases.{by_spot, both_ways, nothing_there}
 use Rattle.rmm_sound.proofs.Kept.{same_realms, realms_kept, recs_kept, tables_kept}
 
 -- What new leaves must be: each stands where one stood, fits its place, and names a page that is named by it alone.

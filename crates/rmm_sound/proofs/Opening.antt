@@ -1,10 +1,10 @@
 -- The state in which every granule is the host's is sound: nothing stands in it.
-use Rattle.std.proofs.Common.{◌≡◌, ℕ, ◌==◌, ◌&&◌, false, refl, sym}
+use Rattle.std.proofs.Common.{◌≡◌, ℕ, false, refl, sym}
 use Rattle.std.proofs.lemmas.Bool.{and_right}
 use Rattle.rmm_spec.specs.declared.tag.Tag.{Tag}
 use Rattle.rmm_spec.specs.declared.tag.Tag.TheVariants.{Undelegated, Rd, Rec}
 use Rattle.rmm_spec.specs.HistoryText.{Setup}
-use Rattle.rmm_spec.specs.State.{State, opening, is_granule, has_tag}
+use Rattle.rmm_spec.specs.State.{opening, is_granule, has_tag}
 use Rattle.rmm_spec.specs.Sound.{IsSound}
 use Rattle.rmm_sound.proofs.Cases.{both_ways, nothing_there}
 use Rattle.rmm_sound.proofs.Tags.{AreOther}

@@ -1,5 +1,5 @@
 -- Commands that give pages to a realm, map the host's and take them back: what is accepted can be applied.
-use Rattle.std.proofs.Common.{◌≡◌, ℕ, ◌+◌, ◌-◌, ◌*◌, ◌/◌, ◌<◌, ◌≤◌, ◌==◌, ◌&&◌, true, false, IsTrue, nat_lt, nat_le, List, [], ◌∷◌, length, Some, None, refl, ◌∙◌, inl, inr}
+use Rattle.std.proofs.Common.{◌≡◌, ℕ, ◌<◌, ◌==◌, false, IsTrue, nat_lt, nat_le, List, [], ◌∷◌, length, refl, inl, inr}
 use Rattle.std.specs.Prelude.{Ok}
 use Rattle.std.proofs.lemmas.Bool.{and_parts, eqb-true, ltb-true}
 use Rattle.rmm_spec.specs.declared.accepted.Accepted.{Accepted}

@@ -1,12 +1,9 @@
 -- A realm's record is replaced by one like it.
-use Rattle.std.proofs.Common.{◌≡◌, ℕ, ◌==◌, Bool, true, false, if◌then◌else◌, IsTrue, List, Option, Some, None, is_some, length, refl, sym, ◌∙◌, ap, subst}
-use Rattle.rmm_spec.specs.declared.change.RealmUpdate.{RealmUpdate}
-use Rattle.rmm_spec.specs.declared.change.RealmUpdate.TheVariants as realm_update
+use Rattle.std.proofs.Common.{◌≡◌, ℕ, Some, is_some, refl, sym, ◌∙◌, ap, subst}
 use Rattle.rmm_spec.specs.declared.tag.Tag.TheVariants.{Rd}
-use Rattle.rmm_spec.specs.State.{State, RealmRecord, RecRecord, with_realm, has_tag, realm_at}
-use Rattle.rmm_spec.specs.Sound.{AreRealms, AreRecs, AreTables, AreLeaves, IsSound}
-use Rattle.rmm_spec.specs.Change.{realm_updated}
-use Rattle.rmm_sound.proofs.Cases.{by_address, both_ways, nothing_there}
+use Rattle.rmm_spec.specs.State.{State, RealmRecord, with_realm, has_tag}
+use Rattle.rmm_spec.specs.Sound.{IsSound}
+use Rattle.rmm_sound.proofs.Cases.{by_address}
 use Rattle.rmm_sound.proofs.Kept.{IsLike, like_itself, space_of_like, AreLikeRealms, recs_kept, tables_kept, leaves_kept}
 
 -- the other realms stay, and this one is like it was

@@ -1,14 +1,10 @@
 -- A REC's record is replaced, put in or taken out.
-use Rattle.std.proofs.Common.{◌≡◌, ℕ, ◌==◌, ◌||◌, ◌⊎◌, Bool, true, false, if◌then◌else◌, IsTrue, Option, Some, None, is_some, is_none, refl, sym, ◌∙◌, ap, subst, inl, inr}
-use Rattle.std.proofs.lemmas.Bool.{or_cases, eqb-true}
-use Rattle.rmm_spec.specs.declared.tag.Tag.{Tag}
-use Rattle.rmm_spec.specs.declared.tag.Tag.TheVariants.{Undelegated, Delegated, Rd, Rec, RecAux, Data, Rtt}
-use Rattle.rmm_spec.specs.State.{State, RealmRecord, RecRecord, Request, Pending, RipasChange, with_tag, with_rec, without_rec, is_granule, has_tag, runs_on}
-use Rattle.rmm_spec.specs.Sound.{AreRealms, AreRecs, AreTables, AreLeaves, IsRequest, IsSound, has_aux}
-use Rattle.rmm_spec.proofs.TagLaws.{tag-has_tag, granule_from_tag}
-use Rattle.rmm_sound.proofs.Cases.{by_address, both_ways, nothing_there}
+use Rattle.std.proofs.Common.{◌≡◌, ℕ, ◌==◌, false, IsTrue, Some, is_some, refl, sym, ◌∙◌, ap}
+use Rattle.rmm_spec.specs.declared.tag.Tag.TheVariants.{Rd, Rec, RecAux}
+use Rattle.rmm_spec.specs.State.{State, RealmRecord, RecRecord, Request, Pending, RipasChange, with_rec, has_tag, runs_on}
+use Rattle.rmm_spec.specs.Sound.{IsRequest, IsSound, has_aux}
+use Rattle.rmm_sound.proofs.Cases.{by_address, both_ways}
 use Rattle.rmm_sound.proofs.Kept.{same_realms, realms_kept, tables_kept, leaves_kept}
-use Rattle.rmm_sound.proofs.Tags.{AreOther, has_tag-here, has_tag-elsewhere, has_tag-beside, has_tag-gone, tags_apart}
 
 -- What a REC's record must say where it is put in the place of another: it is of the same realm, with the same auxiliary
 -- granules, and alone on its CPU.

@@ -1,15 +1,14 @@
 -- A REC is put in at a granule, or taken out.
-use Rattle.std.proofs.Common.{◌≡◌, ℕ, ◌==◌, Bool, true, false, if◌then◌else◌, IsTrue, Option, Some, None, is_some, refl, sym, ◌∙◌, ap}
+use Rattle.std.proofs.Common.{◌≡◌, ℕ, ◌==◌, false, IsTrue, Some, None, is_some, refl, sym, ◌∙◌}
 use Rattle.std.proofs.lemmas.Bool.{eq-eqb}
-use Rattle.rmm_spec.specs.declared.tag.Ripas.{Ripas}
 use Rattle.rmm_spec.specs.declared.tag.Tag.{Tag}
 use Rattle.rmm_spec.specs.declared.tag.Tag.TheVariants.{Undelegated, Delegated, Rd, Rec, RecAux, Data, Rtt}
-use Rattle.rmm_spec.specs.State.{State, RealmRecord, RecRecord, Request, Pending, RipasChange, with_tag, with_rec, without_rec, is_granule, has_tag, runs_on}
-use Rattle.rmm_spec.specs.Sound.{AreRealms, AreRecs, AreTables, AreLeaves, IsRequest, IsSound, has_aux}
+use Rattle.rmm_spec.specs.State.{State, RecRecord, RipasChange, with_tag, with_rec, without_rec, has_tag, runs_on}
+use Rattle.rmm_spec.specs.Sound.{IsRequest, IsSound, has_aux}
 use Rattle.rmm_spec.proofs.TagLaws.{tag-has_tag, granule_from_tag}
 use Rattle.rmm_sound.proofs.Cases.{by_address, both_ways, nothing_there}
 use Rattle.rmm_sound.proofs.Kept.{same_realms, realms_kept, tables_kept, leaves_kept}
-use Rattle.rmm_sound.proofs.Tags.{AreOther, has_tag-here, has_tag-elsewhere, has_tag-beside, has_tag-gone, tags_apart}
+use Rattle.rmm_sound.proofs.Tags.{AreOther, has_tag-here, has_tag-elsewhere, has_tag-beside, has_tag-gone}
 
 -- What a REC must be where it is put in: one of a realm, idle, and with two auxiliary granules that no other has.
 pub record CanBePut (s : State) (a : ℕ) (c : RecRecord) : Type 0 where

@@ -1,5 +1,5 @@
 -- Commands about granules, realms and RECs: what is accepted can be applied.
-use Rattle.std.proofs.Common.{◌≡◌, ℕ, ◌+◌, ◌-◌, ◌*◌, ◌/◌, ◌<◌, ◌≤◌, ◌==◌, ◌&&◌, not, true, false, IsTrue, nat_lt, [], ◌∷◌, Some, None, is_none, refl, ◌∙◌, inl, inr}
+use Rattle.std.proofs.Common.{◌≡◌, ℕ, ◌==◌, ◌&&◌, not, false, nat_lt, [], ◌∷◌, is_none, refl, inl, inr}
 use Rattle.std.specs.Prelude.{Ok}
 use Rattle.std.proofs.lemmas.Bool.{and_parts, not-true, eqb-true}
 use Rattle.rmm_spec.specs.declared.accepted.Accepted.{Accepted}

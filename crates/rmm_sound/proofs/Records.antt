@@ -1,5 +1,5 @@
 -- A record of a realm or of a REC is replaced by what a command makes of it.
-use Rattle.std.proofs.Common.{◌≡◌, ℕ, ◌==◌, ◌-◌, Bool, true, false, if◌then◌else◌, IsTrue, List, take, set, Option, Some, None, is_some, is_none, length, refl, sym, ◌∙◌, ap, subst}
+use Rattle.std.proofs.Common.{◌≡◌, ℕ, ◌==◌, ◌-◌, false, IsTrue, Option, Some, None, is_none, refl, ◌∙◌, ap, subst}
 use Rattle.std.proofs.lemmas.Bool.{false_from_ne_true, eq-eqb, eqb-true}
 use Rattle.std.proofs.lemmas.List.{length-set}
 use Rattle.rmm_spec.specs.declared.change.RealmChange.{RealmChange}
@@ -8,13 +8,13 @@ use Rattle.rmm_spec.specs.declared.change.RealmUpdate.TheVariants as realm_updat
 use Rattle.rmm_spec.specs.declared.change.RecChange.{RecChange}
 use Rattle.rmm_spec.specs.declared.change.RecUpdate.{RecUpdate}
 use Rattle.rmm_spec.specs.declared.change.RecUpdate.TheVariants as rec_update
-use Rattle.rmm_spec.specs.declared.tag.Tag.TheVariants.{Rd, Rec}
-use Rattle.rmm_spec.specs.State.{State, RealmRecord, RecRecord, Request, Pending, Psci, RipasChange, HostCall, with_realm, with_rec, has_tag, runs_on, realm_at, rec_at, request_of}
+use Rattle.rmm_spec.specs.declared.tag.Tag.TheVariants.{Rd}
+use Rattle.rmm_spec.specs.State.{State, RealmRecord, RecRecord, Request, Psci, RipasChange, HostCall, with_realm, has_tag, runs_on, realm_at, rec_at}
 use Rattle.rmm_spec.specs.Change.{realm_updated, rec_updated, with_realm_change, with_rec_change}
 use Rattle.rmm_spec.specs.Sound.{IsRequest, IsSound}
-use Rattle.rmm_spec.specs.Applicable.{IsRealmUpdate, CanUpdateRec, CanChangeRealm, CanChangeRec}
+use Rattle.rmm_spec.specs.Applicable.{CanUpdateRec, CanChangeRealm, CanChangeRec}
 use Rattle.rmm_sound.proofs.Cases.{both_ways, nothing_there}
-use Rattle.rmm_sound.proofs.Kept.{IsLike, like_itself}
+use Rattle.rmm_sound.proofs.Kept.{IsLike}
 use Rattle.rmm_sound.proofs.RealmChanged.{with_realm_sound}
 use Rattle.rmm_sound.proofs.RecChanged.{CanStandFor, with_rec_sound}
 use Rattle.rmm_sound.proofs.Searches.{none_runs, realm_there, rec_there, realm_at-is}

@@ -1,6 +1,6 @@
 -- What a search over all granules says of each address, and what stands at a tag.
-use Rattle.std.proofs.Common.{◌≡◌, ℕ, zero, suc, ◌+◌, ◌*◌, ◌/◌, ◌%◌, ◌<◌, ◌==◌, ◌&&◌, ◌||◌, Bool, true, false, if◌then◌else◌, IsTrue, Option, Some, None, is_some, refl, sym, ◌∙◌, ap, arith, nat_lt, ◌⊎◌, inl, inr, unwrap_or}
-use Rattle.std.proofs.lemmas.Bool.{and_parts, or_parts, eqb-true, or_cases, cases_Bool}
+use Rattle.std.proofs.Common.{◌≡◌, ℕ, zero, suc, ◌*◌, ◌/◌, ◌%◌, ◌<◌, ◌==◌, Bool, true, false, IsTrue, Option, Some, None, is_some, refl, sym, ◌∙◌, ap, arith, nat_lt, ◌⊎◌, inl, inr, unwrap_or}
+use Rattle.std.proofs.lemmas.Bool.{and_parts, or_parts, eqb-true}
 use Rattle.std.proofs.lemmas.Bool.Decides.{nat_tests}
 use Rattle.rmm_spec.specs.declared.tag.Tag.TheVariants.{Rd, Rec}
 use Rattle.rmm_spec.specs.State.{State, RealmRecord, RecRecord, is_granule, has_tag, any_below, greatest_below, is_inside, rec_inside, runs_on, is_vmid_used, has_vmid, has_rec, is_owned_by, realm_at, rec_at}

@@ -1,5 +1,5 @@
 -- Address spaces that a realm can have: their halves in entries of a level, and their roots.
-use Rattle.std.proofs.Common.{◌≡◌, ℕ, zero, suc, ◌+◌, ◌-◌, ◌*◌, ◌/◌, ◌%◌, ◌^◌, ◌<◌, ◌≤◌, ◌==◌, ◌&&◌, ◌||◌, ◌⊎◌, Bool, true, false, if◌then◌else◌, IsTrue, nat_lt, refl, sym, ◌∙◌, ap, inl, inr, arith}
+use Rattle.std.proofs.Common.{◌≡◌, ℕ, zero, suc, ◌+◌, ◌-◌, ◌*◌, ◌/◌, ◌^◌, ◌<◌, ◌≤◌, ◌==◌, ◌&&◌, ◌⊎◌, if◌then◌else◌, IsTrue, nat_lt, refl, inl, inr, arith}
 use Rattle.std.proofs.lemmas.Bool.{and_parts, or_cases, eqb-true, ltb-true, ltb-false}
 use Rattle.std.proofs.Math.Nat.{mul-le-mul_left}
 use Rattle.std.proofs.lemmas.Nat.{pow_pos}
@@ -7,7 +7,7 @@ use Rattle.rmm_spec.specs.declared.entry.Entry.TheVariants.{Unassigned, Assigned
 use Rattle.rmm_spec.specs.declared.entry.Entry.{Entry}
 use Rattle.rmm_spec.specs.declared.tag.Ripas.TheVariants.{Empty}
 use Rattle.rmm_spec.specs.State.{RealmRecord}
-use Rattle.rmm_spec.specs.Walk.{entry_size, table_size, full, half}
+use Rattle.rmm_spec.specs.Walk.{entry_size, half}
 use Rattle.rmm_spec.specs.Step.Words.{is_space}
 use Rattle.rmm_spec.specs.Sound.{IsTableOf, IsLeafOf}
 use Rattle.rmm_spec.specs.Applicable.{IsVacant}

@@ -1,12 +1,12 @@
 -- A table is put in below an entry, or taken out.
-use Rattle.std.proofs.Common.{◌≡◌, ℕ, zero, suc, ◌+◌, ◌/◌, ◌≤◌, ◌==◌, ◌||◌, Bool, true, false, if◌then◌else◌, IsTrue, Option, Some, None, is_some, refl, sym, ◌∙◌, ap, arith, subst, add-one}
+use Rattle.std.proofs.Common.{◌≡◌, ℕ, suc, ◌+◌, ◌/◌, ◌≤◌, ◌==◌, ◌||◌, Bool, true, false, if◌then◌else◌, IsTrue, Option, Some, None, is_some, refl, sym, ◌∙◌, ap, arith, subst, add-one}
 use Rattle.std.proofs.lemmas.Bool.{eq-eqb, false_from_ne_true}
 use Rattle.rmm_spec.specs.declared.entry.Entry.{Entry}
 use Rattle.rmm_spec.specs.declared.entry.Entry.TheVariants.{Unassigned, Assigned, Table, UnassignedNs, AssignedNs}
 use Rattle.rmm_spec.specs.declared.tag.Ripas.{Ripas}
-use Rattle.rmm_spec.specs.declared.tag.Tag.TheVariants.{Rd, Rec, RecAux, Data, Rtt}
+use Rattle.rmm_spec.specs.declared.tag.Tag.TheVariants.{Rtt}
 use Rattle.rmm_spec.specs.State.{State, RealmRecord, with_table, without_table, is_spot, has_tag}
-use Rattle.rmm_spec.specs.Sound.{AreTables, AreLeaves, IsSound, IsTableOf, IsLeafOf}
+use Rattle.rmm_spec.specs.Sound.{IsSound, IsTableOf, IsLeafOf}
 use Rattle.rmm_spec.specs.Applicable.{IsVacant}
 use Rattle.rmm_sound.proofs.Cases.{by_spot, both_ways, nothing_there, spot_hit, spot_level, some_either, none_of, left_of, by_two}
 use Rattle.rmm_sound.proofs.Kept.{realms_kept, recs_kept}

@@ -1,9 +1,9 @@
 -- A granule's tag, before and after one is changed.
-use Rattle.std.proofs.Common.{◌≡◌, ℕ, ◌==◌, ◌&&◌, Bool, true, false, if◌then◌else◌, IsTrue, refl, sym, ◌∙◌, ap}
+use Rattle.std.proofs.Common.{◌≡◌, ℕ, ◌==◌, ◌&&◌, false, IsTrue, refl, sym, ◌∙◌, ap}
 use Rattle.std.proofs.lemmas.Bool.{and_from, and_right, eq-eqb, ne_eqb}
 use Rattle.rmm_spec.specs.declared.tag.Tag.{Tag}
 use Rattle.rmm_spec.specs.State.{State, with_tag, tag_number, is_granule, has_tag}
-use Rattle.rmm_spec.proofs.TagLaws.{tag-has_tag, granule_from_tag}
+use Rattle.rmm_spec.proofs.TagLaws.{tag-has_tag}
 use Rattle.rmm_sound.proofs.Cases.{by_address, both_ways}
 
 -- the two tags differ

@@ -1,5 +1,5 @@
 -- Where a walk for an address of a realm ends: at a table that stands, at a level from the root's on.
-use Rattle.std.proofs.Common.{◌≡◌, ℕ, zero, suc, ◌+◌, ◌-◌, ◌*◌, ◌/◌, ◌%◌, ◌^◌, ◌<◌, ◌≤◌, ◌==◌, ◌&&◌, ◌⊎◌, Bool, true, false, IsTrue, Option, Some, None, is_some, refl, sym, ◌∙◌, ap, subst, arith, inl, inr}
+use Rattle.std.proofs.Common.{◌≡◌, ℕ, ◌+◌, ◌*◌, ◌/◌, ◌%◌, ◌^◌, ◌<◌, ◌≤◌, true, false, IsTrue, Some, is_some, refl, sym, ◌∙◌, ap, subst, arith, inl, inr}
 use Rattle.std.proofs.lemmas.Bool.{eqb-true}
 use Rattle.std.proofs.Math.Nat.{div-add-mod, div-div-eq-div-mul}
 use Rattle.rmm_spec.specs.declared.entry.Entry.{Entry}
@@ -10,7 +10,7 @@ use Rattle.rmm_spec.specs.State.{State, RealmRecord, has_tag, realm_at}
 use Rattle.rmm_spec.specs.Walk.{entry_size, table_size, entry_number, table_number, full, half, is_multiple, is_table, is_assigned, is_unassigned, is_unassigned_ram, is_unassigned_ns, is_assigned_ns, entry_address, reach}
 use Rattle.rmm_spec.specs.Step.Words.{is_space}
 use Rattle.rmm_spec.specs.Sound.{IsSound}
-use Rattle.rmm_spec.proofs.WalkLaws.{reach-le, reach-covers, table_size-entries, table_number-suc}
+use Rattle.rmm_spec.proofs.WalkLaws.{reach-le, reach-covers, table_size-entries}
 use Rattle.rmm_sound.proofs.Cases.{both_ways}
 use Rattle.rmm_sound.proofs.Searches.{realm_there}
 use Rattle.rmm_sound.proofs.Spaces.{space_cases}
