@@ -7,3 +7,10 @@ pub mod Locked
 pub mod Ranks
 pub mod Circles
 pub mod Turned
+pub mod Placed
+pub mod Locals
+pub mod Refusals
+pub mod Retagged
+pub mod Moved
+pub mod SmallRuns
+pub mod SmallTakes

@@ -3,7 +3,7 @@ use Rattle.std.proofs.Common.{◌≡◌, ℕ, zero, suc, ◌<◌, Bool, true, fa
 use Rattle.std.specs.Prelude.{Contains}
 use Rattle.std.specs.List.{filter, list_any}
 use Rattle.std.proofs.lemmas.Bool.{false≢true}
-use Rattle.std.proofs.lemmas.Option.{slice_get_within, get_or_from_slice_get}
+use Rattle.std.proofs.lemmas.Option.{slice_get_within, get_or_from_slice_get, slice_get-get_or}
 use Rattle.std.proofs.lemmas.List.Elements.{All-contains, All-contains_itself, All-filter, All-map, All-weaker}
 use Rattle.rmm_spec.specs.Cell.{Cell, put}
 use Rattle.rmm_spec.specs.Local.{HeldCell, granules_held, put_all}
@@ -14,6 +14,34 @@ Contains-nil x has = let within : has.0 < 0 = has.1 in omega arith
 
 pub Contains-from_slice_get : {X : Type 0} (xs : List X) (i : ℕ) (x : X) → slice_get xs i ≡ Some x → Contains xs x
 Contains-from_slice_get xs i x is = (i, slice_get_within xs i x is, get_or_from_slice_get xs i x x is)
+
+-- a member has a place
+pub slice_get-from_Contains : {X : Type 0} (xs : List X) (x : X) → Contains xs x → (i : ℕ) × (slice_get xs i ≡ Some x)
+slice_get-from_Contains xs x has = (has.0, slice_get-get_or xs has.0 x has.1 ∙ ap Some has.2)
+
+-- a member is the first, or a member of the rest
+pub Contains-other : {X : Type 0} (first : X) (xs : List X) (x : X) → (first ≡ x → ⊥) → Contains (first ∷ xs) x → Contains xs x
+Contains-other first xs x apart has = by has.0 has.1 has.2
+  where
+    by : (k : ℕ) → k < length (first ∷ xs) → get_or (first ∷ xs) k x ≡ x → Contains xs x
+    by zero within is = absurd (apart is)
+    by (suc k) within is = (k, omega arith, is)
+
+-- what holds of the one element, or of both, holds of each member
+pub each_of_one : {X : Type 0} (P : X → Type 0) (a : X) → P a → (x : X) → Contains (a ∷ []) x → P x
+each_of_one P a of_a x has = by has.0 has.1 has.2
+  where
+    by : (k : ℕ) → k < length (a ∷ []) → get_or (a ∷ []) k x ≡ x → P x
+    by zero within is = subst P is of_a
+    by (suc k) within is = absurd (let bad : suc k < 1 = within in omega arith)
+
+pub each_of_two : {X : Type 0} (P : X → Type 0) (a b : X) → P a → P b → (x : X) → Contains (a ∷ b ∷ []) x → P x
+each_of_two P a b of_a of_b x has = by has.0 has.1 has.2
+  where
+    by : (k : ℕ) → k < length (a ∷ b ∷ []) → get_or (a ∷ b ∷ []) k x ≡ x → P x
+    by zero within is = subst P is of_a
+    by (suc zero) within is = subst P is of_b
+    by (suc (suc k)) within is = absurd (let bad : suc (suc k) < 2 = within in omega arith)
 
 -- what a filter keeps was there
 pub Contains-filter : {X : Type 0} (p : X → Bool) (xs : List X) (x : X) → Contains (filter p xs) x → Contains xs x
@@ -64,7 +92,7 @@ granules_held-cells_at cells [] = refl
 granules_held-cells_at cells (granule ∷ taken) = ap (λ rest. granule ∷ rest) (granules_held-cells_at cells taken)
 
 -- the head and the others of a list are its members
-Contains-head : {X : Type 0} (x : X) (xs : List X) → Contains (x ∷ xs) x
+pub Contains-head : {X : Type 0} (x : X) (xs : List X) → Contains (x ∷ xs) x
 Contains-head x xs = (0, omega arith, refl)
 
 pub Contains-tail : {X : Type 0} (x : X) (xs : List X) (y : X) → Contains xs y → Contains (x ∷ xs) y

@@ -1,0 +1,187 @@
+-- What words or a named granule's tag refuse is refused in every whole that agrees with what is held.
+use Rattle.std.proofs.Common.{◌≡◌, ℕ, zero, suc, Bool, true, false, ◌==◌, if◌then◌else◌, List, [], ◌∷◌, Some, slice_get, Err, ◌⊎◌, inl, inr, refl, sym, ap, ◌∙◌, subst}
+use Rattle.std.specs.Prelude.{Contains, not}
+use Rattle.std.specs.List.{list_all}
+use Rattle.std.proofs.lemmas.Bool.{false≢true, and_right, and_left}
+use Rattle.std.proofs.lemmas.Option.{none-some}
+use Rattle.rmm_spec.specs.declared.accepted.Accepted.{Accepted}
+use Rattle.rmm_spec.specs.declared.call.Call.{Call}
+use Rattle.rmm_spec.specs.declared.call.Call.TheVariants as call
+use Rattle.rmm_spec.specs.declared.command.Command.{Command}
+use Rattle.rmm_spec.specs.declared.reply.Reply.{Reply}
+use Rattle.rmm_spec.specs.declared.reply.Reply.TheVariants as reply
+use Rattle.rmm_spec.specs.Call.{ByHost, ByRealm, ByExit, call_of, class_of}
+use Rattle.rmm_spec.specs.State.{State, has_tag, tag_number, is_granule, is_inside}
+use Rattle.rmm_spec.specs.Rows.{Row, Needed, decided, inputs, tagged, input_error}
+use Rattle.rmm_spec.specs.Step.Front.{with_front}
+use Rattle.rmm_spec.specs.Step.Words.{words_of}
+use Rattle.rmm_spec.specs.Step.Named.{named}
+use Rattle.rmm_spec.specs.Step.{Step, CarriesOut, answer_of, outcome, is_placed}
+use Rattle.rmm_spec.specs.Step.Granule.{granule_delegate, granule_undelegate}
+use Rattle.rmm_spec.specs.Step.Realm.{realm_create, realm_activate, realm_destroy}
+use Rattle.rmm_spec.specs.Step.Rec.{rec_create, rec_destroy, rec_enter}
+use Rattle.rmm_spec.specs.Step.Table.{rtt_create, rtt_destroy, rtt_read_entry}
+use Rattle.rmm_spec.specs.Step.Data.{data_create, data_create_unknown, data_destroy}
+use Rattle.rmm_spec.specs.Step.Unprotected.{rtt_map_unprotected, rtt_unmap_unprotected}
+use Rattle.rmm_spec.specs.Step.Ripas.{rtt_init_ripas, rtt_set_ripas}
+use Rattle.rmm_spec.specs.Step.RealmCall.{measurement_read, measurement_extend, realm_config, ipa_state_set, ipa_state_get, host_call, cpu_off, system_off, rec_exit}
+use Rattle.rmm_spec.specs.Cell.{Cell, tag_of}
+use Rattle.rmm_spec.specs.Flat.{flat_state}
+use Rattle.rmm_spec.specs.Shape.{Side, CpuPlace, Outside, Inside, IsWellShaped}
+use Rattle.rmm_spec.specs.Local.{HeldCell, Hold, Agrees, LocalStep}
+use Rattle.world_laws.proofs.Locals.{unchanged-is_local, agrees-at}
+use Rattle.world_laws.proofs.Members.{slice_get-from_Contains}
+use Rattle.world_laws.proofs.Placed.{is_inside-outside, is_inside-inside}
+
+-- ---- rows
+
+-- a word that is refused decides, whatever the rows behind say
+decided-words : (words : List Bool) (rows : List Row) (accepted : Accepted) → list_all (λ b. b) words ≡ false → decided (inputs words rows) accepted ≡ Err input_error
+decided-words [] rows accepted wrong = absurd (false≢true (sym wrong))
+decided-words (true ∷ words) rows accepted wrong = decided-words words rows accepted wrong
+decided-words (false ∷ words) rows accepted wrong = refl
+
+-- what the rows behind refuse as input is refused as input, whatever the words say
+decided-inputs : (words : List Bool) (rows : List Row) (accepted : Accepted) → decided rows accepted ≡ Err input_error → decided (inputs words rows) accepted ≡ Err input_error
+decided-inputs [] rows accepted refused = refused
+decided-inputs (true ∷ words) rows accepted refused = decided-inputs words rows accepted refused
+decided-inputs (false ∷ words) rows accepted refused = refl
+
+-- a named granule without the tag that is needed there decides
+decided-tags : (s : State) (names : List Needed) (rows : List Row) (accepted : Accepted) (i : ℕ) (n : Needed) → slice_get names i ≡ Some n
+    → has_tag s n.granule n.tag ≡ false → decided (tagged s names rows) accepted ≡ Err input_error
+decided-tags s [] rows accepted i n is wrong = absurd (none-some n is)
+decided-tags s (first ∷ names) rows accepted zero n is wrong =
+    let same : has_tag s first.granule first.tag ≡ false = subst (λ (m : Needed). has_tag s m.granule m.tag ≡ false) (let e : n ≡ first = cc in e) wrong in
+    rw same refl
+decided-tags s (first ∷ names) rows accepted (suc i) n is wrong = by (has_tag s first.granule first.tag) (decided-tags s names rows accepted i n is wrong)
+  where
+    by : (b : Bool) → decided (tagged s names rows) accepted ≡ Err input_error
+        → (if b then decided (tagged s names rows) accepted else Err input_error) ≡ Err input_error
+    by true later = later
+    by false later = refl
+
+-- the words refuse, or a named granule hasn't the tag that is needed there
+pub data IsRefusedInFront (s : State) (c : Call) : Type 0 where
+  by_words : list_all (λ b. b) (words_of c) ≡ false → IsRefusedInFront s c
+  by_tag : (i : ℕ) (n : Needed) → slice_get (named c) i ≡ Some n → has_tag s n.granule n.tag ≡ false → IsRefusedInFront s c
+
+decided-front : (s : State) (c : Call) (rows : List Row) (accepted : Accepted) → IsRefusedInFront s c → decided (with_front s c rows) accepted ≡ Err input_error
+decided-front s c rows accepted (by_words wrong) = decided-words (words_of c) (tagged s (named c) rows) accepted wrong
+decided-front s c rows accepted (by_tag i n is wrong) =
+    decided-inputs (words_of c) (tagged s (named c) rows) accepted (decided-tags s (named c) rows accepted i n is wrong)
+
+-- each command begins with those rows
+answer_of-front : (s : State) (cpu : ℕ) (c : Call) → IsRefusedInFront s c → answer_of s cpu c ≡ Err input_error
+unfolding answer_of granule_delegate granule_undelegate realm_create realm_activate realm_destroy rec_create rec_destroy rec_enter rtt_create rtt_destroy rtt_read_entry data_create data_create_unknown data_destroy rtt_map_unprotected rtt_unmap_unprotected rtt_init_ripas rtt_set_ripas measurement_read measurement_extend realm_config ipa_state_set ipa_state_get host_call cpu_off system_off rec_exit
+answer_of-front s cpu (call.GranuleDelegate granule) refused = decided-front s (call.GranuleDelegate granule) _ _ refused
+answer_of-front s cpu (call.GranuleUndelegate granule) refused = decided-front s (call.GranuleUndelegate granule) _ _ refused
+answer_of-front s cpu (call.DataCreate rd granule ipa source flags digest) refused = decided-front s (call.DataCreate rd granule ipa source flags digest) _ _ refused
+answer_of-front s cpu (call.DataCreateUnknown rd granule ipa) refused = decided-front s (call.DataCreateUnknown rd granule ipa) _ _ refused
+answer_of-front s cpu (call.DataDestroy rd ipa) refused = decided-front s (call.DataDestroy rd ipa) _ _ refused
+answer_of-front s cpu (call.RealmActivate rd) refused = decided-front s (call.RealmActivate rd) _ _ refused
+answer_of-front s cpu (call.RealmCreate rd root width level vmid algo) refused = decided-front s (call.RealmCreate rd root width level vmid algo) _ _ refused
+answer_of-front s cpu (call.RealmDestroy rd) refused = decided-front s (call.RealmDestroy rd) _ _ refused
+answer_of-front s cpu (call.RecCreate rd rec mpidr flags aux0 aux1) refused = decided-front s (call.RecCreate rd rec mpidr flags aux0 aux1) _ _ refused
+answer_of-front s cpu (call.RecDestroy rec) refused = decided-front s (call.RecDestroy rec) _ _ refused
+answer_of-front s cpu (call.RecEnter rec) refused = decided-front s (call.RecEnter rec) _ _ refused
+answer_of-front s cpu (call.RttCreate rd rtt ipa level) refused = decided-front s (call.RttCreate rd rtt ipa level) _ _ refused
+answer_of-front s cpu (call.RttDestroy rd ipa level) refused = decided-front s (call.RttDestroy rd ipa level) _ _ refused
+answer_of-front s cpu (call.RttMapUnprotected rd ipa page) refused = decided-front s (call.RttMapUnprotected rd ipa page) _ _ refused
+answer_of-front s cpu (call.RttReadEntry rd ipa level) refused = decided-front s (call.RttReadEntry rd ipa level) _ _ refused
+answer_of-front s cpu (call.RttUnmapUnprotected rd ipa) refused = decided-front s (call.RttUnmapUnprotected rd ipa) _ _ refused
+answer_of-front s cpu (call.RttInitRipas rd base top) refused = decided-front s (call.RttInitRipas rd base top) _ _ refused
+answer_of-front s cpu (call.RttSetRipas rd rec base top) refused = decided-front s (call.RttSetRipas rd rec base top) _ _ refused
+answer_of-front s cpu (call.MeasurementRead index) refused = decided-front s (call.MeasurementRead index) _ _ refused
+answer_of-front s cpu (call.MeasurementExtend index size values) refused = decided-front s (call.MeasurementExtend index size values) _ _ refused
+answer_of-front s cpu call.RealmConfig refused = decided-front s call.RealmConfig _ _ refused
+answer_of-front s cpu (call.IpaStateSet base top ripas) refused = decided-front s (call.IpaStateSet base top ripas) _ _ refused
+answer_of-front s cpu (call.IpaStateGet ipa) refused = decided-front s (call.IpaStateGet ipa) _ _ refused
+answer_of-front s cpu (call.HostCall imm) refused = decided-front s (call.HostCall imm) _ _ refused
+answer_of-front s cpu call.CpuOff refused = decided-front s call.CpuOff _ _ refused
+answer_of-front s cpu call.SystemOff refused = decided-front s call.SystemOff _ _ refused
+answer_of-front s cpu call.Exit refused = decided-front s call.Exit _ _ refused
+
+-- ---- local steps
+
+-- what refuses gives that reply and changes nothing
+pub Step-refused : (s : State) (cpu : ℕ) (command : Command) (refusal : Reply) → outcome s cpu (call_of command) ≡ Err refusal → Step s cpu command refusal s
+Step-refused s cpu command refusal is = subst (λ o. CarriesOut o s refusal s) (sym is) (refl, refl)
+
+-- a host's command on a CPU that is outside is answered by its rows
+pub outcome-host : (granules : ℕ) (side : Side) (places : ℕ → CpuPlace) (cells : ℕ → Cell) → IsWellShaped granules side places cells
+    → (cpu : ℕ) (c : Call) → class_of c ≡ ByHost → places cpu ≡ Outside → outcome (flat_state granules cells) cpu c ≡ answer_of (flat_state granules cells) cpu c
+unfolding outcome
+outcome-host granules side places cells shaped cpu c by_host place =
+    let placed : is_placed (flat_state granules cells) cpu (class_of c) ≡ true =
+    ap (is_placed (flat_state granules cells) cpu) by_host ∙ ap not (is_inside-outside granules side places cells shaped cpu place) in
+    rw placed refl
+
+outcome-misplaced : (s : State) (cpu : ℕ) (c : Call) → is_placed s cpu (class_of c) ≡ false → outcome s cpu c ≡ Err reply.Misplaced
+unfolding outcome
+outcome-misplaced s cpu c misplaced = rw misplaced refl
+
+refused_in_front-is_local : (granules cpu : ℕ) (command : Command) (hold : Hold) → class_of (call_of command) ≡ ByHost → hold.place ≡ Outside
+    → ((cells : ℕ → Cell) → Agrees cells hold.cells → IsRefusedInFront (flat_state granules cells) (call_of command))
+    → LocalStep granules cpu command input_error hold hold
+refused_in_front-is_local granules cpu command hold by_host outside refused =
+    unchanged-is_local granules cpu command input_error hold (λ cells places shaped agrees place.
+    Step-refused (flat_state granules cells) cpu command input_error
+    (outcome-host granules hold.side places cells shaped cpu (call_of command) by_host (place ∙ outside)
+    ∙ answer_of-front (flat_state granules cells) cpu (call_of command) (refused cells agrees)))
+
+pub words-are_local : (granules cpu : ℕ) (command : Command) (hold : Hold) → class_of (call_of command) ≡ ByHost → hold.place ≡ Outside
+    → list_all (λ b. b) (words_of (call_of command)) ≡ false → LocalStep granules cpu command input_error hold hold
+words-are_local granules cpu command hold by_host outside wrong =
+    refused_in_front-is_local granules cpu command hold by_host outside (λ cells agrees. by_words wrong)
+
+-- what is no granule has no tag
+has_tag-no_granule : (granules : ℕ) (cells : ℕ → Cell) (n : Needed) → is_granule granules n.granule ≡ false
+    → has_tag (flat_state granules cells) n.granule n.tag ≡ false
+unfolding has_tag flat_state
+has_tag-no_granule granules cells n wrong = and_left (is_granule granules n.granule) (tag_number (tag_of (cells n.granule)) == tag_number n.tag) wrong
+
+-- nor has a granule a tag that its cell hasn't
+has_tag-other : (granules : ℕ) (cells : ℕ → Cell) (n : Needed) (cell : Cell) → cells n.granule ≡ cell
+    → (tag_number (tag_of cell) == tag_number n.tag) ≡ false → has_tag (flat_state granules cells) n.granule n.tag ≡ false
+unfolding has_tag flat_state
+has_tag-other granules cells n cell there wrong =
+    and_right (is_granule granules n.granule) (tag_number (tag_of (cells n.granule)) == tag_number n.tag)
+    (ap (λ (c : Cell). tag_number (tag_of c) == tag_number n.tag) there ∙ wrong)
+
+pub addresses-are_local : (granules cpu : ℕ) (command : Command) (hold : Hold) (n : Needed) → class_of (call_of command) ≡ ByHost → hold.place ≡ Outside
+    → Contains (named (call_of command)) n → is_granule granules n.granule ≡ false → LocalStep granules cpu command input_error hold hold
+addresses-are_local granules cpu command hold n by_host outside has wrong =
+    let found = slice_get-from_Contains (named (call_of command)) n has in
+    refused_in_front-is_local granules cpu command hold by_host outside (λ cells agrees. by_tag found.0 n found.1 (has_tag-no_granule granules cells n wrong))
+
+pub tags-are_local : (granules cpu : ℕ) (command : Command) (hold : Hold) (h : HeldCell) (n : Needed) → class_of (call_of command) ≡ ByHost
+    → hold.place ≡ Outside → Contains hold.cells h → Contains (named (call_of command)) n → n.granule ≡ h.granule
+    → (tag_number (tag_of h.cell) == tag_number n.tag) ≡ false → LocalStep granules cpu command input_error hold hold
+tags-are_local granules cpu command hold h n by_host outside has_h has_n same wrong =
+    let found = slice_get-from_Contains (named (call_of command)) n has_n in
+    refused_in_front-is_local granules cpu command hold by_host outside (λ cells agrees. by_tag found.0 n found.1
+    (has_tag-other granules cells n h.cell (ap cells same ∙ agrees-at cells hold.cells h agrees has_h) wrong))
+
+-- a host's command inside of a REC
+pub inside-is_local : (granules cpu : ℕ) (command : Command) (hold : Hold) (rec rd : ℕ) → class_of (call_of command) ≡ ByHost
+    → hold.place ≡ Inside rec rd → LocalStep granules cpu command reply.Misplaced hold hold
+inside-is_local granules cpu command hold rec rd by_host inside =
+    unchanged-is_local granules cpu command reply.Misplaced hold (λ cells places shaped agrees place.
+    let s = flat_state granules cells in
+    Step-refused s cpu command reply.Misplaced (outcome-misplaced s cpu (call_of command)
+    (ap (is_placed s cpu) by_host ∙ ap not (is_inside-inside granules hold.side places cells shaped cpu rec rd (place ∙ inside)))))
+
+-- a realm's call, and an exit, outside of RECs
+pub outside-is_local : (granules cpu : ℕ) (command : Command) (hold : Hold) → (class_of (call_of command) ≡ ByRealm) ⊎ (class_of (call_of command) ≡ ByExit)
+    → hold.place ≡ Outside → LocalStep granules cpu command reply.Misplaced hold hold
+outside-is_local granules cpu command hold not_host outside =
+    unchanged-is_local granules cpu command reply.Misplaced hold (λ cells places shaped agrees place.
+    let s = flat_state granules cells in
+    Step-refused s cpu command reply.Misplaced (outcome-misplaced s cpu (call_of command)
+    (misplaced s (is_inside-outside granules hold.side places cells shaped cpu (place ∙ outside)) not_host)))
+  where
+    misplaced : (s : State) → is_inside s cpu ≡ false → (class_of (call_of command) ≡ ByRealm) ⊎ (class_of (call_of command) ≡ ByExit)
+        → is_placed s cpu (class_of (call_of command)) ≡ false
+    misplaced s not_inside (inl by_realm) = rw (by_realm, not_inside) refl
+    misplaced s not_inside (inr by_exit) = rw (by_exit, not_inside) refl

@@ -1,0 +1,85 @@
+-- Small worlds, written out: two CPUs on a few granules, and cells that two CPUs hold.
+use Rattle.std.specs.Prelude.{◌≡◌, ℕ, ◌≤◌, true, false, ◌⊎◌, IsTrue, List, [], ◌∷◌, ◌++◌, Contains, length, None}
+use Rattle.rmm_spec.specs.declared.call.Call.{Call}
+use Rattle.rmm_spec.specs.declared.call.Call.TheVariants.{RealmCreate}
+use Rattle.rmm_spec.specs.declared.command.Command.{Command}
+use Rattle.rmm_spec.specs.declared.event.Event.{Event}
+use Rattle.rmm_spec.specs.declared.event.Event.TheVariants.{Called}
+use Rattle.rmm_spec.specs.declared.function_id.FunctionId.TheVariants.{GranuleDelegate}
+use Rattle.rmm_spec.specs.declared.reply.Reply.{Reply}
+use Rattle.rmm_spec.specs.HistoryText.{Setup}
+use Rattle.rmm_spec.specs.State.{RecRecord, is_granule}
+use Rattle.rmm_spec.specs.Rows.{Needed, ok, input_error}
+use Rattle.rmm_spec.specs.Cell.{Cell, Delegated, Rec, RecAux, tag_of, is_data}
+use Rattle.rmm_spec.specs.Shape.{Outside}
+use Rattle.rmm_spec.specs.Local.{HeldCell, Hold}
+use Rattle.rmm_spec.specs.World.{Move}
+use Rattle.rmm_spec.specs.World as move
+use Rattle.rmm_spec.specs.Locks.{IsNextNamed, IsNextPart}
+use Rattle.world_laws.specs.Replaced.{held_at}
+
+-- ---- two CPUs that delegate one granule
+
+abbrev pub two_cpus : Setup
+two_cpus = record { granules = 4; cpus = 2 }
+
+abbrev pub delegate : ℕ → Command
+delegate granule = record { function = GranuleDelegate; words = record { items = granule ∷ [] } }
+
+abbrev pub both_delegate : ℕ → List Command
+both_delegate cpu = delegate 0x1000 ∷ []
+
+-- a CPU outside of RECs that holds the granule with this cell; there are no realms
+abbrev pub holding : Cell → Hold
+holding cell = record { cells = held_at 0x1000 cell ∷ []; side = record { vmids = λ _. None; rec_counts = λ _. 0 }; place = Outside }
+
+-- a CPU's moves from its lock to its return, with its reply
+abbrev pub served : ℕ → Reply → List Move
+served cpu given = move.Take cpu 0x1000 ∷ move.Commit cpu given (holding Delegated) ∷ move.Free cpu 0x1000 None ∷ move.Return cpu ∷ []
+
+-- both CPUs call, and the first is served before the second
+abbrev pub in_order : ℕ → ℕ → List Move
+in_order first second = move.Call 0 ∷ move.Call 1 ∷ (served first (ok []) ++ served second input_error)
+
+-- both CPUs call, and CPU 0 commits and stops
+abbrev pub stopped_after_commit : List Move
+stopped_after_commit =
+    move.Call 0 ∷ move.Call 1 ∷ move.Take 0 0x1000 ∷ move.Commit 0 (ok []) (holding Delegated) ∷ move.Stop 0 ∷ []
+
+abbrev pub both_called : List Event
+both_called = Called 0 0 (delegate 0x1000) ∷ Called 1 0 (delegate 0x1000) ∷ []
+
+-- ---- takes that are not rising
+
+-- two realms that are made of the same two granules, named the other way round
+abbrev pub realm_of : ℕ → ℕ → Call
+realm_of rd root = RealmCreate rd root 39 1 1 0
+
+abbrev pub one_delegated : ℕ → List HeldCell
+one_delegated granule = held_at granule Delegated ∷ []
+
+-- all that is asked of a rising take but that strays are parts of what is held
+pub record IsUnguardedTake (granules : ℕ) (names : List Needed) (held : List HeldCell) (granule : ℕ) : Type 0 where
+  pub is_lock : IsTrue (is_granule granules granule)
+  pub is_new : (h : HeldCell) → Contains held h → h.granule ≡ granule → ⊥
+  pub room : length held ≤ 5
+  pub no_data : (h : HeldCell) → Contains held h → is_data h.cell ≡ false
+  pub tags : (h : HeldCell) (n : Needed) → Contains held h → Contains names n → n.granule ≡ h.granule → tag_of h.cell ≡ n.tag
+  pub upwards : IsNextNamed names held granule ⊎ IsNextPart held granule
+
+-- a REC that isn't entered, with its two auxiliary granules
+abbrev pub rec_with : ℕ → ℕ → RecRecord
+rec_with aux0 aux1 = record {
+  owner = 0;
+  index = 0;
+  aux0 = aux0;
+  aux1 = aux1;
+  runnable = true;
+  cpu = None;
+  request = None;
+  pending = None;
+}
+
+-- a REC, and an auxiliary granule of another one
+abbrev pub rec_and_stray : ℕ → ℕ → ℕ → ℕ → List HeldCell
+rec_and_stray rec aux0 aux1 stray = held_at rec (Rec (rec_with aux0 aux1)) ∷ held_at stray RecAux ∷ []

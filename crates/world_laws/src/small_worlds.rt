@@ -1,0 +1,44 @@
+//! Small worlds, worked out: what the laws speak of is there, and what they rule out would be.
+
+ghost use Rattle.std.specs.Prelude.{◌≡◌, List, [], ◌∷◌, ◌++◌, Contains};
+ghost use Rattle.rmm_spec.specs.declared.call.Call.TheVariants.{RecDestroy};
+ghost use Rattle.rmm_spec.specs.declared.event.Event.TheVariants.{Returned};
+ghost use Rattle.rmm_spec.specs.declared.line.Line.TheVariants.{Keep, Unfinished};
+ghost use Rattle.rmm_spec.specs.Rows.{ok, input_error};
+ghost use Rattle.rmm_spec.specs.Step.Named.{named};
+ghost use Rattle.rmm_spec.specs.Local.{granules_held};
+ghost use Rattle.rmm_spec.specs.World.{World, opening_world, HappenAll, certificate_of};
+ghost use Rattle.rmm_spec.specs.Locks.{IsRisingTake};
+ghost use Rattle.rmm_spec.specs.Waits.{WaitsAt};
+ghost use Rattle.world_laws.specs.SmallWorlds.{two_cpus, both_delegate, in_order, stopped_after_commit, both_called, realm_of, one_delegated, IsUnguardedTake, rec_and_stray};
+
+/// Two CPUs delegate one granule: in either order the first is answered ok and the second is refused.
+pub fn two_cpus_delegate_one_granule()
+    ensures zero_first { (w : World) × HappenAll (opening_world two_cpus both_delegate) (in_order 0 1) w
+        × (w.events ≡ both_called ++ Returned 0 0 (ok []) ∷ Returned 1 0 input_error ∷ [])
+        × (certificate_of w ≡ Keep 0 0 ∷ Keep 1 0 ∷ []) }
+    ensures one_first { (w : World) × HappenAll (opening_world two_cpus both_delegate) (in_order 1 0) w
+        × (w.events ≡ both_called ++ Returned 1 0 (ok []) ∷ Returned 0 0 input_error ∷ [])
+        × (certificate_of w ≡ Keep 1 0 ∷ Keep 0 0 ∷ []) }
+{}
+
+/// A CPU that stops after its commit keeps its lock: its call is an unfinished line, and the other CPU waits for it.
+pub fn a_stopped_cpu_keeps_its_lock()
+    ensures { (w : World) × HappenAll (opening_world two_cpus both_delegate) stopped_after_commit w
+        × (w.events ≡ both_called) × (certificate_of w ≡ Unfinished 0 0 (ok []) ∷ []) × WaitsAt w 1 0x1000 0 }
+{}
+
+/// Two CPUs that each hold what the other takes next, in the order of their commands' words: one of the takes isn't rising.
+pub fn word_order_does_not_rise()
+    ensures rises { IsRisingTake 4 (named (realm_of 0x1000 0x2000)) (one_delegated 0x1000) 0x2000 }
+    ensures falls { IsRisingTake 4 (named (realm_of 0x2000 0x1000)) (one_delegated 0x2000) 0x1000 → ⊥ }
+{}
+
+/// Two CPUs that each destroy a REC, and hold an auxiliary granule of the other's, wait for each other: all that is asked of a
+/// rising take holds of both, but that strays are parts of what is held.
+pub fn strays_would_circle()
+    ensures first { IsUnguardedTake 8 (named (RecDestroy 0x1000)) (rec_and_stray 0x1000 0x3000 0x4000 0x5000) 0x3000 }
+    ensures second { IsUnguardedTake 8 (named (RecDestroy 0x2000)) (rec_and_stray 0x2000 0x5000 0x6000 0x3000) 0x5000 }
+    ensures circle { Contains (granules_held (rec_and_stray 0x1000 0x3000 0x4000 0x5000)) 0x5000
+        × Contains (granules_held (rec_and_stray 0x2000 0x5000 0x6000 0x3000)) 0x3000 }
+{}
