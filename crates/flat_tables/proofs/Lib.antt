@@ -1,0 +1,2 @@
+mod Spots
+mod Updates
