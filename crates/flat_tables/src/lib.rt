@@ -5,9 +5,13 @@
 //! The specification machine depends on it.
 #![tactic(auto)]
 
+mod changes;
+mod entries;
 mod kept_table;
+mod searches;
 mod spot;
 mod tables;
+mod walks;
 
 pub use spot::Spot;
 pub use tables::Tables;
