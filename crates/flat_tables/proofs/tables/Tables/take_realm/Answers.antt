@@ -1,0 +1,5 @@
+use Rattle.flat_tables.proofs.Commands.{realm_taken}
+use Rattle.flat_tables.proofs.tables.Tables.take_realm.Goals as goal
+
+pub returns : goal.returns
+returns c = λ s. realm_taken s c.args.self.now c.take.new.self c.args.rd c.args.level c.requires c.take.ensures
