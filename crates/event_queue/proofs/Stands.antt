@@ -1,11 +1,11 @@
 -- Where a CPU stands after its next event.
-use Rattle.std.proofs.Common.{◌≡◌, ℕ, ◌+◌, ◌-◌, ◌<◌, ◌≤◌, Bool, true, false, eqb, if◌then◌else◌, List, [], ◌∷◌, ◌++◌, Option, Some, None, refl, arith, sym, ap, ◌∙◌, subst, append-nil, eq-eqb}
-use Rattle.std.specs.Prelude.{is_some, IsSome, not, ◌&&◌}
+use Rattle.std.proofs.Common.{◌≡◌, ℕ, ◌+◌, ◌-◌, ◌≤◌, Bool, true, false, eqb, if◌then◌else◌, List, [], ◌∷◌, ◌++◌, Option, Some, None, refl, arith, sym, ap, ◌∙◌, subst, eq-eqb}
+use Rattle.std.specs.Prelude.{is_some, not, ◌&&◌}
 use Rattle.rmm_spec.specs.declared.command.Command.{Command}
 use Rattle.rmm_spec.specs.declared.reply.Reply.{Reply}
 use Rattle.rmm_spec.specs.declared.event.Event.{Event}
 use Rattle.rmm_spec.specs.declared.event.Event.TheVariants.{Called, Returned}
-use Rattle.rmm_spec.specs.HistoryText.{Stand, start, stand_from, stand_after, IsRecord}
+use Rattle.rmm_spec.specs.HistoryText.{Stand, start, stand_from, IsRecord}
 use Rattle.rmm_spec.proofs.Places.{length-stand_from}
 use Rattle.rmm_spec.proofs.Records.{stand_from-push_at}
 use Rattle.event_queue.specs.declared.book.Page.{Page}

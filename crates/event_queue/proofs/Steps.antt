@@ -1,11 +1,12 @@
 -- Each step of a pass keeps the rule of the queue.
-use Rattle.std.proofs.Common.{◌≡◌, ◌≢◌, ℕ, zero, suc, ◌+◌, ◌<◌, ◌≤◌, ◌==◌, true, false, eqb, if◌then◌else◌, List, [], ◌∷◌, ◌++◌, length, set, Some, refl, arith, sym, ap, ◌∙◌, ◌⊎◌, inl, inr, subst, ⊎_elim, append_assoc, append-nil, eq-eqb, ne_eqb}
+use Rattle.std.proofs.Common.{◌≡◌, ◌≢◌, ℕ, zero, suc, ◌+◌, ◌==◌, true, false, eqb, if◌then◌else◌, List, [], ◌∷◌, ◌++◌, length, set, refl, arith, sym, ap, ◌∙◌, ◌⊎◌, inl, inr, subst, ⊎_elim, append_assoc, append-nil, eq-eqb, ne_eqb}
 use Rattle.std.specs.List.{AllByRecursion}
-use Rattle.std.proofs.lemmas.Bool.{eqb-true, cases_Bool, cases_eq}
+use Rattle.std.proofs.lemmas.Bool.{eqb-true, cases_Bool}
 use Rattle.std.proofs.lemmas.List.Elements.{filter-append}
+use mathlib.Core.List.{IsPrefix}
 use mathlib.Core.Option.{some, some-injective, some-ne-none}
 use lib.ListN.{get_elem?}
-use Rattle.crossbeam_queue.specs.Fifo.{Pushes, Pops, Forks, Learns}
+use Rattle.crossbeam_queue.specs.Fifo.{Pushes, Pops, Forks, Merges, Learns}
 use Rattle.crossbeam_queue.proofs.Lists.{at_set}
 use Rattle.rmm_spec.specs.declared.event.Event.{Event}
 use Rattle.rmm_spec.specs.declared.event.Event.TheVariants.{Called, Returned}
@@ -14,9 +15,9 @@ use Rattle.rmm_spec.proofs.Records.{events_of-push_same, events_of-push_other, I
 use Rattle.event_queue.specs.declared.book.Holder.{Holder}
 use Rattle.event_queue.specs.declared.book.Holder.TheVariants.{Cpu, Scribe, Nobody}
 use Rattle.event_queue.specs.declared.book.Page.{Page}
-use Rattle.event_queue.specs.Records.{AreRecords, MayBeQueued}
-use Rattle.event_queue.specs.Pages.{opening_page, nobody_page, cpu_page, MayFindQueued, IsDrained}
-use Rattle.event_queue.specs.Book.{Ledger, IsCpuPage, IsScribePage, IsPageOf, IsKept, IsRecorded}
+use Rattle.event_queue.specs.Records.{AreRecords}
+use Rattle.event_queue.specs.Pages.{opening_page, nobody_page, cpu_page, note_of, MayFindQueued, BeginsWithDrained, IsDrained}
+use Rattle.event_queue.specs.Book.{Ledger, IsCpuPage, IsScribePage, IsPageOf, IsRecorded}
 
 -- ---- records
 
@@ -53,6 +54,22 @@ IsRecord-beginning : (events more : List Event) → IsRecord (events ++ more) �
 IsRecord-beginning events [] is_record = subst IsRecord (append-nil events) is_record
 IsRecord-beginning events (event ∷ more) is_record =
     IsRecord-front events event (IsRecord-beginning (events ++ event ∷ []) more (subst IsRecord (sym (append_assoc events (event ∷ []) more)) is_record))
+
+-- ---- beginnings
+
+begins_with_none : (events : List Event) → IsPrefix [] events
+begins_with_none events = (events, refl)
+
+begins_with_all : (events : List Event) → IsPrefix events events
+begins_with_all events = ([], append-nil events)
+
+begins_more : (beginning events more : List Event) → IsPrefix beginning events → IsPrefix beginning (events ++ more)
+begins_more beginning events more is = (is.0 ++ more, sym (append_assoc beginning is.0 more) ∙ ap (λ (es : List Event). es ++ more) is.1)
+
+-- a CPU's part of a beginning begins the CPU's part
+begins_part : (cpu : ℕ) (beginning events : List Event) → IsPrefix beginning events → IsPrefix (events_of cpu beginning) (events_of cpu events)
+begins_part cpu beginning events is =
+    (events_of cpu is.0, sym (filter-append (λ e. eqb (cpu_of e) cpu) beginning is.0) ∙ ap (events_of cpu) is.1)
 
 -- ---- pages
 
@@ -101,6 +118,7 @@ begins = (
     are_records = record { each = tt; records = λ cpu. refl };
     unseated = λ cpu none. refl;
     each = first;
+    seen = first_seen;
   },
 )
   where
@@ -109,6 +127,10 @@ begins = (
     first zero page is = subst (λ (p : Page). IsPageOf p.holder (record { cpus = 0; seated = 0; seat = λ cpu. 0; desk = 0; drained = [] }) [] 0 p)
         (some-injective opening_page page is) (record { is_there = refl; same_cpus = refl; same_seated = refl; all_drained = refl })
     first (suc place) page is = absurd (some-ne-none page (sym is))
+
+    first_seen : (place : ℕ) (page : Page) → get_elem? (opening_page ∷ []) place ≡ some page → IsPrefix page.seen []
+    first_seen zero page is = subst (λ (p : Page). IsPrefix p.seen []) (some-injective opening_page page is) (begins_with_none [])
+    first_seen (suc place) page is = absurd (some-ne-none page (sym is))
 
 -- another's page, after a CPU has recorded an event
 page-recorded : (ledger : Ledger) (all : List Event) (event : Event) (place other : ℕ) (page : Page) (holder : Holder)
@@ -149,6 +171,7 @@ records n place page event holder is_event goes_on queued pages room book at =
               (each_set (λ other p. IsPageOf p.holder ledger (all ++ event ∷ []) other p) pages place new
               (subst (λ h. IsPageOf h ledger (all ++ event ∷ []) place new) (sym holder) is_new)
               (λ other p apart is. page-recorded ledger all event place other p p.holder mine.is_there apart (kept.each other p is)));
+          seen = each_set (λ other p. IsPrefix p.seen ledger.drained) pages place new (kept.seen place page at) (λ other p apart is. kept.seen other p is);
         },
       ),
       refl,
@@ -203,6 +226,8 @@ drains place page holder event queued pages book at =
               (each_set (λ other p. IsPageOf p.holder after all other p) pages place new
               (subst (λ h. IsPageOf h after all place new) (sym holder) is_new)
               (λ other p apart is. page-drained ledger all drained place other p p.holder mine.is_there apart (kept.each other p is)));
+          seen = each_set (λ other p. IsPrefix p.seen drained) pages place new (begins_more page.seen ledger.drained (event ∷ []) (kept.seen place page at))
+              (λ other p apart is. begins_more p.seen ledger.drained (event ∷ []) (kept.seen other p is));
         },
       ),
       record {
@@ -243,6 +268,8 @@ counts place page holder none queued pages book at =
             (each_set (λ other p. IsPageOf p.holder after all other p) pages place new
             (subst (λ h. IsPageOf h after all place new) (sym holder) is_new)
             (λ other p apart is. page-counted ledger all place other p p.holder (sym mine.same_seated ∙ none) mine.is_there apart (kept.each other p is)));
+        seen = each_push (λ other p. IsPrefix p.seen ledger.drained) (set pages place new) nobody_page (begins_with_none ledger.drained)
+            (each_set (λ other p. IsPrefix p.seen ledger.drained) pages place new (kept.seen place page at) (λ other p apart is. kept.seen other p is));
       },
     )
 
@@ -307,5 +334,64 @@ seats place page holder queued pages book at =
             (each_set (λ other p. IsPageOf p.holder after all other p) pages place new
             (subst (λ h. IsPageOf h after all place new) (sym holder) is_new)
             (λ other p apart is. page-seated ledger all place last other p p.holder mine.is_there apart (kept.each other p is)));
+        seen = each_push (λ other p. IsPrefix p.seen ledger.drained) (set pages place new) (cpu_page page.cpus page.seated) (begins_with_none ledger.drained)
+            (each_set (λ other p. IsPrefix p.seen ledger.drained) pages place new (kept.seen place page at) (λ other p apart is. kept.seen other p is));
       },
     )
+
+-- the scribe writes down what was drained
+pub tells : (place : ℕ) (page : Page) → page.holder ≡ Scribe → Forks IsRecorded place page page (note_of page)
+tells place page holder queued pages book at =
+    let ledger : Ledger = book.0 in
+    let kept = book.1 in
+    let all : List Event = ledger.drained ++ queued in
+    let mine = scribe_page_of ledger all place page holder (kept.each place page at) in (
+      ledger,
+      record {
+        are_records = kept.are_records;
+        unseated = kept.unseated;
+        each = each_push (λ other p. IsPageOf p.holder ledger all other p) (set pages place page) (note_of page) tt
+            (each_set (λ other p. IsPageOf p.holder ledger all other p) pages place page (kept.each place page at) (λ other p apart is. kept.each other p is));
+        seen = each_push (λ other p. IsPrefix p.seen ledger.drained) (set pages place page) (note_of page)
+            (subst (λ (es : List Event). IsPrefix es ledger.drained) (sym mine.all_drained) (begins_with_all ledger.drained))
+            (each_set (λ other p. IsPrefix p.seen ledger.drained) pages place page (kept.seen place page at) (λ other p apart is. kept.seen other p is));
+      },
+    )
+
+-- a page is what it was, whatever is written on it of what was drained
+page-heard : (ledger : Ledger) (all seen : List Event) (place : ℕ) (page : Page) (holder : Holder) → IsPageOf holder ledger all place page
+    → IsPageOf holder ledger all place (record page { seen = seen })
+page-heard ledger all seen place page (Cpu cpu) is = record { is_seated = is.is_seated; is_there = is.is_there; same_cpus = is.same_cpus; own = is.own }
+page-heard ledger all seen place page Scribe is =
+    record { is_there = is.is_there; same_cpus = is.same_cpus; same_seated = is.same_seated; all_drained = is.all_drained }
+page-heard ledger all seen place page Nobody is = tt
+
+-- a CPU takes in what the scribe wrote down
+pub hears : (place : ℕ) (page : Page) (spent : ℕ) (note : Page) → Merges IsRecorded place page spent note (record page { seen = note.seen }) nobody_page
+hears place page spent note queued pages book at apart there =
+    let ledger : Ledger = book.0 in
+    let kept = book.1 in
+    let all : List Event = ledger.drained ++ queued in
+    let new : Page = record page { seen = note.seen } in
+    let was : get_elem? pages spent ≡ some note =
+    ⊎_elim (λ (here : (spent ≡ place) × (new ≡ note)). absurd (apart here.0)) (λ (elsewhere : (spent ≢ place) × (get_elem? pages spent ≡ some note)). elsewhere.1) (at_set pages place spent new note there) in (
+      ledger,
+      record {
+        are_records = kept.are_records;
+        unseated = kept.unseated;
+        each = each_set (λ other p. IsPageOf p.holder ledger all other p) (set pages place new) spent nobody_page tt
+            (λ k q away at_k. each_set (λ other p. IsPageOf p.holder ledger all other p) pages place new
+            (page-heard ledger all note.seen place page page.holder (kept.each place page at)) (λ other p off is. kept.each other p is) k q at_k);
+        seen = each_set (λ other p. IsPrefix p.seen ledger.drained) (set pages place new) spent nobody_page (begins_with_none ledger.drained)
+            (λ k q away at_k. each_set (λ other p. IsPrefix p.seen ledger.drained) pages place new (kept.seen spent note was)
+            (λ other p off is. kept.seen other p is) k q at_k);
+      },
+    )
+
+-- and compares it with its own list
+pub compares : (place : ℕ) (page : Page) → Learns IsRecorded place page (BeginsWithDrained page)
+compares place page queued pages book at cpu holder =
+    let ledger : Ledger = book.0 in
+    let all : List Event = ledger.drained ++ queued in
+    let mine = cpu_page_of ledger all place page cpu holder (book.1.each place page at) in
+    subst (IsPrefix (events_of cpu page.seen)) (sym mine.own) (begins_part cpu page.seen all (begins_more page.seen ledger.drained queued (book.1.seen place page at)))

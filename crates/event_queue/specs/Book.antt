@@ -1,5 +1,6 @@
 -- The rule of the queue, over what it holds and the pages of all passes.
 use Rattle.std.specs.Prelude.{⊤, ◌≡◌, ℕ, ◌<◌, ◌≤◌, List, [], ◌++◌}
+use mathlib.Core.List.{IsPrefix}
 use mathlib.Core.Option.{some}
 use lib.ListN.{get_elem?}
 use Rattle.rmm_spec.specs.declared.event.Event.{Event}
@@ -37,11 +38,13 @@ IsPageOf (Cpu cpu) ledger all place page = IsCpuPage ledger all cpu place page
 IsPageOf Scribe ledger all place page = IsScribePage ledger place page
 IsPageOf Nobody ledger all place page = ⊤
 
--- The events drained so far and those in the queue are records, and each CPU's part is its own page's list.
+-- The events drained so far and those in the queue are records, and each CPU's part is its own page's list. What the
+-- scribe has told is a beginning of what was drained.
 pub record IsKept (ledger : Ledger) (queued : List Event) (pages : List Page) : Type 0 where
   pub are_records : AreRecords ledger.cpus (ledger.drained ++ queued)
   pub unseated : (cpu : ℕ) → ledger.seated ≤ cpu → events_of cpu (ledger.drained ++ queued) ≡ []
   pub each : (place : ℕ) (page : Page) → get_elem? pages place ≡ some page → IsPageOf page.holder ledger (ledger.drained ++ queued) place page
+  pub seen : (place : ℕ) (page : Page) → get_elem? pages place ≡ some page → IsPrefix page.seen ledger.drained
 
 abbrev pub IsRecorded : List Event → List Page → Type 0
 IsRecorded queued pages = (ledger : Ledger) × IsKept ledger queued pages

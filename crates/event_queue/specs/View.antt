@@ -4,12 +4,12 @@ use Rattle.atomic_table.specs.Seated.{TableId}
 use Rattle.rmm_spec.specs.declared.event.Event.{Event}
 use Rattle.rmm_spec.specs.HistoryText.{History, Stand, start}
 
--- which queue it is, how many events it holds at most, and of how many CPUs
+-- which queue it is, and how many events it holds at most
 pub record RecorderView : Type 0 where
   pub queue : TableId
   pub capacity : ℕ
 
--- a CPU's own list of events, where it leads, and whether an event was lost
+-- a CPU's own list of events, where it leads, and whether a return was refused
 pub record CpuView : Type 0 where
   pub queue : TableId
   pub cpus : ℕ

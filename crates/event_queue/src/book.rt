@@ -1,10 +1,10 @@
 //! The rule of the queue: what each pass knows, and what each step adds to it.
 
 ghost use Rattle.std.specs.Prelude.{◌≡◌, ◌+◌, [], ◌∷◌, ◌++◌};
-ghost use Rattle.event_queue.specs.Pages.{opening_page, cpu_page, nobody_page, MayFindQueued, IsDrained};
+ghost use Rattle.event_queue.specs.Pages.{opening_page, cpu_page, nobody_page, note_of, MayFindQueued, BeginsWithDrained, IsDrained};
 ghost use Rattle.event_queue.specs.Book.{IsRecorded};
 
-use crossbeam_queue::protocol::{Lesson, Outcome, Protocol, Split};
+use crossbeam_queue::protocol::{Join, Lesson, Outcome, Protocol, Split};
 use crossbeam_queue::{Pass, RuledArrayQueue};
 use rmm_spec::Event;
 use std::collections::LinkedList;
@@ -23,6 +23,8 @@ pub struct Page {
     // how many CPUs have a page, on the scribe's alone
     pub seated: u8,
     pub events: LinkedList<Event>,
+    // a beginning of what was drained, as the scribe has told
+    pub seen: LinkedList<Event>,
 }
 
 pub struct Book;
@@ -75,4 +77,26 @@ impl Outcome<Event, Page> for Drains {
 
 impl Lesson<Event, Page> for Drains {
     ghost fact = { MayFindQueued };
+}
+
+/// The scribe writes down what was drained so far.
+pub struct Tells;
+
+impl Split<Page> for Tells {
+    ghost left = { λ page. page };
+
+    ghost right = { note_of };
+}
+
+/// A CPU takes in what the scribe wrote down, and compares it with its own list.
+pub struct Hears;
+
+impl Join<Page> for Hears {
+    ghost both = { λ page note. record page { seen = note.seen } };
+
+    ghost spent = { nobody_page };
+}
+
+impl Lesson<Event, Page> for Hears {
+    ghost fact = { BeginsWithDrained };
 }

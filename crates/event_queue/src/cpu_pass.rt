@@ -3,12 +3,13 @@
 ghost use Rattle.std.specs.Prelude.{◌≡◌, ◌+◌, ◌-◌, ◌<◌, ◌≤◌, IsTrue, IfOk, OnOk, OnErr, Some, true, false, [], ◌∷◌, ◌++◌};
 ghost use Rattle.crossbeam_queue.specs.Passes.{IsPassOf, ruled_capacity, view as page_of};
 ghost use Rattle.rmm_spec.specs.CommandText.{IsCommand};
-ghost use Rattle.rmm_spec.specs.HistoryText.{start, stand_from};
+ghost use mathlib.Core.List.{IsPrefix};
+ghost use Rattle.rmm_spec.specs.HistoryText.{events_of, start, stand_from};
 ghost use Rattle.event_queue.specs.Pages.{cpu_page};
 ghost use Rattle.event_queue.specs.Records.{WasFull};
 ghost use Rattle.event_queue.specs.View.{before_calls};
 
-use crate::book::{PagePass, Queue, Records};
+use crate::book::{Hears, PagePass, Queue, Records};
 use crate::full::Full;
 use rmi_codec::reply_has_text;
 use rmm_spec::{Command, Event, Reply};
@@ -156,5 +157,16 @@ impl CpuPass {
                 Err(Full)
             }
         }
+    }
+
+    /// Compares what was drained with the CPU's own list.
+    pub(crate) fn compare(&mut self, queue: &Queue, note: PagePass)
+        requires queue { queue.now.table.shared.table_id ≡ self.old.queue }
+        requires note { IsPassOf queue.now note }
+        ensures same { self.new ≡ self.old }
+        ensures beginning { IsPrefix (events_of self.old.cpu (page_of note).seen) self.old.events }
+    {
+        queue.absorb::<Hears>(&mut self.pass, note);
+        queue.learn_as::<Hears>(&mut self.pass);
     }
 }

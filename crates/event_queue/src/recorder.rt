@@ -1,9 +1,10 @@
 //! The recorder: the queue that CPUs push events into, and the scribe drains.
 
-ghost use Rattle.std.specs.Prelude.{◌≡◌, ℕ, ◌+◌, ◌-◌, ◌<◌, ◌≤◌, ◌⊎◌, IsTrue, IfOk, OnOk, OnErr, MatchResult, List, Some, true, false, [], ◌∷◌, ◌++◌, length, slice_get};
+ghost use Rattle.std.specs.Prelude.{◌≡◌, ℕ, ◌+◌, ◌-◌, ◌<◌, ◌≤◌, IsTrue, IfOk, OnOk, OnErr, List, Some, true, false, [], ◌∷◌, ◌++◌, length, slice_get};
 ghost use Rattle.rmm_spec.specs.declared.event.Event.{Event};
 ghost use Rattle.rmm_spec.specs.CommandText.{IsCommand};
-ghost use Rattle.rmm_spec.specs.HistoryText.{start};
+ghost use mathlib.Core.List.{IsPrefix};
+ghost use Rattle.rmm_spec.specs.HistoryText.{events_of};
 ghost use Rattle.crossbeam_queue.specs.Passes.{IsPassOf, view as page_of};
 ghost use Rattle.event_queue.specs.Pages.{opening_page, scribe_page};
 ghost use Rattle.event_queue.specs.Records.{WasFull};
@@ -114,6 +115,17 @@ impl Recorder {
             }
         }
         Ok(capacity)
+    }
+
+    /// The law on what was drained: each CPU's part of it is a beginning of the CPU's own list.
+    pub fn drained_in_order(&self, scribe: &mut ScribePass, pass: &mut CpuPass)
+        requires scribe { scribe.old.queue ≡ self.now.queue }
+        requires pass { pass.old.queue ≡ self.now.queue }
+        ensures beginning { IsPrefix (events_of pass.old.cpu scribe.old.events) pass.old.events }
+        ensures same { (scribe.new ≡ scribe.old) × (pass.new ≡ pass.old) }
+    {
+        let note = scribe.note(&self.queue);
+        pass.compare(&self.queue, note);
     }
 
     /// Moves the oldest event to the end of the history, and returns whether there was one, and a line for it.

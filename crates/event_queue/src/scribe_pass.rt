@@ -4,7 +4,7 @@ ghost use Rattle.std.specs.Prelude.{◌≡◌, [], ◌∷◌, ◌++◌, IfSome, 
 ghost use Rattle.crossbeam_queue.specs.Passes.{IsPassOf, view as page_of};
 ghost use Rattle.rmm_spec.specs.HistoryText.{IsEvent, IsRecord, cpu_of, events_of};
 
-use crate::book::{Drains, Holder, PagePass, Queue};
+use crate::book::{Drains, Holder, PagePass, Queue, Tells};
 use rmm_spec::Event;
 use std::marker::Model;
 use std::sync::Wait;
@@ -51,5 +51,15 @@ impl ScribePass {
         ensures record { IfSome result (λ event. IsRecord (events_of (cpu_of event) (self.old.events ++ event ∷ []))) }
     {
         queue.pop_as::<Drains, R>(rt, &mut self.pass)
+    }
+
+    /// What was drained so far, to be told to a CPU.
+    pub(crate) fn note(&mut self, queue: &Queue) -> PagePass
+        requires { queue.now.table.shared.table_id ≡ self.old.queue }
+        ensures same { self.new ≡ self.old }
+        ensures queue { IsPassOf queue.now result }
+        ensures note { (page_of result).seen ≡ self.old.events }
+    {
+        queue.another::<Tells>(&mut self.pass)
     }
 }
