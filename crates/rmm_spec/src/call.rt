@@ -174,8 +174,12 @@ impl Call {
                 aux0: word(words, 4),
                 aux1: word(words, 5),
             },
-            FunctionId::RecDestroy => Call::RecDestroy { rec: word(words, 0) },
-            FunctionId::RecEnter => Call::RecEnter { rec: word(words, 0) },
+            FunctionId::RecDestroy => Call::RecDestroy {
+                rec: word(words, 0),
+            },
+            FunctionId::RecEnter => Call::RecEnter {
+                rec: word(words, 0),
+            },
             FunctionId::RttCreate => Call::RttCreate {
                 rd: word(words, 0),
                 rtt: word(words, 1),

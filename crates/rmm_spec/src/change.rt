@@ -11,7 +11,10 @@ pub enum RealmUpdate {
     /// None of its RECs may be entered again.
     TurnedOff,
     /// One REC more was made, and measured.
-    RecCounted { mpidr: u8, flags: u64 },
+    RecCounted {
+        mpidr: u8,
+        flags: u64,
+    },
     /// One page was measured. Its digest counts where the flags ask for it.
     PageMeasured {
         ipa: u64,
@@ -19,7 +22,10 @@ pub enum RealmUpdate {
         digest: [u64; 4],
     },
     /// A stretch of its memory was measured.
-    StretchMeasured { base: u64, top: u64 },
+    StretchMeasured {
+        base: u64,
+        top: u64,
+    },
     /// One of its extensible measurements, counted from 1, was extended by the first bytes of the values.
     MeasurementExtended {
         index: u8,
@@ -94,7 +100,10 @@ pub enum Change {
         algo: u8,
     },
     /// A realm is gone, with its root.
-    RealmDestroyed { rd: u64, root: u64 },
+    RealmDestroyed {
+        rd: u64,
+        root: u64,
+    },
     /// A REC is made, with its auxiliary granules.
     RecMade {
         rd: u64,
@@ -105,7 +114,11 @@ pub enum Change {
         aux1: u64,
     },
     /// A REC is gone, with its auxiliary granules.
-    RecDestroyed { rec: u64, aux0: u64, aux1: u64 },
+    RecDestroyed {
+        rec: u64,
+        aux0: u64,
+        aux1: u64,
+    },
     /// Records of a realm and of a REC are replaced.
     RecordsChanged {
         realm: Option<RealmChange>,

@@ -21,9 +21,7 @@ mod walked;
 
 pub use accepted::{Accepted, Stretch, StretchUse};
 pub use call::Call;
-pub use change::{
-    Change, EntryChange, RealmChange, RealmUpdate, RecChange, RecUpdate, TagChange,
-};
+pub use change::{Change, EntryChange, RealmChange, RealmUpdate, RecChange, RecUpdate, TagChange};
 pub use command::Command;
 pub use entry::Entry;
 pub use event::Event;

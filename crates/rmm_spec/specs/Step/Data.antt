@@ -34,10 +34,10 @@ data_create s rd granule ipa source flags digest =
     let end = walk s rd ipa 3 in
     decided
     (with_front s (DataCreate rd granule ipa source flags digest)
-    (input (nat_lt ipa (half realm)) -- ipa_bound
-    ∷ row (is_new realm) (realm_error 0) -- realm_state
-    ∷ row (end.level == 3) (table_error end.level) -- rtt_walk
-    ∷ row (is_unassigned_ram end.entry) (table_error 3) -- rtte_state, rtte_ripas
+    (input (nat_lt ipa (half realm))  -- ipa_bound
+    ∷ row (is_new realm) (realm_error 0)  -- realm_state
+    ∷ row (end.level == 3) (table_error end.level)  -- rtt_walk
+    ∷ row (is_unassigned_ram end.entry) (table_error 3)  -- rtte_state, rtte_ripas
     ∷ []))
     (done [] (EntriesChanged rd 3 (page_entry ipa (Assigned Ram granule)) (Some (record { granule = granule; tag = Data }))
     (Some (record { rd = rd; update = PageMeasured ipa flags digest })) None))
@@ -47,9 +47,9 @@ data_create_unknown s rd granule ipa =
     let end = walk s rd ipa 3 in
     decided
     (with_front s (DataCreateUnknown rd granule ipa)
-    (input (nat_lt ipa (half (realm_at s rd))) -- ipa_bound
-    ∷ row (end.level == 3) (table_error end.level) -- rtt_walk
-    ∷ row (is_unassigned end.entry) (table_error 3) -- rtte_state
+    (input (nat_lt ipa (half (realm_at s rd)))  -- ipa_bound
+    ∷ row (end.level == 3) (table_error end.level)  -- rtt_walk
+    ∷ row (is_unassigned end.entry) (table_error 3)  -- rtte_state
     ∷ []))
     (done [] (EntriesChanged rd 3 (page_entry ipa (Assigned (entry_ripas end.entry) granule))
     (Some (record { granule = granule; tag = Data })) None None))
@@ -60,9 +60,9 @@ data_destroy s rd ipa =
     let granule = entry_address end.entry in
     decided
     (with_front s (DataDestroy rd ipa)
-    (input (nat_lt ipa (half (realm_at s rd))) -- ipa_bound
-    ∷ row (end.level == 3) (table_error end.level) -- rtt_walk
-    ∷ row (is_assigned end.entry) (table_error 3) -- rtte_state
+    (input (nat_lt ipa (half (realm_at s rd)))  -- ipa_bound
+    ∷ row (end.level == 3) (table_error end.level)  -- rtt_walk
+    ∷ row (is_assigned end.entry) (table_error 3)  -- rtte_state
     ∷ []))
     (done (granule ∷ []) (EntriesChanged rd 3 (page_entry ipa (Unassigned (ripas_after_data (entry_ripas end.entry))))
     (Some (record { granule = granule; tag = Delegated })) None None))

@@ -14,7 +14,7 @@ unfoldable pub realm_create : State → ℕ → ℕ → ℕ → ℕ → ℕ → 
 realm_create s rd root width level vmid algo =
     decided
     (with_front s (RealmCreate rd root width level vmid algo)
-    (input (not (is_vmid_used s vmid)) -- vmid_valid
+    (input (not (is_vmid_used s vmid))  -- vmid_valid
     ∷ []))
     (done [] (RealmMade rd root width level vmid algo))
 
@@ -22,7 +22,7 @@ unfoldable pub realm_activate : State → ℕ → Result Accepted Reply
 realm_activate s rd =
     decided
     (with_front s (RealmActivate rd)
-    (row (is_new (realm_at s rd)) (realm_error 0) -- realm_state
+    (row (is_new (realm_at s rd)) (realm_error 0)  -- realm_state
     ∷ []))
     (done [] (RecordsChanged (Some (record { rd = rd; update = Activated })) None))
 
@@ -31,7 +31,7 @@ realm_destroy s rd =
     let realm = realm_at s rd in
     decided
     (with_front s (RealmDestroy rd)
-    (row (not (has_rec s rd)) (realm_error 0) -- realm_live
-    ∷ row (not (has_link s rd realm.start_level 0)) (realm_error 0) -- realm_live
+    (row (not (has_rec s rd)) (realm_error 0)  -- realm_live
+    ∷ row (not (has_link s rd realm.start_level 0)) (realm_error 0)  -- realm_live
     ∷ []))
     (done [] (RealmDestroyed rd realm.root))

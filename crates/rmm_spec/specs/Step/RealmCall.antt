@@ -50,7 +50,7 @@ unfoldable pub ipa_state_set : State → ℕ → ℕ → ℕ → ℕ → Result 
 ipa_state_set s rec base top ripas =
     decided
     (with_front s (call.IpaStateSet base top ripas)
-    (input (nat_le top (half (realm_at s (rec_at s rec).owner))) -- rgn_bound
+    (input (nat_le top (half (realm_at s (rec_at s rec).owner)))  -- rgn_bound
     ∷ []))
     (done [] (rec_change rec (rec_update.RipasRequested base top (ripas_asked ripas))))
 
@@ -59,7 +59,7 @@ ipa_state_get s rec ipa =
     let rd = (rec_at s rec).owner in
     decided
     (with_front s (call.IpaStateGet ipa)
-    (input (nat_lt ipa (half (realm_at s rd))) -- ipa_bound
+    (input (nat_lt ipa (half (realm_at s rd)))  -- ipa_bound
     ∷ []))
     (done (ripas_number (entry_ripas (walk s rd ipa 3).entry) ∷ []) Unchanged)
 

@@ -14,8 +14,8 @@ rec_create s rd rec mpidr flags aux0 aux1 =
     let realm = realm_at s rd in
     decided
     (with_front s (RecCreate rd rec mpidr flags aux0 aux1)
-    (row (is_new realm) (realm_error 0) -- realm_state
-    ∷ input (mpidr == realm.next_index && nat_lt mpidr 8) -- mpidr_index; own: below 8
+    (row (is_new realm) (realm_error 0)  -- realm_state
+    ∷ input (mpidr == realm.next_index && nat_lt mpidr 8)  -- mpidr_index; own: below 8
     ∷ []))
     (done [] (RecMade rd rec mpidr flags aux0 aux1))
 
@@ -24,7 +24,7 @@ rec_destroy s rec =
     let old = rec_at s rec in
     decided
     (with_front s (RecDestroy rec)
-    (row (is_none old.cpu) rec_error -- rec_state
+    (row (is_none old.cpu) rec_error  -- rec_state
     ∷ []))
     (done [] (RecDestroyed rec old.aux0 old.aux1))
 
@@ -34,8 +34,8 @@ rec_enter s cpu rec =
     let realm = realm_at s old.owner in
     decided
     (with_front s (RecEnter rec)
-    (row (not (is_new realm)) (realm_error 0) -- realm_new
-    ∷ row (not (is_system_off realm)) (realm_error 1) -- system_off
-    ∷ row (is_none old.cpu && old.runnable) rec_error -- rec_state, rec_runnable
+    (row (not (is_new realm)) (realm_error 0)  -- realm_new
+    ∷ row (not (is_system_off realm)) (realm_error 1)  -- system_off
+    ∷ row (is_none old.cpu && old.runnable) rec_error  -- rec_state, rec_runnable
     ∷ []))
     (done ((request_of old).base ∷ []) (RecordsChanged None (Some (record { rec = rec; update = Entered cpu }))))

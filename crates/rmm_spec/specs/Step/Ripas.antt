@@ -74,9 +74,9 @@ rtt_init_ripas s rd base top =
     let end = walk s rd base 3 in
     decided
     (with_front s (RttInitRipas rd base top)
-    (input (nat_le top (half realm)) -- top_bound
-    ∷ row (is_new realm) (realm_error 0) -- realm_state
-    ∷ row (is_unassigned end.entry && has_room base top end.level) (table_error end.level) -- rtte_state, base_align, top_rtt_align
+    (input (nat_le top (half realm))  -- top_bound
+    ∷ row (is_new realm) (realm_error 0)  -- realm_state
+    ∷ row (is_unassigned end.entry && has_room base top end.level) (table_error end.level)  -- rtte_state, base_align, top_rtt_align
     ∷ []))
     (Reaches (record { rd = rd; base = base; top = top; level = end.level; purpose = Init }))
 
@@ -87,10 +87,10 @@ rtt_set_ripas s rd rec base top =
     let end = walk s rd base 3 in
     decided
     (with_front s (RttSetRipas rd rec base top)
-    (row (old.owner == rd) rec_error -- rec_owner
-    ∷ row (is_none old.cpu) rec_error -- rec_state
-    ∷ input (is_some old.request && base == request.base) -- base_bound
-    ∷ input (nat_le top request.top && nat_lt base top && is_page top) -- top_bound, size_valid, top_gran_align
-    ∷ row (has_room base top end.level) (table_error end.level) -- base_align, top_rtt_align
+    (row (old.owner == rd) rec_error  -- rec_owner
+    ∷ row (is_none old.cpu) rec_error  -- rec_state
+    ∷ input (is_some old.request && base == request.base)  -- base_bound
+    ∷ input (nat_le top request.top && nat_lt base top && is_page top)  -- top_bound, size_valid, top_gran_align
+    ∷ row (has_room base top end.level) (table_error end.level)  -- base_align, top_rtt_align
     ∷ []))
     (Reaches (record { rd = rd; base = base; top = top; level = end.level; purpose = Requested rec request.ripas }))

@@ -22,10 +22,10 @@ rtt_create s rd rtt ipa level =
     let end = walk s rd ipa (level - 1) in
     decided
     (with_front s (RttCreate rd rtt ipa level)
-    (input (nat_lt realm.start_level level) -- level_bound
-    ∷ input (nat_lt ipa (full realm)) -- ipa_bound
-    ∷ row (end.level == level - 1) (table_error end.level) -- rtt_walk
-    ∷ row (not (is_table end.entry)) (table_error (level - 1)) -- rtte_state
+    (input (nat_lt realm.start_level level)  -- level_bound
+    ∷ input (nat_lt ipa (full realm))  -- ipa_bound
+    ∷ row (end.level == level - 1) (table_error end.level)  -- rtt_walk
+    ∷ row (not (is_table end.entry)) (table_error (level - 1))  -- rtte_state
     ∷ []))
     (done [] (TableMade rd level (table_number level ipa) rtt end.entry))
 
@@ -37,10 +37,10 @@ rtt_destroy s rd ipa level =
     let rtt = entry_address end.entry in
     decided
     (with_front s (RttDestroy rd ipa level)
-    (input (nat_lt realm.start_level level) -- level_bound
-    ∷ input (nat_lt ipa (full realm)) -- ipa_bound
-    ∷ row (end.level == level - 1 && is_table end.entry) (table_error end.level) -- rtt_walk, rtte_state
-    ∷ row (not (is_in_use s rd level number)) (table_error level) -- rtt_live
+    (input (nat_lt realm.start_level level)  -- level_bound
+    ∷ input (nat_lt ipa (full realm))  -- ipa_bound
+    ∷ row (end.level == level - 1 && is_table end.entry) (table_error end.level)  -- rtt_walk, rtte_state
+    ∷ row (not (is_in_use s rd level number)) (table_error level)  -- rtt_live
     ∷ []))
     (done (rtt ∷ []) (TableDestroyed rd level number rtt (entry_after_table realm ipa)))
 
@@ -50,7 +50,7 @@ rtt_read_entry s rd ipa level =
     let end = walk s rd ipa level in
     decided
     (with_front s (RttReadEntry rd ipa level)
-    (input (nat_le realm.start_level level) -- level_bound
-    ∷ input (nat_lt ipa (full realm)) -- ipa_bound
+    (input (nat_le realm.start_level level)  -- level_bound
+    ∷ input (nat_lt ipa (full realm))  -- ipa_bound
     ∷ []))
     (done (end.level ∷ entry_state end.entry ∷ entry_address end.entry ∷ ripas_number (entry_ripas end.entry) ∷ []) Unchanged)

@@ -21,9 +21,9 @@ rtt_map_unprotected s rd ipa page =
     let end = walk s rd ipa 3 in
     decided
     (with_front s (RttMapUnprotected rd ipa page)
-    (input (is_upper (realm_at s rd) ipa) -- ipa_bound
-    ∷ row (end.level == 3) (table_error end.level) -- rtt_walk
-    ∷ row (is_unassigned_ns end.entry) (table_error 3) -- rtte_state
+    (input (is_upper (realm_at s rd) ipa)  -- ipa_bound
+    ∷ row (end.level == 3) (table_error end.level)  -- rtt_walk
+    ∷ row (is_unassigned_ns end.entry) (table_error 3)  -- rtte_state
     ∷ []))
     (done [] (EntriesChanged rd 3 (Replaced (entry_number 3 ipa) (AssignedNs page)) None None None))
 
@@ -32,8 +32,8 @@ rtt_unmap_unprotected s rd ipa =
     let end = walk s rd ipa 3 in
     decided
     (with_front s (RttUnmapUnprotected rd ipa)
-    (input (is_upper (realm_at s rd) ipa) -- ipa_bound
-    ∷ row (end.level == 3) (table_error end.level) -- rtt_walk
-    ∷ row (is_assigned_ns end.entry) (table_error 3) -- rtte_state
+    (input (is_upper (realm_at s rd) ipa)  -- ipa_bound
+    ∷ row (end.level == 3) (table_error end.level)  -- rtt_walk
+    ∷ row (is_assigned_ns end.entry) (table_error 3)  -- rtte_state
     ∷ []))
     (done [] (EntriesChanged rd 3 (Replaced (entry_number 3 ipa) UnassignedNs) None None None))

@@ -15,52 +15,52 @@ is_space width level = (width == 0x27 && level == 1) || (width == 0x30 && level 
 
 unfoldable pub words_of : Call → List Bool
 words_of (DataCreate rd granule ipa source flags digest) =
-    nat_le flags 1 -- own
-    ∷ is_page ipa -- ipa_align
+    nat_le flags 1  -- own
+    ∷ is_page ipa  -- ipa_align
     ∷ []
-words_of (DataCreateUnknown rd granule ipa) = is_page ipa ∷ [] -- ipa_align
-words_of (DataDestroy rd ipa) = is_page ipa ∷ [] -- ipa_align
+words_of (DataCreateUnknown rd granule ipa) = is_page ipa ∷ []  -- ipa_align
+words_of (DataDestroy rd ipa) = is_page ipa ∷ []  -- ipa_align
 words_of (RealmCreate rd root width level vmid algo) =
-    not (rd == root) -- alias
-    ∷ is_space width level -- params_supp, rtt_num_level
-    ∷ nat_le vmid 0xff -- vmid_valid
-    ∷ (algo == 0) -- params_supp
+    not (rd == root)  -- alias
+    ∷ is_space width level  -- params_supp, rtt_num_level
+    ∷ nat_le vmid 0xff  -- vmid_valid
+    ∷ (algo == 0)  -- params_supp
     ∷ []
 words_of (RecCreate rd rec mpidr flags aux0 aux1) =
-    (not (rec == aux0) && not (rec == aux1) && not (aux0 == aux1)) -- aux_alias
-    ∷ nat_le flags 1 -- own
+    (not (rec == aux0) && not (rec == aux1) && not (aux0 == aux1))  -- aux_alias
+    ∷ nat_le flags 1  -- own
     ∷ []
 words_of (RttCreate rd rtt ipa level) =
-    nat_le level 3 -- level_bound
-    ∷ is_multiple ipa (entry_size (level - 1)) -- ipa_align
+    nat_le level 3  -- level_bound
+    ∷ is_multiple ipa (entry_size (level - 1))  -- ipa_align
     ∷ []
 words_of (RttDestroy rd ipa level) =
-    nat_le level 3 -- level_bound
-    ∷ is_multiple ipa (entry_size (level - 1)) -- ipa_align
+    nat_le level 3  -- level_bound
+    ∷ is_multiple ipa (entry_size (level - 1))  -- ipa_align
     ∷ []
 words_of (RttMapUnprotected rd ipa page) =
-    is_page ipa -- ipa_align
-    ∷ (is_page page && nat_lt page (2 ^ 48)) -- own
+    is_page ipa  -- ipa_align
+    ∷ (is_page page && nat_lt page (2 ^ 48))  -- own
     ∷ []
 words_of (RttReadEntry rd ipa level) =
-    nat_le level 3 -- level_bound
-    ∷ is_multiple ipa (entry_size level) -- ipa_align
+    nat_le level 3  -- level_bound
+    ∷ is_multiple ipa (entry_size level)  -- ipa_align
     ∷ []
-words_of (RttUnmapUnprotected rd ipa) = is_page ipa ∷ [] -- ipa_align
+words_of (RttUnmapUnprotected rd ipa) = is_page ipa ∷ []  -- ipa_align
 words_of (RttInitRipas rd base top) =
-    (is_page base && is_page top) -- own, top_gran_align
-    ∷ nat_lt base top -- size_valid
+    (is_page base && is_page top)  -- own, top_gran_align
+    ∷ nat_lt base top  -- size_valid
     ∷ []
-words_of (MeasurementRead index) = nat_le index 4 ∷ [] -- index_bound
+words_of (MeasurementRead index) = nat_le index 4 ∷ []  -- index_bound
 words_of (MeasurementExtend index size values) =
-    (nat_le 1 index && nat_le index 4) -- index_bound
-    ∷ (nat_le 1 size && nat_le size 0x40) -- size_bound
+    (nat_le 1 index && nat_le index 4)  -- index_bound
+    ∷ (nat_le 1 size && nat_le size 0x40)  -- size_bound
     ∷ []
 words_of (IpaStateSet base top ripas) =
-    (is_page base && is_page top) -- base_align, top_align
-    ∷ nat_lt base top -- size_valid
-    ∷ nat_le ripas 1 -- ripas_valid
+    (is_page base && is_page top)  -- base_align, top_align
+    ∷ nat_lt base top  -- size_valid
+    ∷ nat_le ripas 1  -- ripas_valid
     ∷ []
-words_of (IpaStateGet ipa) = is_page ipa ∷ [] -- ipa_align
-words_of (HostCall imm) = nat_lt imm 0x10000 ∷ [] -- own
+words_of (IpaStateGet ipa) = is_page ipa ∷ []  -- ipa_align
+words_of (HostCall imm) = nat_lt imm 0x10000 ∷ []  -- own
 words_of _ = []
