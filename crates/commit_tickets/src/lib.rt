@@ -11,3 +11,6 @@ mod token;
 
 pub use journal::{Entry, Journal};
 pub use token::{Committed, CpuToken, Done, commit};
+
+#[cfg(test)]
+mod tests;
