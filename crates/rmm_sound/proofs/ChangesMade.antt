@@ -1,4 +1,4 @@
--- Each kind of change keeps states sound.
+-- Granules retagged, and realms and RECs made and destroyed, keep states sound.
 use Rattle.std.proofs.Common.{◌≡◌, ℕ, ◌==◌, false, IsTrue, Option, Some, None, refl, sym, ◌∙◌, ap, subst, inl, inr}
 use Rattle.std.proofs.lemmas.Bool.{eq-eqb, ne_eqb, or_cases, or_from, or_left, or_right, eqb-true, false_from_ne_true}
 use Rattle.rmm_spec.specs.declared.change.Change.TheVariants.{RecMade, RecDestroyed}
