@@ -23,6 +23,7 @@ pub record IsRunning (s : State) (rec : ℕ) : Type 0 where
   pub owner : IsTrue (has_tag s (rec_at s rec).owner Rd)
   pub cpu : IsTrue (is_some (rec_at s rec).cpu)
 
+-- what is some CPU is one
 cpu_there : (cpu : ℕ) (found : Option ℕ) → IsTrue (is_cpu cpu found) → IsTrue (is_some found)
 cpu_there cpu None on = both_ways on refl
 cpu_there cpu (Some other) on = refl
@@ -44,6 +45,7 @@ inside_running s cpu sound inside = running_at s cpu (rec_inside s cpu) _ sound 
 
 -- ---- a REC that a command names
 
+-- what is there is not absent
 not_both : {A B : Type 0} (found : Option A) → IsTrue (is_none found) → IsTrue (is_some found) → B
 not_both None none some = both_ways some refl
 not_both (Some x) none some = both_ways none refl
@@ -54,6 +56,7 @@ awaits_by : (s : State) (rec : ℕ) (c : RecRecord) (found : Option Pending) →
 awaits_by s rec c None sound at is idle = refl
 awaits_by s rec c (Some p) sound at is idle = not_both c.cpu idle (sound.recs.running rec c p at is)
 
+-- a REC that does not run waits for nothing
 pub idle_awaits_nothing : (s : State) (rec : ℕ) → IsSound s → IsTrue (has_tag s rec Rec) → IsTrue (is_none (rec_at s rec).cpu) → IsTrue (is_none (rec_at s rec).pending)
 idle_awaits_nothing s rec sound tag idle = awaits_by s rec (rec_at s rec) _ sound (rec_there s rec sound tag) refl idle
 

@@ -1,4 +1,4 @@
--- Each kind of change keeps states sound.
+-- Granules retagged, and realms and RECs made and destroyed, keep states sound.
 use Rattle.std.proofs.Common.{◌≡◌, ℕ, ◌==◌, false, IsTrue, Option, Some, None, refl, sym, ◌∙◌, ap, subst, inl, inr}
 use Rattle.std.proofs.lemmas.Bool.{eq-eqb, ne_eqb, or_cases, or_from, or_left, or_right, eqb-true, false_from_ne_true}
 use Rattle.rmm_spec.specs.declared.change.Change.TheVariants.{RecMade, RecDestroyed}
@@ -25,6 +25,7 @@ use Rattle.rmm_sound.proofs.Tags.{has_tag-here, has_tag-elsewhere, has_tag-besid
 pub lent_retagged : (s : State) (a : ℕ) (tag : Tag) → IsSound s → IsTrue (has_tag s a Delegated) → IsPlain tag → IsSound (with_tag s a tag)
 lent_retagged s a tag sound has gets = free_retagged_sound s a Delegated tag sound has (record { no_rd = refl; no_rec = refl }) refl refl refl gets
 
+-- a granule is lent or taken back
 pub retag_sound : (s : State) (change : TagChange) → IsSound s → CanRetag s change → IsSound (with_tag s change.granule change.tag)
 retag_sound s change sound (inl lent) =
     free_retagged_sound s change.granule Undelegated change.tag sound lent.0 (record { no_rd = refl; no_rec = refl }) refl refl refl
@@ -41,6 +42,7 @@ realm_tags_swapped s rd root apart g =
     by_address (λ tag. tag ≡ (with_tag (with_tag s rd Rd) root Rtt).tag g) g rd Rd ((with_tag s root Rtt).tag g)
     (λ here. rw here (rw (apart, eq-eqb rd rd refl) refl)) (λ miss. rw miss refl)
 
+-- a realm is made: its root is tagged first, then the rest at once
 pub make_realm_sound : (s : State) (rd root width level vmid algo : ℕ) → IsSound s → CanMakeRealm s rd root width level vmid algo
     → IsSound (with_root (with_realm (with_tag (with_tag s rd Rd) root Rtt) rd (new_realm root width level vmid algo)) rd level root)
 unfolding has_tag
@@ -60,6 +62,7 @@ make_realm_sound s rd root width level vmid algo sound can =
     subst (λ (tag : ℕ → Tag). IsSound (record (with_root (with_realm s rd new) rd level root) { tag = tag }))
     (λ i g. realm_tags_swapped s rd root can.apart g i) made
 
+-- a realm is destroyed, and then its root is freed
 pub destroy_realm_sound : (s : State) (rd root : ℕ) → IsSound s → CanDestroyRealm s rd root
     → IsSound (without_realm (with_tag (with_tag s rd Delegated) root Delegated) rd)
 unfolding has_tag
@@ -94,6 +97,7 @@ unnamed_aux : (s : State) (g x a : ℕ) → IsUnnamed s a → a ≡ x → (found
 unnamed_aux s g x a unnamed same None at = refl
 unnamed_aux s g x a unnamed same (Some c) at = rw (← same) (or_from _ _ (unnamed.aux0 g c at) (unnamed.aux1 g c at))
 
+-- a REC is made: its auxiliary granules are tagged first, and its realm counts it
 pub make_rec_sound : (s : State) (rd rec mpidr flags aux0 aux1 : ℕ) → IsSound s → CanMakeRec s rd rec mpidr flags aux0 aux1
     → IsSound (changed s (RecMade rd rec mpidr flags aux0 aux1))
 unfolding changed has_tag realm_at
@@ -149,6 +153,7 @@ aux_freed s rec x sound gone own tag =
       page = λ other l n granule ripas at. tags_apart t granule x Data RecAux (gone.leaves.pages other l n granule ripas at) tag refl;
     }
 
+-- a REC is destroyed, and then its auxiliary granules are freed, one at a time
 pub destroy_rec_sound : (s : State) (rec aux0 aux1 : ℕ) → IsSound s → CanDestroyRec s rec aux0 aux1 → IsSound (changed s (RecDestroyed rec aux0 aux1))
 unfolding changed has_tag
 destroy_rec_sound s rec aux0 aux1 sound can =

@@ -58,6 +58,7 @@ whole_call function.CpuOff words = tt
 whole_call function.SystemOff words = tt
 whole_call function.Exit words = tt
 
+-- a command has the words that its call takes
 pub whole_command : (command : Command) → IsWhole (call_of command)
 whole_command command = whole_call command.function command.words.items
 

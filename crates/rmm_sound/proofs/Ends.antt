@@ -36,6 +36,7 @@ page_replaced s rd ipa entry end at leaf kind = record {
   kind = kind;
 }
 
+-- a page's entry begins in the protected half, as the page does
 pub page_protected : (s : State) (rd ipa : ℕ) → ipa < half (realm_at s rd) → entry_number 3 ipa * entry_size 3 < half (realm_at s rd)
 page_protected s rd ipa below = omega (arith, entry_starts 3 ipa)
 
@@ -44,6 +45,7 @@ page_begins : (ipa : ℕ) → IsTrue (is_page ipa) → entry_number 3 ipa * entr
 unfolding entry_size
 page_begins ipa aligned = entry_begins 3 ipa aligned
 
+-- a page's entry begins in the upper half, as the page does
 pub page_unprotected : (s : State) (rd ipa : ℕ) → IsTrue (is_page ipa) → IsTrue (nat_le (half (realm_at s rd)) ipa)
     → half (realm_at s rd) ≤ entry_number 3 ipa * entry_size 3
 page_unprotected s rd ipa aligned above =

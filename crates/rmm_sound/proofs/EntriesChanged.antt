@@ -29,6 +29,7 @@ use Rattle.rmm_sound.proofs.Tags.{has_tag-here, tags_apart}
 
 -- ---- tables
 
+-- a table is made in a granule that was lent
 pub make_table_sound : (s : State) (rd level number rtt : ℕ) (entry : Entry) → IsSound s → CanMakeTable s rd level number rtt entry
     → IsSound (with_table (with_tag s rtt Rtt) rd level number rtt entry)
 unfolding has_tag
@@ -53,6 +54,7 @@ make_table_sound s rd (suc up) number rtt entry sound can =
       vacant = vacant_above entry fits.0 up number (omega (arith, can.place.last)) fits.2;
     }
 
+-- a table is destroyed, and then its granule is freed
 pub destroy_table_sound : (s : State) (rd level number rtt : ℕ) (entry : Entry) → IsSound s → CanDestroyTable s rd level number rtt entry
     → IsSound (without_table (with_tag s rtt Delegated) rd level number entry)
 unfolding has_tag
@@ -226,6 +228,7 @@ tag_after_rec s rec None = refl
 tag_after_rec s None (Some tag) = refl
 tag_after_rec s (Some change) (Some tag) = refl
 
+-- entries are changed, with records and the tag of a page
 pub entries_and_records_sound : (s : State) (rd level : ℕ) (entries : EntryChange) (page : Option TagChange) (realm : Option RealmChange) (rec : Option RecChange)
     → IsSound s → CanChangeEntries s rd level entries page → CanChangeRealm s realm → CanChangeRec s rec
     → IsSound (with_entry_change (with_rec_change (with_realm_change (with_tag_change s page) realm) rec) rd level entries)

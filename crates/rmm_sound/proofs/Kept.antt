@@ -18,6 +18,7 @@ pub record IsLike (old new : RealmRecord) : Type 0 where
   pub root : new.root ≡ old.root
   pub measured : length new.rems ≡ length old.rems
 
+-- a realm is like itself
 pub like_itself : (r : RealmRecord) → IsLike r r
 like_itself r = record { width = refl; start_level = refl; vmid = refl; root = refl; measured = refl }
 
@@ -26,6 +27,7 @@ pub record AreLikeRealms (s t : State) : Type 0 where
   pub before : (g : ℕ) (r : RealmRecord) → t.realm g ≡ Some r → (q : RealmRecord) × (s.realm g ≡ Some q) × IsLike q r
   pub after : (g : ℕ) (q : RealmRecord) → s.realm g ≡ Some q → (r : RealmRecord) × (t.realm g ≡ Some r) × IsLike q r
 
+-- realms that are the same are alike
 pub same_realms : (s t : State) → t.realm ≡ s.realm → AreLikeRealms s t
 same_realms s t same = record {
   before = λ g r e. (r, sym (ap (λ m. m g) same) ∙ e, like_itself r);
@@ -58,6 +60,7 @@ space_of_like q r like space = rw (like.width, like.start_level) space
 
 -- ---- groups
 
+-- realms, where their records and the RD tags stay
 pub realms_kept : (s t : State) → t.realm ≡ s.realm → ((g : ℕ) → has_tag t g Rd ≡ has_tag s g Rd) → AreRealms s → AreRealms t
 realms_kept s t same rds old =
     let back : (g : ℕ) → t.realm g ≡ s.realm g = λ g. ap (λ m. m g) same in
@@ -73,6 +76,7 @@ abbrev pub KeepsWidths : State → State → Type 0
 KeepsWidths s t = (g : ℕ) (c : RecRecord) (r : RealmRecord) → s.rec g ≡ Some c → t.realm c.owner ≡ Some r
     → (q : RealmRecord) × (s.realm c.owner ≡ Some q) × (r.width ≡ q.width)
 
+-- RECs, where their records stay, and their tags and the widths of their realms
 pub recs_kept : (s t : State) → t.rec ≡ s.rec → ((g : ℕ) → has_tag t g Rec ≡ has_tag s g Rec)
     → ((g : ℕ) (c : RecRecord) → s.rec g ≡ Some c → IsTrue (has_tag s c.owner Rd) → IsTrue (has_tag t c.owner Rd))
     → ((g : ℕ) → IsTrue (has_tag s g RecAux) → IsTrue (has_tag t g RecAux)) → KeepsWidths s t → AreRecs s → AreRecs t
@@ -93,6 +97,7 @@ recs_kept s t same recs rds auxes widths old =
           λ asks. request_of_width owner.0 r q owner.2 (old.requests g c owner.0 q (back g c e) owner.1 asks);
     }
 
+-- tables, where they stay and realms are alike
 pub tables_kept : (s t : State) → t.table ≡ s.table → AreLikeRealms s t
     → ((rd level number granule : ℕ) → s.table rd level number ≡ Some granule → IsTrue (has_tag s granule Rtt) → IsTrue (has_tag t granule Rtt))
     → AreTables s → AreTables t
@@ -114,6 +119,7 @@ tables_kept s t same like rtts old =
           old.apart rd level number other l n granule (sym (is rd level number) ∙ e) (sym (is other l n) ∙ f);
     }
 
+-- leaves, where they and the tables stay and realms are alike
 pub leaves_kept : (s t : State) → t.table ≡ s.table → t.leaf ≡ s.leaf → AreLikeRealms s t
     → ((rd level number granule : ℕ) (ripas : Ripas) → s.leaf rd level number ≡ Some (Assigned ripas granule) → IsTrue (has_tag s granule Data) → IsTrue (has_tag t granule Data))
     → AreLeaves s → AreLeaves t

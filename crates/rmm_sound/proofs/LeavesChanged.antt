@@ -55,6 +55,7 @@ pub record CanPutLeaf (s : State) (rd level number : ℕ) (entry : Entry) : Type
   pub alone : (granule : ℕ) (ripas : Ripas) → entry ≡ Assigned ripas granule
       → (other l n : ℕ) (old : Ripas) → s.leaf other l n ≡ Some (Assigned old granule) → is_spot rd level number other l n ≡ false → ⊥
 
+-- one leaf is replaced
 pub with_leaf_sound : (s : State) (rd level number : ℕ) (entry : Entry) → IsSound s → CanPutLeaf s rd level number entry → IsSound (with_leaf s rd level number entry)
 with_leaf_sound s rd level number entry sound can =
     let t : State = with_leaf s rd level number entry in
@@ -119,6 +120,7 @@ ripas_pages true ripas (Some e) new granule same =
     let page = ripas_page e ripas new granule is in (page.0, ap Some page.1)
 ripas_pages false ripas found new granule same = (new, same)
 
+-- leaves get another RIPAS, whichever they are
 pub with_ripas_sound : (s : State) (rd level first last : ℕ) (ripas : Ripas) → IsSound s → IsSound (with_ripas s rd level first last ripas)
 with_ripas_sound s rd level first last ripas sound =
     let t : State = with_ripas s rd level first last ripas in

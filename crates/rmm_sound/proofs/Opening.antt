@@ -14,6 +14,7 @@ opening-tags : (setup : Setup) (g : ℕ) (tag : Tag) → AreOther Undelegated ta
 unfolding has_tag opening
 opening-tags setup g tag other = rw other (and_right (is_granule setup.granules g) false refl)
 
+-- nothing stands in the opening state
 pub opening_sound : (setup : Setup) → IsSound (opening setup)
 unfolding opening
 opening_sound setup = record {

@@ -18,6 +18,7 @@ like_realms s rd old new there like = record {
       (λ _. (q, e, like_itself q));
 }
 
+-- a realm's record is replaced by one like it
 pub with_realm_sound : (s : State) (rd : ℕ) (old new : RealmRecord) → IsSound s → s.realm rd ≡ Some old → IsLike old new → IsSound (with_realm s rd new)
 unfolding has_tag
 with_realm_sound s rd old new sound there like =

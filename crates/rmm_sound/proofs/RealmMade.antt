@@ -29,6 +29,7 @@ table_realm : (s : State) → IsSound s → (rd level number : ℕ) (found : Opt
 table_realm s sound rd level number None at there = both_ways there refl
 table_realm s sound rd level number (Some granule) at there = let owner = sound.tables.owned rd level number granule at in (owner.0, owner.1)
 
+-- where no realm stands, nothing else of one does
 pub all_elsewhere : (s : State) (rd : ℕ) → IsSound s → s.realm rd ≡ None → IsElsewhere s rd
 all_elsewhere s rd sound none =
     let apart : (other : ℕ) (r : RealmRecord) → s.realm other ≡ Some r → (other == rd) ≡ false =

@@ -38,6 +38,7 @@ pub realm_updated_sound : (s : State) (rd : ℕ) (update : RealmUpdate) → IsSo
 realm_updated_sound s rd update sound tag =
     with_realm_sound s rd (realm_at s rd) _ sound (realm_there s rd sound tag) (updated_like update (realm_at s rd))
 
+-- a realm's record is updated, or none is
 pub realm_change_sound : (s : State) (change : Option RealmChange) → IsSound s → CanChangeRealm s change → IsSound (with_realm_change s change)
 realm_change_sound s None sound can = sound
 realm_change_sound s (Some change) sound can = realm_updated_sound s change.rd change.update sound can.0
@@ -131,6 +132,7 @@ updated_stands (rec_update.RequestMoved base) s a old sound there can = record {
   requests = asks s old _ can.2;
 }
 
+-- a REC's record is updated, or none is
 pub rec_change_sound : (s : State) (change : Option RecChange) → IsSound s → CanChangeRec s change → IsSound (with_rec_change s change)
 rec_change_sound s None sound can = sound
 rec_change_sound s (Some change) sound can =
@@ -154,6 +156,7 @@ records_swapped s None rec = refl
 records_swapped s (Some change) None = refl
 records_swapped s (Some change) (Some other) = refl
 
+-- records of a realm and of a REC are updated
 pub records_sound : (s : State) (realm : Option RealmChange) (rec : Option RecChange) → IsSound s → CanChangeRealm s realm → CanChangeRec s rec
     → IsSound (with_rec_change (with_realm_change s realm) rec)
 records_sound s realm rec sound can_realm can_rec =

@@ -22,10 +22,12 @@ use Rattle.rmm_sound.proofs.Opening.{opening_sound}
 
 -- ---- commands
 
+-- what a command does can be applied
 pub done_applies : (s : State) (cpu : ℕ) (command : Command) (words : List ℕ) (change : Change) → IsSound s
     → outcome s cpu (call_of command) ≡ Ok (done words change) → CanApply s change
 done_applies s cpu command words change sound is = accepted_applies s cpu (call_of command) (done words change) sound (whole_command command) is
 
+-- each end that a command may reach can be applied
 pub reached_applies : (s : State) (cpu : ℕ) (command : Command) (stretch : Stretch) (top : ℕ) → IsSound s
     → outcome s cpu (call_of command) ≡ Ok (Reaches stretch) → IsReached s stretch top → CanApply s (reached_change stretch top)
 reached_applies s cpu command stretch top sound is = accepted_applies s cpu (call_of command) (Reaches stretch) sound (whole_command command) is top
@@ -41,13 +43,16 @@ carried_sound old cpu command given new (Ok (Done words change)) sound is step =
 carried_sound old cpu command given new (Ok (Reaches stretch)) sound is step =
     subst IsSound (sym step.1.2) (changed_sound old (reached_change stretch step.0) sound (reached_applies old cpu command stretch step.0 sound is step.1.0))
 
+-- a step keeps states sound
 pub step_sound : (old : State) (cpu : ℕ) (command : Command) (given : Reply) (new : State) → IsSound old → Step old cpu command given new → IsSound new
 step_sound old cpu command given new sound step = carried_sound old cpu command given new (outcome old cpu (call_of command)) sound refl step
 
+-- a run keeps states sound
 run_sound : (entries : List JournalEntry) (old last : State) → IsSound old → IsRun old entries last → IsSound last
 run_sound [] old last sound run = subst IsSound (sym run) sound
 run_sound (entry ∷ entries) old last sound run =
     run_sound entries run.0 last (step_sound old entry.cpu entry.command entry.given run.0 sound run.1) run.2
 
+-- each state that a run comes to is sound
 pub opened_run_sound : (setup : Setup) (entries : List JournalEntry) (last : State) → IsRun (opening setup) entries last → IsSound last
 opened_run_sound setup entries last run = run_sound entries (opening setup) last (opening_sound setup) run

@@ -68,6 +68,7 @@ root_half r space = elim (space_cases r.width r.start_level space) [
   | inr large ↦ rw (large.0, large.1) refl
 ]
 
+-- no entry is empty
 pub entry_size-pos : (level : ℕ) → 1 ≤ entry_size level
 unfolding entry_size
 entry_size-pos level = pow_pos (12 + 9 * (3 - level))
@@ -77,6 +78,7 @@ pub scaled_lt : (a b size : ℕ) → a < b → 1 ≤ size → a * size < b * siz
 scaled_lt a b size below pos =
     let scaled : size * (a + 1) ≤ size * b = mul-le-mul_left size (let up : a + 1 ≤ b = omega arith in up) in omega arith
 
+-- and an order that may be equal
 pub scaled_le : (a b size : ℕ) → a ≤ b → a * size ≤ b * size
 scaled_le a b size below = let scaled : size * a ≤ size * b = mul-le-mul_left size below in omega arith
 
@@ -89,6 +91,7 @@ unscaled_lt a b size scaled =
       | inr more ↦ absurd (let back : b * size ≤ a * size = scaled_le b a size more in omega arith)
     ]
 
+-- and from one that may be equal
 pub unscaled_le : (a b size : ℕ) → a * size ≤ b * size → 1 ≤ size → a ≤ b
 unscaled_le a b size scaled pos =
     let cases : (a ≤ b) ⊎ (b < a) = grind arith in

@@ -100,6 +100,7 @@ walked_protected s rd ipa sound tag below =
 
 -- ---- entries by their tests
 
+-- unassigned memory is no page and no link
 pub unassigned_kind : (e : Entry) → IsTrue (is_unassigned e) → (is_assigned e ≡ false) × (is_table e ≡ false)
 unassigned_kind (Unassigned ripas) is = (refl, refl)
 unassigned_kind (Assigned ripas granule) is = both_ways is refl
@@ -107,6 +108,7 @@ unassigned_kind (Table granule) is = both_ways is refl
 unassigned_kind UnassignedNs is = both_ways is refl
 unassigned_kind (AssignedNs page) is = both_ways is refl
 
+-- unassigned memory that is RAM is unassigned
 pub ram_kind : (e : Entry) → IsTrue (is_unassigned_ram e) → IsTrue (is_unassigned e)
 ram_kind (Unassigned ripas) is = refl
 ram_kind (Assigned ripas granule) is = is
@@ -114,6 +116,7 @@ ram_kind (Table granule) is = is
 ram_kind UnassignedNs is = is
 ram_kind (AssignedNs page) is = is
 
+-- a page is no link, and names its granule
 pub assigned_kind : (e : Entry) → IsTrue (is_assigned e) → (is_table e ≡ false) × ((ripas : Ripas) × (e ≡ Assigned ripas (entry_address e)))
 assigned_kind (Assigned ripas granule) is = (refl, (ripas, refl))
 assigned_kind (Unassigned ripas) is = both_ways is refl
@@ -121,6 +124,7 @@ assigned_kind (Table granule) is = both_ways is refl
 assigned_kind UnassignedNs is = both_ways is refl
 assigned_kind (AssignedNs page) is = both_ways is refl
 
+-- an entry of the upper half that is unassigned is no page of the realm's and no link
 pub unassigned_ns_kind : (e : Entry) → IsTrue (is_unassigned_ns e) → (is_assigned e ≡ false) × (is_table e ≡ false)
 unassigned_ns_kind UnassignedNs is = (refl, refl)
 unassigned_ns_kind (Unassigned ripas) is = both_ways is refl
@@ -128,6 +132,7 @@ unassigned_ns_kind (Assigned ripas granule) is = both_ways is refl
 unassigned_ns_kind (Table granule) is = both_ways is refl
 unassigned_ns_kind (AssignedNs page) is = both_ways is refl
 
+-- a page of the host is no page of the realm's and no link
 pub assigned_ns_kind : (e : Entry) → IsTrue (is_assigned_ns e) → (is_assigned e ≡ false) × (is_table e ≡ false)
 assigned_ns_kind (AssignedNs page) is = (refl, refl)
 assigned_ns_kind (Unassigned ripas) is = both_ways is refl
