@@ -1,6 +1,6 @@
 -- The order in which locks are taken: first the granules that a command names, upwards by address, then what those name in
 -- turn, downwards from realm to root, from table to table, and to data and auxiliary granules. This project's own.
-use Rattle.std.specs.Prelude.{◌≡◌, ℕ, zero, suc, ◌<◌, ◌≤◌, Bool, true, false, ◌||◌, ◌==◌, ◌⊎◌, IsTrue, List, [], ◌∷◌, Contains, length, Option, Some, None}
+use Rattle.std.specs.Prelude.{◌≡◌, ℕ, suc, ◌<◌, ◌≤◌, Bool, false, ◌||◌, ◌==◌, ◌⊎◌, IsTrue, List, [], ◌∷◌, Contains, length, Option, Some, None}
 use Rattle.std.specs.List.{list_any}
 use Rattle.rmm_spec.specs.declared.call.Call.{Call}
 use Rattle.rmm_spec.specs.declared.call.Call.TheVariants.{RecEnter}
@@ -10,7 +10,7 @@ use Rattle.rmm_spec.specs.declared.tag.Tag.TheVariants as tag
 use Rattle.rmm_spec.specs.State.{RecRecord, is_granule}
 use Rattle.rmm_spec.specs.Rows.{Needed}
 use Rattle.rmm_spec.specs.Step.Named.{needed, named}
-use Rattle.rmm_spec.specs.Cell.{Cell, Rd, Rec, Rtt, tag_of, rec_in, table_in, is_data}
+use Rattle.rmm_spec.specs.Cell.{Cell, Rd, Rec, Rtt, tag_of, is_data}
 use Rattle.rmm_spec.specs.Shape.{CpuPlace, Outside, Inside}
 use Rattle.rmm_spec.specs.Local.{HeldCell}
 

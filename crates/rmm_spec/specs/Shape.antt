@@ -1,7 +1,7 @@
 -- What all cells, the side table and the CPUs' places keep together: every name in one of them leads to what it names.
 -- After DEN0137 (attributes of realms, RECs and RTTs); the side table and the CPUs' places are this project's own.
 -- In five groups, each over the views that it reads.
-use Rattle.std.specs.Prelude.{◌≡◌, ℕ, zero, suc, ◌+◌, ◌-◌, ◌*◌, ◌/◌, ◌%◌, ◌<◌, ◌≤◌, Bool, true, false, ◌==◌, ◌↔◌, if◌then◌else◌, IsTrue, List, length, Option, Some, None, is_some, slice_get}
+use Rattle.std.specs.Prelude.{◌≡◌, ℕ, zero, suc, ◌+◌, ◌*◌, ◌/◌, ◌%◌, ◌<◌, ◌≤◌, Bool, false, ◌==◌, ◌↔◌, if◌then◌else◌, IsTrue, length, Option, Some, is_some, slice_get}
 use Rattle.rmm_spec.specs.declared.entry.Entry.{Entry}
 use Rattle.rmm_spec.specs.declared.entry.Entry.TheVariants.{Unassigned, Assigned, Table, UnassignedNs, AssignedNs}
 use Rattle.rmm_spec.specs.declared.place.Place.{Place}

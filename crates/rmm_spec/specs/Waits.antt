@@ -2,7 +2,6 @@
 -- waits for the CPU that holds the lock; whether such waits can come back to their start is what the laws are on.
 -- This project's own.
 use Rattle.std.specs.Prelude.{◌≡◌, ℕ, ◌<◌, ◌⊎◌, List, [], ◌∷◌, ◌++◌, Contains, Option, Some, None}
-use Rattle.rmm_spec.specs.declared.command.Command.{Command}
 use Rattle.rmm_spec.specs.Call.{call_of}
 use Rattle.rmm_spec.specs.Cell.{put}
 use Rattle.rmm_spec.specs.World.{World, Phase, Between, Deciding, Decided, GivenUp, Stopped, Move, mover, Happens, IsDeciding, IsGoing, held_cells}
@@ -47,18 +46,18 @@ pub data Kind : Type 0 where
   Take : Kind
   Free : Kind
   Commit : Kind
-  GaveUp : Kind
+  GiveUp : Kind
   Return : Kind
-  Ended : Kind
+  Stop : Kind
 
 abbrev pub kind_of : Move → Kind
 kind_of (world.Call cpu) = Call
 kind_of (world.Take cpu granule) = Take
 kind_of (world.Free cpu granule learnt) = Free
 kind_of (world.Commit cpu given held) = Commit
-kind_of (world.GiveUp cpu) = GaveUp
+kind_of (world.GiveUp cpu) = GiveUp
 kind_of (world.Return cpu) = Return
-kind_of (world.Stop cpu) = Ended
+kind_of (world.Stop cpu) = Stop
 
 -- what a turn reports: the move that it made, the granule that another CPU holds, or that there is nothing to do
 pub data Report : Type 0 where

@@ -1,7 +1,7 @@
 -- The world: CPUs that carry out their programs over shared granules, each granule under a lock of its own, one move at a
 -- time and in any order. What it records of a run is a history, and its journal is the certificate of that history.
 -- What a monitor's threads do is taken for such a list of moves. This project's own.
-use Rattle.std.specs.Prelude.{◌≡◌, ℕ, ◌+◌, ◌<◌, Bool, true, false, not, ◌&&◌, ◌==◌, if◌then◌else◌, IsTrue, List, [], ◌∷◌, ◌++◌, map, Contains, Option, Some, None}
+use Rattle.std.specs.Prelude.{◌≡◌, ℕ, ◌+◌, ◌<◌, Bool, false, not, ◌&&◌, ◌==◌, if◌then◌else◌, IsTrue, List, [], ◌∷◌, ◌++◌, map, Contains, Option, Some, None}
 use Rattle.std.specs.List.{filter, list_any}
 use Rattle.rmm_spec.specs.declared.call.Call.TheVariants.{RecEnter}
 use Rattle.rmm_spec.specs.declared.command.Command.{Command}

@@ -14,3 +14,4 @@ pub mod Retagged
 pub mod Moved
 pub mod SmallRuns
 pub mod SmallTakes
+pub mod OneRealm

@@ -1,5 +1,5 @@
 -- Small worlds, written out: two CPUs on a few granules, and cells that two CPUs hold.
-use Rattle.std.specs.Prelude.{◌≡◌, ℕ, ◌≤◌, true, false, ◌⊎◌, IsTrue, List, [], ◌∷◌, ◌++◌, Contains, length, None}
+use Rattle.std.specs.Prelude.{◌≡◌, ℕ, ◌≤◌, true, false, ◌⊎◌, IsTrue, List, [], ◌∷◌, ◌++◌, Contains, length, None, replicate, Some}
 use Rattle.rmm_spec.specs.declared.call.Call.{Call}
 use Rattle.rmm_spec.specs.declared.call.Call.TheVariants.{RealmCreate}
 use Rattle.rmm_spec.specs.declared.command.Command.{Command}
@@ -9,9 +9,14 @@ use Rattle.rmm_spec.specs.declared.function_id.FunctionId.TheVariants.{GranuleDe
 use Rattle.rmm_spec.specs.declared.reply.Reply.{Reply}
 use Rattle.rmm_spec.specs.HistoryText.{Setup}
 use Rattle.rmm_spec.specs.State.{RecRecord, is_granule}
+use Rattle.rmm_spec.specs.declared.entry.Entry.{Entry}
+use Rattle.rmm_spec.specs.declared.entry.Entry.TheVariants.{Unassigned, UnassignedNs}
+use Rattle.rmm_spec.specs.declared.tag.Ripas.TheVariants.{Empty}
+use Rattle.rmm_spec.specs.Table.{TableRecord}
+use Rattle.rmm_spec.specs.Change.{new_realm}
 use Rattle.rmm_spec.specs.Rows.{Needed, ok, input_error}
-use Rattle.rmm_spec.specs.Cell.{Cell, Delegated, Rec, RecAux, tag_of, is_data}
-use Rattle.rmm_spec.specs.Shape.{Outside}
+use Rattle.rmm_spec.specs.Cell.{Cell, Delegated, Rec, RecAux, tag_of, is_data, Undelegated, Rd, Rtt, put}
+use Rattle.rmm_spec.specs.Shape.{Side, Outside}
 use Rattle.rmm_spec.specs.Local.{HeldCell, Hold}
 use Rattle.rmm_spec.specs.World.{Move}
 use Rattle.rmm_spec.specs.World as move
@@ -83,3 +88,28 @@ rec_with aux0 aux1 = record {
 -- a REC, and an auxiliary granule of another one
 abbrev pub rec_and_stray : ℕ → ℕ → ℕ → ℕ → List HeldCell
 rec_and_stray rec aux0 aux1 stray = held_at rec (Rec (rec_with aux0 aux1)) ∷ held_at stray RecAux ∷ []
+
+-- ---- one new realm
+
+-- the realm's root, as it was made: nothing was said of its lower half, and its upper half is the host's
+abbrev pub new_root : TableRecord
+new_root = record {
+  place = record { rd = 0x1000; level = 1; base = 0; width = 39 };
+  entries = replicate 256 (Unassigned Empty) ++ replicate 256 UnassignedNs;
+}
+
+-- a realm at 0x1000 with its root at 0x2000, and nothing else
+abbrev pub one_realm : ℕ → Cell
+one_realm = put (put (λ _. Undelegated) 0x2000 (Rtt new_root)) 0x1000 (Rd (new_realm 0x2000 39 1 1 0))
+
+-- the side table that has its VMID
+abbrev pub one_vmid : Side
+one_vmid = record { vmids = put (λ _. None) 1 (Some 0x1000); rec_counts = λ _. 0 }
+
+-- the root with another first entry
+abbrev pub root_with : Entry → TableRecord
+root_with entry = record new_root { entries = entry ∷ (replicate 255 (Unassigned Empty) ++ replicate 256 UnassignedNs) }
+
+-- the realm with another root in the root's granule
+abbrev pub realm_with_root : TableRecord → ℕ → Cell
+realm_with_root root = put one_realm 0x2000 (Rtt root)

@@ -1,16 +1,20 @@
 //! Small worlds, worked out: what the laws speak of is there, and what they rule out would be.
 
-ghost use Rattle.std.specs.Prelude.{◌≡◌, List, [], ◌∷◌, ◌++◌, Contains};
+ghost use Rattle.std.specs.Prelude.{◌≡◌, ℕ, List, [], ◌∷◌, ◌++◌, None, Contains};
 ghost use Rattle.rmm_spec.specs.declared.call.Call.TheVariants.{RecDestroy};
+ghost use Rattle.rmm_spec.specs.declared.entry.Entry.TheVariants.{Assigned, Table};
 ghost use Rattle.rmm_spec.specs.declared.event.Event.TheVariants.{Returned};
 ghost use Rattle.rmm_spec.specs.declared.line.Line.TheVariants.{Keep, Unfinished};
+ghost use Rattle.rmm_spec.specs.declared.tag.Ripas.TheVariants.{Ram};
 ghost use Rattle.rmm_spec.specs.Rows.{ok, input_error};
 ghost use Rattle.rmm_spec.specs.Step.Named.{named};
+ghost use Rattle.rmm_spec.specs.Cell.{Delegated, Data, Rtt, put};
+ghost use Rattle.rmm_spec.specs.Shape.{CpuPlace, Outside, Inside, IsWellShaped};
 ghost use Rattle.rmm_spec.specs.Local.{granules_held};
 ghost use Rattle.rmm_spec.specs.World.{World, opening_world, HappenAll, certificate_of};
 ghost use Rattle.rmm_spec.specs.Locks.{IsRisingTake};
 ghost use Rattle.rmm_spec.specs.Waits.{WaitsAt};
-ghost use Rattle.world_laws.specs.SmallWorlds.{two_cpus, both_delegate, in_order, stopped_after_commit, both_called, realm_of, one_delegated, IsUnguardedTake, rec_and_stray};
+ghost use Rattle.world_laws.specs.SmallWorlds.{two_cpus, both_delegate, in_order, stopped_after_commit, both_called, realm_of, one_delegated, IsUnguardedTake, rec_and_stray, new_root, one_realm, one_vmid, root_with, realm_with_root};
 
 /// Two CPUs delegate one granule: in either order the first is answered ok and the second is refused.
 pub fn two_cpus_delegate_one_granule()
@@ -41,4 +45,27 @@ pub fn strays_would_circle()
     ensures second { IsUnguardedTake 8 (named (RecDestroy 0x2000)) (rec_and_stray 0x2000 0x5000 0x6000 0x3000) 0x5000 }
     ensures circle { Contains (granules_held (rec_and_stray 0x1000 0x3000 0x4000 0x5000)) 0x5000
         × Contains (granules_held (rec_and_stray 0x2000 0x5000 0x6000 0x3000)) 0x3000 }
+{}
+
+/// A whole with one new realm is well shaped.
+pub fn one_realm_is_well_shaped()
+    ensures { IsWellShaped 4 one_vmid (λ _. Outside) one_realm }
+{}
+
+/// With one thing wrong it isn't, wherever the CPUs are: its VMID is not in the side table, a REC is counted that isn't there,
+/// its root's granule holds no table, a second table has the root's place, a link leads to no table, a page is assigned at
+/// level 1, an assigned granule is no DATA, a CPU is inside of a REC that isn't there, or a page past the last is delegated.
+pub fn broken_wholes_are_not_well_shaped()
+    ensures unlisted { (places : ℕ → CpuPlace) → IsWellShaped 4 (record one_vmid { vmids = λ _. None }) places one_realm → ⊥ }
+    ensures miscounted { (places : ℕ → CpuPlace) → IsWellShaped 4 (record one_vmid { rec_counts = λ _. 1 }) places one_realm → ⊥ }
+    ensures rootless { (places : ℕ → CpuPlace) → IsWellShaped 4 one_vmid places (put one_realm 0x2000 Delegated) → ⊥ }
+    ensures doubled { (places : ℕ → CpuPlace) → IsWellShaped 4 one_vmid places (put one_realm 0x3000 (Rtt new_root)) → ⊥ }
+    ensures unlinked { (places : ℕ → CpuPlace)
+        → IsWellShaped 4 one_vmid places (realm_with_root (root_with (Table 0x3000))) → ⊥ }
+    ensures too_high { (places : ℕ → CpuPlace)
+        → IsWellShaped 4 one_vmid places (put (realm_with_root (root_with (Assigned Ram 0x3000))) 0x3000 Data) → ⊥ }
+    ensures no_data { (places : ℕ → CpuPlace)
+        → IsWellShaped 4 one_vmid places (realm_with_root (root_with (Assigned Ram 0x3000))) → ⊥ }
+    ensures nowhere { IsWellShaped 4 one_vmid (λ _. Inside 0x3000 0x1000) one_realm → ⊥ }
+    ensures past_the_end { (places : ℕ → CpuPlace) → IsWellShaped 4 one_vmid places (put one_realm 0x8000 Delegated) → ⊥ }
 {}
