@@ -1,5 +1,5 @@
 -- Where a stretch may end, and its entries.
-use Rattle.std.proofs.Common.{◌≡◌, ℕ, zero, suc, ◌+◌, ◌-◌, ◌*◌, ◌/◌, ◌%◌, ◌^◌, ◌<◌, ◌≤◌, nat_lt, nat_le, Bool, true, false, ◌&&◌, refl, sym, ap, ◌∙◌, add-one, inl, inr, arith}
+use Rattle.std.proofs.Common.{◌≡◌, ℕ, zero, suc, ◌+◌, ◌-◌, ◌*◌, ◌/◌, ◌%◌, ◌<◌, ◌≤◌, nat_lt, nat_le, Bool, true, false, ◌&&◌, refl, sym, ap, ◌∙◌, add-one, inl, inr, arith}
 use Rattle.std.proofs.Math.Nat.{div-add-mod, div-div-eq-div-mul, mul-le-mul_left}
 use Rattle.std.proofs.lemmas.Bool.{and_parts, and_left, and_right, ltb-true, leb-true, le-ltb, lt-ltb, le-leb, lt-leb, eq-eqb, ne_eqb, cases_lt}
 use Rattle.std.proofs.lemmas.Nat.{div_below, le-div}
@@ -128,15 +128,6 @@ end-order stretch top ends =
     (nat_le top ((table_number stretch.level stretch.base + 1) * table_size stretch.level)) ends in
     let two = and_parts (nat_lt stretch.base top && is_multiple (top - stretch.base) (entry_size stretch.level)) (nat_le top stretch.top) three.0 in
     ltb-true stretch.base top (and_parts (nat_lt stretch.base top) (is_multiple (top - stretch.base) (entry_size stretch.level)) two.0).0
-
--- an entry's number is small: two of them don't wrap
-pub entry_number-small : (level ipa : ℕ) → level ≤ 3 → ipa < 2 ^ 64 → entry_number level ipa < 2 ^ 52
-unfolding entry_number entry_size
-entry_number-small zero ipa within fits = omega arith
-entry_number-small (suc zero) ipa within fits = omega arith
-entry_number-small (suc (suc zero)) ipa within fits = omega arith
-entry_number-small (suc (suc (suc zero))) ipa within fits = omega arith
-entry_number-small (suc (suc (suc (suc level)))) ipa within fits = absurd (omega arith)
 
 -- ---- the whole test
 
