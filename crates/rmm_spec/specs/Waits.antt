@@ -162,7 +162,7 @@ pub record LeadsToStopped (w : World) (cpu : ℕ) : Type 0 where
 -- Each chain of waits ends at a CPU that was stopped: who is waited for was stopped or waits in turn, and that comes to an
 -- end. So where none was stopped, each CPU gave up or has returned all calls of its program.
 pub record WaitsBehindStopped (w : World) : Type 0 where
-  pub each : (cpu granule : ℕ) → cpu < w.setup.cpus → IsBlocked w cpu granule → LeadsToStopped w cpu
+  pub each : (cpu granule : ℕ) → IsBlocked w cpu granule → LeadsToStopped w cpu
   pub next : (cpu other : ℕ) → WaitsFor w cpu other → (w.phase other ≡ Stopped) ⊎ LeadsToStopped w other
   pub without_stop : ((cpu : ℕ) → w.phase cpu ≡ Stopped → ⊥) → (cpu : ℕ) → cpu < w.setup.cpus
       → (w.phase cpu ≡ GivenUp) ⊎ HasReturnedAll w cpu

@@ -128,7 +128,7 @@ pub record Learns (w : World) (command : Command) (granule rd : ℕ) : Type 0 wh
   pub is_enter : call_of command ≡ RecEnter granule
   pub is_rec : recs_of w.cells granule ≡ Some rec
   pub is_owner : rec.owner ≡ rd
-  pub is_granule : IsTrue (is_granule w.setup.granules rd)
+  pub is_lock : IsTrue (is_granule w.setup.granules rd)
   pub is_other : (rd == granule) ≡ false
 
 -- what may be learnt in a phase where a granule is freed: nothing, or what an Enter learns

@@ -78,7 +78,7 @@ leads_on w shaped locked stuck cpu granule blocked = leads w shaped locked stuck
 
 pub WaitsBehindStopped-stuck : (w : World) → IsShapedWorld w → IsLocked w → IsStuck w → WaitsBehindStopped w
 WaitsBehindStopped-stuck w shaped locked stuck = record {
-  each = λ cpu granule is_cpu blocked. leads_on w shaped locked stuck cpu granule blocked;
+  each = λ cpu granule blocked. leads_on w shaped locked stuck cpu granule blocked;
   next = λ cpu other waits. next waits.0 other waits.1.is_held (stuck other (locked.fits other waits.0 waits.1.is_held));
   without_stop = λ none cpu is_cpu. without none cpu (stuck cpu is_cpu);
 }
