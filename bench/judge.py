@@ -1,17 +1,19 @@
 #!/usr/bin/env python3
 """A plain judge of a history and a certificate, written apart from the checker to compare the two.
 
-usage: judge.py HISTORY CERTIFICATE
+usage: judge.py [--served STAGE] HISTORY CERTIFICATE
 
 It reads the texts by regular expressions, compares real-time order by the greatest call place so far, and asks the
 machine of machine.py for each reply. It prints the verdict line and ends with the checker's exit status. Nothing about
-it is proved.
+it is proved. STAGE says which functions are served: seven, sixteen or all.
 """
+import argparse
 import re
 import sys
 
 sys.dont_write_bytecode = True
-from machine import WORDS, Machine
+from functions import SERVED, SERVED_TODAY, STAGES, WORDS
+from machine import Machine
 
 MOST_LINES = 1_000_000
 DECIMAL = r"(?:0|[1-9][0-9]*)"
@@ -43,7 +45,7 @@ def lines_of(text):
         raise BadLine(len(parts))
 
 
-def read_history(text):
+def read_history(text, served):
     """The number of granules, and each call as (place, function, words, place of return or None, reply)."""
     granules = cpus = None
     calls, made, opened = {}, {}, {}
@@ -59,7 +61,7 @@ def read_history(text):
                 raise BadLine(number)
             made[cpu], opened[cpu] = n + 1, n
             words = [int(word, 16) for word in match[4].split()]
-            if WORDS.get(match[3]) != len(words):
+            if match[3] not in served or WORDS[match[3]] != len(words):
                 raise BadLine(number)
             calls[cpu, n] = [number, match[3], words, None, None]
         elif (match := RETURN.match(line)) and is_reply(match[3]):
@@ -88,6 +90,16 @@ def read_certificate(text):
         yield int(match[1]), int(match[2]), claimed
 
 
+def gives(machine, cpu, function, words, reply):
+    """Whether the machine gives this reply. Where several ends are allowed the reply says which one it took."""
+
+    def as_claimed(tops):
+        word = reply.removeprefix("ok ")
+        return int(word, 16) if re.fullmatch(WORD, word) and int(word, 16) in tops else tops[0]
+
+    return machine.answer(cpu, function, words, as_claimed) == reply
+
+
 def judge_order(granules, calls, lines):
     named, machine, last_call = set(), Machine(granules), 0
     for step, (cpu, n, claimed) in enumerate(lines, 1):
@@ -100,7 +112,7 @@ def judge_order(granules, calls, lines):
             return 1, f"no {step} kind"
         if returned is not None and returned < last_call:
             return 1, f"no {step} order"
-        if machine.answer(function, words) != (reply if claimed is None else claimed):
+        if not gives(machine, cpu, function, words, reply if claimed is None else claimed):
             return 1, f"no {step} reply"
         named.add((cpu, n))
         last_call = max(last_call, called)
@@ -110,9 +122,9 @@ def judge_order(granules, calls, lines):
     return 0, f"yes {len(lines)}"
 
 
-def judge(history, certificate):
+def judge(history, certificate, served=SERVED):
     try:
-        granules, calls = read_history(history)
+        granules, calls = read_history(history, served)
     except BadLine as bad:
         return 2, f"fault history {bad}"
     try:
@@ -123,13 +135,16 @@ def judge(history, certificate):
 
 
 def main():
-    if len(sys.argv) != 3:
-        sys.exit(__doc__)
+    parser = argparse.ArgumentParser(usage=__doc__)
+    parser.add_argument("--served", choices=STAGES, default=SERVED_TODAY)
+    parser.add_argument("history")
+    parser.add_argument("certificate")
+    words = parser.parse_args()
     texts = []
-    for path in sys.argv[1:]:
+    for path in (words.history, words.certificate):
         with open(path, encoding="latin-1", newline="") as file:
             texts.append(file.read())
-    status, line = judge(*texts)
+    status, line = judge(*texts, STAGES[words.served])
     print(line)
     sys.exit(status)
 

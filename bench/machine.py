@@ -1,29 +1,90 @@
-"""A plain machine in Python: what the seven served commands answer and change. Written apart from the checker."""
+"""A plain machine in Python: what each command of docs/PROFILE.md answers and changes. Written from that page's prose."""
+import hashlib
+import struct
+from collections import namedtuple
 
-GRANULE_BYTES = 4096
-DELEGATE = "c4000151"
-UNDELEGATE = "c4000152"
-REALM_ACTIVATE = "c4000157"
-REALM_CREATE = "c4000158"
-REALM_DESTROY = "c4000159"
-REC_CREATE = "c400015a"
-REC_DESTROY = "c400015b"
-WORDS = {DELEGATE: 1, UNDELEGATE: 1, REALM_ACTIVATE: 1, REALM_CREATE: 6, REALM_DESTROY: 1, REC_CREATE: 6, REC_DESTROY: 1}
+from functions import (CPU_OFF, DATA_CREATE, DATA_CREATE_UNKNOWN, DATA_DESTROY, EXIT, GRANULE_DELEGATE, GRANULE_UNDELEGATE,
+                       HOST_CALL, IPA_STATE_GET, IPA_STATE_SET, MEASUREMENT_EXTEND, MEASUREMENT_READ, REALM_ACTIVATE,
+                       REALM_CALLS, REALM_CONFIG, REALM_CREATE, REALM_DESTROY, REC_CREATE, REC_DESTROY, REC_ENTER, RTT_CREATE,
+                       RTT_DESTROY, RTT_INIT_RIPAS, RTT_MAP_UNPROTECTED, RTT_READ_ENTRY, RTT_SET_RIPAS,
+                       RTT_UNMAP_UNPROTECTED, SYSTEM_OFF)
+from tables import (ASSIGNED, ASSIGNED_NS, DESTROYED, ENTRIES, FREE_NS, LAST_LEVEL, PAGE_BYTES, RAM, STATE_NUMBERS, TABLE,
+                    UNASSIGNED, UNASSIGNED_NS, UNUSED, Entry, Table, entry_bytes, new_root, walk)
+
+UNDELEGATED, DELEGATED, RD, REC, REC_AUX, DATA, RTT = "undelegated", "delegated", "rd", "rec", "aux", "data", "rtt"
+NEW, ACTIVE, OFF = "new", "active", "off"
 SPACES = {(0x27, 1), (0x30, 0)}
 MOST_RECS = 8
+INPUT_ERROR, REALM_ERROR, SYSTEM_OFF_ERROR, REC_ERROR = "err 1 0", "err 2 0", "err 2 1", "err 3 0"
+
+
+def table_error(level):
+    return f"err 4 {level}"
+
+
+def is_page(address):
+    return address % PAGE_BYTES == 0
+
+
+def measured(old, words):
+    """SHA-256 of the old measurement and of words, each written as 8 bytes with the lowest first."""
+    return hashlib.sha256(old + struct.pack(f"<{len(words)}Q", *words)).digest()
 
 
 class Realm:
-    def __init__(self, root, vmid):
-        self.root = root
+    def __init__(self, width, level, vmid, algo, root):
+        self.state = NEW
+        self.width = width
+        self.level = level
         self.vmid = vmid
-        self.is_new = True
+        self.algo = algo
+        self.root = root
         self.made_recs = 0
         self.recs = set()
+        self.rim = measured(b"", [int(REALM_CREATE, 16), width, level, algo])
+        self.rems = [bytes(32)] * 4
+
+    @property
+    def full(self):
+        return 1 << self.width
+
+    @property
+    def half(self):
+        return 1 << (self.width - 1)
+
+    def measure(self, function, *words):
+        self.rim = measured(self.rim, [int(function, 16), *words])
+
+
+class Rec:
+    """A REC. `pending` holds the words that Exit will report, where something is pending."""
+
+    def __init__(self, address, rd, runnable, aux0, aux1):
+        self.address = address
+        self.rd = rd
+        self.runnable = runnable
+        self.aux0 = aux0
+        self.aux1 = aux1
+        self.cpu = None
+        self.request = None
+        self.pending = None
+
+
+Request = namedtuple("Request", "base top ripas")
+
+# Where a command may choose how far it gets: the ends that it may reply, and what is done once one of them is chosen.
+Stretch = namedtuple("Stretch", "tops set_up_to")
+
+
+class Refused(Exception):
+    """A row that doesn't hold, with the reply."""
 
 
 class Machine:
-    """Tags by address (an address without one is undelegated), realms by rd, and each REC's rd and aux granules."""
+    """Tags by address (an address without one is UNDELEGATED), realms by rd, RECs by address, and the RECs that run by CPU.
+
+    `row` is the number of the row that refused the last command, as docs/PROFILE.md counts them, and 0 where none did.
+    """
 
     def __init__(self, granules):
         self.granules = granules
@@ -31,85 +92,368 @@ class Machine:
         self.realms = {}
         self.recs = {}
         self.vmids = set()
+        self.running = {}
+        self.row = 0
+
+    def answer(self, cpu, function, words, choose=max):
+        """The reply to a command of that many words. Anything but `ok` changes nothing.
+
+        Where several ends of a stretch are allowed, `choose` picks one of them.
+        """
+        self.row = 0
+        if self.is_misplaced(cpu, function):
+            return "misplaced"
+        try:
+            done = self.decide(cpu, function, words)
+        except Refused as refused:
+            return str(refused)
+        self.row = 0
+        if isinstance(done, Stretch):
+            top = choose(done.tops)
+            done.set_up_to(top)
+            done = [top]
+        return " ".join(["ok", *(f"{word:x}" for word in done or [])])
+
+    def is_misplaced(self, cpu, function):
+        rec = self.running.get(cpu)
+        if function == EXIT:
+            return rec is None
+        if function in REALM_CALLS:
+            return rec is None or rec.pending is not None
+        return rec is not None
+
+    def decide(self, cpu, function, words):
+        if function in self.FROM_INSIDE:
+            return self.FROM_INSIDE[function](self, self.running[cpu], *words)
+        if function == REC_ENTER:
+            return self.enter(cpu, *words)
+        return self.FROM_HOST[function](self, *words)
+
+    # Rows.
+
+    def need(self, holds, otherwise=INPUT_ERROR):
+        self.row += 1
+        if not holds:
+            raise Refused(otherwise)
 
     def has_tag(self, address, tag):
-        is_granule = address % GRANULE_BYTES == 0 and address // GRANULE_BYTES < self.granules
-        return is_granule and self.tags.get(address, "undelegated") == tag
+        is_granule = is_page(address) and address // PAGE_BYTES < self.granules
+        return is_granule and self.tags.get(address, UNDELEGATED) == tag
 
-    def answer(self, function, words):
-        """The reply to a command of that many words. Anything but `ok` changes nothing."""
-        return self.COMMANDS[function](self, *words)
+    def need_tag(self, address, tag):
+        self.need(self.has_tag(address, tag))
+
+    def need_realm(self, rd):
+        self.need_tag(rd, RD)
+        return self.realms[rd]
+
+    def need_rec(self, rec):
+        self.need_tag(rec, REC)
+        return self.recs[rec]
+
+    def need_page_table(self, realm, ipa):
+        table = walk(realm.root, ipa, LAST_LEVEL)
+        self.need(table.level == LAST_LEVEL, table_error(table.level))
+        return table
+
+    # Granules.
 
     def delegate(self, granule):
-        if not self.has_tag(granule, "undelegated"):
-            return "err 1 0"
-        self.tags[granule] = "delegated"
-        return "ok"
+        self.need_tag(granule, UNDELEGATED)
+        self.tags[granule] = DELEGATED
 
     def undelegate(self, granule):
-        if not self.has_tag(granule, "delegated"):
-            return "err 1 0"
+        self.need_tag(granule, DELEGATED)
         del self.tags[granule]
-        return "ok"
+
+    # Realms.
 
     def create_realm(self, rd, root, width, level, vmid, algo):
-        if rd == root or (width, level) not in SPACES or vmid > 0xFF or algo != 0:
-            return "err 1 0"
-        if not self.has_tag(rd, "delegated") or not self.has_tag(root, "delegated") or vmid in self.vmids:
-            return "err 1 0"
-        self.tags[rd], self.tags[root] = "rd", "rtt"
-        self.realms[rd] = Realm(root, vmid)
+        self.need(rd != root)
+        self.need((width, level) in SPACES)
+        self.need(vmid <= 0xFF)
+        self.need(algo == 0)
+        self.need_tag(rd, DELEGATED)
+        self.need_tag(root, DELEGATED)
+        self.need(vmid not in self.vmids)
+        self.tags[rd], self.tags[root] = RD, RTT
+        self.realms[rd] = Realm(width, level, vmid, algo, new_root(root, level))
         self.vmids.add(vmid)
-        return "ok"
 
     def activate_realm(self, rd):
-        if not self.has_tag(rd, "rd"):
-            return "err 1 0"
-        if not self.realms[rd].is_new:
-            return "err 2 0"
-        self.realms[rd].is_new = False
-        return "ok"
+        realm = self.need_realm(rd)
+        self.need(realm.state == NEW, REALM_ERROR)
+        realm.state = ACTIVE
 
     def destroy_realm(self, rd):
-        if not self.has_tag(rd, "rd"):
-            return "err 1 0"
-        if self.realms[rd].recs:
-            return "err 2 0"
-        realm = self.realms.pop(rd)
+        realm = self.need_realm(rd)
+        self.need(not realm.recs, REALM_ERROR)
+        self.need(not realm.root.has(TABLE), REALM_ERROR)
+        del self.realms[rd]
         self.vmids.remove(realm.vmid)
-        self.tags[rd] = self.tags[realm.root] = "delegated"
-        return "ok"
+        self.tags[rd] = self.tags[realm.root.granule] = DELEGATED
+
+    # RECs.
 
     def create_rec(self, rd, rec, mpidr, flags, aux0, aux1):
-        if len({rec, aux0, aux1}) < 3 or flags > 1 or not self.has_tag(rd, "rd"):
-            return "err 1 0"
-        if not all(self.has_tag(granule, "delegated") for granule in (rec, aux0, aux1)):
-            return "err 1 0"
-        realm = self.realms[rd]
-        if not realm.is_new:
-            return "err 2 0"
-        if mpidr != realm.made_recs or mpidr >= MOST_RECS:
-            return "err 1 0"
-        self.tags[rec], self.tags[aux0], self.tags[aux1] = "rec", "aux", "aux"
-        self.recs[rec] = rd, aux0, aux1
+        self.need(len({rec, aux0, aux1}) == 3)
+        self.need(flags <= 1)
+        realm = self.need_realm(rd)
+        self.need_tag(rec, DELEGATED)
+        self.need_tag(aux0, DELEGATED)
+        self.need_tag(aux1, DELEGATED)
+        self.need(realm.state == NEW, REALM_ERROR)
+        self.need(mpidr == realm.made_recs and mpidr < MOST_RECS)
+        self.tags[rec], self.tags[aux0], self.tags[aux1] = REC, REC_AUX, REC_AUX
+        self.recs[rec] = Rec(rec, rd, flags == 1, aux0, aux1)
         realm.recs.add(rec)
         realm.made_recs += 1
-        return "ok"
+        realm.measure(REC_CREATE, mpidr, flags)
 
-    def destroy_rec(self, rec):
-        if not self.has_tag(rec, "rec"):
-            return "err 1 0"
-        rd, aux0, aux1 = self.recs.pop(rec)
-        self.realms[rd].recs.remove(rec)
-        self.tags[rec] = self.tags[aux0] = self.tags[aux1] = "delegated"
-        return "ok"
+    def destroy_rec(self, address):
+        rec = self.need_rec(address)
+        self.need(rec.cpu is None, REC_ERROR)
+        del self.recs[address]
+        self.realms[rec.rd].recs.remove(address)
+        self.tags[address] = self.tags[rec.aux0] = self.tags[rec.aux1] = DELEGATED
 
-    COMMANDS = {
-        DELEGATE: delegate,
-        UNDELEGATE: undelegate,
+    def enter(self, cpu, address):
+        rec = self.need_rec(address)
+        realm = self.realms[rec.rd]
+        self.need(realm.state != NEW, REALM_ERROR)
+        self.need(realm.state != OFF, SYSTEM_OFF_ERROR)
+        self.need(rec.cpu is None and rec.runnable, REC_ERROR)
+        reached = rec.request.base if rec.request else 0
+        rec.cpu, rec.request = cpu, None
+        self.running[cpu] = rec
+        return [reached]
+
+    # Tables.
+
+    def create_table(self, rd, rtt, ipa, level):
+        self.need(level <= LAST_LEVEL)
+        self.need(ipa % entry_bytes(level - 1) == 0)
+        realm = self.need_realm(rd)
+        self.need_tag(rtt, DELEGATED)
+        self.need(level > realm.level)
+        self.need(ipa < realm.full)
+        above = walk(realm.root, ipa, level - 1)
+        self.need(above.level == level - 1, table_error(above.level))
+        entry = above.entry(ipa)
+        self.need(entry.state != TABLE, table_error(level - 1))
+        self.tags[rtt] = RTT
+        above.set_entry(ipa, Entry(TABLE, address=rtt, table=Table(rtt, level, ipa, [entry] * ENTRIES)))
+
+    def destroy_table(self, rd, ipa, level):
+        self.need(level <= LAST_LEVEL)
+        self.need(ipa % entry_bytes(level - 1) == 0)
+        realm = self.need_realm(rd)
+        self.need(level > realm.level)
+        self.need(ipa < realm.full)
+        above = walk(realm.root, ipa, level - 1)
+        entry = above.entry(ipa)
+        self.need(above.level == level - 1 and entry.state == TABLE, table_error(above.level))
+        self.need(not entry.table.has(ASSIGNED, ASSIGNED_NS, TABLE), table_error(level))
+        self.tags[entry.address] = DELEGATED
+        above.set_entry(ipa, UNUSED[DESTROYED] if ipa < realm.half else FREE_NS)
+        return [entry.address]
+
+    def read_entry(self, rd, ipa, level):
+        self.need(level <= LAST_LEVEL)
+        self.need(ipa % entry_bytes(level) == 0)
+        realm = self.need_realm(rd)
+        self.need(level >= realm.level)
+        self.need(ipa < realm.full)
+        table = walk(realm.root, ipa, level)
+        entry = table.entry(ipa)
+        return [table.level, STATE_NUMBERS[entry.state], entry.address, entry.ripas]
+
+    # Data.
+
+    def create_data(self, rd, data, ipa, src, flags, *digest):
+        self.need(flags <= 1)
+        self.need(is_page(ipa))
+        realm = self.need_realm(rd)
+        self.need_tag(data, DELEGATED)
+        self.need_tag(src, UNDELEGATED)
+        self.need(ipa < realm.half)
+        self.need(realm.state == NEW, REALM_ERROR)
+        table = self.need_page_table(realm, ipa)
+        entry = table.entry(ipa)
+        self.need(entry.state == UNASSIGNED and entry.ripas == RAM, table_error(LAST_LEVEL))
+        self.tags[data] = DATA
+        table.set_entry(ipa, Entry(ASSIGNED, RAM, data))
+        realm.measure(DATA_CREATE, ipa, flags, *(digest if flags == 1 else [0] * 4))
+
+    def create_unknown_data(self, rd, data, ipa):
+        self.need(is_page(ipa))
+        realm = self.need_realm(rd)
+        self.need_tag(data, DELEGATED)
+        self.need(ipa < realm.half)
+        table = self.need_page_table(realm, ipa)
+        entry = table.entry(ipa)
+        self.need(entry.state == UNASSIGNED, table_error(LAST_LEVEL))
+        self.tags[data] = DATA
+        table.set_entry(ipa, Entry(ASSIGNED, entry.ripas, data))
+
+    def destroy_data(self, rd, ipa):
+        self.need(is_page(ipa))
+        realm = self.need_realm(rd)
+        self.need(ipa < realm.half)
+        table = self.need_page_table(realm, ipa)
+        entry = table.entry(ipa)
+        self.need(entry.state == ASSIGNED, table_error(LAST_LEVEL))
+        self.tags[entry.address] = DELEGATED
+        table.set_entry(ipa, UNUSED[DESTROYED if entry.ripas == RAM else entry.ripas])
+        return [entry.address]
+
+    # The host's pages.
+
+    def map_unprotected(self, rd, ipa, pa):
+        self.need(is_page(ipa))
+        self.need(is_page(pa) and pa < 1 << 48)
+        realm = self.need_realm(rd)
+        self.need(realm.half <= ipa < realm.full)
+        table = self.need_page_table(realm, ipa)
+        self.need(table.entry(ipa).state == UNASSIGNED_NS, table_error(LAST_LEVEL))
+        table.set_entry(ipa, Entry(ASSIGNED_NS, address=pa))
+
+    def unmap_unprotected(self, rd, ipa):
+        self.need(is_page(ipa))
+        realm = self.need_realm(rd)
+        self.need(realm.half <= ipa < realm.full)
+        table = self.need_page_table(realm, ipa)
+        self.need(table.entry(ipa).state == ASSIGNED_NS, table_error(LAST_LEVEL))
+        table.set_entry(ipa, FREE_NS)
+
+    # RIPAS.
+
+    def init_ripas(self, rd, base, top):
+        self.need(is_page(base) and is_page(top))
+        self.need(base < top)
+        realm = self.need_realm(rd)
+        self.need(top <= realm.half)
+        self.need(realm.state == NEW, REALM_ERROR)
+        table = walk(realm.root, base, LAST_LEVEL)
+        self.need(table.entry(base).state == UNASSIGNED and self.has_room(table, base, top), table_error(table.level))
+
+        def set_up_to(end):
+            self.set_ripas(table, base, end, RAM)
+            realm.measure(RTT_INIT_RIPAS, base, end)
+
+        return Stretch(self.tops(table, base, top, TABLE, ASSIGNED), set_up_to)
+
+    def set_requested_ripas(self, rd, address, base, top):
+        realm = self.need_realm(rd)
+        rec = self.need_rec(address)
+        request = rec.request
+        self.need(rec.rd == rd, REC_ERROR)
+        self.need(rec.cpu is None, REC_ERROR)
+        self.need(request is not None and base == request.base)
+        self.need(is_page(top) and base < top <= request.top)
+        table = walk(realm.root, base, LAST_LEVEL)
+        self.need(self.has_room(table, base, top), table_error(table.level))
+
+        def set_up_to(end):
+            self.set_ripas(table, base, end, request.ripas)
+            rec.request = request._replace(base=end)
+
+        return Stretch(self.tops(table, base, top, TABLE), set_up_to)
+
+    @staticmethod
+    def has_room(table, base, top):
+        size = entry_bytes(table.level)
+        return base % size == 0 and base + size <= top
+
+    @staticmethod
+    def tops(table, base, top, *barred):
+        """The ends that are allowed, the least first. The entry at base isn't barred, and there is room for it."""
+        size, count = entry_bytes(table.level), 0
+        for entry in table.entries[table.index(base):]:
+            if entry.state in barred or base + (count + 1) * size > top:
+                break
+            count += 1
+        return range(base + size, base + count * size + 1, size)
+
+    @staticmethod
+    def set_ripas(table, base, end, ripas):
+        first, last = table.index(base), table.index(end)
+        table.entries[first:last] = [entry._replace(ripas=ripas) for entry in table.entries[first:last]]
+
+    # Realm calls: of the REC that runs on the CPU, and of its realm.
+
+    def read_measurement(self, rec, index):
+        self.need(index <= 4)
+        realm = self.realms[rec.rd]
+        return struct.unpack("<4Q", realm.rems[index - 1] if index else realm.rim)
+
+    def extend_measurement(self, rec, index, size, *values):
+        self.need(1 <= index <= 4)
+        self.need(1 <= size <= 0x40)
+        rems = self.realms[rec.rd].rems
+        rems[index - 1] = hashlib.sha256(rems[index - 1] + struct.pack("<8Q", *values)[:size]).digest()
+
+    def config(self, rec):
+        realm = self.realms[rec.rd]
+        return [realm.width, realm.algo]
+
+    def request_ripas(self, rec, base, top, ripas):
+        self.need(is_page(base) and is_page(top))
+        self.need(base < top)
+        self.need(ripas <= 1)
+        self.need(top <= self.realms[rec.rd].half)
+        rec.request, rec.pending = Request(base, top, ripas), [4, base, top, ripas]
+
+    def read_ripas(self, rec, ipa):
+        realm = self.realms[rec.rd]
+        self.need(is_page(ipa))
+        self.need(ipa < realm.half)
+        return [walk(realm.root, ipa, LAST_LEVEL).entry(ipa).ripas]
+
+    def call_host(self, rec, imm):
+        self.need(imm < 0x10000)
+        rec.pending = [5, imm, 0, 0]
+
+    def turn_off(self, rec):
+        rec.runnable, rec.pending = False, [3, int(CPU_OFF, 16), 0, 0]
+
+    def turn_system_off(self, rec):
+        self.realms[rec.rd].state = OFF
+        rec.pending = [3, int(SYSTEM_OFF, 16), 0, 0]
+
+    def leave(self, rec):
+        words = rec.pending or [1, 0, 0, 0]
+        del self.running[rec.cpu]
+        rec.cpu = rec.pending = None
+        return words
+
+    FROM_HOST = {
+        GRANULE_DELEGATE: delegate,
+        GRANULE_UNDELEGATE: undelegate,
+        DATA_CREATE: create_data,
+        DATA_CREATE_UNKNOWN: create_unknown_data,
+        DATA_DESTROY: destroy_data,
         REALM_ACTIVATE: activate_realm,
         REALM_CREATE: create_realm,
         REALM_DESTROY: destroy_realm,
         REC_CREATE: create_rec,
         REC_DESTROY: destroy_rec,
+        RTT_CREATE: create_table,
+        RTT_DESTROY: destroy_table,
+        RTT_MAP_UNPROTECTED: map_unprotected,
+        RTT_READ_ENTRY: read_entry,
+        RTT_UNMAP_UNPROTECTED: unmap_unprotected,
+        RTT_INIT_RIPAS: init_ripas,
+        RTT_SET_RIPAS: set_requested_ripas,
+    }
+    FROM_INSIDE = {
+        MEASUREMENT_READ: read_measurement,
+        MEASUREMENT_EXTEND: extend_measurement,
+        REALM_CONFIG: config,
+        IPA_STATE_SET: request_ripas,
+        IPA_STATE_GET: read_ripas,
+        HOST_CALL: call_host,
+        CPU_OFF: turn_off,
+        SYSTEM_OFF: turn_system_off,
+        EXIT: leave,
     }

@@ -1,7 +1,7 @@
 //! Tests that cross crates: nothing but tests, over `checker` and over the whole program on a runtime of their own.
 //! Their expected lines come from outside, worked out by hand from the profile, never from the program's own output.
 //! They show that the clauses say what was meant, and that calls with enough memory succeed.
-//! `rows` and `realms` have histories with their verdicts, `limits` texts cut short or forged, `program` and `devices` what fails.
+//! `rows`, `realms`, `tables`, `refusals` and `tops` have histories and scripts with their verdicts, `limits` texts cut short or forged, `program` and `devices` what fails.
 //! Nothing depends on it.
 #![tactic(auto)]
 
@@ -14,6 +14,8 @@ mod program;
 #[cfg(test)]
 mod realms;
 #[cfg(test)]
+mod refusals;
+#[cfg(test)]
 mod round_trips;
 #[cfg(test)]
 mod rows;
@@ -23,3 +25,7 @@ mod runtime;
 mod script;
 #[cfg(test)]
 mod table;
+#[cfg(test)]
+mod tables;
+#[cfg(test)]
+mod tops;

@@ -5,7 +5,9 @@ use scenarios::run;
 use std::alloc::Global;
 use std::cell::RefCell;
 use std::io::ErrorKind;
+use std::sync::Wait;
 use std::test::Fail;
+use std::thread::Threads;
 
 const HISTORY: &[u8] = b"rmh1 4 1\nc 0 0 c4000151 1000\nr 0 0 ok\n";
 
@@ -42,8 +44,8 @@ fn runtime(alloc: Global, words: &'static str) -> TestRuntime {
 }
 
 // What the program ends with and prints, as `status|standard output|standard error`.
-fn outcome(runtime: TestRuntime) -> Result<String, Fail> {
-    let status = run(&runtime);
+fn outcome<T: Threads + Wait + Sync>(threads: &T, runtime: TestRuntime) -> Result<String, Fail> {
+    let status = run(&runtime, threads);
     let TestRuntime {
         alloc,
         printed,
@@ -73,9 +75,11 @@ fn words_of_the_program(rt: HostRuntime) -> Result<(), Fail> {
         "rmmcheck check h c --help",
         "rmmcheck check -h c",
         "rmmcheck check --fast h c",
+        "rmmcheck threads h",
+        "rmmcheck threads --help",
     ];
     for words in refused {
-        let line = outcome(runtime(rt.alloc(), words))?;
+        let line = outcome(&rt, runtime(rt.alloc(), words))?;
         assert!(rt;
             line.as_str() == "2||rmmcheck: arguments\n",
             "{line} for {words}"
@@ -89,7 +93,7 @@ fn words_of_the_program(rt: HostRuntime) -> Result<(), Fail> {
         ("rmmcheck check  c", "3||rmmcheck: cannot read \n"),
     ];
     for (words, expected) in taken {
-        let line = outcome(runtime(rt.alloc(), words))?;
+        let line = outcome(&rt, runtime(rt.alloc(), words))?;
         assert!(rt; line.as_str() == expected, "{line} for {words}");
     }
     Ok(())
@@ -112,7 +116,7 @@ fn first_fault_ends_the_program(rt: HostRuntime) -> Result<(), Fail> {
         runtime.history = history;
         runtime.certificate = certificate;
         runtime.is_full = true;
-        let line = outcome(runtime)?;
+        let line = outcome(&rt, runtime)?;
         let expected = format!(in rt.alloc(); "3||rmmcheck: {fault}\n")?;
         assert!(rt;
             line.as_str() == expected.as_str(),
@@ -134,7 +138,7 @@ fn refused_memory_is_reported(rt: HostRuntime) -> Result<(), Fail> {
         let mut runtime = runtime(rt.alloc(), "rmmcheck check h c");
         runtime.history = history;
         runtime.certificate = certificate;
-        let line = outcome(runtime)?;
+        let line = outcome(&rt, runtime)?;
         assert!(rt; line.as_str() == "3||rmmcheck: no memory\n", "{line}");
     }
     Ok(())
@@ -152,8 +156,21 @@ fn status_of_the_verdict(rt: HostRuntime) -> Result<(), Fail> {
         let mut runtime = runtime(rt.alloc(), "rmmcheck check h c");
         runtime.history = file(history, 100);
         runtime.certificate = file(certificate, 100);
-        let line = outcome(runtime)?;
+        let line = outcome(&rt, runtime)?;
         assert!(rt; line.as_str() == expected, "{line} in place of {expected}");
     }
+    Ok(())
+}
+
+#[test]
+fn fixed_run_of_two_threads(rt: HostRuntime) -> Result<(), Fail> {
+    let text = outcome(&rt, runtime(rt.alloc(), "rmmcheck threads"))?;
+    let text = text.as_str();
+    assert!(rt; text.starts_with("0|rmh1 4 2\nc "), "{text}");
+    assert!(rt; text.ends_with("\n\nyes 2\n|"), "{text}");
+    let mut runtime = runtime(rt.alloc(), "rmmcheck threads");
+    runtime.is_full = true;
+    let line = outcome(&rt, runtime)?;
+    assert!(rt; line.as_str() == "3||rmmcheck: cannot write\n", "{line}");
     Ok(())
 }

@@ -2,7 +2,7 @@
 //! `bench_measure words COUNT`.
 //! Each extension hashes 96 bytes: the 32 of the measurement, and 64 bytes or eight words.
 //! It prints the last measurement as four words, which its proofs say nothing of.
-//! It stands on `measure` alone, and nothing stands on it.
+//! It depends on `measure` alone, and nothing depends on it.
 #![tactic(auto)]
 
 use anyhow::{Context, Result, bail};

@@ -2,21 +2,19 @@
 //! The realm has 4001 tables: a root at level 0, and 400 branches of one table of level 1, one of level 2 and 8 of level 3.
 //! For the first address of each table of level 3 it tests once that a walk may start, and then walks ROUNDS times.
 //! It prints how many addresses it walked, and the sum of the granules that it reached; no proof speaks of either.
-//! It stands on `rtt_walk`, and nothing stands on it.
+//! It depends on `rtt_walk`, and nothing depends on it.
 #![tactic(auto)]
 
 ghost use Rattle.std.specs.Prelude.{◌+◌, ◌*◌, ◌<◌, ◌≤◌};
-ghost use Rattle.rmm_spec.specs.Table.{IsWalkable};
+ghost use Rattle.rmm_spec.specs.TableCells.{IsWalkable};
 ghost use Rattle.rtt_walk.specs.Plain.{cells_from};
 
 use anyhow::{Context, Result, bail};
-use granule_state::{Config, Ipa, Pa};
+use granule_state::{Config, GRANULE_BYTES, Ipa, Pa};
 use rtt_table::{Entry, Place, Ripas, Table};
 use rtt_walk::{PlainCells, is_walkable, walk};
 use std::alloc::{AllocError, Global};
 use std::env;
-
-const GRANULE_BYTES: u64 = 4096;
 
 const ROOT: u64 = 1;
 

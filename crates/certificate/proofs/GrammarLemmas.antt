@@ -4,15 +4,15 @@ use Rattle.std.specs.Prelude.{IsTrue, ◌↔◌, IfErr}
 use Rattle.std.proofs.lemmas.Bool.{cases_lt, false≢true}
 use Rattle.std.proofs.lemmas.List.{append-nil, length-map, map_push}
 use Rattle.std.proofs.lemmas.List.Splits.{join_with_byte-slice_split}
-use Rattle.certificate.specs.Faults.{BeginsWith, IsFaultOf}
+use Rattle.certificate.specs.Faults.{IsFaultOf}
 use Rattle.certificate.specs.declared.fault.CertFault.{CertFault}
 use Rattle.certificate.specs.declared.fault.CertFault.TheVariants.{BadLine, NoMemory}
 use Rattle.certificate.specs.Spelling.{IsLineOf, IsNoLine}
 use Rattle.rmm_spec.proofs.CertificateLines.{certificates_by_lines, line_parts-one_line, InCertificates-from_lines, not-IsBadLine-certificate}
-use Rattle.rmm_spec.proofs.Lines.{HasNoNewline, IsBadLine-line, IsBadLine-unfinished, IsBadLine-full, map_last, lines_text-push}
+use Rattle.rmm_spec.proofs.Lines.{IsBadLine-line, IsBadLine-unfinished, IsBadLine-full, map_last, lines_text-push}
+use Rattle.rmm_spec.specs.Text.{HasNoNewline, IsBadLine, line_text, lines_text, parts_of}
 use Rattle.rmm_spec.proofs.Texts.{AllByRecursion-append}
 use Rattle.rmm_spec.specs.CertificateText.{IsLine, IsCertificate, IsCertificateText, InCertificates, certificate_text, line_parts}
-use Rattle.rmm_spec.specs.Text.{IsBadLine, line_text, lines_text, parts_of}
 use Rattle.rmm_spec.specs.declared.line.Line.{Line}
 
 -- the number of the next line, counted from 1

@@ -1,13 +1,7 @@
 -- The parts of a line of a certificate.
-use Rattle.std.specs.Prelude.{◌≡◌, ℕ, List, codes}
-use Rattle.certificate.specs.declared.reader.Kind.{Kind}
-use Rattle.certificate.specs.declared.reader.Kind.TheVariants.{Keep, Unfinished}
+use Rattle.std.specs.Prelude.{◌≡◌, ℕ, List}
 use Rattle.rmm_spec.specs.CertificateText.{IsLine, line_parts}
 use Rattle.rmm_spec.specs.declared.line.Line.{Line}
-
-abbrev pub kind_part : Kind → List ℕ
-kind_part Keep = codes "k"
-kind_part Unfinished = codes "u"
 
 -- the parts are those of the line, which may stand in a certificate
 pub record IsLineOf (parts : List (List ℕ)) (line : Line) : Type 0 where

@@ -49,7 +49,7 @@ pub enum LineRef<'a> {
         cpu: u8,
         number: u32,
     },
-    /// An unfinished call that took effect all the same, with the reply that it would have given.
+    /// A pending call that took effect all the same, with the reply that it would have given.
     Unfinished {
         cpu: u8,
         number: u32,

@@ -7,7 +7,7 @@ use rmi_codec::reply_has_text;
 use rmm_spec::Line;
 
 /// How many CPUs a line can name.
-pub const CPUS: u32 = 8;
+pub const CPUS: u8 = 8;
 
 /// How many calls of a CPU a line can name.
 pub const CALLS: u32 = 1_000_000;
@@ -17,10 +17,10 @@ pub fn is_line(line: &Line) -> bool
     ensures { IsTrue result ↔ IsLine line.now }
 {
     match line {
-        Line::Keep { cpu, number } => u32::from(*cpu) < CPUS && *number < CALLS,
+        Line::Keep { cpu, number } => *cpu < CPUS && *number < CALLS,
         Line::Unfinished { cpu, number, reply } => {
             reply_has_text(reply);
-            u32::from(*cpu) < CPUS && *number < CALLS
+            *cpu < CPUS && *number < CALLS
         }
     }
 }

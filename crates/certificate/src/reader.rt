@@ -1,37 +1,17 @@
 //! Texts, read to certificates.
 
-ghost use Rattle.std.specs.Prelude.{◌≡◌, IfOk, IfErr, IfSome, IfNone};
+ghost use Rattle.std.specs.Prelude.{IfOk, IfErr, IfSome, IfNone};
 ghost use Rattle.certificate.specs.Faults.{IsFaultOf};
-ghost use Rattle.certificate.specs.Spelling.{IsLineOf, IsNoLine, kind_part};
+ghost use Rattle.certificate.specs.Spelling.{IsLineOf, IsNoLine};
 ghost use Rattle.rmm_spec.specs.CertificateText.{IsCertificateText};
 ghost use Rattle.rmm_spec.specs.Text.{parts_of};
-ghost use Rattle.certificate.specs.declared.reader.Kind.{Kind};
 
 use crate::certificate::Certificate;
 use crate::fault::CertFault;
 use crate::line::{CALLS, CPUS};
-use rmi_codec::{Parts, next_line, number_below, reply_from};
+use rmi_codec::{Head, Parts, head_from, next_line, reply_from};
 use rmm_spec::Line;
 use std::alloc::Global;
-
-// What a line begins with.
-#[derive(Clone, Copy)]
-enum Kind {
-    Keep,
-    Unfinished,
-}
-
-// The kind that a part names.
-fn kind_from(part: &[u8]) -> Option<Kind>
-    ensures found { IfSome result (λ kind. part.now ≡ kind_part kind) }
-    ensures only { (kind : Kind) → part.now ≡ kind_part kind → result ≡ Some kind }
-{
-    match part {
-        b"k" => Some(Kind::Keep),
-        b"u" => Some(Kind::Unfinished),
-        _ => None,
-    }
-}
 
 // The line that the bytes spell.
 fn line_from(bytes: &[u8]) -> Option<Line>
@@ -39,20 +19,28 @@ fn line_from(bytes: &[u8]) -> Option<Line>
     ensures none { IfNone result (IsNoLine (parts_of bytes.now)) }
 {
     let mut parts = Parts::of(bytes);
-    let kind = kind_from(parts.next_part()?)?;
-    let cpu = number_below(&mut parts, CPUS)? as u8;
-    let number = number_below(&mut parts, CALLS)?;
-    match kind {
-        Kind::Keep => match parts.next_part() {
+    let Some(
+        Head {
+            letter,
+            cpu,
+            number,
+        },
+    ) = head_from(&mut parts, CPUS, CALLS)
+    else {
+        return None;
+    };
+    match letter {
+        b'k' => match parts.next_part() {
             None => Some(Line::Keep { cpu, number }),
             Some(_) => None,
         },
-        Kind::Unfinished => {
+        b'u' => {
             let Ok(reply) = reply_from(parts) else {
                 return None;
             };
             Some(Line::Unfinished { cpu, number, reply })
         }
+        _ => None,
     }
 }
 

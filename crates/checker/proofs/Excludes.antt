@@ -5,7 +5,8 @@ use Rattle.rmm_spec.specs.declared.verdict.Reason.{Reason}
 use Rattle.rmm_spec.specs.declared.verdict.Reason.TheVariants as reason
 use Rattle.rmm_spec.specs.HistoryText.{History}
 use Rattle.rmm_spec.specs.State.{opening}
-use Rattle.rmm_spec.specs.Linearization.{FirstFault, IsLinearization}
+use Rattle.rmm_spec.specs.Linearization.{IsLinearization}
+use Rattle.rmm_spec.specs.FirstFault.{FirstFault}
 use Rattle.checker.proofs.Elements.{slice_get-take}
 use Rattle.checker.proofs.Calls.{HasOnePlaces}
 use Rattle.checker.proofs.Runs.{not-IsRefused}
@@ -25,7 +26,7 @@ not-IsLinearization history one reason.Order lines step fault valid =
     let earlier = slice_get-take fault.index lines late.0 late.1 late.2 in
     valid.real_time late.0 fault.index late.1 fault.line earlier.0 earlier.1 fault.is_line late.3
 not-IsLinearization history one reason.Reply lines step fault valid =
-    not-IsRefused history.events one lines valid.entries (opening history.setup) valid.last valid.run.claimed valid.run.run
+    not-IsRefused history.events one lines valid.entries (opening history.config) valid.last valid.run.claimed valid.run.run
     fault.index fault.line fault.before.entries fault.old fault.is_line fault.before.run.claimed fault.before.run.run fault.fails.4
 not-IsLinearization history one (reason.Missing cpu number) lines step fault valid =
     fault.missing.unnamed (valid.order.complete cpu number fault.missing.finished)

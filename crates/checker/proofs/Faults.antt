@@ -11,7 +11,8 @@ use Rattle.rmm_spec.specs.declared.verdict.Reason.TheVariants as reason
 use Rattle.rmm_spec.specs.HistoryText.{History, IsHistory}
 use Rattle.rmm_spec.specs.State.{State}
 use Rattle.rmm_spec.specs.Step.{Step}
-use Rattle.rmm_spec.specs.Linearization.{IsCalled, IsReturned, IsFinished, cpu_named, number_named, IsTooLate, IsReplyOf, IsRefused, FailsBy, IsFirstMissing, FirstFault, Passes, IsLinearization}
+use Rattle.rmm_spec.specs.Linearization.{IsCalled, IsReturned, IsFinished, cpu_named, number_named, IsTooLate, IsReplyOf, IsLinearization}
+use Rattle.rmm_spec.specs.FirstFault.{IsRefused, FailsBy, IsFirstMissing, FirstFault, Passes}
 use Rattle.std.proofs.lemmas.List.{take_all}
 use Rattle.rmm_spec.specs.Judgement.{Accepts}
 use Rattle.rmm_laws.proofs.Isolation.{isolated_throughout}
@@ -49,10 +50,10 @@ not-IsTooLate-from_latest history one lines named latest old line returned given
     let called = progress.no_later late.0 before.called late.1 before.command late.2 before.is_called in
     omega (arith, same, called, above, before.before)
 
--- a call that hasn't returned is before none
-pub not-IsTooLate-unfinished : (events : List Event) (lines : List Line) (line : Line) → ¬ IsFinished events (cpu_named line) (number_named line)
+-- a pending call is before none
+pub not-IsTooLate-pending : (events : List Event) (lines : List Line) (line : Line) → ¬ IsFinished events (cpu_named line) (number_named line)
     → ¬ IsTooLate events lines line
-not-IsTooLate-unfinished events lines line unfinished late = unfinished (late.3.returned, late.3.given, late.3.is_returned)
+not-IsTooLate-pending events lines line pending late = pending (late.3.returned, late.3.given, late.3.is_returned)
 
 -- what the machine doesn't give to the one commit that a line claims, it doesn't give to the line
 pub IsRefused-from_step : (events : List Event) → HasOnePlaces events → (old : State) (line : Line) (called : ℕ) (command : Command) (given : Reply)

@@ -11,14 +11,15 @@ use Rattle.rmm_spec.specs.declared.verdict.Reason.TheVariants as reason
 use Rattle.rmm_spec.specs.HistoryText.{History, IsHistory}
 use Rattle.rmm_spec.specs.State.{State}
 use Rattle.rmm_spec.specs.Step.{Step}
-use Rattle.rmm_spec.specs.Linearization.{IsCalled, IsReturned, IsFinished, cpu_named, number_named, IsOfItsKind, IsTooLate, IsReplyOf, FailsBy}
+use Rattle.rmm_spec.specs.Linearization.{IsCalled, IsReturned, IsFinished, cpu_named, number_named, IsOfItsKind, IsTooLate, IsReplyOf}
+use Rattle.rmm_spec.specs.FirstFault.{FailsBy}
 use Rattle.rmm_spec.proofs.Places.{one_call_place, one_return_place, finished_is_known}
 use Rattle.checker.specs.Progress.{Progress}
 use Rattle.checker.specs.Replay.{IsDue, IsReplayOf}
 use Rattle.checker.specs.declared.replay.Replay.{Replay}
 use Rattle.checker.proofs.Calls.{HasOnePlaces, told_at_call}
 use Rattle.checker.proofs.Progress.{Follows, Progress-push}
-use Rattle.checker.proofs.Faults.{IsRefused-from_step, not-IsTooLate-from_latest, not-IsTooLate-unfinished}
+use Rattle.checker.proofs.Faults.{IsRefused-from_step, not-IsTooLate-from_latest, not-IsTooLate-pending}
 
 -- a history has one place for each call and each return
 pub HasOnePlaces-from_history : (history : History) → IsHistory history → HasOnePlaces history.events
@@ -105,17 +106,17 @@ IsDue-kept replay history is_history cpu number called flag returned told is_cal
   is_given = (returned, is_returned);
 }
 
--- an unfinished line of an unfinished call
+-- an unfinished line, of a pending call
 pub IsDue-unfinished : (replay : Replay) (history : History) (cpu number called : ℕ) (flag : Bool) (claimed : Reply)
     → (command : Command) × IsCalled history.events called cpu number command → flag ≡ get_or replay.named.items called flag → flag ≡ false
     → ¬ IsFinished history.events cpu number
     → IsDue replay history (Unfinished cpu number claimed) cpu called claimed
-IsDue-unfinished replay history cpu number called flag claimed is_called is_read unset unfinished = record {
+IsDue-unfinished replay history cpu number called flag claimed is_called is_read unset pending = record {
   of_cpu = refl;
   is_called = is_called;
   unset = unset_flag replay.named.items called flag is_read unset;
-  kind = unfinished;
-  in_time = λ before progress. not-IsTooLate-unfinished history.events before (Unfinished cpu number claimed) unfinished;
+  kind = pending;
+  in_time = λ before progress. not-IsTooLate-pending history.events before (Unfinished cpu number claimed) pending;
   is_given = refl;
 }
 

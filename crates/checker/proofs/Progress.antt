@@ -13,7 +13,8 @@ use Rattle.rmm_spec.specs.HistoryText.{History}
 use Rattle.rmm_spec.specs.State.{State, opening}
 use Rattle.rmm_spec.specs.Step.{Step}
 use Rattle.rmm_spec.specs.Run.{JournalEntry}
-use Rattle.rmm_spec.specs.Linearization.{IsCalled, ReturnsBefore, cpu_named, number_named, NamesCall, IsOfItsKind, IsNamed, IsTooLate, NamesCalls, KeepsRealTime, IsReplyOf, IsEntryOf, Passes}
+use Rattle.rmm_spec.specs.Linearization.{IsCalled, ReturnsBefore, cpu_named, number_named, NamesCall, IsOfItsKind, IsNamed, IsTooLate, NamesCalls, KeepsRealTime, IsReplyOf, IsEntryOf}
+use Rattle.rmm_spec.specs.FirstFault.{Passes}
 use Rattle.checker.specs.Progress.{IsCallOf, Progress}
 use Rattle.checker.proofs.Elements.{slice_get-append_left, slice_get_push, slice_get_push_cases}
 use Rattle.checker.proofs.Calls.{HasOnePlaces}
@@ -34,7 +35,7 @@ pub record Follows (history : History) (before : List Line) (old : State) (line 
 -- ---- the lines so far
 
 -- no line
-pub Passes-nil : (history : History) → Passes history [] (opening history.setup)
+pub Passes-nil : (history : History) → Passes history [] (opening history.config)
 Passes-nil history = record {
   names = record {
     known = λ i line is. absurd (none-some line is);
@@ -47,7 +48,7 @@ Passes-nil history = record {
 }
 
 pub Progress-nil : (history : History) (named : List Bool) → length named ≡ length history.events
-    → ((place : ℕ) → get_or named place false ≡ false) → Progress history [] named 0 (opening history.setup)
+    → ((place : ℕ) → get_or named place false ≡ false) → Progress history [] named 0 (opening history.config)
 Progress-nil history named counted unset = record {
   passes = Passes-nil history;
   counted = counted;
@@ -113,7 +114,7 @@ Passes-push history lines old line called new passes follows =
       entries = passes.entries ++ entry ∷ [];
       run = record {
         claimed = AreEntriesOf-push history.events lines passes.entries line entry passes.run.claimed is_entry;
-        run = run-snoc passes.entries entry (opening history.setup) old new passes.run.run follows.step;
+        run = run-snoc passes.entries entry (opening history.config) old new passes.run.run follows.step;
       };
     }
 

@@ -10,7 +10,8 @@ use Rattle.rmm_spec.specs.State.{State}
 use Rattle.rmm_spec.specs.Step.{Step}
 use Rattle.rmm_spec.specs.Run.{JournalEntry, IsRun}
 use Rattle.rmm_laws.proofs.StepLaws.{step-decides}
-use Rattle.rmm_spec.specs.Linearization.{IsEntryOf, AreEntriesOf, IsRefused}
+use Rattle.rmm_spec.specs.Linearization.{IsEntryOf, AreEntriesOf}
+use Rattle.rmm_spec.specs.FirstFault.{IsRefused}
 use Rattle.checker.proofs.Calls.{HasOnePlaces, SameEntries, same_entry}
 
 -- one more line claims one more commit

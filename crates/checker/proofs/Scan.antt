@@ -6,7 +6,8 @@ use Rattle.rmm_spec.specs.declared.event.Event.{Event}
 use Rattle.rmm_spec.specs.declared.line.Line.{Line}
 use Rattle.rmm_spec.specs.HistoryText.{History}
 use Rattle.rmm_spec.specs.State.{State}
-use Rattle.rmm_spec.specs.Linearization.{IsCalled, IsFinished, IsNamed, IsFirstMissing}
+use Rattle.rmm_spec.specs.Linearization.{IsCalled, IsFinished, IsNamed}
+use Rattle.rmm_spec.specs.FirstFault.{IsFirstMissing}
 use Rattle.checker.specs.Progress.{Progress, AreNamedBelow, IsFinishedCallAt, HasNoFinishedCall}
 
 -- the call at the place isn't missing
@@ -30,9 +31,9 @@ AreNamedBelow-flagged history lines named latest state place progress below set 
     AreNamedBelow-more history.events lines place below (λ cpu number command is_called finished. progress.flagged place cpu number command is_called set)
 
 -- no call that returned is made at the place
-pub AreNamedBelow-unfinished : (events : List Event) (lines : List Line) (place : ℕ) → AreNamedBelow events lines place
+pub AreNamedBelow-pending : (events : List Event) (lines : List Line) (place : ℕ) → AreNamedBelow events lines place
     → HasNoFinishedCall events place → AreNamedBelow events lines (place + 1)
-AreNamedBelow-unfinished events lines place below none =
+AreNamedBelow-pending events lines place below none =
     AreNamedBelow-more events lines place below (λ cpu number command is_called finished.
     absurd (none cpu number (record { command = command; is_called = is_called; finished = finished })))
 

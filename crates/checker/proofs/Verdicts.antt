@@ -1,11 +1,13 @@
 -- A true verdict is Yes exactly where the order is a linearization.
-use Rattle.std.proofs.Common.{◌≡◌, ◌↔◌, ℕ, List, length, ap, subst}
+use Rattle.std.proofs.Common.{◌≡◌, ◌↔◌, ℕ, List, length, Result, Ok, Err, ap, subst}
+use Rattle.std.specs.Prelude.{OnErr}
 use Rattle.rmm_spec.specs.declared.line.Line.{Line}
 use Rattle.rmm_spec.specs.declared.verdict.Verdict.{Verdict}
 use Rattle.rmm_spec.specs.declared.verdict.Verdict.TheVariants as verdict
 use Rattle.rmm_spec.specs.HistoryText.{History, IsHistoryText}
 use Rattle.rmm_spec.specs.CertificateText.{IsCertificateText}
-use Rattle.rmm_spec.specs.Linearization.{FirstFault, IsLinearization}
+use Rattle.rmm_spec.specs.Linearization.{IsLinearization}
+use Rattle.rmm_spec.specs.FirstFault.{FirstFault}
 use Rattle.rmm_spec.specs.Judgement.{Accepts, JudgesOrder, Judges, JudgesTexts}
 use Rattle.rmm_spec.proofs.HistoryGrammar.{same_history, not-IsBadLine-history}
 use Rattle.rmm_spec.proofs.CertificateLines.{same_certificate, not-IsBadLine-certificate}
@@ -45,3 +47,8 @@ Judges-valid (verdict.Yes count) history_bytes certificate_bytes judged history 
 Judges-valid (verdict.No step why) history_bytes certificate_bytes judged history lines is_history is_certificate =
     let fault = order_of (verdict.No step why) history_bytes certificate_bytes history lines (λ h ls. FirstFault why h ls step) is_history is_certificate judged judged.order in
     (λ yes. absurd cc, λ valid. absurd (not-IsLinearization history (HasOnePlaces-from_history history is_history.is_history) why lines step fault valid))
+
+-- what holds anyhow holds where there is an error
+pub OnErr-always : {T E P : Type 0} (r : Result T E) → P → OnErr r P
+OnErr-always (Ok value) p = tt
+OnErr-always (Err error) p = p

@@ -5,7 +5,8 @@ use Rattle.rmm_spec.specs.declared.event.Event.{Event}
 use Rattle.rmm_spec.specs.declared.line.Line.{Line}
 use Rattle.rmm_spec.specs.HistoryText.{History}
 use Rattle.rmm_spec.specs.State.{State}
-use Rattle.rmm_spec.specs.Linearization.{IsCalled, IsFinished, IsNamed, cpu_named, number_named, Passes}
+use Rattle.rmm_spec.specs.Linearization.{IsCalled, IsFinished, IsNamed, cpu_named, number_named}
+use Rattle.rmm_spec.specs.FirstFault.{Passes}
 
 -- the call's place is that of a line's call
 abbrev pub IsCallOf : List Event → List Line → ℕ → Type 0

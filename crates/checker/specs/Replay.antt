@@ -6,7 +6,8 @@ use Rattle.rmm_spec.specs.declared.reply.Reply.{Reply}
 use Rattle.rmm_spec.specs.declared.verdict.Reason.{Reason}
 use Rattle.rmm_spec.specs.HistoryText.{History}
 use Rattle.rmm_spec.specs.Step.{Step}
-use Rattle.rmm_spec.specs.Linearization.{FailsBy, IsCalled, IsOfItsKind, IsReplyOf, IsTooLate, cpu_named, number_named}
+use Rattle.rmm_spec.specs.Linearization.{IsCalled, IsOfItsKind, IsReplyOf, IsTooLate, cpu_named, number_named}
+use Rattle.rmm_spec.specs.FirstFault.{FailsBy}
 use Rattle.spec_machine.specs.View.{state_of}
 use Rattle.checker.specs.Progress.{Progress}
 use Rattle.checker.specs.declared.replay.Replay.{Replay}

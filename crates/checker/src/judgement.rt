@@ -1,6 +1,7 @@
 //! The verdict on two texts.
 
-ghost use Rattle.std.specs.Prelude.{◌≡◌, ◌↔◌, List, length, IfOk};
+ghost use Rattle.std.specs.Prelude.{◌≡◌, ◌↔◌, List, length, IfOk, OnErr};
+ghost use Rattle.history.specs.Faults.{BeginsWith};
 ghost use Rattle.rmm_spec.specs.declared.line.Line.{Line};
 ghost use Rattle.rmm_spec.specs.declared.verdict.Verdict.TheVariants as verdict;
 ghost use Rattle.rmm_spec.specs.HistoryText.{History, IsHistoryText};
@@ -16,11 +17,13 @@ use std::alloc::{AllocError, Global};
 
 /// Judges a certificate's text against a history's: `Yes` exactly where the certificate is a linearization of the
 /// history (Herlihy and Wing 1990), with its count of lines, else the first fault. A fault of a text is its bad line.
+/// Memory is refused only behind a header: a text without one is at fault whatever memory there is.
 pub fn check(alloc: Global, history: &[u8], certificate: &[u8]) -> Result<Verdict, AllocError>
     ensures judged { IfOk result (λ v. Judges v history.now certificate.now) }
     ensures valid { IfOk result (λ v. (h : History) (lines : List Line)
         → IsHistoryText history.now h → IsCertificateText certificate.now lines
         → (v ≡ verdict.Yes (length lines)) ↔ IsLinearization h lines) }
+    ensures refused { OnErr result ((h : History) × BeginsWith history.now h) }
 {
     let history = match history::read(alloc, history) {
         Ok(history) => history,

@@ -10,7 +10,8 @@ ghost use Rattle.rmm_spec.specs.Function.{is_served};
 ghost use Rattle.rmm_spec.specs.HistoryText.{IsHistory};
 ghost use Rattle.rmm_spec.specs.State.{State};
 ghost use Rattle.rmm_spec.specs.Step.{Step};
-ghost use Rattle.rmm_spec.specs.Linearization.{IsCalled, IsFinished, IsFirstMissing, NamesCall, cpu_named, number_named};
+ghost use Rattle.rmm_spec.specs.Linearization.{IsCalled, IsFinished, NamesCall, cpu_named, number_named};
+ghost use Rattle.rmm_spec.specs.FirstFault.{IsFirstMissing};
 ghost use Rattle.checker.specs.Progress.{AreNamedBelow, IsFinishedCallAt, HasNoFinishedCall};
 
 use certificate::LineRef;

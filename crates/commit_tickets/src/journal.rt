@@ -1,17 +1,16 @@
 //! The journal.
 
-ghost use Rattle.std.specs.Prelude.{◌≡◌, [], ◌∷◌, ◌++◌, ◌<◌, ◌↔◌, length, slice_get, Some, IsTrue, IfOk, OnErr};
+ghost use Rattle.std.specs.Prelude.{◌≡◌, [], ◌∷◌, ◌++◌, ◌<◌, ◌↔◌, length, map, slice_get, Some, IsTrue, IfOk, OnErr};
 ghost use Rattle.rmm_spec.specs.Run.{IsRun};
-ghost use Rattle.rmm_spec.specs.State.{opening};
+ghost use Rattle.rmm_spec.specs.State.{State, opening};
 ghost use Rattle.rmm_spec.specs.Step.{Step};
 ghost use Rattle.spec_machine.specs.View.{state_of};
 ghost use Rattle.commit_tickets.specs.Entries.{IsGranuleCommand, entry_of};
 ghost use Rattle.commit_tickets.specs.View.{entry};
 
 use crate::copies::{copy_of_command, copy_of_reply};
-use arrayvec::ArrayVec;
 use granule_state::Config;
-use rmm_spec::{Command, Reply};
+use rmm_spec::{Accepted, Command, Reply};
 use spec_machine::Machine;
 use std::alloc::{AllocError, Global};
 use std::marker::Model;
@@ -43,7 +42,7 @@ impl Model for Journal {
     ghost use Rattle.spec_machine.specs.View.{state_of};
     ghost use Rattle.commit_tickets.specs.Entries.{entry_of};
 
-    ghost view = { λ j. record { setup = j.config; entries = map entry_of j.entries.items } };
+    ghost view = { λ j. record { config = j.config; entries = map entry_of j.entries.items } };
 
     ghost invariant = { λ j. IsRun (opening j.config) (map entry_of j.entries.items) (state_of j.books) };
 }
@@ -51,7 +50,7 @@ impl Model for Journal {
 impl Journal {
     /// No commit yet, on a machine in which every granule is the host's.
     pub(crate) fn opened(alloc: Global, config: Config) -> Result<Journal, AllocError>
-        ensures { IfOk result (λ journal. journal ≡ record { setup = config; entries = [] }) }
+        ensures { IfOk result (λ journal. journal ≡ record { config = config; entries = [] }) }
     {
         let books = Machine::new(alloc, config)?;
         Ok(Journal {
@@ -82,9 +81,17 @@ impl Journal {
         &self.entries[ticket]
     }
 
+    /// The commits in their order.
+    pub fn into_entries(self) -> Vec<Entry>
+        ensures { map entry_of result.items ≡ self.entries }
+    {
+        let Journal { entries, .. } = self;
+        entries
+    }
+
     /// The machine in the state to which the commits have led.
     pub fn books(&self) -> &Machine
-        ensures { IsRun (opening self.now.setup) self.now.entries (state_of result.now) }
+        ensures { IsRun (opening self.now.config) self.now.entries (state_of result.now) }
     {
         &self.books
     }
@@ -106,24 +113,28 @@ impl Journal {
     }
 }
 
-/// Finds the reply that the machine gives to a command on granules, and takes the step.
+/// Takes the machine's step for a command on granules, and returns the reply.
 fn decide(machine: &mut Machine, cpu: u8, command: &Command) -> Result<Reply, AllocError>
     requires { IsGranuleCommand command.now }
     ensures ok { IfOk result (λ reply. Step (state_of machine.old) cpu command.now reply (state_of machine.new)) }
     ensures err { OnErr result (state_of machine.new ≡ state_of machine.old) }
 {
-    let done = Reply::Ok(ArrayVec::new());
-    if machine.offer(cpu, command, &done)? {
-        return Ok(done);
+    let reply = reply_to(machine, cpu, command);
+    if !machine.offer(cpu, command, &reply)? {
+        unreachable!()
     }
-    let refused = Reply::Err(1, 0);
-    if machine.offer(cpu, command, &refused)? {
-        return Ok(refused);
+    Ok(reply)
+}
+
+/// The reply that the machine gives to a command on granules.
+fn reply_to(machine: &Machine, cpu: u8, command: &Command) -> Reply
+    requires { IsGranuleCommand command.now }
+    ensures { (next : State) × Step (state_of machine.now) cpu command.now result next }
+{
+    match machine.outcome(cpu, command) {
+        Some(Err(refusal)) => refusal,
+        Some(Ok(Accepted::Done { words, .. })) => Reply::Ok(words),
+        Some(Ok(Accepted::Reaches(_))) => unreachable!(),
+        None => unreachable!(),
     }
-    let misplaced = Reply::Misplaced;
-    if machine.offer(cpu, command, &misplaced)? {
-        return Ok(misplaced);
-    }
-    rmm_laws::a_reply_exists();
-    unreachable!()
 }

@@ -1,9 +1,9 @@
 //! The token of a CPU, and its commits.
 
-ghost use Rattle.std.specs.Prelude.{◌≡◌, ℕ, [], ◌∷◌, ◌++◌, ◌<◌, length, slice_get, Some, true, false, IfOk, OnErr};
+ghost use Rattle.std.specs.Prelude.{◌≡◌, [], ◌∷◌, ◌++◌, length, true, false, IfOk, OnErr};
 ghost use Rattle.rmm_spec.specs.Run.{JournalEntry};
 ghost use Rattle.commit_tickets.specs.Entries.{IsGranuleCommand, entry_of};
-ghost use Rattle.commit_tickets.specs.View.{entry, before_commits};
+ghost use Rattle.commit_tickets.specs.View.{entry, before_commits, first_tokens};
 
 use crate::copies::{copy_of_command, copy_of_reply};
 use crate::journal::Journal;
@@ -105,9 +105,8 @@ impl CpuToken {
 impl Journal {
     /// A journal without commits, on a machine in which every granule is the host's, and a token for each CPU.
     pub fn new(alloc: Global, config: Config) -> Result<(Journal, Vec<CpuToken>), AllocError>
-        ensures journal { IfOk result (λ made. made.0 ≡ record { setup = config; entries = [] }) }
-        ensures count { IfOk result (λ made. length made.1.items ≡ config.cpus) }
-        ensures tokens { IfOk result (λ made. (cpu : ℕ) → cpu < config.cpus → slice_get made.1.items cpu ≡ Some (before_commits cpu)) }
+        ensures journal { IfOk result (λ made. made.0 ≡ record { config = config; entries = [] }) }
+        ensures tokens { IfOk result (λ made. made.1.items ≡ first_tokens config.cpus) }
     {
         let journal = Journal::opened(alloc, config)?;
         let mut tokens = Vec::new(alloc);

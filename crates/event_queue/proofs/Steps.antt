@@ -10,8 +10,8 @@ use Rattle.crossbeam_queue.specs.Fifo.{Pushes, Pops, Forks, Merges, Learns}
 use Rattle.crossbeam_queue.proofs.Lists.{at_set}
 use Rattle.rmm_spec.specs.declared.event.Event.{Event}
 use Rattle.rmm_spec.specs.declared.event.Event.TheVariants.{Called, Returned}
-use Rattle.rmm_spec.specs.HistoryText.{IsEvent, IsRecord, cpu_of, events_of}
-use Rattle.rmm_spec.proofs.Records.{events_of-push_same, events_of-push_other, IsRecord-front, AllByRecursion-push}
+use Rattle.rmm_spec.specs.HistoryText.{IsEvent, IsRecord, cpu_of, subhistory_of}
+use Rattle.rmm_spec.proofs.Records.{subhistory_of-push_same, subhistory_of-push_other, IsRecord-front, AllByRecursion-push}
 use Rattle.event_queue.specs.declared.book.Holder.{Holder}
 use Rattle.event_queue.specs.declared.book.Holder.TheVariants.{Cpu, Scribe, Nobody}
 use Rattle.event_queue.specs.declared.book.Page.{Page}
@@ -22,13 +22,13 @@ use Rattle.event_queue.specs.Book.{Ledger, IsCpuPage, IsScribePage, IsPageOf, Is
 -- ---- records
 
 -- one event more keeps what is recorded of all CPUs
-are_records-push : (cpus : ℕ) (all : List Event) (event : Event) → AreRecords cpus all → IsEvent cpus event → IsRecord (events_of (cpu_of event) (all ++ event ∷ []))
+are_records-push : (cpus : ℕ) (all : List Event) (event : Event) → AreRecords cpus all → IsEvent cpus event → IsRecord (subhistory_of (cpu_of event) (all ++ event ∷ []))
     → AreRecords cpus (all ++ event ∷ [])
 are_records-push cpus all event old is_event goes_on = record {
   each = AllByRecursion-push (IsEvent cpus) all event old.each is_event;
   records = λ cpu. ⊎_elim
-      (λ (same : eqb (cpu_of event) cpu ≡ true). subst (λ c. IsRecord (events_of c (all ++ event ∷ []))) (eqb-true (cpu_of event) cpu same) goes_on)
-      (λ (other : eqb (cpu_of event) cpu ≡ false). subst IsRecord (sym (events_of-push_other cpu all event other)) (old.records cpu))
+      (λ (same : eqb (cpu_of event) cpu ≡ true). subst (λ c. IsRecord (subhistory_of c (all ++ event ∷ []))) (eqb-true (cpu_of event) cpu same) goes_on)
+      (λ (other : eqb (cpu_of event) cpu ≡ false). subst IsRecord (sym (subhistory_of-push_other cpu all event other)) (old.records cpu))
       (cases_Bool (eqb (cpu_of event) cpu));
 }
 
@@ -67,9 +67,9 @@ begins_more : (beginning events more : List Event) → IsPrefix beginning events
 begins_more beginning events more is = (is.0 ++ more, sym (append_assoc beginning is.0 more) ∙ ap (λ (es : List Event). es ++ more) is.1)
 
 -- a CPU's part of a beginning begins the CPU's part
-begins_part : (cpu : ℕ) (beginning events : List Event) → IsPrefix beginning events → IsPrefix (events_of cpu beginning) (events_of cpu events)
+begins_part : (cpu : ℕ) (beginning events : List Event) → IsPrefix beginning events → IsPrefix (subhistory_of cpu beginning) (subhistory_of cpu events)
 begins_part cpu beginning events is =
-    (events_of cpu is.0, sym (filter-append (λ e. eqb (cpu_of e) cpu) beginning is.0) ∙ ap (events_of cpu) is.1)
+    (subhistory_of cpu is.0, sym (filter-append (λ e. eqb (cpu_of e) cpu) beginning is.0) ∙ ap (subhistory_of cpu) is.1)
 
 -- ---- pages
 
@@ -139,7 +139,7 @@ page-recorded ledger all event place other page (Cpu cpu) mine apart is = record
   is_seated = is.is_seated;
   is_there = is.is_there;
   same_cpus = is.same_cpus;
-  own = is.own ∙ sym (events_of-push_other cpu all event
+  own = is.own ∙ sym (subhistory_of-push_other cpu all event
       (ne_eqb (cpu_of event) cpu (λ same. apart (sym is.is_there ∙ ap ledger.seat (sym same) ∙ mine))));
 }
 page-recorded ledger all event place other page Scribe mine apart is = is
@@ -154,8 +154,8 @@ records n place page event holder is_event goes_on queued pages room book at =
     let all : List Event = ledger.drained ++ queued in
     let mine = cpu_page_of ledger all place page (cpu_of event) holder (kept.each place page at) in
     let new : Page = record page { events = page.events ++ event ∷ [] } in
-    let own : page.events ++ event ∷ [] ≡ events_of (cpu_of event) (all ++ event ∷ []) =
-    ap (λ (es : List Event). es ++ event ∷ []) mine.own ∙ sym (events_of-push_same (cpu_of event) all event refl) in
+    let own : page.events ++ event ∷ [] ≡ subhistory_of (cpu_of event) (all ++ event ∷ []) =
+    ap (λ (es : List Event). es ++ event ∷ []) mine.own ∙ sym (subhistory_of-push_same (cpu_of event) all event refl) in
     let more : all ++ event ∷ [] ≡ ledger.drained ++ (queued ++ event ∷ []) = append_assoc ledger.drained queued (event ∷ []) in
     let is_new : IsCpuPage ledger (all ++ event ∷ []) (cpu_of event) place new =
     record { is_seated = mine.is_seated; is_there = mine.is_there; same_cpus = mine.same_cpus; own = own } in (
@@ -165,8 +165,8 @@ records n place page event holder is_event goes_on queued pages room book at =
         record {
           are_records = subst (AreRecords ledger.cpus) more (are_records-push ledger.cpus all event kept.are_records
               (subst (λ cpus. IsEvent cpus event) mine.same_cpus is_event) (subst IsRecord own goes_on));
-          unseated = λ cpu none. subst (λ (es : List Event). events_of cpu es ≡ []) more
-              (events_of-push_other cpu all event (ne_eqb (cpu_of event) cpu (λ same. let is_seated = mine.is_seated in absurd (omega arith))) ∙ kept.unseated cpu none);
+          unseated = λ cpu none. subst (λ (es : List Event). subhistory_of cpu es ≡ []) more
+              (subhistory_of-push_other cpu all event (ne_eqb (cpu_of event) cpu (λ same. let is_seated = mine.is_seated in absurd (omega arith))) ∙ kept.unseated cpu none);
           each = subst (λ (es : List Event). (other : ℕ) (p : Page) → get_elem? (set pages place new) other ≡ some p → IsPageOf p.holder ledger es other p) more
               (each_set (λ other p. IsPageOf p.holder ledger (all ++ event ∷ []) other p) pages place new
               (subst (λ h. IsPageOf h ledger (all ++ event ∷ []) place new) (sym holder) is_new)
@@ -213,15 +213,15 @@ drains place page holder event queued pages book at =
       all_drained = ap (λ (es : List Event). es ++ event ∷ []) mine.all_drained;
     } in
     let cpu = cpu_of event in
-    let beginning : IsRecord (events_of cpu drained) =
-    IsRecord-beginning (events_of cpu drained) (events_of cpu queued)
-    (subst IsRecord (ap (events_of cpu) same ∙ filter-append (λ e. eqb (cpu_of e) cpu) drained queued) (kept.are_records.records cpu)) in (
+    let beginning : IsRecord (subhistory_of cpu drained) =
+    IsRecord-beginning (subhistory_of cpu drained) (subhistory_of cpu queued)
+    (subst IsRecord (ap (subhistory_of cpu) same ∙ filter-append (λ e. eqb (cpu_of e) cpu) drained queued) (kept.are_records.records cpu)) in (
       new,
       (
         after,
         record {
           are_records = subst (AreRecords ledger.cpus) same kept.are_records;
-          unseated = λ other none. subst (λ (es : List Event). events_of other es ≡ []) same (kept.unseated other none);
+          unseated = λ other none. subst (λ (es : List Event). subhistory_of other es ≡ []) same (kept.unseated other none);
           each = subst (λ (es : List Event). (other : ℕ) (p : Page) → get_elem? (set pages place new) other ≡ some p → IsPageOf p.holder after es other p) same
               (each_set (λ other p. IsPageOf p.holder after all other p) pages place new
               (subst (λ h. IsPageOf h after all place new) (sym holder) is_new)
@@ -233,7 +233,7 @@ drains place page holder event queued pages book at =
       record {
         drained = refl;
         is_event = subst (λ cpus. IsEvent cpus event) (sym mine.same_cpus) (all-middle (IsEvent ledger.cpus) ledger.drained event queued kept.are_records.each);
-        record_goes_on = subst (λ (es : List Event). IsRecord (events_of cpu (es ++ event ∷ []))) (sym mine.all_drained) beginning;
+        record_goes_on = subst (λ (es : List Event). IsRecord (subhistory_of cpu (es ++ event ∷ []))) (sym mine.all_drained) beginning;
       },
     )
 
@@ -394,4 +394,4 @@ compares place page queued pages book at cpu holder =
     let ledger : Ledger = book.0 in
     let all : List Event = ledger.drained ++ queued in
     let mine = cpu_page_of ledger all place page cpu holder (book.1.each place page at) in
-    subst (IsPrefix (events_of cpu page.seen)) (sym mine.own) (begins_part cpu page.seen all (begins_more page.seen ledger.drained queued (book.1.seen place page at)))
+    subst (IsPrefix (subhistory_of cpu page.seen)) (sym mine.own) (begins_part cpu page.seen all (begins_more page.seen ledger.drained queued (book.1.seen place page at)))

@@ -4,7 +4,7 @@ use mathlib.Core.List.{IsPrefix}
 use mathlib.Core.Option.{some}
 use lib.ListN.{get_elem?}
 use Rattle.rmm_spec.specs.declared.event.Event.{Event}
-use Rattle.rmm_spec.specs.HistoryText.{events_of}
+use Rattle.rmm_spec.specs.HistoryText.{subhistory_of}
 use Rattle.event_queue.specs.declared.book.Holder.{Holder}
 use Rattle.event_queue.specs.declared.book.Holder.TheVariants.{Cpu, Scribe, Nobody}
 use Rattle.event_queue.specs.declared.book.Page.{Page}
@@ -24,7 +24,7 @@ pub record IsCpuPage (ledger : Ledger) (all : List Event) (cpu place : ℕ) (pag
   pub is_seated : cpu < ledger.seated
   pub is_there : ledger.seat cpu ≡ place
   pub same_cpus : page.cpus ≡ ledger.cpus
-  pub own : page.events ≡ events_of cpu all
+  pub own : page.events ≡ subhistory_of cpu all
 
 -- the scribe's one page has the events that were drained
 pub record IsScribePage (ledger : Ledger) (place : ℕ) (page : Page) : Type 0 where
@@ -42,7 +42,7 @@ IsPageOf Nobody ledger all place page = ⊤
 -- scribe has told is a beginning of what was drained.
 pub record IsKept (ledger : Ledger) (queued : List Event) (pages : List Page) : Type 0 where
   pub are_records : AreRecords ledger.cpus (ledger.drained ++ queued)
-  pub unseated : (cpu : ℕ) → ledger.seated ≤ cpu → events_of cpu (ledger.drained ++ queued) ≡ []
+  pub unseated : (cpu : ℕ) → ledger.seated ≤ cpu → subhistory_of cpu (ledger.drained ++ queued) ≡ []
   pub each : (place : ℕ) (page : Page) → get_elem? pages place ≡ some page → IsPageOf page.holder ledger (ledger.drained ++ queued) place page
   pub seen : (place : ℕ) (page : Page) → get_elem? pages place ≡ some page → IsPrefix page.seen ledger.drained
 

@@ -2,7 +2,7 @@
 use Rattle.std.specs.Prelude.{◌≡◌, ℕ, ◌<◌, Bool, List, [], ◌∷◌, ◌++◌, Some}
 use mathlib.Core.List.{IsPrefix}
 use Rattle.rmm_spec.specs.declared.event.Event.{Event}
-use Rattle.rmm_spec.specs.HistoryText.{IsEvent, IsRecord, cpu_of, events_of, start, stand_from}
+use Rattle.rmm_spec.specs.HistoryText.{IsEvent, IsRecord, cpu_of, subhistory_of, start, stand_from}
 use Rattle.event_queue.specs.declared.book.Holder.TheVariants.{Cpu, Scribe, Nobody}
 use Rattle.event_queue.specs.declared.book.Page.{Page}
 use Rattle.event_queue.specs.Records.{MayBeQueued}
@@ -28,7 +28,7 @@ note_of page = record nobody_page { seen = page.events }
 
 -- the CPU's part of what was drained begins its own list
 abbrev pub BeginsWithDrained : Page → List Event → Type 0
-BeginsWithDrained page queued = (cpu : ℕ) → page.holder ≡ Cpu cpu → IsPrefix (events_of cpu page.seen) page.events
+BeginsWithDrained page queued = (cpu : ℕ) → page.holder ≡ Cpu cpu → IsPrefix (subhistory_of cpu page.seen) page.events
 
 -- what a CPU knows of the events in the queue
 abbrev pub MayFindQueued : Page → List Event → Type 0
@@ -38,7 +38,7 @@ MayFindQueued page queued = (cpu : ℕ) → page.holder ≡ Cpu cpu → MayBeQue
 pub record IsDrained (page : Page) (event : Event) (new : Page) : Type 0 where
   pub drained : new ≡ record page { events = page.events ++ event ∷ [] }
   pub is_event : IsEvent page.cpus event
-  pub record_goes_on : IsRecord (events_of (cpu_of event) (page.events ++ event ∷ []))
+  pub record_goes_on : IsRecord (subhistory_of (cpu_of event) (page.events ++ event ∷ []))
 
 -- the page of a CPU whose events lead to where it stands
 pub record IsSeated (page : Page) (cpu next : ℕ) (is_open : Bool) : Type 0 where

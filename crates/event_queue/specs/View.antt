@@ -31,5 +31,5 @@ before_calls queue cpus cpu = record { queue = queue; cpus = cpus; cpu = cpu; ev
 -- the history is the one that the scribe drains this queue into
 pub record CanDrain (queue : TableId) (scribe : ScribeView) (history : History) : Type 0 where
   pub same_queue : scribe.queue ≡ queue
-  pub same_cpus : history.setup.cpus ≡ scribe.cpus
+  pub same_cpus : history.config.cpus ≡ scribe.cpus
   pub same_events : history.events ≡ scribe.events

@@ -4,7 +4,7 @@ ghost use Rattle.std.specs.Prelude.{◌≡◌, ◌+◌, ◌-◌, ◌<◌, ◌≤
 ghost use Rattle.crossbeam_queue.specs.Passes.{IsPassOf, ruled_capacity, view as page_of};
 ghost use Rattle.rmm_spec.specs.CommandText.{IsCommand};
 ghost use mathlib.Core.List.{IsPrefix};
-ghost use Rattle.rmm_spec.specs.HistoryText.{events_of, start, stand_from};
+ghost use Rattle.rmm_spec.specs.HistoryText.{subhistory_of, start, stand_from};
 ghost use Rattle.event_queue.specs.Pages.{cpu_page};
 ghost use Rattle.event_queue.specs.Records.{WasFull};
 ghost use Rattle.event_queue.specs.View.{before_calls};
@@ -164,7 +164,7 @@ impl CpuPass {
         requires queue { queue.now.table.shared.table_id ≡ self.old.queue }
         requires note { IsPassOf queue.now note }
         ensures same { self.new ≡ self.old }
-        ensures beginning { IsPrefix (events_of self.old.cpu (page_of note).seen) self.old.events }
+        ensures beginning { IsPrefix (subhistory_of self.old.cpu (page_of note).seen) self.old.events }
     {
         queue.absorb::<Hears>(&mut self.pass, note);
         queue.learn_as::<Hears>(&mut self.pass);

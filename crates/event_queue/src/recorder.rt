@@ -4,7 +4,7 @@ ghost use Rattle.std.specs.Prelude.{◌≡◌, ℕ, ◌+◌, ◌-◌, ◌<◌, �
 ghost use Rattle.rmm_spec.specs.declared.event.Event.{Event};
 ghost use Rattle.rmm_spec.specs.CommandText.{IsCommand};
 ghost use mathlib.Core.List.{IsPrefix};
-ghost use Rattle.rmm_spec.specs.HistoryText.{events_of};
+ghost use Rattle.rmm_spec.specs.HistoryText.{subhistory_of};
 ghost use Rattle.crossbeam_queue.specs.Passes.{IsPassOf, view as page_of};
 ghost use Rattle.event_queue.specs.Pages.{opening_page, scribe_page};
 ghost use Rattle.event_queue.specs.Records.{WasFull};
@@ -121,7 +121,7 @@ impl Recorder {
     pub fn drained_in_order(&self, scribe: &mut ScribePass, pass: &mut CpuPass)
         requires scribe { scribe.old.queue ≡ self.now.queue }
         requires pass { pass.old.queue ≡ self.now.queue }
-        ensures beginning { IsPrefix (events_of pass.old.cpu scribe.old.events) pass.old.events }
+        ensures beginning { IsPrefix (subhistory_of pass.old.cpu scribe.old.events) pass.old.events }
         ensures same { (scribe.new ≡ scribe.old) × (pass.new ≡ pass.old) }
     {
         let note = scribe.note(&self.queue);

@@ -2,7 +2,7 @@
 
 ghost use Rattle.std.specs.Prelude.{◌≡◌, [], ◌∷◌, ◌++◌, IfSome, MatchOption};
 ghost use Rattle.crossbeam_queue.specs.Passes.{IsPassOf, view as page_of};
-ghost use Rattle.rmm_spec.specs.HistoryText.{IsEvent, IsRecord, cpu_of, events_of};
+ghost use Rattle.rmm_spec.specs.HistoryText.{IsEvent, IsRecord, cpu_of, subhistory_of};
 
 use crate::book::{Drains, Holder, PagePass, Queue, Tells};
 use rmm_spec::Event;
@@ -48,7 +48,7 @@ impl ScribePass {
         requires { queue.now.table.shared.table_id ≡ self.old.queue }
         ensures taken { MatchOption result (self.new ≡ self.old) (λ event. self.new ≡ record self.old { events = self.old.events ++ event ∷ [] }) }
         ensures event { IfSome result (λ event. IsEvent self.old.cpus event) }
-        ensures record { IfSome result (λ event. IsRecord (events_of (cpu_of event) (self.old.events ++ event ∷ []))) }
+        ensures record { IfSome result (λ event. IsRecord (subhistory_of (cpu_of event) (self.old.events ++ event ∷ []))) }
     {
         queue.pop_as::<Drains, R>(rt, &mut self.pass)
     }

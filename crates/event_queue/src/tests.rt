@@ -16,7 +16,7 @@ use std::thread;
 use std::thread::Threads;
 
 fn empty(alloc: Global, granules: u64, cpus: u64) -> Result<History, Fail>
-    ensures { IfOk result (λ history. (history.recorded.setup.cpus ≡ cpus) × (history.recorded.events ≡ [])) }
+    ensures { IfOk result (λ history. (history.recorded.config.cpus ≡ cpus) × (history.recorded.events ≡ [])) }
 {
     let config = Config::new(granules, cpus).ok_or("no such machine")?;
     Ok(History::new(alloc, config))

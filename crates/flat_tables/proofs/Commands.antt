@@ -6,11 +6,12 @@ use Rattle.std.specs.Option.{option_and_then}
 use Rattle.rmm_spec.specs.declared.entry.Entry.{Entry}
 use Rattle.rmm_spec.specs.declared.entry.Entry.TheVariants.{Unassigned, UnassignedNs}
 use Rattle.rmm_spec.specs.declared.tag.Ripas.TheVariants.{Empty}
-use Rattle.rmm_spec.specs.State.{State, is_spot, with_root, with_table, without_table, without_realm, with_leaf}
+use Rattle.rmm_spec.specs.State.{State}
+use Rattle.rmm_spec.specs.Update.{is_same_entry, with_root, with_table, without_table, without_realm, with_leaf}
 use Rattle.flat_tables.specs.declared.kept_table.KeptTable.{KeptTable}
 use Rattle.flat_tables.specs.declared.tables.Tables.{Tables}
 use Rattle.flat_tables.specs.Flat.{kept_at, leaf_in, granule_of, table_of, leaf_of, with_maps, IsReplaced}
-use Rattle.flat_tables.proofs.Spots.{is_spot-parts, is_spot-above, is_spot-own, is_spot-realm, is_spot-level}
+use Rattle.flat_tables.proofs.Spots.{is_same_entry-parts, is_same_entry-above, is_same_entry-own, is_same_entry-realm, is_same_entry-level}
 use Rattle.flat_tables.proofs.Updates.{IsLeafPut}
 
 -- states are the same where their tables and leaves are
@@ -39,10 +40,10 @@ pub root_put : (s : State) (old new : Tables) (rd level root : ℕ) (kept : Kept
     → IsReplaced old new rd level 0 (Some kept) → with_maps s new ≡ with_root (with_maps s old) rd level root
 root_put s old new rd level root kept granule each put =
     same_maps s new _ _
-    (λ other l n. put.tables other l n ∙ ap (λ (g : ℕ). if is_spot rd level 0 other l n then Some g else table_of old other l n) granule)
+    (λ other l n. put.tables other l n ∙ ap (λ (g : ℕ). if is_same_entry rd level 0 other l n then Some g else table_of old other l n) granule)
     (λ other l n. put.leaves other l n
-    ∙ root-by n kept (leaf_of old other l n) (Unassigned Empty) UnassignedNs each (is_spot rd level 0 other l (n / 512))
-    (λ here. (is_spot-parts rd level 0 other l (n / 512) here).2))
+    ∙ root-by n kept (leaf_of old other l n) (Unassigned Empty) UnassignedNs each (is_same_entry rd level 0 other l (n / 512))
+    (λ here. (is_same_entry-parts rd level 0 other l (n / 512) here).2))
 
 -- ---- a table is put in or taken out
 
@@ -55,12 +56,12 @@ first-either true true x y z apart = both_ways refl (apart refl)
 
 -- the leaf of an entry in a table and of its entry above
 pub above-own : (rd level number other l n : ℕ) (own above kept : Option Entry) → 1 ≤ level
-    → (if is_spot rd (level - 1) number other l n then above else (if is_spot rd level number other l (n / 512) then own else kept))
-    ≡ (if is_spot rd level number other l (n / 512) then own else (if is_spot rd level number other (l + 1) n then above else kept))
+    → (if is_same_entry rd (level - 1) number other l n then above else (if is_same_entry rd level number other l (n / 512) then own else kept))
+    ≡ (if is_same_entry rd level number other l (n / 512) then own else (if is_same_entry rd level number other (l + 1) n then above else kept))
 above-own rd level number other l n own above kept below =
-    rw (is_spot-above rd level number other l n below)
-    (first-either (is_spot rd (level - 1) number other l n) (is_spot rd level number other l (n / 512)) above own kept
-    (λ here. is_spot-own rd level number other l n (n / 512) below here))
+    rw (is_same_entry-above rd level number other l n below)
+    (first-either (is_same_entry rd (level - 1) number other l n) (is_same_entry rd level number other l (n / 512)) above own kept
+    (λ here. is_same_entry-own rd level number other l n (n / 512) below here))
 
 -- either half's entries are the same
 same-halves : (b : Bool) (entry : Entry) → (if b then entry else entry) ≡ entry
@@ -74,13 +75,13 @@ pub table_put : (s : State) (old mid new : Tables) (rd level number granule : �
 table_put s old mid new rd level number granule entry kept below is_granule each put cleared =
     same_maps s new _ _
     (λ other l n. cleared.tables other l n ∙ put.tables other l n
-    ∙ ap (λ (g : ℕ). if is_spot rd level number other l n then Some g else table_of old other l n) is_granule)
+    ∙ ap (λ (g : ℕ). if is_same_entry rd level number other l n then Some g else table_of old other l n) is_granule)
     (λ other l n.
     let within : n % 512 < 512 = omega arith in
     let own : leaf_in (n % 512) kept ≡ Some entry = each (n % 512) within ∙ ap Some (same-halves (nat_lt (n % 512) 256) entry) in
     cleared.leaves other l n
-    ∙ ap (λ (leaf : Option Entry). if is_spot rd (level - 1) number other l n then None else leaf)
-    (put.leaves other l n ∙ ap (λ (leaf : Option Entry). if is_spot rd level number other l (n / 512) then leaf else leaf_of old other l n) own)
+    ∙ ap (λ (leaf : Option Entry). if is_same_entry rd (level - 1) number other l n then None else leaf)
+    (put.leaves other l n ∙ ap (λ (leaf : Option Entry). if is_same_entry rd level number other l (n / 512) then leaf else leaf_of old other l n) own)
     ∙ above-own rd level number other l n (Some entry) None (leaf_of old other l n) below)
 
 pub table_taken : (s : State) (old mid new : Tables) (rd level number : ℕ) (entry : Entry) → 1 ≤ level
@@ -91,7 +92,7 @@ table_taken s old mid new rd level number entry below taken filled =
     (λ other l n. filled.tables other l n ∙ taken.tables other l n)
     (λ other l n.
     filled.leaves other l n
-    ∙ ap (λ (leaf : Option Entry). if is_spot rd (level - 1) number other l n then Some entry else leaf) (taken.leaves other l n)
+    ∙ ap (λ (leaf : Option Entry). if is_same_entry rd (level - 1) number other l n then Some entry else leaf) (taken.leaves other l n)
     ∙ above-own rd level number other l n None (Some entry) (leaf_of old other l n) below)
 
 -- the table above one that is taken out stays
@@ -99,18 +100,18 @@ pub parent_stays : (old mid : Tables) (rd level number parent : ℕ) → 1 ≤ l
     → table_of mid rd (level - 1) parent ≡ table_of old rd (level - 1) parent
 parent_stays old mid rd level number parent below taken =
     taken.tables rd (level - 1) parent
-    ∙ rw (is_spot-level rd level number rd (level - 1) parent (λ same. omega arith)) refl
+    ∙ rw (is_same_entry-level rd level number rd (level - 1) parent (λ same. omega arith)) refl
 
 -- ---- a realm is taken out
 
 -- where nothing else of the realm is there, what is taken out is all of it
 gone-by : {A : Type 0} (rd level number other l n : ℕ) (found : Option A)
-    → (is_spot rd level number other l n ≡ false → other ≡ rd → found ≡ None)
-    → (hit mine : Bool) → is_spot rd level number other l n ≡ hit → (other == rd) ≡ mine
+    → (is_same_entry rd level number other l n ≡ false → other ≡ rd → found ≡ None)
+    → (hit mine : Bool) → is_same_entry rd level number other l n ≡ hit → (other == rd) ≡ mine
     → (if hit then None else found) ≡ (if mine then None else found)
 gone-by rd level number other l n found only true true here realm = refl
 gone-by rd level number other l n found only false false apart realm = refl
-gone-by rd level number other l n found only true false here realm = both_ways here (is_spot-realm rd level number other l n realm)
+gone-by rd level number other l n found only true false here realm = both_ways here (is_same_entry-realm rd level number other l n realm)
 gone-by rd level number other l n found only false true apart realm = only apart (eqb-true other rd realm)
 
 -- where no table is kept no leaf is
@@ -122,7 +123,7 @@ leaf_of-none : (tables : Tables) (rd level number : ℕ) → table_of tables rd 
 unfolding table_of leaf_of
 leaf_of-none tables rd level number absent = no-leaf (number % 512) (kept_at tables rd level (number / 512)) absent
 
-pub realm_taken : (s : State) (old new : Tables) (rd level : ℕ) → ((l n : ℕ) → is_spot rd level 0 rd l n ≡ false → table_of old rd l n ≡ None)
+pub realm_taken : (s : State) (old new : Tables) (rd level : ℕ) → ((l n : ℕ) → is_same_entry rd level 0 rd l n ≡ false → table_of old rd l n ≡ None)
     → IsReplaced old new rd level 0 None → with_maps (without_realm s rd) new ≡ without_realm (with_maps s old) rd
 realm_taken s old new rd level only taken =
     same_maps (without_realm s rd) new _ _

@@ -5,7 +5,8 @@ use Rattle.std.proofs.lemmas.Bool.Decides.{nat_tests}
 use Rattle.std.specs.Option.{option_and_then}
 use Rattle.rmm_spec.specs.declared.entry.Entry.{Entry}
 use Rattle.rmm_spec.specs.declared.entry.Entry.TheVariants.{Unassigned, Assigned, Table, UnassignedNs, AssignedNs}
-use Rattle.rmm_spec.specs.State.{State, any_below, all_below}
+use Rattle.rmm_spec.specs.State.{State}
+use Rattle.rmm_spec.specs.Lookup.{any_below, all_below}
 use Rattle.rmm_spec.specs.Walk.{is_table, is_live, linked_entry, entry_at, is_in_use, has_link}
 use Rattle.flat_tables.specs.declared.kept_table.KeptTable.{KeptTable}
 use Rattle.flat_tables.specs.declared.tables.Tables.{Tables}

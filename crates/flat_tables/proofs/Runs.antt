@@ -4,11 +4,12 @@ use Rattle.std.proofs.lemmas.Bool.Decides.{nat_tests}
 use Rattle.std.specs.Option.{option_and_then}
 use Rattle.rmm_spec.specs.declared.entry.Entry.{Entry}
 use Rattle.rmm_spec.specs.declared.tag.Ripas.{Ripas}
-use Rattle.rmm_spec.specs.State.{State, is_spot, entry_with_ripas, with_ripas}
+use Rattle.rmm_spec.specs.State.{State}
+use Rattle.rmm_spec.specs.Update.{is_same_entry, entry_with_ripas, with_ripas}
 use Rattle.flat_tables.specs.declared.kept_table.KeptTable.{KeptTable}
 use Rattle.flat_tables.specs.declared.tables.Tables.{Tables}
 use Rattle.flat_tables.specs.Flat.{kept_at, leaf_in, granule_of, table_of, leaf_of, with_maps}
-use Rattle.flat_tables.proofs.Spots.{is_spot-parts}
+use Rattle.flat_tables.proofs.Spots.{is_same_entry-parts}
 use Rattle.flat_tables.proofs.Commands.{same_maps}
 use Rattle.flat_tables.proofs.Updates.{IsPut, kept_at-put, table-leaf-by}
 
@@ -22,7 +23,7 @@ pub record IsRun (old new : List (Option Entry)) (from to : ℕ) (ripas : Ripas)
 -- an entry is in the run where its table is the run's and its place is between the places
 in-run : (rd level first last other l n : ℕ) → first ≤ last → last ≤ (first / 512 + 1) * 512
     → (other == rd && l == level && nat_le first n && nat_lt n last)
-    ≡ (is_spot rd level (first / 512) other l (n / 512) && (nat_le (first % 512) (n % 512) && nat_lt (n % 512) (first % 512 + (last - first))))
+    ≡ (is_same_entry rd level (first / 512) other l (n / 512) && (nat_le (first % 512) (n % 512) && nat_lt (n % 512) (first % 512 + (last - first))))
 in-run rd level first last other l n order one_table = grind (arith, nat_tests)
 
 -- the leaf of an entry, by whether its table is the run's
@@ -47,6 +48,6 @@ ripas_set s old new rd level first last ripas before after order one_table was s
     (λ other l n. ap (option_map granule_of) (kept_at-put old new rd level (first / 512) (Some after) put other l n)
     ∙ table-leaf-by old new rd level (first / 512) before after was same other l n _ refl)
     (λ other l n. ap (option_and_then (leaf_in (n % 512))) (kept_at-put old new rd level (first / 512) (Some after) put other l (n / 512))
-    ∙ run-leaf-by level first last n ripas before after (kept_at old other l (n / 512)) _ run (is_spot rd level (first / 512) other l (n / 512))
-    (λ here. let at = is_spot-parts rd level (first / 512) other l (n / 512) here in rw (at.0, at.1, at.2) was)
+    ∙ run-leaf-by level first last n ripas before after (kept_at old other l (n / 512)) _ run (is_same_entry rd level (first / 512) other l (n / 512))
+    (λ here. let at = is_same_entry-parts rd level (first / 512) other l (n / 512) here in rw (at.0, at.1, at.2) was)
     (in-run rd level first last other l n order one_table))

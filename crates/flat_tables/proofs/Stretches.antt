@@ -6,7 +6,8 @@ use Rattle.std.proofs.lemmas.Nat.{div_below, le-div}
 use Rattle.rmm_spec.proofs.WalkLaws.{table_size-entries}
 use Rattle.rmm_spec.specs.declared.accepted.Stretch.{Stretch}
 use Rattle.rmm_spec.specs.declared.entry.Entry.{Entry}
-use Rattle.rmm_spec.specs.State.{State, all_below}
+use Rattle.rmm_spec.specs.State.{State}
+use Rattle.rmm_spec.specs.Lookup.{all_below}
 use Rattle.rmm_spec.specs.Step.Ripas.{can_be_set, is_reached}
 use Rattle.rmm_spec.specs.Walk.{entry_size, table_size, entry_number, table_number, entry_at, is_multiple}
 use Rattle.flat_tables.specs.Flat.{is_end}

@@ -7,12 +7,13 @@ use Rattle.rmm_spec.proofs.Tests.{both_ways}
 use Rattle.std.specs.HashMap.{get}
 use Rattle.std.specs.Option.{option_and_then}
 use Rattle.rmm_spec.specs.declared.entry.Entry.{Entry}
-use Rattle.rmm_spec.specs.State.{State, is_spot}
+use Rattle.rmm_spec.specs.State.{State}
+use Rattle.rmm_spec.specs.Update.{is_same_entry}
 use Rattle.flat_tables.specs.declared.kept_table.KeptTable.{KeptTable}
 use Rattle.flat_tables.specs.declared.spot.Spot.{Spot}
 use Rattle.flat_tables.specs.declared.tables.Tables.{Tables}
 use Rattle.flat_tables.specs.Flat.{is_same_spot, spot, kept_at, leaf_in, granule_of, table_of, leaf_of, with_maps, IsReplaced}
-use Rattle.flat_tables.proofs.Spots.{is_same_spot-spot, is_spot-parts, is_spot-entry}
+use Rattle.flat_tables.proofs.Spots.{is_same_spot-spot, is_same_entry-parts, is_same_entry-entry}
 
 -- what is kept at one spot is replaced
 pub record IsPut (old new : Tables) (rd level number : ℕ) (kept : Option KeptTable) : Type 0 where
@@ -20,7 +21,7 @@ pub record IsPut (old new : Tables) (rd level number : ℕ) (kept : Option KeptT
 
 -- the kept table at a spot, by whether it is the one that was replaced
 pub kept_at-put : (old new : Tables) (rd level number : ℕ) (kept : Option KeptTable) → IsPut old new rd level number kept
-    → (other l n : ℕ) → kept_at new other l n ≡ (if is_spot rd level number other l n then kept else kept_at old other l n)
+    → (other l n : ℕ) → kept_at new other l n ≡ (if is_same_entry rd level number other l n then kept else kept_at old other l n)
 kept_at-put old new rd level number kept put other l n =
     let e = put.each (spot other l n) in
     rw (← is_same_spot-spot rd level number other l n) e
@@ -36,10 +37,10 @@ unfolding table_of leaf_of
 replaced old new rd level number kept put = record {
   tables = λ other l n.
       ap (option_map granule_of) (kept_at-put old new rd level number kept put other l n)
-      ∙ chosen-after (option_map granule_of) (is_spot rd level number other l n) kept (kept_at old other l n);
+      ∙ chosen-after (option_map granule_of) (is_same_entry rd level number other l n) kept (kept_at old other l n);
   leaves = λ other l n.
       ap (option_and_then (leaf_in (n % 512))) (kept_at-put old new rd level number kept put other l (n / 512))
-      ∙ chosen-after (option_and_then (leaf_in (n % 512))) (is_spot rd level number other l (n / 512)) kept (kept_at old other l (n / 512));
+      ∙ chosen-after (option_and_then (leaf_in (n % 512))) (is_same_entry rd level number other l (n / 512)) kept (kept_at old other l (n / 512));
 }
 
 -- where the same entries are kept the flat maps are the same
@@ -61,11 +62,11 @@ leaf_of-absent tables rd level number absent = rw absent refl
 -- the table that was replaced lies in the same granule
 pub table-leaf-by : (old new : Tables) (rd level number : ℕ) (before after : KeptTable)
     → kept_at old rd level number ≡ Some before → after.granule ≡ before.granule
-    → (other l n : ℕ) (b : Bool) → is_spot rd level number other l n ≡ b
+    → (other l n : ℕ) (b : Bool) → is_same_entry rd level number other l n ≡ b
     → option_map granule_of (if b then Some after else kept_at old other l n) ≡ option_map granule_of (kept_at old other l n)
 table-leaf-by old new rd level number before after was same other l n false apart = refl
 table-leaf-by old new rd level number before after was same other l n true here =
-    let at : (other ≡ rd) × (l ≡ level) × (n ≡ number) = is_spot-parts rd level number other l n here in
+    let at : (other ≡ rd) × (l ≡ level) × (n ≡ number) = is_same_entry-parts rd level number other l n here in
     rw (at.0, at.1, at.2, was) (ap Some same)
 
 -- one place of a list is written, by whether it is the one that is read
@@ -77,21 +78,21 @@ written-by xs i j leaf within false apart = get_or-set_other xs i j leaf None (�
 -- an entry's leaf, by whether it stands in the table that was replaced
 leaf-leaf-by : (rd level number : ℕ) (leaf : Option Entry) (before after : KeptTable) (found : Option KeptTable)
     → after.leaves.items ≡ slice_set before.leaves.items (number % 512) leaf
-    → (other l n : ℕ) (b : Bool) → is_spot rd level (number / 512) other l (n / 512) ≡ b
+    → (other l n : ℕ) (b : Bool) → is_same_entry rd level (number / 512) other l (n / 512) ≡ b
     → (b ≡ true → found ≡ Some before)
     → option_and_then (leaf_in (n % 512)) (if b then Some after else found)
-    ≡ (if is_spot rd level number other l n then leaf else option_and_then (leaf_in (n % 512)) found)
+    ≡ (if is_same_entry rd level number other l n then leaf else option_and_then (leaf_in (n % 512)) found)
 leaf-leaf-by rd level number leaf before after found written other l n false test was =
-    rw (is_spot-entry rd level number other l n, test) refl
+    rw (is_same_entry-entry rd level number other l n, test) refl
 leaf-leaf-by rd level number leaf before after found written other l n true test was =
     let place : number % 512 < length before.leaves.items = omega (arith, before.whole) in
-    rw (is_spot-entry rd level number other l n, test, was refl, written)
+    rw (is_same_entry-entry rd level number other l n, test, was refl, written)
     (written-by before.leaves.items (number % 512) (n % 512) leaf place (n % 512 == number % 512) refl)
 
 -- what the flat maps are where a leaf is put into a table that is there
 pub record IsLeafPut (old new : Tables) (rd level number : ℕ) (leaf : Option Entry) : Type 0 where
   pub tables : (other l n : ℕ) → table_of new other l n ≡ table_of old other l n
-  pub leaves : (other l n : ℕ) → leaf_of new other l n ≡ (if is_spot rd level number other l n then leaf else leaf_of old other l n)
+  pub leaves : (other l n : ℕ) → leaf_of new other l n ≡ (if is_same_entry rd level number other l n then leaf else leaf_of old other l n)
 
 pub leaf_put : (old new : Tables) (rd level number : ℕ) (leaf : Option Entry) (before after : KeptTable)
     → kept_at old rd level (number / 512) ≡ Some before → after.granule ≡ before.granule
@@ -105,7 +106,7 @@ leaf_put old new rd level number leaf before after was same written put = record
   leaves = λ other l n.
       ap (option_and_then (leaf_in (n % 512))) (kept_at-put old new rd level (number / 512) (Some after) put other l (n / 512))
       ∙ leaf-leaf-by rd level number leaf before after (kept_at old other l (n / 512)) written other l n _ refl
-      (λ here. let at = is_spot-parts rd level (number / 512) other l (n / 512) here in rw (at.0, at.1, at.2) was);
+      (λ here. let at = is_same_entry-parts rd level (number / 512) other l (n / 512) here in rw (at.0, at.1, at.2) was);
 }
 
 -- where the same is kept the flat maps are the same
@@ -119,10 +120,10 @@ leaf_of-kept old new other l n same = rw same refl
 
 -- nothing is changed where a leaf is taken out of a table that isn't there
 absent-by : (old : Tables) (rd level number other l n : ℕ) (leaf : Option Entry) → leaf ≡ None → leaf_of old rd level number ≡ None
-    → (b : Bool) → is_spot rd level number other l n ≡ b → leaf_of old other l n ≡ (if b then leaf else leaf_of old other l n)
+    → (b : Bool) → is_same_entry rd level number other l n ≡ b → leaf_of old other l n ≡ (if b then leaf else leaf_of old other l n)
 absent-by old rd level number other l n leaf none absent false apart = refl
 absent-by old rd level number other l n leaf none absent true here =
-    let at : (other ≡ rd) × (l ≡ level) × (n ≡ number) = is_spot-parts rd level number other l n here in
+    let at : (other ≡ rd) × (l ≡ level) × (n ≡ number) = is_same_entry-parts rd level number other l n here in
     rw (at.0, at.1, at.2, none) absent
 
 -- what is asked of a leaf that is put in, where its table isn't there

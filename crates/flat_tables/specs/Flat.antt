@@ -4,7 +4,8 @@ use Rattle.std.specs.HashMap.{get}
 use Rattle.std.specs.Option.{option_and_then}
 use Rattle.rmm_spec.specs.declared.accepted.Stretch.{Stretch}
 use Rattle.rmm_spec.specs.declared.entry.Entry.{Entry}
-use Rattle.rmm_spec.specs.State.{State, is_spot}
+use Rattle.rmm_spec.specs.State.{State}
+use Rattle.rmm_spec.specs.Update.{is_same_entry}
 use Rattle.rmm_spec.specs.Walk.{entry_size, table_size, table_number, is_multiple}
 use Rattle.flat_tables.specs.declared.kept_table.KeptTable.{KeptTable}
 use Rattle.flat_tables.specs.declared.spot.Spot.{Spot}
@@ -44,9 +45,9 @@ with_maps s tables = record s { table = table_of tables; leaf = leaf_of tables }
 
 -- The table at a spot is put in, replaced or taken out, with its leaves, and no other.
 pub record IsReplaced (old new : Tables) (rd level number : ℕ) (kept : Option KeptTable) : Type 0 where
-  pub tables : (other l n : ℕ) → table_of new other l n ≡ (if is_spot rd level number other l n then option_map granule_of kept else table_of old other l n)
+  pub tables : (other l n : ℕ) → table_of new other l n ≡ (if is_same_entry rd level number other l n then option_map granule_of kept else table_of old other l n)
   pub leaves : (other l n : ℕ) → leaf_of new other l n
-      ≡ (if is_spot rd level number other l (n / 512) then option_and_then (leaf_in (n % 512)) kept else leaf_of old other l n)
+      ≡ (if is_same_entry rd level number other l (n / 512) then option_and_then (leaf_in (n % 512)) kept else leaf_of old other l n)
 
 -- whether a stretch may end there, whatever its entries are
 unfoldable pub is_end : Stretch → ℕ → Bool

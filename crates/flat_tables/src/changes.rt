@@ -7,7 +7,8 @@ use std::alloc::AllocError;
 
 impl Tables {
     ghost use Rattle.std.specs.Prelude.{◌≡◌, ℕ, ◌-◌, ◌/◌, ◌≤◌, false, OnOk, OnErr, IsSome};
-    ghost use Rattle.rmm_spec.specs.State.{State, is_spot, with_root, with_table, without_table, without_realm, with_leaf};
+    ghost use Rattle.rmm_spec.specs.State.{State};
+    ghost use Rattle.rmm_spec.specs.Update.{is_same_entry, with_root, with_table, without_table, without_realm, with_leaf};
     ghost use Rattle.flat_tables.specs.Flat.{table_of, with_maps};
 
     /// Puts a new realm's root in, which lies in the granule `root`. Refused memory, it leaves all as it was.
@@ -54,7 +55,7 @@ impl Tables {
 
     /// Takes a realm's root out, which is at the level and is the realm's only table.
     pub fn take_realm(&mut self, rd: u64, level: u8)
-        requires { (l n : ℕ) → is_spot rd level 0 rd l n ≡ false → table_of self.old rd l n ≡ None }
+        requires { (l n : ℕ) → is_same_entry rd level 0 rd l n ≡ false → table_of self.old rd l n ≡ None }
         ensures { (s : State) → with_maps (without_realm s rd) self.new ≡ without_realm (with_maps s self.old) rd }
     {
         self.take(rd, level, 0);

@@ -1,7 +1,7 @@
 //! One table: the granule that it lies in, and its leaves.
 
 ghost use Rattle.std.specs.Prelude.{◌≡◌, length, option_map};
-ghost use Rattle.rmm_spec.specs.State.{entry_with_ripas};
+ghost use Rattle.rmm_spec.specs.Update.{entry_with_ripas};
 
 use rmm_spec::{Entry, Ripas};
 use std::alloc::{AllocError, Global};
@@ -19,7 +19,7 @@ pub struct KeptTable {
 
 impl KeptTable {
     ghost use Rattle.std.specs.Prelude.{◌≡◌, ℕ, ◌<◌, ◌≤◌, ◌&&◌, nat_lt, nat_le, if◌then◌else◌, IfOk, option_map, Some, slice_set};
-    ghost use Rattle.rmm_spec.specs.State.{entry_with_ripas};
+    ghost use Rattle.rmm_spec.specs.Update.{entry_with_ripas};
     ghost use Rattle.flat_tables.specs.Flat.{leaf_in};
 
     /// A table of which each entry of the lower half is one leaf, and each of the upper half another.

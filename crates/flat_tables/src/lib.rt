@@ -7,11 +7,16 @@
 
 mod changes;
 mod entries;
+mod entry_reads;
 mod kept_table;
 mod searches;
 mod spot;
 mod tables;
 mod walks;
 
-pub use entries::{entry_number, table_number};
+pub use entries::{entry_number, entry_size, is_table, table_number};
+pub use entry_reads::{
+    entry_address, entry_ripas, entry_state, is_assigned, is_assigned_ns, is_unassigned,
+    is_unassigned_ns, is_unassigned_ram, ripas_number,
+};
 pub use tables::Tables;

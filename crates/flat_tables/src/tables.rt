@@ -18,7 +18,8 @@ pub struct Tables {
 impl Tables {
     ghost use Rattle.std.specs.Prelude.{◌≡◌, ℕ, ◌+◌, ◌*◌, ◌/◌, ◌≤◌, IfOk, OnOk, OnErr, IsSome, if◌then◌else◌};
     ghost use Rattle.std.specs.Option.{option_copied};
-    ghost use Rattle.rmm_spec.specs.State.{State, is_spot, with_ripas};
+    ghost use Rattle.rmm_spec.specs.State.{State};
+    ghost use Rattle.rmm_spec.specs.Update.{is_same_entry, with_ripas};
     ghost use Rattle.flat_tables.specs.Flat.{kept_at, table_of, leaf_of, with_maps, IsReplaced};
 
     /// No tables.
@@ -87,7 +88,7 @@ impl Tables {
         requires { IsSome leaf → IsSome (table_of self.old rd level (number / 512)) }
         ensures tables { (other l n : ℕ) → table_of self.new other l n ≡ table_of self.old other l n }
         ensures leaves { (other l n : ℕ) → leaf_of self.new other l n
-            ≡ (if is_spot rd level number other l n then leaf else leaf_of self.old other l n) }
+            ≡ (if is_same_entry rd level number other l n then leaf else leaf_of self.old other l n) }
     {
         let table = Spot {
             rd,

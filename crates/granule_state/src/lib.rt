@@ -2,7 +2,7 @@
 //! It promises that a configuration is within its limits and that a granule's address is one of the machine's.
 //! Addresses are in bytes, and a granule has 4096 of them (DEN0137, granule).
 //! Nothing here allocates or waits.
-//! The machine, histories and the core of the monitor stand on it.
+//! The machine, histories and the core of the monitor depend on it.
 #![tactic(auto)]
 
 mod config;

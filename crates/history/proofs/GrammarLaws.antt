@@ -1,19 +1,17 @@
 -- How a reader of a history, with its lines so far, comes to the history of a text or to its bad line.
-use Rattle.std.proofs.Common.{◌≡◌, ◌≢◌, ℕ, ◌+◌, ◌<◌, ◌≤◌, List, [], ◌∷◌, ◌++◌, map, length, take, refl, sym, ap, ◌∙◌, subst, arith, ⊎_elim, append_assoc, Bool, false, ◌==◌, Some, Result, Err}
-use Rattle.std.specs.Prelude.{IsTrue, ◌↔◌, IfErr, slice_get}
+use Rattle.std.proofs.Common.{◌≡◌, ◌≢◌, ℕ, ◌+◌, ◌<◌, ◌≤◌, List, [], ◌∷◌, ◌++◌, map, length, refl, sym, ap, ◌∙◌, subst, arith, ⊎_elim, append_assoc, Bool, false, ◌==◌, Result, Err}
+use Rattle.std.specs.Prelude.{IsTrue, ◌↔◌, IfErr}
 use Rattle.std.specs.List.{AllByRecursion}
 use Rattle.std.proofs.lemmas.Bool.{cases_lt, false≢true}
-use Rattle.std.proofs.lemmas.List.{append-nil, length-map, map_push, length_push, take_more}
-use Rattle.std.proofs.lemmas.Option.{slice_get_within, get_or_from_slice_get}
+use Rattle.std.proofs.lemmas.List.{append-nil, length-map, map_push, length_push}
 use Rattle.std.proofs.lemmas.List.Sums.{length-filter, count_by-le-length}
 use Rattle.std.proofs.lemmas.List.Splits.{join_with_byte-slice_split}
 use Rattle.rmm_spec.specs.declared.event.Event.{Event}
 use Rattle.rmm_spec.specs.declared.event.Event.TheVariants.{Called, Returned}
-use Rattle.rmm_spec.specs.Text.{IsBadLine, line_text, lines_text, parts_of}
-use Rattle.rmm_spec.specs.HistoryText.{Setup, History, IsHistory, InHistories, IsHistoryText, CanFollow, cpu_of, setup_parts, event_parts, history_text}
-use Rattle.rmm_spec.proofs.Lines.{HasNoNewline, AreOneLineEach, IsLineGrammar, IsBadLine-line, IsBadLine-unfinished, IsBadLine-full, IsOneLine-from_parts, AreOneLineEach-map, map_cut, lines_text-push, IsBadLine-end}
-use Rattle.rmm_spec.proofs.Texts.{setup_parts-are_parts, setup_parts-injective, event_parts-are_parts, event_parts-some, event_parts-injective}
-use Rattle.history.specs.Index.{rank}
+use Rattle.rmm_spec.specs.Text.{IsBadLine, line_text, lines_text, parts_of, HasNoNewline}
+use Rattle.rmm_spec.specs.HistoryText.{Config, History, IsHistory, InHistories, IsHistoryText, CanFollow, cpu_of, config_parts, event_parts, history_text, rank}
+use Rattle.rmm_spec.proofs.Lines.{AreOneLineEach, IsLineGrammar, IsBadLine-line, IsBadLine-unfinished, IsBadLine-full, IsOneLine-from_parts, AreOneLineEach-map, map_cut, lines_text-push, IsBadLine-end}
+use Rattle.rmm_spec.proofs.Texts.{config_parts-are_parts, config_parts-injective, event_parts-are_parts, event_parts-some, event_parts-injective}
 use Rattle.rmm_spec.proofs.Records.{CanFollow-from_push, IsHistory-push}
 use Rattle.rmm_spec.proofs.HistoryGrammar.{not-IsBadLine-history}
 use Rattle.history.specs.Faults.{BeginsWith, IsFaultOf, IsFaultAfter, IsFaultOfRewriting}
@@ -25,7 +23,7 @@ use Rattle.history.proofs.SubhistoryLaws.{next_rank, cpu_below}
 
 -- the lines of a history, each as its parts
 abbrev pub history_lines : History → List (List (List ℕ))
-history_lines history = setup_parts history.setup ∷ map event_parts history.events
+history_lines history = config_parts history.config ∷ map event_parts history.events
 
 -- the lines are those of a history
 pub record AreHistoryLines (lines : List (List (List ℕ))) : Type 0 where
@@ -35,7 +33,7 @@ pub record AreHistoryLines (lines : List (List (List ℕ))) : Type 0 where
 
 pub history_lines-one_line : (history : History) → AreOneLineEach (history_lines history)
 history_lines-one_line history = (
-  IsOneLine-from_parts (setup_parts history.setup) (omega arith) (setup_parts-are_parts history.setup),
+  IsOneLine-from_parts (config_parts history.config) (omega arith) (config_parts-are_parts history.config),
   AreOneLineEach-map event_parts event_parts-some event_parts-are_parts history.events,
 )
 
@@ -64,32 +62,32 @@ pub bad_header : (text front more : List ℕ) → text ≡ front ++ 10 ∷ more 
 bad_header text front more is_text none no_header =
     IsBadLine-line histories_by_lines [] text front more tt is_text none (λ none_before. absurd (omega (arith, none_before)))
     (λ taken.
-    let same : parts_of front ∷ [] ≡ setup_parts taken.history.setup ∷ map event_parts taken.history.events = taken.spelled in
-    let spelled : parts_of front ≡ setup_parts taken.history.setup = cc in
-    no_header taken.history.setup (record { is_setup = taken.is_history.setup; spelled = spelled }))
+    let same : parts_of front ∷ [] ≡ config_parts taken.history.config ∷ map event_parts taken.history.events = taken.spelled in
+    let spelled : parts_of front ≡ config_parts taken.history.config = cc in
+    no_header taken.history.config (record { is_config = taken.is_history.config; spelled = spelled }))
 
 -- the text of a history without events, and what is left
-pub history_text-header : (setup : Setup) (text front more : List ℕ) → text ≡ front ++ 10 ∷ more → IsHeaderOf (parts_of front) setup
-    → text ≡ history_text (record { setup = setup; events = [] }) ++ more
-history_text-header setup text front more is_text is_header =
-    let spelled : line_text (setup_parts setup) ≡ front = ap line_text (sym is_header.spelled) ∙ join_with_byte-slice_split 32 front in
-    is_text ∙ ap (λ b. b ++ 10 ∷ more) (sym spelled) ∙ sym (append_assoc (line_text (setup_parts setup)) (10 ∷ []) more)
+pub history_text-header : (config : Config) (text front more : List ℕ) → text ≡ front ++ 10 ∷ more → IsHeaderOf (parts_of front) config
+    → text ≡ history_text (record { config = config; events = [] }) ++ more
+history_text-header config text front more is_text is_header =
+    let spelled : line_text (config_parts config) ≡ front = ap line_text (sym is_header.spelled) ∙ join_with_byte-slice_split 32 front in
+    is_text ∙ ap (λ b. b ++ 10 ∷ more) (sym spelled) ∙ sym (append_assoc (line_text (config_parts config)) (10 ∷ []) more)
 
 -- ---- the events
 
 pub HasNext-lines : (history : History) (line : List (List ℕ)) → IsHistory history → AreHistoryLines (history_lines history ++ line ∷ []) → HasNext history line
 HasNext-lines history line is_history taken =
     let other = taken.history in
-    let same : setup_parts history.setup ∷ (map event_parts history.events ++ line ∷ []) ≡ setup_parts other.setup ∷ map event_parts other.events = taken.spelled in
-    let setups : history.setup ≡ other.setup = setup_parts-injective history.setup other.setup (let e : setup_parts history.setup ≡ setup_parts other.setup = cc in e) in
+    let same : config_parts history.config ∷ (map event_parts history.events ++ line ∷ []) ≡ config_parts other.config ∷ map event_parts other.events = taken.spelled in
+    let configs : history.config ≡ other.config = config_parts-injective history.config other.config (let e : config_parts history.config ≡ config_parts other.config = cc in e) in
     let events : map event_parts other.events ≡ map event_parts history.events ++ line ∷ [] = cc in
     let cut = map_cut event_parts (λ _. Unit {0}) (λ x y _ _ e. event_parts-injective x y e) history.events other.events line
     (all_trivial history.events) (all_trivial other.events) events in
-    let whole : IsHistory (record { setup = history.setup; events = history.events ++ cut.0 ∷ [] }) =
-    subst IsHistory (same_history other.setup history.setup other.events (history.events ++ cut.0 ∷ []) (sym setups) cut.1.1) taken.is_history in
+    let whole : IsHistory (record { config = history.config; events = history.events ++ cut.0 ∷ [] }) =
+    subst IsHistory (same_history other.config history.config other.events (history.events ++ cut.0 ∷ []) (sym configs) cut.1.1) taken.is_history in
     record {
       event = cut.0;
-      can_follow = CanFollow-from_push history.setup history.events cut.0 whole;
+      can_follow = CanFollow-from_push history.config history.events cut.0 whole;
       room = (let few = whole.lines in omega (arith, few, length_push history.events cut.0));
       spelled = cut.1.0.1;
     }
@@ -98,11 +96,11 @@ HasNext-lines history line is_history taken =
     all_trivial [] = tt
     all_trivial (x ∷ xs) = (tt, all_trivial xs)
 
-    same_history : (s t : Setup) (es fs : List Event) → s ≡ t → es ≡ fs → ◌≡◌ {A = History} (record { setup = s; events = es }) (record { setup = t; events = fs })
-    same_history s t es fs e f = ap (λ (x : Setup). history_at x es) e ∙ ap (λ (x : List Event). history_at t x) f
+    same_history : (s t : Config) (es fs : List Event) → s ≡ t → es ≡ fs → ◌≡◌ {A = History} (record { config = s; events = es }) (record { config = t; events = fs })
+    same_history s t es fs e f = ap (λ (x : Config). history_at x es) e ∙ ap (λ (x : List Event). history_at t x) f
       where
-        history_at : Setup → List Event → History
-        history_at x y = record { setup = x; events = y }
+        history_at : Config → List Event → History
+        history_at x y = record { config = x; events = y }
 
 -- the number of the next line, counted from 1
 counted : (history : History) (text : List ℕ) → IsBadLine InHistories text (length (history_lines history) + 1) → IsBadLine InHistories text (length history.events + 2)
@@ -164,21 +162,21 @@ call_number-lt history event can_follow room =
     call_number-rank (Returned c n given) = omega arith
 
 -- no event has the parts
-pub no_event : (history : History) (line : List (List ℕ)) → IsNoEvent history.setup.cpus line → HasNext history line → ⊥
+pub no_event : (history : History) (line : List (List ℕ)) → IsNoEvent history.config.cpus line → HasNext history line → ⊥
 no_event history line none next =
     none next.event (call_number-lt history next.event next.can_follow next.room)
     (record { is_event = next.can_follow.is_event; spelled = sym next.spelled })
 
 -- the event that has the parts doesn't go on
-pub no_continuation : (history : History) (line : List (List ℕ)) (event : Event) → IsEventOf history.setup.cpus line event → (Continues history event → ⊥)
+pub no_continuation : (history : History) (line : List (List ℕ)) (event : Event) → IsEventOf history.config.cpus line event → (Continues history event → ⊥)
     → HasNext history line → ⊥
 no_continuation history line event is_event stops next =
     let same : next.event ≡ event = event_parts-injective next.event event (next.spelled ∙ is_event.spelled) in
     let can_follow : CanFollow history event = subst (CanFollow history) same next.can_follow in
-    stops (cpu_below history.setup.cpus event is_event.is_event, can_follow.record_goes_on)
+    stops (cpu_below history.config.cpus event is_event.is_event, can_follow.record_goes_on)
 
 -- the event that has the parts may be next where its CPU's record goes on
-pub HasNext-continues : (history : History) (line : List (List ℕ)) (event : Event) → IsEventOf history.setup.cpus line event → length history.events + 1 < 1000000
+pub HasNext-continues : (history : History) (line : List (List ℕ)) (event : Event) → IsEventOf history.config.cpus line event → length history.events + 1 < 1000000
     → Continues history event → HasNext history line
 HasNext-continues history line event is_event room goes_on = record {
   event = event;
@@ -188,7 +186,7 @@ HasNext-continues history line event is_event room goes_on = record {
 }
 
 -- the text with the next event, and what is left
-pub history_text-push : (history : History) (event : Event) (rest front more : List ℕ) → rest ≡ front ++ 10 ∷ more → IsEventOf history.setup.cpus (parts_of front) event
+pub history_text-push : (history : History) (event : Event) (rest front more : List ℕ) → rest ≡ front ++ 10 ∷ more → IsEventOf history.config.cpus (parts_of front) event
     → history_text history ++ rest ≡ history_text (record history { events = history.events ++ event ∷ [] }) ++ more
 history_text-push history event rest front more rest_is is_event =
     let spelled : line_text (event_parts event) ≡ front = ap line_text (sym is_event.spelled) ∙ join_with_byte-slice_split 32 front in
@@ -196,7 +194,7 @@ history_text-push history event rest front more rest_is is_event =
     ap (λ r. history_text history ++ r) rest_is ∙ ap (λ b. history_text history ++ (b ++ 10 ∷ more)) (sym spelled)
     ∙ ap (λ r. history_text history ++ r) (sym (append_assoc (line_text (event_parts event)) (10 ∷ []) more))
     ∙ sym (append_assoc (history_text history) (line_text (event_parts event) ++ 10 ∷ []) more)
-    ∙ ap (λ t. t ++ more) (sym (ap (λ (ls : List (List (List ℕ))). lines_text (setup_parts history.setup ∷ ls)) (map_push event_parts history.events event)
+    ∙ ap (λ t. t ++ more) (sym (ap (λ (ls : List (List (List ℕ))). lines_text (config_parts history.config ∷ ls)) (map_push event_parts history.events event)
     ∙ lines_text-push lines (event_parts event)))
 
 -- the next line is an event's that may follow

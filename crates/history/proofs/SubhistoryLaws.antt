@@ -9,13 +9,13 @@ use Rattle.rmm_spec.specs.declared.event.Event.{Event}
 use Rattle.rmm_spec.specs.declared.event.Event.TheVariants.{Called, Returned}
 use Rattle.rmm_spec.specs.declared.reply.Reply.{Reply}
 use Rattle.rmm_spec.specs.CommandText.{IsCommand}
-use Rattle.rmm_spec.specs.HistoryText.{Setup, IsSetup, IsHistory, IsEvent, CanFollow, Stand, start, stand_after, stand_from, events_of, cpu_of, IsRecord}
+use Rattle.rmm_spec.specs.HistoryText.{Config, IsConfig, IsHistory, IsEvent, CanFollow, Stand, start, stand_after, stand_from, subhistory_of, cpu_of, IsRecord, rank}
 use Rattle.rmm_spec.specs.Linearization.{IsCalled, IsReturned, IsKnown, IsFinished}
 use Rattle.rmm_spec.proofs.Places.{open_count, stand_of_record, rank-slice_get, length-stand_from, below-IsKnown, below-IsFinished, call_is_event}
-use Rattle.rmm_spec.proofs.Records.{events_of-push_same, events_of-push_other, stand_from-push_at, IsHistory-push}
+use Rattle.rmm_spec.proofs.Records.{subhistory_of-push_same, subhistory_of-push_other, stand_from-push_at, IsHistory-push}
 use Rattle.history.specs.declared.subhistory.Subhistory.{Subhistory}
 use Rattle.history.specs.Calls.{ArePlacesOf}
-use Rattle.history.specs.Index.{rank, HasRank, IsSubhistory, IsIndexed}
+use Rattle.history.specs.Index.{HasRank, IsSubhistory, IsIndexed}
 
 -- what stands at a place stays there
 pub slice_get-append : {X : Type 0} (xs ys : List X) (place : ℕ) (x : X) → slice_get xs place ≡ Some x → slice_get (xs ++ ys) place ≡ Some x
@@ -44,23 +44,23 @@ can_step next true (Returned cpu number given) ranked =
 can_step next false (Returned cpu number given) ranked = absurd (let e : number + number + 1 + 0 ≡ next + next = ranked in omega (arith, e))
 
 -- an event whose rank is the count of its CPU's events is next
-pub goes_on : (events : List Event) (event : Event) → IsRecord (events_of (cpu_of event) events) → rank event ≡ length (events_of (cpu_of event) events)
-    → IsRecord (events_of (cpu_of event) (events ++ event ∷ []))
+pub goes_on : (events : List Event) (event : Event) → IsRecord (subhistory_of (cpu_of event) events) → rank event ≡ length (subhistory_of (cpu_of event) events)
+    → IsRecord (subhistory_of (cpu_of event) (events ++ event ∷ []))
 goes_on events event is_record ranked =
-    let last = stand_of_record (events_of (cpu_of event) events) is_record in
-    let counted : length (events_of (cpu_of event) events) + (0 + 0) + open_count last.0.is_open ≡ last.0.next + last.0.next + 0 =
-    length-stand_from start (events_of (cpu_of event) events) last.0 last.1 in
-    let leads : stand_from start (events_of (cpu_of event) (events ++ event ∷ [])) ≡ stand_after last.0 event =
-    ap (λ (es : List Event). stand_from start es) (events_of-push_same (cpu_of event) events event refl)
-    ∙ stand_from-push_at (events_of (cpu_of event) events) event last.0 last.1 in
+    let last = stand_of_record (subhistory_of (cpu_of event) events) is_record in
+    let counted : length (subhistory_of (cpu_of event) events) + (0 + 0) + open_count last.0.is_open ≡ last.0.next + last.0.next + 0 =
+    length-stand_from start (subhistory_of (cpu_of event) events) last.0 last.1 in
+    let leads : stand_from start (subhistory_of (cpu_of event) (events ++ event ∷ [])) ≡ stand_after last.0 event =
+    ap (λ (es : List Event). stand_from start es) (subhistory_of-push_same (cpu_of event) events event refl)
+    ∙ stand_from-push_at (subhistory_of (cpu_of event) events) event last.0 last.1 in
     ap (λ (o : Option Stand). is_some o) leads ∙ can_step last.0.next last.0.is_open event (omega (arith, ranked, counted))
 
 -- and no other is
-pub next_rank : (events : List Event) (event : Event) → IsRecord (events_of (cpu_of event) (events ++ event ∷ []))
-    → rank event ≡ length (events_of (cpu_of event) events)
+pub next_rank : (events : List Event) (event : Event) → IsRecord (subhistory_of (cpu_of event) (events ++ event ∷ []))
+    → rank event ≡ length (subhistory_of (cpu_of event) events)
 next_rank events event is_record =
     rank-slice_get (cpu_of event) (events ++ event ∷ []) (length events) event is_record (slice_get-push events event) refl
-    ∙ ap (λ (es : List Event). length (events_of (cpu_of event) es)) (take_at events (event ∷ []) (length events) refl)
+    ∙ ap (λ (es : List Event). length (subhistory_of (cpu_of event) es)) (take_at events (event ∷ []) (length events) refl)
 
 -- ---- a subhistory
 
@@ -101,7 +101,7 @@ IsSubhistory-same events cpu old new same had = record {
 -- an event of another CPU
 IsSubhistory-other : (events : List Event) (event : Event) (cpu : ℕ) (subhistory : Subhistory) → eqb (cpu_of event) cpu ≡ false → IsSubhistory events cpu subhistory → IsSubhistory (events ++ event ∷ []) cpu subhistory
 IsSubhistory-other events event cpu subhistory other had = record {
-  counted = had.counted ∙ ap length (sym (events_of-push_other cpu events event other));
+  counted = had.counted ∙ ap length (sym (subhistory_of-push_other cpu events event other));
   each = λ n within. HasRank-push events event cpu n (get_or subhistory.places.items n 0) (had.each n within);
 }
 
@@ -110,7 +110,7 @@ IsSubhistory-enters : (events : List Event) (event : Event) (cpu : ℕ) (old new
     → new.places.items ≡ old.places.items ++ length events ∷ [] → IsSubhistory events cpu old → IsSubhistory (events ++ event ∷ []) cpu new
 IsSubhistory-enters events event cpu old new same ranked entered had = record {
   counted = ap length entered ∙ length_push old.places.items (length events) ∙ ap (λ n. n + 1) had.counted
-      ∙ sym (ap length (events_of-push_same cpu events event same) ∙ length_push (events_of cpu events) event);
+      ∙ sym (ap length (subhistory_of-push_same cpu events event same) ∙ length_push (subhistory_of cpu events) event);
   each = same_places (HasRank (events ++ event ∷ []) cpu) (old.places.items ++ length events ∷ []) new.places.items entered
       (old_places (HasRank (events ++ event ∷ []) cpu) old.places.items (length events)
       (λ n within. HasRank-push events event cpu n (get_or old.places.items n 0) (had.each n within))
@@ -126,8 +126,8 @@ IsSubhistory-nil cpu subhistory none = record {
 
 -- the subhistory's test says whether the record goes on
 pub continues_iff : (cpus : ℕ) (events : List Event) (event : Event) (subhistory : Subhistory) (answer : Bool) → cpu_of event < cpus
-    → IsRecord (events_of (cpu_of event) events) → IsSubhistory events (cpu_of event) subhistory → IsTrue answer ↔ (rank event ≡ length subhistory.places.items)
-    → IsTrue answer ↔ ((cpu_of event < cpus) × IsRecord (events_of (cpu_of event) (events ++ event ∷ [])))
+    → IsRecord (subhistory_of (cpu_of event) events) → IsSubhistory events (cpu_of event) subhistory → IsTrue answer ↔ (rank event ≡ length subhistory.places.items)
+    → IsTrue answer ↔ ((cpu_of event < cpus) × IsRecord (subhistory_of (cpu_of event) (events ++ event ∷ [])))
 continues_iff cpus events event subhistory answer below is_record had says = (
   λ taken. (below, goes_on events event is_record (says.0 taken ∙ had.counted)),
   λ both. says.1 (next_rank events event both.1 ∙ sym had.counted),
@@ -141,37 +141,37 @@ cpu_below cpus (Called cpu number command) is_event = is_event.0
 cpu_below cpus (Returned cpu number given) is_event = is_event.0
 
 -- the CPU of an event that can follow has a subhistory
-pub has_subhistory : (setup : Setup) (events : List Event) (subhistories : List Subhistory) (event : Event) → IsIndexed setup events subhistories
-    → CanFollow (record { setup = setup; events = events }) event → cpu_of event < 8
-has_subhistory setup events subhistories event indexed can_follow =
+pub has_subhistory : (config : Config) (events : List Event) (subhistories : List Subhistory) (event : Event) → IsIndexed config events subhistories
+    → CanFollow (record { config = config; events = events }) event → cpu_of event < 8
+has_subhistory config events subhistories event indexed can_follow =
     let history = indexed.is_history in
-    let limits = history.setup in
-    omega (arith, cpu_below setup.cpus event can_follow.is_event, limits.most_cpus)
+    let limits = history.config in
+    omega (arith, cpu_below config.cpus event can_follow.is_event, limits.most_cpus)
 
 -- the index of no events
-pub IsIndexed-nil : (setup : Setup) (subhistories : List Subhistory) → IsSetup setup → length subhistories ≡ 8
-    → ((cpu : ℕ) (other : Subhistory) → cpu < 8 → (get_or subhistories cpu other).places.items ≡ []) → IsIndexed setup [] subhistories
-IsIndexed-nil setup subhistories is_setup counted each = record {
-  is_history = record { setup = is_setup; events = tt; records = λ cpu. refl; lines = omega arith };
+pub IsIndexed-nil : (config : Config) (subhistories : List Subhistory) → IsConfig config → length subhistories ≡ 8
+    → ((cpu : ℕ) (other : Subhistory) → cpu < 8 → (get_or subhistories cpu other).places.items ≡ []) → IsIndexed config [] subhistories
+IsIndexed-nil config subhistories is_config counted each = record {
+  is_history = record { config = is_config; events = tt; records = λ cpu. refl; lines = omega arith };
   counted = counted;
   each = λ cpu other within. IsSubhistory-nil cpu (get_or subhistories cpu other) (each cpu other within);
 }
 
 -- the index with subhistories that have the same places
-pub IsIndexed-same : (setup : Setup) (events : List Event) (old new : List Subhistory) → length new ≡ 8
+pub IsIndexed-same : (config : Config) (events : List Event) (old new : List Subhistory) → length new ≡ 8
     → ((cpu : ℕ) (other : Subhistory) → cpu < 8 → (get_or new cpu other).places.items ≡ (get_or old cpu other).places.items)
-    → IsIndexed setup events old → IsIndexed setup events new
-IsIndexed-same setup events old new counted same indexed = record {
+    → IsIndexed config events old → IsIndexed config events new
+IsIndexed-same config events old new counted same indexed = record {
   is_history = indexed.is_history;
   counted = counted;
   each = λ cpu other within. IsSubhistory-same events cpu (get_or old cpu other) (get_or new cpu other) (same cpu other within) (indexed.each cpu other within);
 }
 
 -- the index with another subhistory for a CPU
-IsIndexed-set : (setup : Setup) (events more : List Event) (subhistories : List Subhistory) (at : ℕ) (new : Subhistory) → IsHistory (record { setup = setup; events = more })
+IsIndexed-set : (config : Config) (events more : List Event) (subhistories : List Subhistory) (at : ℕ) (new : Subhistory) → IsHistory (record { config = config; events = more })
     → length subhistories ≡ 8 → at < 8 → IsSubhistory more at new
-    → ((cpu : ℕ) (other : Subhistory) → cpu < 8 → (cpu ≡ at → ⊥) → IsSubhistory more cpu (get_or subhistories cpu other)) → IsIndexed setup more (set subhistories at new)
-IsIndexed-set setup events more subhistories at new is_history counted within_subhistories subhistory others = record {
+    → ((cpu : ℕ) (other : Subhistory) → cpu < 8 → (cpu ≡ at → ⊥) → IsSubhistory more cpu (get_or subhistories cpu other)) → IsIndexed config more (set subhistories at new)
+IsIndexed-set config events more subhistories at new is_history counted within_subhistories subhistory others = record {
   is_history = is_history;
   counted = length-set subhistories at new ∙ counted;
   each = λ cpu other within. ⊎_elim
@@ -184,23 +184,23 @@ IsIndexed-set setup events more subhistories at new is_history counted within_su
 }
 
 -- the index where the subhistory's growth was refused
-pub IsIndexed-refused : (setup : Setup) (events : List Event) (subhistories : List Subhistory) (at : ℕ) (other new : Subhistory) → IsIndexed setup events subhistories → at < 8
-    → new.places.items ≡ (get_or subhistories at other).places.items → IsIndexed setup events (set subhistories at new)
-IsIndexed-refused setup events subhistories at other new indexed within same =
-    IsIndexed-set setup events events subhistories at new indexed.is_history indexed.counted within
+pub IsIndexed-refused : (config : Config) (events : List Event) (subhistories : List Subhistory) (at : ℕ) (other new : Subhistory) → IsIndexed config events subhistories → at < 8
+    → new.places.items ≡ (get_or subhistories at other).places.items → IsIndexed config events (set subhistories at new)
+IsIndexed-refused config events subhistories at other new indexed within same =
+    IsIndexed-set config events events subhistories at new indexed.is_history indexed.counted within
     (IsSubhistory-same events at (get_or subhistories at other) new same (indexed.each at other within))
     (λ cpu another below elsewhere. indexed.each cpu another below)
 
 -- the index where the event was recorded
-pub IsIndexed-push : (setup : Setup) (events : List Event) (subhistories : List Subhistory) (event : Event) (other new : Subhistory) → IsIndexed setup events subhistories
-    → CanFollow (record { setup = setup; events = events }) event → length events + 1 < 1000000
+pub IsIndexed-push : (config : Config) (events : List Event) (subhistories : List Subhistory) (event : Event) (other new : Subhistory) → IsIndexed config events subhistories
+    → CanFollow (record { config = config; events = events }) event → length events + 1 < 1000000
     → new.places.items ≡ (get_or subhistories (cpu_of event) other).places.items ++ length events ∷ []
-    → IsIndexed setup (events ++ event ∷ []) (set subhistories (cpu_of event) new)
-IsIndexed-push setup events subhistories event other new indexed can_follow room entered =
-    let within = has_subhistory setup events subhistories event indexed can_follow in
+    → IsIndexed config (events ++ event ∷ []) (set subhistories (cpu_of event) new)
+IsIndexed-push config events subhistories event other new indexed can_follow room entered =
+    let within = has_subhistory config events subhistories event indexed can_follow in
     let had = indexed.each (cpu_of event) other within in
-    IsIndexed-set setup events (events ++ event ∷ []) subhistories (cpu_of event) new
-    (IsHistory-push (record { setup = setup; events = events }) event indexed.is_history can_follow room) indexed.counted within
+    IsIndexed-set config events (events ++ event ∷ []) subhistories (cpu_of event) new
+    (IsHistory-push (record { config = config; events = events }) event indexed.is_history can_follow room) indexed.counted within
     (IsSubhistory-enters events event (cpu_of event) (get_or subhistories (cpu_of event) other) new refl
     (next_rank events event can_follow.record_goes_on ∙ sym had.counted) entered had)
     (λ cpu another below elsewhere.
@@ -212,21 +212,21 @@ IsIndexed-push setup events subhistories event other new indexed can_follow room
 -- ---- look-ups
 
 -- no call of a CPU that isn't there is known
-pub unknown_cpu : (setup : Setup) (events : List Event) (cpu : ℕ) → IsHistory (record { setup = setup; events = events }) → setup.cpus ≤ cpu
+pub unknown_cpu : (config : Config) (events : List Event) (cpu : ℕ) → IsHistory (record { config = config; events = events }) → config.cpus ≤ cpu
     → (number : ℕ) → IsKnown events cpu number → ⊥
-unknown_cpu setup events cpu is_history past number known =
-    let made : (cpu < setup.cpus) × IsCommand known.1 =
-    call_is_event (record { setup = setup; events = events }) known.0 cpu number known.1 is_history known.2 in
+unknown_cpu config events cpu is_history past number known =
+    let made : (cpu < config.cpus) × IsCommand known.1 =
+    call_is_event (record { config = config; events = events }) known.0 cpu number known.1 is_history known.2 in
     omega (arith, made.0)
 
--- a call past the places isn't known, and one whose return is past them isn't finished
-pub unknown_past : (events : List Event) (cpu number : ℕ) (subhistory : Subhistory) → IsSubhistory events cpu subhistory → IsRecord (events_of cpu events)
+-- a call past the places isn't known, and one whose return is past them is pending
+pub unknown_past : (events : List Event) (cpu number : ℕ) (subhistory : Subhistory) → IsSubhistory events cpu subhistory → IsRecord (subhistory_of cpu events)
     → length subhistory.places.items ≤ number + number → IsKnown events cpu number → ⊥
 unknown_past events cpu number subhistory had is_record past known = omega (arith, below-IsKnown cpu number events is_record known, had.counted)
 
-unfinished_past : (events : List Event) (cpu number : ℕ) (subhistory : Subhistory) → IsSubhistory events cpu subhistory → IsRecord (events_of cpu events)
+pending_past : (events : List Event) (cpu number : ℕ) (subhistory : Subhistory) → IsSubhistory events cpu subhistory → IsRecord (subhistory_of cpu events)
     → length subhistory.places.items ≤ number + number + 1 → IsFinished events cpu number → ⊥
-unfinished_past events cpu number subhistory had is_record past finished = omega (arith, below-IsFinished cpu number events is_record finished, had.counted)
+pending_past events cpu number subhistory had is_record past finished = omega (arith, below-IsFinished cpu number events is_record finished, had.counted)
 
 -- the place that a subhistory has for a rank
 rank_at : (events : List Event) (cpu ranked place : ℕ) (subhistory : Subhistory) → IsSubhistory events cpu subhistory → ranked < length subhistory.places.items
@@ -257,7 +257,7 @@ return_at events cpu number place has = of_event has.event has.is_event has.of_c
         (given, is_event ∙ ap (λ (x : ℕ). Some (Returned x n given)) same ∙ ap (λ (x : ℕ). Some (Returned cpu x given)) number_is)
 
 -- what a subhistory has for the ranks of a call and of its return are their places
-pub ArePlacesOf-subhistory : (events : List Event) (cpu number : ℕ) (subhistory : Subhistory) (called : ℕ) (returned : Option ℕ) → IsSubhistory events cpu subhistory → IsRecord (events_of cpu events)
+pub ArePlacesOf-subhistory : (events : List Event) (cpu number : ℕ) (subhistory : Subhistory) (called : ℕ) (returned : Option ℕ) → IsSubhistory events cpu subhistory → IsRecord (subhistory_of cpu events)
     → number + number < length subhistory.places.items → called ≡ get_or subhistory.places.items (number + number) 0
     → MatchOption returned (length subhistory.places.items ≤ number + number + 1)
     (λ place. (number + number + 1 < length subhistory.places.items) × (place ≡ get_or subhistory.places.items (number + number + 1) 0))
@@ -271,5 +271,5 @@ ArePlacesOf-subhistory events cpu number subhistory called returned had is_recor
         → MatchOption place (length subhistory.places.items ≤ number + number + 1)
         (λ at. (number + number + 1 < length subhistory.places.items) × (at ≡ get_or subhistory.places.items (number + number + 1) 0))
         → MatchOption place (¬ IsFinished events cpu number) (λ at. (given : Reply) × IsReturned events at cpu number given)
-    of_return None past = unfinished_past events cpu number subhistory had is_record past
+    of_return None past = pending_past events cpu number subhistory had is_record past
     of_return (Some at) is = return_at events cpu number at (rank_at events cpu (number + number + 1) at subhistory had is.0 is.1)

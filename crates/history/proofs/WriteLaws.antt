@@ -1,5 +1,5 @@
 -- The lines of a history, as a writer puts them.
-use Rattle.std.proofs.Common.{◌≡◌, ℕ, List, ◌∷◌, ◌++◌}
+use Rattle.std.proofs.Common.{◌≡◌, ℕ, ◌∷◌, ◌++◌}
 use Rattle.rmm_spec.specs.CommandText.{command_parts, reply_parts, command_text, reply_text}
 use Rattle.rmm_spec.specs.HistoryText.{event_parts}
 use Rattle.rmm_spec.specs.Text.{line_text}

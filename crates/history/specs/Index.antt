@@ -1,16 +1,11 @@
 -- The index by which a call is found.
 use Rattle.std.specs.Prelude.{◌≡◌, ℕ, ◌+◌, ◌<◌, List, length, slice_get, slice_index, slice_index_or, Some}
 use Rattle.rmm_spec.specs.declared.event.Event.{Event}
-use Rattle.rmm_spec.specs.HistoryText.{Setup, IsHistory, cpu_of, events_of}
+use Rattle.rmm_spec.specs.HistoryText.{Config, IsHistory, cpu_of, subhistory_of, rank}
 use Rattle.rmm_spec.specs.declared.event.Event.TheVariants.{Called, Returned}
 use Rattle.history.specs.Entry.{events_in, IsHeld}
 use Rattle.history.specs.declared.entry.Entry.{Entry}
 use Rattle.history.specs.declared.subhistory.Subhistory.{Subhistory}
-
--- which of its CPU's events an event is, counted from 0
-abbrev pub rank : Event → ℕ
-rank (Called cpu number command) = number + number
-rank (Returned cpu number given) = number + number + 1
 
 -- the place is that of the CPU's event of that rank
 pub record HasRank (events : List Event) (cpu ranked place : ℕ) : Type 0 where
@@ -21,16 +16,16 @@ pub record HasRank (events : List Event) (cpu ranked place : ℕ) : Type 0 where
 
 -- the subhistory has the place of each event of the CPU, by its rank
 pub record IsSubhistory (events : List Event) (cpu : ℕ) (subhistory : Subhistory) : Type 0 where
-  pub counted : length subhistory.places.items ≡ length (events_of cpu events)
+  pub counted : length subhistory.places.items ≡ length (subhistory_of cpu events)
   pub each : (ranked : ℕ) → ranked < length subhistory.places.items → HasRank events cpu ranked (slice_index subhistory.places.items ranked)
 
 -- a subhistory for each CPU that a machine can have, of a well-formed history
-pub record IsIndexed (setup : Setup) (events : List Event) (subhistories : List Subhistory) : Type 0 where
-  pub is_history : IsHistory (record { setup = setup; events = events })
+pub record IsIndexed (config : Config) (events : List Event) (subhistories : List Subhistory) : Type 0 where
+  pub is_history : IsHistory (record { config = config; events = events })
   pub counted : length subhistories ≡ 8
   pub each : (cpu : ℕ) (other : Subhistory) → cpu < 8 → IsSubhistory events cpu (slice_index_or subhistories cpu other)
 
 -- the fields of a history
-pub record IsStored (setup : Setup) (words : List ℕ) (entries : List Entry) (subhistories : List Subhistory) : Type 0 where
+pub record IsStored (config : Config) (words : List ℕ) (entries : List Entry) (subhistories : List Subhistory) : Type 0 where
   pub held : IsHeld words entries
-  pub indexed : IsIndexed setup (events_in words entries) subhistories
+  pub indexed : IsIndexed config (events_in words entries) subhistories

@@ -3,7 +3,7 @@ use Rattle.std.specs.Prelude.{◌≡◌, ℕ, ◌+◌, ◌<◌, List, ◌++◌, 
 use Rattle.rmm_spec.specs.declared.event.Event.{Event}
 use Rattle.rmm_spec.specs.declared.event.Event.TheVariants.{Called, Returned}
 use Rattle.rmm_spec.specs.CommandText.{IsCommand, IsReply}
-use Rattle.rmm_spec.specs.HistoryText.{History, CanFollow, IsRecord, cpu_of, event_parts, events_of}
+use Rattle.rmm_spec.specs.HistoryText.{History, CanFollow, IsRecord, cpu_of, event_parts, subhistory_of}
 use Rattle.history.specs.Spelling.{IsEventOf}
 
 -- what is given has a text
@@ -13,7 +13,7 @@ HasText (Returned cpu number given) = IsReply given
 
 -- the CPU is there, and its record goes on
 abbrev pub Continues : History → Event → Type 0
-Continues history event = (cpu_of event < history.setup.cpus) × IsRecord (events_of (cpu_of event) (history.events ++ event ∷ []))
+Continues history event = (cpu_of event < history.config.cpus) × IsRecord (subhistory_of (cpu_of event) (history.events ++ event ∷ []))
 
 -- the line after a history's is that of an event which may follow
 pub record HasNext (history : History) (line : List (List ℕ)) : Type 0 where
@@ -25,5 +25,5 @@ pub record HasNext (history : History) (line : List (List ℕ)) : Type 0 where
 -- the event that the line spells was recorded
 pub record HasRecorded (old new : History) (line : List (List ℕ)) : Type 0 where
   pub event : Event
-  pub is_event : IsEventOf old.setup.cpus line event
+  pub is_event : IsEventOf old.config.cpus line event
   pub recorded : new ≡ record old { events = old.events ++ event ∷ [] }

@@ -1,22 +1,16 @@
 -- The parts of a history's lines.
-use Rattle.std.specs.Prelude.{◌≡◌, ℕ, ◌<◌, List, codes}
-use Rattle.rmm_spec.specs.HistoryText.{Setup, IsSetup, IsEvent, setup_parts, event_parts}
+use Rattle.std.specs.Prelude.{◌≡◌, ℕ, ◌<◌, List}
+use Rattle.rmm_spec.specs.HistoryText.{Config, IsConfig, IsEvent, config_parts, event_parts}
 use Rattle.rmm_spec.specs.declared.event.Event.{Event}
 use Rattle.rmm_spec.specs.declared.event.Event.TheVariants.{Called, Returned}
-use Rattle.history.specs.declared.line.Kind.{Kind}
-use Rattle.history.specs.declared.line.Kind.TheVariants.{Call, Return}
-
-abbrev pub kind_part : Kind → List ℕ
-kind_part Call = codes "c"
-kind_part Return = codes "r"
 
 -- the parts are those of the header of such machines
-pub record IsHeaderOf (parts : List (List ℕ)) (setup : Setup) : Type 0 where
-  pub is_setup : IsSetup setup
-  pub spelled : parts ≡ setup_parts setup
+pub record IsHeaderOf (parts : List (List ℕ)) (config : Config) : Type 0 where
+  pub is_config : IsConfig config
+  pub spelled : parts ≡ config_parts config
 
 abbrev pub IsNoHeader : List (List ℕ) → Type 0
-IsNoHeader parts = (setup : Setup) → IsHeaderOf parts setup → ⊥
+IsNoHeader parts = (config : Config) → IsHeaderOf parts config → ⊥
 
 -- the number of an event's call
 abbrev pub call_number : Event → ℕ

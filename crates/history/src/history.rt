@@ -68,7 +68,7 @@ impl Model for History {
     ghost use Rattle.history.specs.Room.{spare, least_spare};
 
     ghost view = { λ h. record {
-      recorded = record { setup = h.config; events = events_in h.words.items h.entries.items };
+      recorded = record { config = h.config; events = events_in h.words.items h.entries.items };
       room = least_spare (room_of (spare h.entries) (spare h.words)) h.subhistories;
     } };
 
@@ -78,7 +78,7 @@ impl Model for History {
 impl History {
     /// No event yet.
     pub fn new(alloc: Global, config: Config) -> History
-        ensures { result.recorded ≡ record { setup = config; events = [] } }
+        ensures { result.recorded ≡ record { config = config; events = [] } }
     {
         let _in_limits = config.cpus();
         History {
@@ -90,7 +90,7 @@ impl History {
     }
 
     pub fn config(&self) -> Config
-        ensures { result ≡ self.now.recorded.setup }
+        ensures { result ≡ self.now.recorded.config }
     {
         self.config
     }
@@ -303,9 +303,9 @@ impl History {
 
     /// The subhistory of a CPU, where the machine has that CPU.
     fn subhistory(&self, cpu: u8) -> Option<&Subhistory>
-        ensures some { IfSome result (λ subhistory. (cpu < self.now.recorded.setup.cpus) × IsSubhistory self.now.recorded.events cpu subhistory.now) }
+        ensures some { IfSome result (λ subhistory. (cpu < self.now.recorded.config.cpus) × IsSubhistory self.now.recorded.events cpu subhistory.now) }
         ensures history { IsHistory self.now.recorded }
-        ensures none { IfNone result (self.now.recorded.setup.cpus ≤ cpu) }
+        ensures none { IfNone result (self.now.recorded.config.cpus ≤ cpu) }
     {
         if cpu < self.config.cpus() {
             Some(&self.subhistories[cpu as usize])

@@ -2,7 +2,7 @@
 //! It promises that reader and writer are inverse on the grammar, `specs/HistoryText.antt` of `rmm_spec`: see `laws.rt`.
 //! A call is found by its CPU and number in constant time, and `fits` is the test that `push` asks for.
 //! Growth that is refused memory leaves what was recorded, and a push after `make_room` is never refused.
-//! The checker, the world and the recorder of events stand on it.
+//! The checker, the world and the recorder of events depend on it.
 #![tactic(auto)]
 
 mod entry;

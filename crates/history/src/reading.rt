@@ -10,8 +10,8 @@ ghost use Rattle.history.specs.Next.{Continues, HasNext, HasRecorded};
 use crate::event_ref::EventRef;
 use crate::fault::HistoryFault;
 use crate::history::{History, MOST_LINES};
-use crate::line::{Kind, beginning_from, header_from};
-use rmi_codec::{Parts, command_from, next_line, reply_from};
+use crate::line::header_from;
+use rmi_codec::{Head, Parts, command_from, head_from, next_line, reply_from};
 use std::alloc::{AllocError, Global};
 
 /// Reads a history. A line that would be its 1,000,001st is bad, and so is the first of a text without any.
@@ -74,11 +74,18 @@ fn record_line(history: &mut History, line: &[u8]) -> Result<bool, AllocError>
 {
     let mut parts = Parts::of(line);
     let cpus = history.config().cpus();
-    let Some((kind, cpu, number)) = beginning_from(cpus, &mut parts) else {
+    let Some(
+        Head {
+            letter,
+            cpu,
+            number,
+        },
+    ) = head_from(&mut parts, cpus, MOST_LINES as u32)
+    else {
         return Ok(false);
     };
-    match kind {
-        Kind::Call => {
+    match letter {
+        b'c' => {
             let Ok(command) = command_from(parts) else {
                 return Ok(false);
             };
@@ -92,19 +99,20 @@ fn record_line(history: &mut History, line: &[u8]) -> Result<bool, AllocError>
                 },
             )
         }
-        Kind::Return => {
+        b'r' => {
             let Ok(reply) = reply_from(parts) else {
                 return Ok(false);
             };
             let reply = &reply;
             record(history, EventRef::Returned { cpu, number, reply })
         }
+        _ => Ok(false),
     }
 }
 
 /// Records an event, where it is its CPU's next.
 fn record(history: &mut History, event: EventRef<'_>) -> Result<bool, AllocError>
-    requires is_event { IsEvent history.old.recorded.setup.cpus (event_seen event) }
+    requires is_event { IsEvent history.old.recorded.config.cpus (event_seen event) }
     requires room { length history.old.recorded.events + 1 < MOST_LINES }
     ensures recorded { IfOk result (λ done. IsTrue done
         → history.new.recorded ≡ record history.old.recorded { events = history.old.recorded.events ++ event_seen event.entry ∷ [] }) }

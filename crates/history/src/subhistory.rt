@@ -1,7 +1,7 @@
 //! The events of each CPU.
 
 ghost use Rattle.std.specs.Prelude.{◌≡◌, ℕ, ◌+◌, ◌<◌, ◌≤◌, ◌↔◌, [], ◌∷◌, ◌++◌, length, slice_index, slice_index_or, IsTrue, IsOk, OnOk, MatchOption};
-ghost use Rattle.rmm_spec.proofs.Places.{rank};
+ghost use Rattle.rmm_spec.specs.HistoryText.{rank};
 ghost use Rattle.history.specs.EventRef.{event_seen};
 ghost use Rattle.history.specs.Room.{spare};
 ghost use Rattle.history.specs.declared.subhistory.Subhistory.{Subhistory};

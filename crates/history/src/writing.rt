@@ -3,7 +3,7 @@
 ghost use Rattle.std.specs.Prelude.{◌≡◌, ◌+◌, ◌<◌, ◌≤◌, ◌++◌, [], ◌∷◌, map, length, take, vec_len, vec_capacity, OnOk, OnErr};
 ghost use Rattle.rmi_codec.specs.Beginning.{IsBeginning};
 ghost use Rattle.rmi_codec.specs.Spaced.{spaced};
-ghost use Rattle.rmm_spec.specs.HistoryText.{event_parts, history_text, setup_parts};
+ghost use Rattle.rmm_spec.specs.HistoryText.{event_parts, history_text, config_parts};
 ghost use Rattle.rmm_spec.specs.Text.{decimal, line_text, lines_text};
 
 use crate::history::History;
@@ -49,10 +49,10 @@ fn push_events(out: &mut Vec<u8>, history: &History) -> Result<(), AllocError>
 }
 
 fn push_header(out: &mut Vec<u8>, config: Config) -> Result<(), AllocError>
-    ensures ok { OnOk result (out.new.items ≡ out.old.items ++ (line_text (setup_parts config) ++ 10 ∷ [])) }
+    ensures ok { OnOk result (out.new.items ≡ out.old.items ++ (line_text (config_parts config) ++ 10 ∷ [])) }
     ensures kept { OnErr result (take (length out.old.items) out.new.items ≡ out.old.items) }
-    ensures beginning { OnErr result (IsBeginning out.new.items (out.old.items ++ (line_text (setup_parts config) ++ 10 ∷ []))) }
-    ensures full { OnErr result (vec_capacity out.old < vec_len out.old + length (line_text (setup_parts config) ++ 10 ∷ [])) }
+    ensures beginning { OnErr result (IsBeginning out.new.items (out.old.items ++ (line_text (config_parts config) ++ 10 ∷ []))) }
+    ensures full { OnErr result (vec_capacity out.old < vec_len out.old + length (line_text (config_parts config) ++ 10 ∷ [])) }
     ensures capacity { vec_capacity out.old ≤ vec_capacity out.new }
 {
     out.extend_from_slice(b"rmh1")?;

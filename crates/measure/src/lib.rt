@@ -2,7 +2,7 @@
 //! Each call is the function of its arguments that `rmm_spec` defines in `specs/Measure.antt`, over SHA-256.
 //! No call takes memory, waits or fails: what is measured goes to the hasher piece by piece.
 //! After DEN0137 (realm measurement) and FIPS 180-4; the layout of what is hashed is this project's own.
-//! Realms and their RECs stand on it.
+//! Realms and their RECs depend on it.
 #![tactic(auto)]
 
 ghost use Rattle.std.specs.Prelude.{◌≡◌};

@@ -1,14 +1,21 @@
 //! Realms and their RECs as the machine and the monitor keep them, and how each command changes one (DEN0137, Realm and REC).
 //! It promises that a value is the record of the definitions, and that each method is its row's test or its row's change.
-//! Each change asks for its row's test as a premise, and the test is a method beside it, so that none is made twice.
+//! Fields are public, since no fact ties them; a change that not every record allows requires its row's test.
 //! Nothing here takes memory, waits or fails. Addresses are in bytes.
-//! The specification machine stands on it.
+//! The specification machine and the steps of RECs depend on it.
 #![tactic(auto)]
 
 mod hash_algorithm;
 mod pending_exit;
 mod realm;
+mod realm_built;
+mod realm_measured;
+mod realm_update;
 mod rec;
+mod rec_pending;
+mod rec_request;
+mod rec_running;
+mod rec_update;
 mod ripas_request;
 mod space;
 #[cfg(test)]

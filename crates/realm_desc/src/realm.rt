@@ -1,14 +1,15 @@
 //! A realm, and what the commands on realms and RECs do to it.
 
 ghost use Rattle.std.specs.Prelude.{◌≡◌, ◌==◌, ◌&&◌, nat_lt, IsTrue};
-ghost use Rattle.rmm_spec.specs.declared.change.RealmUpdate.TheVariants.{Activated, RecCounted};
-ghost use Rattle.rmm_spec.specs.State as spec;
+ghost use Rattle.rmm_spec.specs.declared.change.RealmUpdate.TheVariants.{Activated, TurnedOff, RecCounted};
+ghost use Rattle.rmm_spec.specs.Lookup as spec;
 ghost use Rattle.rmm_spec.specs.Change.{new_realm, realm_updated};
+ghost use Rattle.rmm_spec.specs.Walk.{full, half, is_protected};
 ghost use Rattle.realm_desc.specs.View.{width_of, level_of, algorithm_number};
 
 use crate::hash_algorithm::HashAlgorithm;
 use crate::space::Space;
-use granule_state::Pa;
+use granule_state::{GRANULE_BYTES, Pa};
 use measure::{Rem, Rim, begin, extend_words};
 use rmm_spec::{FunctionId, RealmState};
 use std::marker::Model;
@@ -20,14 +21,16 @@ const RECS: u64 = 8;
 #[tactic(auto, unfolding(crate::specs::View::realm_record, crate::specs::View::realm_fields))]
 #[derive(Clone, Copy, Debug, PartialEq, Eq)]
 pub struct Realm {
-    state: RealmState,
-    space: Space,
-    vmid: u8,
-    algorithm: HashAlgorithm,
-    root: Pa,
-    next_index: u8,
-    rim: Rim,
-    rems: [Rem; 4],
+    pub state: RealmState,
+    pub space: Space,
+    pub vmid: u8,
+    pub algorithm: HashAlgorithm,
+    /// Where the root of its translation tables lies.
+    pub root: Pa,
+    /// The index that its next REC has.
+    pub next_index: u8,
+    pub rim: Rim,
+    pub rems: [Rem; 4],
 }
 
 impl Model for Realm {
@@ -73,12 +76,62 @@ impl Realm {
         self.state == RealmState::New
     }
 
+    /// Whether it was turned off.
+    pub fn is_system_off(&self) -> bool
+        ensures { result ≡ spec.is_system_off self.now }
+    {
+        self.state == RealmState::SystemOff
+    }
+
     /// Lets it run, and be built no further.
     #[tactic(auto, unfolding(crate::specs::View::realm_record, rmm_spec::specs::Change::realm_updated))]
     pub fn activate(&mut self)
         ensures { self.new ≡ realm_updated Activated self.old }
     {
         self.state = RealmState::Active;
+    }
+
+    /// Turns it off: none of its RECs may be entered again.
+    #[tactic(auto, unfolding(crate::specs::View::realm_record, rmm_spec::specs::Change::realm_updated))]
+    pub fn turn_off(&mut self)
+        ensures { self.new ≡ realm_updated TurnedOff self.old }
+    {
+        self.state = RealmState::SystemOff;
+    }
+
+    /// The level of its root.
+    pub fn start_level(&self) -> u8
+        ensures { result ≡ self.now.start_level }
+    {
+        self.space.start_level()
+    }
+
+    /// Where its address space ends.
+    pub fn space_end(&self) -> u64
+        ensures { result ≡ full self.now }
+    {
+        match self.space {
+            Space::Bits39 => 1 << 39,
+            Space::Bits48 => 1 << 48,
+        }
+    }
+
+    /// Where the protected half of its address space ends.
+    pub fn protected_end(&self) -> u64
+        ensures { result ≡ half self.now }
+    {
+        match self.space {
+            Space::Bits39 => 1 << 38,
+            Space::Bits48 => 1 << 47,
+        }
+    }
+
+    /// Whether a page of its protected half begins there.
+    #[tactic(auto, using(std::proofs::lemmas::Bool::Decides::nat_tests))]
+    pub fn protects(&self, ipa: u64) -> bool
+        ensures { result ≡ is_protected self.now ipa }
+    {
+        ipa % GRANULE_BYTES == 0 && ipa < self.protected_end()
     }
 
     /// Whether its next REC has this index: indexes rise by one and stay below 8.
@@ -97,55 +150,5 @@ impl Realm {
         self.next_index += 1;
         let function = FunctionId::RecCreate.number();
         self.rim = extend_words(&self.rim, &[function, u64::from(index), flags]);
-    }
-
-    pub fn state(&self) -> RealmState
-        ensures { result ≡ self.now.state }
-    {
-        self.state
-    }
-
-    pub fn space(&self) -> Space
-        ensures width { width_of result ≡ self.now.width }
-        ensures level { level_of result ≡ self.now.start_level }
-    {
-        self.space
-    }
-
-    pub fn vmid(&self) -> u8
-        ensures { result ≡ self.now.vmid }
-    {
-        self.vmid
-    }
-
-    pub fn algorithm(&self) -> HashAlgorithm
-        ensures { algorithm_number result ≡ self.now.algo }
-    {
-        self.algorithm
-    }
-
-    /// Where the root of its translation tables lies.
-    pub fn root(&self) -> Pa
-        ensures { result ≡ self.now.root }
-    {
-        self.root
-    }
-
-    pub fn next_index(&self) -> u8
-        ensures { result ≡ self.now.next_index }
-    {
-        self.next_index
-    }
-
-    pub fn rim(&self) -> Rim
-        ensures { result ≡ self.now.rim }
-    {
-        self.rim
-    }
-
-    pub fn rems(&self) -> [Rem; 4]
-        ensures { result ≡ self.now.rems }
-    {
-        self.rems
     }
 }

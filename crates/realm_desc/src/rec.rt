@@ -1,6 +1,6 @@
 //! A REC, one virtual CPU of a realm.
 
-ghost use Rattle.std.specs.Prelude.{◌≡◌, is_none, option_map};
+ghost use Rattle.std.specs.Prelude.{◌≡◌, ◌&&◌, is_none};
 ghost use Rattle.rmm_spec.specs.Change.{new_rec};
 ghost use Rattle.realm_desc.specs.View.{pending_of};
 
@@ -13,14 +13,16 @@ use std::marker::Model;
 #[tactic(auto, unfolding(crate::specs::View::rec_record, crate::specs::View::rec_fields))]
 #[derive(Clone, Copy, Debug, PartialEq, Eq)]
 pub struct Rec {
-    owner: Pa,
-    index: u8,
-    aux0: Pa,
-    aux1: Pa,
-    runnable: bool,
-    cpu: Option<u8>,
-    request: Option<RipasRequest>,
-    pending: Option<PendingExit>,
+    /// The realm that it belongs to, by the address of its descriptor.
+    pub owner: Pa,
+    pub index: u8,
+    pub aux0: Pa,
+    pub aux1: Pa,
+    pub runnable: bool,
+    /// The CPU that it runs on, where it runs.
+    pub cpu: Option<u8>,
+    pub request: Option<RipasRequest>,
+    pub pending: Option<PendingExit>,
 }
 
 impl Model for Rec {
@@ -62,53 +64,17 @@ impl Rec {
         self.cpu.is_none()
     }
 
-    /// The realm that it belongs to, by the address of its descriptor.
-    pub fn owner(&self) -> Pa
-        ensures { result ≡ self.now.owner }
+    /// Whether it may be entered: it runs on no CPU, and is runnable.
+    pub fn can_run(&self) -> bool
+        ensures { result ≡ (is_none self.now.cpu && self.now.runnable) }
     {
-        self.owner
+        self.is_ready() && self.runnable
     }
 
-    pub fn index(&self) -> u8
-        ensures { result ≡ self.now.index }
+    /// Whether it may give a realm call: not while an exit is pending.
+    pub fn can_call(&self) -> bool
+        ensures { result ≡ is_none self.now.pending }
     {
-        self.index
-    }
-
-    pub fn aux0(&self) -> Pa
-        ensures { result ≡ self.now.aux0 }
-    {
-        self.aux0
-    }
-
-    pub fn aux1(&self) -> Pa
-        ensures { result ≡ self.now.aux1 }
-    {
-        self.aux1
-    }
-
-    pub fn is_runnable(&self) -> bool
-        ensures { result ≡ self.now.runnable }
-    {
-        self.runnable
-    }
-
-    /// The CPU that it runs on.
-    pub fn cpu(&self) -> Option<u8>
-        ensures { result ≡ self.now.cpu }
-    {
-        self.cpu
-    }
-
-    pub fn request(&self) -> Option<RipasRequest>
-        ensures { result ≡ self.now.request }
-    {
-        self.request
-    }
-
-    pub fn pending(&self) -> Option<PendingExit>
-        ensures { option_map pending_of result ≡ self.now.pending }
-    {
-        self.pending
+        self.pending.is_none()
     }
 }

@@ -23,21 +23,21 @@ fn rim_of_two_recs(rt: HostRuntime) -> Result<(), Fail> {
     let mut realm = new_realm(Space::Bits39);
     // 580100c400000000 2700000000000000 0100000000000000 0000000000000000
     assert_eq!(rt;
-        hex(rt.alloc(), realm.rim().as_bytes())?.as_str(),
+        hex(rt.alloc(), realm.rim.as_bytes())?.as_str(),
         "39f3ce61f3cc5d6d7208f6b0fecbf6b39274b4605fe90e6ae686b056168c2241"
     );
     assert!(rt; realm.takes_index(0) && !realm.takes_index(1));
     realm.count_rec(0, 1);
     // the 32 bytes above, 5a0100c400000000 0000000000000000 0100000000000000
     assert_eq!(rt;
-        hex(rt.alloc(), realm.rim().as_bytes())?.as_str(),
+        hex(rt.alloc(), realm.rim.as_bytes())?.as_str(),
         "a42c396228319368e7b1e21d4c3c557a6247a50bcf242fc4f8892370b922d36e"
     );
     assert!(rt; realm.takes_index(1) && !realm.takes_index(0));
     realm.count_rec(1, 0);
     // the 32 bytes above, 5a0100c400000000 0100000000000000 0000000000000000
     assert_eq!(rt;
-        hex(rt.alloc(), realm.rim().as_bytes())?.as_str(),
+        hex(rt.alloc(), realm.rim.as_bytes())?.as_str(),
         "c53d5a7d11940f4179880e3c45787d3364b96125422f6d0d918e995dd831ac9c"
     );
     Ok(())
@@ -47,7 +47,7 @@ fn rim_of_two_recs(rt: HostRuntime) -> Result<(), Fail> {
 fn rim_of_a_wide_realm(rt: HostRuntime) -> Result<(), Fail> {
     // 580100c400000000 3000000000000000 0000000000000000 0000000000000000
     assert_eq!(rt;
-        hex(rt.alloc(), new_realm(Space::Bits48).rim().as_bytes())?.as_str(),
+        hex(rt.alloc(), new_realm(Space::Bits48).rim.as_bytes())?.as_str(),
         "5fca5e5cfa95f492ad2de98798b1d78f2e9b836174de6087945670d0b0ae21c5"
     );
     Ok(())
@@ -74,7 +74,7 @@ fn life_of_a_realm(rt: HostRuntime) {
     assert!(rt; realm.is_new());
     realm.activate();
     assert!(rt; !realm.is_new());
-    assert_eq!(rt; realm.state(), RealmState::Active);
+    assert_eq!(rt; realm.state, RealmState::Active);
 }
 
 #[test]
@@ -90,9 +90,9 @@ fn ninth_rec_is_refused(rt: HostRuntime) {
 #[test]
 fn a_new_rec_waits(rt: HostRuntime) {
     let rec = Rec::new(Pa::new(0x1000), 3, 1, Pa::new(0x6000), Pa::new(0x7000));
-    assert!(rt; rec.is_ready() && rec.is_runnable());
-    assert_eq!(rt; rec.index(), 3);
-    assert_eq!(rt; rec.aux0().address(), 0x6000);
-    assert_eq!(rt; rec.aux1().address(), 0x7000);
-    assert!(rt; rec.request().is_none() && rec.pending().is_none());
+    assert!(rt; rec.is_ready() && rec.runnable);
+    assert_eq!(rt; rec.index, 3);
+    assert_eq!(rt; rec.aux0.address(), 0x6000);
+    assert_eq!(rt; rec.aux1.address(), 0x7000);
+    assert!(rt; rec.request.is_none() && rec.pending.is_none());
 }

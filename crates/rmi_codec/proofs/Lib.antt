@@ -1,4 +1,5 @@
 pub mod FaultLaws
+mod HeadLaws
 pub mod NumberLaws
 pub mod PartLaws
 pub mod PrefixLaws

@@ -3,7 +3,7 @@ use Rattle.std.proofs.Common.{◌≡◌, ◌≢◌, ℕ, ◌+◌, ◌^◌, ◌<�
 use Rattle.std.specs.List.{AllByRecursion, position_or_len, slice_split}
 use Rattle.std.specs.Option.{unwrap_or}
 use Rattle.std.proofs.lemmas.Bool.Decides.{nat_tests}
-use Rattle.std.proofs.lemmas.List.{append-nil, append_assoc, drop-drop, length-append, length-map, map-append, take_all, take_at, take_more, take-take}
+use Rattle.std.proofs.lemmas.List.{drop-drop, take_all}
 use Rattle.std.proofs.lemmas.List.Elements.{All-from_get_or}
 use Rattle.std.proofs.lemmas.List.Quantifiers.{position-Some}
 use Rattle.std.proofs.lemmas.List.Splits.{join_with_byte-slice_split, slice_split_none, slice_split_first, length-slice_split}
@@ -17,7 +17,7 @@ use Rattle.rmm_spec.specs.CommandText.{AreWords, IsReply, reply_parts}
 use Rattle.rmm_spec.specs.Function.{word_count}
 use Rattle.rmm_spec.specs.Text.{decimal, word, line_text, parts_of}
 use Rattle.rmm_spec.proofs.Texts.{IsPart, bytes_apart, decimal-injective}
-use Rattle.rmi_codec.specs.Spaced.{parts_behind, spaced}
+use Rattle.rmi_codec.specs.Spaced.{parts_behind}
 
 abbrev is_space : ℕ → Bool
 is_space byte = byte == 32

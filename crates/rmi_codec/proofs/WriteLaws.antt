@@ -1,9 +1,9 @@
 -- Texts written part by part: what stands there so far, and what a writer that was refused memory leaves.
-use Rattle.std.proofs.Common.{◌≡◌, ℕ, suc, ◌+◌, ◌<◌, List, [], ◌∷◌, ◌++◌, map, length, get_or, take, drop, sym, ap, ◌∙◌, arith, Some, append_assoc, add-one, drop-cons}
+use Rattle.std.proofs.Common.{◌≡◌, ℕ, suc, ◌+◌, ◌<◌, List, [], ◌∷◌, ◌++◌, map, length, take, drop, sym, ap, ◌∙◌, arith, Some, append_assoc, add-one, drop-cons}
 use Rattle.std.specs.Prelude.{slice_get}
 use Rattle.std.proofs.lemmas.Grind.{common_steps}
 use Rattle.std.proofs.lemmas.Option.{slice_get_within, get_or_from_slice_get}
-use Rattle.std.proofs.lemmas.List.{append-nil, length-take, take-append-drop, map-append, take_more}
+use Rattle.std.proofs.lemmas.List.{append-nil, length-take}
 use Rattle.rmm_spec.specs.Text.{decimal, line_text, lines_text}
 use Rattle.rmi_codec.specs.Head.{head_text}
 use Rattle.rmi_codec.specs.Spaced.{spaced}

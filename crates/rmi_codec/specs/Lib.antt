@@ -3,4 +3,3 @@ pub mod Spaced
 pub mod Limited
 pub mod Beginning
 pub mod Head
-pub mod Lines

@@ -91,6 +91,15 @@ pub(crate) fn is_served(function: FunctionId) -> bool
         FunctionId::RealmDestroy => true,
         FunctionId::RecCreate => true,
         FunctionId::RecDestroy => true,
+        FunctionId::DataCreate => true,
+        FunctionId::DataCreateUnknown => true,
+        FunctionId::DataDestroy => true,
+        FunctionId::RttCreate => true,
+        FunctionId::RttDestroy => true,
+        FunctionId::RttMapUnprotected => true,
+        FunctionId::RttReadEntry => true,
+        FunctionId::RttUnmapUnprotected => true,
+        FunctionId::RttInitRipas => true,
         _ => false,
     }
 }

@@ -1,13 +1,48 @@
 //! What a line begins with.
 
-ghost use Rattle.std.specs.Prelude.{◌≡◌, [], ◌∷◌, ◌++◌, length, take, OnOk, OnErr, ◌≤◌, ◌<◌, ◌+◌, vec_len, vec_capacity};
+ghost use Rattle.std.specs.Prelude.{◌≡◌, [], ◌∷◌, ◌++◌, length, take, ℕ, Some, IfSome, IfNone, OnOk, OnErr, ◌≤◌, ◌<◌, ◌+◌, vec_len, vec_capacity};
 ghost use Rattle.rmm_spec.specs.Text.{decimal};
 ghost use Rattle.rmi_codec.specs.Beginning.{IsBeginning};
-ghost use Rattle.rmi_codec.specs.Head.{head_text};
+ghost use Rattle.rmi_codec.specs.Head.{HasNoHead, head_parts, head_text};
 ghost use Rattle.rmi_codec.specs.Spaced.{spaced};
 
 use crate::decimal::push_decimal;
+use crate::limited::number_below;
+use crate::parts::Parts;
 use std::alloc::AllocError;
+
+/// A letter, and the CPU and the number of a call.
+#[derive(Clone, Copy)]
+pub struct Head {
+    pub letter: u8,
+    pub cpu: u8,
+    pub number: u32,
+}
+
+// The letter that a part is.
+fn letter_from(part: &[u8]) -> Option<u8>
+    ensures found { IfSome result (λ letter. part.now ≡ letter ∷ []) }
+    ensures only { (letter : ℕ) → part.now ≡ letter ∷ [] → result ≡ Some letter }
+{
+    if part.len() == 1 { Some(part[0]) } else { None }
+}
+
+/// Takes a head off the parts, where its CPU and its number are below these limits.
+pub fn head_from(parts: &mut Parts<'_>, cpus: u8, calls: u32) -> Option<Head>
+    ensures found { IfSome result (λ head. parts.old ≡ head_parts head.letter head.cpu head.number parts.new) }
+    ensures cpu { IfSome result (λ head. head.cpu < cpus) }
+    ensures number { IfSome result (λ head. head.number < calls) }
+    ensures none { IfNone result (HasNoHead cpus calls parts.old) }
+{
+    let letter = letter_from(parts.next_part()?)?;
+    let cpu = number_below(parts, u32::from(cpus))? as u8;
+    let number = number_below(parts, calls)?;
+    Some(Head {
+        letter,
+        cpu,
+        number,
+    })
+}
 
 // Appends a number behind a space.
 fn push_next(out: &mut Vec<u8>, number: u64) -> Result<(), AllocError>

@@ -25,7 +25,7 @@ mod word;
 pub use command::{command_from, push_command, read_command, write_command};
 pub use decimal::{decimal_from, push_decimal};
 pub use fault::CodecFault;
-pub use head::{push_head, push_numbers};
+pub use head::{Head, head_from, push_head, push_numbers};
 pub use limited::number_below;
 pub use lines::next_line;
 pub use parts::Parts;

@@ -1,7 +1,7 @@
 //! The lines of a text.
 
 ghost use Rattle.std.specs.Prelude.{◌≡◌, ◌++◌, ◌∷◌, IfSome, IfNone};
-ghost use Rattle.rmi_codec.specs.Lines.{HasNoNewline};
+ghost use Rattle.rmm_spec.specs.Text.{HasNoNewline};
 
 use memchr::memchr;
 

@@ -67,7 +67,7 @@ fn commands_refused(rt: HostRuntime) {
         ("c4000151  1000", CodecFault::BadSpacing),
         ("c4000158 1000 2000 27 1 1", CodecFault::WordCount),
         ("c400015a 1000 5000 0 1 6000 7000 0", CodecFault::WordCount),
-        ("c400015d 1000 4000 0 2", CodecFault::UnknownNumber),
+        ("c400015c 5000", CodecFault::UnknownNumber),
         ("c4000150 1000", CodecFault::UnknownNumber),
         ("C4000151 1000", CodecFault::UnknownNumber),
         ("0c4000151 1000", CodecFault::UnknownNumber),

@@ -12,7 +12,8 @@ use Rattle.rmm_spec.specs.Call.{call_from, class_of}
 use Rattle.rmm_spec.specs.Change.{changed}
 use Rattle.rmm_spec.specs.Ownership.{is_accepted}
 use Rattle.rmm_spec.specs.Rows.{Row, ok, decided}
-use Rattle.rmm_spec.specs.State.{State, RealmRecord, with_tag}
+use Rattle.rmm_spec.specs.State.{State, RealmRecord}
+use Rattle.rmm_spec.specs.Update.{with_tag}
 use Rattle.rmm_spec.specs.Walk.{table_number, entry_for, IsWalk}
 use Rattle.rmm_spec.specs.Step.{is_placed, answer_of, outcome, CarriesOut, Step}
 use Rattle.rmm_spec.specs.Step.Front.{with_front}

@@ -18,7 +18,9 @@ use Rattle.rmm_spec.specs.Applicable.{CanRetag, CanMakeRealm, CanDestroyRealm, C
 use Rattle.rmm_spec.specs.Change.{new_realm, new_rec, realm_updated, with_tag_change, changed}
 use Rattle.rmm_spec.specs.Ownership.{Claim, claim, RecParts}
 use Rattle.rmm_spec.specs.Sound.{IsSound}
-use Rattle.rmm_spec.specs.State.{State, RealmRecord, RecRecord, with_tag, with_leaf, with_ripas, entry_with_ripas, is_spot, has_tag, realm_at, rec_at}
+use Rattle.rmm_spec.specs.State.{State, RealmRecord, RecRecord}
+use Rattle.rmm_spec.specs.Update.{with_tag, with_leaf, with_ripas, entry_with_ripas, is_same_entry}
+use Rattle.rmm_spec.specs.Lookup.{has_tag, realm_at, rec_at}
 use Rattle.rmm_spec.specs.Walk.{is_table, is_assigned, entry_at}
 use Rattle.rmm_spec.proofs.TagLaws.{tag-has_tag}
 use Rattle.rmm_sound.proofs.Cases.{spot_itself}
@@ -93,9 +95,9 @@ realm_made-accounts s rd root width level vmid algo sound can = record {
     realms = λ other some. kept_unless (λ (found : Option RealmRecord). is_some found ≡ true) (other == rd)
         (Some (new_realm root width level vmid algo)) (s.realm other) (inl some) (λ _. inl refl);
     recs = same-recs s [];
-    tables = λ other l n granule is. kept_unless (λ (found : Option ℕ). found ≡ Some granule) (is_spot rd level 0 other l n) (Some root) (s.table other l n) (inl is)
+    tables = λ other l n granule is. kept_unless (λ (found : Option ℕ). found ≡ Some granule) (is_same_entry rd level 0 other l n) (Some root) (s.table other l n) (inl is)
         (λ hit. absurd (no_realm-table s rd l n granule sound can.rd_tag (rw (spot_parts rd level 0 other l n hit).0 at is)));
-    pages = λ other l n granule ripas is. kept_unless (IsPage granule) (is_spot rd level 0 other l (n / 512))
+    pages = λ other l n granule ripas is. kept_unless (IsPage granule) (is_same_entry rd level 0 other l (n / 512))
         (Some (if nat_lt n 256 then Unassigned Empty else UnassignedNs)) (s.leaf other l n) (inl (ripas, is))
         (λ hit.
         let table = page-table s other l n granule ripas sound is in
@@ -232,11 +234,11 @@ table_made-accounts s rd level number rtt entry sound can =
       kept = keeps-kept s (changed s (TableMade rd level number rtt entry)) [] (record {
         realms = same-realms s [];
         recs = same-recs s [];
-        tables = λ other l n granule is. kept_unless (λ (found : Option ℕ). found ≡ Some granule) (is_spot rd level number other l n) (Some rtt) (s.table other l n) (inl is)
+        tables = λ other l n granule is. kept_unless (λ (found : Option ℕ). found ≡ Some granule) (is_same_entry rd level number other l n) (Some rtt) (s.table other l n) (inl is)
             (λ hit. let at_spot = spot_parts rd level number other l n hit in absurd (absent granule (moved s.table rd level number other l n at_spot ∙ is)));
-        pages = λ other l n granule ripas is. kept_unless (IsPage granule) (is_spot rd level number other l (n / 512)) (Some entry)
-            (if is_spot rd level number other (l + 1) n then None else s.leaf other l n)
-            (kept_unless (IsPage granule) (is_spot rd level number other (l + 1) n) None (s.leaf other l n) (inl (ripas, is))
+        pages = λ other l n granule ripas is. kept_unless (IsPage granule) (is_same_entry rd level number other l (n / 512)) (Some entry)
+            (if is_same_entry rd level number other (l + 1) n then None else s.leaf other l n)
+            (kept_unless (IsPage granule) (is_same_entry rd level number other (l + 1) n) None (s.leaf other l n) (inl (ripas, is))
             (λ hit.
             let at_spot = spot_parts rd level number other (l + 1) n hit in
             let last = page-last s other l n granule ripas sound is in
@@ -263,13 +265,13 @@ table_destroyed-accounts s rd level number rtt entry sound can =
       kept = keeps-kept s (changed s (TableDestroyed rd level number rtt entry)) closes (record {
         realms = same-realms s closes;
         recs = same-recs s closes;
-        tables = λ other l n granule is. kept_unless (λ (found : Option ℕ). found ≡ Some granule) (is_spot rd level number other l n) None (s.table other l n) (inl is)
+        tables = λ other l n granule is. kept_unless (λ (found : Option ℕ). found ≡ Some granule) (is_same_entry rd level number other l n) None (s.table other l n) (inl is)
             (λ hit.
             let at_spot = spot_parts rd level number other l n hit in
             inr (inl (ap₂ (λ g r. claim g Rtt r) (same_value can.there (moved s.table rd level number other l n at_spot ∙ is)) (sym at_spot.0))));
-        pages = λ other l n granule ripas is. kept_unless (IsPage granule) (is_spot rd level number other l (n / 512)) None
-            (if is_spot rd level number other (l + 1) n then Some entry else s.leaf other l n)
-            (kept_unless (IsPage granule) (is_spot rd level number other (l + 1) n) (Some entry) (s.leaf other l n) (inl (ripas, is))
+        pages = λ other l n granule ripas is. kept_unless (IsPage granule) (is_same_entry rd level number other l (n / 512)) None
+            (if is_same_entry rd level number other (l + 1) n then Some entry else s.leaf other l n)
+            (kept_unless (IsPage granule) (is_same_entry rd level number other (l + 1) n) (Some entry) (s.leaf other l n) (inl (ripas, is))
             (λ hit.
             let at_spot = spot_parts rd level number other (l + 1) n hit in
             let last = page-last s other l n granule ripas sound is in
@@ -309,7 +311,7 @@ module _ (s : State) (sound : IsSound s) (realm : Option RealmChange) (rec : Opt
         realms = same-realms mid closes;
         recs = same-recs mid closes;
         tables = same-tables mid closes;
-        pages = λ other l n granule ripas is. kept_unless (IsPage granule) (is_spot rd level number other l n) (Some entry) (mid.leaf other l n) (inl (ripas, is))
+        pages = λ other l n granule ripas is. kept_unless (IsPage granule) (is_same_entry rd level number other l n) (Some entry) (mid.leaf other l n) (inl (ripas, is))
             (λ hit.
             let at_spot = spot_parts rd level number other l n hit in
             let was : s.leaf rd level number ≡ Some (Assigned ripas granule) =

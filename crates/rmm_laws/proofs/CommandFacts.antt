@@ -18,7 +18,8 @@ use Rattle.rmm_spec.specs.Footprint.{changed_parts}
 use Rattle.rmm_spec.specs.Ownership.{claims_opened, claims_closed, is_accepted, root_made, rec_made, latest_root, latest_rec}
 use Rattle.rmm_spec.specs.Rows.{Row, decided}
 use Rattle.rmm_spec.specs.Run.{JournalEntry}
-use Rattle.rmm_spec.specs.State.{State, rec_at, request_of}
+use Rattle.rmm_spec.specs.State.{State}
+use Rattle.rmm_spec.specs.Lookup.{rec_at, request_of}
 use Rattle.rmm_spec.specs.Walk.{entry_size, entry_for, reach, is_unassigned}
 use Rattle.rmm_spec.specs.Step.{is_placed, answer_of, outcome}
 use Rattle.rmm_spec.specs.Step.Front.{with_front}

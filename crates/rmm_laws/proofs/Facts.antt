@@ -9,7 +9,8 @@ use Rattle.rmm_spec.specs.declared.tag.Ripas.{Ripas}
 use Rattle.rmm_spec.specs.declared.tag.Ripas.TheVariants.{Empty}
 use Rattle.rmm_spec.specs.declared.tag.Tag.{Tag}
 use Rattle.rmm_spec.specs.declared.tag.Tag.TheVariants.{Delegated, Rd, Rec}
-use Rattle.rmm_spec.specs.State.{State, RealmRecord, has_tag}
+use Rattle.rmm_spec.specs.State.{State, RealmRecord}
+use Rattle.rmm_spec.specs.Lookup.{has_tag}
 use Rattle.rmm_spec.specs.Walk.{table_size, full, is_table, linked_entry, entry_at, is_live, is_in_use, has_link}
 use Rattle.rmm_spec.specs.Step.Words.{is_space}
 use Rattle.rmm_spec.specs.Sound.{IsSound}

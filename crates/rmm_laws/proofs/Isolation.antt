@@ -10,13 +10,14 @@ use Rattle.rmm_spec.specs.declared.tag.Tag.TheVariants.{Rd, Rtt}
 use Rattle.rmm_spec.specs.Applicable.{CanApply}
 use Rattle.rmm_spec.specs.Call.{call_of}
 use Rattle.rmm_spec.specs.Change.{changed}
-use Rattle.rmm_spec.specs.HistoryText.{Setup, History}
+use Rattle.rmm_spec.specs.HistoryText.{Config, History}
 use Rattle.rmm_spec.specs.Judgement.{IsIsolatedThroughout}
 use Rattle.rmm_spec.specs.Ownership.{Claim, claim, is_accepted, latest_root, latest_rec, root_made, rec_made, rec_claims, claims, claims_opened, claims_closed, claims_after, claims_from, without_claims, IsIsolated}
 use Rattle.rmm_spec.specs.Run.{JournalEntry, IsRun}
 use Rattle.rmm_spec.specs.Rows.{ok}
 use Rattle.rmm_spec.specs.Sound.{IsSound}
-use Rattle.rmm_spec.specs.State.{State, realm_at, rec_at, opening}
+use Rattle.rmm_spec.specs.State.{State, opening}
+use Rattle.rmm_spec.specs.Lookup.{realm_at, rec_at}
 use Rattle.rmm_spec.specs.Step.{outcome, CarriesOut, Step}
 use Rattle.rmm_spec.specs.Step.Ripas.{reached_change}
 use Rattle.rmm_sound.proofs.Changes.{changed_sound}
@@ -112,22 +113,22 @@ run-accounted (entry ∷ entries) earlier held old last a (next, step, run) =
     run-accounted entries (entry ∷ earlier) (claims_after entry.given entry earlier held) next last (step-accounted earlier held old next entry a step) run
 
 -- at the opening nothing is claimed, and nothing is there
-opening-accounted : (setup : Setup) → IsAccounted [] [] (opening setup)
+opening-accounted : (config : Config) → IsAccounted [] [] (opening config)
 unfolding opening
-opening-accounted setup = record {
-  sound = opening_sound setup;
+opening-accounted config = record {
+  sound = opening_sound config;
   owned = record { each = λ granule. inl (refl, inl refl) };
   roots = λ rd realm there. absurd (let bad : None ≡ Some realm = there in cc);
   recs = λ rec r there. absurd (let bad : None ≡ Some r = there in cc);
 }
 
 -- whatever a run leaves, every granule is at most one realm's, in one role
-pub run-isolated : (setup : Setup) (entries : List JournalEntry) (last : State) → IsRun (opening setup) entries last → IsIsolated entries last
+pub run-isolated : (config : Config) (entries : List JournalEntry) (last : State) → IsRun (opening config) entries last → IsIsolated entries last
 unfolding claims
-run-isolated setup entries last run =
-    let kept = run-accounted entries [] [] (opening setup) last (opening-accounted setup) run in
+run-isolated config entries last run =
+    let kept = run-accounted entries [] [] (opening config) last (opening-accounted config) run in
     owned-isolated entries last kept.1.sound kept.1.owned
 
 -- and so after each first part of its commits
 pub isolated_throughout : (history : History) (entries : List JournalEntry) → IsIsolatedThroughout history entries
-isolated_throughout history entries count s _ run = run-isolated history.setup (take count entries) s run
+isolated_throughout history entries count s _ run = run-isolated history.config (take count entries) s run

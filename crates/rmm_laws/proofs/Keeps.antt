@@ -11,7 +11,8 @@ use Rattle.rmm_spec.specs.declared.tag.Ripas.{Ripas}
 use Rattle.rmm_spec.specs.declared.tag.Tag.{Tag}
 use Rattle.rmm_spec.specs.declared.tag.Tag.TheVariants.{Undelegated, Delegated, Rd, Rec, RecAux, Data, Rtt}
 use Rattle.rmm_spec.specs.Change.{realm_updated, rec_updated, with_realm_change, with_rec_change, with_tag_change}
-use Rattle.rmm_spec.specs.State.{State, RealmRecord, RecRecord, realm_at, rec_at}
+use Rattle.rmm_spec.specs.State.{State, RealmRecord, RecRecord}
+use Rattle.rmm_spec.specs.Lookup.{realm_at, rec_at}
 use Rattle.rmm_spec.specs.Ownership.{Claim, claim, IsTied}
 use Rattle.rmm_sound.proofs.Searches.{rec_at-is}
 use Rattle.rmm_laws.proofs.Claims.{IsAmong}

@@ -15,7 +15,8 @@ use Rattle.rmm_spec.specs.Change.{changed}
 use Rattle.rmm_spec.specs.Rows.{ok}
 use Rattle.rmm_spec.specs.Run.{JournalEntry, IsRun}
 use Rattle.rmm_spec.specs.Script.{are_same_words, is_same_reply, end_among, end_given, next_by, replay}
-use Rattle.rmm_spec.specs.State.{State, all_below}
+use Rattle.rmm_spec.specs.State.{State}
+use Rattle.rmm_spec.specs.Lookup.{all_below}
 use Rattle.rmm_spec.specs.Step.{outcome, CarriesOut}
 use Rattle.rmm_spec.specs.Step.Ripas.{can_be_set, IsReached, is_reached, reached_change}
 use Rattle.rmm_spec.specs.Walk.{entry_size, table_size, entry_number, table_number, entry_at, is_multiple}

@@ -8,8 +8,9 @@ use Rattle.rmm_spec.specs.Measure.{first_words, measurement_words, rem_start}
 use Rattle.rmm_spec.specs.Function.{number_of}
 use Rattle.rmm_spec.specs.Rows.{ok}
 use Rattle.rmm_spec.specs.Run.{JournalEntry}
-use Rattle.rmm_spec.specs.Script.{script_setup, answered, replay, table_with_data_stays, data_granule_mapped_twice, ripas_change_in_two_parts, ripas_change_past_table, life_of_a_rec, off_and_out_of_range, ripas_before_a_realm_runs, realms_and_recs_come_and_go, words_out_of_range}
-use Rattle.rmm_spec.specs.State.{opening, is_granule, has_tag, is_inside, rec_inside, realm_at, rec_at, is_vmid_used, has_rec}
+use Rattle.rmm_spec.specs.Script.{script_config, answered, replay, table_with_data_stays, data_granule_mapped_twice, ripas_change_in_two_parts, ripas_change_past_table, life_of_a_rec, off_and_out_of_range, ripas_before_a_realm_runs, realms_and_recs_come_and_go, words_out_of_range}
+use Rattle.rmm_spec.specs.State.{opening}
+use Rattle.rmm_spec.specs.Lookup.{is_granule, has_tag, is_inside, rec_inside, realm_at, rec_at, is_vmid_used, has_rec}
 use Rattle.rmm_spec.specs.Walk.{entry_size, table_size, entry_number, table_number, entry_at, reach, is_in_use, has_link}
 use Rattle.rmm_spec.specs.Step.{answer_of, outcome}
 use Rattle.rmm_spec.specs.Step.Words.{words_of}
@@ -25,7 +26,7 @@ use Rattle.rmm_spec.specs.Step.RealmCall.{measurement_read, measurement_extend, 
 
 -- the machine of the scripts gives each reply, or not
 abbrev pub AreReplayed : Bool → List (List JournalEntry) → Type 0
-AreReplayed all scripts = AllByRecursion (λ (entries : List JournalEntry). is_some (replay (opening script_setup) entries) ≡ all) scripts
+AreReplayed all scripts = AllByRecursion (λ (entries : List JournalEntry). is_some (replay (opening script_config) entries) ≡ all) scripts
 
 pub all_runs : AreReplayed true
     (table_with_data_stays

@@ -1,7 +1,8 @@
 -- Values chosen by a test, and searches.
 use Rattle.std.proofs.Common.{◌≡◌, ℕ, zero, suc, ◌<◌, Bool, true, false, ◌&&◌, ◌||◌, ◌==◌, ◌⊎◌, if◌then◌else◌, Option, Some, None, is_some, refl, sym, ◌∙◌, inl, inr, arith}
 use Rattle.std.proofs.lemmas.Bool.{and_parts, eqb-true, eq-eqb}
-use Rattle.rmm_spec.specs.State.{is_spot, any_below}
+use Rattle.rmm_spec.specs.Update.{is_same_entry}
+use Rattle.rmm_spec.specs.Lookup.{any_below}
 use Rattle.rmm_spec.proofs.Tests.{both_ways}
 
 -- what is chosen is the one or the other
@@ -28,7 +29,7 @@ pub same_value : {A : Type 0} {found : Option A} {x y : A} → found ≡ Some x 
 same_value {A} {found} {x} {y} first second = let same : Some x ≡ Some y = sym first ∙ second in cc
 
 -- where one spot is another their parts are
-pub spot_parts : (rd level number other l n : ℕ) → is_spot rd level number other l n ≡ true → (other ≡ rd) × (l ≡ level) × (n ≡ number)
+pub spot_parts : (rd level number other l n : ℕ) → is_same_entry rd level number other l n ≡ true → (other ≡ rd) × (l ≡ level) × (n ≡ number)
 spot_parts rd level number other l n hit =
     let outer = and_parts (other == rd && l == level) (n == number) hit in
     let inner = and_parts (other == rd) (l == level) outer.0 in

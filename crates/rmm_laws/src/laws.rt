@@ -4,7 +4,7 @@ ghost use Rattle.std.specs.Prelude.{◌≡◌, ℕ, take, List, [], false};
 ghost use Rattle.rmm_spec.specs.declared.command.Command.{Command};
 ghost use Rattle.rmm_spec.specs.declared.function_id.FunctionId.TheVariants.{GranuleDelegate, GranuleUndelegate};
 ghost use Rattle.rmm_spec.specs.declared.reply.Reply.{Reply};
-ghost use Rattle.rmm_spec.specs.HistoryText.{Setup, History};
+ghost use Rattle.rmm_spec.specs.HistoryText.{Config, History};
 ghost use Rattle.rmm_spec.specs.State.{State, opening};
 ghost use Rattle.rmm_spec.specs.Rows.{ok};
 ghost use Rattle.rmm_spec.specs.Step.{Step};
@@ -47,7 +47,7 @@ pub fn first_parts_are_runs()
 
 /// After every run, and so after each first part of one, no granule is more than one realm's.
 pub fn runs_are_isolated()
-    ensures isolated { (setup : Setup) (entries : List JournalEntry) (last : State)
-        → IsRun (opening setup) entries last → IsIsolated entries last }
+    ensures isolated { (config : Config) (entries : List JournalEntry) (last : State)
+        → IsRun (opening config) entries last → IsIsolated entries last }
     ensures throughout { (history : History) (entries : List JournalEntry) → IsIsolatedThroughout history entries }
 {}

@@ -4,14 +4,14 @@ ghost use Rattle.std.specs.Prelude.{◌≡◌, ℕ, ◌^◌, ◌<◌, ◌≤◌,
 ghost use Rattle.rmm_spec.specs.declared.command.Command.{Command};
 ghost use Rattle.rmm_spec.specs.declared.function_id.FunctionId.TheVariants.{RealmCreate, DataCreateUnknown, RttInitRipas, RttSetRipas};
 ghost use Rattle.rmm_spec.specs.declared.reply.Reply.{Reply};
-ghost use Rattle.rmm_spec.specs.HistoryText.{Setup};
+ghost use Rattle.rmm_spec.specs.HistoryText.{Config};
 ghost use Rattle.rmm_spec.specs.State.{State, RealmRecord, opening};
 ghost use Rattle.rmm_spec.specs.Walk.{table_number, is_table, entry_for, reach, IsWalk};
 ghost use Rattle.rmm_spec.specs.Rows.{ok};
 ghost use Rattle.rmm_spec.specs.Step.{Step};
 ghost use Rattle.rmm_spec.specs.Run.{JournalEntry, IsRun};
 ghost use Rattle.rmm_spec.specs.Script as script;
-ghost use Rattle.rmm_spec.specs.Script.{script_setup};
+ghost use Rattle.rmm_spec.specs.Script.{script_config};
 ghost use Rattle.rmm_spec.specs.Footprint.{KeepsOthers, changed_parts};
 ghost use Rattle.rmm_laws.specs.Commands as commands;
 
@@ -43,34 +43,34 @@ pub fn fresh_root_covers_space()
 
 /// After every run, a walk to a realm's start level ends at the realm's root.
 pub fn walks_begin_at_root()
-    ensures { (setup : Setup) (entries : List JournalEntry) (s : State) (rd ipa : ℕ) (realm : RealmRecord)
-        → IsRun (opening setup) entries s → s.realm rd ≡ Some realm → ipa < 2 ^ realm.width
+    ensures { (config : Config) (entries : List JournalEntry) (s : State) (rd ipa : ℕ) (realm : RealmRecord)
+        → IsRun (opening config) entries s → s.realm rd ≡ Some realm → ipa < 2 ^ realm.width
         → IsWalk s rd ipa realm.start_level realm.start_level realm.root (entry_for s rd realm.start_level ipa) }
 {}
 
 /// The worked scripts are runs: the definitions give each of their replies.
 pub fn worked_scripts_are_runs()
-    ensures table_with_data_stays { (last : State) × IsRun (opening script_setup) script.table_with_data_stays last }
-    ensures data_granule_mapped_twice { (last : State) × IsRun (opening script_setup) script.data_granule_mapped_twice last }
-    ensures ripas_change_in_two_parts { (last : State) × IsRun (opening script_setup) script.ripas_change_in_two_parts last }
-    ensures ripas_change_past_table { (last : State) × IsRun (opening script_setup) script.ripas_change_past_table last }
-    ensures life_of_a_rec { (last : State) × IsRun (opening script_setup) script.life_of_a_rec last }
-    ensures off_and_out_of_range { (last : State) × IsRun (opening script_setup) script.off_and_out_of_range last }
-    ensures ripas_before_a_realm_runs { (last : State) × IsRun (opening script_setup) script.ripas_before_a_realm_runs last }
-    ensures realms_and_recs_come_and_go { (last : State) × IsRun (opening script_setup) script.realms_and_recs_come_and_go last }
-    ensures words_out_of_range { (last : State) × IsRun (opening script_setup) script.words_out_of_range last }
+    ensures table_with_data_stays { (last : State) × IsRun (opening script_config) script.table_with_data_stays last }
+    ensures data_granule_mapped_twice { (last : State) × IsRun (opening script_config) script.data_granule_mapped_twice last }
+    ensures ripas_change_in_two_parts { (last : State) × IsRun (opening script_config) script.ripas_change_in_two_parts last }
+    ensures ripas_change_past_table { (last : State) × IsRun (opening script_config) script.ripas_change_past_table last }
+    ensures life_of_a_rec { (last : State) × IsRun (opening script_config) script.life_of_a_rec last }
+    ensures off_and_out_of_range { (last : State) × IsRun (opening script_config) script.off_and_out_of_range last }
+    ensures ripas_before_a_realm_runs { (last : State) × IsRun (opening script_config) script.ripas_before_a_realm_runs last }
+    ensures realms_and_recs_come_and_go { (last : State) × IsRun (opening script_config) script.realms_and_recs_come_and_go last }
+    ensures words_out_of_range { (last : State) × IsRun (opening script_config) script.words_out_of_range last }
 {}
 
 /// After the script that gives a page of one realm to another, the machine doesn't accept that.
 pub fn a_page_is_given_once()
-    ensures { (last next : State) → IsRun (opening script_setup) script.data_granule_mapped_twice last
+    ensures { (last next : State) → IsRun (opening script_config) script.data_granule_mapped_twice last
         → Step last 0 (commands.command DataCreateUnknown (0x6000 ∷ 0x5000 ∷ 0 ∷ [])) (ok []) next → ⊥ }
 {}
 
 /// A reply that says more was done than the definitions allow makes no run.
 pub fn longer_stretches_are_no_runs()
-    ensures past_the_table { (last : State) → IsRun (opening script_setup)
+    ensures past_the_table { (last : State) → IsRun (opening script_config)
         (take 15 script.ripas_change_past_table ++ script.answered RttSetRipas (0x1000 ∷ 0x5000 ∷ 0x1ff000 ∷ 0x201000 ∷ []) (ok (0x201000 ∷ [])) ∷ []) last → ⊥ }
-    ensures over_a_page { (last : State) → IsRun (opening script_setup)
+    ensures over_a_page { (last : State) → IsRun (opening script_config)
         (take 11 script.ripas_before_a_realm_runs ++ script.answered RttInitRipas (0x1000 ∷ 0 ∷ 0x3000 ∷ []) (ok (0x2000 ∷ [])) ∷ []) last → ⊥ }
 {}

@@ -3,7 +3,8 @@ use Rattle.std.proofs.Common.{◌≡◌, ℕ, IsTrue, Option, Some, None, is_som
 use Rattle.rmm_spec.specs.declared.accepted.Accepted.{Accepted}
 use Rattle.rmm_spec.specs.declared.accepted.Accepted.TheVariants.{Done, Reaches}
 use Rattle.rmm_spec.specs.declared.tag.Tag.TheVariants.{Rd, Rec}
-use Rattle.rmm_spec.specs.State.{State, RecRecord, Request, Pending, no_request, has_tag, is_cpu, runs_on, is_inside, rec_inside, realm_at, rec_at, request_of}
+use Rattle.rmm_spec.specs.State.{State, RecRecord, Request, Pending}
+use Rattle.rmm_spec.specs.Lookup.{no_request, has_tag, is_cpu, runs_on, is_inside, rec_inside, realm_at, rec_at, request_of}
 use Rattle.rmm_spec.specs.Sound.{IsRequest, IsSound}
 use Rattle.rmm_spec.specs.Step.Ripas.{IsReached, reached_change}
 use Rattle.rmm_spec.specs.Applicable.{CanApply}

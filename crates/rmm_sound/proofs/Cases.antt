@@ -1,7 +1,7 @@
 -- What is looked up in a changed map: at the address that was changed, or elsewhere.
 use Rattle.std.proofs.Common.{◌≡◌, ℕ, ◌==◌, ◌&&◌, Bool, true, false, if◌then◌else◌, IsTrue, Option, Some, None, is_some, refl, sym, ◌∙◌}
 use Rattle.std.proofs.lemmas.Bool.{and_parts, eqb-true, eq-eqb, false_from_ne_true}
-use Rattle.rmm_spec.specs.State.{is_spot}
+use Rattle.rmm_spec.specs.Update.{is_same_entry}
 
 -- a test can't have both results
 pub both_ways : {A : Type 0} {b : Bool} → IsTrue b → b ≡ false → A
@@ -21,7 +21,7 @@ pub by_address : {A : Type 0} (Has : A → Type 0) (g a : ℕ) (x y : A) → (g 
 by_address Has g a x y here elsewhere = choice Has _ (g == a) x y refl (λ same. here (eqb-true g a same)) elsewhere
 
 -- a place that is hit is the one that is meant
-pub spot_hit : {A : Type 0} (rd level number other l n : ℕ) → IsTrue (is_spot rd level number other l n) → (other ≡ rd → l ≡ level → n ≡ number → A) → A
+pub spot_hit : {A : Type 0} (rd level number other l n : ℕ) → IsTrue (is_same_entry rd level number other l n) → (other ≡ rd → l ≡ level → n ≡ number → A) → A
 spot_hit rd level number other l n hit here =
     let outer = and_parts (other == rd && l == level) (n == number) hit in
     let inner = and_parts (other == rd) (l == level) outer.0 in
@@ -29,13 +29,13 @@ spot_hit rd level number other l n hit here =
 
 -- by one place of a table or entry
 pub by_spot : {A : Type 0} (Has : A → Type 0) (rd level number other l n : ℕ) (x y : A)
-    → (other ≡ rd → l ≡ level → n ≡ number → Has x) → (is_spot rd level number other l n ≡ false → Has y)
-    → Has (if is_spot rd level number other l n then x else y)
+    → (other ≡ rd → l ≡ level → n ≡ number → Has x) → (is_same_entry rd level number other l n ≡ false → Has y)
+    → Has (if is_same_entry rd level number other l n then x else y)
 by_spot Has rd level number other l n x y here elsewhere =
-    choice Has _ (is_spot rd level number other l n) x y refl (λ hit. spot_hit rd level number other l n hit here) elsewhere
+    choice Has _ (is_same_entry rd level number other l n) x y refl (λ hit. spot_hit rd level number other l n hit here) elsewhere
 
 -- a place is itself
-pub spot_itself : (rd level number : ℕ) → is_spot rd level number rd level number ≡ true
+pub spot_itself : (rd level number : ℕ) → is_same_entry rd level number rd level number ≡ true
 spot_itself rd level number = rw (eq-eqb rd rd refl, eq-eqb level level refl, eq-eqb number number refl) refl
 
 -- what is looked up where it was put
@@ -43,11 +43,11 @@ pub at_itself : {A : Type 0} (a : ℕ) (x y : A) → (if a == a then x else y) �
 at_itself a x y = rw (eq-eqb a a refl) refl
 
 -- a place of another realm
-pub spot_other : (rd level number other l n : ℕ) → (other == rd) ≡ false → is_spot rd level number other l n ≡ false
+pub spot_other : (rd level number other l n : ℕ) → (other == rd) ≡ false → is_same_entry rd level number other l n ≡ false
 spot_other rd level number other l n apart = rw apart refl
 
 -- a place of another level
-pub spot_level : (rd level number other l n : ℕ) → (l ≡ level → ⊥) → is_spot rd level number other l n ≡ false
+pub spot_level : (rd level number other l n : ℕ) → (l ≡ level → ⊥) → is_same_entry rd level number other l n ≡ false
 spot_level rd level number other l n apart =
     false_from_ne_true _ (λ hit. spot_hit rd level number other l n hit (λ _ same _. apart same))
 

@@ -10,7 +10,8 @@ use Rattle.rmm_spec.specs.declared.function_id.FunctionId.{FunctionId}
 use Rattle.rmm_spec.specs.declared.function_id.FunctionId.TheVariants as function
 use Rattle.rmm_spec.specs.declared.reply.Reply.TheVariants as reply
 use Rattle.rmm_spec.specs.Call.{call_from, call_of, class_of}
-use Rattle.rmm_spec.specs.State.{State, is_inside, rec_inside, rec_at}
+use Rattle.rmm_spec.specs.State.{State}
+use Rattle.rmm_spec.specs.Lookup.{is_inside, rec_inside, rec_at}
 use Rattle.rmm_spec.specs.Sound.{IsSound}
 use Rattle.rmm_spec.specs.Step.{is_placed, answer_of, outcome}
 use Rattle.rmm_sound.proofs.ByRows.{row_holds}

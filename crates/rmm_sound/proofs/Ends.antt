@@ -9,7 +9,8 @@ use Rattle.rmm_spec.specs.declared.entry.Entry.{Entry}
 use Rattle.rmm_spec.specs.declared.entry.Entry.TheVariants.{Unassigned, UnassignedNs}
 use Rattle.rmm_spec.specs.declared.tag.Ripas.TheVariants.{Destroyed}
 use Rattle.rmm_spec.specs.declared.tag.Tag.TheVariants.{Rd}
-use Rattle.rmm_spec.specs.State.{State, RealmRecord, has_tag, realm_at}
+use Rattle.rmm_spec.specs.State.{State, RealmRecord}
+use Rattle.rmm_spec.specs.Lookup.{has_tag, realm_at}
 use Rattle.rmm_spec.specs.Walk.{entry_size, table_size, entry_number, table_number, full, half, is_multiple, is_table, is_assigned, entry_at, reach, walk}
 use Rattle.rmm_spec.specs.Step.Words.{is_page}
 use Rattle.rmm_spec.specs.Step.Table.{entry_after_table}

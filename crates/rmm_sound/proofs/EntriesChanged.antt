@@ -10,7 +10,9 @@ use Rattle.rmm_spec.specs.declared.entry.Entry.{Entry}
 use Rattle.rmm_spec.specs.declared.entry.Entry.TheVariants.{Assigned}
 use Rattle.rmm_spec.specs.declared.tag.Ripas.{Ripas}
 use Rattle.rmm_spec.specs.declared.tag.Tag.TheVariants.{Delegated, RecAux, Data, Rtt}
-use Rattle.rmm_spec.specs.State.{State, RealmRecord, with_tag, with_table, without_table, with_leaf, has_tag, realm_at, rec_at, no_realm}
+use Rattle.rmm_spec.specs.State.{State, RealmRecord}
+use Rattle.rmm_spec.specs.Update.{with_tag, with_table, without_table, with_leaf}
+use Rattle.rmm_spec.specs.Lookup.{has_tag, realm_at, rec_at, no_realm}
 use Rattle.rmm_spec.specs.Walk.{entry_at, is_table, is_assigned}
 use Rattle.rmm_spec.specs.Change.{realm_updated, with_realm_change, with_rec_change, with_tag_change, with_entry_change}
 use Rattle.rmm_spec.specs.Sound.{IsSound, IsLeafOf}

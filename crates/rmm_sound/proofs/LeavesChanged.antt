@@ -4,7 +4,9 @@ use Rattle.rmm_spec.specs.declared.entry.Entry.{Entry}
 use Rattle.rmm_spec.specs.declared.entry.Entry.TheVariants.{Unassigned, Assigned, Table, UnassignedNs, AssignedNs}
 use Rattle.rmm_spec.specs.declared.tag.Ripas.{Ripas}
 use Rattle.rmm_spec.specs.declared.tag.Tag.TheVariants.{Data}
-use Rattle.rmm_spec.specs.State.{State, RealmRecord, with_leaf, with_ripas, entry_with_ripas, is_spot, has_tag}
+use Rattle.rmm_spec.specs.State.{State, RealmRecord}
+use Rattle.rmm_spec.specs.Update.{with_leaf, with_ripas, entry_with_ripas, is_same_entry}
+use Rattle.rmm_spec.specs.Lookup.{has_tag}
 use Rattle.rmm_spec.specs.Sound.{IsSound, IsLeafOf}
 use Rattle.rmm_sound.proofs.Cases.{by_spot, both_ways, nothing_there}
 use Rattle.rmm_sound.proofs.Kept.{same_realms, realms_kept, recs_kept, tables_kept}
@@ -53,7 +55,7 @@ pub record CanPutLeaf (s : State) (rd level number : ℕ) (entry : Entry) : Type
   pub kind : (r : RealmRecord) → s.realm rd ≡ Some r → IsLeafOf entry r level number
   pub page : (granule : ℕ) (ripas : Ripas) → entry ≡ Assigned ripas granule → IsTrue (has_tag s granule Data)
   pub alone : (granule : ℕ) (ripas : Ripas) → entry ≡ Assigned ripas granule
-      → (other l n : ℕ) (old : Ripas) → s.leaf other l n ≡ Some (Assigned old granule) → is_spot rd level number other l n ≡ false → ⊥
+      → (other l n : ℕ) (old : Ripas) → s.leaf other l n ≡ Some (Assigned old granule) → is_same_entry rd level number other l n ≡ false → ⊥
 
 -- one leaf is replaced
 pub with_leaf_sound : (s : State) (rd level number : ℕ) (entry : Entry) → IsSound s → CanPutLeaf s rd level number entry → IsSound (with_leaf s rd level number entry)

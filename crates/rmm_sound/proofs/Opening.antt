@@ -3,30 +3,31 @@ use Rattle.std.proofs.Common.{◌≡◌, ℕ, false, refl, sym}
 use Rattle.std.proofs.lemmas.Bool.{and_right}
 use Rattle.rmm_spec.specs.declared.tag.Tag.{Tag}
 use Rattle.rmm_spec.specs.declared.tag.Tag.TheVariants.{Undelegated, Rd, Rec}
-use Rattle.rmm_spec.specs.HistoryText.{Setup}
-use Rattle.rmm_spec.specs.State.{opening, is_granule, has_tag}
+use Rattle.rmm_spec.specs.HistoryText.{Config}
+use Rattle.rmm_spec.specs.State.{opening}
+use Rattle.rmm_spec.specs.Lookup.{is_granule, has_tag}
 use Rattle.rmm_spec.specs.Sound.{IsSound}
 use Rattle.rmm_sound.proofs.Cases.{both_ways, nothing_there}
 use Rattle.rmm_sound.proofs.Tags.{AreOther}
 
 -- no granule has another tag than the host's
-opening-tags : (setup : Setup) (g : ℕ) (tag : Tag) → AreOther Undelegated tag → has_tag (opening setup) g tag ≡ false
+opening-tags : (config : Config) (g : ℕ) (tag : Tag) → AreOther Undelegated tag → has_tag (opening config) g tag ≡ false
 unfolding has_tag opening
-opening-tags setup g tag other = rw other (and_right (is_granule setup.granules g) false refl)
+opening-tags config g tag other = rw other (and_right (is_granule config.granules g) false refl)
 
 -- nothing stands in the opening state
-pub opening_sound : (setup : Setup) → IsSound (opening setup)
+pub opening_sound : (config : Config) → IsSound (opening config)
 unfolding opening
-opening_sound setup = record {
+opening_sound config = record {
   outside = λ g none. refl;
   realms = record {
-    tagged = λ g. sym (opening-tags setup g Rd refl);
+    tagged = λ g. sym (opening-tags config g Rd refl);
     spaces = λ g r at. nothing_there refl at;
     measured = λ g r at. nothing_there refl at;
     apart = λ g h r q at. nothing_there refl at;
   };
   recs = record {
-    tagged = λ g. sym (opening-tags setup g Rec refl);
+    tagged = λ g. sym (opening-tags config g Rec refl);
     owned = λ g c at. nothing_there refl at;
     aux0 = λ g c at. nothing_there refl at;
     aux1 = λ g c at. nothing_there refl at;

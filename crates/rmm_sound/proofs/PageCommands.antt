@@ -5,7 +5,8 @@ use Rattle.std.proofs.lemmas.Bool.{and_parts, eqb-true, ltb-true}
 use Rattle.rmm_spec.specs.declared.accepted.Accepted.{Accepted}
 use Rattle.rmm_spec.specs.declared.entry.Entry.TheVariants.{Unassigned, Assigned, UnassignedNs, AssignedNs}
 use Rattle.rmm_spec.specs.declared.tag.Ripas.TheVariants.{Ram}
-use Rattle.rmm_spec.specs.State.{State, is_new, realm_at}
+use Rattle.rmm_spec.specs.State.{State}
+use Rattle.rmm_spec.specs.Lookup.{is_new, realm_at}
 use Rattle.rmm_spec.specs.Walk.{entry_number, entry_at, full, half, is_table, is_assigned, is_unassigned, is_unassigned_ram, is_unassigned_ns, is_assigned_ns, entry_address, entry_ripas, reach, walk}
 use Rattle.rmm_spec.specs.Rows.{row, input, realm_error, table_error}
 use Rattle.rmm_spec.specs.Step.Words.{words_of}

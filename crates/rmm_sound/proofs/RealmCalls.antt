@@ -3,7 +3,8 @@ use Rattle.std.proofs.Common.{◌≡◌, ℕ, ◌<◌, nat_lt, nat_le, List, [],
 use Rattle.std.specs.Prelude.{Ok}
 use Rattle.std.proofs.lemmas.Bool.{and_parts, ltb-true, leb-true}
 use Rattle.rmm_spec.specs.declared.accepted.Accepted.{Accepted}
-use Rattle.rmm_spec.specs.State.{State, realm_at, rec_at}
+use Rattle.rmm_spec.specs.State.{State}
+use Rattle.rmm_spec.specs.Lookup.{realm_at, rec_at}
 use Rattle.rmm_spec.specs.Walk.{half}
 use Rattle.rmm_spec.specs.Rows.{input}
 use Rattle.rmm_spec.specs.Step.Words.{words_of}

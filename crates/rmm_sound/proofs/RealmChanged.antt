@@ -1,7 +1,9 @@
 -- A realm's record is replaced by one like it.
 use Rattle.std.proofs.Common.{◌≡◌, ℕ, Some, is_some, refl, sym, ◌∙◌, ap, subst}
 use Rattle.rmm_spec.specs.declared.tag.Tag.TheVariants.{Rd}
-use Rattle.rmm_spec.specs.State.{State, RealmRecord, with_realm, has_tag}
+use Rattle.rmm_spec.specs.State.{State, RealmRecord}
+use Rattle.rmm_spec.specs.Update.{with_realm}
+use Rattle.rmm_spec.specs.Lookup.{has_tag}
 use Rattle.rmm_spec.specs.Sound.{IsSound}
 use Rattle.rmm_sound.proofs.Cases.{by_address}
 use Rattle.rmm_sound.proofs.Kept.{IsLike, like_itself, space_of_like, AreLikeRealms, recs_kept, tables_kept, leaves_kept}

@@ -7,7 +7,9 @@ use Rattle.rmm_spec.specs.declared.tag.Ripas.{Ripas}
 use Rattle.rmm_spec.specs.declared.tag.Ripas.TheVariants.{Empty}
 use Rattle.rmm_spec.specs.declared.tag.Tag.{Tag}
 use Rattle.rmm_spec.specs.declared.tag.Tag.TheVariants.{Undelegated, Delegated, Rd, Rec, RecAux, Data, Rtt}
-use Rattle.rmm_spec.specs.State.{State, RealmRecord, RecRecord, with_tag, with_realm, without_realm, with_root, is_spot, has_tag, has_vmid, is_owned_by}
+use Rattle.rmm_spec.specs.State.{State, RealmRecord, RecRecord}
+use Rattle.rmm_spec.specs.Update.{with_tag, with_realm, without_realm, with_root, is_same_entry}
+use Rattle.rmm_spec.specs.Lookup.{has_tag, has_vmid, is_owned_by}
 use Rattle.rmm_spec.specs.Change.{new_realm}
 use Rattle.rmm_spec.specs.Step.Words.{is_space}
 use Rattle.rmm_spec.specs.Sound.{IsSound, IsTableOf, IsLeafOf}
@@ -145,7 +147,7 @@ put_realm_sound s rd root width level vmid algo sound can =
             (λ here at first _. rw (spot_level rd level 0 other (suc l) n (λ same. omega arith))
             (none_of (s.table other (suc l) n) (false_from_ne_true _ (λ there. both_ways (eq-eqb other rd here) (others.table other (suc l) n there)))))
             (λ _ at. rw (spot_other rd level 0 other (suc l) n (others.leaf other l n e at)) (sound.leaves.unlinked other l n e at));
-        complete = λ other l n. complete_by (is_spot rd level 0 other l (n / 512)) (is_spot rd level 0 other (suc l) n) root (s.table other l (n / 512)) (s.table other (suc l) n)
+        complete = λ other l n. complete_by (is_same_entry rd level 0 other l (n / 512)) (is_same_entry rd level 0 other (suc l) n) root (s.table other l (n / 512)) (s.table other (suc l) n)
             (root_entry n) (s.leaf other l n) (sound.leaves.complete other l n);
         kinds = λ other l n e r. by_spot (λ found. found ≡ Some e → t.realm other ≡ Some r → IsLeafOf e r l n) rd level 0 other l (n / 512) (Some (root_entry n)) (s.leaf other l n)
             (λ here at first same realm.

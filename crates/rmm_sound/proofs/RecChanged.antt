@@ -1,7 +1,9 @@
 -- A REC's record is replaced, put in or taken out.
 use Rattle.std.proofs.Common.{◌≡◌, ℕ, ◌==◌, false, IsTrue, Some, is_some, refl, sym, ◌∙◌, ap}
 use Rattle.rmm_spec.specs.declared.tag.Tag.TheVariants.{Rd, Rec, RecAux}
-use Rattle.rmm_spec.specs.State.{State, RealmRecord, RecRecord, Request, Pending, RipasChange, with_rec, has_tag, runs_on}
+use Rattle.rmm_spec.specs.State.{State, RealmRecord, RecRecord, Request, Pending, RipasChange}
+use Rattle.rmm_spec.specs.Update.{with_rec}
+use Rattle.rmm_spec.specs.Lookup.{has_tag, runs_on}
 use Rattle.rmm_spec.specs.Sound.{IsRequest, IsSound, has_aux}
 use Rattle.rmm_sound.proofs.Cases.{by_address, both_ways}
 use Rattle.rmm_sound.proofs.Kept.{same_realms, realms_kept, tables_kept, leaves_kept}

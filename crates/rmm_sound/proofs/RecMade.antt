@@ -3,7 +3,9 @@ use Rattle.std.proofs.Common.{◌≡◌, ℕ, ◌==◌, false, IsTrue, Some, Non
 use Rattle.std.proofs.lemmas.Bool.{eq-eqb}
 use Rattle.rmm_spec.specs.declared.tag.Tag.{Tag}
 use Rattle.rmm_spec.specs.declared.tag.Tag.TheVariants.{Undelegated, Delegated, Rd, Rec, RecAux, Data, Rtt}
-use Rattle.rmm_spec.specs.State.{State, RecRecord, RipasChange, with_tag, with_rec, without_rec, has_tag, runs_on}
+use Rattle.rmm_spec.specs.State.{State, RecRecord, RipasChange}
+use Rattle.rmm_spec.specs.Update.{with_tag, with_rec, without_rec}
+use Rattle.rmm_spec.specs.Lookup.{has_tag, runs_on}
 use Rattle.rmm_spec.specs.Sound.{IsRequest, IsSound, has_aux}
 use Rattle.rmm_spec.proofs.TagLaws.{tag-has_tag, granule_from_tag}
 use Rattle.rmm_sound.proofs.Cases.{by_address, both_ways, nothing_there}

@@ -3,7 +3,8 @@ use Rattle.std.proofs.Common.{◌≡◌, ℕ, ◌==◌, ◌&&◌, not, false, na
 use Rattle.std.specs.Prelude.{Ok}
 use Rattle.std.proofs.lemmas.Bool.{and_parts, not-true, eqb-true}
 use Rattle.rmm_spec.specs.declared.accepted.Accepted.{Accepted}
-use Rattle.rmm_spec.specs.State.{State, is_new, is_system_off, is_vmid_used, has_rec, is_inside, realm_at, rec_at}
+use Rattle.rmm_spec.specs.State.{State}
+use Rattle.rmm_spec.specs.Lookup.{is_new, is_system_off, is_vmid_used, has_rec, is_inside, realm_at, rec_at}
 use Rattle.rmm_spec.specs.Walk.{has_link}
 use Rattle.rmm_spec.specs.Rows.{row, input, realm_error, rec_error}
 use Rattle.rmm_spec.specs.Step.Words.{words_of}

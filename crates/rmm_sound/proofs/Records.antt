@@ -9,7 +9,9 @@ use Rattle.rmm_spec.specs.declared.change.RecChange.{RecChange}
 use Rattle.rmm_spec.specs.declared.change.RecUpdate.{RecUpdate}
 use Rattle.rmm_spec.specs.declared.change.RecUpdate.TheVariants as rec_update
 use Rattle.rmm_spec.specs.declared.tag.Tag.TheVariants.{Rd}
-use Rattle.rmm_spec.specs.State.{State, RealmRecord, RecRecord, Request, Psci, RipasChange, HostCall, with_realm, has_tag, runs_on, realm_at, rec_at}
+use Rattle.rmm_spec.specs.State.{State, RealmRecord, RecRecord, Request, Psci, RipasChange, HostCall}
+use Rattle.rmm_spec.specs.Update.{with_realm}
+use Rattle.rmm_spec.specs.Lookup.{has_tag, runs_on, realm_at, rec_at}
 use Rattle.rmm_spec.specs.Change.{realm_updated, rec_updated, with_realm_change, with_rec_change}
 use Rattle.rmm_spec.specs.Sound.{IsRequest, IsSound}
 use Rattle.rmm_spec.specs.Applicable.{CanUpdateRec, CanChangeRealm, CanChangeRec}

@@ -5,7 +5,8 @@ use Rattle.std.proofs.lemmas.Bool.{and_parts, and_from, eqb-true, ltb-true, leb-
 use Rattle.rmm_spec.specs.declared.accepted.Accepted.{Accepted}
 use Rattle.rmm_spec.specs.declared.accepted.Stretch.{Stretch}
 use Rattle.rmm_spec.specs.declared.accepted.StretchUse.TheVariants.{Init, Requested}
-use Rattle.rmm_spec.specs.State.{State, Request, is_new, realm_at, rec_at, request_of}
+use Rattle.rmm_spec.specs.State.{State, Request}
+use Rattle.rmm_spec.specs.Lookup.{is_new, realm_at, rec_at, request_of}
 use Rattle.rmm_spec.specs.Walk.{entry_size, half, is_multiple, is_unassigned, reach, walk}
 use Rattle.rmm_spec.specs.Rows.{row, input, realm_error, rec_error, table_error}
 use Rattle.rmm_spec.specs.Step.Words.{words_of, is_page}

@@ -7,7 +7,7 @@ use Rattle.rmm_spec.specs.declared.accepted.Stretch.{Stretch}
 use Rattle.rmm_spec.specs.declared.change.Change.{Change}
 use Rattle.rmm_spec.specs.declared.command.Command.{Command}
 use Rattle.rmm_spec.specs.declared.reply.Reply.{Reply}
-use Rattle.rmm_spec.specs.HistoryText.{Setup}
+use Rattle.rmm_spec.specs.HistoryText.{Config}
 use Rattle.rmm_spec.specs.Call.{call_of}
 use Rattle.rmm_spec.specs.Rows.{done}
 use Rattle.rmm_spec.specs.State.{State, opening}
@@ -54,5 +54,5 @@ run_sound (entry ∷ entries) old last sound run =
     run_sound entries run.0 last (step_sound old entry.cpu entry.command entry.given run.0 sound run.1) run.2
 
 -- each state that a run comes to is sound
-pub opened_run_sound : (setup : Setup) (entries : List JournalEntry) (last : State) → IsRun (opening setup) entries last → IsSound last
-opened_run_sound setup entries last run = run_sound entries (opening setup) last (opening_sound setup) run
+pub opened_run_sound : (config : Config) (entries : List JournalEntry) (last : State) → IsRun (opening config) entries last → IsSound last
+opened_run_sound config entries last run = run_sound entries (opening config) last (opening_sound config) run

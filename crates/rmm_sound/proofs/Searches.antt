@@ -3,7 +3,8 @@ use Rattle.std.proofs.Common.{◌≡◌, ℕ, zero, suc, ◌*◌, ◌/◌, ◌%�
 use Rattle.std.proofs.lemmas.Bool.{and_parts, or_parts, eqb-true}
 use Rattle.std.proofs.lemmas.Bool.Decides.{nat_tests}
 use Rattle.rmm_spec.specs.declared.tag.Tag.TheVariants.{Rd, Rec}
-use Rattle.rmm_spec.specs.State.{State, RealmRecord, RecRecord, is_granule, has_tag, any_below, greatest_below, is_inside, rec_inside, runs_on, is_vmid_used, has_vmid, has_rec, is_owned_by, realm_at, rec_at}
+use Rattle.rmm_spec.specs.State.{State, RealmRecord, RecRecord}
+use Rattle.rmm_spec.specs.Lookup.{is_granule, has_tag, any_below, greatest_below, is_inside, rec_inside, runs_on, is_vmid_used, has_vmid, has_rec, is_owned_by, realm_at, rec_at}
 use Rattle.rmm_spec.specs.Sound.{IsSound}
 use Rattle.rmm_spec.proofs.TagLaws.{granule_from_tag}
 use Rattle.rmm_sound.proofs.Cases.{both_ways}
@@ -94,10 +95,6 @@ realm_there s rd sound tag = read (s.realm rd) _ (sound.realms.tagged rd ∙ tag
 pub rec_there : (s : State) (a : ℕ) → IsSound s → IsTrue (has_tag s a Rec) → s.rec a ≡ Some (rec_at s a)
 unfolding rec_at
 rec_there s a sound tag = read (s.rec a) _ (sound.recs.tagged a ∙ tag)
-
--- a realm that stands somewhere has its tag there
-pub realm-tagged : (s : State) (rd : ℕ) (r : RealmRecord) → IsSound s → s.realm rd ≡ Some r → IsTrue (has_tag s rd Rd)
-realm-tagged s rd r sound there = sym (sound.realms.tagged rd) ∙ ap is_some there
 
 -- a realm is the one that is read at its address
 pub realm_at-is : (s : State) (rd : ℕ) (r : RealmRecord) → s.realm rd ≡ Some r → realm_at s rd ≡ r

@@ -3,7 +3,8 @@ use Rattle.std.proofs.Common.{◌≡◌, ℕ, suc, ◌-◌, ◌*◌, ◌/◌, �
 use Rattle.std.specs.Prelude.{Ok}
 use Rattle.std.proofs.lemmas.Bool.{and_parts, not-true, eqb-true, ltb-true, leb-true}
 use Rattle.rmm_spec.specs.declared.accepted.Accepted.{Accepted}
-use Rattle.rmm_spec.specs.State.{State, realm_at}
+use Rattle.rmm_spec.specs.State.{State}
+use Rattle.rmm_spec.specs.Lookup.{realm_at}
 use Rattle.rmm_spec.specs.Walk.{entry_size, entry_number, table_number, entry_at, entry_for, full, is_table, is_in_use, entry_address, reach, walk}
 use Rattle.rmm_spec.specs.Rows.{row, input, table_error}
 use Rattle.rmm_spec.specs.Step.Words.{words_of}

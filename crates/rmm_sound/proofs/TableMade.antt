@@ -5,7 +5,9 @@ use Rattle.rmm_spec.specs.declared.entry.Entry.{Entry}
 use Rattle.rmm_spec.specs.declared.entry.Entry.TheVariants.{Unassigned, Assigned, Table, UnassignedNs, AssignedNs}
 use Rattle.rmm_spec.specs.declared.tag.Ripas.{Ripas}
 use Rattle.rmm_spec.specs.declared.tag.Tag.TheVariants.{Rtt}
-use Rattle.rmm_spec.specs.State.{State, RealmRecord, with_table, without_table, is_spot, has_tag}
+use Rattle.rmm_spec.specs.State.{State, RealmRecord}
+use Rattle.rmm_spec.specs.Update.{with_table, without_table, is_same_entry}
+use Rattle.rmm_spec.specs.Lookup.{has_tag}
 use Rattle.rmm_spec.specs.Sound.{IsSound, IsTableOf, IsLeafOf}
 use Rattle.rmm_spec.specs.Applicable.{IsVacant}
 use Rattle.rmm_sound.proofs.Cases.{by_spot, both_ways, nothing_there, spot_hit, spot_level, some_either, none_of, left_of, by_two}
@@ -55,7 +57,7 @@ pub put_table_sound : (s : State) (rd up number granule : ℕ) (entry : Entry) (
 unfolding has_tag
 put_table_sound s rd up number granule entry r sound can =
     let t : State = with_table s rd (suc up) number granule entry in
-    let own : ℕ → ℕ → ℕ → Bool = λ other l n. is_spot rd (suc up) number other l n in
+    let own : ℕ → ℕ → ℕ → Bool = λ other l n. is_same_entry rd (suc up) number other l n in
     let next : (other l n : ℕ) → own other (l + 1) n ≡ own other (suc l) n = λ other l n. ap (λ m. own other m n) (add-one l) in
     let unlinked : s.table rd (suc up) number ≡ None = sound.leaves.unlinked rd up number entry can.leaf in
     let page_was : (a l n page : ℕ) (ripas : Ripas) → t.leaf a l n ≡ Some (Assigned ripas page) → s.leaf a l n ≡ Some (Assigned ripas page) =
@@ -139,7 +141,7 @@ pub taken_table_sound : (s : State) (rd up number granule : ℕ) (entry : Entry)
 unfolding has_tag
 taken_table_sound s rd up number granule entry r sound can =
     let t : State = without_table s rd (suc up) number entry in
-    let own : ℕ → ℕ → ℕ → Bool = λ other l n. is_spot rd (suc up) number other l n in
+    let own : ℕ → ℕ → ℕ → Bool = λ other l n. is_same_entry rd (suc up) number other l n in
     let next : (other l n : ℕ) → own other (l + 1) n ≡ own other (suc l) n = λ other l n. ap (λ m. own other m n) (add-one l) in
     let table : (a l n held : ℕ) → t.table a l n ≡ Some held → s.table a l n ≡ Some held =
     λ a l n held at. (left_of (own a l n) (s.table a l n) held at).1 in

@@ -2,7 +2,9 @@
 use Rattle.std.proofs.Common.{◌≡◌, ℕ, ◌==◌, ◌&&◌, false, IsTrue, refl, sym, ◌∙◌, ap}
 use Rattle.std.proofs.lemmas.Bool.{and_from, and_right, eq-eqb, ne_eqb}
 use Rattle.rmm_spec.specs.declared.tag.Tag.{Tag}
-use Rattle.rmm_spec.specs.State.{State, with_tag, tag_number, is_granule, has_tag}
+use Rattle.rmm_spec.specs.State.{State}
+use Rattle.rmm_spec.specs.Update.{with_tag}
+use Rattle.rmm_spec.specs.Lookup.{tag_number, is_granule, has_tag}
 use Rattle.rmm_spec.proofs.TagLaws.{tag-has_tag}
 use Rattle.rmm_sound.proofs.Cases.{by_address, both_ways}
 

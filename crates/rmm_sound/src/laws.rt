@@ -6,7 +6,7 @@ ghost use Rattle.rmm_spec.specs.declared.accepted.Stretch.{Stretch};
 ghost use Rattle.rmm_spec.specs.declared.change.Change.{Change};
 ghost use Rattle.rmm_spec.specs.declared.command.Command.{Command};
 ghost use Rattle.rmm_spec.specs.declared.reply.Reply.{Reply};
-ghost use Rattle.rmm_spec.specs.HistoryText.{Setup};
+ghost use Rattle.rmm_spec.specs.HistoryText.{Config};
 ghost use Rattle.rmm_spec.specs.Call.{call_of};
 ghost use Rattle.rmm_spec.specs.Rows.{done};
 ghost use Rattle.rmm_spec.specs.State.{State, opening};
@@ -32,7 +32,7 @@ pub fn changes_keep_sound()
 
 /// A state in which every granule is the host's is sound.
 pub fn opening_is_sound()
-    ensures { (setup : Setup) → IsSound (opening setup) }
+    ensures { (config : Config) → IsSound (opening config) }
 {}
 
 /// Every command keeps states sound, whatever it is answered.
@@ -43,6 +43,6 @@ pub fn steps_keep_sound()
 
 /// Each state that a run comes to is sound, so no run reads a record that isn't there.
 pub fn runs_are_sound()
-    ensures { (setup : Setup) (entries : List JournalEntry) (last : State)
-        → IsRun (opening setup) entries last → IsSound last }
+    ensures { (config : Config) (entries : List JournalEntry) (last : State)
+        → IsRun (opening config) entries last → IsSound last }
 {}

@@ -6,14 +6,14 @@ use Rattle.std.specs.Option.{option_and_then}
 use Rattle.std.proofs.lemmas.List.{take-map}
 use Rattle.std.proofs.lemmas.List.Elements.{filter-append}
 use Rattle.rmm_spec.proofs.Lines.{AreOneLineEach, AreOneLineEach-map, IsOneLine-from_parts, IsLineGrammar, not-IsBadLine, same_lines}
-use Rattle.rmm_spec.proofs.Texts.{setup_parts-are_parts, setup_parts-injective, event_parts-some, event_parts-are_parts, event_parts-injective}
-use Rattle.rmm_spec.specs.HistoryText.{History, IsHistory, IsEvent, Stand, start, stand_after, stand_from, events_of, cpu_of, IsRecord, setup_parts, event_parts, IsHistoryText, InHistories}
+use Rattle.rmm_spec.proofs.Texts.{config_parts-are_parts, config_parts-injective, event_parts-some, event_parts-are_parts, event_parts-injective}
+use Rattle.rmm_spec.specs.HistoryText.{History, IsHistory, IsEvent, Stand, start, stand_after, stand_from, subhistory_of, cpu_of, IsRecord, config_parts, event_parts, IsHistoryText, InHistories}
 use Rattle.rmm_spec.specs.Text.{IsBadLine, lines_text}
 use Rattle.rmm_spec.specs.declared.event.Event.{Event}
 
 -- the lines of a history
 abbrev pub lines_of : History → List (List (List ℕ))
-lines_of history = setup_parts history.setup ∷ map event_parts history.events
+lines_of history = config_parts history.config ∷ map event_parts history.events
 
 -- the lists of parts that spell a history
 pub record SpellsHistory (spelled : List (List (List ℕ))) : Type 0 where
@@ -24,7 +24,7 @@ pub record SpellsHistory (spelled : List (List (List ℕ))) : Type 0 where
 -- the lines of a history are one line each
 pub lines_of-one_line : (history : History) → AreOneLineEach (lines_of history)
 lines_of-one_line history = (
-  IsOneLine-from_parts (setup_parts history.setup) (omega arith) (setup_parts-are_parts history.setup),
+  IsOneLine-from_parts (config_parts history.config) (omega arith) (config_parts-are_parts history.config),
   AreOneLineEach-map event_parts event_parts-some event_parts-are_parts history.events,
 )
 
@@ -55,9 +55,9 @@ pub same_history : (text : List ℕ) (a b : History) → IsHistoryText text a �
 unfolding head_of
 same_history text a b of_a of_b =
     let lines = same_lines (lines_of a) (lines_of b) (lines_of-one_line a) (lines_of-one_line b) (sym of_a.is_text ∙ of_b.is_text) in
-    let setups : a.setup ≡ b.setup = setup_parts-injective a.setup b.setup (ap head_of lines) in
+    let configs : a.config ≡ b.config = config_parts-injective a.config b.config (ap head_of lines) in
     let events : a.events ≡ b.events = map-event_parts-injective a.events b.events (ap (λ ls. drop 1 ls) lines) in
-    λ i. record { setup = setups i; events = events i }
+    λ i. record { config = configs i; events = events i }
 
 -- what holds of each event holds of each of the first ones
 each-take : (P : Event → Type 0) (n : ℕ) (events : List Event) → AllByRecursion P events → AllByRecursion P (take n events)
@@ -79,17 +79,17 @@ stand_from-front old (event ∷ front) back is_some =
     (λ next some. stand_from-front next front back some) (stand_after old event) is_some
 
 -- the first events of a record are one
-IsRecord-take : (cpu n : ℕ) (events : List Event) → IsRecord (events_of cpu events) → IsRecord (events_of cpu (take n events))
+IsRecord-take : (cpu n : ℕ) (events : List Event) → IsRecord (subhistory_of cpu events) → IsRecord (subhistory_of cpu (take n events))
 IsRecord-take cpu n events is_record =
-    let parts : events_of cpu events ≡ events_of cpu (take n events) ++ events_of cpu (drop n events) =
-    ap (λ (es : List Event). events_of cpu es) (sym (take-append-drop n events)) ∙ filter-append (λ e. nat_eq (cpu_of e) cpu) (take n events) (drop n events) in
-    stand_from-front start (events_of cpu (take n events)) (events_of cpu (drop n events)) (subst IsRecord parts is_record)
+    let parts : subhistory_of cpu events ≡ subhistory_of cpu (take n events) ++ subhistory_of cpu (drop n events) =
+    ap (λ (es : List Event). subhistory_of cpu es) (sym (take-append-drop n events)) ∙ filter-append (λ e. nat_eq (cpu_of e) cpu) (take n events) (drop n events) in
+    stand_from-front start (subhistory_of cpu (take n events)) (subhistory_of cpu (drop n events)) (subst IsRecord parts is_record)
 
 -- the first events of a history are a history
 pub IsHistory-take : (n : ℕ) (history : History) → IsHistory history → IsHistory (record history { events = take n history.events })
 IsHistory-take n history is = record {
-  setup = is.setup;
-  events = each-take (IsEvent history.setup.cpus) n history.events is.events;
+  config = is.config;
+  events = each-take (IsEvent history.config.cpus) n history.events is.events;
   records = λ cpu. IsRecord-take cpu n history.events (is.records cpu);
   lines = omega (arith, is.lines, length-take n history.events);
 }
@@ -100,7 +100,7 @@ SpellsHistory-take zero spelled counted given = absurd (omega (arith, counted))
 SpellsHistory-take (suc n) spelled counted given = record {
   history = record given.history { events = take n given.history.events };
   is_history = IsHistory-take n given.history given.is_history;
-  is_spelled = ap (λ ls. take (suc n) ls) given.is_spelled ∙ ap (λ ls. setup_parts given.history.setup ∷ ls) (take-map event_parts n given.history.events);
+  is_spelled = ap (λ ls. take (suc n) ls) given.is_spelled ∙ ap (λ ls. config_parts given.history.config ∷ ls) (take-map event_parts n given.history.events);
 }
 
 -- a history's text has no bad line

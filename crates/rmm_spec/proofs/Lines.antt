@@ -4,11 +4,7 @@ use Rattle.std.proofs.lemmas.Bool.{ne_eqb}
 use Rattle.std.proofs.lemmas.List.{append-nil}
 use Rattle.std.specs.List.{AllByRecursion}
 use Rattle.rmm_spec.proofs.Texts.{IsPart, line_text-has_no_newline, parts_of-line_text}
-use Rattle.rmm_spec.specs.Text.{line_text, lines_text, parts_of, first_lines, IsBadLine}
-
--- the bytes have no newline among them
-abbrev pub HasNoNewline : List ℕ → Type 0
-HasNoNewline bytes = AllByRecursion (λ byte. byte ≢ 10) bytes
+use Rattle.rmm_spec.specs.Text.{line_text, lines_text, parts_of, first_lines, IsBadLine, HasNoNewline}
 
 -- The parts are one line: their text has no newline, and its parts are these.
 pub record IsOneLine (parts : List (List ℕ)) : Type 0 where
@@ -25,13 +21,6 @@ first_lines-line n [] rest none = refl
 first_lines-line n (byte ∷ front) rest none =
     ap (λ b. byte ∷ first_lines (if b then n else suc n) (front ++ 10 ∷ rest)) (ne_eqb byte 10 none.0)
     ∙ ap (λ bytes. byte ∷ bytes) (first_lines-line n front rest none.1)
-
--- the first lines of a text without a newline are the text
-pub first_lines-no_newline : (n : ℕ) (text : List ℕ) → HasNoNewline text → first_lines (suc n) text ≡ text
-first_lines-no_newline n [] none = refl
-first_lines-no_newline n (byte ∷ text) none =
-    ap (λ b. byte ∷ first_lines (if b then n else suc n) text) (ne_eqb byte 10 none.0)
-    ∙ ap (λ bytes. byte ∷ bytes) (first_lines-no_newline n text none.1)
 
 -- a text that goes on after a byte isn't empty
 pub append-cons-not_nil : {X : Type 0} (front : List X) (x : X) (rest : List X) → front ++ x ∷ rest ≡ [] → ⊥

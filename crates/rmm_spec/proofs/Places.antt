@@ -10,13 +10,8 @@ use Rattle.rmm_spec.specs.declared.reply.Reply.{Reply}
 use Rattle.rmm_spec.specs.declared.event.Event.{Event}
 use Rattle.rmm_spec.specs.declared.event.Event.TheVariants.{Called, Returned}
 use Rattle.rmm_spec.specs.CommandText.{IsCommand, IsReply}
-use Rattle.rmm_spec.specs.HistoryText.{History, IsHistory, IsEvent, Stand, start, stand_after, stand_from, events_of, cpu_of, IsRecord}
+use Rattle.rmm_spec.specs.HistoryText.{History, IsHistory, IsEvent, Stand, start, stand_after, stand_from, subhistory_of, cpu_of, IsRecord, rank}
 use Rattle.rmm_spec.specs.Linearization.{IsCalled, IsReturned, IsKnown, IsFinished}
-
--- how many events of its CPU a record has before the event
-abbrev pub rank : Event → ℕ
-rank (Called cpu number command) = number + number
-rank (Returned cpu number reply) = number + number + 1
 
 abbrev pub open_count : Bool → ℕ
 open_count is_open = cond is_open 1 0
@@ -77,25 +72,25 @@ length-stand_from old (event ∷ events) last leads =
     omega (arith, step.counted))
 
 -- the events of a CPU, one event longer at the front
-pub events_of-same : (cpu : ℕ) (event : Event) (events : List Event) → cpu_of event ≡ cpu → events_of cpu (event ∷ events) ≡ event ∷ events_of cpu events
-events_of-same cpu event events same = rw (eq-eqb (cpu_of event) cpu same) refl
+pub subhistory_of-same : (cpu : ℕ) (event : Event) (events : List Event) → cpu_of event ≡ cpu → subhistory_of cpu (event ∷ events) ≡ event ∷ subhistory_of cpu events
+subhistory_of-same cpu event events same = rw (eq-eqb (cpu_of event) cpu same) refl
 
-pub events_of-other : (cpu : ℕ) (event : Event) (events : List Event) → eqb (cpu_of event) cpu ≡ false → events_of cpu (event ∷ events) ≡ events_of cpu events
-events_of-other cpu event events other = rw other refl
+pub subhistory_of-other : (cpu : ℕ) (event : Event) (events : List Event) → eqb (cpu_of event) cpu ≡ false → subhistory_of cpu (event ∷ events) ≡ subhistory_of cpu events
+subhistory_of-other cpu event events other = rw other refl
 
 -- where some events of a CPU stand, and its event at a place
 pub record Ranked (old : Stand) (cpu : ℕ) (events : List Event) (place : ℕ) (event : Event) : Type 0 where
-  pub ranked : rank event + open_count old.is_open ≡ length (events_of cpu (take place events)) + (old.next + old.next)
+  pub ranked : rank event + open_count old.is_open ≡ length (subhistory_of cpu (take place events)) + (old.next + old.next)
 
 -- the rank of an event is the count of its CPU's events before it
 pub Ranked-slice_get : (old : Stand) (cpu : ℕ) (events : List Event) (last : Stand) (place : ℕ) (event : Event)
-    → stand_from old (events_of cpu events) ≡ Some last → slice_get events place ≡ Some event → cpu_of event ≡ cpu → Ranked old cpu events place event
+    → stand_from old (subhistory_of cpu events) ≡ Some last → slice_get events place ≡ Some event → cpu_of event ≡ cpu → Ranked old cpu events place event
 Ranked-slice_get old cpu [] last place event leads is_event same = absurd (none-some event is_event)
 Ranked-slice_get old cpu (first ∷ events) last zero event leads is_event same =
     let is_first : first ≡ event = same_Some first event is_event in
     let same_cpu : cpu_of first ≡ cpu = ap cpu_of is_first ∙ same in
-    let all : stand_from old (first ∷ events_of cpu events) ≡ Some last = rw (events_of-same cpu first events same_cpu) at leads in
-    first_step old first (events_of cpu events) last all (λ new is_new rest.
+    let all : stand_from old (first ∷ subhistory_of cpu events) ≡ Some last = rw (subhistory_of-same cpu first events same_cpu) at leads in
+    first_step old first (subhistory_of cpu events) last all (λ new is_new rest.
     let step = IsRankedStep-stand_after old first new is_new in
     let e : rank first ≡ rank event = ap rank is_first in
     record { ranked = omega (arith, step.ranked) })
@@ -103,18 +98,18 @@ Ranked-slice_get old cpu (first ∷ events) last (suc place) event leads is_even
     elim (cases_Bool (eqb (cpu_of first) cpu)) [
       | inl is_same ↦
           let same_cpu : cpu_of first ≡ cpu = eqb-true (cpu_of first) cpu is_same in
-          let all : stand_from old (first ∷ events_of cpu events) ≡ Some last = rw (events_of-same cpu first events same_cpu) at leads in
-          first_step old first (events_of cpu events) last all (λ new is_new rest.
+          let all : stand_from old (first ∷ subhistory_of cpu events) ≡ Some last = rw (subhistory_of-same cpu first events same_cpu) at leads in
+          first_step old first (subhistory_of cpu events) last all (λ new is_new rest.
           let step = IsRankedStep-stand_after old first new is_new in
           let later : Ranked new cpu events place event = Ranked-slice_get new cpu events last place event rest is_event same in
-          let longer : length (events_of cpu (first ∷ take place events)) ≡ length (events_of cpu (take place events)) + 1 =
-          ap length (events_of-same cpu first (take place events) same_cpu) ∙ omega arith in
+          let longer : length (subhistory_of cpu (first ∷ take place events)) ≡ length (subhistory_of cpu (take place events)) + 1 =
+          ap length (subhistory_of-same cpu first (take place events) same_cpu) ∙ omega arith in
           record { ranked = omega (arith, step.counted, later.ranked, longer) })
       | inr is_other ↦
-          let all : stand_from old (events_of cpu events) ≡ Some last = rw (events_of-other cpu first events is_other) at leads in
+          let all : stand_from old (subhistory_of cpu events) ≡ Some last = rw (subhistory_of-other cpu first events is_other) at leads in
           let later : Ranked old cpu events place event = Ranked-slice_get old cpu events last place event all is_event same in
-          let as_long : length (events_of cpu (first ∷ take place events)) ≡ length (events_of cpu (take place events)) =
-          ap length (events_of-other cpu first (take place events) is_other) in
+          let as_long : length (subhistory_of cpu (first ∷ take place events)) ≡ length (subhistory_of cpu (take place events)) =
+          ap length (subhistory_of-other cpu first (take place events) is_other) in
           record { ranked = omega (arith, later.ranked, as_long) }
     ]
 
@@ -128,40 +123,40 @@ stand_of_record events is_record = value_of (stand_from start events) is_record
 
 -- the same from the start
 pub rank-slice_get : (cpu : ℕ) (events : List Event) (place : ℕ) (event : Event)
-    → IsRecord (events_of cpu events) → slice_get events place ≡ Some event → cpu_of event ≡ cpu → rank event ≡ length (events_of cpu (take place events))
+    → IsRecord (subhistory_of cpu events) → slice_get events place ≡ Some event → cpu_of event ≡ cpu → rank event ≡ length (subhistory_of cpu (take place events))
 rank-slice_get cpu events place event is_record is_event same =
-    let stand = stand_of_record (events_of cpu events) is_record in
+    let stand = stand_of_record (subhistory_of cpu events) is_record in
     let ranked : Ranked start cpu events place event = Ranked-slice_get start cpu events stand.0 place event stand.1 is_event same in
     omega (arith, ranked.ranked)
 
 -- an event of a CPU makes that CPU's part longer for every later place
-pub length-events_of-lt : (cpu : ℕ) (events : List Event) (place later : ℕ) (event : Event)
-    → slice_get events place ≡ Some event → cpu_of event ≡ cpu → place < later → length (events_of cpu (take place events)) < length (events_of cpu (take later events))
-length-events_of-lt cpu [] place later event is_event same before = absurd (none-some event is_event)
-length-events_of-lt cpu (first ∷ events) place zero event is_event same before = absurd (omega arith)
-length-events_of-lt cpu (first ∷ events) zero (suc later) event is_event same before =
+pub length-subhistory_of-lt : (cpu : ℕ) (events : List Event) (place later : ℕ) (event : Event)
+    → slice_get events place ≡ Some event → cpu_of event ≡ cpu → place < later → length (subhistory_of cpu (take place events)) < length (subhistory_of cpu (take later events))
+length-subhistory_of-lt cpu [] place later event is_event same before = absurd (none-some event is_event)
+length-subhistory_of-lt cpu (first ∷ events) place zero event is_event same before = absurd (omega arith)
+length-subhistory_of-lt cpu (first ∷ events) zero (suc later) event is_event same before =
     let same_cpu : cpu_of first ≡ cpu = ap cpu_of (same_Some first event is_event) ∙ same in
-    let longer : length (events_of cpu (first ∷ take later events)) ≡ length (events_of cpu (take later events)) + 1 =
-    ap length (events_of-same cpu first (take later events) same_cpu) ∙ omega arith in
+    let longer : length (subhistory_of cpu (first ∷ take later events)) ≡ length (subhistory_of cpu (take later events)) + 1 =
+    ap length (subhistory_of-same cpu first (take later events) same_cpu) ∙ omega arith in
     omega (arith, longer)
-length-events_of-lt cpu (first ∷ events) (suc place) (suc later) event is_event same before =
-    let rest : length (events_of cpu (take place events)) < length (events_of cpu (take later events)) =
-    length-events_of-lt cpu events place later event is_event same (omega arith) in
+length-subhistory_of-lt cpu (first ∷ events) (suc place) (suc later) event is_event same before =
+    let rest : length (subhistory_of cpu (take place events)) < length (subhistory_of cpu (take later events)) =
+    length-subhistory_of-lt cpu events place later event is_event same (omega arith) in
     elim (cases_Bool (eqb (cpu_of first) cpu)) [
       | inl is_same ↦
           let same_cpu : cpu_of first ≡ cpu = eqb-true (cpu_of first) cpu is_same in
-          rw (events_of-same cpu first (take place events) same_cpu, events_of-same cpu first (take later events) same_cpu) (omega arith)
-      | inr is_other ↦ rw (events_of-other cpu first (take place events) is_other, events_of-other cpu first (take later events) is_other) rest
+          rw (subhistory_of-same cpu first (take place events) same_cpu, subhistory_of-same cpu first (take later events) same_cpu) (omega arith)
+      | inr is_other ↦ rw (subhistory_of-other cpu first (take place events) is_other, subhistory_of-other cpu first (take later events) is_other) rest
     ]
 
 -- so that it is within the CPU's part
-pub length-events_of-take : (cpu : ℕ) (events : List Event) (place : ℕ) (event : Event)
-    → slice_get events place ≡ Some event → cpu_of event ≡ cpu → length (events_of cpu (take place events)) < length (events_of cpu events)
-length-events_of-take cpu events place event is_event same =
-    let all : length (events_of cpu (take place events)) < length (events_of cpu (take (length events) events)) =
-    length-events_of-lt cpu events place (length events) event is_event same (slice_get_within events place event is_event) in
-    let whole : length (events_of cpu (take (length events) events)) ≡ length (events_of cpu events) =
-    ap (λ (es : List Event). length (events_of cpu es)) (take_all (length events) events (omega arith)) in
+pub length-subhistory_of-take : (cpu : ℕ) (events : List Event) (place : ℕ) (event : Event)
+    → slice_get events place ≡ Some event → cpu_of event ≡ cpu → length (subhistory_of cpu (take place events)) < length (subhistory_of cpu events)
+length-subhistory_of-take cpu events place event is_event same =
+    let all : length (subhistory_of cpu (take place events)) < length (subhistory_of cpu (take (length events) events)) =
+    length-subhistory_of-lt cpu events place (length events) event is_event same (slice_get_within events place event is_event) in
+    let whole : length (subhistory_of cpu (take (length events) events)) ≡ length (subhistory_of cpu events) =
+    ap (λ (es : List Event). length (subhistory_of cpu es)) (take_all (length events) events (omega arith)) in
     omega (arith, all, whole)
 
 -- a CPU's event that has so many of its events before it
@@ -170,15 +165,15 @@ pub record HasPlace (cpu : ℕ) (events : List Event) (count : ℕ) : Type 0 whe
   pub event : Event
   pub is_event : slice_get events place ≡ Some event
   pub same : cpu_of event ≡ cpu
-  pub counted : length (events_of cpu (take place events)) ≡ count
+  pub counted : length (subhistory_of cpu (take place events)) ≡ count
 
 -- each event of a CPU's part has its place
-pub HasPlace-events_of : (cpu : ℕ) (events : List Event) (count : ℕ) → count < length (events_of cpu events) → HasPlace cpu events count
-HasPlace-events_of cpu [] count within = absurd (omega arith)
-HasPlace-events_of cpu (first ∷ events) count within = HasPlace-step (cases_Bool (eqb (cpu_of first) cpu)) count within (HasPlace-events_of cpu events)
+pub HasPlace-subhistory_of : (cpu : ℕ) (events : List Event) (count : ℕ) → count < length (subhistory_of cpu events) → HasPlace cpu events count
+HasPlace-subhistory_of cpu [] count within = absurd (omega arith)
+HasPlace-subhistory_of cpu (first ∷ events) count within = HasPlace-step (cases_Bool (eqb (cpu_of first) cpu)) count within (HasPlace-subhistory_of cpu events)
   where
-    HasPlace-step : (eqb (cpu_of first) cpu ≡ true) ⊎ (eqb (cpu_of first) cpu ≡ false) → (n : ℕ) → n < length (events_of cpu (first ∷ events))
-        → ((k : ℕ) → k < length (events_of cpu events) → HasPlace cpu events k) → HasPlace cpu (first ∷ events) n
+    HasPlace-step : (eqb (cpu_of first) cpu ≡ true) ⊎ (eqb (cpu_of first) cpu ≡ false) → (n : ℕ) → n < length (subhistory_of cpu (first ∷ events))
+        → ((k : ℕ) → k < length (subhistory_of cpu events) → HasPlace cpu events k) → HasPlace cpu (first ∷ events) n
     HasPlace-step (inl is_same) zero below rest = record {
       place = 0;
       event = first;
@@ -188,63 +183,48 @@ HasPlace-events_of cpu (first ∷ events) count within = HasPlace-step (cases_Bo
     }
     HasPlace-step (inl is_same) (suc n) below rest =
         let same_cpu : cpu_of first ≡ cpu = eqb-true (cpu_of first) cpu is_same in
-        let longer : length (events_of cpu (first ∷ events)) ≡ length (events_of cpu events) + 1 =
-        ap length (events_of-same cpu first events same_cpu) ∙ omega arith in
+        let longer : length (subhistory_of cpu (first ∷ events)) ≡ length (subhistory_of cpu events) + 1 =
+        ap length (subhistory_of-same cpu first events same_cpu) ∙ omega arith in
         let later : HasPlace cpu events n = rest n (omega (arith, longer, below)) in
-        let more : length (events_of cpu (first ∷ take later.place events)) ≡ length (events_of cpu (take later.place events)) + 1 =
-        ap length (events_of-same cpu first (take later.place events) same_cpu) ∙ omega arith in
+        let more : length (subhistory_of cpu (first ∷ take later.place events)) ≡ length (subhistory_of cpu (take later.place events)) + 1 =
+        ap length (subhistory_of-same cpu first (take later.place events) same_cpu) ∙ omega arith in
         record { place = suc later.place; event = later.event; is_event = later.is_event; same = later.same; counted = omega (arith, more, later.counted) }
     HasPlace-step (inr is_other) n below rest =
-        let as_long : length (events_of cpu (first ∷ events)) ≡ length (events_of cpu events) = ap length (events_of-other cpu first events is_other) in
+        let as_long : length (subhistory_of cpu (first ∷ events)) ≡ length (subhistory_of cpu events) = ap length (subhistory_of-other cpu first events is_other) in
         let later : HasPlace cpu events n = rest n (omega (arith, as_long, below)) in
-        let more : length (events_of cpu (first ∷ take later.place events)) ≡ length (events_of cpu (take later.place events)) =
-        ap length (events_of-other cpu first (take later.place events) is_other) in
+        let more : length (subhistory_of cpu (first ∷ take later.place events)) ≡ length (subhistory_of cpu (take later.place events)) =
+        ap length (subhistory_of-other cpu first (take later.place events) is_other) in
         record { place = suc later.place; event = later.event; is_event = later.is_event; same = later.same; counted = more ∙ later.counted }
 
 -- two events of a CPU's record with one rank are one
-pub one_place : (cpu : ℕ) (events : List Event) (place other : ℕ) (event other_event : Event) → IsRecord (events_of cpu events)
+pub one_place : (cpu : ℕ) (events : List Event) (place other : ℕ) (event other_event : Event) → IsRecord (subhistory_of cpu events)
     → slice_get events place ≡ Some event → slice_get events other ≡ Some other_event → cpu_of event ≡ cpu → cpu_of other_event ≡ cpu
     → rank event ≡ rank other_event → place ≡ other
 one_place cpu events place other event other_event is_record is_event is_other same other_same ranks =
-    let here : rank event ≡ length (events_of cpu (take place events)) = rank-slice_get cpu events place event is_record is_event same in
-    let there : rank other_event ≡ length (events_of cpu (take other events)) = rank-slice_get cpu events other other_event is_record is_other other_same in
+    let here : rank event ≡ length (subhistory_of cpu (take place events)) = rank-slice_get cpu events place event is_record is_event same in
+    let there : rank other_event ≡ length (subhistory_of cpu (take other events)) = rank-slice_get cpu events other other_event is_record is_other other_same in
     ⊎_elim (λ (e : place ≡ other). e)
     (⊎_elim
-    (λ (before : place < other). absurd (omega (arith, here, there, ranks, length-events_of-lt cpu events place other event is_event same before)))
-    (λ (before : other < place). absurd (omega (arith, here, there, ranks, length-events_of-lt cpu events other place other_event is_other other_same before))))
+    (λ (before : place < other). absurd (omega (arith, here, there, ranks, length-subhistory_of-lt cpu events place other event is_event same before)))
+    (λ (before : other < place). absurd (omega (arith, here, there, ranks, length-subhistory_of-lt cpu events other place other_event is_other other_same before))))
     (cases_order place other)
 
 -- a call is made at one place
-pub one_call_place : (cpu number : ℕ) (events : List Event) (place other : ℕ) (command other_command : Command) → IsRecord (events_of cpu events)
+pub one_call_place : (cpu number : ℕ) (events : List Event) (place other : ℕ) (command other_command : Command) → IsRecord (subhistory_of cpu events)
     → IsCalled events place cpu number command → IsCalled events other cpu number other_command → place ≡ other
 one_call_place cpu number events place other command other_command is_record is_called is_other =
     one_place cpu events place other (Called cpu number command) (Called cpu number other_command) is_record is_called is_other refl refl refl
 
 -- a call returns at one place
-pub one_return_place : (cpu number : ℕ) (events : List Event) (place other : ℕ) (given other_given : Reply) → IsRecord (events_of cpu events)
+pub one_return_place : (cpu number : ℕ) (events : List Event) (place other : ℕ) (given other_given : Reply) → IsRecord (subhistory_of cpu events)
     → IsReturned events place cpu number given → IsReturned events other cpu number other_given → place ≡ other
 one_return_place cpu number events place other given other_given is_record is_returned is_other =
     one_place cpu events place other (Returned cpu number given) (Returned cpu number other_given) is_record is_returned is_other refl refl refl
 
--- a call is made before it returns
-pub return_after_call : (cpu number : ℕ) (events : List Event) (called returned : ℕ) (command : Command) (given : Reply) → IsRecord (events_of cpu events)
-    → IsCalled events called cpu number command → IsReturned events returned cpu number given → called < returned
-return_after_call cpu number events called returned command given is_record is_called is_returned =
-    let made : number + number ≡ length (events_of cpu (take called events)) = rank-slice_get cpu events called (Called cpu number command) is_record is_called refl in
-    let done : number + number + 1 ≡ length (events_of cpu (take returned events)) =
-    rank-slice_get cpu events returned (Returned cpu number given) is_record is_returned refl in
-    ⊎_elim
-    (λ (same : called ≡ returned). absurd (let twice : length (events_of cpu (take called events)) ≡ length (events_of cpu (take returned events)) =
-    ap (λ (n : ℕ). length (events_of cpu (take n events))) same in omega (arith, made, done, twice)))
-    (⊎_elim (λ (before : called < returned). before)
-    (λ (after : returned < called).
-    absurd (omega (arith, made, done, length-events_of-lt cpu events returned called (Returned cpu number given) is_returned refl after))))
-    (cases_order called returned)
-
 -- a call within the first half of the ranks is known
-pub IsKnown-below : (cpu number : ℕ) (events : List Event) → IsRecord (events_of cpu events) → number + number < length (events_of cpu events)
+pub IsKnown-below : (cpu number : ℕ) (events : List Event) → IsRecord (subhistory_of cpu events) → number + number < length (subhistory_of cpu events)
     → IsKnown events cpu number
-IsKnown-below cpu number events is_record within = known (HasPlace-events_of cpu events (number + number) within)
+IsKnown-below cpu number events is_record within = known (HasPlace-subhistory_of cpu events (number + number) within)
   where
     known : HasPlace cpu events (number + number) → IsKnown events cpu number
     known found = named found.event found.is_event found.same (rank-slice_get cpu events found.place found.event is_record found.is_event found.same ∙ found.counted)
@@ -255,9 +235,9 @@ IsKnown-below cpu number events is_record within = known (HasPlace-events_of cpu
             (found.place, command, is_event ∙ ap (λ (x : ℕ). Some (Called x n command)) same ∙ ap (λ (x : ℕ). Some (Called cpu x command)) number_is)
         named (Returned c n given) is_event same ranked = absurd (omega arith)
 
-pub IsFinished-below : (cpu number : ℕ) (events : List Event) → IsRecord (events_of cpu events) → number + number + 1 < length (events_of cpu events)
+pub IsFinished-below : (cpu number : ℕ) (events : List Event) → IsRecord (subhistory_of cpu events) → number + number + 1 < length (subhistory_of cpu events)
     → IsFinished events cpu number
-IsFinished-below cpu number events is_record within = finished (HasPlace-events_of cpu events (number + number + 1) within)
+IsFinished-below cpu number events is_record within = finished (HasPlace-subhistory_of cpu events (number + number + 1) within)
   where
     finished : HasPlace cpu events (number + number + 1) → IsFinished events cpu number
     finished found = named found.event found.is_event found.same (rank-slice_get cpu events found.place found.event is_record found.is_event found.same ∙ found.counted)
@@ -269,22 +249,22 @@ IsFinished-below cpu number events is_record within = finished (HasPlace-events_
             (found.place, given, is_event ∙ ap (λ (x : ℕ). Some (Returned x n given)) same ∙ ap (λ (x : ℕ). Some (Returned cpu x given)) number_is)
 
 -- and no other
-pub below-IsKnown : (cpu number : ℕ) (events : List Event) → IsRecord (events_of cpu events) → IsKnown events cpu number
-    → number + number < length (events_of cpu events)
+pub below-IsKnown : (cpu number : ℕ) (events : List Event) → IsRecord (subhistory_of cpu events) → IsKnown events cpu number
+    → number + number < length (subhistory_of cpu events)
 below-IsKnown cpu number events is_record known =
-    let ranked : number + number ≡ length (events_of cpu (take known.0 events)) =
+    let ranked : number + number ≡ length (subhistory_of cpu (take known.0 events)) =
     rank-slice_get cpu events known.0 (Called cpu number known.1) is_record known.2 refl in
-    omega (arith, ranked, length-events_of-take cpu events known.0 (Called cpu number known.1) known.2 refl)
+    omega (arith, ranked, length-subhistory_of-take cpu events known.0 (Called cpu number known.1) known.2 refl)
 
-pub below-IsFinished : (cpu number : ℕ) (events : List Event) → IsRecord (events_of cpu events) → IsFinished events cpu number
-    → number + number + 1 < length (events_of cpu events)
+pub below-IsFinished : (cpu number : ℕ) (events : List Event) → IsRecord (subhistory_of cpu events) → IsFinished events cpu number
+    → number + number + 1 < length (subhistory_of cpu events)
 below-IsFinished cpu number events is_record finished =
-    let ranked : number + number + 1 ≡ length (events_of cpu (take finished.0 events)) =
+    let ranked : number + number + 1 ≡ length (subhistory_of cpu (take finished.0 events)) =
     rank-slice_get cpu events finished.0 (Returned cpu number finished.1) is_record finished.2 refl in
-    omega (arith, ranked, length-events_of-take cpu events finished.0 (Returned cpu number finished.1) finished.2 refl)
+    omega (arith, ranked, length-subhistory_of-take cpu events finished.0 (Returned cpu number finished.1) finished.2 refl)
 
 -- a call that returns was made
-pub finished_is_known : (cpu number : ℕ) (events : List Event) → IsRecord (events_of cpu events) → IsFinished events cpu number → IsKnown events cpu number
+pub finished_is_known : (cpu number : ℕ) (events : List Event) → IsRecord (subhistory_of cpu events) → IsFinished events cpu number → IsKnown events cpu number
 finished_is_known cpu number events is_record finished =
     IsKnown-below cpu number events is_record (let within = below-IsFinished cpu number events is_record finished in omega (arith, within))
 
@@ -296,11 +276,6 @@ IsEvent-slice_get cpus (first ∷ events) zero event each is_event = subst (IsEv
 IsEvent-slice_get cpus (first ∷ events) (suc place) event each is_event = IsEvent-slice_get cpus events place event each.1 is_event
 
 pub call_is_event : (history : History) (place cpu number : ℕ) (command : Command) → IsHistory history
-    → IsCalled history.events place cpu number command → (cpu < history.setup.cpus) × IsCommand command
+    → IsCalled history.events place cpu number command → (cpu < history.config.cpus) × IsCommand command
 call_is_event history place cpu number command is_history is_called =
-    IsEvent-slice_get history.setup.cpus history.events place (Called cpu number command) is_history.events is_called
-
-pub return_is_event : (history : History) (place cpu number : ℕ) (given : Reply) → IsHistory history
-    → IsReturned history.events place cpu number given → (cpu < history.setup.cpus) × IsReply given
-return_is_event history place cpu number given is_history is_returned =
-    IsEvent-slice_get history.setup.cpus history.events place (Returned cpu number given) is_history.events is_returned
+    IsEvent-slice_get history.config.cpus history.events place (Called cpu number command) is_history.events is_called

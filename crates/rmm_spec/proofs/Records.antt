@@ -7,19 +7,19 @@ use Rattle.std.proofs.lemmas.Bool.{eqb-true, cases_Bool}
 use Rattle.std.proofs.lemmas.List.{length_push}
 use Rattle.std.proofs.lemmas.List.Elements.{filter-append}
 use Rattle.rmm_spec.specs.declared.event.Event.{Event}
-use Rattle.rmm_spec.specs.HistoryText.{Setup, History, IsHistory, IsEvent, CanFollow, Stand, start, stand_after, stand_from, events_of, cpu_of, IsRecord}
-use Rattle.rmm_spec.proofs.Places.{events_of-same, events_of-other}
+use Rattle.rmm_spec.specs.HistoryText.{Config, History, IsHistory, IsEvent, CanFollow, Stand, start, stand_after, stand_from, subhistory_of, cpu_of, IsRecord}
+use Rattle.rmm_spec.proofs.Places.{subhistory_of-same, subhistory_of-other}
 
 -- the event belongs to the CPU, and goes to the end of its part
-pub events_of-push_same : (cpu : ℕ) (events : List Event) (event : Event) → cpu_of event ≡ cpu → events_of cpu (events ++ event ∷ []) ≡ events_of cpu events ++ event ∷ []
-events_of-push_same cpu events event same =
-    filter-append (λ e. eqb (cpu_of e) cpu) events (event ∷ []) ∙ ap (λ (es : List Event). events_of cpu events ++ es) (events_of-same cpu event [] same)
+pub subhistory_of-push_same : (cpu : ℕ) (events : List Event) (event : Event) → cpu_of event ≡ cpu → subhistory_of cpu (events ++ event ∷ []) ≡ subhistory_of cpu events ++ event ∷ []
+subhistory_of-push_same cpu events event same =
+    filter-append (λ e. eqb (cpu_of e) cpu) events (event ∷ []) ∙ ap (λ (es : List Event). subhistory_of cpu events ++ es) (subhistory_of-same cpu event [] same)
 
 -- the event belongs to another CPU
-pub events_of-push_other : (cpu : ℕ) (events : List Event) (event : Event) → eqb (cpu_of event) cpu ≡ false → events_of cpu (events ++ event ∷ []) ≡ events_of cpu events
-events_of-push_other cpu events event other =
-    filter-append (λ e. eqb (cpu_of e) cpu) events (event ∷ []) ∙ ap (λ (es : List Event). events_of cpu events ++ es) (events_of-other cpu event [] other)
-    ∙ append-nil (events_of cpu events)
+pub subhistory_of-push_other : (cpu : ℕ) (events : List Event) (event : Event) → eqb (cpu_of event) cpu ≡ false → subhistory_of cpu (events ++ event ∷ []) ≡ subhistory_of cpu events
+subhistory_of-push_other cpu events event other =
+    filter-append (λ e. eqb (cpu_of e) cpu) events (event ∷ []) ∙ ap (λ (es : List Event). subhistory_of cpu events ++ es) (subhistory_of-other cpu event [] other)
+    ∙ append-nil (subhistory_of cpu events)
 
 -- the stand after one event more
 pub stand_from-push : (old : Stand) (events : List Event) (event : Event)
@@ -56,38 +56,34 @@ pub AllByRecursion-push : {X : Type 0} (P : X → Type 0) (xs : List X) (x : X) 
 AllByRecursion-push P [] x each here = (here, tt)
 AllByRecursion-push P (first ∷ xs) x each here = (each.0, AllByRecursion-push P xs x each.1 here)
 
-pub AllByRecursion-front : {X : Type 0} (P : X → Type 0) (xs : List X) (x : X) → AllByRecursion P (xs ++ x ∷ []) → AllByRecursion P xs
-AllByRecursion-front P [] x each = tt
-AllByRecursion-front P (first ∷ xs) x each = (each.0, AllByRecursion-front P xs x each.1)
-
 pub AllByRecursion-last : {X : Type 0} (P : X → Type 0) (xs : List X) (x : X) → AllByRecursion P (xs ++ x ∷ []) → P x
 AllByRecursion-last P [] x each = each.0
 AllByRecursion-last P (first ∷ xs) x each = AllByRecursion-last P xs x each.1
 
 -- each CPU's part is a record after an event that can follow
-pub records_push : (history : History) (event : Event) → IsHistory history → CanFollow history event → (cpu : ℕ) → IsRecord (events_of cpu (history.events ++ event ∷ []))
+pub records_push : (history : History) (event : Event) → IsHistory history → CanFollow history event → (cpu : ℕ) → IsRecord (subhistory_of cpu (history.events ++ event ∷ []))
 records_push history event is_history can_follow cpu =
     ⊎_elim
     (λ (same : eqb (cpu_of event) cpu ≡ true).
-    subst (λ c. IsRecord (events_of c (history.events ++ event ∷ []))) (eqb-true (cpu_of event) cpu same) can_follow.record_goes_on)
+    subst (λ c. IsRecord (subhistory_of c (history.events ++ event ∷ []))) (eqb-true (cpu_of event) cpu same) can_follow.record_goes_on)
     (λ (other : eqb (cpu_of event) cpu ≡ false).
-    subst IsRecord (sym (events_of-push_other cpu history.events event other)) (is_history.records cpu))
+    subst IsRecord (sym (subhistory_of-push_other cpu history.events event other)) (is_history.records cpu))
     (cases_Bool (eqb (cpu_of event) cpu))
 
 -- what can follow makes a history, where there is room for its line
 pub IsHistory-push : (history : History) (event : Event) → IsHistory history → CanFollow history event → length history.events + 1 < 1000000
     → IsHistory (record history { events = history.events ++ event ∷ [] })
 IsHistory-push history event is_history can_follow room = record {
-  setup = is_history.setup;
-  events = AllByRecursion-push (IsEvent history.setup.cpus) history.events event is_history.events can_follow.is_event;
+  config = is_history.config;
+  events = AllByRecursion-push (IsEvent history.config.cpus) history.events event is_history.events can_follow.is_event;
   records = records_push history event is_history can_follow;
   lines = omega (arith, length_push history.events event);
 }
 
 -- and no other event does
-pub CanFollow-from_push : (setup : Setup) (events : List Event) (event : Event) → IsHistory (record { setup = setup; events = events ++ event ∷ [] })
-    → CanFollow (record { setup = setup; events = events }) event
-CanFollow-from_push setup events event is_history = record {
-  is_event = AllByRecursion-last (IsEvent setup.cpus) events event is_history.events;
+pub CanFollow-from_push : (config : Config) (events : List Event) (event : Event) → IsHistory (record { config = config; events = events ++ event ∷ [] })
+    → CanFollow (record { config = config; events = events }) event
+CanFollow-from_push config events event is_history = record {
+  is_event = AllByRecursion-last (IsEvent config.cpus) events event is_history.events;
   record_goes_on = is_history.records (cpu_of event);
 }

@@ -6,7 +6,9 @@ use denote.Enum.Bare.{sameb, same_true, true_same}
 use Rattle.rmm_spec.specs.contracts.tag.Tag.{the_type}
 use Rattle.rmm_spec.specs.declared.tag.Tag.{Tag}
 use Rattle.rmm_spec.specs.declared.tag.Tag.TheVariants.{Undelegated, Delegated, Rd, Rec, RecAux, Data, Rtt}
-use Rattle.rmm_spec.specs.State.{State, with_tag, tag_number, is_granule, has_tag}
+use Rattle.rmm_spec.specs.State.{State}
+use Rattle.rmm_spec.specs.Update.{with_tag}
+use Rattle.rmm_spec.specs.Lookup.{tag_number, is_granule, has_tag}
 
 -- the tag that has the number
 tag_numbered : ℕ → Tag

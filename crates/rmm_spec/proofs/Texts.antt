@@ -20,7 +20,7 @@ use Rattle.rmm_spec.specs.declared.reply.Reply.TheVariants as reply
 use Rattle.rmm_spec.specs.CertificateText.{line_parts}
 use Rattle.rmm_spec.specs.CommandText.{command_parts, reply_parts}
 use Rattle.rmm_spec.specs.Function.{number_of}
-use Rattle.rmm_spec.specs.HistoryText.{Setup, setup_parts, event_parts}
+use Rattle.rmm_spec.specs.HistoryText.{Config, config_parts, event_parts}
 use Rattle.rmm_spec.specs.Text.{glyph, numeral, decimal, word, fixed_hex, line_text, parts_of}
 
 -- a byte that ends neither a part nor a line
@@ -36,11 +36,6 @@ pub record IsPart (part : List ℕ) : Type 0 where
 pub AllByRecursion-append : {X : Type 0} (P : X → Type 0) (xs ys : List X) → AllByRecursion P xs → AllByRecursion P ys → AllByRecursion P (xs ++ ys)
 AllByRecursion-append P [] ys hx hy = hy
 AllByRecursion-append P (x ∷ xs) ys hx hy = (hx.0, AllByRecursion-append P xs ys hx.1 hy)
-
--- what follows for the image of each element holds of the list of images
-pub AllByRecursion-map : {X Y : Type 0} (P : X → Type 0) (Q : Y → Type 0) (f : X → Y) → ((x : X) → P x → Q (f x)) → (xs : List X) → AllByRecursion P xs → AllByRecursion Q (map f xs)
-AllByRecursion-map P Q f each [] h = tt
-AllByRecursion-map P Q f each (x ∷ xs) h = (each x h.0, AllByRecursion-map P Q f each xs h.1)
 
 -- a digit's byte is neither a space nor a newline
 pub glyph-IsPlain : (d : ℕ) → IsPlain (glyph d)
@@ -207,11 +202,6 @@ line_text-has_no_newline (part ∷ []) h = no_newlines part h.0.plain
 line_text-has_no_newline (part ∷ next ∷ parts) h =
     AllByRecursion-append (λ byte. byte ≢ 10) part (32 ∷ line_text (next ∷ parts)) (no_newlines part h.0.plain)
     ((λ e. absurd (omega arith)), line_text-has_no_newline (next ∷ parts) h.1)
-
--- a line has one spelling, as a list of parts
-pub line_text-injective : (ps qs : List (List ℕ)) → 0 < length ps → 0 < length qs → AllByRecursion IsPart ps → AllByRecursion IsPart qs → line_text ps ≡ line_text qs → ps ≡ qs
-line_text-injective ps qs p-some q-some hp hq e =
-    sym (parts_of-line_text ps p-some hp) ∙ ap (λ line. parts_of line) e ∙ parts_of-line_text qs q-some hq
 
 -- ---- functions
 
@@ -388,11 +378,11 @@ reply_parts-injective reply.Misplaced reply.Misplaced e = refl
 
 -- ---- lines of histories and certificates
 
-pub setup_parts-are_parts : (setup : Setup) → AllByRecursion IsPart (setup_parts setup)
-setup_parts-are_parts setup = (IsPart-from_test _ _ refl, (decimal-IsPart setup.granules, (decimal-IsPart setup.cpus, tt)))
+pub config_parts-are_parts : (config : Config) → AllByRecursion IsPart (config_parts config)
+config_parts-are_parts config = (IsPart-from_test _ _ refl, (decimal-IsPart config.granules, (decimal-IsPart config.cpus, tt)))
 
-pub setup_parts-injective : (s t : Setup) → setup_parts s ≡ setup_parts t → s ≡ t
-setup_parts-injective s t e =
+pub config_parts-injective : (s t : Config) → config_parts s ≡ config_parts t → s ≡ t
+config_parts-injective s t e =
     let granules : s.granules ≡ t.granules = decimal-injective s.granules t.granules (ap (λ ps. get_or ps 1 []) e) in
     let cpus : s.cpus ≡ t.cpus = decimal-injective s.cpus t.cpus (ap (λ ps. get_or ps 2 []) e) in
     λ i. record { granules = granules i; cpus = cpus i }

@@ -1,5 +1,5 @@
 -- What each kind of change requires of the state: what the rows of the commands that make it say, in one place a kind.
-use Rattle.std.specs.Prelude.{◌≡◌, ℕ, ◌+◌, ◌-◌, ◌*◌, ◌/◌, ◌<◌, ◌≤◌, Bool, true, false, ◌&&◌, ◌||◌, nat_lt, nat_le, ◌==◌, ◌⊎◌, IsTrue, List, length, Option, Some, None, is_some, is_none, not}
+use Rattle.std.specs.Prelude.{◌≡◌, ℕ, ◌+◌, ◌-◌, ◌*◌, ◌/◌, ◌<◌, ◌≤◌, false, ◌&&◌, nat_lt, nat_le, ◌==◌, ◌⊎◌, IsTrue, length, Option, Some, None, is_some, is_none}
 use Rattle.rmm_spec.specs.declared.change.Change.{Change}
 use Rattle.rmm_spec.specs.declared.change.Change.TheVariants.{Unchanged, Retagged, RealmMade, RealmDestroyed, RecMade, RecDestroyed, RecordsChanged, TableMade, TableDestroyed, EntriesChanged}
 use Rattle.rmm_spec.specs.declared.change.EntryChange.{EntryChange}
@@ -14,11 +14,11 @@ use Rattle.rmm_spec.specs.declared.change.TagChange.{TagChange}
 use Rattle.rmm_spec.specs.declared.entry.Entry.{Entry}
 use Rattle.rmm_spec.specs.declared.entry.Entry.TheVariants.{Unassigned, Assigned, Table, UnassignedNs, AssignedNs}
 use Rattle.rmm_spec.specs.declared.tag.Ripas.{Ripas}
-use Rattle.rmm_spec.specs.declared.tag.Tag.{Tag}
-use Rattle.rmm_spec.specs.declared.tag.Tag.TheVariants.{Undelegated, Delegated, Rd, Rec, RecAux, Data, Rtt}
-use Rattle.rmm_spec.specs.State.{State, RealmRecord, RecRecord, Request, has_tag, is_inside, is_vmid_used, has_rec, realm_at, rec_at, request_of}
-use Rattle.rmm_spec.specs.Walk.{entry_size, table_size, entry_at, full, half, has_link, is_in_use, is_table, is_assigned}
-use Rattle.rmm_spec.specs.Step.Words.{is_page, is_space}
+use Rattle.rmm_spec.specs.declared.tag.Tag.TheVariants.{Undelegated, Delegated, Rd, Rec, Data}
+use Rattle.rmm_spec.specs.State.{State, RecRecord}
+use Rattle.rmm_spec.specs.Lookup.{has_tag, is_inside, is_vmid_used, has_rec, realm_at, rec_at, request_of}
+use Rattle.rmm_spec.specs.Walk.{entry_size, entry_at, half, has_link, is_in_use, is_table, is_assigned}
+use Rattle.rmm_spec.specs.Step.Words.{is_space}
 use Rattle.rmm_spec.specs.Sound.{IsRequest, IsTableOf, IsLeafOf}
 
 -- ---- granules, realms and RECs

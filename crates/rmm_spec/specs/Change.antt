@@ -1,6 +1,6 @@
 -- What an accepted command changes: ten kinds of change, each said once, by the updates of a state.
 -- What is kept of realms, RECs and tables is after DEN0137 (RMI commands' success conditions); the kinds are this project's own.
-use Rattle.std.specs.Prelude.{ℕ, ◌+◌, ◌-◌, Bool, false, ◌==◌, if◌then◌else◌, List, [], ◌∷◌, take, replicate, Option, Some, None, slice_index_or, slice_set}
+use Rattle.std.specs.Prelude.{ℕ, ◌+◌, ◌-◌, false, ◌==◌, if◌then◌else◌, List, [], ◌∷◌, take, replicate, Option, Some, None, slice_index_or, slice_set}
 use Rattle.rmm_spec.specs.declared.change.Change.{Change}
 use Rattle.rmm_spec.specs.declared.change.Change.TheVariants.{Unchanged, Retagged, RealmMade, RealmDestroyed, RecMade, RecDestroyed, RecordsChanged, TableMade, TableDestroyed, EntriesChanged}
 use Rattle.rmm_spec.specs.declared.change.EntryChange.{EntryChange}
@@ -14,11 +14,12 @@ use Rattle.rmm_spec.specs.declared.change.RecUpdate.TheVariants as rec_update
 use Rattle.rmm_spec.specs.declared.change.TagChange.{TagChange}
 use Rattle.rmm_spec.specs.declared.function_id.FunctionId.TheVariants as function
 use Rattle.rmm_spec.specs.declared.tag.RealmState.TheVariants as realm_state
-use Rattle.rmm_spec.specs.declared.tag.Ripas.{Ripas}
 use Rattle.rmm_spec.specs.declared.tag.Tag.TheVariants.{Delegated, Rd, Rec, RecAux, Rtt}
 use Rattle.rmm_spec.specs.Function.{number_of}
 use Rattle.rmm_spec.specs.Measure.{words_bytes, rim_begin, rim_extended, rem_start, rem_extended}
-use Rattle.rmm_spec.specs.State.{State, RealmRecord, RecRecord, Request, Pending, Psci, RipasChange, HostCall, with_tag, with_realm, without_realm, with_root, with_rec, without_rec, with_table, without_table, with_leaf, with_ripas, realm_at, rec_at, request_of}
+use Rattle.rmm_spec.specs.State.{State, RealmRecord, RecRecord, Pending, Psci, RipasChange, HostCall}
+use Rattle.rmm_spec.specs.Update.{with_tag, with_realm, without_realm, with_root, with_rec, without_rec, with_table, without_table, with_leaf, with_ripas}
+use Rattle.rmm_spec.specs.Lookup.{realm_at, rec_at, request_of}
 
 -- ---- records
 

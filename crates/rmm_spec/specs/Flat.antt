@@ -3,8 +3,10 @@
 use Rattle.std.specs.Prelude.{ℕ, zero, suc, ◌*◌, ◌/◌, ◌%◌, Bool, false, if◌then◌else◌, Option, Some, None, option_map, slice_get}
 use Rattle.std.specs.Option.{option_and_then}
 use Rattle.rmm_spec.specs.declared.entry.Entry.{Entry}
-use Rattle.rmm_spec.specs.State.{State, is_spot}
-use Rattle.rmm_spec.specs.Table.{TableRecord, place_number, leaf_of}
+use Rattle.rmm_spec.specs.State.{State}
+use Rattle.rmm_spec.specs.Update.{is_same_entry}
+use Rattle.rmm_spec.specs.Table.{TableRecord, place_number}
+use Rattle.rmm_spec.specs.TableCells.{leaf_of}
 use Rattle.rmm_spec.specs.Cell.{Cell, tags_of, realms_of, recs_of, tables_of}
 
 -- the greatest number below n that passes, where one does
@@ -15,7 +17,7 @@ found_below (suc n) passes = if passes n then Some n else found_below n passes
 -- whether there is a table, and it is that of the realm, level and number
 abbrev pub is_table_of : ℕ → ℕ → ℕ → Option TableRecord → Bool
 is_table_of rd level number None = false
-is_table_of rd level number (Some table) = is_spot rd level number table.place.rd table.place.level (place_number table.place)
+is_table_of rd level number (Some table) = is_same_entry rd level number table.place.rd table.place.level (place_number table.place)
 
 -- the granule of the table of the realm, level and number, looked for in all granules
 unfoldable pub table_granule : ℕ → (ℕ → Option TableRecord) → ℕ → ℕ → ℕ → Option ℕ

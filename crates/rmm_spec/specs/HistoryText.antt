@@ -8,28 +8,28 @@ use Rattle.rmm_spec.specs.Text.{decimal, lines_text}
 use Rattle.rmm_spec.specs.CommandText.{IsCommand, IsReply, command_parts, reply_parts}
 
 -- how many granules and CPUs a machine has
-pub record Setup : Type 0 where
+pub record Config : Type 0 where
   pub granules : ℕ
   pub cpus : ℕ
 
-pub record IsSetup (setup : Setup) : Type 0 where
-  pub some_granules : 1 ≤ setup.granules
-  pub most_granules : setup.granules ≤ 4096
-  pub some_cpus : 1 ≤ setup.cpus
-  pub most_cpus : setup.cpus ≤ 8
+pub record IsConfig (config : Config) : Type 0 where
+  pub some_granules : 1 ≤ config.granules
+  pub most_granules : config.granules ≤ 4096
+  pub some_cpus : 1 ≤ config.cpus
+  pub most_cpus : config.cpus ≤ 8
 
 -- what is recorded of a run: who called what, and what came back, in the order of time
 pub record History : Type 0 where
-  pub setup : Setup
+  pub config : Config
   pub events : List Event
 
 abbrev pub cpu_of : Event → ℕ
 cpu_of (Called cpu number command) = cpu
 cpu_of (Returned cpu number reply) = cpu
 
--- the events of one CPU
-abbrev pub events_of : ℕ → List Event → List Event
-events_of cpu events = filter (λ e. cpu_of e == cpu) events
+-- a CPU's subhistory: its own events, in their order
+abbrev pub subhistory_of : ℕ → List Event → List Event
+subhistory_of cpu events = filter (λ e. cpu_of e == cpu) events
 
 -- where one CPU stands: the number of its next call, and whether its last call hasn't returned
 pub record Stand : Type 0 where
@@ -54,31 +54,36 @@ stand_from stand (event ∷ events) = option_and_then (λ next. stand_from next 
 abbrev pub IsRecord : List Event → Type 0
 IsRecord events = IsSome (stand_from start events)
 
+-- which of its CPU's events an event is in a record, counted from 0
+abbrev pub rank : Event → ℕ
+rank (Called cpu number command) = number + number
+rank (Returned cpu number reply) = number + number + 1
+
 abbrev pub IsEvent : ℕ → Event → Type 0
 IsEvent cpus (Called cpu number command) = (cpu < cpus) × IsCommand command
 IsEvent cpus (Returned cpu number reply) = (cpu < cpus) × IsReply reply
 
 -- Each event has a text, each CPU's part is a record, and with its header the history has at most a million lines.
 pub record IsHistory (history : History) : Type 0 where
-  pub setup : IsSetup history.setup
-  pub events : AllByRecursion (IsEvent history.setup.cpus) history.events
-  pub records : (cpu : ℕ) → IsRecord (events_of cpu history.events)
+  pub config : IsConfig history.config
+  pub events : AllByRecursion (IsEvent history.config.cpus) history.events
+  pub records : (cpu : ℕ) → IsRecord (subhistory_of cpu history.events)
   pub lines : length history.events < 1000000
 
 -- The event may be recorded next. Room for its line is asked apart from this.
 pub record CanFollow (history : History) (event : Event) : Type 0 where
-  pub is_event : IsEvent history.setup.cpus event
-  pub record_goes_on : IsRecord (events_of (cpu_of event) (history.events ++ event ∷ []))
+  pub is_event : IsEvent history.config.cpus event
+  pub record_goes_on : IsRecord (subhistory_of (cpu_of event) (history.events ++ event ∷ []))
 
-abbrev pub setup_parts : Setup → List (List ℕ)
-setup_parts setup = codes "rmh1" ∷ decimal setup.granules ∷ decimal setup.cpus ∷ []
+abbrev pub config_parts : Config → List (List ℕ)
+config_parts config = codes "rmh1" ∷ decimal config.granules ∷ decimal config.cpus ∷ []
 
 unfoldable pub event_parts : Event → List (List ℕ)
 event_parts (Called cpu number command) = codes "c" ∷ decimal cpu ∷ decimal number ∷ command_parts command
 event_parts (Returned cpu number reply) = codes "r" ∷ decimal cpu ∷ decimal number ∷ reply_parts reply
 
 abbrev pub history_text : History → List ℕ
-history_text history = lines_text (setup_parts history.setup ∷ map event_parts history.events)
+history_text history = lines_text (config_parts history.config ∷ map event_parts history.events)
 
 -- the text stands for the history
 pub record IsHistoryText (text : List ℕ) (history : History) : Type 0 where

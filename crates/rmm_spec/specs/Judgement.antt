@@ -8,13 +8,14 @@ use Rattle.rmm_spec.specs.HistoryText.{History, IsHistoryText, InHistories}
 use Rattle.rmm_spec.specs.CertificateText.{IsCertificateText, InCertificates}
 use Rattle.rmm_spec.specs.State.{State, opening}
 use Rattle.rmm_spec.specs.Run.{JournalEntry, IsRun}
-use Rattle.rmm_spec.specs.Linearization.{IsLinearization, FirstFault}
+use Rattle.rmm_spec.specs.Linearization.{IsLinearization}
+use Rattle.rmm_spec.specs.FirstFault.{FirstFault}
 use Rattle.rmm_spec.specs.Ownership.{IsIsolated}
 
 -- after every first part of the commits, the empty one and the whole included, every granule is at most one realm's
 abbrev pub IsIsolatedThroughout : History → List JournalEntry → Type 0
 IsIsolatedThroughout history entries =
-    (count : ℕ) (s : State) → count ≤ length entries → IsRun (opening history.setup) (take count entries) s → IsIsolated (take count entries) s
+    (count : ℕ) (s : State) → count ≤ length entries → IsRun (opening history.config) (take count entries) s → IsIsolated (take count entries) s
 
 -- The order is a linearization of so many lines, and isolated throughout.
 pub record Accepts (history : History) (lines : List Line) (count : ℕ) : Type 0 where

@@ -5,6 +5,8 @@ pub mod HistoryText
 pub mod CertificateText
 pub mod VerdictText
 pub mod State
+pub mod Lookup
+pub mod Update
 pub mod Walk
 pub mod Table
 pub mod Measure
@@ -17,9 +19,11 @@ pub mod Applicable
 pub mod Run
 pub mod Script
 pub mod Linearization
+pub mod FirstFault
 pub mod Footprint
 pub mod Ownership
 pub mod Judgement
+pub mod TableCells
 pub mod Cell
 pub mod Flat
 pub mod Shape

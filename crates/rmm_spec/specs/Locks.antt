@@ -7,7 +7,8 @@ use Rattle.rmm_spec.specs.declared.call.Call.TheVariants.{RecEnter}
 use Rattle.rmm_spec.specs.declared.entry.Entry.{Entry}
 use Rattle.rmm_spec.specs.declared.entry.Entry.TheVariants.{Assigned, Table}
 use Rattle.rmm_spec.specs.declared.tag.Tag.TheVariants as tag
-use Rattle.rmm_spec.specs.State.{RecRecord, is_granule}
+use Rattle.rmm_spec.specs.State.{RecRecord}
+use Rattle.rmm_spec.specs.Lookup.{is_granule}
 use Rattle.rmm_spec.specs.Rows.{Needed}
 use Rattle.rmm_spec.specs.Step.Named.{needed, named}
 use Rattle.rmm_spec.specs.Cell.{Cell, Rd, Rec, Rtt, tag_of, is_data}

@@ -11,7 +11,8 @@ use Rattle.rmm_spec.specs.declared.reply.Reply.TheVariants as reply
 use Rattle.rmm_spec.specs.declared.tag.Tag.{Tag}
 use Rattle.rmm_spec.specs.declared.tag.Tag.TheVariants.{Undelegated, Delegated, Rd, Rec, RecAux, Data, Rtt}
 use Rattle.rmm_spec.specs.Call.{call_of}
-use Rattle.rmm_spec.specs.State.{State, RecRecord, tag_number}
+use Rattle.rmm_spec.specs.State.{State, RecRecord}
+use Rattle.rmm_spec.specs.Lookup.{tag_number}
 use Rattle.rmm_spec.specs.Run.{JournalEntry}
 
 -- a realm's hold on a granule, in one of the five roles that a granule of a realm has

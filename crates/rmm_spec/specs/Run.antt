@@ -18,7 +18,3 @@ abbrev pub IsRun : State → List JournalEntry → State → Type 0
 IsRun old [] last = last ≡ old
 IsRun old (entry ∷ entries) last =
     (next : State) × Step old entry.cpu entry.command entry.given next × IsRun next entries last
-
--- every commit is of a function that is served today
-abbrev pub AreServed : List JournalEntry → Type 0
-AreServed entries = AllByRecursion (λ entry. IsTrue (is_served entry.command.function)) entries

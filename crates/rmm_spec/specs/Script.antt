@@ -7,7 +7,7 @@ use Rattle.rmm_spec.specs.declared.function_id.FunctionId.{FunctionId}
 use Rattle.rmm_spec.specs.declared.function_id.FunctionId.TheVariants.{GranuleDelegate, DataCreate, DataCreateUnknown, DataDestroy, RealmActivate, RealmCreate, RealmDestroy, RecCreate, RecDestroy, RecEnter, RttCreate, RttDestroy, RttMapUnprotected, RttReadEntry, RttInitRipas, RttSetRipas, MeasurementRead, MeasurementExtend, IpaStateSet, IpaStateGet, HostCall, CpuOff, SystemOff, Exit}
 use Rattle.rmm_spec.specs.declared.reply.Reply.{Reply}
 use Rattle.rmm_spec.specs.declared.reply.Reply.TheVariants as reply
-use Rattle.rmm_spec.specs.HistoryText.{Setup}
+use Rattle.rmm_spec.specs.HistoryText.{Config}
 use Rattle.rmm_spec.specs.Rows.{ok}
 use Rattle.rmm_spec.specs.Call.{call_of}
 use Rattle.rmm_spec.specs.Change.{changed}
@@ -57,8 +57,8 @@ replay s (entry ∷ entries) =
 -- ---- scripts
 
 -- the machine of the scripts
-abbrev pub script_setup : Setup
-script_setup = record { granules = 16; cpus = 1 }
+abbrev pub script_config : Config
+script_config = record { granules = 16; cpus = 1 }
 
 abbrev pub answered : FunctionId → List ℕ → Reply → JournalEntry
 answered function words given = record { cpu = 0; command = record { function = function; words = record { items = words } }; given = given }

@@ -6,7 +6,8 @@ use Rattle.rmm_spec.specs.declared.entry.Entry.{Entry}
 use Rattle.rmm_spec.specs.declared.entry.Entry.TheVariants.{Unassigned, Assigned, Table, UnassignedNs, AssignedNs}
 use Rattle.rmm_spec.specs.declared.place.Place.{Place}
 use Rattle.rmm_spec.specs.declared.tag.Ripas.{Ripas}
-use Rattle.rmm_spec.specs.State.{RealmRecord, RecRecord, Request, Pending, RipasChange, is_granule, is_owned_by}
+use Rattle.rmm_spec.specs.State.{RealmRecord, RecRecord, Request, Pending, RipasChange}
+use Rattle.rmm_spec.specs.Lookup.{is_granule, is_owned_by}
 use Rattle.rmm_spec.specs.Walk.{table_size}
 use Rattle.rmm_spec.specs.Table.{TableRecord, place_number}
 use Rattle.rmm_spec.specs.Step.Words.{is_space}

@@ -1,13 +1,13 @@
 -- What every state that a run reaches keeps: each record, table and leaf stands where the others say, so no default of the
 -- rows is ever read. After DEN0137 (attributes of realms, RECs and RTTs); that it is kept is this project's own law.
-use Rattle.std.specs.Prelude.{◌≡◌, ℕ, suc, ◌+◌, ◌*◌, ◌/◌, ◌<◌, ◌≤◌, Bool, true, false, ◌&&◌, ◌||◌, nat_lt, ◌==◌, ◌⊎◌, IsTrue, List, length, Option, Some, None, is_some}
+use Rattle.std.specs.Prelude.{◌≡◌, ℕ, suc, ◌*◌, ◌/◌, ◌<◌, ◌≤◌, Bool, false, ◌&&◌, ◌||◌, ◌==◌, IsTrue, length, Option, Some, None, is_some}
 use Rattle.rmm_spec.specs.declared.entry.Entry.{Entry}
 use Rattle.rmm_spec.specs.declared.entry.Entry.TheVariants.{Unassigned, Assigned, Table, UnassignedNs, AssignedNs}
 use Rattle.rmm_spec.specs.declared.tag.Ripas.{Ripas}
-use Rattle.rmm_spec.specs.declared.tag.Tag.{Tag}
 use Rattle.rmm_spec.specs.declared.tag.Tag.TheVariants.{Undelegated, Rd, Rec, RecAux, Data, Rtt}
-use Rattle.rmm_spec.specs.State.{State, RealmRecord, RecRecord, Request, Pending, RipasChange, is_granule, has_tag, runs_on}
-use Rattle.rmm_spec.specs.Walk.{entry_size, table_size, full, half, is_table}
+use Rattle.rmm_spec.specs.State.{State, RealmRecord, RecRecord, Request, Pending, RipasChange}
+use Rattle.rmm_spec.specs.Lookup.{is_granule, has_tag, runs_on}
+use Rattle.rmm_spec.specs.Walk.{entry_size, table_size, full, half}
 use Rattle.rmm_spec.specs.Step.Words.{is_page, is_space}
 
 -- ---- realms

@@ -20,7 +20,8 @@ use Rattle.rmm_spec.specs.declared.reply.Reply.{Reply}
 use Rattle.rmm_spec.specs.declared.reply.Reply.TheVariants as reply
 use Rattle.rmm_spec.specs.Call.{Class, ByHost, ByRealm, ByExit, call_of, class_of}
 use Rattle.rmm_spec.specs.Change.{changed}
-use Rattle.rmm_spec.specs.State.{State, is_inside, rec_inside, rec_at}
+use Rattle.rmm_spec.specs.State.{State}
+use Rattle.rmm_spec.specs.Lookup.{is_inside, rec_inside, rec_at}
 use Rattle.rmm_spec.specs.Rows.{ok}
 use Rattle.rmm_spec.specs.Step.Granule.{granule_delegate, granule_undelegate}
 use Rattle.rmm_spec.specs.Step.Realm.{realm_create, realm_activate, realm_destroy}

@@ -1,6 +1,6 @@
 -- Numerals, lines of parts, and the bad line of a text outside its grammar. This project's own formats.
-use Rattle.std.specs.Prelude.{ℕ, zero, suc, ◌+◌, ◌-◌, ◌/◌, ◌%◌, ◌<◌, List, [], ◌∷◌, ◌++◌, map, nat_lt, ◌==◌, if◌then◌else◌}
-use Rattle.std.specs.List.{join_with_byte, slice_split}
+use Rattle.std.specs.Prelude.{◌≢◌, ℕ, zero, suc, ◌+◌, ◌-◌, ◌/◌, ◌%◌, ◌<◌, List, [], ◌∷◌, ◌++◌, map, nat_lt, ◌==◌, if◌then◌else◌}
+use Rattle.std.specs.List.{AllByRecursion, join_with_byte, slice_split}
 use Rattle.std.specs.Int.Digits.{digits_of}
 
 -- the byte that shows a digit: 0 to 9, then a to f
@@ -26,6 +26,10 @@ fixed_hex (suc count) n = fixed_hex count (n / 16) ++ glyph (n % 16) ∷ []
 -- the bytes of a line's parts, with one space between each two
 abbrev pub line_text : List (List ℕ) → List ℕ
 line_text parts = join_with_byte 32 parts
+
+-- the bytes have no newline among them
+abbrev pub HasNoNewline : List ℕ → Type 0
+HasNoNewline bytes = AllByRecursion (λ byte. byte ≢ 10) bytes
 
 -- the parts of a line: what stands before, between and after its spaces
 abbrev pub parts_of : List ℕ → List (List ℕ)

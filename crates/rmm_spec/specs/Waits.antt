@@ -13,7 +13,7 @@ use Rattle.rmm_spec.specs.Locks.{needs, IsRisingTake}
 -- the CPU, with an open call, may wait for the granule
 pub record IsRising (w : World) (cpu granule : ℕ) : Type 0 where
   pub deciding : IsDeciding w cpu
-  pub rising : IsRisingTake w.setup.granules (needs (w.place cpu) deciding.learnt (call_of deciding.command)) (held_cells w cpu) granule
+  pub rising : IsRisingTake w.config.granules (needs (w.place cpu) deciding.learnt (call_of deciding.command)) (held_cells w cpu) granule
 
 -- the CPU is at a rising take of the granule, which another holds
 pub record WaitsAt (w : World) (cpu granule other : ℕ) : Type 0 where
@@ -150,7 +150,7 @@ KeepsWaiting turns w =
 
 -- no CPU's go would make a move: each is blocked or has nothing to do
 abbrev pub IsStuck : World → Type 0
-IsStuck w = (cpu : ℕ) → cpu < w.setup.cpus → ((granule : ℕ) × IsBlocked w cpu granule) ⊎ IsIdle w cpu Go
+IsStuck w = (cpu : ℕ) → cpu < w.config.cpus → ((granule : ℕ) × IsBlocked w cpu granule) ⊎ IsIdle w cpu Go
 
 -- from the CPU a chain of waits leads to one that was stopped
 pub record LeadsToStopped (w : World) (cpu : ℕ) : Type 0 where
@@ -164,5 +164,5 @@ pub record LeadsToStopped (w : World) (cpu : ℕ) : Type 0 where
 pub record WaitsBehindStopped (w : World) : Type 0 where
   pub each : (cpu granule : ℕ) → IsBlocked w cpu granule → LeadsToStopped w cpu
   pub next : (cpu other : ℕ) → WaitsFor w cpu other → (w.phase other ≡ Stopped) ⊎ LeadsToStopped w other
-  pub without_stop : ((cpu : ℕ) → w.phase cpu ≡ Stopped → ⊥) → (cpu : ℕ) → cpu < w.setup.cpus
+  pub without_stop : ((cpu : ℕ) → w.phase cpu ≡ Stopped → ⊥) → (cpu : ℕ) → cpu < w.config.cpus
       → (w.phase cpu ≡ GivenUp) ⊎ HasReturnedAll w cpu

@@ -6,7 +6,8 @@ use Rattle.rmm_spec.specs.declared.entry.Entry.TheVariants.{Unassigned, Assigned
 use Rattle.rmm_spec.specs.declared.tag.Ripas.{Ripas}
 use Rattle.rmm_spec.specs.declared.tag.Ripas.TheVariants.{Empty, Ram, Destroyed}
 use Rattle.rmm_spec.specs.declared.walked.Walked.{Walked}
-use Rattle.rmm_spec.specs.State.{State, RealmRecord, any_below}
+use Rattle.rmm_spec.specs.State.{State, RealmRecord}
+use Rattle.rmm_spec.specs.Lookup.{any_below}
 
 -- how many bytes an entry of the level covers: a page at level 3, and 512 times as many at each level above
 unfoldable pub entry_size : ℕ → ℕ
@@ -38,10 +39,6 @@ is_multiple n unit = n % unit == 0
 -- whether a number is a page's address in the protected half
 abbrev pub is_protected : RealmRecord → ℕ → Bool
 is_protected realm ipa = is_multiple ipa 4096 && nat_lt ipa (half realm)
-
--- whether a number is a page's address in the unprotected half
-abbrev pub is_unprotected : RealmRecord → ℕ → Bool
-is_unprotected realm ipa = is_multiple ipa 4096 && nat_le (half realm) ipa && nat_lt ipa (full realm)
 
 -- ---- entries
 

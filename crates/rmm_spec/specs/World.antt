@@ -10,9 +10,10 @@ use Rattle.rmm_spec.specs.declared.event.Event.TheVariants.{Called, Returned}
 use Rattle.rmm_spec.specs.declared.line.Line.{Line}
 use Rattle.rmm_spec.specs.declared.line.Line.TheVariants.{Keep, Unfinished}
 use Rattle.rmm_spec.specs.declared.reply.Reply.{Reply}
-use Rattle.rmm_spec.specs.HistoryText.{Setup, History}
+use Rattle.rmm_spec.specs.HistoryText.{Config, History}
 use Rattle.rmm_spec.specs.Call.{call_of}
-use Rattle.rmm_spec.specs.State.{RecRecord, is_granule}
+use Rattle.rmm_spec.specs.State.{RecRecord}
+use Rattle.rmm_spec.specs.Lookup.{is_granule}
 use Rattle.rmm_spec.specs.Linearization.{IsLinearization}
 use Rattle.rmm_spec.specs.Cell.{Cell, Undelegated, put, recs_of}
 use Rattle.rmm_spec.specs.Flat.{flat_state}
@@ -41,7 +42,7 @@ pub record Commitment : Type 0 where
 -- Cells by address, and of each CPU the granules whose locks it holds, in the order in which it took them, its place, its
 -- phase and what is left of its program. The journal has all commits, and events all calls and returns, in their order.
 pub record World : Type 0 where
-  pub setup : Setup
+  pub config : Config
   pub cells : ℕ → Cell
   pub side : Side
   pub taken : ℕ → List ℕ
@@ -52,9 +53,9 @@ pub record World : Type 0 where
   pub events : List Event
 
 -- nothing is delegated, nothing is held, and each CPU has its whole program before it
-unfoldable pub opening_world : Setup → (ℕ → List Command) → World
-opening_world setup programs = record {
-  setup = setup;
+unfoldable pub opening_world : Config → (ℕ → List Command) → World
+opening_world config programs = record {
+  config = config;
   cells = λ _. Undelegated;
   side = record { vmids = λ _. None; rec_counts = λ _. 0 };
   taken = λ _. [];
@@ -115,7 +116,7 @@ pub record IsDeciding (w : World) (cpu : ℕ) : Type 0 where
 -- a CPU between its call and its commit takes the lock of a granule, which nobody holds
 pub record Takes (old : World) (cpu granule : ℕ) (new : World) : Type 0 where
   pub deciding : IsDeciding old cpu
-  pub is_lock : IsTrue (is_granule old.setup.granules granule)
+  pub is_lock : IsTrue (is_granule old.config.granules granule)
   pub is_free : (other : ℕ) → Contains (old.taken other) granule → ⊥
   pub is_new : new ≡ record old { taken = put old.taken cpu (old.taken cpu ++ granule ∷ []) }
 
@@ -128,7 +129,7 @@ pub record Learns (w : World) (command : Command) (granule rd : ℕ) : Type 0 wh
   pub is_enter : call_of command ≡ RecEnter granule
   pub is_rec : recs_of w.cells granule ≡ Some rec
   pub is_owner : rec.owner ≡ rd
-  pub is_lock : IsTrue (is_granule w.setup.granules rd)
+  pub is_lock : IsTrue (is_granule w.config.granules rd)
   pub is_other : (rd == granule) ≡ false
 
 -- what may be learnt in a phase where a granule is freed: nothing, or what an Enter learns
@@ -161,7 +162,7 @@ pub record Frees (old : World) (cpu granule : ℕ) (learnt : Option ℕ) (new : 
 -- A CPU makes a local step on the cells that it holds, and the journal gains its entry, both in one move.
 pub record Commits (old : World) (cpu : ℕ) (given : Reply) (held : Hold) (new : World) : Type 0 where
   pub deciding : IsDeciding old cpu
-  pub step : LocalStep old.setup.granules cpu deciding.command given (hold_of old cpu) held
+  pub step : LocalStep old.config.granules cpu deciding.command given (hold_of old cpu) held
   pub is_new : new ≡ record old {
     cells = put_all old.cells held.cells;
     side = held.side;
@@ -211,7 +212,7 @@ Moves old (Stop cpu) new = Stops old cpu new
 
 -- one of the machine's CPUs makes the move
 pub record Happens (old : World) (move : Move) (new : World) : Type 0 where
-  pub is_cpu : mover move < old.setup.cpus
+  pub is_cpu : mover move < old.config.cpus
   pub moves : Moves old move new
 
 -- from old, these moves in order lead to last
@@ -222,7 +223,7 @@ HappenAll old (move ∷ moves) last = (next : World) × Happens old move next ×
 -- ---- certified
 
 abbrev pub history_of : World → History
-history_of w = record { setup = w.setup; events = w.events }
+history_of w = record { config = w.config; events = w.events }
 
 -- whether the event is the return of the call
 abbrev pub is_return_of : ℕ → ℕ → Event → Bool
@@ -240,8 +241,8 @@ certificate_of w = map (line_for w.events) w.journal
 -- The journal, written as a certificate, is a linearization of the history, and its run leads to the cells as they are.
 pub record IsCertified (w : World) : Type 0 where
   pub linearization : IsLinearization (history_of w) (certificate_of w)
-  pub is_flat : linearization.last ≡ flat_state w.setup.granules w.cells
+  pub is_flat : linearization.last ≡ flat_state w.config.granules w.cells
 
 -- the world's own cells, side table and places
 abbrev pub IsShapedWorld : World → Type 0
-IsShapedWorld w = IsWellShaped w.setup.granules w.side w.place w.cells
+IsShapedWorld w = IsWellShaped w.config.granules w.side w.place w.cells

@@ -5,7 +5,7 @@ use Rattle.std.proofs.lemmas.List.{drop-drop, length-map}
 use borrow.Rule.Slice.PartMut.{post_of}
 use Rattle.rmm_spec.specs.declared.entry.Entry.{Entry}
 use Rattle.rmm_spec.specs.declared.tag.Ripas.{Ripas}
-use Rattle.rmm_spec.specs.State.{entry_with_ripas}
+use Rattle.rmm_spec.specs.Update.{entry_with_ripas}
 use Rattle.rmm_spec.specs.Table.{entries_with_ripas}
 
 -- the entries before, the changed ones and those after are the entries with the RIPAS of a stretch changed

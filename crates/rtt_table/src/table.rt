@@ -2,7 +2,7 @@
 
 ghost use Rattle.std.specs.Prelude.{All, ◌≡◌, ℕ, ◌<◌, ◌≤◌, ◌↔◌, IsTrue, IfOk, IfSome, length, map, replicate, Some, slice_get, slice_set};
 ghost use Rattle.std.specs.List.{list_any};
-ghost use Rattle.rmm_spec.specs.State.{entry_with_ripas};
+ghost use Rattle.rmm_spec.specs.Update.{entry_with_ripas};
 ghost use Rattle.rmm_spec.specs.Walk.{is_live};
 ghost use Rattle.rmm_spec.specs.Table.{entry_index, has_ripas, entries_with_ripas, AreAlike};
 

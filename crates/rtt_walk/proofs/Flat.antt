@@ -3,7 +3,8 @@ use Rattle.std.proofs.Common.{◌≡◌, ℕ, ◌≤◌, Bool, true, ◌&&◌, �
 use Rattle.std.specs.List.{find, Contains}
 use Rattle.std.proofs.lemmas.Bool.Decides.{nat_tests}
 use Rattle.rmm_spec.specs.Walk.{table_number}
-use Rattle.rmm_spec.specs.Table.{TableRecord, TableCell, place_number, covers, table_in, is_table_at, flat_table, ArePlaced, IsOnPath}
+use Rattle.rmm_spec.specs.Table.{TableRecord, place_number, covers}
+use Rattle.rmm_spec.specs.TableCells.{TableCell, table_in, is_table_at, flat_table, ArePlaced, IsOnPath}
 use Rattle.rtt_walk.proofs.Finds.{find_is, find_some, option_map_some}
 
 -- the table of a realm, level and number

@@ -2,7 +2,8 @@
 use Rattle.std.proofs.Common.{◌≡◌, ℕ, zero, suc, ◌+◌, ◌-◌, ◌<◌, ◌≤◌, ◌⊎◌, inl, inr, List, Some, refl, sym, ap, subst, ◌∙◌, arith}
 use Rattle.std.specs.List.{slice_get}
 use Rattle.rmm_spec.specs.declared.entry.Entry.TheVariants.{Table}
-use Rattle.rmm_spec.specs.Table.{TableRecord, TableCell, table_in, entry_index, LinksTo, IsOnPath, IsWalkable}
+use Rattle.rmm_spec.specs.Table.{TableRecord, entry_index}
+use Rattle.rmm_spec.specs.TableCells.{TableCell, table_in, LinksTo, IsOnPath, IsWalkable}
 
 -- a table is on the path from the root
 abbrev pub OnPath : (cells : List TableCell) (root ipa max : ℕ) → IsWalkable cells root ipa max → ℕ → TableRecord → Type 0

@@ -2,8 +2,9 @@
 use Rattle.std.proofs.Common.{◌≡◌, ℕ, suc, ◌==◌, Bool, true, false, [], ◌∷◌, ◌+◌, ◌*◌, ◌/◌, ◌%◌, ◌<◌, ◌≤◌, ◌⊎◌, inl, inr, IsTrue, List, length, get_or, Option, Some, None, refl, sym, ap, ◌∙◌, arith}
 use Rattle.std.proofs.lemmas.Bool.Decides.{nat_tests}
 use Rattle.std.proofs.lemmas.Option.{slice_get_read}
-use Rattle.rmm_spec.specs.State.{is_granule}
-use Rattle.rmm_spec.specs.Table.{TableRecord, table_in}
+use Rattle.rmm_spec.specs.Lookup.{is_granule}
+use Rattle.rmm_spec.specs.Table.{TableRecord}
+use Rattle.rmm_spec.specs.TableCells.{table_in}
 use Rattle.rtt_walk.specs.Plain.{cells_from, table_or_none}
 use Rattle.rtt_walk.specs.Walkable.{AreInGranules}
 use Rattle.rtt_walk.specs.PlainLaws.{table_in-nil, table_in-tail, table_in-no_granule, table_in-cells_from}

@@ -5,7 +5,8 @@ use Rattle.rmm_spec.specs.declared.entry.Entry.{Entry}
 use Rattle.rmm_spec.specs.declared.entry.Entry.TheVariants.{Table}
 use Rattle.rmm_spec.specs.State.{State}
 use Rattle.rmm_spec.specs.Walk.{IsWalk}
-use Rattle.rmm_spec.specs.Table.{TableRecord, TableCell, table_in, entry_index, with_tables, LinksTo, ArePlaced, IsWalkable}
+use Rattle.rmm_spec.specs.Table.{TableRecord, entry_index}
+use Rattle.rmm_spec.specs.TableCells.{TableCell, table_in, with_tables, LinksTo, ArePlaced, IsWalkable}
 use Rattle.rtt_walk.specs.Read.{IsRead}
 use Rattle.rtt_walk.proofs.Paths.{OnPath, same_table}
 use Rattle.rtt_walk.proofs.Ends.{walk_from_end}
@@ -18,10 +19,6 @@ pub record IsReached (cells : List TableCell) (root ipa max pa level : ℕ) (ent
   pub is_level : table.place.level ≡ level
   pub is_entry : slice_get table.entries (entry_index level ipa) ≡ Some entry
   pub within : level ≤ max
-
--- where a walk may start, the root has a table
-pub root_is_held : (cells : List TableCell) (root ipa max : ℕ) → IsWalkable cells root ipa max → (t : TableRecord) × (table_in cells root ≡ Some t)
-root_is_held cells root ipa max w = (w.table, w.is_root.is_held)
 
 -- the root that was read is reached
 pub root_is_reached : (cells : List TableCell) (root ipa max pa level : ℕ) (entry : Entry) → IsWalkable cells root ipa max

@@ -2,8 +2,9 @@
 use Rattle.std.proofs.Common.{◌≡◌, ℕ, ◌*◌, ◌/◌, ◌%◌, ◌<◌, ◌≤◌, IsTrue, List, Some, refl, sym, ap, subst, ◌∙◌, inl, inr, arith}
 use Rattle.std.proofs.lemmas.Bool.Decides.{nat_tests}
 use Rattle.rmm_spec.specs.declared.place.Place.{Place}
-use Rattle.rmm_spec.specs.State.{is_granule}
-use Rattle.rmm_spec.specs.Table.{TableRecord, TableCell, covers, table_in, IsWalkable}
+use Rattle.rmm_spec.specs.Lookup.{is_granule}
+use Rattle.rmm_spec.specs.Table.{TableRecord, covers}
+use Rattle.rmm_spec.specs.TableCells.{TableCell, table_in, IsWalkable}
 use Rattle.rtt_walk.specs.Walkable.{IsLinkedFrom, HasLink, IsSoundAt, AreInGranules}
 use Rattle.rtt_walk.proofs.PlainReads.{granule_within}
 use Rattle.rtt_walk.proofs.Paths.{same_table}

@@ -1,6 +1,7 @@
 -- A plain set of tables: the table of each granule, by the granule's number.
 use Rattle.std.specs.Prelude.{ℕ, suc, ◌*◌, List, [], ◌∷◌, Option, Some, None}
-use Rattle.rmm_spec.specs.Table.{TableRecord, TableCell}
+use Rattle.rmm_spec.specs.Table.{TableRecord}
+use Rattle.rmm_spec.specs.TableCells.{TableCell}
 
 -- the tables with their granules, of which the first has the number k
 unfoldable pub cells_from : ℕ → List (Option TableRecord) → List TableCell

@@ -2,7 +2,8 @@
 use Rattle.std.proofs.Common.{◌≡◌, ℕ, zero, suc, ◌+◌, ◌*◌, ◌<◌, false, ◌==◌, List, [], ◌∷◌, length, Option, Some, None, refl, ap, ◌∙◌, arith, eq-eqb}
 use Rattle.std.specs.List.{slice_get, slice_index_or}
 use Rattle.std.proofs.lemmas.Bool.Decides.{nat_tests}
-use Rattle.rmm_spec.specs.Table.{TableRecord, TableCell, table_in, ArePlaced}
+use Rattle.rmm_spec.specs.Table.{TableRecord}
+use Rattle.rmm_spec.specs.TableCells.{TableCell, table_in, ArePlaced}
 use Rattle.rtt_walk.specs.Plain.{cells_from, table_or_none}
 
 -- the first cell is found at its granule

@@ -1,7 +1,8 @@
 -- What a walk reads of one table.
 use Rattle.std.specs.Prelude.{◌≡◌, ℕ, List, Some, slice_get}
 use Rattle.rmm_spec.specs.declared.entry.Entry.{Entry}
-use Rattle.rmm_spec.specs.Table.{TableRecord, TableCell, table_in, entry_index}
+use Rattle.rmm_spec.specs.Table.{TableRecord, entry_index}
+use Rattle.rmm_spec.specs.TableCells.{TableCell, table_in}
 
 -- what was read of the table in a granule: where it lies, its level, and its entry for the address
 pub record IsRead (cells : List TableCell) (ipa granule pa level : ℕ) (entry : Entry) : Type 0 where

@@ -1,8 +1,9 @@
 -- What a walk asks, table by table.
 use Rattle.std.specs.Prelude.{◌≡◌, ℕ, suc, ◌≤◌, ◌⊎◌, IsTrue, List, Some}
 use Rattle.rmm_spec.specs.declared.place.Place.{Place}
-use Rattle.rmm_spec.specs.State.{is_granule}
-use Rattle.rmm_spec.specs.Table.{TableRecord, TableCell, covers, table_in, LinksTo, IsOnPath}
+use Rattle.rmm_spec.specs.Lookup.{is_granule}
+use Rattle.rmm_spec.specs.Table.{TableRecord, covers}
+use Rattle.rmm_spec.specs.TableCells.{TableCell, table_in, LinksTo, IsOnPath}
 
 -- a place of the realm from a level on, of which the table covers the address
 pub record IsOver (rd start ipa : ℕ) (place : Place) : Type 0 where

@@ -1,7 +1,7 @@
 //! What a walk reads: tables by the address of their granule.
 
 ghost use Rattle.std.specs.Prelude.{◌≡◌, option_copied, List};
-ghost use Rattle.rmm_spec.specs.Table.{TableCell, table_in, ArePlaced};
+ghost use Rattle.rmm_spec.specs.TableCells.{TableCell, table_in, ArePlaced};
 
 use granule_state::Pa;
 use rtt_table::Table;

@@ -3,7 +3,8 @@
 ghost use Rattle.std.specs.Prelude.{◌≡◌, ℕ, Some};
 ghost use Rattle.rmm_spec.specs.State.{State};
 ghost use Rattle.rmm_spec.specs.Walk.{IsWalk};
-ghost use Rattle.rmm_spec.specs.Table.{TableRecord, table_in, entry_index, with_tables, IsWalkable};
+ghost use Rattle.rmm_spec.specs.Table.{TableRecord, entry_index};
+ghost use Rattle.rmm_spec.specs.TableCells.{table_in, with_tables, IsWalkable};
 ghost use Rattle.rtt_walk.specs.Read.{IsRead};
 
 use crate::cells::Cells;

@@ -1,17 +1,15 @@
 //! Tables by the number of their granule.
 
 ghost use Rattle.std.specs.Prelude.{◌≡◌, ◌/◌, ◌≤◌, IsTrue, IfOk, length, replicate, Some, None, slice_set, false};
-ghost use Rattle.rmm_spec.specs.State.{is_granule};
+ghost use Rattle.rmm_spec.specs.Lookup.{is_granule};
 ghost use Rattle.rtt_walk.specs.Plain.{cells_from};
 ghost use Rattle.rtt_walk.specs.Walkable.{AreInGranules};
 
 use crate::cells::Cells;
-use granule_state::{Config, Pa};
+use granule_state::{Config, GRANULE_BYTES, Pa};
 use rtt_table::Table;
 use std::alloc::{AllocError, Global};
 use std::marker::Model;
-
-const GRANULE_BYTES: u64 = 4096;
 
 /// A table or none for each granule.
 #[derive(Debug, Drop)]
@@ -53,7 +51,7 @@ impl PlainCells {
     }
 
     /// Puts a table into the granule at an address, in place of what was there, or answers false where no granule begins.
-    #[tactic(auto, using(std::proofs::lemmas::Bool::Decides::nat_tests), unfolding(rmm_spec::specs::State::is_granule))]
+    #[tactic(auto, using(std::proofs::lemmas::Bool::Decides::nat_tests), unfolding(rmm_spec::specs::Lookup::is_granule))]
     pub fn put(&mut self, pa: Pa, table: Table) -> bool
         ensures answer { result ≡ is_granule (length self.old) pa }
         ensures put { IsTrue result → self.new ≡ slice_set self.old (pa / 4096) (Some table) }

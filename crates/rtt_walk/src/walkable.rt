@@ -2,15 +2,13 @@
 
 ghost use Rattle.std.specs.Prelude.{◌≡◌, ℕ, ◌≤◌, ◌↔◌, IsTrue, IfSome, IfNone, false, Some};
 ghost use Rattle.rmm_spec.specs.Table as spec;
-ghost use Rattle.rmm_spec.specs.Table.{LinksTo, IsWalkable};
+ghost use Rattle.rmm_spec.specs.TableCells.{LinksTo, IsWalkable};
 ghost use Rattle.rtt_walk.specs.Walkable.{IsOver, IsLinkedFrom, HasLink, LeadsDown, IsSoundAt, AreInGranules};
 
 use crate::cells::Cells;
-use granule_state::{Ipa, Pa};
+use granule_state::{GRANULE_BYTES, Ipa, Pa};
 use rmm_spec::{Entry, Place};
 use rtt_table::{Table, covers, index_of};
-
-const GRANULE_BYTES: u64 = 4096;
 
 /// Whether a walk may start: the root covers the address, at a level up to `max`, and the links from it lead to just the
 /// tables of its realm that cover the address from its level on. The tables lie in the first `granules` granules.

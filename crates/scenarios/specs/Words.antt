@@ -1,7 +1,10 @@
 -- The command line, over clap's own definitions of what a command takes and which value an argument gets.
-use Rattle.std.specs.Prelude.{◌≡◌, List, [], Option, Some, true, codes, option_and_then}
+use Rattle.std.specs.Prelude.{◌≡◌, List, [], Option, Some, true, codes, option_map, option_and_then}
 use Rattle.judging.specs.declared.fault.Fault.{Fault}
 use Rattle.judging.specs.declared.fault.Fault.TheVariants as fault
+use Rattle.judging.specs.declared.fault.Paths.{Paths}
+use Rattle.scenarios.specs.declared.words.Request.{Request}
+use Rattle.scenarios.specs.declared.words.Request.TheVariants.{Check, Threads}
 use Rattle.scenarios.specs.declared.words.WordsFault.{WordsFault}
 use Rattle.scenarios.specs.declared.words.WordsFault.TheVariants as words_fault_is
 use Rattle.clap.specs.declared.parser.matches.ArgMatches.{ArgMatches}
@@ -15,32 +18,38 @@ path id = record (new_rule id) { required = true }
 abbrev pub check_command : App
 check_command = with_rule (with_rule (new_app (codes "check")) (path (codes "HISTORY"))) (path (codes "CERT"))
 
--- `rmmcheck`, which has to be given the one subcommand
+-- `threads`, with no words of its own
+abbrev pub threads_command : App
+threads_command = new_app (codes "threads")
+
+-- `rmmcheck`, which has to be given one of the subcommands
 abbrev pub rmmcheck_command : App
 rmmcheck_command =
     let named : App = new_app (codes "rmmcheck") in
     let asked : App = record named { top = record named.top { subcommand_required = true } } in
-    with_subcommand asked check_command.top
+    with_subcommand (with_subcommand asked check_command.top) threads_command.top
 
--- the first value of an argument of the subcommand
+-- a subcommand's name, and the first value of one of its arguments
+abbrev pub name_of : Option (Text × List Row) → Option Text
+name_of sub = option_map (λ found. found.0) sub
+
 abbrev pub value_of : Text → Option (Text × List Row) → Option Text
 value_of id sub = option_and_then (λ found. first_of id found.1) sub
 
--- the same in the matches of a parse
-abbrev pub value_in : Text → ArgMatches → Option Text
-value_in id matches = value_of id (subcommand_rows_of matches)
+-- the subcommand asks for this
+abbrev pub IsAsked : Option (Text × List Row) → Request → Type 0
+IsAsked sub (Check paths) =
+    (name_of sub ≡ Some (codes "check"))
+    × (value_of (codes "HISTORY") sub ≡ Some paths.history.now)
+    × (value_of (codes "CERT") sub ≡ Some paths.certificate.now)
+IsAsked sub Threads = name_of sub ≡ Some (codes "threads")
 
--- the value that the subcommand's argument gets from the words
-abbrev pub value_given : Text → List Text → Option Text
-value_given id words = value_of id (subcommand_of rmmcheck_command words)
-
--- clap finds no fault in the words, and these are the two paths
-pub record AsksCheck (words : List Text) (history certificate : Text) : Type 0 where
+-- clap finds no fault in the words, and their subcommand asks for this
+pub record Asks (words : List Text) (request : Request) : Type 0 where
   pub no_fault : fault_of rmmcheck_command words ≡ []
-  pub history_given : value_given (codes "HISTORY") words ≡ Some history
-  pub certificate_given : value_given (codes "CERT") words ≡ Some certificate
+  pub is_asked : IsAsked (subcommand_of rmmcheck_command words) request
 
--- what the program ends with where the words give no paths
+-- what the program ends with where the words ask for nothing
 abbrev pub words_fault : WordsFault → Fault
 words_fault words_fault_is.Arguments = fault.Arguments
 words_fault words_fault_is.NoMemory = fault.NoMemory

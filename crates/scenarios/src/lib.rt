@@ -1,6 +1,6 @@
 //! What the program `rmmcheck` does, as one call over any runtime: its words, its files, its one line and its exit status.
-//! `paths_given` takes the words exactly where `clap`'s own definition finds no fault in them.
-//! `run` opens the two files, has `judging` read and judge them, and ends as `judging::ends_with` says.
+//! `request_given` takes the words exactly where `clap`'s own definition finds no fault in them.
+//! `run` has `judging` read and judge two files, or prints the fixed run of `thread_runs`, and ends as `judging::ends_with` says.
 //! It alone depends on `clap`; which bytes a file holds is beyond any contract.
 //! The program `rmmcheck` depends on it.
 #![tactic(auto)]
@@ -10,4 +10,4 @@ mod words;
 
 pub use judging::{JudgeFault, Paths, Sink, Source, judge};
 pub use program::run;
-pub use words::{WordsFault, paths_given};
+pub use words::{Request, WordsFault, request_given};

@@ -2,31 +2,74 @@
 
 ghost use Rattle.std.specs.Prelude.{◌≡◌, ◌≤◌};
 
-use crate::words::paths_given;
+use crate::words::{Request, request_given};
 use checker::Verdict;
 use judging::{Ending, Fault, FileSource, OutputSink, Paths, ends_with, judge};
+use std::io::Write;
 use std::rt::{Env, Files};
+use std::sync::Wait;
+use std::thread::Threads;
 use std::{env, fs, io};
+use thread_runs::{RunFault, two_threads};
 
-/// Runs the program and returns its exit status: 0 for yes, 1 for no, 2 for words or texts at fault, 3 for a device or memory.
-/// Where the line of a fault can't be written to standard error, the status alone reports it.
-pub fn run<R: Env + Files + Print + Eprint + AllocGlobal>(rt: &R) -> u8
+/// Runs the program and returns its exit status: 0 for yes, 1 for no, 2 for words or texts at fault, 3 for a device, memory
+/// or a thread. Threads are started and waited for by `threads`, and by the words `threads` alone. Where the line of a fault
+/// can't be written to standard error, the status alone reports it.
+pub fn run<R: Env + Files + Print + Eprint + AllocGlobal, T: Threads + Wait + Sync>(
+    rt: &R,
+    threads: &T,
+) -> u8
     ensures { result ≤ 3 }
 {
     let words = words_of(rt);
-    let ending = match &words {
-        Ok(words) => ends_with(checked(rt, words.as_slice())),
-        Err(fault) => ends_with(Err(*fault)),
+    let ended = match &words {
+        Ok(words) => serve(rt, threads, words.as_slice()),
+        Err(fault) => Err(Stop::Fault(*fault)),
     };
-    end(rt, ending)
+    match ended {
+        Ok(verdict) => end(rt, ends_with(Ok(verdict))),
+        Err(Stop::Fault(fault)) => end(rt, ends_with(Err(fault))),
+        Err(Stop::Thread) => {
+            let _ = rt.eprintln("rmmcheck: cannot start a thread");
+            3
+        }
+    }
 }
 
-fn checked<'a, R: Files + Print + AllocGlobal>(
+// Why the program ends without a verdict.
+#[derive(Clone, Copy, Debug)]
+enum Stop<'a> {
+    Fault(Fault<'a>),
+    Thread,
+}
+
+fn serve<'a, R: Files + Print + AllocGlobal, T: Threads + Wait + Sync>(
     rt: &R,
+    threads: &T,
     words: &'a [String],
-) -> Result<Verdict, Fault<'a>> {
-    let paths = paths_given(rt.alloc(), words)?;
-    check_files(rt, paths)
+) -> Result<Verdict, Stop<'a>> {
+    match request_given(rt.alloc(), words) {
+        Ok(Request::Check(paths)) => check_files(rt, paths).map_err(Stop::Fault),
+        Ok(Request::Threads) => run_threads(rt, threads),
+        Err(fault) => Err(Stop::Fault(Fault::from(fault))),
+    }
+}
+
+// Prints the fixed run of two threads. All of it is there before its first byte is written.
+fn run_threads<'a, R: Print + AllocGlobal, T: Threads + Wait + Sync>(
+    rt: &R,
+    threads: &T,
+) -> Result<Verdict, Stop<'a>> {
+    let mut text = Vec::new(rt.alloc());
+    let verdict = match two_threads(threads, rt.alloc(), &mut text) {
+        Ok(verdict) => verdict,
+        Err(RunFault::NoMemory) => return Err(Stop::Fault(Fault::NoMemory)),
+        Err(RunFault::Thread) => return Err(Stop::Thread),
+    };
+    match io::writer(rt).write_all(text.as_slice()) {
+        Ok(()) => Ok(verdict),
+        Err(_) => Err(Stop::Fault(Fault::CannotWrite)),
+    }
 }
 
 // Opens both files before either is read, and judges what they hold. The verdict's line goes to standard output.

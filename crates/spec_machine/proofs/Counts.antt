@@ -1,7 +1,7 @@
 -- Searching and counting the numbers below a bound.
 use Rattle.std.proofs.Common.{◌≡◌, ℕ, zero, suc, ◌+◌, ◌≤◌, ◌<◌, ◌==◌, nat_lt, ◌||◌, Bool, true, false, if◌then◌else◌, refl, sym, ◌∙◌, ap, arith, zero-add}
 use Rattle.std.proofs.lemmas.Bool.{eqb-true, eqb-false, ne_eqb, lt-ltb}
-use Rattle.rmm_spec.specs.State.{any_below}
+use Rattle.rmm_spec.specs.Lookup.{any_below}
 use Rattle.spec_machine.specs.Kept.{count_below}
 
 -- none is found where none passes

@@ -1,8 +1,10 @@
-pub mod Flats
-pub mod Tags
+pub mod Places
 pub mod Counts
-pub mod Soundness
-pub mod Keeping
-pub mod Roots
+pub mod Vmids
+pub mod RecCounts
 pub mod Changes
+pub mod Entries
+pub mod Made
+pub mod Reached
+pub mod Ownership
 pub mod Rows

@@ -1,4 +1,7 @@
-pub mod Flat
 pub mod Kept
+pub mod Owners
+pub mod Report
 pub mod Served
+pub mod Single
+pub mod Stored
 pub mod View

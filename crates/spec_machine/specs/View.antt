@@ -1,7 +1,7 @@
 -- The flat state that a machine stands for.
 use Rattle.rmm_spec.specs.State.{State}
 use Rattle.spec_machine.specs.declared.machine.Machine.{Machine}
-use Rattle.spec_machine.specs.Flat.{flat}
+use Rattle.spec_machine.specs.Stored.{stored}
 
 unfoldable pub state_of : Machine → State
-state_of machine = flat machine.config.granules machine.tags.items machine.realms.items machine.recs.items
+state_of machine = stored machine.store

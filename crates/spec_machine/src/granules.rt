@@ -1,17 +1,15 @@
 //! What a machine keeps of its granules, as rows read it.
 
-ghost use Rattle.std.specs.Prelude.{◌≡◌, ◌/◌};
-
 use crate::machine::Machine;
-use granule_state::{GRANULE_BYTES, granule_at};
+use crate::store::place;
 use realm_desc::{Realm, Rec};
-use rmm_spec::Tag;
+use rmm_spec::{Stretch, Tag, Walked};
 
 impl Machine {
-    ghost use Rattle.std.specs.Prelude.{◌≡◌, ◌/◌, is_some, IsTrue};
-    ghost use Rattle.std.specs.Option.{SomeIff};
-    ghost use Rattle.rmm_spec.specs.State.{has_tag, has_rec, is_inside, is_granule, is_vmid_used, realm_at, rec_at};
-    ghost use Rattle.rmm_spec.specs.Walk.{has_link};
+    ghost use Rattle.std.specs.Prelude.{◌≡◌, ◌^◌, ◌<◌, ◌≤◌, is_some, IsTrue};
+    ghost use Rattle.rmm_spec.specs.Lookup.{has_tag, has_rec, is_inside, is_vmid_used, realm_at, rec_at};
+    ghost use Rattle.rmm_spec.specs.Step.Ripas.{is_reached};
+    ghost use Rattle.rmm_spec.specs.Walk.{walk, is_in_use, has_link};
     ghost use Rattle.spec_machine.specs.View.{state_of};
 
     /// Whether a REC runs on the CPU. No command that is served makes one run.
@@ -22,42 +20,33 @@ impl Machine {
     }
 
     /// Whether the address is that of a granule with the tag.
-    #[tactic(auto, using(crate::proofs::Flats::place_within))]
+    #[tactic(auto, unfolding(crate::specs::View::state_of))]
     pub(crate) fn has_tag(&self, address: u64, tag: Tag) -> bool
         ensures { result ≡ has_tag (state_of self.now) address tag }
     {
-        match self.place_of(address) {
-            Some(place) => self.tags[place] == tag,
-            None => false,
-        }
+        self.store.has_tag(address, tag)
     }
 
     /// The realm whose descriptor is at the address. One is exactly where the tag says so.
-    #[tactic(auto, using(crate::proofs::Flats::place_within))]
+    #[tactic(auto, unfolding(crate::specs::View::state_of))]
     pub(crate) fn realm(&self, rd: u64) -> Option<Realm>
         ensures there { result ≡ (state_of self.now).realm rd }
         ensures tagged { is_some result ≡ has_tag (state_of self.now) rd Tag.Rd }
     {
-        match self.place_of(rd) {
-            Some(place) => self.realms[place],
-            None => None,
-        }
+        self.store.realm(rd)
     }
 
     /// The REC whose granule is at the address. One is exactly where the tag says so.
-    #[tactic(auto, using(crate::proofs::Flats::place_within))]
+    #[tactic(auto, unfolding(crate::specs::View::state_of))]
     pub(crate) fn rec(&self, address: u64) -> Option<Rec>
         ensures there { result ≡ (state_of self.now).rec address }
         ensures tagged { is_some result ≡ has_tag (state_of self.now) address Tag.Rec }
     {
-        match self.place_of(address) {
-            Some(place) => self.recs[place],
-            None => None,
-        }
+        self.store.rec(address)
     }
 
     /// The realm of a descriptor.
-    #[tactic(auto, unfolding(rmm_spec::specs::State::realm_at))]
+    #[tactic(auto, unfolding(rmm_spec::specs::Lookup::realm_at))]
     pub(crate) fn realm_at(&self, rd: u64) -> Realm
         requires { IsTrue (has_tag (state_of self.now) rd Tag.Rd) }
         ensures { result ≡ realm_at (state_of self.now) rd }
@@ -69,7 +58,7 @@ impl Machine {
     }
 
     /// The REC of its own granule.
-    #[tactic(auto, unfolding(rmm_spec::specs::State::rec_at))]
+    #[tactic(auto, unfolding(rmm_spec::specs::Lookup::rec_at))]
     pub(crate) fn rec_at(&self, address: u64) -> Rec
         requires { IsTrue (has_tag (state_of self.now) address Tag.Rec) }
         ensures { result ≡ rec_at (state_of self.now) address }
@@ -81,11 +70,13 @@ impl Machine {
     }
 
     /// The realm of the REC, by the address of its descriptor.
+    #[tactic(auto, unfolding(realm_desc::specs::View::rec_record))]
     pub(crate) fn owner_of(&self, address: u64) -> u64
         requires { IsTrue (has_tag (state_of self.now) address Tag.Rec) }
         ensures { result ≡ (rec_at (state_of self.now) address).owner }
     {
-        self.rec_at(address).owner().address()
+        let rec = self.rec_at(address);
+        rec.owner.address()
     }
 
     /// Whether a realm has the VMID.
@@ -103,25 +94,39 @@ impl Machine {
         self.rec_counts[place(rd)] > 0
     }
 
-    /// Whether the realm's root links to a table below it. No command that is served makes a second table.
-    pub(crate) fn has_link(&self, _rd: u64) -> bool
-        ensures { result ≡ has_link (state_of self.now) _rd (realm_at (state_of self.now) _rd).start_level 0 }
+    /// Where the walk for an address up to a level ends.
+    #[tactic(auto, unfolding(crate::specs::View::state_of))]
+    pub(crate) fn walk(&self, rd: u64, ipa: u64, max: u8) -> Walked
+        requires { max ≤ 3 }
+        ensures end { result ≡ walk (state_of self.now) rd ipa max }
+        ensures within { result.level ≤ 3 }
     {
-        false
+        self.store.walk(rd, ipa, max)
     }
 
-    // The place of the granule at the address, where one is.
-    fn place_of(&self, address: u64) -> Option<usize>
-        ensures { SomeIff result (IsTrue (is_granule self.now.config.granules address)) (address / 4096) }
+    /// Whether a command may reach that end of a stretch.
+    #[tactic(auto, unfolding(crate::specs::View::state_of))]
+    pub(crate) fn is_reached(&self, stretch: &Stretch, top: u64) -> bool
+        requires { stretch.now.level ≤ 3 }
+        ensures { result ≡ is_reached (state_of self.now) stretch.now top }
     {
-        let granule = granule_at(&self.config, address)?;
-        Some(place(granule.address()))
+        self.store.is_reached(stretch, top)
     }
-}
 
-/// Where what is kept of a granule stands.
-pub(crate) fn place(address: u64) -> usize
-    ensures { result ≡ address / 4096 }
-{
-    (address / GRANULE_BYTES) as usize
+    /// Whether the table of that number has an entry that keeps it in use.
+    #[tactic(auto, unfolding(crate::specs::View::state_of))]
+    pub(crate) fn is_in_use(&self, rd: u64, level: u8, number: u64) -> bool
+        requires { number < 2 ^ 52 }
+        ensures { result ≡ is_in_use (state_of self.now) rd level number }
+    {
+        self.store.is_in_use(rd, level, number)
+    }
+
+    /// Whether the realm's root links to a table below it.
+    #[tactic(auto, unfolding(crate::specs::View::state_of))]
+    pub(crate) fn has_link(&self, rd: u64, level: u8) -> bool
+        ensures { result ≡ has_link (state_of self.now) rd level 0 }
+    {
+        self.store.has_link(rd, level, 0)
+    }
 }

@@ -1,19 +1,31 @@
 //! The specification machine as a program: it holds one state, decides what the definitions answer to a command, and applies it.
 //! It promises that an offer is accepted exactly where the definitions have a step, and then holds the next state.
 //! What a clause sees of it is `state_of`, a flat state; how the parts are kept can change under every clause.
-//! An offer that isn't accepted leaves the state as it was, and only `new` takes memory.
+//! An offer that isn't accepted leaves the state as it was; memory is taken only by `new`, where a table is made, and for a report.
 //! The checker of histories depends on it.
 #![tactic(auto)]
 
 mod change;
+mod changed_records;
+mod changed_tables;
+mod data;
 mod granule;
 mod granules;
 mod machine;
+mod owner_report;
+mod owners;
 mod realm;
 mod rec;
 mod reply;
+mod ripas;
+mod store;
+mod stored_changes;
+mod stored_tables;
+mod table;
 #[cfg(test)]
 mod tests;
+mod unprotected;
 
 pub use machine::Machine;
+pub use owner_report::OwnerRow;
 pub use rmm_spec::{Accepted, Command, FunctionId, Reply};

@@ -1,33 +1,31 @@
 //! The machine, what it answers to a command, and its steps.
 
-ghost use Rattle.std.specs.Prelude.{◌≡◌, vec_len};
-ghost use Rattle.spec_machine.specs.Flat.{flat};
 ghost use Rattle.spec_machine.specs.Kept.{IsKept};
+ghost use Rattle.spec_machine.specs.Owners.{AreOwners};
+ghost use Rattle.spec_machine.specs.Single.{kept-single, owners-single};
+ghost use Rattle.spec_machine.specs.Stored.{stored};
 
+use crate::owners::Owners;
 use crate::reply::is_ok;
+use crate::store::Store;
 use granule_state::{Config, Pa};
-use realm_desc::{Realm, Rec};
-use rmm_spec::{Accepted, Call, Command, Reply, Tag};
+use rmm_spec::{Accepted, Call, Command, Reply};
 use std::alloc::{AllocError, Global};
 
 /// How many VMIDs there are.
 const VMIDS: usize = 256;
 
-/// A state of the specification machine, in lists with a place for each granule.
+/// A state of the specification machine, with what finds VMIDs and RECs in it.
 #[derive(Debug, Drop)]
 pub struct Machine {
-    pub(crate) config: Config,
-    pub(crate) tags: Vec<Tag>,
-    pub(crate) realms: Vec<Option<Realm>>,
-    pub(crate) recs: Vec<Option<Rec>>,
+    pub(crate) store: Store,
     // at each VMID the descriptor of the realm that has it
     pub(crate) vmids: Vec<Option<Pa>>,
     // at each granule how many RECs belong to the realm there
     pub(crate) rec_counts: Vec<usize>,
-    ghost tags_placed: { vec_len tags ≡ config.granules },
-    ghost realms_placed: { vec_len realms ≡ config.granules },
-    ghost recs_placed: { vec_len recs ≡ config.granules },
-    ghost kept: { IsKept (flat config.granules tags.items realms.items recs.items) vmids.items rec_counts.items },
+    pub(crate) owners: Owners,
+    ghost kept: { IsKept (stored store) vmids.items rec_counts.items } by { kept-single (stored store) vmids.items rec_counts.items },
+    ghost owned: { AreOwners (stored store) owners.realms.items } by { owners-single (stored store) owners.realms.items kept.sound },
 }
 
 impl Machine {
@@ -36,26 +34,24 @@ impl Machine {
     ghost use Rattle.rmm_spec.specs.Function.{is_served};
     ghost use Rattle.rmm_spec.specs.State.{State, opening};
     ghost use Rattle.rmm_spec.specs.Step.{Step, outcome};
-    ghost use Rattle.spec_machine.specs.Served.{is_decided};
+    ghost use Rattle.spec_machine.specs.Served.{is_decided, makes_table};
     ghost use Rattle.spec_machine.specs.View.{state_of};
 
-    /// A machine of that size in which every granule is the host's. All of its memory is taken here, once.
+    /// A machine of that size in which every granule is the host's.
+    #[tactic(auto, unfolding(crate::specs::View::state_of))]
     pub fn new(alloc: Global, config: Config) -> Result<Machine, AllocError>
         ensures { IfOk result (λ machine. state_of machine ≡ opening config) }
     {
         let granules = config.granules() as usize;
-        let tags = vec![in alloc; Tag::Undelegated; granules]?;
-        let realms = vec![in alloc; None; granules]?;
-        let recs = vec![in alloc; None; granules]?;
+        let store = Store::new(alloc, config)?;
         let vmids = vec![in alloc; None; VMIDS]?;
         let rec_counts = vec![in alloc; 0; granules]?;
+        let owners = Owners::new(alloc, granules)?;
         Ok(Machine {
-            config,
-            tags,
-            realms,
-            recs,
+            store,
             vmids,
             rec_counts,
+            owners,
         })
     }
 
@@ -70,7 +66,8 @@ impl Machine {
     }
 
     /// Takes one step: whether the machine may give this reply to the command of this CPU. Where it may, the state is
-    /// the step's next one, and else it stays. A function that isn't served yet is given no reply.
+    /// the step's next one, and else it stays. A function that isn't served yet is given no reply. Memory is taken only where
+    /// a command that makes a table is accepted.
     pub fn offer(&mut self, cpu: u8, command: &Command, reply: &Reply) -> Result<bool, AllocError>
         ensures step { IfOk result (λ given. IsTrue given
             → Step (state_of self.old) cpu command.now reply.now (state_of self.new)) }
@@ -79,7 +76,8 @@ impl Machine {
         ensures unserved { IfOk result (λ given. is_served command.now.function ≡ false → given ≡ false) }
         ensures kept { IfOk result (λ given. given ≡ false → state_of self.new ≡ state_of self.old) }
         ensures err { OnErr result (state_of self.new ≡ state_of self.old) }
-        ensures succeeds { IsOk result }
+        ensures only_tables { OnErr result (IsTrue (makes_table command.now.function)) }
+        ensures only_accepted { OnErr result (IsOk (outcome (state_of self.old) cpu (call_of command.now))) }
     {
         match self.outcome(cpu, command) {
             None => Ok(false),
@@ -88,10 +86,12 @@ impl Machine {
                 if !is_ok(reply, &words) {
                     return Ok(false);
                 }
-                self.apply(&change);
+                let Ok(()) = self.apply(&change) else {
+                    return Err(AllocError);
+                };
                 Ok(true)
             }
-            Some(Ok(Accepted::Reaches(_))) => unreachable!(),
+            Some(Ok(Accepted::Reaches(stretch))) => Ok(self.reach(&stretch, reply)),
         }
     }
 
@@ -122,6 +122,31 @@ impl Machine {
                 aux1,
             } => Some(self.rec_create(rd, rec, mpidr, flags, aux0, aux1)),
             Call::RecDestroy { rec } => Some(self.rec_destroy(rec)),
+            Call::DataCreate {
+                rd,
+                granule,
+                ipa,
+                source,
+                flags,
+                digest,
+            } => Some(self.data_create(rd, granule, ipa, source, flags, digest)),
+            Call::DataCreateUnknown { rd, granule, ipa } => Some(self.data_create_unknown(
+                rd, granule, ipa,
+            )),
+            Call::DataDestroy { rd, ipa } => Some(self.data_destroy(rd, ipa)),
+            Call::RttCreate {
+                rd,
+                rtt,
+                ipa,
+                level,
+            } => Some(self.rtt_create(rd, rtt, ipa, level)),
+            Call::RttDestroy { rd, ipa, level } => Some(self.rtt_destroy(rd, ipa, level)),
+            Call::RttMapUnprotected { rd, ipa, page } => Some(self.rtt_map_unprotected(
+                rd, ipa, page,
+            )),
+            Call::RttReadEntry { rd, ipa, level } => Some(self.rtt_read_entry(rd, ipa, level)),
+            Call::RttUnmapUnprotected { rd, ipa } => Some(self.rtt_unmap_unprotected(rd, ipa)),
+            Call::RttInitRipas { rd, base, top } => Some(self.rtt_init_ripas(rd, base, top)),
             _ => return None,
         };
         if self.is_inside(cpu) {

@@ -54,7 +54,7 @@ impl Machine {
         }))
     }
 
-    #[tactic(auto, unfolding(rmm_spec::specs::Step::Realm::realm_activate, rmm_spec::specs::Step::Words::words_of, rmm_spec::specs::Step::Named::named, rmm_spec::specs::State::realm_at))]
+    #[tactic(auto, unfolding(rmm_spec::specs::Step::Realm::realm_activate, rmm_spec::specs::Step::Words::words_of, rmm_spec::specs::Step::Named::named, rmm_spec::specs::Lookup::realm_at))]
     pub(crate) fn realm_activate(&self, rd: u64) -> Result<Accepted, Reply>
         ensures { result ≡ realm_activate (state_of self.now) rd }
     {
@@ -71,7 +71,7 @@ impl Machine {
         }))
     }
 
-    #[tactic(auto, unfolding(rmm_spec::specs::Step::Realm::realm_destroy, rmm_spec::specs::Step::Words::words_of, rmm_spec::specs::Step::Named::named, rmm_spec::specs::State::realm_at))]
+    #[tactic(auto, unfolding(rmm_spec::specs::Step::Realm::realm_destroy, rmm_spec::specs::Step::Words::words_of, rmm_spec::specs::Step::Named::named, rmm_spec::specs::Lookup::realm_at, realm_desc::specs::View::realm_record))]
     pub(crate) fn realm_destroy(&self, rd: u64) -> Result<Accepted, Reply>
         ensures { result ≡ realm_destroy (state_of self.now) rd }
     {
@@ -81,10 +81,10 @@ impl Machine {
         if self.has_rec(rd) {
             return Err(realm_error(0));
         }
-        if self.has_link(rd) {
+        if self.has_link(rd, realm.start_level()) {
             return Err(realm_error(0));
         }
-        let root = realm.root().address();
+        let root = realm.root.address();
         Ok(done(Change::RealmDestroyed { rd, root }))
     }
 }

@@ -9,7 +9,7 @@ impl Machine {
     ghost use Rattle.rmm_spec.specs.Step.Rec.{rec_create, rec_destroy};
     ghost use Rattle.spec_machine.specs.View.{state_of};
 
-    #[tactic(auto, unfolding(rmm_spec::specs::Step::Rec::rec_create, rmm_spec::specs::Step::Words::words_of, rmm_spec::specs::Step::Named::named, rmm_spec::specs::State::realm_at))]
+    #[tactic(auto, unfolding(rmm_spec::specs::Step::Rec::rec_create, rmm_spec::specs::Step::Words::words_of, rmm_spec::specs::Step::Named::named, rmm_spec::specs::Lookup::realm_at))]
     pub(crate) fn rec_create(
         &self,
         rd: u64,
@@ -55,7 +55,7 @@ impl Machine {
         }))
     }
 
-    #[tactic(auto, unfolding(rmm_spec::specs::Step::Rec::rec_destroy, rmm_spec::specs::Step::Words::words_of, rmm_spec::specs::Step::Named::named, rmm_spec::specs::State::rec_at))]
+    #[tactic(auto, unfolding(rmm_spec::specs::Step::Rec::rec_destroy, rmm_spec::specs::Step::Words::words_of, rmm_spec::specs::Step::Named::named, rmm_spec::specs::Lookup::rec_at, realm_desc::specs::View::rec_record))]
     pub(crate) fn rec_destroy(&self, address: u64) -> Result<Accepted, Reply>
         ensures { result ≡ rec_destroy (state_of self.now) address }
     {
@@ -67,8 +67,8 @@ impl Machine {
         }
         Ok(done(Change::RecDestroyed {
             rec: address,
-            aux0: rec.aux0().address(),
-            aux1: rec.aux1().address(),
+            aux0: rec.aux0.address(),
+            aux1: rec.aux1.address(),
         }))
     }
 }

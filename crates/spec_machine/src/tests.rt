@@ -1,8 +1,9 @@
 //! Offers to small machines, as the worked scripts of the commands go.
 
-use crate::{Command, FunctionId, Machine, Reply};
+use crate::{Command, FunctionId, Machine, OwnerRow, Reply};
 use arrayvec::ArrayVec;
-use granule_state::Config;
+use granule_state::{Config, Pa};
+use rmm_spec::Tag;
 use std::alloc::{AllocError, Global};
 use std::test::Fail;
 
@@ -186,7 +187,81 @@ fn what_is_answered(rt: HostRuntime) -> Result<(), Fail> {
     assert!(rt; matches!(&inside, Some(Ok(_))));
     let outside = machine.outcome(0, &command(FunctionId::GranuleDelegate, 0x4000));
     assert!(rt; matches!(&outside, Some(Err(Reply::Err(1, 0)))));
-    let unserved = machine.outcome(0, &command(FunctionId::RttReadEntry, 0x1000));
+    let unserved = machine.outcome(0, &command(FunctionId::RecEnter, 0x1000));
     assert!(rt; unserved.is_none());
+    Ok(())
+}
+
+#[test]
+fn granules_of_a_realm_are_reported(rt: HostRuntime) -> Result<(), Fail> {
+    use FunctionId::{RealmCreate, RecCreate, RecDestroy};
+    let mut machine = delegated_machine(rt.alloc())?;
+    let m = &mut machine;
+    assert!(rt; gives(m, RealmCreate, [0x1000, 0x2000, 0x27, 1, 1, 0], 0)?);
+    assert!(rt; gives(m, RecCreate, [0x1000, 0x5000, 0, 1, 0x6000, 0x7000], 0)?);
+    assert!(rt; gives(m, RecDestroy, [0x5000, 0, 0, 0, 0, 0], 0)?);
+    assert!(rt; gives(m, RecCreate, [0x1000, 0x3000, 1, 1, 0x4000, 0x5000], 0)?);
+    let mut rows = Vec::new(rt.alloc());
+    machine.owner_report(&mut rows)?;
+    for (address, tag, owned) in [
+        (0x1000, Tag::Rd, true),
+        (0x2000, Tag::Rtt, true),
+        (0x3000, Tag::Rec, true),
+        (0x4000, Tag::RecAux, true),
+        (0x5000, Tag::RecAux, true),
+        (0x6000, Tag::Delegated, false),
+    ] {
+        let realm = if owned { Some(Pa::new(0x1000)) } else { None };
+        let row = OwnerRow {
+            granule: Pa::new(address),
+            tag,
+            realm,
+        };
+        assert!(rt;
+            rows.get((address / 4096) as usize) == Some(&row),
+            "the row of {address:x}"
+        );
+    }
+    Ok(())
+}
+
+// The first nine steps of the script in which a table with a page stays.
+#[test]
+fn a_page_and_its_tables_are_reported(rt: HostRuntime) -> Result<(), Fail> {
+    use FunctionId::{DataCreateUnknown, GranuleDelegate, RealmCreate, RttCreate};
+    let config = Config::new(16, 1).ok_or("a machine of this size")?;
+    let mut machine = Machine::new(rt.alloc(), config)?;
+    let m = &mut machine;
+    for granule in 1..6u64 {
+        assert!(rt; gives(m, GranuleDelegate, [granule * 0x1000, 0, 0, 0, 0, 0], 0)?);
+    }
+    assert!(rt; gives(m, RealmCreate, [0x1000, 0x2000, 0x27, 1, 1, 0], 0)?);
+    assert!(rt; gives(m, RttCreate, [0x1000, 0x3000, 0, 2, 0, 0], 0)?);
+    assert!(rt; gives(m, RttCreate, [0x1000, 0x4000, 0, 3, 0, 0], 0)?);
+    assert!(rt; gives(m, DataCreateUnknown, [0x1000, 0x5000, 0x1ff000, 0, 0, 0], 0)?);
+    let mut rows = Vec::new(rt.alloc());
+    machine.owner_report(&mut rows)?;
+    assert_eq!(rt; rows.len(), 16);
+    for (address, tag, owned) in [
+        (0, Tag::Undelegated, false),
+        (0x1000, Tag::Rd, true),
+        (0x2000, Tag::Rtt, true),
+        (0x3000, Tag::Rtt, true),
+        (0x4000, Tag::Rtt, true),
+        (0x5000, Tag::Data, true),
+        (0x6000, Tag::Undelegated, false),
+        (0xf000, Tag::Undelegated, false),
+    ] {
+        let realm = if owned { Some(Pa::new(0x1000)) } else { None };
+        let row = OwnerRow {
+            granule: Pa::new(address),
+            tag,
+            realm,
+        };
+        assert!(rt;
+            rows.get((address / 4096) as usize) == Some(&row),
+            "the row of {address:x}"
+        );
+    }
     Ok(())
 }

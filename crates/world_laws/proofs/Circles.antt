@@ -51,7 +51,7 @@ idle_holder w locked cpu granule holds (inl ended) = by (w.phase cpu) refl
 
 -- from a blocked CPU a chain leads to one that was stopped, since ranks are bounded
 leads : (w : World) → IsShapedWorld w → IsLocked w → IsStuck w → (fuel cpu granule : ℕ) (blocked : IsBlocked w cpu granule)
-    → w.setup.granules * 4096 + 5 ≤ fuel + rank w cpu granule blocked.waits.rising → LeadsToStopped w cpu
+    → w.config.granules * 4096 + 5 ≤ fuel + rank w cpu granule blocked.waits.rising → LeadsToStopped w cpu
 leads w shaped locked stuck zero cpu granule blocked enough =
     absurd (omega (arith, rank-bounded w shaped cpu granule blocked.waits.rising, enough))
 leads w shaped locked stuck (suc fuel) cpu granule blocked enough =
@@ -60,7 +60,7 @@ leads w shaped locked stuck (suc fuel) cpu granule blocked enough =
   where
     by : ((next : ℕ) × IsBlocked w blocked.other next) ⊎ IsIdle w blocked.other Go
         → ((next : ℕ) (there : IsBlocked w blocked.other next)
-        → w.setup.granules * 4096 + 5 ≤ fuel + rank w blocked.other next there.waits.rising → LeadsToStopped w blocked.other) → LeadsToStopped w cpu
+        → w.config.granules * 4096 + 5 ≤ fuel + rank w blocked.other next there.waits.rising → LeadsToStopped w blocked.other) → LeadsToStopped w cpu
     by (inl there) rest =
         let higher : rank w cpu granule blocked.waits.rising < rank w blocked.other there.0 there.1.waits.rising =
         rank-rises w shaped locked cpu blocked.other granule there.0 blocked.waits there.1.waits.rising in
@@ -74,7 +74,7 @@ leads w shaped locked stuck (suc fuel) cpu granule blocked enough =
     }
 
 leads_on : (w : World) → IsShapedWorld w → IsLocked w → IsStuck w → (cpu granule : ℕ) → IsBlocked w cpu granule → LeadsToStopped w cpu
-leads_on w shaped locked stuck cpu granule blocked = leads w shaped locked stuck (w.setup.granules * 4096 + 5) cpu granule blocked (omega arith)
+leads_on w shaped locked stuck cpu granule blocked = leads w shaped locked stuck (w.config.granules * 4096 + 5) cpu granule blocked (omega arith)
 
 pub WaitsBehindStopped-stuck : (w : World) → IsShapedWorld w → IsLocked w → IsStuck w → WaitsBehindStopped w
 WaitsBehindStopped-stuck w shaped locked stuck = record {

@@ -15,3 +15,5 @@ pub mod Moved
 pub mod SmallRuns
 pub mod SmallTakes
 pub mod OneRealm
+pub mod Broken
+pub mod OneRec

@@ -3,7 +3,7 @@ use Rattle.std.proofs.Common.{◌≡◌, ℕ, ◌+◌, ◌<◌, Bool, true, fals
 use Rattle.std.specs.Prelude.{Contains, not}
 use Rattle.std.proofs.lemmas.List.Elements.{Contains-push_cases}
 use Rattle.rmm_spec.specs.declared.command.Command.{Command}
-use Rattle.rmm_spec.specs.HistoryText.{Setup}
+use Rattle.rmm_spec.specs.HistoryText.{Config}
 use Rattle.rmm_spec.specs.Cell.{put}
 use Rattle.rmm_spec.specs.World.{World, Phase, Between, Deciding, Decided, GivenUp, Stopped, Move, mover, Moves, Happens, HappenAll, MayLearn, phase_learnt, without_granule, opening_world, Takes}
 use Rattle.rmm_spec.specs.World as world
@@ -24,7 +24,7 @@ pub record AreLocked (cpus : ℕ) (taken : ℕ → List ℕ) (phase : ℕ → Ph
   pub holds : (cpu : ℕ) → HoldsIn (phase cpu) (taken cpu)
 
 abbrev pub IsLocked : World → Type 0
-IsLocked w = AreLocked w.setup.cpus w.taken w.phase
+IsLocked w = AreLocked w.config.cpus w.taken w.phase
 
 -- a CPU's phase changes, and it holds no more than it did
 AreLocked-less : (cpus : ℕ) (taken : ℕ → List ℕ) (phase : ℕ → Phase) (cpu : ℕ) (p : Phase) (fewer : List ℕ)
@@ -53,7 +53,7 @@ AreLocked-phase cpus taken phase cpu p here locked = record {
   holds = λ c. put_elim (λ q. HoldsIn q (taken c)) phase cpu p c (λ same. subst (λ k. HoldsIn p (taken k)) (sym same) here) (λ apart. locked.holds c);
 }
 
-IsLocked-Takes : (old : World) (cpu granule : ℕ) (new : World) → cpu < old.setup.cpus → IsLocked old → Takes old cpu granule new → IsLocked new
+IsLocked-Takes : (old : World) (cpu granule : ℕ) (new : World) → cpu < old.config.cpus → IsLocked old → Takes old cpu granule new → IsLocked new
 IsLocked-Takes old cpu granule new is_cpu locked takes = subst IsLocked (sym takes.is_new) (record {
   one = λ c d g of_c of_d. one c d g (was c g of_c) (was d g of_d);
   fits = λ c g of_c. fits c g (was c g of_c);
@@ -76,9 +76,9 @@ IsLocked-Takes old cpu granule new is_cpu locked takes = subst IsLocked (sym tak
     one c d g (inr of_c) (inl of_d) = absurd (takes.is_free d (subst (Contains (old.taken d)) (sym of_c.1) of_d))
     one c d g (inr of_c) (inr of_d) = of_c.0 ∙ sym of_d.0
 
-    fits : (c g : ℕ) → Contains (old.taken c) g ⊎ ((c ≡ cpu) × (granule ≡ g)) → c < old.setup.cpus
+    fits : (c g : ℕ) → Contains (old.taken c) g ⊎ ((c ≡ cpu) × (granule ≡ g)) → c < old.config.cpus
     fits c g (inl of_c) = locked.fits c g of_c
-    fits c g (inr of_c) = subst (λ k. k < old.setup.cpus) (sym of_c.0) is_cpu
+    fits c g (inr of_c) = subst (λ k. k < old.config.cpus) (sym of_c.0) is_cpu
 
 -- where something may be learnt a call is open
 HoldsIn-learnt : (w : World) (p : Phase) (granule : ℕ) (learnt : Option ℕ) (taken : List ℕ) → MayLearn w p granule learnt → HoldsIn (phase_learnt learnt p) taken
@@ -88,25 +88,25 @@ HoldsIn-learnt w (Decided number command given) granule learnt taken may = tt
 HoldsIn-learnt w GivenUp granule learnt taken may = absurd may
 HoldsIn-learnt w Stopped granule learnt taken may = absurd may
 
-IsLocked-Moves : (old : World) (move : Move) (new : World) → mover move < old.setup.cpus → IsLocked old → Moves old move new → IsLocked new
+IsLocked-Moves : (old : World) (move : Move) (new : World) → mover move < old.config.cpus → IsLocked old → Moves old move new → IsLocked new
 IsLocked-Moves old (world.Call cpu) new is_cpu locked moves =
-    subst IsLocked (sym moves.is_new) (AreLocked-phase old.setup.cpus old.taken old.phase cpu (Deciding moves.number moves.command None) tt locked)
+    subst IsLocked (sym moves.is_new) (AreLocked-phase old.config.cpus old.taken old.phase cpu (Deciding moves.number moves.command None) tt locked)
 IsLocked-Moves old (world.Take cpu granule) new is_cpu locked moves = IsLocked-Takes old cpu granule new is_cpu locked moves
 IsLocked-Moves old (world.Free cpu granule learnt) new is_cpu locked moves =
     subst IsLocked (sym moves.is_new)
-    (AreLocked-less old.setup.cpus old.taken old.phase cpu (phase_learnt learnt (old.phase cpu)) (without_granule granule (old.taken cpu))
+    (AreLocked-less old.config.cpus old.taken old.phase cpu (phase_learnt learnt (old.phase cpu)) (without_granule granule (old.taken cpu))
     (λ g has. Contains-filter (λ other. not (other == granule)) (old.taken cpu) g has)
     (HoldsIn-learnt old (old.phase cpu) granule learnt (without_granule granule (old.taken cpu)) moves.may_learn) locked)
 IsLocked-Moves old (world.Commit cpu given held) new is_cpu locked moves =
     subst IsLocked (sym moves.is_new)
-    (AreLocked-phase old.setup.cpus old.taken old.phase cpu (Decided moves.deciding.number moves.deciding.command given) tt locked)
+    (AreLocked-phase old.config.cpus old.taken old.phase cpu (Decided moves.deciding.number moves.deciding.command given) tt locked)
 IsLocked-Moves old (world.GiveUp cpu) new is_cpu locked moves =
     subst IsLocked (sym moves.is_new)
-    (AreLocked-less old.setup.cpus old.taken old.phase cpu GivenUp [] (λ g has. absurd (Contains-nil g has)) refl locked)
+    (AreLocked-less old.config.cpus old.taken old.phase cpu GivenUp [] (λ g has. absurd (Contains-nil g has)) refl locked)
 IsLocked-Moves old (world.Return cpu) new is_cpu locked moves =
-    subst IsLocked (sym moves.is_new) (AreLocked-phase old.setup.cpus old.taken old.phase cpu (Between (moves.number + 1)) moves.holds_none locked)
+    subst IsLocked (sym moves.is_new) (AreLocked-phase old.config.cpus old.taken old.phase cpu (Between (moves.number + 1)) moves.holds_none locked)
 IsLocked-Moves old (world.Stop cpu) new is_cpu locked moves =
-    subst IsLocked (sym moves.is_new) (AreLocked-phase old.setup.cpus old.taken old.phase cpu Stopped tt locked)
+    subst IsLocked (sym moves.is_new) (AreLocked-phase old.config.cpus old.taken old.phase cpu Stopped tt locked)
 
 pub IsLocked-Happens : (old : World) (move : Move) (new : World) → IsLocked old → Happens old move new → IsLocked new
 IsLocked-Happens old move new locked happens = IsLocked-Moves old move new happens.is_cpu locked happens.moves
@@ -116,9 +116,9 @@ IsLocked-HappenAll old [] last locked happen = subst IsLocked (sym happen) locke
 IsLocked-HappenAll old (move ∷ moves) last locked happen =
     IsLocked-HappenAll happen.0 moves last (IsLocked-Happens old move happen.0 locked happen.1) happen.2
 
-pub IsLocked-opening : (setup : Setup) (programs : ℕ → List Command) → IsLocked (opening_world setup programs)
+pub IsLocked-opening : (config : Config) (programs : ℕ → List Command) → IsLocked (opening_world config programs)
 unfolding opening_world
-IsLocked-opening setup programs = record {
+IsLocked-opening config programs = record {
   one = λ c d granule of_c of_d. absurd (Contains-nil granule of_c);
   fits = λ c granule of_c. absurd (Contains-nil granule of_c);
   holds = λ c. refl;

@@ -4,7 +4,7 @@ use Rattle.std.specs.Prelude.{Contains}
 use Rattle.rmm_spec.specs.declared.command.Command.{Command}
 use Rattle.rmm_spec.specs.declared.event.Event.TheVariants.{Called, Returned}
 use Rattle.rmm_spec.specs.declared.reply.Reply.{Reply}
-use Rattle.rmm_spec.specs.State.{is_granule}
+use Rattle.rmm_spec.specs.Lookup.{is_granule}
 use Rattle.rmm_spec.specs.Cell.{put}
 use Rattle.rmm_spec.specs.Local.{Hold, put_all, LocalStep}
 use Rattle.rmm_spec.specs.World.{World, Between, Deciding, Decided, Stopped, hold_of, without_granule, Happens, IsGoing}
@@ -17,7 +17,7 @@ called w cpu number command rest = record w {
   events = w.events ++ Called cpu number command ∷ [];
 }
 
-pub happens-call : (w : World) (cpu number : ℕ) (command : Command) (rest : List Command) → cpu < w.setup.cpus → w.phase cpu ≡ Between number
+pub happens-call : (w : World) (cpu number : ℕ) (command : Command) (rest : List Command) → cpu < w.config.cpus → w.phase cpu ≡ Between number
     → w.program cpu ≡ command ∷ rest → Happens w (move.Call cpu) (called w cpu number command rest)
 happens-call w cpu number command rest is_cpu between next = record {
   is_cpu = is_cpu;
@@ -27,8 +27,8 @@ happens-call w cpu number command rest is_cpu between next = record {
 abbrev pub took : World → ℕ → ℕ → World
 took w cpu granule = record w { taken = put w.taken cpu (w.taken cpu ++ granule ∷ []) }
 
-pub happens-take : (w : World) (cpu granule number : ℕ) (command : Command) → cpu < w.setup.cpus → w.phase cpu ≡ Deciding number command None
-    → IsTrue (is_granule w.setup.granules granule) → ((other : ℕ) → Contains (w.taken other) granule → ⊥)
+pub happens-take : (w : World) (cpu granule number : ℕ) (command : Command) → cpu < w.config.cpus → w.phase cpu ≡ Deciding number command None
+    → IsTrue (is_granule w.config.granules granule) → ((other : ℕ) → Contains (w.taken other) granule → ⊥)
     → Happens w (move.Take cpu granule) (took w cpu granule)
 happens-take w cpu granule number command is_cpu deciding is_lock is_free = record {
   is_cpu = is_cpu;
@@ -49,8 +49,8 @@ committed w cpu number command given held = record w {
   journal = w.journal ++ record { cpu = cpu; number = number; command = command; given = given } ∷ [];
 }
 
-pub happens-commit : (w : World) (cpu number : ℕ) (command : Command) (given : Reply) (held : Hold) → cpu < w.setup.cpus
-    → w.phase cpu ≡ Deciding number command None → LocalStep w.setup.granules cpu command given (hold_of w cpu) held
+pub happens-commit : (w : World) (cpu number : ℕ) (command : Command) (given : Reply) (held : Hold) → cpu < w.config.cpus
+    → w.phase cpu ≡ Deciding number command None → LocalStep w.config.granules cpu command given (hold_of w cpu) held
     → Happens w (move.Commit cpu given held) (committed w cpu number command given held)
 happens-commit w cpu number command given held is_cpu deciding step = record {
   is_cpu = is_cpu;
@@ -68,7 +68,7 @@ freed w cpu granule number command given = record w {
   phase = put w.phase cpu (move.phase_learnt None (w.phase cpu));
 }
 
-pub happens-free : (w : World) (cpu granule number : ℕ) (command : Command) (given : Reply) → cpu < w.setup.cpus → w.phase cpu ≡ Decided number command given
+pub happens-free : (w : World) (cpu granule number : ℕ) (command : Command) (given : Reply) → cpu < w.config.cpus → w.phase cpu ≡ Decided number command given
     → Contains (w.taken cpu) granule → move.MayLearn w (w.phase cpu) granule None
     → Happens w (move.Free cpu granule None) (freed w cpu granule number command given)
 happens-free w cpu granule number command given is_cpu decided holds may = record {
@@ -82,7 +82,7 @@ returned w cpu number given = record w {
   events = w.events ++ Returned cpu number given ∷ [];
 }
 
-pub happens-return : (w : World) (cpu number : ℕ) (command : Command) (given : Reply) → cpu < w.setup.cpus → w.phase cpu ≡ Decided number command given
+pub happens-return : (w : World) (cpu number : ℕ) (command : Command) (given : Reply) → cpu < w.config.cpus → w.phase cpu ≡ Decided number command given
     → w.taken cpu ≡ [] → Happens w (move.Return cpu) (returned w cpu number given)
 happens-return w cpu number command given is_cpu decided none = record {
   is_cpu = is_cpu;
@@ -92,5 +92,5 @@ happens-return w cpu number command given is_cpu decided none = record {
 abbrev pub stopped : World → ℕ → World
 stopped w cpu = record w { phase = put w.phase cpu Stopped }
 
-pub happens-stop : (w : World) (cpu : ℕ) → cpu < w.setup.cpus → IsGoing (w.phase cpu) → Happens w (move.Stop cpu) (stopped w cpu)
+pub happens-stop : (w : World) (cpu : ℕ) → cpu < w.config.cpus → IsGoing (w.phase cpu) → Happens w (move.Stop cpu) (stopped w cpu)
 happens-stop w cpu is_cpu going = record { is_cpu = is_cpu; moves = record { is_going = going; is_new = refl } }

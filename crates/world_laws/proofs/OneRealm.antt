@@ -6,7 +6,8 @@ use Rattle.rmm_spec.specs.declared.entry.Entry.{Entry}
 use Rattle.rmm_spec.specs.declared.entry.Entry.TheVariants.{Unassigned, Assigned, Table, UnassignedNs}
 use Rattle.rmm_spec.specs.declared.tag.Ripas.{Ripas}
 use Rattle.rmm_spec.specs.declared.tag.Ripas.TheVariants.{Empty, Ram}
-use Rattle.rmm_spec.specs.State.{RealmRecord, RecRecord, is_granule}
+use Rattle.rmm_spec.specs.State.{RealmRecord, RecRecord}
+use Rattle.rmm_spec.specs.Lookup.{is_granule}
 use Rattle.rmm_spec.specs.Walk.{entry_size, table_size, table_number}
 use Rattle.rmm_spec.specs.Table.{TableRecord, place_number}
 use Rattle.rmm_spec.specs.Change.{new_realm}
@@ -22,7 +23,7 @@ the_realm = new_realm 0x2000 39 1 1 0
 -- ---- what is where
 
 -- the cell, by whether the address is that of the realm, or of its root
-abbrev cell_by : Bool → Bool → Cell
+abbrev pub cell_by : Bool → Bool → Cell
 cell_by is_rd is_root = if is_rd then Rd the_realm else (if is_root then Rtt new_root else Undelegated)
 
 realm_by : (a b : Bool) (realm : RealmRecord) → realm_in (cell_by a b) ≡ Some realm → (a ≡ true) × (the_realm ≡ realm)
@@ -46,7 +47,7 @@ realm_at rd realm is = let found = realm_by (rd == 0x1000) (rd == 0x2000) realm 
 table_at : (g : ℕ) (t : TableRecord) → tables_of one_realm g ≡ Some t → (g ≡ 0x2000) × (new_root ≡ t)
 table_at g t is = let found = table_by (g == 0x1000) (g == 0x2000) t is in (eqb-true g 0x2000 found.0, found.1)
 
-no_rec : (g : ℕ) (c : RecRecord) → recs_of one_realm g ≡ Some c → ⊥
+pub no_rec : (g : ℕ) (c : RecRecord) → recs_of one_realm g ≡ Some c → ⊥
 no_rec g c is = rec_by (g == 0x1000) (g == 0x2000) c is
 
 -- ---- the root
@@ -77,7 +78,7 @@ root_entry i e is = by (entry_of_two 256 (Unassigned Empty) (replicate 256 Unass
     by (inl lower) = inl lower
     by (inr upper) = inr (let at : i ≡ 256 + upper.0 = upper.1 in omega arith, all_alike 256 UnassignedNs upper.0 e upper.2)
 
-no_link : (i child : ℕ) → slice_get new_root.entries i ≡ Some (Table child) → ⊥
+pub no_link : (i child : ℕ) → slice_get new_root.entries i ≡ Some (Table child) → ⊥
 no_link i child is =
     ⊎_elim (λ (lower : (i < 256) × (Unassigned Empty ≡ Table child)). let e : Unassigned Empty ≡ Table child = lower.1 in let bad : ⊥ = cc in bad)
     (λ (upper : (256 ≤ i) × (UnassignedNs ≡ Table child)). let e : UnassignedNs ≡ Table child = upper.1 in let bad : ⊥ = cc in bad)

@@ -6,7 +6,7 @@ use Rattle.std.specs.Option.{option_and_then}
 use Rattle.std.proofs.lemmas.Bool.{false≢true}
 use Rattle.rmm_spec.specs.declared.command.Command.{Command}
 use Rattle.std.specs.Prelude.{List}
-use Rattle.rmm_spec.specs.HistoryText.{Setup}
+use Rattle.rmm_spec.specs.HistoryText.{Config}
 use Rattle.rmm_spec.specs.State.{opening}
 use Rattle.rmm_spec.specs.Cell.{Undelegated}
 use Rattle.rmm_spec.specs.Flat.{flat_state, table_granule, leaf_in_tables, found_below}
@@ -33,11 +33,11 @@ unfolding leaf_in_tables
 leaf_in_tables-none granules rd level number =
     ap (option_and_then (λ (granule : ℕ). None)) (table_granule-none granules rd level (number / 512))
 
-pub flat_state-opening : (setup : Setup) → flat_state setup.granules (λ _. Undelegated) ≡ opening setup
+pub flat_state-opening : (config : Config) → flat_state config.granules (λ _. Undelegated) ≡ opening config
 unfolding flat_state opening
-flat_state-opening setup = λ i. record (opening setup) {
-  table = λ rd level number. table_granule-none setup.granules rd level number i;
-  leaf = λ rd level number. leaf_in_tables-none setup.granules rd level number i;
+flat_state-opening config = λ i. record (opening config) {
+  table = λ rd level number. table_granule-none config.granules rd level number i;
+  leaf = λ rd level number. leaf_in_tables-none config.granules rd level number i;
 }
 
 -- no REC runs where there is none
@@ -48,15 +48,15 @@ none_runs cpu rec rd runs = none-some runs.it runs.is_rec
 outside-inside : (rec rd : ℕ) → Outside ≡ Inside rec rd → ⊥
 outside-inside rec rd same = cc
 
-pub IsShapedWorld-opening : (setup : Setup) (programs : ℕ → List Command) → IsShapedWorld (opening_world setup programs)
+pub IsShapedWorld-opening : (config : Config) (programs : ℕ → List Command) → IsShapedWorld (opening_world config programs)
 unfolding opening_world
-IsShapedWorld-opening setup programs = record {
+IsShapedWorld-opening config programs = record {
   realms = record {
     spaces = λ rd realm is. absurd (none-some realm is);
     measured = λ rd realm is. absurd (none-some realm is);
     listed = λ rd realm is. absurd (none-some realm is);
     used = λ vmid rd is. absurd (none-some rd is);
-    counted = λ rd. sym (count_below-none setup.granules);
+    counted = λ rd. sym (count_below-none config.granules);
   };
   tables = record {
     roots = λ rd realm is. absurd (none-some realm is);

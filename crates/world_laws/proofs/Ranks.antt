@@ -11,7 +11,8 @@ use Rattle.rmm_spec.specs.declared.entry.Entry.{Entry}
 use Rattle.rmm_spec.specs.declared.entry.Entry.TheVariants.{Unassigned, Assigned, Table, UnassignedNs, AssignedNs}
 use Rattle.rmm_spec.specs.declared.tag.Tag.{Tag}
 use Rattle.rmm_spec.specs.declared.tag.Tag.TheVariants as tag
-use Rattle.rmm_spec.specs.State.{RecRecord, is_granule}
+use Rattle.rmm_spec.specs.State.{RecRecord}
+use Rattle.rmm_spec.specs.Lookup.{is_granule}
 use Rattle.rmm_spec.specs.Table.{TableRecord}
 use Rattle.rmm_spec.specs.Rows.{Needed}
 use Rattle.rmm_spec.specs.Step.Named.{named}
@@ -176,7 +177,7 @@ rank_by granules cell wanted (inr next_part) = granules * 4096 + part_rank cell
 
 -- how high what a CPU waits for stands
 pub rank : (w : World) (cpu granule : ℕ) → IsRising w cpu granule → ℕ
-rank w cpu granule waits = rank_by w.setup.granules (w.cells granule) granule waits.rising.upwards
+rank w cpu granule waits = rank_by w.config.granules (w.cells granule) granule waits.rising.upwards
 
 granule_below : (granules address : ℕ) → IsTrue (is_granule granules address) → address < granules * 4096
 unfolding is_granule
@@ -202,7 +203,7 @@ held_kind : (w : World) → IsShapedWorld w → (cpu part : ℕ) (by : HeldCell)
     → PartKind w.cells by.cell part
 held_kind w shaped cpu part by has names =
     let held = held_cell w.cells (w.taken cpu) by has in
-    part_kind w.setup.granules w.side w.place w.cells shaped by.granule by.cell part (sym held.1) names
+    part_kind w.config.granules w.side w.place w.cells shaped by.granule by.cell part (sym held.1) names
 
 -- a table that another CPU holds ranks below the part that this one waits for
 table_below : (w : World) (part next : ℕ) (by : Cell) (t : TableRecord) → w.cells part ≡ Rtt t → t.place.level ≤ 3
@@ -225,7 +226,7 @@ table_below w part next by t e within deep (aux rec f is_rec) =
 -- an auxiliary granule that one REC has is held by nobody but that REC's holder, if that CPU waits at a rising take
 aux_held_by_one : (w : World) → IsShapedWorld w → IsLocked w → (cpu other part next : ℕ) (names : List Needed) → AreWholes names
     → (by : HeldCell) → Contains (held_cells w cpu) by → (rec : RecRecord) → by.cell ≡ Rec rec → IsTrue (names_part by.cell part)
-    → w.cells part ≡ RecAux → Contains (w.taken other) part → IsRisingTake w.setup.granules names (held_cells w other) next → cpu ≡ other
+    → w.cells part ≡ RecAux → Contains (w.taken other) part → IsRisingTake w.config.granules names (held_cells w other) next → cpu ≡ other
 aux_held_by_one w shaped locked cpu other part next names wholes by has_by rec is_rec names_by e holds rising =
     by_named (is_named names part) refl
   where
@@ -253,31 +254,31 @@ aux_held_by_one w shaped locked cpu other part next names wholes by has_by rec i
 
     by_named : (b : Bool) → is_named names part ≡ b → cpu ≡ other
     by_named true is =
-        let whole = named-no_part w.setup.granules names (held_cells w other) next (record { granule = part; cell = w.cells part }) wholes rising has is in
+        let whole = named-no_part w.config.granules names (held_cells w other) next (record { granule = part; cell = w.cells part }) wholes rising has is in
         absurd (false≢true (sym whole ∙ ap (λ c. is_part_tag (tag_of c)) e))
     by_named false is = by_stray (rising.strays (record { granule = part; cell = w.cells part }) has is).is_part
 
 -- a CPU holds nothing that it waits for
-holds_not : (w : World) (cpu wanted : ℕ) (names : List Needed) → IsRisingTake w.setup.granules names (held_cells w cpu) wanted
+holds_not : (w : World) (cpu wanted : ℕ) (names : List Needed) → IsRisingTake w.config.granules names (held_cells w cpu) wanted
     → Contains (w.taken cpu) wanted → ⊥
 holds_not w cpu wanted names rising holds =
     rising.is_new (record { granule = wanted; cell = w.cells wanted }) (cell_held w.cells (w.taken cpu) wanted holds) refl
 
 -- what one CPU waits for, and another holds that waits too, ranks below what that one waits for
 rises : (w : World) → IsShapedWorld w → IsLocked w → (cpu other wanted next : ℕ) (names others : List Needed) → AreWholes others
-    → IsRisingTake w.setup.granules names (held_cells w cpu) wanted → IsRisingTake w.setup.granules others (held_cells w other) next
+    → IsRisingTake w.config.granules names (held_cells w cpu) wanted → IsRisingTake w.config.granules others (held_cells w other) next
     → Contains (w.taken other) wanted
     → (here : IsNextNamed names (held_cells w cpu) wanted ⊎ IsNextPart (held_cells w cpu) wanted)
     → (there : IsNextNamed others (held_cells w other) next ⊎ IsNextPart (held_cells w other) next)
-    → rank_by w.setup.granules (w.cells wanted) wanted here < rank_by w.setup.granules (w.cells next) next there
+    → rank_by w.config.granules (w.cells wanted) wanted here < rank_by w.config.granules (w.cells next) next there
 rises w shaped locked cpu other wanted next names others wholes rising rising_there holds (inl here) (inl there) =
     there.above (record { granule = wanted; cell = w.cells wanted }) (cell_held w.cells (w.taken other) wanted holds)
 rises w shaped locked cpu other wanted next names others wholes rising rising_there holds (inl here) (inr there) =
-    let below : wanted < w.setup.granules * 4096 = granule_below w.setup.granules wanted rising.is_lock in omega arith
+    let below : wanted < w.config.granules * 4096 = granule_below w.config.granules wanted rising.is_lock in omega arith
 rises w shaped locked cpu other wanted next names others wholes rising rising_there holds (inr here) (inl there) =
     let h : HeldCell = record { granule = wanted; cell = w.cells wanted } in
     let has = cell_held w.cells (w.taken other) wanted holds in
-    let whole = named-no_part w.setup.granules others (held_cells w other) next h wholes rising_there has (there.all_named h has) in
+    let whole = named-no_part w.config.granules others (held_cells w other) next h wholes rising_there has (there.all_named h has) in
     let part = part_tag w.cells here.by.cell wanted (held_kind w shaped cpu wanted here.by here.is_held here.is_part) in
     absurd (false≢true (sym whole ∙ part))
 rises w shaped locked cpu other wanted next names others wholes rising rising_there holds (inr here) (inr there) =
@@ -287,7 +288,7 @@ rises w shaped locked cpu other wanted next names others wholes rising rising_th
     has = cell_held w.cells (w.taken other) wanted holds
 
     deeper : (t : TableRecord) → w.cells wanted ≡ Rtt t → t.place.level ≤ 3
-        → w.setup.granules * 4096 + part_rank (w.cells wanted) < w.setup.granules * 4096 + part_rank (w.cells next)
+        → w.config.granules * 4096 + part_rank (w.cells wanted) < w.config.granules * 4096 + part_rank (w.cells next)
     deeper t e within =
         let up : part_rank (w.cells wanted) < part_rank (w.cells next) =
         table_below w wanted next there.by.cell t e within (there.deepest (record { granule = wanted; cell = w.cells wanted }) has)
@@ -295,7 +296,7 @@ rises w shaped locked cpu other wanted next names others wholes rising rising_th
         omega arith
 
     by_kind : PartKind w.cells here.by.cell wanted
-        → w.setup.granules * 4096 + part_rank (w.cells wanted) < w.setup.granules * 4096 + part_rank (w.cells next)
+        → w.config.granules * 4096 + part_rank (w.cells wanted) < w.config.granules * 4096 + part_rank (w.cells next)
     by_kind (root t e top within) = deeper t e within
     by_kind (child t e below within) = deeper t e within
     by_kind (page e) =
@@ -315,11 +316,11 @@ rank-rises w shaped locked cpu other wanted next waits there =
     (AreWholes-needs (w.place other) there.deciding.learnt (call_of there.deciding.command))
     waits.rising.rising there.rising waits.is_held waits.rising.rising.upwards there.rising.upwards
 
-rank_by-bounded : (w : World) → IsShapedWorld w → (cpu wanted : ℕ) (names : List Needed) → IsRisingTake w.setup.granules names (held_cells w cpu) wanted
+rank_by-bounded : (w : World) → IsShapedWorld w → (cpu wanted : ℕ) (names : List Needed) → IsRisingTake w.config.granules names (held_cells w cpu) wanted
     → (here : IsNextNamed names (held_cells w cpu) wanted ⊎ IsNextPart (held_cells w cpu) wanted)
-    → rank_by w.setup.granules (w.cells wanted) wanted here < w.setup.granules * 4096 + 5
+    → rank_by w.config.granules (w.cells wanted) wanted here < w.config.granules * 4096 + 5
 rank_by-bounded w shaped cpu wanted names rising (inl here) =
-    let below : wanted < w.setup.granules * 4096 = granule_below w.setup.granules wanted rising.is_lock in omega arith
+    let below : wanted < w.config.granules * 4096 = granule_below w.config.granules wanted rising.is_lock in omega arith
 rank_by-bounded w shaped cpu wanted names rising (inr here) =
     let most : part_rank (w.cells wanted) ≤ 4 =
     part_rank-le w.cells here.by.cell wanted (held_kind w shaped cpu wanted here.by here.is_held here.is_part) in
@@ -327,7 +328,7 @@ rank_by-bounded w shaped cpu wanted names rising (inr here) =
 
 -- and it is bounded
 pub rank-bounded : (w : World) → IsShapedWorld w → (cpu wanted : ℕ) (waits : IsRising w cpu wanted)
-    → rank w cpu wanted waits < w.setup.granules * 4096 + 5
+    → rank w cpu wanted waits < w.config.granules * 4096 + 5
 unfolding rank
 rank-bounded w shaped cpu wanted waits =
     rank_by-bounded w shaped cpu wanted (needs (w.place cpu) waits.deciding.learnt (call_of waits.deciding.command)) waits.rising waits.rising.upwards

@@ -6,7 +6,7 @@ use Rattle.rmm_spec.specs.declared.command.Command.{Command}
 use Rattle.rmm_spec.specs.declared.event.Event.{Event}
 use Rattle.rmm_spec.specs.declared.event.Event.TheVariants.{Called, Returned}
 use Rattle.rmm_spec.specs.declared.reply.Reply.{Reply}
-use Rattle.rmm_spec.specs.HistoryText.{Setup}
+use Rattle.rmm_spec.specs.HistoryText.{Config}
 use Rattle.rmm_spec.specs.State.{State, opening}
 use Rattle.rmm_spec.specs.Step.{Step}
 use Rattle.rmm_spec.specs.Run.{JournalEntry, IsRun}
@@ -284,7 +284,7 @@ entry_of c = record { cpu = c.cpu; command = c.command; given = c.given }
 pub record IsAccounted (w : World) : Type 0 where
   pub recorded : AreRecorded w.journal w.events
   pub phases : (cpu : ℕ) → AtPhase (w.phase cpu) cpu w.journal w.events
-  pub run : IsRun (opening w.setup) (map entry_of w.journal) (flat_state w.setup.granules w.cells)
+  pub run : IsRun (opening w.config) (map entry_of w.journal) (flat_state w.config.granules w.cells)
   pub shaped : IsShapedWorld w
 
 -- one step more at the end of a run
@@ -298,9 +298,9 @@ Agrees-own : (cells : ℕ → Cell) (taken : List ℕ) → Agrees cells (map (λ
 Agrees-own cells [] = tt
 Agrees-own cells (granule ∷ taken) = (refl, Agrees-own cells taken)
 
-pub IsAccounted-opening : (setup : Setup) (programs : ℕ → List Command) → IsAccounted (opening_world setup programs)
+pub IsAccounted-opening : (config : Config) (programs : ℕ → List Command) → IsAccounted (opening_world config programs)
 unfolding opening_world
-IsAccounted-opening setup programs = record {
+IsAccounted-opening config programs = record {
   recorded = record {
     called = λ i c is. absurd (none-some c is);
     once = λ i j c d before is. absurd (none-some c is);
@@ -308,8 +308,8 @@ IsAccounted-opening setup programs = record {
     in_time = λ i j c d before is. absurd (none-some c is);
   };
   phases = λ cpu. record { below = λ i c is. absurd (none-some c is) };
-  run = flat_state-opening setup;
-  shaped = IsShapedWorld-opening setup programs;
+  run = flat_state-opening config;
+  shaped = IsShapedWorld-opening config programs;
 }
 
 -- each CPU's phase, where one CPU's phase changes
@@ -375,10 +375,10 @@ IsAccounted-Commits old cpu given held new accounted commits =
       phases = phases-put old.phase cpu (Decided number command given) (old.journal ++ entry ∷ []) old.events
           (AtPhase-own old.journal entry old.events at_phase.0)
           (λ other apart. AtPhase-other (old.phase other) other old.journal entry old.events (λ same. keys_apart other cpu apart (sym same)) (accounted.phases other));
-      run = subst (λ entries. IsRun (opening old.setup) entries (flat_state old.setup.granules (put_all old.cells held.cells)))
+      run = subst (λ entries. IsRun (opening old.config) entries (flat_state old.config.granules (put_all old.cells held.cells)))
           (sym (map-push entry_of old.journal entry))
-          (IsRun-push (opening old.setup) (map entry_of old.journal) (flat_state old.setup.granules old.cells) (entry_of entry)
-          (flat_state old.setup.granules (put_all old.cells held.cells)) accounted.run right.0);
+          (IsRun-push (opening old.config) (map entry_of old.journal) (flat_state old.config.granules old.cells) (entry_of entry)
+          (flat_state old.config.granules (put_all old.cells held.cells)) accounted.run right.0);
       shaped = right.1;
     })
 

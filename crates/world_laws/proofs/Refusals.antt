@@ -11,7 +11,8 @@ use Rattle.rmm_spec.specs.declared.command.Command.{Command}
 use Rattle.rmm_spec.specs.declared.reply.Reply.{Reply}
 use Rattle.rmm_spec.specs.declared.reply.Reply.TheVariants as reply
 use Rattle.rmm_spec.specs.Call.{ByHost, ByRealm, ByExit, call_of, class_of}
-use Rattle.rmm_spec.specs.State.{State, has_tag, tag_number, is_granule, is_inside}
+use Rattle.rmm_spec.specs.State.{State}
+use Rattle.rmm_spec.specs.Lookup.{has_tag, tag_number, is_granule, is_inside}
 use Rattle.rmm_spec.specs.Rows.{Row, Needed, decided, inputs, tagged, input_error}
 use Rattle.rmm_spec.specs.Step.Front.{with_front}
 use Rattle.rmm_spec.specs.Step.Words.{words_of}
@@ -117,7 +118,7 @@ outcome-host granules side places cells shaped cpu c by_host place =
     ap (is_placed (flat_state granules cells) cpu) by_host ∙ ap not (is_inside-outside granules side places cells shaped cpu place) in
     rw placed refl
 
-outcome-misplaced : (s : State) (cpu : ℕ) (c : Call) → is_placed s cpu (class_of c) ≡ false → outcome s cpu c ≡ Err reply.Misplaced
+pub outcome-misplaced : (s : State) (cpu : ℕ) (c : Call) → is_placed s cpu (class_of c) ≡ false → outcome s cpu c ≡ Err reply.Misplaced
 unfolding outcome
 outcome-misplaced s cpu c misplaced = rw misplaced refl
 

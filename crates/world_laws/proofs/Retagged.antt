@@ -8,7 +8,9 @@ use Rattle.rmm_spec.specs.declared.command.Command.{Command}
 use Rattle.rmm_spec.specs.declared.tag.Tag.TheVariants as tag
 use Rattle.rmm_spec.specs.Call.{ByHost, call_of, class_of}
 use Rattle.rmm_spec.specs.Change.{changed}
-use Rattle.rmm_spec.specs.State.{State, with_tag, has_tag, tag_number, is_granule}
+use Rattle.rmm_spec.specs.State.{State}
+use Rattle.rmm_spec.specs.Update.{with_tag}
+use Rattle.rmm_spec.specs.Lookup.{has_tag, tag_number, is_granule}
 use Rattle.rmm_spec.specs.Rows.{ok, done}
 use Rattle.rmm_spec.specs.Step.{Step, CarriesOut, answer_of, outcome}
 use Rattle.rmm_spec.specs.Step.Granule.{granule_delegate, granule_undelegate}

@@ -6,7 +6,7 @@ use Rattle.rmm_spec.specs.declared.line.Line.TheVariants.{Keep, Unfinished}
 use Rattle.rmm_spec.specs.declared.call.Call.TheVariants.{GranuleDelegate}
 use Rattle.rmm_spec.specs.declared.tag.Tag.TheVariants as tag
 use Rattle.rmm_spec.specs.Call.{ByHost, call_of, call_from, class_of}
-use Rattle.rmm_spec.specs.State.{is_granule}
+use Rattle.rmm_spec.specs.Lookup.{is_granule}
 use Rattle.rmm_spec.specs.Rows.{ok, input_error}
 use Rattle.rmm_spec.specs.Step.Named.{needed, named}
 use Rattle.rmm_spec.specs.Cell.{Undelegated, Delegated}
@@ -65,7 +65,7 @@ refuses cpu =
 
 abbrev opened : World
 opened = record {
-  setup = two_cpus;
+  config = two_cpus;
   cells = λ _. Undelegated;
   side = record { vmids = λ _. None; rec_counts = λ _. 0 };
   taken = λ _. [];

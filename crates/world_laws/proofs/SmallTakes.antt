@@ -4,7 +4,7 @@ use Rattle.std.specs.Prelude.{Contains}
 use Rattle.std.proofs.lemmas.Bool.{false≢true, or_left}
 use Rattle.rmm_spec.specs.declared.call.Call.TheVariants.{RecDestroy}
 use Rattle.rmm_spec.specs.declared.tag.Tag.TheVariants as tag
-use Rattle.rmm_spec.specs.State.{is_granule}
+use Rattle.rmm_spec.specs.Lookup.{is_granule}
 use Rattle.rmm_spec.specs.Rows.{Needed}
 use Rattle.rmm_spec.specs.Step.Named.{needed, named}
 use Rattle.rmm_spec.specs.Cell.{Delegated, Rec, RecAux, tag_of, is_data}

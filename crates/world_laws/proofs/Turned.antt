@@ -2,7 +2,7 @@
 use Rattle.std.proofs.Common.{◌≡◌, ℕ, ◌+◌, List, [], ◌∷◌, ◌++◌, Option, Some, None, refl, sym, ap, ◌∙◌, subst}
 use Rattle.std.specs.Prelude.{Contains}
 use Rattle.std.proofs.lemmas.Option.{none-some, same_Some}
-use Rattle.rmm_spec.specs.HistoryText.{Setup}
+use Rattle.rmm_spec.specs.HistoryText.{Config}
 use Rattle.rmm_spec.specs.Call.{call_of}
 use Rattle.rmm_spec.specs.Cell.{put}
 use Rattle.rmm_spec.specs.Local.{put_all}
@@ -17,32 +17,32 @@ use Rattle.world_laws.proofs.Locked.{IsLocked, IsLocked-Happens}
 
 -- a move leaves a CPU's phase, place and held cells as they were
 pub record LeavesAlone (old new : World) (cpu : ℕ) : Type 0 where
-  pub setup : new.setup ≡ old.setup
+  pub config : new.config ≡ old.config
   pub phase : new.phase cpu ≡ old.phase cpu
   pub place : new.place cpu ≡ old.place cpu
   pub held : held_cells new cpu ≡ held_cells old cpu
 
 LeavesAlone-Moves : (old : World) (m : Move) (new : World) (cpu : ℕ) → IsLocked old → (cpu ≡ mover m → ⊥) → Moves old m new → LeavesAlone old new cpu
 LeavesAlone-Moves old (move.Call key) new cpu locked apart moves = subst (λ w. LeavesAlone old w cpu) (sym moves.is_new) (record {
-  setup = refl;
+  config = refl;
   phase = put-other old.phase key (Deciding moves.number moves.command None) cpu apart;
   place = refl;
   held = refl;
 })
 LeavesAlone-Moves old (move.Take key granule) new cpu locked apart moves = subst (λ w. LeavesAlone old w cpu) (sym moves.is_new) (record {
-  setup = refl;
+  config = refl;
   phase = refl;
   place = refl;
   held = ap (cells_at old.cells) (put-other old.taken key (old.taken key ++ granule ∷ []) cpu apart);
 })
 LeavesAlone-Moves old (move.Free key granule learnt) new cpu locked apart moves = subst (λ w. LeavesAlone old w cpu) (sym moves.is_new) (record {
-  setup = refl;
+  config = refl;
   phase = put-other old.phase key (phase_learnt learnt (old.phase key)) cpu apart;
   place = refl;
   held = ap (cells_at old.cells) (put-other old.taken key (without_granule granule (old.taken key)) cpu apart);
 })
 LeavesAlone-Moves old (move.Commit key given held) new cpu locked apart moves = subst (λ w. LeavesAlone old w cpu) (sym moves.is_new) (record {
-  setup = refl;
+  config = refl;
   phase = put-other old.phase key (Decided moves.deciding.number moves.deciding.command given) cpu apart;
   place = put-other old.place key held.place cpu apart;
   held = cells_at-same old.cells (put_all old.cells held.cells) (old.taken cpu) (λ granule has.
@@ -51,19 +51,19 @@ LeavesAlone-Moves old (move.Commit key given held) new cpu locked apart moves = 
       (subst (λ granules. Contains granules granule) (moves.step.same ∙ granules_held-cells_at old.cells (old.taken key)) changed))));
 })
 LeavesAlone-Moves old (move.GiveUp key) new cpu locked apart moves = subst (λ w. LeavesAlone old w cpu) (sym moves.is_new) (record {
-  setup = refl;
+  config = refl;
   phase = put-other old.phase key GivenUp cpu apart;
   place = refl;
   held = ap (cells_at old.cells) (put-other old.taken key [] cpu apart);
 })
 LeavesAlone-Moves old (move.Return key) new cpu locked apart moves = subst (λ w. LeavesAlone old w cpu) (sym moves.is_new) (record {
-  setup = refl;
+  config = refl;
   phase = put-other old.phase key (Between (moves.number + 1)) cpu apart;
   place = refl;
   held = refl;
 })
 LeavesAlone-Moves old (move.Stop key) new cpu locked apart moves = subst (λ w. LeavesAlone old w cpu) (sym moves.is_new) (record {
-  setup = refl;
+  config = refl;
   phase = put-other old.phase key Stopped cpu apart;
   place = refl;
   held = refl;
@@ -74,12 +74,12 @@ IsRising-alone : (old new : World) (cpu granule : ℕ) → LeavesAlone old new c
 IsRising-alone old new cpu granule alone was =
     let learnt = was.deciding.learnt in
     let command = was.deciding.command in
-    let of_held = subst (λ held. IsRisingTake old.setup.granules (needs (old.place cpu) learnt (call_of command)) held granule) (sym alone.held) was.rising in
-    let of_place = subst (λ place. IsRisingTake old.setup.granules (needs place learnt (call_of command)) (held_cells new cpu) granule) (sym alone.place) of_held in
+    let of_held = subst (λ held. IsRisingTake old.config.granules (needs (old.place cpu) learnt (call_of command)) held granule) (sym alone.held) was.rising in
+    let of_place = subst (λ place. IsRisingTake old.config.granules (needs place learnt (call_of command)) (held_cells new cpu) granule) (sym alone.place) of_held in
     record {
       deciding = record { number = was.deciding.number; command = command; learnt = learnt; is_deciding = alone.phase ∙ was.deciding.is_deciding };
-      rising = subst (λ (setup : Setup). IsRisingTake setup.granules (needs (new.place cpu) learnt (call_of command)) (held_cells new cpu) granule)
-          (sym alone.setup) of_place;
+      rising = subst (λ (config : Config). IsRisingTake config.granules (needs (new.place cpu) learnt (call_of command)) (held_cells new cpu) granule)
+          (sym alone.config) of_place;
     }
 
 -- each CPU that waits is at a rising take

@@ -1,5 +1,5 @@
 -- Small worlds, written out: two CPUs on a few granules, and cells that two CPUs hold.
-use Rattle.std.specs.Prelude.{◌≡◌, ℕ, ◌≤◌, true, false, ◌⊎◌, IsTrue, List, [], ◌∷◌, ◌++◌, Contains, length, None, replicate, Some}
+use Rattle.std.specs.Prelude.{◌≡◌, ℕ, ◌≤◌, true, false, ◌==◌, if◌then◌else◌, ◌⊎◌, IsTrue, List, [], ◌∷◌, ◌++◌, Contains, length, None, replicate, Some}
 use Rattle.rmm_spec.specs.declared.call.Call.{Call}
 use Rattle.rmm_spec.specs.declared.call.Call.TheVariants.{RealmCreate}
 use Rattle.rmm_spec.specs.declared.command.Command.{Command}
@@ -7,11 +7,12 @@ use Rattle.rmm_spec.specs.declared.event.Event.{Event}
 use Rattle.rmm_spec.specs.declared.event.Event.TheVariants.{Called}
 use Rattle.rmm_spec.specs.declared.function_id.FunctionId.TheVariants.{GranuleDelegate}
 use Rattle.rmm_spec.specs.declared.reply.Reply.{Reply}
-use Rattle.rmm_spec.specs.HistoryText.{Setup}
-use Rattle.rmm_spec.specs.State.{RecRecord, is_granule}
+use Rattle.rmm_spec.specs.HistoryText.{Config}
+use Rattle.rmm_spec.specs.State.{RealmRecord, RecRecord}
+use Rattle.rmm_spec.specs.Lookup.{is_granule}
 use Rattle.rmm_spec.specs.declared.entry.Entry.{Entry}
-use Rattle.rmm_spec.specs.declared.entry.Entry.TheVariants.{Unassigned, UnassignedNs}
-use Rattle.rmm_spec.specs.declared.tag.Ripas.TheVariants.{Empty}
+use Rattle.rmm_spec.specs.declared.entry.Entry.TheVariants.{Unassigned, Assigned, UnassignedNs}
+use Rattle.rmm_spec.specs.declared.tag.Ripas.TheVariants.{Empty, Ram}
 use Rattle.rmm_spec.specs.Table.{TableRecord}
 use Rattle.rmm_spec.specs.Change.{new_realm}
 use Rattle.rmm_spec.specs.Rows.{Needed, ok, input_error}
@@ -25,7 +26,7 @@ use Rattle.world_laws.specs.Replaced.{held_at}
 
 -- ---- two CPUs that delegate one granule
 
-abbrev pub two_cpus : Setup
+abbrev pub two_cpus : Config
 two_cpus = record { granules = 4; cpus = 2 }
 
 abbrev pub delegate : ℕ → Command
@@ -113,3 +114,35 @@ root_with entry = record new_root { entries = entry ∷ (replicate 255 (Unassign
 -- the realm with another root in the root's granule
 abbrev pub realm_with_root : TableRecord → ℕ → Cell
 realm_with_root root = put one_realm 0x2000 (Rtt root)
+
+-- ---- wholes with one thing wrong
+
+abbrev pub new_record : RealmRecord
+new_record = new_realm 0x2000 39 1 1 0
+
+-- a table with a new root's entries, at another place
+abbrev pub root_at : ℕ → ℕ → ℕ → TableRecord
+root_at rd level width = record new_root { place = record { rd = rd; level = level; base = 0; width = width } }
+
+-- a table of level 3 that begins with this entry
+abbrev pub last_table : Entry → TableRecord
+last_table entry = record { place = record { rd = 0x1000; level = 3; base = 0; width = 39 }; entries = entry ∷ replicate 511 (Unassigned Empty) }
+
+-- one whose first two entries name one page
+abbrev pub two_pages : TableRecord
+two_pages = record (last_table (Assigned Ram 0x4000)) { entries = Assigned Ram 0x4000 ∷ Assigned Ram 0x4000 ∷ replicate 510 (Unassigned Empty) }
+
+-- the realm with a REC, which has two auxiliary granules
+abbrev pub one_rec : RecRecord → ℕ → Cell
+one_rec rec = put (put (put one_realm 0x3000 (Rec rec)) 0x4000 RecAux) 0x5000 RecAux
+
+abbrev pub the_rec : RecRecord
+the_rec = record (rec_with 0x4000 0x5000) { owner = 0x1000 }
+
+-- one that asked for the RIPAS of a stretch
+abbrev pub asking : ℕ → ℕ → RecRecord
+asking base top = record the_rec { request = Some (record { base = base; top = top; ripas = Ram }) }
+
+-- the side table that counts it
+abbrev pub one_owned : Side
+one_owned = record one_vmid { rec_counts = λ rd. if rd == 0x1000 then 1 else 0 }

@@ -17,6 +17,8 @@ pub use local_laws::{
     misplaced_commands_are_local,
 };
 pub use small_worlds::{
-    a_stopped_cpu_keeps_its_lock, broken_wholes_are_not_well_shaped, one_realm_is_well_shaped,
-    strays_would_circle, two_cpus_delegate_one_granule, word_order_does_not_rise,
+    a_stopped_cpu_keeps_its_lock, broken_realms_are_not_well_shaped,
+    broken_recs_are_not_well_shaped, broken_wholes_are_not_well_shaped, one_realm_is_well_shaped,
+    one_rec_is_well_shaped, strays_would_circle, two_cpus_delegate_one_granule,
+    word_order_does_not_rise,
 };

@@ -7,7 +7,7 @@ ghost use Rattle.rmm_spec.specs.declared.command.Command.{Command};
 ghost use Rattle.rmm_spec.specs.declared.reply.Reply.{Reply};
 ghost use Rattle.rmm_spec.specs.declared.reply.Reply.TheVariants.{Misplaced};
 ghost use Rattle.rmm_spec.specs.Call.{ByHost, ByRealm, ByExit, call_of, class_of};
-ghost use Rattle.rmm_spec.specs.State.{tag_number, is_granule};
+ghost use Rattle.rmm_spec.specs.Lookup.{tag_number, is_granule};
 ghost use Rattle.rmm_spec.specs.Rows.{Needed, ok, input_error};
 ghost use Rattle.rmm_spec.specs.Step.{Step};
 ghost use Rattle.rmm_spec.specs.Step.Words.{words_of};

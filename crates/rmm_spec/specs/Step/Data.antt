@@ -1,6 +1,6 @@
 -- Granules become pages of a realm's protected memory and are taken back
 -- (DEN0137, RMI_DATA_CREATE, RMI_DATA_CREATE_UNKNOWN, RMI_DATA_DESTROY).
-use Rattle.std.specs.Prelude.{ℕ, ◌&&◌, nat_lt, ◌==◌, List, [], ◌∷◌, Result, Some, None}
+use Rattle.std.specs.Prelude.{ℕ, nat_lt, ◌==◌, List, [], ◌∷◌, Result, Some, None}
 use Rattle.rmm_spec.specs.declared.accepted.Accepted.{Accepted}
 use Rattle.rmm_spec.specs.declared.call.Call.TheVariants.{DataCreate, DataCreateUnknown, DataDestroy}
 use Rattle.rmm_spec.specs.declared.change.EntryChange.{EntryChange}
@@ -13,7 +13,8 @@ use Rattle.rmm_spec.specs.declared.reply.Reply.{Reply}
 use Rattle.rmm_spec.specs.declared.tag.Ripas.{Ripas}
 use Rattle.rmm_spec.specs.declared.tag.Ripas.TheVariants.{Empty, Ram, Destroyed}
 use Rattle.rmm_spec.specs.declared.tag.Tag.TheVariants.{Delegated, Data}
-use Rattle.rmm_spec.specs.State.{State, realm_at, is_new}
+use Rattle.rmm_spec.specs.State.{State}
+use Rattle.rmm_spec.specs.Lookup.{realm_at, is_new}
 use Rattle.rmm_spec.specs.Walk.{entry_number, walk, half, is_unassigned, is_assigned, is_unassigned_ram, entry_address, entry_ripas}
 use Rattle.rmm_spec.specs.Rows.{row, input, decided, done, realm_error, table_error}
 use Rattle.rmm_spec.specs.Step.Front.{with_front}

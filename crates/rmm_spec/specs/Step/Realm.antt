@@ -5,7 +5,8 @@ use Rattle.rmm_spec.specs.declared.call.Call.TheVariants.{RealmActivate, RealmCr
 use Rattle.rmm_spec.specs.declared.change.Change.TheVariants.{RealmMade, RealmDestroyed, RecordsChanged}
 use Rattle.rmm_spec.specs.declared.change.RealmUpdate.TheVariants.{Activated}
 use Rattle.rmm_spec.specs.declared.reply.Reply.{Reply}
-use Rattle.rmm_spec.specs.State.{State, realm_at, is_new, is_vmid_used, has_rec}
+use Rattle.rmm_spec.specs.State.{State}
+use Rattle.rmm_spec.specs.Lookup.{realm_at, is_new, is_vmid_used, has_rec}
 use Rattle.rmm_spec.specs.Walk.{has_link}
 use Rattle.rmm_spec.specs.Rows.{row, input, decided, done, realm_error}
 use Rattle.rmm_spec.specs.Step.Front.{with_front}

@@ -15,9 +15,10 @@ use Rattle.rmm_spec.specs.declared.tag.Ripas.{Ripas}
 use Rattle.rmm_spec.specs.declared.tag.Ripas.TheVariants.{Empty, Ram}
 use Rattle.rmm_spec.specs.Change.{measurement_at}
 use Rattle.rmm_spec.specs.Measure.{measurement_words}
-use Rattle.rmm_spec.specs.State.{State, Request, Pending, Psci, RipasChange, HostCall, realm_at, rec_at, request_of, ripas_number}
+use Rattle.rmm_spec.specs.State.{State, Request, Pending, Psci, RipasChange, HostCall}
+use Rattle.rmm_spec.specs.Lookup.{realm_at, rec_at, request_of, ripas_number}
 use Rattle.rmm_spec.specs.Walk.{walk, half, entry_ripas}
-use Rattle.rmm_spec.specs.Rows.{row, input, decided, done}
+use Rattle.rmm_spec.specs.Rows.{input, decided, done}
 use Rattle.rmm_spec.specs.Step.Front.{with_front}
 
 -- a record of the REC, or of its realm, is replaced

@@ -5,7 +5,8 @@ use Rattle.rmm_spec.specs.declared.call.Call.TheVariants.{RecCreate, RecDestroy,
 use Rattle.rmm_spec.specs.declared.change.Change.TheVariants.{RecMade, RecDestroyed, RecordsChanged}
 use Rattle.rmm_spec.specs.declared.change.RecUpdate.TheVariants.{Entered}
 use Rattle.rmm_spec.specs.declared.reply.Reply.{Reply}
-use Rattle.rmm_spec.specs.State.{State, realm_at, rec_at, request_of, is_new, is_system_off}
+use Rattle.rmm_spec.specs.State.{State}
+use Rattle.rmm_spec.specs.Lookup.{realm_at, rec_at, request_of, is_new, is_system_off}
 use Rattle.rmm_spec.specs.Rows.{row, input, decided, done, realm_error, rec_error}
 use Rattle.rmm_spec.specs.Step.Front.{with_front}
 

@@ -1,6 +1,6 @@
 -- The RIPAS of a stretch of protected memory is set before a realm runs, or as one of its RECs asked
 -- (DEN0137, RMI_RTT_INIT_RIPAS, RMI_RTT_SET_RIPAS). How far one command gets is the monitor's choice.
-use Rattle.std.specs.Prelude.{◌≡◌, ℕ, ◌+◌, ◌-◌, ◌*◌, ◌/◌, ◌<◌, ◌≤◌, Bool, not, ◌&&◌, nat_lt, nat_le, ◌==◌, [], ◌∷◌, IsTrue, Result, Ok, Some, None, is_some, is_none}
+use Rattle.std.specs.Prelude.{◌≡◌, ℕ, ◌+◌, ◌-◌, ◌*◌, ◌/◌, ◌<◌, ◌≤◌, Bool, not, ◌&&◌, nat_lt, nat_le, ◌==◌, [], ◌∷◌, IsTrue, Result, Some, None, is_some, is_none}
 use Rattle.rmm_spec.specs.declared.accepted.Accepted.{Accepted}
 use Rattle.rmm_spec.specs.declared.accepted.Accepted.TheVariants.{Reaches}
 use Rattle.rmm_spec.specs.declared.accepted.Stretch.{Stretch}
@@ -15,7 +15,8 @@ use Rattle.rmm_spec.specs.declared.change.RecUpdate.TheVariants.{RequestMoved}
 use Rattle.rmm_spec.specs.declared.entry.Entry.{Entry}
 use Rattle.rmm_spec.specs.declared.reply.Reply.{Reply}
 use Rattle.rmm_spec.specs.declared.tag.Ripas.TheVariants.{Ram}
-use Rattle.rmm_spec.specs.State.{State, realm_at, rec_at, request_of, is_new, all_below}
+use Rattle.rmm_spec.specs.State.{State}
+use Rattle.rmm_spec.specs.Lookup.{realm_at, rec_at, request_of, is_new, all_below}
 use Rattle.rmm_spec.specs.Walk.{entry_size, table_size, entry_number, table_number, entry_at, walk, half, is_multiple, is_table, is_assigned, is_unassigned}
 use Rattle.rmm_spec.specs.Rows.{row, input, decided, realm_error, rec_error, table_error}
 use Rattle.rmm_spec.specs.Step.Front.{with_front}

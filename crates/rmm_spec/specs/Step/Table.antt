@@ -7,7 +7,8 @@ use Rattle.rmm_spec.specs.declared.entry.Entry.{Entry}
 use Rattle.rmm_spec.specs.declared.entry.Entry.TheVariants.{Unassigned, UnassignedNs}
 use Rattle.rmm_spec.specs.declared.reply.Reply.{Reply}
 use Rattle.rmm_spec.specs.declared.tag.Ripas.TheVariants.{Destroyed}
-use Rattle.rmm_spec.specs.State.{State, RealmRecord, realm_at, ripas_number}
+use Rattle.rmm_spec.specs.State.{State, RealmRecord}
+use Rattle.rmm_spec.specs.Lookup.{realm_at, ripas_number}
 use Rattle.rmm_spec.specs.Walk.{table_number, walk, full, half, is_table, is_in_use, entry_address, entry_ripas, entry_state}
 use Rattle.rmm_spec.specs.Rows.{row, input, decided, done, table_error}
 use Rattle.rmm_spec.specs.Step.Front.{with_front}

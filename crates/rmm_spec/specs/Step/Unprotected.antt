@@ -7,7 +7,8 @@ use Rattle.rmm_spec.specs.declared.change.Change.TheVariants.{EntriesChanged}
 use Rattle.rmm_spec.specs.declared.change.EntryChange.TheVariants.{Replaced}
 use Rattle.rmm_spec.specs.declared.entry.Entry.TheVariants.{UnassignedNs, AssignedNs}
 use Rattle.rmm_spec.specs.declared.reply.Reply.{Reply}
-use Rattle.rmm_spec.specs.State.{State, RealmRecord, realm_at}
+use Rattle.rmm_spec.specs.State.{State, RealmRecord}
+use Rattle.rmm_spec.specs.Lookup.{realm_at}
 use Rattle.rmm_spec.specs.Walk.{entry_number, walk, full, half, is_unassigned_ns, is_assigned_ns}
 use Rattle.rmm_spec.specs.Rows.{row, input, decided, done, table_error}
 use Rattle.rmm_spec.specs.Step.Front.{with_front}

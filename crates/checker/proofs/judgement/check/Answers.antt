@@ -1,7 +1,8 @@
 -- The bad line of either text, and the verdict on what they stand for.
 use Rattle.std.proofs.lemmas.Result.{IfOk-weaker}
 use Rattle.rmm_spec.specs.declared.verdict.Verdict.TheVariants as verdict
-use Rattle.checker.proofs.Verdicts.{Judges-from_order, Judges-valid}
+use Rattle.history.proofs.GrammarLaws.{BeginsWith-whole}
+use Rattle.checker.proofs.Verdicts.{Judges-from_order, Judges-valid, OnErr-always}
 use Rattle.checker.proofs.judgement.check.Goals as goal
 
 pub returns-in-Err-BadLine-clause-valid : goal.returns-in-Err-BadLine-clause-valid
@@ -28,3 +29,14 @@ returns-clause-valid c =
     (λ v order. Judges-valid v c.args.history.now c.args.certificate.now
     (Judges-from_order v c.args.history.now c.args.certificate.now c.in-Ok.history.recorded c.in-Ok-read.certificate.lines c.in-Ok.ensures.found c.in-Ok-read.ensures.found order))
     c.judge_order.ensures
+
+pub returns-in-Err-NoMemory-clause-refused : goal.returns-in-Err-NoMemory-clause-refused
+returns-in-Err-NoMemory-clause-refused c =
+    let fault = rw c.in-Err-NoMemory.field-0-is at c.in-Err-NoMemory.ensures.fault in
+    (fault.0, fault.2)
+
+pub returns-in-Err-NoMemory-read-clause-refused : goal.returns-in-Err-NoMemory-read-clause-refused
+returns-in-Err-NoMemory-read-clause-refused c = (c.in-Ok.history.recorded, BeginsWith-whole c.args.history.now _ c.in-Ok.ensures.found)
+
+pub returns-clause-refused : goal.returns-clause-refused
+returns-clause-refused c = OnErr-always c.judge_order.result (c.in-Ok.history.recorded, BeginsWith-whole c.args.history.now _ c.in-Ok.ensures.found)

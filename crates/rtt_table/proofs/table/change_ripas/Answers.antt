@@ -1,7 +1,7 @@
 use Rattle.std.proofs.Common.{rules, arith}
 use Rattle.std.proofs.lemmas.Grind.{common_steps}
 use Rattle.std.proofs.lemmas.List.Edits.{map_over_more}
-use Rattle.rmm_spec.specs.State.{entry_with_ripas}
+use Rattle.rmm_spec.specs.Update.{entry_with_ripas}
 use Rattle.rtt_table.proofs.table.change_ripas.Goals as goal
 
 pub loop-entry-preserved : goal.loop-entry-preserved

@@ -1,5 +1,5 @@
 use Rattle.std.proofs.Common.{◌≡◌, ◌++◌, map, take, drop}
-use Rattle.rmm_spec.specs.State.{entry_with_ripas}
+use Rattle.rmm_spec.specs.Update.{entry_with_ripas}
 use Rattle.rtt_table.proofs.table.change_ripas.Given as goal
 
 abbrev pub invariant-loop-entry : goal.invariant-loop-entry

@@ -3,5 +3,5 @@ use Rattle.world_laws.proofs.Locked.{IsLocked-opening, IsLocked-HappenAll}
 use Rattle.world_laws.proofs.laws.a_lock_has_one_holder.Goals as goal
 
 pub returns : goal.returns
-returns c = λ setup programs moves w happen.
-    (IsLocked-HappenAll (opening_world setup programs) moves w (IsLocked-opening setup programs) happen).one
+returns c = λ config programs moves w happen.
+    (IsLocked-HappenAll (opening_world config programs) moves w (IsLocked-opening config programs) happen).one

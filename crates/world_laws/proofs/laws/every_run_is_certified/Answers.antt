@@ -4,9 +4,9 @@ use Rattle.world_laws.proofs.laws.every_run_is_certified.Goals as goal
 use Rattle.rmm_spec.specs.World.{opening_world}
 
 pub returns-clause-certified : goal.returns-clause-certified
-returns-clause-certified c = λ setup programs moves w happen.
-    IsCertified-accounted w (IsAccounted-HappenAll (opening_world setup programs) moves w (IsAccounted-opening setup programs) happen)
+returns-clause-certified c = λ config programs moves w happen.
+    IsCertified-accounted w (IsAccounted-HappenAll (opening_world config programs) moves w (IsAccounted-opening config programs) happen)
 
 pub returns-clause-shaped : goal.returns-clause-shaped
-returns-clause-shaped c = λ setup programs moves w happen.
-    (IsAccounted-HappenAll (opening_world setup programs) moves w (IsAccounted-opening setup programs) happen).shaped
+returns-clause-shaped c = λ config programs moves w happen.
+    (IsAccounted-HappenAll (opening_world config programs) moves w (IsAccounted-opening config programs) happen).shaped

@@ -6,16 +6,16 @@ use Rattle.world_laws.proofs.Turned.{KeepsWaiting-TurnAll, moves_of_turns}
 use Rattle.world_laws.proofs.laws.no_wait_cycle.Goals as goal
 
 pub returns-clause-acyclic : goal.returns-clause-acyclic
-returns-clause-acyclic c = λ setup programs moves w happen.
-    HasNoCircle-shaped w (IsAccounted-HappenAll (opening_world setup programs) moves w (IsAccounted-opening setup programs) happen).shaped
-    (IsLocked-HappenAll (opening_world setup programs) moves w (IsLocked-opening setup programs) happen)
+returns-clause-acyclic c = λ config programs moves w happen.
+    HasNoCircle-shaped w (IsAccounted-HappenAll (opening_world config programs) moves w (IsAccounted-opening config programs) happen).shaped
+    (IsLocked-HappenAll (opening_world config programs) moves w (IsLocked-opening config programs) happen)
 
 pub returns-clause-turned : goal.returns-clause-turned
-returns-clause-turned c = λ setup programs turns w turned.
-    let happen = moves_of_turns (opening_world setup programs) turns w turned in
-    HasNoCircle-shaped w (IsAccounted-HappenAll (opening_world setup programs) happen.0 w (IsAccounted-opening setup programs) happen.1).shaped
-    (IsLocked-HappenAll (opening_world setup programs) happen.0 w (IsLocked-opening setup programs) happen.1)
+returns-clause-turned c = λ config programs turns w turned.
+    let happen = moves_of_turns (opening_world config programs) turns w turned in
+    HasNoCircle-shaped w (IsAccounted-HappenAll (opening_world config programs) happen.0 w (IsAccounted-opening config programs) happen.1).shaped
+    (IsLocked-HappenAll (opening_world config programs) happen.0 w (IsLocked-opening config programs) happen.1)
 
 pub returns-clause-waiting : goal.returns-clause-waiting
-returns-clause-waiting c = λ setup programs turns w turned.
-    KeepsWaiting-TurnAll (opening_world setup programs) turns w (IsLocked-opening setup programs) turned
+returns-clause-waiting c = λ config programs turns w turned.
+    KeepsWaiting-TurnAll (opening_world config programs) turns w (IsLocked-opening config programs) turned

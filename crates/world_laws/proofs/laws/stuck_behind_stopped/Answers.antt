@@ -5,6 +5,6 @@ use Rattle.world_laws.proofs.Circles.{WaitsBehindStopped-stuck}
 use Rattle.world_laws.proofs.laws.stuck_behind_stopped.Goals as goal
 
 pub returns : goal.returns
-returns c = λ setup programs moves w happen stuck.
-    WaitsBehindStopped-stuck w (IsAccounted-HappenAll (opening_world setup programs) moves w (IsAccounted-opening setup programs) happen).shaped
-    (IsLocked-HappenAll (opening_world setup programs) moves w (IsLocked-opening setup programs) happen) stuck
+returns c = λ config programs moves w happen stuck.
+    WaitsBehindStopped-stuck w (IsAccounted-HappenAll (opening_world config programs) moves w (IsAccounted-opening config programs) happen).shaped
+    (IsLocked-HappenAll (opening_world config programs) moves w (IsLocked-opening config programs) happen) stuck

@@ -1,7 +1,7 @@
 -- Each way past a place, and the two ends.
 use Rattle.std.proofs.Common.{arith}
 use Rattle.spec_machine.specs.View.{state_of}
-use Rattle.checker.proofs.Scan.{AreNamedBelow-flagged, AreNamedBelow-unfinished, IsFirstMissing-here}
+use Rattle.checker.proofs.Scan.{AreNamedBelow-flagged, AreNamedBelow-pending, IsFirstMissing-here}
 use Rattle.checker.proofs.replay.Replay.first_missing.Goals as goal
 
 pub returns-in-Some : goal.returns-in-Some
@@ -18,7 +18,7 @@ loop-place-preserved-then-named c = λ lines is_replay.
 
 pub loop-place-preserved : goal.loop-place-preserved
 loop-place-preserved c = λ lines is_replay.
-    AreNamedBelow-unfinished c.args.history.now.recorded.events lines c.loop-place.place (c.loop-place.invariant lines is_replay) c.in_default.ensures
+    AreNamedBelow-pending c.args.history.now.recorded.events lines c.loop-place.place (c.loop-place.invariant lines is_replay) c.in_default.ensures
 
 pub returns : goal.returns
 returns c = λ lines is_replay place cpu number command within.

@@ -24,8 +24,8 @@ returns-else-is_some c =
     let history = c.args.history.now.recorded in
     let named = c.in-Unfinished in
     let places = rw named.is at c.in-Some.ensures.some in
-    let unfinished = MatchOption-at_not_some c.in-Some.places.returned _ _ (sym c.is_some.ensures ∙ c.if-is_some.false) places.returned in
+    let pending = MatchOption-at_not_some c.in-Some.places.returned _ _ (sym c.is_some.ensures ∙ c.if-is_some.false) places.returned in
     let due = IsDue-unfinished c.args.self.now history named.cpu named.number c.in-Some.places.called c.index.result.now named.reply.now
-    places.called c.index.ensures c.if-index.false unfinished in
+    places.called c.index.ensures c.if-index.false pending in
     IfOk-weaker c.take_reply-in-Unfinished.result _ _ (λ why taken. rw named.is (taken (Unfinished named.cpu named.number named.reply.now) due))
     c.take_reply-in-Unfinished.ensures

@@ -1,5 +1,6 @@
 use Rattle.std.proofs.Common.{◌≡◌, ◌+◌, ◌*◌, false}
-use Rattle.rmm_spec.specs.State.{State, any_below}
+use Rattle.rmm_spec.specs.State.{State}
+use Rattle.rmm_spec.specs.Lookup.{any_below}
 use Rattle.rmm_spec.specs.Walk.{is_live, entry_at}
 use Rattle.flat_tables.specs.Flat.{with_maps}
 use Rattle.flat_tables.proofs.tables.Tables.is_in_use.Given as goal

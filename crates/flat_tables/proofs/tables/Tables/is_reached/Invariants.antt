@@ -1,5 +1,6 @@
 use Rattle.std.proofs.Common.{◌≡◌, ◌+◌, true}
-use Rattle.rmm_spec.specs.State.{State, all_below}
+use Rattle.rmm_spec.specs.State.{State}
+use Rattle.rmm_spec.specs.Lookup.{all_below}
 use Rattle.rmm_spec.specs.Step.Ripas.{can_be_set}
 use Rattle.rmm_spec.specs.Walk.{entry_number, entry_at}
 use Rattle.flat_tables.specs.Flat.{with_maps}

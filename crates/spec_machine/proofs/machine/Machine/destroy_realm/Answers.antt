@@ -1,25 +1,38 @@
-use Rattle.std.proofs.Common.{◌∙◌, ap, arith}
+use Rattle.std.proofs.Common.{ap, ◌∙◌, arith}
+use Rattle.rmm_spec.specs.Change.{changed}
 use Rattle.rmm_spec.specs.State.{RealmRecord}
-use Rattle.spec_machine.specs.Flat.{flat}
+use Rattle.rmm_spec.specs.declared.tag.Tag.TheVariants.{Rtt}
+use Rattle.spec_machine.specs.Stored.{stored}
 use Rattle.spec_machine.specs.View.{state_of}
-use Rattle.spec_machine.proofs.Changes.{root_place, realm_destroyed}
+use Rattle.spec_machine.proofs.Places.{granule_tagged}
+use Rattle.spec_machine.proofs.Changes.{realm_destroyed-kept}
+use Rattle.spec_machine.proofs.Entries.{root_tagged, root-alone}
+use Rattle.spec_machine.proofs.Ownership.{realm_destroyed-owners}
 use Rattle.spec_machine.proofs.machine.Machine.destroy_realm.Goals as goal
 
-pub index_mut-requires-2 : goal.index_mut-requires-2
-unfolding state_of flat
-index_mut-requires-2 c =
-    let m = c.args.self.now in
-    omega (arith, root_place m c.args.rd c.args.root c.requires, m.tags_placed, c.place-2.ensures)
-
-pub invariant_of-self-clause-kept : goal.invariant_of-self-clause-kept
-invariant_of-self-clause-kept c =
-    rw (c.place.ensures, c.place-2.ensures, c.place-3.ensures, c.from.ensures)
-    (realm_destroyed c.args.self.now c.args.rd c.args.root c.vmid.result (omega arith)
-    (c.vmid.ensures ∙ ap (λ (r : RealmRecord). r.vmid) c.realm_at-realm.ensures) c.requires).kept
-
-pub returns : goal.returns
+pub set_tag-requires-2 : goal.set_tag-requires-2
 unfolding state_of
-returns c =
-    rw (c.place.ensures, c.place-2.ensures, c.place-3.ensures)
-    (realm_destroyed c.args.self.now c.args.rd c.args.root c.vmid.result (omega arith)
-    (c.vmid.ensures ∙ ap (λ (r : RealmRecord). r.vmid) c.realm_at-realm.ensures) c.requires).state
+set_tag-requires-2 c =
+    let a = c.args in
+    let m = a.self.now in
+    rw c.set_tag.ensures.size (granule_tagged m.store a.root Rtt (root_tagged (stored m.store) a.rd a.root m.kept.sound c.requires))
+
+pub take_realm-requires-clause-alone : goal.take_realm-requires-clause-alone
+unfolding state_of
+take_realm-requires-clause-alone c =
+    let a = c.args in
+    let m = a.self.now in
+    rw (c.set_tag-2.ensures.state, c.set_tag.ensures.state, c.start_level.ensures, c.realm_at-realm.ensures)
+    (root-alone (stored m.store) a.rd a.root m.kept.sound c.requires)
+
+pub invariant_of-self : goal.invariant_of-self
+unfolding state_of changed
+invariant_of-self c =
+    let a = c.args in
+    let m = a.self.now in
+    rw (c.take_realm.ensures.state, c.set_tag-2.ensures.state, c.set_tag.ensures.state, c.from.ensures, c.take-2.ensures, c.take.ensures)
+    (record {
+      kept = realm_destroyed-kept (stored m.store) m.vmids.items m.rec_counts.items a.rd a.root c.vmid_of.result m.kept (omega arith)
+          (c.vmid_of.ensures ∙ ap (λ (r : RealmRecord). r.vmid) c.realm_at-realm.ensures) c.requires;
+      owned = realm_destroyed-owners (stored m.store) a.rd a.root m.owners.realms.items m.kept.sound c.requires m.owned;
+    })

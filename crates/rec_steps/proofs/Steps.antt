@@ -1,0 +1,216 @@
+-- In a state that holds the two records: what the definitions answer, and the step that an answer is.
+use Rattle.std.proofs.Common.{◌≡◌, ℕ, Bool, true, false, ◌==◌, if◌then◌else◌, ◌&&◌, not, IsTrue, List, [], ◌∷◌, refl, sym, ap, ◌∙◌, subst}
+use Rattle.std.specs.Prelude.{Result, Ok, Err, Option, Some, None, is_none, unwrap_or}
+use Rattle.arrayvec.specs.ArrayVec.{ArrayVec}
+use Rattle.std.proofs.lemmas.Bool.{eqb-true, and_from, and_right}
+use Rattle.rmm_spec.specs.declared.accepted.Accepted.{Accepted}
+use Rattle.rmm_spec.specs.declared.accepted.Accepted.TheVariants.{Done}
+use Rattle.rmm_spec.specs.declared.call.Call.{Call}
+use Rattle.rmm_spec.specs.declared.call.Call.TheVariants as call
+use Rattle.rmm_spec.specs.declared.command.Command.{Command}
+use Rattle.rmm_spec.specs.declared.change.RealmUpdate.{RealmUpdate}
+use Rattle.rmm_spec.specs.declared.change.RecUpdate.{RecUpdate}
+use Rattle.rmm_spec.specs.declared.change.RecUpdate.TheVariants.{Entered, Exited}
+use Rattle.rmm_spec.specs.declared.reply.Reply.{Reply}
+use Rattle.rmm_spec.specs.declared.reply.Reply.TheVariants as reply
+use Rattle.rmm_spec.specs.declared.tag.Tag.TheVariants as tag
+use Rattle.rmm_spec.specs.Call.{Class, ByHost, ByRealm, ByExit, call_of, class_of}
+use Rattle.rmm_spec.specs.Change.{changed, realm_updated, rec_updated}
+use Rattle.rmm_spec.specs.Lookup.{no_realm, no_rec, has_tag, is_inside, rec_inside, realm_at, rec_at, request_of, is_new, is_system_off}
+use Rattle.rmm_spec.specs.Rows.{row, decided, done, input_error, realm_error, rec_error}
+use Rattle.rmm_spec.specs.State.{State, RealmRecord, RecRecord}
+use Rattle.rmm_spec.specs.Step.{Step, CarriesOut, answer_of, is_placed, outcome}
+use Rattle.rmm_spec.specs.Step.Named.{named}
+use Rattle.rmm_spec.specs.Step.RealmCall.{exit_words, rec_change, rec_exit}
+use Rattle.rmm_spec.specs.Step.Rec.{rec_enter}
+use Rattle.rmm_spec.specs.Step.Words.{words_of}
+use Rattle.rmm_spec.specs.Update.{with_realm, with_rec}
+use Rattle.rec_steps.specs.Answers.{answer_at, change_at, realm_after, rec_after}
+use Rattle.rec_steps.specs.Held.{IsHeld}
+use Rattle.rec_steps.specs.declared.step.RecStep.{RecStep}
+
+-- ---- records
+
+-- the REC that is read is the one that is held
+pub rec_at-held : (s : State) (address : ℕ) (rec : RecRecord) → s.rec address ≡ Some rec → rec_at s address ≡ rec
+unfolding rec_at
+rec_at-held s address rec held = ap (λ found. unwrap_or found no_rec) held
+
+-- the realm that is read is the one that is held
+realm_at-held : (s : State) (rd : ℕ) (realm : RealmRecord) → s.realm rd ≡ Some realm → realm_at s rd ≡ realm
+unfolding realm_at
+realm_at-held s rd realm held = ap (λ found. unwrap_or found no_realm) held
+
+-- the realm that is read through its REC is the one that is held
+pub realm_at-IsHeld : (s : State) (address : ℕ) (realm : RealmRecord) (rec : RecRecord) → IsHeld s address realm rec
+    → realm_at s (rec_at s address).owner ≡ realm
+realm_at-IsHeld s address realm rec held =
+    ap (λ (r : RecRecord). realm_at s r.owner) (rec_at-held s address rec held.has_rec) ∙ realm_at-held s rec.owner realm held.has_realm
+
+-- what is there may be put there again
+put_same : {A : Type 0} (f : ℕ → Option A) (place : ℕ) (a : A) → f place ≡ Some a → (other : ℕ) (b : Bool) → (other == place) ≡ b
+    → (if b then Some a else f other) ≡ f other
+put_same f place a held other false apart = refl
+put_same f place a held other true same = sym held ∙ ap f (sym (eqb-true other place same))
+
+with_realm-same : (s : State) (rd : ℕ) (realm : RealmRecord) → s.realm rd ≡ Some realm → with_realm s rd realm ≡ s
+with_realm-same s rd realm held = λ i. record s { realm = λ other. put_same s.realm rd realm held other (other == rd) refl i }
+
+with_rec-same : (s : State) (address : ℕ) (rec : RecRecord) → s.rec address ≡ Some rec → with_rec s address rec ≡ s
+with_rec-same s address rec held = λ i. record s { rec = λ other. put_same s.rec address rec held other (other == address) refl i }
+
+-- ---- steps
+
+-- the change of a step puts the records in that the step makes
+changed-step : (s : State) (address : ℕ) (realm : RealmRecord) (rec : RecRecord) (u : Option RealmUpdate) (v : Option RecUpdate)
+    → IsHeld s address realm rec
+    → with_rec (with_realm s rec.owner (realm_after u realm)) address (rec_after v rec) ≡ changed s (change_at rec.owner address u v)
+unfolding changed
+changed-step s address realm rec None None held =
+    ap (λ t. with_rec t address rec) (with_realm-same s rec.owner realm held.has_realm) ∙ with_rec-same s address rec held.has_rec
+changed-step s address realm rec None (Some v) held =
+    ap (λ t. with_rec t address (rec_updated v rec)) (with_realm-same s rec.owner realm held.has_realm)
+    ∙ ap (λ r. with_rec s address (rec_updated v r)) (sym (rec_at-held s address rec held.has_rec))
+changed-step s address realm rec (Some u) None held =
+    with_rec-same (with_realm s rec.owner (realm_updated u realm)) address rec held.has_rec
+    ∙ ap (λ r. with_realm s rec.owner (realm_updated u r)) (sym (realm_at-held s rec.owner realm held.has_realm))
+changed-step s address realm rec (Some u) (Some v) held =
+    let t = with_realm s rec.owner (realm_updated u (realm_at s rec.owner)) in
+    ap (λ r. with_rec (with_realm s rec.owner (realm_updated u r)) address (rec_updated v rec)) (sym (realm_at-held s rec.owner realm held.has_realm))
+    ∙ ap (λ r. with_rec t address (rec_updated v r)) (sym (rec_at-held t address rec held.has_rec))
+
+-- an answer that is the definitions' is a step from any state that holds the records
+pub step_taken : (s : State) (cpu address : ℕ) (command : Command) (realm : RealmRecord) (rec : RecRecord) (step : RecStep)
+    → IsHeld s address realm rec → answer_at rec.owner address (Ok step) ≡ outcome s cpu (call_of command)
+    → Step s cpu command (reply.Ok step.words)
+    (with_rec (with_realm s rec.owner (realm_after step.realm realm)) address (rec_after step.rec rec))
+step_taken s cpu address command realm rec step held is =
+    let new = with_rec (with_realm s rec.owner (realm_after step.realm realm)) address (rec_after step.rec rec) in
+    subst (λ answer. CarriesOut answer s (reply.Ok step.words) new) is (refl, changed-step s address realm rec step.realm step.rec held)
+
+-- a refusal that is the definitions' leaves the records as they are
+pub step_refused : (s : State) (cpu address : ℕ) (command : Command) (realm : RealmRecord) (rec : RecRecord) (refusal : Reply)
+    → IsHeld s address realm rec → Err refusal ≡ outcome s cpu (call_of command)
+    → Step s cpu command refusal (with_rec (with_realm s rec.owner realm) address rec)
+unfolding changed
+step_refused s cpu address command realm rec refusal held is =
+    subst (λ answer. CarriesOut answer s refusal (with_rec (with_realm s rec.owner realm) address rec)) is
+    (refl, changed-step s address realm rec None None held)
+
+-- an exit changes the REC alone
+pub exit_taken : (s : State) (cpu address : ℕ) (command : Command) (rec : RecRecord) (words : ArrayVec ℕ)
+    → s.rec address ≡ Some rec → Ok (Done words (rec_change address Exited)) ≡ outcome s cpu (call_of command)
+    → Step s cpu command (reply.Ok words) (with_rec s address (rec_updated Exited rec))
+unfolding changed
+exit_taken s cpu address command rec words held is =
+    subst (λ answer. CarriesOut answer s (reply.Ok words) (with_rec s address (rec_updated Exited rec))) is
+    (refl, ap (λ r. with_rec s address (rec_updated Exited r)) (sym (rec_at-held s address rec held)))
+
+-- ---- what the definitions answer
+
+-- a test that has come out
+when_true : {A : Type 0} (b : Bool) (x y : A) → b ≡ true → x ≡ (if b then x else y)
+when_true b x y is = rw is refl
+
+when_false : {A : Type 0} (b : Bool) (x y : A) → b ≡ false → y ≡ (if b then x else y)
+when_false b x y is = rw is refl
+
+-- the rows of an Enter over the two records
+abbrev pub enter_rows : RealmRecord → RecRecord → ℕ → ℕ → Result Accepted Reply
+enter_rows realm rec cpu address =
+    decided
+    (row (not (is_new realm)) (realm_error 0)
+    ∷ row (not (is_system_off realm)) (realm_error 1)
+    ∷ row (is_none rec.cpu && rec.runnable) rec_error
+    ∷ [])
+    (done ((request_of rec).base ∷ []) (rec_change address (Entered cpu)))
+
+-- they are those that a state with these records has
+pub rec_enter-IsHeld : (s : State) (cpu address : ℕ) (realm : RealmRecord) (rec : RecRecord) → IsHeld s address realm rec
+    → IsTrue (has_tag s address tag.Rec) → enter_rows realm rec cpu address ≡ rec_enter s cpu address
+unfolding rec_enter words_of named
+rec_enter-IsHeld s cpu address realm rec held tagged =
+    let here = rec_at-held s address rec held.has_rec in
+    ap (λ r. enter_rows r rec cpu address) (sym (realm_at-IsHeld s address realm rec held))
+    ∙ ap (λ (r : RecRecord). enter_rows (realm_at s (rec_at s address).owner) r cpu address) (sym here)
+    ∙ when_true (has_tag s address tag.Rec) (enter_rows (realm_at s (rec_at s address).owner) (rec_at s address) cpu address) (Err input_error) tagged
+
+-- a host enters a REC from outside
+pub outcome-enter : (s : State) (cpu address : ℕ) (c : Call) → c ≡ call.RecEnter address → is_inside s cpu ≡ false
+    → rec_enter s cpu address ≡ outcome s cpu c
+unfolding outcome answer_of class_of
+outcome-enter s cpu address c is outside = rw (is, outside) refl
+
+-- a REC with no exit pending gives a realm call, and is answered what its realm and itself lead to
+pub outcome-call : (s : State) (cpu : ℕ) (c d : Call) (realm : RealmRecord) (rec : RecRecord) (given : Result RecStep Reply)
+    → IsTrue (is_inside s cpu) → IsHeld s (rec_inside s cpu) realm rec → is_none rec.pending ≡ true → c ≡ d → class_of d ≡ ByRealm
+    → (realm_at s (rec_at s (rec_inside s cpu)).owner ≡ realm
+    → answer_at (rec_at s (rec_inside s cpu)).owner (rec_inside s cpu) given ≡ answer_of s cpu d)
+    → answer_at rec.owner (rec_inside s cpu) given ≡ outcome s cpu c
+unfolding outcome
+outcome-call s cpu c d realm rec given inside held free is class answered =
+    let address = rec_inside s cpu in
+    let here = rec_at-held s address rec held.has_rec in
+    let calls : is_none (rec_at s address).pending ≡ true = ap (λ (r : RecRecord). is_none r.pending) here ∙ free in
+    let placed : is_placed s cpu (class_of d) ≡ true = ap (is_placed s cpu) class ∙ and_from (is_inside s cpu) _ inside calls in
+    ap (λ (r : RecRecord). answer_at r.owner address given) (sym here)
+    ∙ answered (realm_at-IsHeld s address realm rec held)
+    ∙ when_true (is_placed s cpu (class_of d)) (answer_of s cpu d) (Err reply.Misplaced) placed
+    ∙ ap (outcome s cpu) (sym is)
+
+-- only Exit is given while an exit is pending
+exit_class : (c : Call) → class_of c ≡ ByExit → c ≡ call.Exit
+unfolding class_of
+exit_class call.Exit class = refl
+exit_class _ class = absurd cc
+
+pending_misplaced : (s : State) (cpu : ℕ) (rec : RecRecord) (class : Class) → IsTrue (is_inside s cpu) → s.rec (rec_inside s cpu) ≡ Some rec
+    → is_none rec.pending ≡ false → (class ≡ ByExit → ⊥) → is_placed s cpu class ≡ false
+pending_misplaced s cpu rec ByHost inside held waits other = ap not inside
+pending_misplaced s cpu rec ByRealm inside held waits other =
+    and_right (is_inside s cpu) _ (ap (λ (r : RecRecord). is_none r.pending) (rec_at-held s (rec_inside s cpu) rec held) ∙ waits)
+pending_misplaced s cpu rec ByExit inside held waits other = absurd (other refl)
+
+-- a REC with an exit pending gives no call, and never a host's command
+pub outcome-pending : (s : State) (cpu : ℕ) (c : Call) (rec : RecRecord) → IsTrue (is_inside s cpu) → s.rec (rec_inside s cpu) ≡ Some rec
+    → is_none rec.pending ≡ false → (c ≡ call.Exit → ⊥) → Err reply.Misplaced ≡ outcome s cpu c
+unfolding outcome
+outcome-pending s cpu c rec inside held waits other =
+    when_false (is_placed s cpu (class_of c)) (answer_of s cpu c) (Err reply.Misplaced)
+    (pending_misplaced s cpu rec (class_of c) inside held waits (λ class. other (exit_class c class)))
+
+-- what is neither a realm call nor Exit is a host's command
+pub host_class : (c : Call) → (c ≡ call.Exit → ⊥) → ((index : ℕ) → c ≡ call.MeasurementRead index → ⊥)
+    → ((index size : ℕ) (values : List ℕ) → c ≡ call.MeasurementExtend index size values → ⊥) → (c ≡ call.RealmConfig → ⊥)
+    → ((base top ripas : ℕ) → c ≡ call.IpaStateSet base top ripas → ⊥) → ((ipa : ℕ) → c ≡ call.IpaStateGet ipa → ⊥)
+    → ((imm : ℕ) → c ≡ call.HostCall imm → ⊥) → (c ≡ call.CpuOff → ⊥) → (c ≡ call.SystemOff → ⊥) → class_of c ≡ ByHost
+unfolding class_of
+host_class call.Exit exit read extend config set get host off system = absurd (exit refl)
+host_class (call.MeasurementRead index) exit read extend config set get host off system = absurd (read index refl)
+host_class (call.MeasurementExtend index size values) exit read extend config set get host off system =
+    absurd (extend index size values refl)
+host_class call.RealmConfig exit read extend config set get host off system = absurd (config refl)
+host_class (call.IpaStateSet base top ripas) exit read extend config set get host off system = absurd (set base top ripas refl)
+host_class (call.IpaStateGet ipa) exit read extend config set get host off system = absurd (get ipa refl)
+host_class (call.HostCall imm) exit read extend config set get host off system = absurd (host imm refl)
+host_class call.CpuOff exit read extend config set get host off system = absurd (off refl)
+host_class call.SystemOff exit read extend config set get host off system = absurd (system refl)
+host_class _ exit read extend config set get host off system = refl
+
+-- a host's command isn't given inside
+pub outcome-host : (s : State) (cpu : ℕ) (c : Call) → IsTrue (is_inside s cpu) → class_of c ≡ ByHost → Err reply.Misplaced ≡ outcome s cpu c
+unfolding outcome
+outcome-host s cpu c inside class =
+    when_false (is_placed s cpu (class_of c)) (answer_of s cpu c) (Err reply.Misplaced) (ap (is_placed s cpu) class ∙ ap not inside)
+
+-- a REC leaves, and its host is told why
+pub answered_exit : (s : State) (cpu : ℕ) (c : Call) (rec : RecRecord) (words : ArrayVec ℕ) → c ≡ call.Exit → IsTrue (is_inside s cpu)
+    → s.rec (rec_inside s cpu) ≡ Some rec → words.items ≡ exit_words (request_of rec) rec.pending
+    → Ok (Done words (rec_change (rec_inside s cpu) Exited)) ≡ outcome s cpu c
+unfolding outcome answer_of class_of rec_exit words_of named
+answered_exit s cpu c rec words is inside held told =
+    let address = rec_inside s cpu in
+    ap (λ items. Ok (done items (rec_change address Exited))) told
+    ∙ ap (λ (r : RecRecord). Ok (done (exit_words (request_of r) r.pending) (rec_change address Exited))) (sym (rec_at-held s address rec held))
+    ∙ when_true (is_inside s cpu) (rec_exit s address) (Err reply.Misplaced) inside
+    ∙ ap (outcome s cpu) (sym is)

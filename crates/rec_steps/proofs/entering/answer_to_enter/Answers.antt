@@ -1,0 +1,34 @@
+use Rattle.std.proofs.Common.{◌≡◌, rules, ◌∙◌}
+use Rattle.std.specs.Prelude.{Result, Ok, Err, Some, None}
+use Rattle.rmm_spec.specs.declared.accepted.Accepted.{Accepted}
+use Rattle.rmm_spec.specs.declared.change.RecUpdate.TheVariants.{Entered}
+use Rattle.rmm_spec.specs.declared.reply.Reply.{Reply}
+use Rattle.rec_steps.specs.Answers.{accepted_at}
+use Rattle.rec_steps.specs.declared.step.RecStep.{RecStep}
+use Rattle.rec_steps.proofs.Steps.{enter_rows, rec_enter-IsHeld}
+use Rattle.rec_steps.proofs.entering.answer_to_enter.Goals as goal
+
+pub returns-then-is_new-clause-answer : goal.returns-then-is_new-clause-answer
+returns-then-is_new-clause-answer c = λ s address held tagged.
+    let a = c.args in
+    let refused : Err c.realm_error.result ≡ enter_rows a.realm.now a.rec.now a.cpu address = search rules in
+    refused ∙ rec_enter-IsHeld s a.cpu address a.realm.now a.rec.now held tagged
+
+pub returns-then-is_system_off-clause-answer : goal.returns-then-is_system_off-clause-answer
+returns-then-is_system_off-clause-answer c = λ s address held tagged.
+    let a = c.args in
+    let refused : Err c.realm_error-then-is_system_off.result ≡ enter_rows a.realm.now a.rec.now a.cpu address = search rules in
+    refused ∙ rec_enter-IsHeld s a.cpu address a.realm.now a.rec.now held tagged
+
+pub returns-then-not-can_run-clause-answer : goal.returns-then-not-can_run-clause-answer
+returns-then-not-can_run-clause-answer c = λ s address held tagged.
+    let a = c.args in
+    let refused : Err c.rec_error.result ≡ enter_rows a.realm.now a.rec.now a.cpu address = search rules in
+    refused ∙ rec_enter-IsHeld s a.cpu address a.realm.now a.rec.now held tagged
+
+pub returns-clause-answer : goal.returns-clause-answer
+returns-clause-answer c = λ s address held tagged.
+    let a = c.args in
+    let step : RecStep = record { words = c.reply_words.result; realm = None; rec = Some (Entered a.cpu) } in
+    let entered : Ok (accepted_at a.rec.now.owner address step) ≡ enter_rows a.realm.now a.rec.now a.cpu address = search rules in
+    entered ∙ rec_enter-IsHeld s a.cpu address a.realm.now a.rec.now held tagged

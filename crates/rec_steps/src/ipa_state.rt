@@ -1,0 +1,68 @@
+//! A realm asks for a RIPAS of its memory, and reads one.
+
+ghost use Rattle.std.specs.Prelude.{◌≡◌, ℕ, IfOk, IfSome, IsTrue, is_some};
+ghost use Rattle.rmm_spec.specs.State.{State};
+ghost use Rattle.rmm_spec.specs.Lookup.{realm_at, rec_at, ripas_number};
+ghost use Rattle.rmm_spec.specs.Step.RealmCall.{ipa_state_set, ipa_state_get};
+ghost use Rattle.rmm_spec.specs.Walk.{walk, entry_ripas, is_protected};
+ghost use Rattle.rec_steps.specs.Answers.{answer_at, IsStep};
+
+use crate::reply::input_error;
+use crate::step::RecStep;
+use granule_state::GRANULE_BYTES;
+use realm_desc::Realm;
+use rmm_spec::{RecUpdate, Reply, Ripas};
+
+#[tactic(auto, unfolding(rmm_spec::specs::Step::RealmCall::ipa_state_set, rmm_spec::specs::Step::Words::words_of, rmm_spec::specs::Step::Named::named))]
+pub(crate) fn ipa_state_set(
+    realm: &Realm,
+    base: u64,
+    top: u64,
+    ripas: u64,
+) -> Result<RecStep, Reply>
+    ensures answer { (s : State) (rec : ℕ) → realm_at s (rec_at s rec).owner ≡ realm.now
+        → answer_at (rec_at s rec).owner rec result ≡ ipa_state_set s rec base top ripas }
+    ensures fits { IfOk result IsStep }
+{
+    if !(base % GRANULE_BYTES == 0 && top % GRANULE_BYTES == 0) {
+        return Err(input_error());
+    }
+    if base >= top {
+        return Err(input_error());
+    }
+    if ripas > 1 {
+        return Err(input_error());
+    }
+    if top > realm.protected_end() {
+        return Err(input_error());
+    }
+    let ripas = if ripas == 0 { Ripas::Empty } else { Ripas::Ram };
+    Ok(RecStep::of_rec(RecUpdate::RipasRequested { base, top, ripas }))
+}
+
+/// The RIPAS is that of the entry for the address, and is needed only where the address is a page of the protected half.
+#[tactic(auto, unfolding(rmm_spec::specs::Step::RealmCall::ipa_state_get, rmm_spec::specs::Step::Words::words_of, rmm_spec::specs::Step::Named::named))]
+pub(crate) fn ipa_state_get(realm: &Realm, ipa: u64, ripas: Option<Ripas>) -> Result<RecStep, Reply>
+    requires { IsTrue (is_protected realm.now ipa) → IsTrue (is_some ripas) }
+    ensures answer { (s : State) (rec : ℕ) → realm_at s (rec_at s rec).owner ≡ realm.now
+        → IfSome ripas (λ read. entry_ripas (walk s (rec_at s rec).owner ipa 3).entry ≡ read)
+        → answer_at (rec_at s rec).owner rec result ≡ ipa_state_get s rec ipa }
+    ensures fits { IfOk result IsStep }
+{
+    if !realm.protects(ipa) {
+        return Err(input_error());
+    }
+    let Some(ripas) = ripas else { unreachable!() };
+    Ok(RecStep::read(&[ripas_number(ripas)]))
+}
+
+// RIPAS as replies give it.
+pub(crate) fn ripas_number(ripas: Ripas) -> u64
+    ensures { result ≡ ripas_number ripas }
+{
+    match ripas {
+        Ripas::Empty => 0,
+        Ripas::Ram => 1,
+        Ripas::Destroyed => 2,
+    }
+}

@@ -1,0 +1,24 @@
+//! What a command makes of a REC and its realm where the REC runs or is to run: REC_ENTER, the realm calls and Exit.
+//! It promises that each answer and each change is a step of the definitions, in every state that holds the two records.
+//! A refusal leaves both records as they were, and there is none but those of the definitions.
+//! Nothing here takes memory, waits or looks at a table: the RIPAS of an entry is handed in by whoever walked to it.
+//! The specification machine and the monitor can both depend on it.
+#![tactic(auto)]
+
+mod entering;
+mod inside;
+mod ipa_state;
+mod leaving;
+mod measurement;
+mod realm_config;
+mod reply;
+mod step;
+#[cfg(test)]
+mod tests;
+
+pub use entering::{answer_to_enter, enter};
+pub use inside::{answer_inside, realm_call, walks};
+pub use leaving::exit;
+pub use realm_desc::{Realm, Rec};
+pub use rmm_spec::{Accepted, Call, Command, Reply, Ripas};
+pub use step::RecStep;

@@ -1,0 +1,48 @@
+//! A realm reads its measurements and extends them.
+
+ghost use Rattle.std.specs.Prelude.{◌≡◌, ℕ, IfOk};
+ghost use Rattle.rmm_spec.specs.State.{State};
+ghost use Rattle.rmm_spec.specs.Lookup.{realm_at, rec_at};
+ghost use Rattle.rmm_spec.specs.Step.RealmCall.{measurement_read, measurement_extend};
+ghost use Rattle.rec_steps.specs.Answers.{answer_at, IsStep};
+
+use crate::reply::input_error;
+use crate::step::RecStep;
+use arrayvec::ArrayVec;
+use realm_desc::Realm;
+use rmm_spec::{RealmUpdate, Reply};
+
+#[tactic(auto, unfolding(rmm_spec::specs::Step::RealmCall::measurement_read, rmm_spec::specs::Step::Words::words_of, rmm_spec::specs::Step::Named::named))]
+pub(crate) fn measurement_read(realm: &Realm, index: u64) -> Result<RecStep, Reply>
+    ensures answer { (s : State) (rec : ℕ) → realm_at s (rec_at s rec).owner ≡ realm.now
+        → answer_at (rec_at s rec).owner rec result ≡ measurement_read s rec index }
+    ensures fits { IfOk result IsStep }
+{
+    if index > 4 {
+        return Err(input_error());
+    }
+    Ok(RecStep::read(&realm.measurement(index as u8)))
+}
+
+#[tactic(auto, unfolding(rmm_spec::specs::Step::RealmCall::measurement_extend, rmm_spec::specs::Step::Words::words_of, rmm_spec::specs::Step::Named::named))]
+pub(crate) fn measurement_extend(index: u64, size: u64, values: &[u64; 8]) -> Result<RecStep, Reply>
+    ensures answer { (s : State) (rec : ℕ)
+        → answer_at (rec_at s rec).owner rec result ≡ measurement_extend s rec index size values.now }
+    ensures fits { IfOk result IsStep }
+{
+    if index < 1 || index > 4 {
+        return Err(input_error());
+    }
+    if size < 1 || size > 0x40 {
+        return Err(input_error());
+    }
+    Ok(RecStep {
+        words: ArrayVec::new(),
+        realm: Some(RealmUpdate::MeasurementExtended {
+            index: index as u8,
+            size: size as u8,
+            values: *values,
+        }),
+        rec: None,
+    })
+}

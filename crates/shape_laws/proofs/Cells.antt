@@ -1,0 +1,241 @@
+-- Cells by what lies in them, and the maps of a whole, before and after one cell is changed.
+use Rattle.std.proofs.Common.{◌≡◌, ℕ, Bool, true, false, ◌==◌, ◌&&◌, if◌then◌else◌, IsTrue, Option, Some, is_some, refl, sym, ap, ◌∙◌, eq-eqb, ne_eqb}
+use Rattle.std.proofs.lemmas.Bool.{false≢true, and_from, true_from_ne_false}
+use Rattle.std.proofs.lemmas.Option.{none-some, same_Some}
+use Rattle.rmm_spec.specs.declared.tag.Tag.{Tag}
+use Rattle.rmm_spec.specs.declared.tag.Tag.TheVariants as tag
+use Rattle.rmm_spec.specs.State.{State, RealmRecord, RecRecord}
+use Rattle.rmm_spec.specs.Lookup.{tag_number, is_granule, has_tag}
+use Rattle.rmm_spec.specs.Table.{TableRecord}
+use Rattle.rmm_spec.specs.Cell.{Cell, Undelegated, Delegated, Rd, Rec, RecAux, Data, Rtt, put, tag_of, realm_in, rec_in, table_in, is_aux, is_data, tags_of, realms_of, recs_of, tables_of}
+use Rattle.rmm_spec.specs.Flat.{flat_state, table_granule, leaf_in_tables}
+use Rattle.rmm_spec.specs.Shape.{AreOutside}
+use Rattle.rmm_spec.proofs.TagLaws.{tag-has_tag}
+use Rattle.rmm_sound.proofs.Cases.{both_ways, by_address}
+
+-- ---- one cell
+
+-- what lies in a cell tells the cell
+pub cell-realm : (c : Cell) (r : RealmRecord) → realm_in c ≡ Some r → c ≡ Rd r
+cell-realm (Rd q) r is = ap Rd (same_Some q r is)
+cell-realm Undelegated r is = absurd (none-some r is)
+cell-realm Delegated r is = absurd (none-some r is)
+cell-realm (Rec c) r is = absurd (none-some r is)
+cell-realm RecAux r is = absurd (none-some r is)
+cell-realm Data r is = absurd (none-some r is)
+cell-realm (Rtt t) r is = absurd (none-some r is)
+
+pub cell-rec : (c : Cell) (r : RecRecord) → rec_in c ≡ Some r → c ≡ Rec r
+cell-rec (Rec q) r is = ap Rec (same_Some q r is)
+cell-rec Undelegated r is = absurd (none-some r is)
+cell-rec Delegated r is = absurd (none-some r is)
+cell-rec (Rd q) r is = absurd (none-some r is)
+cell-rec RecAux r is = absurd (none-some r is)
+cell-rec Data r is = absurd (none-some r is)
+cell-rec (Rtt t) r is = absurd (none-some r is)
+
+pub cell-table : (c : Cell) (t : TableRecord) → table_in c ≡ Some t → c ≡ Rtt t
+cell-table (Rtt u) t is = ap Rtt (same_Some u t is)
+cell-table Undelegated t is = absurd (none-some t is)
+cell-table Delegated t is = absurd (none-some t is)
+cell-table (Rd q) t is = absurd (none-some t is)
+cell-table (Rec q) t is = absurd (none-some t is)
+cell-table RecAux t is = absurd (none-some t is)
+cell-table Data t is = absurd (none-some t is)
+
+-- tags of two numbers differ
+tags_differ : {A : Type 0} {a b : Tag} → a ≡ b → (tag_number a == tag_number b) ≡ false → A
+tags_differ {A} {a} {b} same apart = both_ways (eq-eqb (tag_number a) (tag_number b) (ap tag_number same)) apart
+
+-- and so does the tag of a cell that holds nothing
+pub cell-undelegated : (c : Cell) → tag_of c ≡ tag.Undelegated → c ≡ Undelegated
+cell-undelegated Undelegated is = refl
+cell-undelegated Delegated is = tags_differ is refl
+cell-undelegated (Rd q) is = tags_differ is refl
+cell-undelegated (Rec q) is = tags_differ is refl
+cell-undelegated RecAux is = tags_differ is refl
+cell-undelegated Data is = tags_differ is refl
+cell-undelegated (Rtt t) is = tags_differ is refl
+
+pub cell-delegated : (c : Cell) → tag_of c ≡ tag.Delegated → c ≡ Delegated
+cell-delegated Undelegated is = tags_differ is refl
+cell-delegated Delegated is = refl
+cell-delegated (Rd q) is = tags_differ is refl
+cell-delegated (Rec q) is = tags_differ is refl
+cell-delegated RecAux is = tags_differ is refl
+cell-delegated Data is = tags_differ is refl
+cell-delegated (Rtt t) is = tags_differ is refl
+
+pub cell-aux : (c : Cell) → tag_of c ≡ tag.RecAux → c ≡ RecAux
+cell-aux Undelegated is = tags_differ is refl
+cell-aux Delegated is = tags_differ is refl
+cell-aux (Rd q) is = tags_differ is refl
+cell-aux (Rec q) is = tags_differ is refl
+cell-aux RecAux is = refl
+cell-aux Data is = tags_differ is refl
+cell-aux (Rtt t) is = tags_differ is refl
+
+pub cell-data : (c : Cell) → tag_of c ≡ tag.Data → c ≡ Data
+cell-data Undelegated is = tags_differ is refl
+cell-data Delegated is = tags_differ is refl
+cell-data (Rd q) is = tags_differ is refl
+cell-data (Rec q) is = tags_differ is refl
+cell-data RecAux is = tags_differ is refl
+cell-data Data is = refl
+cell-data (Rtt t) is = tags_differ is refl
+
+-- what a view sees tells the tag
+pub tag-some_realm : (c : Cell) → IsTrue (is_some (realm_in c)) → tag_of c ≡ tag.Rd
+tag-some_realm (Rd q) there = refl
+tag-some_realm Undelegated there = absurd (false≢true there)
+tag-some_realm Delegated there = absurd (false≢true there)
+tag-some_realm (Rec q) there = absurd (false≢true there)
+tag-some_realm RecAux there = absurd (false≢true there)
+tag-some_realm Data there = absurd (false≢true there)
+tag-some_realm (Rtt t) there = absurd (false≢true there)
+
+pub tag-aux : (c : Cell) → IsTrue (is_aux c) → tag_of c ≡ tag.RecAux
+tag-aux RecAux there = refl
+tag-aux Undelegated there = absurd (false≢true there)
+tag-aux Delegated there = absurd (false≢true there)
+tag-aux (Rd q) there = absurd (false≢true there)
+tag-aux (Rec q) there = absurd (false≢true there)
+tag-aux Data there = absurd (false≢true there)
+tag-aux (Rtt t) there = absurd (false≢true there)
+
+pub tag-data : (c : Cell) → IsTrue (is_data c) → tag_of c ≡ tag.Data
+tag-data Data there = refl
+tag-data Undelegated there = absurd (false≢true there)
+tag-data Delegated there = absurd (false≢true there)
+tag-data (Rd q) there = absurd (false≢true there)
+tag-data (Rec q) there = absurd (false≢true there)
+tag-data RecAux there = absurd (false≢true there)
+tag-data (Rtt t) there = absurd (false≢true there)
+
+-- records stand exactly at their tags, where what is no granule is undelegated
+pub some_realm-tagged : (c : Cell) (within : Bool) → (within ≡ false → c ≡ Undelegated)
+    → is_some (realm_in c) ≡ (within && tag_number (tag_of c) == tag_number tag.Rd)
+some_realm-tagged c false outside = rw (outside refl) refl
+some_realm-tagged Undelegated true outside = refl
+some_realm-tagged Delegated true outside = refl
+some_realm-tagged (Rd q) true outside = refl
+some_realm-tagged (Rec q) true outside = refl
+some_realm-tagged RecAux true outside = refl
+some_realm-tagged Data true outside = refl
+some_realm-tagged (Rtt t) true outside = refl
+
+pub some_rec-tagged : (c : Cell) (within : Bool) → (within ≡ false → c ≡ Undelegated)
+    → is_some (rec_in c) ≡ (within && tag_number (tag_of c) == tag_number tag.Rec)
+some_rec-tagged c false outside = rw (outside refl) refl
+some_rec-tagged Undelegated true outside = refl
+some_rec-tagged Delegated true outside = refl
+some_rec-tagged (Rd q) true outside = refl
+some_rec-tagged (Rec q) true outside = refl
+some_rec-tagged RecAux true outside = refl
+some_rec-tagged Data true outside = refl
+some_rec-tagged (Rtt t) true outside = refl
+
+-- ---- tags of a whole
+
+-- a cell that isn't undelegated has its tag at a granule
+pub has_tag-cell : (granules : ℕ) (cells : ℕ → Cell) (address : ℕ) (asked : Tag) → AreOutside granules cells → tag_of (cells address) ≡ asked
+    → (tag_number tag.Undelegated == tag_number asked) ≡ false → IsTrue (has_tag (flat_state granules cells) address asked)
+unfolding has_tag flat_state
+has_tag-cell granules cells address asked outside is apart =
+    and_from _ _ (true_from_ne_false (is_granule granules address) (λ none. tags_differ (sym (ap tag_of (outside.undelegated address none)) ∙ is) apart))
+    (eq-eqb (tag_number (tag_of (cells address))) (tag_number asked) (ap tag_number is))
+
+-- what a granule's tag is asked to be, it is
+pub tag-cell : (granules : ℕ) (cells : ℕ → Cell) (address : ℕ) (asked : Tag) → IsTrue (has_tag (flat_state granules cells) address asked)
+    → tag_of (cells address) ≡ asked
+unfolding flat_state
+tag-cell granules cells address asked has = tag-has_tag (flat_state granules cells) address asked has
+
+-- ---- maps
+
+-- the maps of a whole that its flat state is made of
+pub record Views : Type 0 where
+  pub tags : ℕ → Tag
+  pub realms : ℕ → Option RealmRecord
+  pub recs : ℕ → Option RecRecord
+  pub tables : ℕ → Option TableRecord
+
+abbrev pub views_of : (ℕ → Cell) → Views
+views_of cells = record { tags = tags_of cells; realms = realms_of cells; recs = recs_of cells; tables = tables_of cells }
+
+abbrev pub flat_views : ℕ → Views → State
+flat_views granules v = record {
+  granules = granules;
+  tag = v.tags;
+  realm = v.realms;
+  rec = v.recs;
+  table = table_granule granules v.tables;
+  leaf = leaf_in_tables granules v.tables;
+}
+
+pub flat_state-views : (granules : ℕ) (cells : ℕ → Cell) → flat_state granules cells ≡ flat_views granules (views_of cells)
+unfolding flat_state
+flat_state-views granules cells = refl
+
+abbrev pub views_put : Views → ℕ → Cell → Views
+views_put v address c = record {
+  tags = put v.tags address (tag_of c);
+  realms = put v.realms address (realm_in c);
+  recs = put v.recs address (rec_in c);
+  tables = put v.tables address (table_in c);
+}
+
+seen-put : {A : Type 0} (view : Cell → A) (cells : ℕ → Cell) (address : ℕ) (c : Cell)
+    → (λ other. view (put cells address c other)) ≡ put (λ other. view (cells other)) address (view c)
+seen-put {A} view cells address c = λ i other. by other (other == address) i
+  where
+    by : (other : ℕ) (b : Bool) → view (if b then c else cells other) ≡ (if b then view c else view (cells other))
+    by other true = refl
+    by other false = refl
+
+-- one cell changed is one place of each map changed
+pub views_of-put : (cells : ℕ → Cell) (address : ℕ) (c : Cell) → views_of (put cells address c) ≡ views_put (views_of cells) address c
+views_of-put cells address c = λ i. record {
+  tags = seen-put tag_of cells address c i;
+  realms = seen-put realm_in cells address c i;
+  recs = seen-put rec_in cells address c i;
+  tables = seen-put table_in cells address c i;
+}
+
+-- what is there already changes nothing
+pub put-same : {A : Type 0} (values : ℕ → A) (key : ℕ) (value : A) → values key ≡ value → put values key value ≡ values
+put-same {A} values key value is = λ i other. at other i
+  where
+    at : (other : ℕ) → put values key value other ≡ values other
+    at other = by_address (λ v. v ≡ values other) other key value (values other) (λ same. sym is ∙ ap values (sym same)) (λ apart. refl)
+
+pub put-elsewhere : {A : Type 0} (values : ℕ → A) (key : ℕ) (value : A) (other : ℕ) → (other == key) ≡ false → put values key value other ≡ values other
+put-elsewhere values key value other apart = rw apart refl
+
+pub put-here : {A : Type 0} (values : ℕ → A) (key : ℕ) (value : A) → put values key value key ≡ value
+put-here values key value = rw (eq-eqb key key refl) refl
+
+-- the maps have at the address what they see of the cell
+pub record IsAt (v : Views) (address : ℕ) (c : Cell) : Type 0 where
+  pub tag : v.tags address ≡ tag_of c
+  pub realm : v.realms address ≡ realm_in c
+  pub rec : v.recs address ≡ rec_in c
+  pub table : v.tables address ≡ table_in c
+
+pub IsAt-cell : (cells : ℕ → Cell) (address : ℕ) (c : Cell) → cells address ≡ c → IsAt (views_of cells) address c
+IsAt-cell cells address c is = record { tag = ap tag_of is; realm = ap realm_in is; rec = ap rec_in is; table = ap table_in is }
+
+-- a cell changed elsewhere leaves it there
+pub IsAt-elsewhere : (v : Views) (key : ℕ) (new : Cell) (address : ℕ) (c : Cell) → (address == key) ≡ false → IsAt v address c
+    → IsAt (views_put v key new) address c
+IsAt-elsewhere v key new address c apart is = record {
+  tag = put-elsewhere v.tags key (tag_of new) address apart ∙ is.tag;
+  realm = put-elsewhere v.realms key (realm_in new) address apart ∙ is.realm;
+  rec = put-elsewhere v.recs key (rec_in new) address apart ∙ is.rec;
+  table = put-elsewhere v.tables key (table_in new) address apart ∙ is.table;
+}
+
+-- granules with other tags are apart
+pub addresses_apart : (v : Views) (a b : ℕ) (c d : Cell) → IsAt v a c → IsAt v b d → (tag_number (tag_of c) == tag_number (tag_of d)) ≡ false
+    → (a == b) ≡ false
+addresses_apart v a b c d is other differ = ne_eqb a b (λ same. tags_differ (sym is.tag ∙ ap v.tags same ∙ other.tag) differ)

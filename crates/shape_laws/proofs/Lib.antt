@@ -1,0 +1,17 @@
+pub mod Cells
+pub mod Finds
+pub mod Ties
+pub mod Shaped
+pub mod Kept
+pub mod Retagged
+pub mod Records
+pub mod Slices
+pub mod Leaves
+pub mod Counts
+pub mod RecsMade
+pub mod RealmsMade
+pub mod EntriesSet
+pub mod TablesMade
+pub mod EntriesChanged
+pub mod Changes
+pub mod Accepted

@@ -1,0 +1,22 @@
+use Rattle.std.proofs.Common.{refl}
+use Rattle.rmm_spec.specs.declared.change.Change.TheVariants.{TableMade}
+use Rattle.rmm_spec.specs.Change.{changed}
+use Rattle.spec_machine.specs.Stored.{stored}
+use Rattle.spec_machine.specs.View.{state_of}
+use Rattle.rmm_sound.proofs.Changes.{changed_sound}
+use Rattle.spec_machine.proofs.Changes.{kept_like}
+use Rattle.spec_machine.proofs.Ownership.{changed_owners}
+use Rattle.spec_machine.proofs.machine.Machine.make_table.Goals as goal
+
+pub invariant_of-self-2 : goal.invariant_of-self-2
+unfolding state_of changed
+invariant_of-self-2 c =
+    let a = c.args in
+    let m = a.self.now in
+    rw (c.set_tag.ensures.state, c.in_ok-put_table.ensures.ok, c.give.ensures)
+    (record {
+      kept = kept_like (stored m.store) _ m.vmids.items m.rec_counts.items m.kept
+          (changed_sound (stored m.store) (TableMade a.rd a.level a.number a.rtt a.entry) m.kept.sound c.requires)
+          (record { granules = refl; rec = refl; vmids = λ vmid g. refl });
+      owned = changed_owners (stored m.store) (TableMade a.rd a.level a.number a.rtt a.entry) m.owners.realms.items m.kept.sound c.requires refl m.owned;
+    })

@@ -1,0 +1,12 @@
+-- A row stands for each granule so far, and there is room for the others.
+use Rattle.std.proofs.Common.{◌≡◌, ◌≤◌, ◌+◌, ◌++◌, None, vec_len, vec_capacity}
+use Rattle.spec_machine.specs.Report.{owner_rows}
+use Rattle.spec_machine.specs.Stored.{stored, kept_at}
+use Rattle.spec_machine.proofs.machine.Machine.owner_report.Given as goal
+
+abbrev pub invariant-loop-place : goal.invariant-loop-place
+invariant-loop-place l = record {
+  rows : l.rows.items
+      ≡ l.fn.rows.items ++ owner_rows (stored l.self.store) (kept_at l.self.store.config.granules l.self.owners.realms.items None) l.place;
+  room : vec_len l.rows + l.self.store.config.granules ≤ l.place + vec_capacity l.rows;
+}

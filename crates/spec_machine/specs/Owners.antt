@@ -1,0 +1,37 @@
+-- Which realm each granule belongs to, as the state's ties say, and how that list changes.
+use Rattle.std.specs.Prelude.{◌≡◌, ℕ, ◌/◌, Bool, true, false, IsTrue, List, length, Option, Some, None, slice_set}
+use Rattle.rmm_spec.specs.declared.change.TagChange.{TagChange}
+use Rattle.rmm_spec.specs.declared.tag.Tag.{Tag}
+use Rattle.rmm_spec.specs.declared.tag.Tag.TheVariants.{Undelegated, Delegated, Data}
+use Rattle.rmm_spec.specs.Ownership.{IsTied}
+use Rattle.rmm_spec.specs.State.{State}
+use Rattle.spec_machine.specs.Stored.{kept_at}
+
+-- whether a granule with that tag belongs to no realm
+abbrev pub is_unowned : Tag → Bool
+is_unowned Undelegated = true
+is_unowned Delegated = true
+is_unowned _ = false
+
+-- the granule belongs to that realm, or to none
+abbrev pub IsOwner : State → ℕ → Option ℕ → Type 0
+IsOwner s granule None = IsTrue (is_unowned (s.tag granule))
+IsOwner s granule (Some realm) = IsTied (s.tag granule) s granule realm
+
+-- each granule's place has the realm that the granule belongs to
+pub record AreOwners (s : State) (owners : List (Option ℕ)) : Type 0 where
+  pub places : length owners ≡ s.granules
+  pub each : (granule : ℕ) → IsOwner s granule (kept_at s.granules owners None granule)
+
+-- a granule belongs to another realm, or to none
+abbrev pub with_owner : ℕ → Option ℕ → List (Option ℕ) → List (Option ℕ)
+with_owner granule owner owners = slice_set owners (granule / 4096) owner
+
+-- to which realm a page belongs once it has the tag
+abbrev pub page_owner : ℕ → Tag → Option ℕ
+page_owner rd Data = Some rd
+page_owner rd _ = None
+
+abbrev pub with_page_owner : ℕ → Option TagChange → List (Option ℕ) → List (Option ℕ)
+with_page_owner rd None owners = owners
+with_page_owner rd (Some page) owners = with_owner page.granule (page_owner rd page.tag) owners

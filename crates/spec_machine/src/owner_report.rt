@@ -1,0 +1,37 @@
+//! A report of which realm each granule belongs to.
+
+use crate::machine::Machine;
+use granule_state::{GRANULE_BYTES, Pa};
+use rmm_spec::Tag;
+use std::alloc::AllocError;
+
+/// A granule's tag, and the realm that it belongs to, where it belongs to one.
+#[derive(Clone, Copy, Debug, PartialEq, Eq)]
+pub struct OwnerRow {
+    pub granule: Pa,
+    pub tag: Tag,
+    pub realm: Option<Pa>,
+}
+
+impl Machine {
+    ghost use Rattle.std.specs.Prelude.{◌≡◌, OnOk, OnErr};
+    ghost use Rattle.spec_machine.specs.View.{state_of};
+    ghost use Rattle.spec_machine.specs.Report.{AddsOwners};
+
+    /// Adds a row for each granule, in the order of addresses. Refused memory, it adds none.
+    pub fn owner_report(&self, rows: &mut Vec<OwnerRow>) -> Result<(), AllocError>
+        ensures ok { OnOk result (AddsOwners (state_of self.now) rows.old.items rows.new.items) }
+        ensures err { OnErr result (rows.new.items ≡ rows.old.items) }
+    {
+        let granules = self.store.config.granules() as usize;
+        rows.reserve(granules)?;
+        for place in 0..granules {
+            rows.push_reserved(OwnerRow {
+                granule: Pa::new(place as u64 * GRANULE_BYTES),
+                tag: self.store.tags[place],
+                realm: self.owners.realms[place],
+            });
+        }
+        Ok(())
+    }
+}

@@ -1,0 +1,150 @@
+//! The commands that put tables in, take them out and read their entries.
+
+ghost use Rattle.std.specs.Prelude.{◌≡◌};
+ghost use Rattle.rmm_spec.specs.Step.Table as spec;
+
+use crate::machine::Machine;
+use crate::reply::{done, done_with, input_error, table_error, told};
+use flat_tables::{
+    entry_address, entry_ripas, entry_size, entry_state, is_table, ripas_number, table_number,
+};
+use realm_desc::Realm;
+use rmm_spec::{Accepted, Change, Entry, Reply, Ripas, Tag};
+
+impl Machine {
+    ghost use Rattle.std.specs.Prelude.{◌≡◌};
+    ghost use Rattle.rmm_spec.specs.Step.Table.{rtt_create, rtt_destroy, rtt_read_entry};
+    ghost use Rattle.spec_machine.specs.View.{state_of};
+
+    #[tactic(auto, unfolding(rmm_spec::specs::Step::Table::rtt_create, rmm_spec::specs::Step::Words::words_of, rmm_spec::specs::Step::Named::named, rmm_spec::specs::Lookup::realm_at))]
+    pub(crate) fn rtt_create(
+        &self,
+        rd: u64,
+        rtt: u64,
+        ipa: u64,
+        level: u64,
+    ) -> Result<Accepted, Reply>
+        ensures { result ≡ rtt_create (state_of self.now) rd rtt ipa level }
+    {
+        if level > 3 {
+            return Err(input_error());
+        }
+        let level = level as u8;
+        let above = level.saturating_sub(1);
+        if ipa % entry_size(above) != 0 {
+            return Err(input_error());
+        }
+        let Some(realm) = self.realm(rd) else {
+            return Err(input_error());
+        };
+        if !self.has_tag(rtt, Tag::Delegated) {
+            return Err(input_error());
+        }
+        if realm.start_level() >= level {
+            return Err(input_error());
+        }
+        if ipa >= realm.space_end() {
+            return Err(input_error());
+        }
+        let end = self.walk(rd, ipa, above);
+        if end.level != above {
+            return Err(table_error(end.level));
+        }
+        if is_table(end.entry) {
+            return Err(table_error(above));
+        }
+        let number = table_number(level, ipa);
+        Ok(done(Change::TableMade {
+            rd,
+            level,
+            number,
+            rtt,
+            entry: end.entry,
+        }))
+    }
+
+    #[tactic(auto, unfolding(rmm_spec::specs::Step::Table::rtt_destroy, rmm_spec::specs::Step::Words::words_of, rmm_spec::specs::Step::Named::named, rmm_spec::specs::Lookup::realm_at))]
+    pub(crate) fn rtt_destroy(&self, rd: u64, ipa: u64, level: u64) -> Result<Accepted, Reply>
+        ensures { result ≡ rtt_destroy (state_of self.now) rd ipa level }
+    {
+        if level > 3 {
+            return Err(input_error());
+        }
+        let level = level as u8;
+        let above = level.saturating_sub(1);
+        if ipa % entry_size(above) != 0 {
+            return Err(input_error());
+        }
+        let Some(realm) = self.realm(rd) else {
+            return Err(input_error());
+        };
+        if realm.start_level() >= level {
+            return Err(input_error());
+        }
+        if ipa >= realm.space_end() {
+            return Err(input_error());
+        }
+        let end = self.walk(rd, ipa, above);
+        if !(end.level == above && is_table(end.entry)) {
+            return Err(table_error(end.level));
+        }
+        let number = table_number(level, ipa);
+        if self.is_in_use(rd, level, number) {
+            return Err(table_error(level));
+        }
+        let rtt = entry_address(end.entry);
+        let entry = entry_after_table(&realm, ipa);
+        Ok(done_with(
+            rtt,
+            Change::TableDestroyed {
+                rd,
+                level,
+                number,
+                rtt,
+                entry,
+            },
+        ))
+    }
+
+    #[tactic(auto, unfolding(rmm_spec::specs::Step::Table::rtt_read_entry, rmm_spec::specs::Step::Words::words_of, rmm_spec::specs::Step::Named::named, rmm_spec::specs::Lookup::realm_at))]
+    pub(crate) fn rtt_read_entry(&self, rd: u64, ipa: u64, level: u64) -> Result<Accepted, Reply>
+        ensures { result ≡ rtt_read_entry (state_of self.now) rd ipa level }
+    {
+        if level > 3 {
+            return Err(input_error());
+        }
+        let level = level as u8;
+        if ipa % entry_size(level) != 0 {
+            return Err(input_error());
+        }
+        let Some(realm) = self.realm(rd) else {
+            return Err(input_error());
+        };
+        if realm.start_level() > level {
+            return Err(input_error());
+        }
+        if ipa >= realm.space_end() {
+            return Err(input_error());
+        }
+        let end = self.walk(rd, ipa, level);
+        let level = u64::from(end.level);
+        let ripas = ripas_number(entry_ripas(end.entry));
+        Ok(told([
+            level,
+            entry_state(end.entry),
+            entry_address(end.entry),
+            ripas,
+        ]))
+    }
+}
+
+// What a stretch of addresses is where a table of it was taken out.
+fn entry_after_table(realm: &Realm, ipa: u64) -> Entry
+    ensures { result ≡ spec.entry_after_table realm.now ipa }
+{
+    if ipa < realm.protected_end() {
+        Entry::Unassigned(Ripas::Destroyed)
+    } else {
+        Entry::UnassignedNs
+    }
+}

@@ -1,0 +1,2 @@
+pub mod OneCalls
+pub mod Runs

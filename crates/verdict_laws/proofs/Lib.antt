@@ -1,0 +1,9 @@
+pub mod Decisions
+pub mod BadLines
+pub mod OneFault
+pub mod OneVerdict
+pub mod LineFaults
+pub mod Orders
+pub mod Readings
+pub mod Grammars
+pub mod SomeVerdict
