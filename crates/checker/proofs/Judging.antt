@@ -15,7 +15,7 @@ use Rattle.rmm_spec.specs.Linearization.{IsCalled, IsReturned, IsFinished, cpu_n
 use Rattle.rmm_spec.specs.FirstFault.{FailsBy}
 use Rattle.rmm_spec.proofs.Places.{one_call_place, one_return_place, finished_is_known}
 use Rattle.checker.specs.Progress.{Progress}
-use Rattle.checker.specs.Replay.{IsDue, IsReplayOf}
+use Rattle.checker.specs.Replay.{IsDue, IsReplayOf, NeedsMemory, IsRefusedMemory}
 use Rattle.checker.specs.declared.replay.Replay.{Replay}
 use Rattle.checker.proofs.Calls.{HasOnePlaces, told_at_call}
 use Rattle.checker.proofs.Progress.{Follows, Progress-push}
@@ -131,6 +131,19 @@ IsReady-from_due replay history line cpu called given due before progress comman
   kind = due.kind;
   in_time = due.in_time before progress;
   is_given = due.is_given;
+}
+
+-- a line that is due is refused memory where its call's command needs it
+pub IsRefusedMemory-due : (replay : Replay) (history : History) (line : Line) (cpu called : ℕ) (given : Reply) → IsDue replay history line cpu called given
+    → (command : Command) → (c : ℕ) × (n : ℕ) × IsCalled history.events called c n command
+    → NeedsMemory replay cpu command → IsRefusedMemory replay history line
+IsRefusedMemory-due replay history line cpu called given due command made needs = record {
+  place = called;
+  command = command;
+  given = given;
+  is_called = told_at_call history.events called (cpu_named line) (number_named line) command due.is_called made;
+  due = subst (λ (x : ℕ). IsDue replay history line x called given) (sym due.of_cpu) due;
+  needs = subst (λ (x : ℕ). NeedsMemory replay x command) (sym due.of_cpu) needs;
 }
 
 -- what is said of None

@@ -1,13 +1,15 @@
 -- What a replay holds, seen from the definitions.
-use Rattle.std.specs.Prelude.{◌≡◌, ℕ, true, false, max, List, [], ◌∷◌, ◌++◌, slice_set, slice_index_or, Option, MatchOption}
+use Rattle.std.specs.Prelude.{◌≡◌, ℕ, true, false, max, IsOk, IsTrue, List, [], ◌∷◌, ◌++◌, slice_set, slice_index_or, Option, MatchOption}
 use Rattle.rmm_spec.specs.declared.command.Command.{Command}
 use Rattle.rmm_spec.specs.declared.line.Line.{Line}
 use Rattle.rmm_spec.specs.declared.reply.Reply.{Reply}
 use Rattle.rmm_spec.specs.declared.verdict.Reason.{Reason}
+use Rattle.rmm_spec.specs.Call.{call_of}
 use Rattle.rmm_spec.specs.HistoryText.{History}
-use Rattle.rmm_spec.specs.Step.{Step}
+use Rattle.rmm_spec.specs.Step.{Step, outcome}
 use Rattle.rmm_spec.specs.Linearization.{IsCalled, IsOfItsKind, IsReplyOf, IsTooLate, cpu_named, number_named}
 use Rattle.rmm_spec.specs.FirstFault.{FailsBy}
+use Rattle.spec_machine.specs.Served.{makes_table}
 use Rattle.spec_machine.specs.View.{state_of}
 use Rattle.checker.specs.Progress.{Progress}
 use Rattle.checker.specs.declared.replay.Replay.{Replay}
@@ -22,6 +24,11 @@ pub record Commits (old new : Replay) (cpu called : ℕ) (command : Command) (gi
   pub named : new.named.items ≡ slice_set old.named.items called true
   pub latest : new.latest ≡ max old.latest called
 
+-- the CPU's command makes a table, and the machine accepts it: what alone takes memory
+pub record NeedsMemory (replay : Replay) (cpu : ℕ) (command : Command) : Type 0 where
+  pub makes : IsTrue (makes_table command.function)
+  pub accepted : IsOk (outcome (state_of replay.machine) cpu (call_of command))
+
 -- after lines that pass, the line passes too, or fails by the reason
 abbrev pub JudgesLine : Option Reason → Replay → Replay → History → Line → Type 0
 JudgesLine why old new history line = (before : List Line) → IsReplayOf old history before
@@ -35,3 +42,12 @@ pub record IsDue (replay : Replay) (history : History) (line : Line) (cpu called
   pub kind : IsOfItsKind history.events line
   pub in_time : (before : List Line) → IsReplayOf replay history before → ¬ IsTooLate history.events before line
   pub is_given : IsReplyOf history.events line given
+
+-- the line is due, and its call's command needs memory
+pub record IsRefusedMemory (replay : Replay) (history : History) (line : Line) : Type 0 where
+  pub place : ℕ
+  pub command : Command
+  pub given : Reply
+  pub is_called : IsCalled history.events place (cpu_named line) (number_named line) command
+  pub due : IsDue replay history line (cpu_named line) place given
+  pub needs : NeedsMemory replay (cpu_named line) command

@@ -1,6 +1,6 @@
 //! What is kept of the lines so far.
 
-ghost use Rattle.std.specs.Prelude.{◌≡◌, ℕ, ◌<◌, ◌↔◌, List, [], length, IsTrue, IfOk, IfSome, IfNone, MatchOption};
+ghost use Rattle.std.specs.Prelude.{◌≡◌, ℕ, ◌<◌, ◌↔◌, List, [], length, IsTrue, IfOk, OnErr, IfSome, IfNone, MatchOption};
 ghost use Rattle.std.specs.Bool.{MatchBool};
 ghost use Rattle.rmm_spec.specs.declared.command.Command.{Command};
 ghost use Rattle.rmm_spec.specs.declared.line.Line.{Line};
@@ -30,7 +30,7 @@ pub(crate) struct Replay {
 }
 
 impl Replay {
-    ghost use Rattle.checker.specs.Replay.{IsReplayOf, Commits, IsDue, JudgesLine};
+    ghost use Rattle.checker.specs.Replay.{IsReplayOf, Commits, IsDue, JudgesLine, NeedsMemory, IsRefusedMemory};
     ghost use Rattle.spec_machine.specs.View.{state_of};
 
     /// Before the first line.
@@ -46,7 +46,8 @@ impl Replay {
         })
     }
 
-    /// Replays the next line: nothing where it passes, else why it fails.
+    /// Replays the next line: nothing where it passes, else why it fails. Memory is refused only where the line's call makes a
+    /// table.
     pub(crate) fn take_line(
         &mut self,
         history: &History,
@@ -54,7 +55,8 @@ impl Replay {
     ) -> Result<Option<Reason>, AllocError>
         requires is_history { IsHistory history.now.recorded }
         requires counted { length self.old.named.items ≡ length history.now.recorded.events }
-        ensures { IfOk result (λ why. JudgesLine why self.old self.new history.now.recorded (line_seen line.entry)) }
+        ensures judged { IfOk result (λ why. JudgesLine why self.old self.new history.now.recorded (line_seen line.entry)) }
+        ensures refused { OnErr result (IsRefusedMemory self.old history.now.recorded (line_seen line.entry)) }
     {
         let Some(places) = places_named(history, &line) else {
             return Ok(Some(Reason::Unknown));
@@ -95,8 +97,10 @@ impl Replay {
         requires is_history { IsHistory history.now.recorded }
         requires counted { length self.old.named.items ≡ length history.now.recorded.events }
         requires is_called { (number : ℕ) × (command : Command) × IsCalled history.now.recorded.events called cpu number command }
-        ensures { IfOk result (λ why. (line : Line) → IsDue self.old history.now.recorded line cpu called reply.now
+        ensures judged { IfOk result (λ why. (line : Line) → IsDue self.old history.now.recorded line cpu called reply.now
             → JudgesLine why self.old self.new history.now.recorded line) }
+        ensures refused { OnErr result ((line : Line) → IsDue self.old history.now.recorded line cpu called reply.now
+            → IsRefusedMemory self.old history.now.recorded line) }
     {
         let Some(command) = history.command_at(called as usize) else {
             unreachable!()
@@ -117,6 +121,7 @@ impl Replay {
         requires served { IsTrue (is_served command.now.function) }
         ensures given { IfOk result (λ given. MatchBool given (Commits self.old self.new cpu called command.now reply.now)
             ((next : State) → ¬ Step (state_of self.old.machine) cpu command.now reply.now next)) }
+        ensures refused { OnErr result (NeedsMemory self.old cpu command.now) }
     {
         let given = self.machine.offer(cpu, command, reply)?;
         if given {

@@ -10,13 +10,13 @@ use Rattle.checker.proofs.order.judge_order.Goals.{in-Some-first_missing, in-Non
 pub returns-in-Some : goal.returns-in-Some
 returns-in-Some c =
     let so_far = c.loop-i.invariant in
-    let fails = rw c.in-Some.is at c.in_ok-reason.ensures in
+    let fails = rw c.in-Some.is at c.in_ok-reason.ensures.judged in
     FirstFault-from_FailsBy c.in-Some.reason c.args.history.now.recorded c.args.certificate.now.lines c.loop-i.i (line_seen c.line.result)
     (state_of c.loop-i.replay.machine) c.line.ensures so_far.passes (fails (take c.loop-i.i c.args.certificate.now.lines) so_far)
 
 pub loop-i-preserved : goal.loop-i-preserved
 loop-i-preserved c =
-    let passes = rw c.in_default.is at c.in_ok-reason.ensures in
+    let passes = rw c.in_default.is at c.in_ok-reason.ensures.judged in
     Progress-next c.args.history.now.recorded c.args.certificate.now.lines c.loop-i.i (line_seen c.line.result) _ _ _ c.line.ensures
     (passes (take c.loop-i.i c.args.certificate.now.lines) c.loop-i.invariant)
 
