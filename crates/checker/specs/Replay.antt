@@ -1,5 +1,5 @@
 -- What a replay holds, seen from the definitions.
-use Rattle.std.specs.Prelude.{◌≡◌, ℕ, true, false, max, IsOk, IsTrue, List, [], ◌∷◌, ◌++◌, slice_set, slice_index_or, Option, MatchOption}
+use Rattle.std.specs.Prelude.{◌≡◌, ℕ, true, false, max, IsOk, IsTrue, List, [], ◌∷◌, ◌++◌, take, slice_get, slice_set, slice_index_or, Option, Some, MatchOption}
 use Rattle.rmm_spec.specs.declared.command.Command.{Command}
 use Rattle.rmm_spec.specs.declared.line.Line.{Line}
 use Rattle.rmm_spec.specs.declared.reply.Reply.{Reply}
@@ -51,3 +51,12 @@ pub record IsRefusedMemory (replay : Replay) (history : History) (line : Line) :
   pub is_called : IsCalled history.events place (cpu_named line) (number_named line) command
   pub due : IsDue replay history line (cpu_named line) place given
   pub needs : NeedsMemory replay (cpu_named line) command
+
+-- after lines that pass, a line is refused memory
+pub record RefusesMemory (history : History) (lines : List Line) : Type 0 where
+  pub place : ℕ
+  pub line : Line
+  pub is_line : slice_get lines place ≡ Some line
+  pub replay : Replay
+  pub before : IsReplayOf replay history (take place lines)
+  pub refused : IsRefusedMemory replay history line

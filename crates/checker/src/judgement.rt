@@ -10,6 +10,7 @@ ghost use Rattle.rmm_spec.specs.Linearization.{IsLinearization};
 ghost use Rattle.rmm_spec.specs.Judgement.{Judges};
 
 use crate::order::judge_order;
+use crate::replay::Replay;
 use certificate::CertFault;
 use history::HistoryFault;
 use rmm_spec::Verdict;
@@ -35,7 +36,8 @@ pub fn check(alloc: Global, history: &[u8], certificate: &[u8]) -> Result<Verdic
         Err(CertFault::BadLine(line)) => return Ok(Verdict::CertificateFault(line)),
         Err(CertFault::NoMemory) => return Err(AllocError),
     };
-    judge_order(alloc, &history, &certificate)
+    let replay = Replay::new(alloc, &history)?;
+    judge_order(replay, &history, &certificate)
 }
 
 #[cfg(test)]

@@ -1,25 +1,28 @@
 //! The verdict on an order.
 
-ghost use Rattle.std.specs.Prelude.{IfOk};
+ghost use Rattle.std.specs.Prelude.{[], IfOk, OnErr};
 ghost use Rattle.rmm_spec.specs.HistoryText.{IsHistory};
 ghost use Rattle.rmm_spec.specs.Judgement.{JudgesOrder};
+ghost use Rattle.checker.specs.Replay.{IsReplayOf, RefusesMemory};
 
 use crate::replay::Replay;
 use certificate::Certificate;
 use history::History;
 use rmm_spec::{Reason, Verdict};
-use std::alloc::{AllocError, Global};
+use std::alloc::AllocError;
 
-/// Whether the certificate's order is a linearization of the history, or the first step that fails.
+/// Whether the certificate's order is a linearization of the history, or the first step that fails. It is refused memory only
+/// at a line whose call makes a table, after lines that pass.
 pub(crate) fn judge_order(
-    alloc: Global,
+    mut replay: Replay,
     history: &History,
     certificate: &Certificate,
 ) -> Result<Verdict, AllocError>
-    requires { IsHistory history.now.recorded }
-    ensures { IfOk result (λ verdict. JudgesOrder verdict history.now.recorded certificate.now.lines) }
+    requires is_history { IsHistory history.now.recorded }
+    requires fresh { IsReplayOf replay history.now.recorded [] }
+    ensures judged { IfOk result (λ verdict. JudgesOrder verdict history.now.recorded certificate.now.lines) }
+    ensures refused { OnErr result (RefusesMemory history.now.recorded certificate.now.lines) }
 {
-    let mut replay = Replay::new(alloc, history)?;
     for i in 0..certificate.len() {
         if let Some(reason) = replay.take_line(history, certificate.line(i))? {
             return Ok(Verdict::No {

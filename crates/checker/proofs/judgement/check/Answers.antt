@@ -21,14 +21,14 @@ pub returns-clause-judged : goal.returns-clause-judged
 returns-clause-judged c =
     IfOk-weaker c.judge_order.result _ _
     (λ v order. Judges-from_order v c.args.history.now c.args.certificate.now c.in-Ok.history.recorded c.in-Ok-read.certificate.lines c.in-Ok.ensures.found c.in-Ok-read.ensures.found order)
-    c.judge_order.ensures
+    c.judge_order.ensures.judged
 
 pub returns-clause-valid : goal.returns-clause-valid
 returns-clause-valid c =
     IfOk-weaker c.judge_order.result _ _
     (λ v order. Judges-valid v c.args.history.now c.args.certificate.now
     (Judges-from_order v c.args.history.now c.args.certificate.now c.in-Ok.history.recorded c.in-Ok-read.certificate.lines c.in-Ok.ensures.found c.in-Ok-read.ensures.found order))
-    c.judge_order.ensures
+    c.judge_order.ensures.judged
 
 pub returns-in-Err-NoMemory-clause-refused : goal.returns-in-Err-NoMemory-clause-refused
 returns-in-Err-NoMemory-clause-refused c =
@@ -40,3 +40,6 @@ returns-in-Err-NoMemory-read-clause-refused c = (c.in-Ok.history.recorded, Begin
 
 pub returns-clause-refused : goal.returns-clause-refused
 returns-clause-refused c = OnErr-always c.judge_order.result (c.in-Ok.history.recorded, BeginsWith-whole c.args.history.now _ c.in-Ok.ensures.found)
+
+pub returns-in_err-replay-clause-refused : goal.returns-in_err-replay-clause-refused
+returns-in_err-replay-clause-refused c = OnErr-always c.from_residual.result (c.in-Ok.history.recorded, BeginsWith-whole c.args.history.now _ c.in-Ok.ensures.found)

@@ -1,18 +1,33 @@
 -- The first line that fails, one more line that passes, and the end.
 use Rattle.std.proofs.Common.{take, arith}
+use Rattle.std.proofs.lemmas.Result.{err_from_is_err_and}
 use Rattle.certificate.specs.LineRef.{line_seen}
 use Rattle.spec_machine.specs.View.{state_of}
+use Rattle.checker.specs.Replay.{RefusesMemory}
 use Rattle.checker.proofs.Faults.{FirstFault-from_FailsBy, Progress-next, Progress-whole, FirstFault-missing, Accepts-from_Passes}
 use Rattle.checker.proofs.Judging.{HasOnePlaces-from_history}
 use Rattle.checker.proofs.order.judge_order.Goals as goal
 use Rattle.checker.proofs.order.judge_order.Goals.{in-Some-first_missing, in-None}
 
-pub returns-in-Some : goal.returns-in-Some
-returns-in-Some c =
+pub returns-in-Some-clause-judged : goal.returns-in-Some-clause-judged
+returns-in-Some-clause-judged c =
     let so_far = c.loop-i.invariant in
     let fails = rw c.in-Some.is at c.in_ok-reason.ensures.judged in
     FirstFault-from_FailsBy c.in-Some.reason c.args.history.now.recorded c.args.certificate.now.lines c.loop-i.i (line_seen c.line.result)
     (state_of c.loop-i.replay.machine) c.line.ensures so_far.passes (fails (take c.loop-i.i c.args.certificate.now.lines) so_far)
+
+pub returns-in_err-reason-clause-refused : goal.returns-in_err-reason-clause-refused
+returns-in_err-reason-clause-refused c =
+    let p = err_from_is_err_and c.from_residual.result c.from_residual.ensures.1 in
+    let refuses : RefusesMemory c.args.history.now.recorded c.args.certificate.now.lines = record {
+      place = c.loop-i.i;
+      line = line_seen c.line.result;
+      is_line = c.line.ensures;
+      replay = c.loop-i.replay;
+      before = c.loop-i.invariant;
+      refused = c.in_err-reason.ensures.refused;
+    } in
+    rw p.1 refuses
 
 pub loop-i-preserved : goal.loop-i-preserved
 loop-i-preserved c =
@@ -20,8 +35,8 @@ loop-i-preserved c =
     Progress-next c.args.history.now.recorded c.args.certificate.now.lines c.loop-i.i (line_seen c.line.result) _ _ _ c.line.ensures
     (passes (take c.loop-i.i c.args.certificate.now.lines) c.loop-i.invariant)
 
-pub returns : goal.returns
-returns c =
+pub returns-clause-judged : goal.returns-clause-judged
+returns-clause-judged c =
     let all = Progress-whole c.args.history.now.recorded c.args.certificate.now.lines c.loop-i.i _ _ _ (omega (arith, c.len-i-end.ensures.count)) c.loop-i.invariant in
     let told = c.first_missing.ensures c.args.certificate.now.lines all in
     elim c.match-first_missing.branch [
@@ -31,5 +46,5 @@ returns c =
       | in-None w ↦
           let named = rw w.in-None.is at told in
           rw (w.result-is, c.len-lines.ensures.count)
-          (Accepts-from_Passes c.args.history.now.recorded c.requires (HasOnePlaces-from_history c.args.history.now.recorded c.requires) c.args.certificate.now.lines (state_of c.loop-i.replay.machine) all.passes named)
+          (Accepts-from_Passes c.args.history.now.recorded c.requires.is_history (HasOnePlaces-from_history c.args.history.now.recorded c.requires.is_history) c.args.certificate.now.lines (state_of c.loop-i.replay.machine) all.passes named)
     ]
