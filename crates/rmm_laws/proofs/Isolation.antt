@@ -122,12 +122,15 @@ opening-accounted config = record {
   recs = λ rec r there. absurd (let bad : None ≡ Some r = there in cc);
 }
 
+-- what a run leaves is sound, and its ties are the open claims
+pub run-owned : (config : Config) (entries : List JournalEntry) (last : State) → IsRun (opening config) entries last → IsSound last × AreOwned (claims entries) last
+unfolding claims
+run-owned config entries last run =
+    let kept = run-accounted entries [] [] (opening config) last (opening-accounted config) run in (kept.1.sound, kept.1.owned)
+
 -- whatever a run leaves, every granule is at most one realm's, in one role
 pub run-isolated : (config : Config) (entries : List JournalEntry) (last : State) → IsRun (opening config) entries last → IsIsolated entries last
-unfolding claims
-run-isolated config entries last run =
-    let kept = run-accounted entries [] [] (opening config) last (opening-accounted config) run in
-    owned-isolated entries last kept.1.sound kept.1.owned
+run-isolated config entries last run = let kept = run-owned config entries last run in owned-isolated entries last kept.0 kept.1
 
 -- and so after each first part of its commits
 pub isolated_throughout : (history : History) (entries : List JournalEntry) → IsIsolatedThroughout history entries

@@ -16,3 +16,4 @@ pub mod ChangeAccounts
 pub mod Footprints
 pub mod Recorded
 pub mod Isolation
+pub mod Presence

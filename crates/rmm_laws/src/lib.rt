@@ -1,6 +1,7 @@
 //! The laws over the definitions of `rmm_spec`: each is the contract of a public function that does nothing.
 //! It promises that a reply decides the next state and some reply has one, that each run keeps every granule to at most one
-//! realm, and that worked scripts are runs: what would fail if a definition were mistyped or a row were missing.
+//! realm and has what every row reads, and that worked scripts are runs: what would fail if a definition were mistyped or a
+//! row were missing.
 //! Laws are proved by kind of change, so a further command owes that its rows are what its change requires.
 //! The checker depends on it.
 #![tactic(auto)]
@@ -14,6 +15,6 @@ pub use laws::{
 };
 pub use profile_laws::{
     a_page_is_given_once, commands_keep_other_maps, fresh_root_covers_space,
-    longer_stretches_are_no_runs, reach_is_the_walk, walks_begin_at_root, walks_end_unlinked,
-    worked_scripts_are_runs,
+    longer_stretches_are_no_runs, no_default_is_read, reach_is_the_walk, walks_begin_at_root,
+    walks_end_unlinked, worked_scripts_are_runs,
 };

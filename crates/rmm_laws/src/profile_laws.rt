@@ -14,6 +14,7 @@ ghost use Rattle.rmm_spec.specs.Script as script;
 ghost use Rattle.rmm_spec.specs.Script.{script_config};
 ghost use Rattle.rmm_spec.specs.Footprint.{KeepsOthers, changed_parts};
 ghost use Rattle.rmm_laws.specs.Commands as commands;
+ghost use Rattle.rmm_laws.specs.Presence.{HasWhatRowsRead};
 
 /// Whatever a command is answered, it keeps the maps that it isn't listed with.
 pub fn commands_keep_other_maps()
@@ -46,6 +47,13 @@ pub fn walks_begin_at_root()
     ensures { (config : Config) (entries : List JournalEntry) (s : State) (rd ipa : ℕ) (realm : RealmRecord)
         → IsRun (opening config) entries s → s.realm rd ≡ Some realm → ipa < 2 ^ realm.width
         → IsWalk s rd ipa realm.start_level realm.start_level realm.root (entry_for s rd realm.start_level ipa) }
+{}
+
+/// After every run, of whatever commands, what the rows read is there: none of what the definitions say is read in place of a
+/// missing record, entry or table is ever read.
+pub fn no_default_is_read()
+    ensures { (config : Config) (entries : List JournalEntry) (last : State)
+        → IsRun (opening config) entries last → HasWhatRowsRead last }
 {}
 
 /// The worked scripts are runs: the definitions give each of their replies.

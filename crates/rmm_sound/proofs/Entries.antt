@@ -26,7 +26,7 @@ leaf_fits s sound rd level number e at =
     (owner.0, owner.1, sound.leaves.kinds rd level number e owner.0 at owner.1)
 
 -- a leaf is no link
-fitting_leaf : (e : Entry) (r : RealmRecord) (level number : ℕ) → IsLeafOf e r level number → is_table e ≡ false
+pub fitting_leaf : (e : Entry) (r : RealmRecord) (level number : ℕ) → IsLeafOf e r level number → is_table e ≡ false
 fitting_leaf (Unassigned ripas) r level number fits = refl
 fitting_leaf (Assigned ripas granule) r level number fits = refl
 fitting_leaf (Table granule) r level number fits = absurd fits
