@@ -1,5 +1,6 @@
 -- What rows and changes read of a state is there. `Lookup` and `Walk` say what is read where a realm, a REC, a request, an
--- entry or a table is missing; in a state that has all of this, none of that is read. This project's own.
+-- entry or a table is missing; in a state that has all of this, none of that is read, but for the base 0 that REC_ENTER
+-- reports of a REC that asked for nothing. This project's own.
 use Rattle.std.specs.Prelude.{◌≡◌, ℕ, suc, ◌+◌, ◌*◌, ◌/◌, ◌<◌, ◌≤◌, false, ◌⊎◌, IsTrue, length, Some, is_some}
 use Rattle.rmm_spec.specs.declared.entry.Entry.{Entry}
 use Rattle.rmm_spec.specs.declared.entry.Entry.TheVariants.{Table}

@@ -49,8 +49,8 @@ pub fn walks_begin_at_root()
         → IsWalk s rd ipa realm.start_level realm.start_level realm.root (entry_for s rd realm.start_level ipa) }
 {}
 
-/// After every run, of whatever commands, what the rows read is there: none of what the definitions say is read in place of a
-/// missing record, entry or table is ever read.
+/// After every run, of whatever commands, each record, entry and table that the rows read is there: of what the definitions
+/// read in place of a missing one they read none, but for the base 0 that REC_ENTER reports of a REC that asked for nothing.
 pub fn no_default_is_read()
     ensures { (config : Config) (entries : List JournalEntry) (last : State)
         → IsRun (opening config) entries last → HasWhatRowsRead last }
