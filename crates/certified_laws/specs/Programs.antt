@@ -5,7 +5,7 @@ use Rattle.rmm_spec.specs.declared.command.Command.{Command}
 use Rattle.rmm_spec.specs.HistoryText.{Config}
 use Rattle.rmm_spec.specs.CommandText.{IsCommand}
 
--- each command of the machine's CPUs is of a function that is served, with as many words as it takes, of 64 bits each
+-- each command of the machine's CPUs has as many words as its function takes, of 64 bits each
 abbrev pub HaveTexts : Config → (ℕ → List Command) → Type 0
 HaveTexts config programs = (cpu : ℕ) → cpu < config.cpus → AllByRecursion IsCommand (programs cpu)
 

@@ -1,8 +1,8 @@
 -- What a fault says of the parts of a line. Where several apply, any of them may be reported.
-use Rattle.std.specs.Prelude.{◌≡◌, ◌≢◌, ℕ, ◌^◌, ◌<◌, List, [], ◌∷◌, ◌⊎◌, length, drop, codes, Contains, IsTrue}
+use Rattle.std.specs.Prelude.{◌≡◌, ◌≢◌, ℕ, ◌^◌, ◌<◌, List, [], ◌∷◌, ◌⊎◌, length, drop, codes, Contains}
 use Rattle.std.specs.List.{Any}
 use Rattle.rmm_spec.specs.declared.function_id.FunctionId.{FunctionId}
-use Rattle.rmm_spec.specs.Function.{number_of, word_count, is_served}
+use Rattle.rmm_spec.specs.Function.{number_of, word_count}
 use Rattle.rmm_spec.specs.Text.{decimal, word, fixed_hex}
 use Rattle.rmi_codec.specs.declared.fault.CodecFault.{CodecFault}
 use Rattle.rmi_codec.specs.declared.fault.CodecFault.TheVariants.{UnknownNumber, WordCount, BadWord, BadSpacing, BadForm}
@@ -15,7 +15,7 @@ IsNoByte part = (n : ℕ) → n < 256 → part ≢ decimal n
 
 abbrev pub IsCommandFault : CodecFault → List (List ℕ) → Type 0
 IsCommandFault UnknownNumber parts =
-    (f : FunctionId) (rest : List (List ℕ)) → IsTrue (is_served f) → parts ≢ fixed_hex 8 (number_of f) ∷ rest
+    (f : FunctionId) (rest : List (List ℕ)) → parts ≢ fixed_hex 8 (number_of f) ∷ rest
 IsCommandFault WordCount parts =
     (f : FunctionId) (rest : List (List ℕ)) → parts ≡ fixed_hex 8 (number_of f) ∷ rest → length rest ≢ word_count f
 IsCommandFault BadWord parts = Any IsNoWord (drop 1 parts)

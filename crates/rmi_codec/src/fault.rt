@@ -8,7 +8,7 @@ use thiserror::Error;
 /// Why a text isn't a command or a reply. Where several apply, which one is reported is left open.
 #[derive(Clone, Copy, Debug, PartialEq, Eq, Error)]
 pub enum CodecFault {
-    /// The number is that of no function that is served.
+    /// The number is that of no function.
     #[error("no such function")]
     UnknownNumber,
     /// The function takes another count of words, or a reply has more than ten.

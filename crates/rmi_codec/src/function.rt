@@ -1,14 +1,14 @@
 //! Functions, by their numbers.
 
-ghost use Rattle.std.specs.Prelude.{◌≡◌, ◌<◌, ◌^◌, ◌≤◌, ℕ, Some, IsTrue, IfSome};
+ghost use Rattle.std.specs.Prelude.{◌≡◌, ◌<◌, ◌^◌, ◌≤◌, ℕ, Some, IfSome};
 ghost use Rattle.rmm_spec.specs.declared.function_id.FunctionId.{FunctionId};
-ghost use Rattle.rmm_spec.specs.Function.{number_of, word_count, is_served};
+ghost use Rattle.rmm_spec.specs.Function.{number_of, word_count};
 ghost use Rattle.rmm_spec.specs.Text.{fixed_hex};
 
 use crate::fixed_hex::fixed_hex_from;
 use rmm_spec::FunctionId;
 
-// The function of a number, served or not.
+// The function of a number.
 #[tactic(auto, unfolding(rmm_spec::specs::Function::number_of))]
 fn function_numbered(number: u64) -> Option<FunctionId>
     ensures found { IfSome result (λ f. number_of f ≡ number) }
@@ -78,43 +78,11 @@ pub(crate) fn words_of(function: FunctionId) -> usize
     }
 }
 
-// Whether a function has a text: one line for each that has.
-#[tactic(auto, unfolding(rmm_spec::specs::Function::is_served))]
-pub(crate) fn is_served(function: FunctionId) -> bool
-    ensures { result ≡ is_served function }
-{
-    match function {
-        FunctionId::GranuleDelegate => true,
-        FunctionId::GranuleUndelegate => true,
-        FunctionId::RealmActivate => true,
-        FunctionId::RealmCreate => true,
-        FunctionId::RealmDestroy => true,
-        FunctionId::RecCreate => true,
-        FunctionId::RecDestroy => true,
-        FunctionId::DataCreate => true,
-        FunctionId::DataCreateUnknown => true,
-        FunctionId::DataDestroy => true,
-        FunctionId::RttCreate => true,
-        FunctionId::RttDestroy => true,
-        FunctionId::RttMapUnprotected => true,
-        FunctionId::RttReadEntry => true,
-        FunctionId::RttUnmapUnprotected => true,
-        FunctionId::RttInitRipas => true,
-        _ => false,
-    }
-}
-
-// The served function whose number a part spells.
+// The function whose number a part spells.
 pub(crate) fn function_from(part: &[u8]) -> Option<FunctionId>
-    ensures found { IfSome result (λ f. IsTrue (is_served f) × (part.now ≡ fixed_hex 8 (number_of f))) }
-    ensures only { (f : FunctionId) → IsTrue (is_served f) → part.now ≡ fixed_hex 8 (number_of f)
-        → result ≡ Some f }
+    ensures found { IfSome result (λ f. part.now ≡ fixed_hex 8 (number_of f)) }
+    ensures only { (f : FunctionId) → part.now ≡ fixed_hex 8 (number_of f) → result ≡ Some f }
 {
     let number = fixed_hex_from(part)?;
-    let function = function_numbered(number)?;
-    if is_served(function) {
-        Some(function)
-    } else {
-        None
-    }
+    function_numbered(number)
 }

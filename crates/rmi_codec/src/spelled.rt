@@ -3,7 +3,7 @@
 ghost use Rattle.std.specs.Prelude.{◌↔◌, IsTrue};
 ghost use Rattle.rmm_spec.specs.CommandText.{AreWords, IsCommand, IsReply};
 
-use crate::function::{is_served, words_of};
+use crate::function::words_of;
 use rmm_spec::{Command, Reply};
 
 // Numbers of 64 bits are words.
@@ -15,12 +15,12 @@ fn are_words(words: &[u64])
     }
 }
 
-/// Whether a command has a text: its function is served, and it has as many words as the function takes.
+/// Whether a command has a text: whether it has as many words as its function takes.
 pub fn has_text(command: &Command) -> bool
     ensures { IsTrue result ↔ IsCommand command.now }
 {
     are_words(command.words.as_slice());
-    is_served(command.function) && command.words.len() == words_of(command.function)
+    command.words.len() == words_of(command.function)
 }
 
 /// Every reply has a text.

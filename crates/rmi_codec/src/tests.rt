@@ -51,6 +51,15 @@ fn commands(rt: HostRuntime) {
     assert_eq!(rt; read_command("c400015a 1000 5000 0 1 6000 7000"), Ok(rec));
     let no_rec = command(FunctionId::RecDestroy, &[0x5000]);
     assert_eq!(rt; read_command("c400015b 5000"), Ok(no_rec));
+    let entered = command(FunctionId::RecEnter, &[0x5000]);
+    assert_eq!(rt; read_command("c400015c 5000"), Ok(entered));
+    let no_words = command(FunctionId::Exit, &[]);
+    assert_eq!(rt; read_command("00000001"), Ok(no_words));
+    let ten_words = command(
+        FunctionId::MeasurementExtend,
+        &[1, 3, 0x636261, 0, 0, 0, 0, 0, 0, 0],
+    );
+    assert_eq!(rt; read_command("c4000193 1 3 636261 0 0 0 0 0 0 0"), Ok(ten_words));
 }
 
 #[test]
@@ -67,7 +76,10 @@ fn commands_refused(rt: HostRuntime) {
         ("c4000151  1000", CodecFault::BadSpacing),
         ("c4000158 1000 2000 27 1 1", CodecFault::WordCount),
         ("c400015a 1000 5000 0 1 6000 7000 0", CodecFault::WordCount),
-        ("c400015c 5000", CodecFault::UnknownNumber),
+        ("00000001 0", CodecFault::WordCount),
+        ("84000002 ", CodecFault::BadSpacing),
+        ("c4000193 1 3 0 0 0 0 0 0 0", CodecFault::WordCount),
+        ("1", CodecFault::UnknownNumber),
         ("c4000150 1000", CodecFault::UnknownNumber),
         ("C4000151 1000", CodecFault::UnknownNumber),
         ("0c4000151 1000", CodecFault::UnknownNumber),

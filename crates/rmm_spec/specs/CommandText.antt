@@ -1,19 +1,18 @@
 -- Commands and replies as the parts of a line.
-use Rattle.std.specs.Prelude.{◌≡◌, ⊤, ℕ, ◌^◌, ◌<◌, ◌≤◌, List, [], ◌∷◌, map, length, codes, IsTrue}
+use Rattle.std.specs.Prelude.{◌≡◌, ⊤, ℕ, ◌^◌, ◌<◌, ◌≤◌, List, [], ◌∷◌, map, length, codes}
 use Rattle.std.specs.List.{AllByRecursion}
 use Rattle.rmm_spec.specs.declared.command.Command.{Command}
 use Rattle.rmm_spec.specs.declared.reply.Reply.{Reply}
 use Rattle.rmm_spec.specs.declared.reply.Reply.TheVariants as reply
-use Rattle.rmm_spec.specs.Function.{number_of, word_count, is_served}
+use Rattle.rmm_spec.specs.Function.{number_of, word_count}
 use Rattle.rmm_spec.specs.Text.{decimal, word, fixed_hex, line_text}
 
 -- numbers that 64 bits hold
 abbrev pub AreWords : List ℕ → Type 0
 AreWords words = AllByRecursion (λ w. w < 2 ^ 64) words
 
--- what has a text: a function that is served, with as many words as it takes
+-- what has a text: a function with as many words as it takes
 pub record IsCommand (command : Command) : Type 0 where
-  pub served : IsTrue (is_served command.function)
   pub counted : length command.words.items ≡ word_count command.function
   pub words : AreWords command.words.items
 

@@ -13,7 +13,7 @@ use Rattle.rmm_spec.specs.declared.reply.Reply.{Reply}
 use Rattle.rmm_spec.specs.declared.reply.Reply.TheVariants as reply
 use Rattle.rmm_spec.specs.CertificateText.{IsLine, IsCertificate, IsCertificateText, InCertificates, certificate_text, line_parts}
 use Rattle.rmm_spec.specs.CommandText.{AreWords, IsCommand, IsReply}
-use Rattle.rmm_spec.specs.Function.{word_count, is_served}
+use Rattle.rmm_spec.specs.Function.{word_count}
 use Rattle.rmm_spec.specs.HistoryText.{Config, History, IsConfig, IsEvent, IsHistory, IsHistoryText, InHistories, IsRecord, cpu_of, subhistory_of, start, stand_from, event_parts, history_text}
 use Rattle.rmm_spec.specs.Text.{line_text, lines_text, parts_of, HasNoNewline}
 use Rattle.rmm_spec.proofs.CertificateLines.{line_parts-one_line}
@@ -132,9 +132,8 @@ decided_config config =
 decided_command : (command : Command) → Decided (IsCommand command)
 decided_command command =
     decided_as
-    (λ p. record { served = p.0; counted = p.1.0; words = p.1.1 }) (λ is. (is.served, (is.counted, is.words)))
-    (decided_both (decided_true (is_served command.function))
-    (decided_both (cases_eq (length command.words.items) (word_count command.function)) (decided_words command.words.items)))
+    (λ p. record { counted = p.0; words = p.1 }) (λ is. (is.counted, is.words))
+    (decided_both (cases_eq (length command.words.items) (word_count command.function)) (decided_words command.words.items))
 
 -- whether an event has one
 decided_event : (cpus : ℕ) (event : Event) → Decided (IsEvent cpus event)

@@ -22,7 +22,7 @@ unfolding command_parts
 returns-in_default-function_from-clause-only c = λ d is e.
     let next = c.in-Some.ensures.next in
     let number : c.in-Some.part.now ≡ fixed_hex 8 (number_of d.function) = cc in
-    let none = c.in_default-function_from.ensures.only d.function is.served number in
+    let none = c.in_default-function_from.ensures.only d.function number in
     cc
 
 pub returns-in_err-read_words-clause-only : goal.returns-in_err-read_words-clause-only
@@ -42,7 +42,7 @@ returns-then-len-words_of-clause-only c = λ d is e.
     let number : c.in-Some.part.now ≡ fixed_hex 8 (number_of d.function) = cc in
     let rest : c.next_part.new.self ≡ map word d.words.items = cc in
     let counted = is.counted in
-    let some = c.in-Some-function_from.ensures.only d.function is.served number in
+    let some = c.in-Some-function_from.ensures.only d.function number in
     let function : c.in-Some-function_from.function ≡ d.function = cc in
     let items : c.read_words.new.words.items ≡ d.words.items = map-word-injective _ _ (sym c.in_ok-read_words.ensures.found ∙ rest) in
     absurd (c.if-len-words_of.true (c.len.ensures.value ∙ ap length items ∙ counted ∙ ap word_count (sym function) ∙ sym c.words_of.ensures))
@@ -50,12 +50,10 @@ returns-then-len-words_of-clause-only c = λ d is e.
 pub returns-clause-found : goal.returns-clause-found
 unfolding command_parts
 returns-clause-found c =
-    let function = c.in-Some-function_from.ensures.found in
     let next = c.in-Some.ensures.next in
-    let number = function.1 in
+    let number = c.in-Some-function_from.ensures.found in
     let words = c.in_ok-read_words.ensures.found in (
       record {
-        served = function.0;
         counted = sym c.len.ensures.value ∙ c.if-len-words_of.false ∙ c.words_of.ensures;
         words = c.in_ok-read_words.ensures.words;
       },
@@ -69,19 +67,17 @@ returns-clause-only c = λ d is e.
     let number : c.in-Some.part.now ≡ fixed_hex 8 (number_of d.function) = cc in
     let rest : c.next_part.new.self ≡ map word d.words.items = cc in
     let counted = is.counted in
-    let some = c.in-Some-function_from.ensures.only d.function is.served number in
+    let some = c.in-Some-function_from.ensures.only d.function number in
     let function : c.in-Some-function_from.function ≡ d.function = cc in
     let items : c.read_words.new.words.items ≡ d.words.items = map-word-injective _ _ (sym c.in_ok-read_words.ensures.found ∙ rest) in
     λ i. Ok (record { function = function i; words = record { items = items i } })
 
 pub returns-in_err-read_words-clause-fault : goal.returns-in_err-read_words-clause-fault
 returns-in_err-read_words-clause-fault c =
-    let function = c.in-Some-function_from.ensures.found in
     let p = err_from_is_err_and c.from_residual.result c.from_residual.ensures.1 in
-    rw (p.1, p.2) (IsCommandFault-from_words c.in-Some-function_from.function c.in-Some.part.now c.next_part.new.self c.args.parts _ c.in-Some.ensures.next function.1 c.in_err-read_words.ensures.fault)
+    rw (p.1, p.2) (IsCommandFault-from_words c.in-Some-function_from.function c.in-Some.part.now c.next_part.new.self c.args.parts _ c.in-Some.ensures.next c.in-Some-function_from.ensures.found c.in_err-read_words.ensures.fault)
 
 pub returns-then-len-words_of-clause-fault : goal.returns-then-len-words_of-clause-fault
 returns-then-len-words_of-clause-fault c =
-    let function = c.in-Some-function_from.ensures.found in
-    WordCount-from c.in-Some-function_from.function c.in-Some.part.now c.next_part.new.self c.args.parts c.in-Some.ensures.next function.1
+    WordCount-from c.in-Some-function_from.function c.in-Some.part.now c.next_part.new.self c.args.parts c.in-Some.ensures.next c.in-Some-function_from.ensures.found
     (λ e. c.if-len-words_of.true (c.len.ensures.value ∙ sym (length-map c.read_words.new.words.items word) ∙ ap length (sym c.in_ok-read_words.ensures.found) ∙ e ∙ sym c.words_of.ensures))
