@@ -132,9 +132,8 @@ fn reply_to(machine: &Machine, cpu: u8, command: &Command) -> Reply
     ensures { (next : State) × Step (state_of machine.now) cpu command.now result next }
 {
     match machine.outcome(cpu, command) {
-        Some(Err(refusal)) => refusal,
-        Some(Ok(Accepted::Done { words, .. })) => Reply::Ok(words),
-        Some(Ok(Accepted::Reaches(_))) => unreachable!(),
-        None => unreachable!(),
+        Err(refusal) => refusal,
+        Ok(Accepted::Done { words, .. }) => Reply::Ok(words),
+        Ok(Accepted::Reaches(_)) => unreachable!(),
     }
 }

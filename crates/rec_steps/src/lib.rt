@@ -20,5 +20,6 @@ pub use entering::{answer_to_enter, enter};
 pub use inside::{answer_inside, realm_call, walks};
 pub use leaving::exit;
 pub use realm_desc::{Realm, Rec};
+pub use reply::{input_error, realm_error, rec_error};
 pub use rmm_spec::{Accepted, Call, Command, Reply, Ripas};
 pub use step::RecStep;

@@ -6,22 +6,22 @@ ghost use Rattle.rmm_spec.specs.Rows as rows;
 use arrayvec::ArrayVec;
 use rmm_spec::Reply;
 
-/// A word doesn't fit the command (DEN0137, RMI_ERROR_INPUT and RSI_ERROR_INPUT).
-pub(crate) fn input_error() -> Reply
+/// A word, or the state of what it names, doesn't fit the command (DEN0137, RMI_ERROR_INPUT and RSI_ERROR_INPUT).
+pub fn input_error() -> Reply
     ensures { result ≡ rows.input_error }
 {
     Reply::Err(1, 0)
 }
 
 /// The realm has come too far for the command, or not far enough (DEN0137, RMI_ERROR_REALM).
-pub(crate) fn realm_error(index: u8) -> Reply
+pub fn realm_error(index: u8) -> Reply
     ensures { result ≡ rows.realm_error index }
 {
     Reply::Err(2, index)
 }
 
 /// The REC is in no state for the command (DEN0137, RMI_ERROR_REC).
-pub(crate) fn rec_error() -> Reply
+pub fn rec_error() -> Reply
     ensures { result ≡ rows.rec_error }
 {
     Reply::Err(3, 0)

@@ -3,22 +3,27 @@ use Rattle.std.proofs.Common.{◌≡◌, ℕ, suc, ◌-◌, ◌/◌, ◌≤◌, 
 use Rattle.rmm_spec.specs.declared.change.EntryChange.{EntryChange}
 use Rattle.rmm_spec.specs.declared.change.EntryChange.TheVariants.{Replaced, RipasSet}
 use Rattle.rmm_spec.specs.declared.change.RealmChange.{RealmChange}
+use Rattle.rmm_spec.specs.declared.change.RecChange.{RecChange}
+use Rattle.rmm_spec.specs.declared.change.RecUpdate.{RecUpdate}
+use Rattle.rmm_spec.specs.declared.change.RecUpdate.TheVariants.{Entered, Exited, RipasRequested, HostCalled, TurnedOff, SystemTurnedOff, RequestMoved}
 use Rattle.rmm_spec.specs.declared.change.TagChange.{TagChange}
 use Rattle.rmm_spec.specs.declared.entry.Entry.{Entry}
 use Rattle.rmm_spec.specs.declared.tag.Tag.TheVariants.{Delegated, Rd, Rec, RecAux, Rtt, Data}
-use Rattle.rmm_spec.specs.Applicable.{CanDestroyRealm, CanDestroyRec, CanDestroyTable, CanChangeRealm, CanChangeEntries}
-use Rattle.rmm_spec.specs.Change.{with_tag_change, with_realm_change, with_entry_change}
-use Rattle.rmm_spec.specs.State.{State}
+use Rattle.rmm_spec.specs.Applicable.{CanDestroyRealm, CanDestroyRec, CanDestroyTable, CanUpdateRec, CanChangeRealm, CanChangeRec, CanChangeEntries}
+use Rattle.rmm_spec.specs.Change.{with_tag_change, with_realm_change, with_rec_change, with_entry_change}
+use Rattle.rmm_spec.specs.State.{State, RecRecord}
 use Rattle.rmm_spec.specs.Lookup.{is_granule, has_tag, realm_at, rec_at}
 use Rattle.rmm_spec.specs.Sound.{IsSound}
 use Rattle.rmm_spec.specs.Update.{is_same_entry}
+use Rattle.rmm_spec.proofs.TagLaws.{granule_from_tag}
 use Rattle.rmm_sound.proofs.Cases.{spot_itself}
 use Rattle.rmm_sound.proofs.Searches.{realm_there, rec_there}
 use Rattle.rmm_laws.proofs.Facts.{unlinked-root, entry-page}
+use Rattle.realm_desc.specs.Updates.{IsRecUpdate}
 use Rattle.spec_machine.specs.declared.store.Store.{Store}
-use Rattle.spec_machine.specs.Stored.{stored, CanWrite}
+use Rattle.spec_machine.specs.Stored.{stored, CanWrite, IsRealmThere, IsRecThere}
 use Rattle.spec_machine.proofs.Places.{granule_tagged}
-use Rattle.spec_machine.proofs.Changes.{KeepsIndexes, realm_change-indexes}
+use Rattle.spec_machine.proofs.Changes.{HasRecords}
 
 -- ---- realms and RECs that are taken out
 
@@ -68,22 +73,48 @@ table_parent s rd level number rtt entry sound can =
 
 -- ---- records that go with a change
 
-pub change-granule : (store : Store) (change : Option RealmChange) → CanChangeRealm (stored store) change
-    → IfSome change (λ c. IsTrue (is_granule store.config.granules c.rd))
-change-granule store None can = tt
-change-granule store (Some change) can = granule_tagged store change.rd Rd can.0
+pub realm-there : (s : State) (change : Option RealmChange) → IsSound s → CanChangeRealm s change → IfSome change (IsRealmThere s)
+realm-there s None sound can = tt
+realm-there s (Some change) sound can = record {
+  granule = granule_from_tag s change.rd Rd can.0;
+  there = realm_there s change.rd sound can.0;
+  update = can.1;
+}
 
-pub change-there : (s : State) (change : Option RealmChange) → IsSound s → CanChangeRealm s change
-    → IfSome change (λ c. s.realm c.rd ≡ Some (realm_at s c.rd))
-change-there s None sound can = tt
-change-there s (Some change) sound can = realm_there s change.rd sound can.0
+-- what a REC's record must be for a change is what its update requires
+rec_update : (s : State) (rec : RecRecord) (update : RecUpdate) → CanUpdateRec s rec update → IsRecUpdate rec update
+rec_update s rec (RequestMoved base) can = can.1
+rec_update s rec (Entered cpu) can = tt
+rec_update s rec Exited can = tt
+rec_update s rec (RipasRequested base top ripas) can = tt
+rec_update s rec (HostCalled imm) can = tt
+rec_update s rec TurnedOff can = tt
+rec_update s rec SystemTurnedOff can = tt
 
--- a page's tag changes no realm
-pub there-after_tag : (s : State) (page : Option TagChange) (change : Option RealmChange) → IsSound s → CanChangeRealm s change
-    → let after = with_tag_change s page in IfSome change (λ c. after.realm c.rd ≡ Some (realm_at after c.rd))
+pub rec-there : (s : State) (change : Option RecChange) → IsSound s → CanChangeRec s change → IfSome change (IsRecThere s)
+rec-there s None sound can = tt
+rec-there s (Some change) sound can = record {
+  granule = granule_from_tag s change.rec Rec can.0;
+  there = rec_there s change.rec sound can.0;
+  update = rec_update s (rec_at s change.rec) change.update can.1;
+}
+
+-- a page's tag changes no realm, and neither that nor a realm's record changes a REC
+pub realm-there-tag : (s : State) (page : Option TagChange) (change : Option RealmChange) → IfSome change (IsRealmThere s)
+    → IfSome change (IsRealmThere (with_tag_change s page))
 unfolding realm_at
-there-after_tag s None change sound can = change-there s change sound can
-there-after_tag s (Some page) change sound can = change-there s change sound can
+realm-there-tag s page None there = tt
+realm-there-tag s None (Some change) there = there
+realm-there-tag s (Some tag) (Some change) there = record { granule = there.granule; there = there.there; update = there.update }
+
+pub rec-there-realm : (s : State) (page : Option TagChange) (realm : Option RealmChange) (change : Option RecChange) → IfSome change (IsRecThere s)
+    → IfSome change (IsRecThere (with_realm_change (with_tag_change s page) realm))
+unfolding rec_at
+rec-there-realm s page realm None there = tt
+rec-there-realm s None None (Some change) there = there
+rec-there-realm s None (Some other) (Some change) there = record { granule = there.granule; there = there.there; update = there.update }
+rec-there-realm s (Some tag) None (Some change) there = record { granule = there.granule; there = there.there; update = there.update }
+rec-there-realm s (Some tag) (Some other) (Some change) there = record { granule = there.granule; there = there.there; update = there.update }
 
 -- the granule of a page that is given or taken back
 pub page-granule : (store : Store) (rd level : ℕ) (entries : EntryChange) (page : Option TagChange) → IsSound (stored store)
@@ -98,34 +129,29 @@ page-granule store rd level (Replaced number entry) (Some page) sound can = elim
 
 -- ---- entries
 
--- tags and records change no tables
-same-tables : (s : State) (page : Option TagChange) (realm : Option RealmChange) → (with_realm_change (with_tag_change s page) realm).table ≡ s.table
-same-tables s None None = refl
-same-tables s None (Some change) = refl
-same-tables s (Some tag) None = refl
-same-tables s (Some tag) (Some change) = refl
+-- a page's tag and records, and no tables, are changed so
+pub records-changed : (s : State) (page : Option TagChange) (realm : Option RealmChange) (rec : Option RecChange)
+    → let t = with_rec_change (with_realm_change (with_tag_change s page) realm) rec in HasRecords s t realm rec × (t.table ≡ s.table)
+unfolding realm_at rec_at
+records-changed s None None None = (record { size = refl; realms = refl; recs = refl }, refl)
+records-changed s None None (Some c) = (record { size = refl; realms = refl; recs = refl }, refl)
+records-changed s None (Some r) None = (record { size = refl; realms = refl; recs = refl }, refl)
+records-changed s None (Some r) (Some c) = (record { size = refl; realms = refl; recs = refl }, refl)
+records-changed s (Some tag) None None = (record { size = refl; realms = refl; recs = refl }, refl)
+records-changed s (Some tag) None (Some c) = (record { size = refl; realms = refl; recs = refl }, refl)
+records-changed s (Some tag) (Some r) None = (record { size = refl; realms = refl; recs = refl }, refl)
+records-changed s (Some tag) (Some r) (Some c) = (record { size = refl; realms = refl; recs = refl }, refl)
 
-pub writable : (s : State) (rd level : ℕ) (entries : EntryChange) (page : Option TagChange) (realm : Option RealmChange)
-    → CanChangeEntries s rd level entries page → CanWrite (with_realm_change (with_tag_change s page) realm) rd level entries
-writable s rd level (Replaced number entry) page realm can = subst (λ t. IsTrue (is_some (t rd level (number / 512)))) (sym (same-tables s page realm)) can.0.table
-writable s rd level (RipasSet first last ripas) page realm can =
+-- entries are no records
+pub entries-records : (s t : State) (rd level : ℕ) (entries : EntryChange) (realm : Option RealmChange) (rec : Option RecChange) → HasRecords s t realm rec
+    → HasRecords s (with_entry_change t rd level entries) realm rec
+entries-records s t rd level (Replaced number entry) realm rec has = record { size = has.size; realms = has.realms; recs = has.recs }
+entries-records s t rd level (RipasSet first last ripas) realm rec has = record { size = has.size; realms = has.realms; recs = has.recs }
+
+-- entries whose tables are there can be written
+pub writable : (s t : State) (rd level : ℕ) (entries : EntryChange) (page : Option TagChange) → CanChangeEntries s rd level entries page → t.table ≡ s.table
+    → CanWrite t rd level entries
+writable s t rd level (Replaced number entry) page can same = subst (λ m. IsTrue (is_some (m rd level (number / 512)))) (sym same) can.0.table
+writable s t rd level (RipasSet first last ripas) page can same =
     let some = can.0.some in
-    (omega arith, can.0.one_table, subst (λ t. IsTrue (is_some (t rd level (first / 512)))) (sym (same-tables s page realm)) can.0.table)
-
--- entries and pages are no RECs and no VMIDs
-pub entries-indexes : (s : State) (rd level : ℕ) (entries : EntryChange) (page : Option TagChange) (realm : Option RealmChange)
-    → IsSound s → CanChangeRealm s realm → KeepsIndexes s (with_entry_change (with_realm_change (with_tag_change s page) realm) rd level entries)
-unfolding realm_at
-entries-indexes s rd level entries page realm sound can =
-    let same = realm_change-indexes s realm sound can in cases entries page realm same
-  where
-    cases : (e : EntryChange) (p : Option TagChange) (r : Option RealmChange) → KeepsIndexes s (with_realm_change s r)
-        → KeepsIndexes s (with_entry_change (with_realm_change (with_tag_change s p) r) rd level e)
-    cases (Replaced number entry) None None same = record { granules = refl; rec = refl; vmids = same.vmids }
-    cases (Replaced number entry) None (Some change) same = record { granules = refl; rec = refl; vmids = same.vmids }
-    cases (Replaced number entry) (Some tag) None same = record { granules = refl; rec = refl; vmids = same.vmids }
-    cases (Replaced number entry) (Some tag) (Some change) same = record { granules = refl; rec = refl; vmids = same.vmids }
-    cases (RipasSet first last ripas) None None same = record { granules = refl; rec = refl; vmids = same.vmids }
-    cases (RipasSet first last ripas) None (Some change) same = record { granules = refl; rec = refl; vmids = same.vmids }
-    cases (RipasSet first last ripas) (Some tag) None same = record { granules = refl; rec = refl; vmids = same.vmids }
-    cases (RipasSet first last ripas) (Some tag) (Some change) same = record { granules = refl; rec = refl; vmids = same.vmids }
+    (omega arith, can.0.one_table, subst (λ m. IsTrue (is_some (m rd level (first / 512)))) (sym same) can.0.table)

@@ -1,10 +1,12 @@
 pub mod Places
 pub mod Counts
-pub mod Vmids
+pub mod Named
+pub mod Lookups
+pub mod RunningRecs
 pub mod RecCounts
 pub mod Changes
 pub mod Entries
-pub mod Made
+pub mod Memory
 pub mod Reached
 pub mod Ownership
 pub mod Rows

@@ -8,6 +8,7 @@ use Rattle.rmm_spec.specs.declared.change.Change.TheVariants.{RealmDestroyed, Re
 use Rattle.rmm_spec.specs.declared.change.EntryChange.{EntryChange}
 use Rattle.rmm_spec.specs.declared.change.EntryChange.TheVariants.{Replaced, RipasSet}
 use Rattle.rmm_spec.specs.declared.change.RealmChange.{RealmChange}
+use Rattle.rmm_spec.specs.declared.change.RecChange.{RecChange}
 use Rattle.rmm_spec.specs.declared.change.TagChange.{TagChange}
 use Rattle.rmm_spec.specs.declared.tag.Tag.{Tag}
 use Rattle.rmm_spec.specs.declared.tag.Tag.TheVariants.{Undelegated, Delegated, Rd, Rec, RecAux, Data, Rtt}
@@ -166,16 +167,16 @@ page-written : (rd granule : ℕ) (tag : Tag) (owners : List (Option ℕ)) → (
 page-written rd granule tag owners (inl is) = rw is refl
 page-written rd granule tag owners (inr is) = rw is refl
 
-pub entries_changed-owners : (s : State) (rd level : ℕ) (entries : EntryChange) (page : Option TagChange) (realm : Option RealmChange) (owners : List (Option ℕ))
-    → IsSound s → CanApply s (EntriesChanged rd level entries page realm None)
-    → (changed s (EntriesChanged rd level entries page realm None)).granules ≡ s.granules → AreOwners s owners
-    → AreOwners (changed s (EntriesChanged rd level entries page realm None)) (with_page_owner rd page owners)
-entries_changed-owners s rd level entries None realm owners sound can same o =
-    changed_owners s (EntriesChanged rd level entries None realm None) owners sound can same o
-entries_changed-owners s rd level (RipasSet first last ripas) (Some page) realm owners sound can same o =
+pub entries_changed-owners : (s : State) (rd level : ℕ) (entries : EntryChange) (page : Option TagChange) (realm : Option RealmChange) (rec : Option RecChange)
+    (owners : List (Option ℕ)) → IsSound s → CanApply s (EntriesChanged rd level entries page realm rec)
+    → (changed s (EntriesChanged rd level entries page realm rec)).granules ≡ s.granules → AreOwners s owners
+    → AreOwners (changed s (EntriesChanged rd level entries page realm rec)) (with_page_owner rd page owners)
+entries_changed-owners s rd level entries None realm rec owners sound can same o =
+    changed_owners s (EntriesChanged rd level entries None realm rec) owners sound can same o
+entries_changed-owners s rd level (RipasSet first last ripas) (Some page) realm rec owners sound can same o =
     absurd (let bad : Some page ≡ None = can.1.1 in cc)
-entries_changed-owners s rd level (Replaced number entry) (Some page) realm owners sound can same o =
-    let change = EntriesChanged rd level (Replaced number entry) (Some page) realm None in
+entries_changed-owners s rd level (Replaced number entry) (Some page) realm rec owners sound can same o =
+    let change = EntriesChanged rd level (Replaced number entry) (Some page) realm rec in
     subst (AreOwners (changed s change))
     (page-written rd page.granule page.tag owners (elim can.1.1 [ inl given ↦ inl given.1 | inr taken ↦ inr taken.0 ]))
     (changed_owners s change owners sound can same o)

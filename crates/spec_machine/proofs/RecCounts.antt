@@ -11,7 +11,7 @@ use Rattle.rmm_sound.proofs.Searches.{rec_granule}
 use Rattle.spec_machine.specs.Kept.{IsKept, count_below, rec_count}
 use Rattle.spec_machine.proofs.Counts.{any_below-count_below, count_below-le, count_below-same, count_below-more}
 use Rattle.spec_machine.proofs.Places.{place_within, place-granule, place-apart}
-use Rattle.spec_machine.proofs.Vmids.{same-changed}
+use Rattle.spec_machine.proofs.Named.{same-changed}
 
 -- each realm's place has the count of its RECs
 abbrev pub AreCounted : ℕ → (ℕ → Option RecRecord) → List ℕ → Type 0

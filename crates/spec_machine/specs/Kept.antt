@@ -1,13 +1,17 @@
 -- What a machine keeps true: of its state, and of what it finds VMIDs and RECs by.
 use Rattle.std.specs.Prelude.{◌≡◌, ℕ, zero, suc, ◌+◌, ◌*◌, ◌/◌, Bool, false, ◌==◌, if◌then◌else◌, IsTrue, List, length, Option, Some, None, slice_index_or}
 use Rattle.rmm_spec.specs.State.{State}
-use Rattle.rmm_spec.specs.Lookup.{is_granule, has_vmid, is_owned_by, runs_on}
+use Rattle.rmm_spec.specs.Lookup.{is_granule, has_vmid, is_owned_by}
 use Rattle.rmm_spec.specs.Sound.{IsSound}
 
 -- whether it is that number that is there
 abbrev pub names : ℕ → Option ℕ → Bool
 names n None = false
 names n (Some other) = n == other
+
+-- each number's place has the address at which something has the number
+abbrev pub AreNamed : {A : Type 0} → (ℕ → A → Bool) → (ℕ → A) → List (Option ℕ) → Type 0
+AreNamed has kept places = (n g : ℕ) → names g (slice_index_or places n None) ≡ has n (kept g)
 
 -- how many numbers below n pass
 abbrev pub count_below : ℕ → (ℕ → Bool) → ℕ
@@ -18,12 +22,11 @@ count_below (suc n) passes = (if passes n then 1 else 0) + count_below n passes
 unfoldable pub rec_count : State → ℕ → ℕ
 rec_count s rd = count_below s.granules (λ k. is_owned_by rd (s.rec (k * 4096)))
 
--- The state is one that a run can reach, and no REC runs. A VMID's place has the address of the realm that has it, and a
--- granule's place the count of RECs that belong to it.
+-- The state is one that a run can reach. A VMID's place has the address of the realm that has it, and a granule's place the
+-- count of RECs that belong to it.
 pub record IsKept (s : State) (vmids : List (Option ℕ)) (counts : List ℕ) : Type 0 where
   pub sound : IsSound s
-  pub ready : (g cpu : ℕ) → runs_on cpu (s.rec g) ≡ false
   pub vmid_places : length vmids ≡ 256
-  pub named : (vmid g : ℕ) → names g (slice_index_or vmids vmid None) ≡ has_vmid vmid (s.realm g)
+  pub named : AreNamed has_vmid s.realm vmids
   pub count_places : length counts ≡ s.granules
   pub counted : (rd : ℕ) → IsTrue (is_granule s.granules rd) → slice_index_or counts (rd / 4096) 0 ≡ rec_count s rd

@@ -1,7 +1,8 @@
 pub mod Kept
+pub mod Memory
 pub mod Owners
 pub mod Report
-pub mod Served
+pub mod Running
 pub mod Single
 pub mod Stored
 pub mod View

@@ -1,10 +1,14 @@
 -- The flat state that a store keeps.
-use Rattle.std.specs.Prelude.{ℕ, ◌+◌, ◌*◌, ◌/◌, ◌≤◌, if◌then◌else◌, List, None, slice_index_or, IsSome}
+use Rattle.std.specs.Prelude.{◌≡◌, ℕ, ◌+◌, ◌*◌, ◌/◌, ◌≤◌, if◌then◌else◌, List, Some, None, slice_index_or, IsSome, IsTrue}
 use Rattle.rmm_spec.specs.declared.change.EntryChange.{EntryChange}
 use Rattle.rmm_spec.specs.declared.change.EntryChange.TheVariants.{Replaced, RipasSet}
+use Rattle.rmm_spec.specs.declared.change.RealmChange.{RealmChange}
+use Rattle.rmm_spec.specs.declared.change.RecChange.{RecChange}
 use Rattle.rmm_spec.specs.declared.tag.Tag.TheVariants.{Undelegated}
 use Rattle.rmm_spec.specs.State.{State}
-use Rattle.rmm_spec.specs.Lookup.{is_granule}
+use Rattle.rmm_spec.specs.Applicable.{IsRealmUpdate}
+use Rattle.rmm_spec.specs.Lookup.{is_granule, realm_at, rec_at}
+use Rattle.realm_desc.specs.Updates.{IsRecUpdate}
 use Rattle.flat_tables.specs.Flat.{table_of, leaf_of}
 use Rattle.spec_machine.specs.declared.store.Store.{Store}
 
@@ -28,3 +32,14 @@ abbrev pub CanWrite : State → ℕ → ℕ → EntryChange → Type 0
 CanWrite s rd level (Replaced number entry) = IsSome (s.table rd level (number / 512))
 CanWrite s rd level (RipasSet first last ripas) =
     (first ≤ last) × (last ≤ (first / 512 + 1) * 512) × IsSome (s.table rd level (first / 512))
+
+-- a record is there, and can take the update
+pub record IsRealmThere (s : State) (change : RealmChange) : Type 0 where
+  pub granule : IsTrue (is_granule s.granules change.rd)
+  pub there : s.realm change.rd ≡ Some (realm_at s change.rd)
+  pub update : IsRealmUpdate change.update
+
+pub record IsRecThere (s : State) (change : RecChange) : Type 0 where
+  pub granule : IsTrue (is_granule s.granules change.rec)
+  pub there : s.rec change.rec ≡ Some (rec_at s change.rec)
+  pub update : IsRecUpdate (rec_at s change.rec) change.update

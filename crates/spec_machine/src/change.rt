@@ -8,14 +8,13 @@ impl Machine {
     ghost use Rattle.std.specs.Prelude.{◌≡◌, IsTrue, OnOk, OnErr};
     ghost use Rattle.rmm_spec.specs.Change.{changed};
     ghost use Rattle.rmm_spec.specs.Applicable.{CanApply};
-    ghost use Rattle.spec_machine.specs.Served.{is_made, takes_memory};
+    ghost use Rattle.spec_machine.specs.Memory.{takes_memory};
     ghost use Rattle.spec_machine.specs.View.{state_of};
 
-    /// Makes the change, which is of a kind that a served command makes. Refused memory, it leaves the state as it was.
+    /// Makes the change. Refused memory, it leaves the state as it was.
     #[tactic(auto, unfolding(rmm_spec::specs::Change::changed))]
     pub(crate) fn apply(&mut self, change: &Change) -> Result<(), AllocError>
-        requires made { IsTrue (is_made change.now) }
-        requires can { CanApply (state_of self.old) change.now }
+        requires { CanApply (state_of self.old) change.now }
         ensures ok { OnOk result (state_of self.new ≡ changed (state_of self.old) change.now) }
         ensures err { OnErr result (state_of self.new ≡ state_of self.old) }
         ensures only { OnErr result (IsTrue (takes_memory change.now)) }
@@ -41,7 +40,7 @@ impl Machine {
                 aux1,
             } => self.make_rec(rd, rec, mpidr, flags, aux0, aux1),
             Change::RecDestroyed { rec, aux0, aux1 } => self.destroy_rec(rec, aux0, aux1),
-            Change::RecordsChanged { realm, rec: None } => self.change_realm(realm),
+            Change::RecordsChanged { realm, rec } => self.change_records(realm, rec),
             Change::TableMade {
                 rd,
                 level,
@@ -62,9 +61,8 @@ impl Machine {
                 entries,
                 page,
                 realm,
-                rec: None,
-            } => self.change_entries(rd, level, entries, page, realm),
-            _ => unreachable!(),
+                rec,
+            } => self.change_entries(rd, level, entries, page, realm, rec),
         }
         Ok(())
     }

@@ -8,16 +8,16 @@ use crate::machine::Machine;
 use crate::store::place;
 use granule_state::Pa;
 use realm_desc::{HashAlgorithm, Realm, Rec, Space};
-use rmm_spec::{RealmChange, Tag};
+use rmm_spec::{RealmChange, RecChange, Tag};
 use std::alloc::AllocError;
 
 #[tactic(auto, using(crate::proofs::Places::granule_tagged), unfolding(crate::specs::View::state_of, rmm_spec::specs::Change::changed))]
 impl Machine {
-    ghost use Rattle.std.specs.Prelude.{◌≡◌, IsTrue, Some, None, OnOk, OnErr};
+    ghost use Rattle.std.specs.Prelude.{◌≡◌, OnOk, OnErr};
     ghost use Rattle.rmm_spec.specs.declared.change.Change.TheVariants as change;
     ghost use Rattle.rmm_spec.specs.Change.{changed};
-    ghost use Rattle.rmm_spec.specs.Applicable.{CanRetag, CanMakeRealm, CanDestroyRealm, CanMakeRec, CanDestroyRec, CanChangeRealm};
-    ghost use Rattle.spec_machine.specs.Served.{builds};
+    ghost use Rattle.rmm_spec.specs.Applicable.{CanRetag, CanMakeRealm, CanDestroyRealm, CanMakeRec, CanDestroyRec, CanApply};
+    ghost use Rattle.spec_machine.specs.Running.{cpu_before};
     ghost use Rattle.spec_machine.specs.View.{state_of};
 
     pub(crate) fn retag(&mut self, granule: u64, tag: Tag)
@@ -64,12 +64,13 @@ impl Machine {
         self.owners.take(root);
     }
 
-    pub(crate) fn change_realm(&mut self, realm: Option<RealmChange>)
-        requires made { IsTrue (builds realm) }
-        requires can { CanChangeRealm (state_of self.old) realm }
-        ensures { state_of self.new ≡ changed (state_of self.old) (change.RecordsChanged realm None) }
+    pub(crate) fn change_records(&mut self, realm: Option<RealmChange>, rec: Option<RecChange>)
+        requires { CanApply (state_of self.old) (change.RecordsChanged realm rec) }
+        ensures { state_of self.new ≡ changed (state_of self.old) (change.RecordsChanged realm rec) }
     {
-        self.store.change_realm(realm);
+        let before = self.cpu_before(rec);
+        self.store.change_records(None, realm, rec);
+        self.running.change(before, rec);
     }
 
     pub(crate) fn make_rec(

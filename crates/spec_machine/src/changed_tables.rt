@@ -1,16 +1,15 @@
 //! Tables and their entries as a change leaves them.
 
 use crate::machine::Machine;
-use rmm_spec::{Entry, EntryChange, RealmChange, Tag, TagChange};
+use rmm_spec::{Entry, EntryChange, RealmChange, RecChange, Tag, TagChange};
 use std::alloc::AllocError;
 
 #[tactic(auto, using(crate::proofs::Places::granule_tagged), unfolding(crate::specs::View::state_of, rmm_spec::specs::Change::changed))]
 impl Machine {
-    ghost use Rattle.std.specs.Prelude.{◌≡◌, IsTrue, None, OnOk, OnErr};
+    ghost use Rattle.std.specs.Prelude.{◌≡◌, OnOk, OnErr};
     ghost use Rattle.rmm_spec.specs.declared.change.Change.TheVariants as change;
     ghost use Rattle.rmm_spec.specs.Change.{changed};
     ghost use Rattle.rmm_spec.specs.Applicable.{CanMakeTable, CanDestroyTable, CanApply};
-    ghost use Rattle.spec_machine.specs.Served.{builds};
     ghost use Rattle.spec_machine.specs.View.{state_of};
 
     pub(crate) fn make_table(
@@ -47,14 +46,15 @@ impl Machine {
         entries: EntryChange,
         page: Option<TagChange>,
         realm: Option<RealmChange>,
+        rec: Option<RecChange>,
     )
-        requires made { IsTrue (builds realm) }
-        requires can { CanApply (state_of self.old) (change.EntriesChanged rd level entries page realm None) }
-        ensures { state_of self.new ≡ changed (state_of self.old) (change.EntriesChanged rd level entries page realm None) }
+        requires { CanApply (state_of self.old) (change.EntriesChanged rd level entries page realm rec) }
+        ensures { state_of self.new ≡ changed (state_of self.old) (change.EntriesChanged rd level entries page realm rec) }
     {
-        self.store.change_tag(page);
-        self.store.change_realm(realm);
+        let before = self.cpu_before(rec);
+        self.store.change_records(page, realm, rec);
         self.store.change_entries(rd, level, entries);
         self.owners.change_page(rd, page);
+        self.running.change(before, rec);
     }
 }

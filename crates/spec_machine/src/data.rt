@@ -4,11 +4,12 @@ ghost use Rattle.std.specs.Prelude.{◌≡◌};
 ghost use Rattle.rmm_spec.specs.Step.Data as spec;
 
 use crate::machine::Machine;
-use crate::reply::{done, done_with, input_error, realm_error, table_error};
+use crate::reply::{done, done_with, table_error};
 use flat_tables::{
     entry_address, entry_number, entry_ripas, is_assigned, is_unassigned, is_unassigned_ram,
 };
 use granule_state::GRANULE_BYTES;
+use rec_steps::{input_error, realm_error};
 use rmm_spec::{
     Accepted, Change, Entry, EntryChange, RealmChange, RealmUpdate, Reply, Ripas, Tag, TagChange,
 };

@@ -1,7 +1,8 @@
 //! The commands that lend a granule to the realm world and take it back.
 
 use crate::machine::Machine;
-use crate::reply::{done, input_error};
+use crate::reply::done;
+use rec_steps::input_error;
 use rmm_spec::{Accepted, Change, Reply, Tag, TagChange};
 
 impl Machine {

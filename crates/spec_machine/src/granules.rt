@@ -1,22 +1,28 @@
 //! What a machine keeps of its granules, as rows read it.
 
+ghost use Rattle.std.specs.Prelude.{◌≡◌};
+
 use crate::machine::Machine;
 use crate::store::place;
+use granule_state::Pa;
 use realm_desc::{Realm, Rec};
-use rmm_spec::{Stretch, Tag, Walked};
+use rmm_spec::{RecChange, Stretch, Tag, Walked};
 
 impl Machine {
-    ghost use Rattle.std.specs.Prelude.{◌≡◌, ◌^◌, ◌<◌, ◌≤◌, is_some, IsTrue};
-    ghost use Rattle.rmm_spec.specs.Lookup.{has_tag, has_rec, is_inside, is_vmid_used, realm_at, rec_at};
+    ghost use Rattle.std.specs.Prelude.{◌≡◌, ◌^◌, ◌<◌, ◌≤◌, is_some, IfSome, IsTrue};
+    ghost use Rattle.rmm_spec.specs.Lookup.{has_tag, has_rec, is_inside, rec_inside, is_vmid_used, realm_at, rec_at};
     ghost use Rattle.rmm_spec.specs.Step.Ripas.{is_reached};
     ghost use Rattle.rmm_spec.specs.Walk.{walk, is_in_use, has_link};
+    ghost use Rattle.rmm_spec.specs.Applicable.{CanChangeRec};
+    ghost use Rattle.spec_machine.specs.Running.{cpu_before};
     ghost use Rattle.spec_machine.specs.View.{state_of};
 
-    /// Whether a REC runs on the CPU. No command that is served makes one run.
-    pub(crate) fn is_inside(&self, _cpu: u8) -> bool
-        ensures { result ≡ is_inside (state_of self.now) _cpu }
+    /// The REC that the CPU is inside, where it is inside one.
+    pub(crate) fn rec_inside(&self, cpu: u8) -> Option<Pa>
+        ensures is { is_some result ≡ is_inside (state_of self.now) cpu }
+        ensures at { IfSome result (λ rec. rec ≡ rec_inside (state_of self.now) cpu) }
     {
-        false
+        self.running.on(cpu)
     }
 
     /// Whether the address is that of a granule with the tag.
@@ -70,13 +76,24 @@ impl Machine {
     }
 
     /// The realm of the REC, by the address of its descriptor.
-    #[tactic(auto, unfolding(realm_desc::specs::View::rec_record))]
     pub(crate) fn owner_of(&self, address: u64) -> u64
         requires { IsTrue (has_tag (state_of self.now) address Tag.Rec) }
         ensures { result ≡ (rec_at (state_of self.now) address).owner }
     {
-        let rec = self.rec_at(address);
-        rec.owner.address()
+        owner(&self.rec_at(address))
+    }
+
+    /// The CPU that a REC runs on before it is changed, where one is changed.
+    #[tactic(auto, unfolding(realm_desc::specs::View::rec_record))]
+    pub(crate) fn cpu_before(&self, change: Option<RecChange>) -> Option<u8>
+        requires { CanChangeRec (state_of self.now) change }
+        ensures { result ≡ cpu_before (state_of self.now) change }
+    {
+        let Some(RecChange { rec, .. }) = change else {
+            return None;
+        };
+        let rec = self.rec_at(rec);
+        rec.cpu
     }
 
     /// Whether a realm has the VMID.
@@ -129,4 +146,12 @@ impl Machine {
     {
         self.store.has_link(rd, level, 0)
     }
+}
+
+/// The realm that a REC belongs to, by the address of its descriptor.
+#[tactic(auto, unfolding(realm_desc::specs::View::rec_record))]
+pub(crate) fn owner(rec: &Rec) -> u64
+    ensures { result ≡ rec.now.owner }
+{
+    rec.owner.address()
 }

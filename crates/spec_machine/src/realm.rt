@@ -1,8 +1,9 @@
 //! The commands that make a realm, let it run and take it apart.
 
 use crate::machine::Machine;
-use crate::reply::{done, input_error, realm_error};
+use crate::reply::done;
 use realm_desc::{HashAlgorithm, Space};
+use rec_steps::{input_error, realm_error};
 use rmm_spec::{Accepted, Change, RealmChange, RealmUpdate, Reply, Tag};
 
 impl Machine {

@@ -1,12 +1,15 @@
-//! The commands that make a REC and take it apart.
+//! The commands that make a REC, enter it and take it apart.
 
+use crate::granules::owner;
+use crate::inside::accepted_at;
 use crate::machine::Machine;
-use crate::reply::{done, input_error, realm_error, rec_error};
+use crate::reply::done;
+use rec_steps::{answer_to_enter, input_error, realm_error, rec_error};
 use rmm_spec::{Accepted, Change, Reply, Tag};
 
 impl Machine {
     ghost use Rattle.std.specs.Prelude.{◌≡◌};
-    ghost use Rattle.rmm_spec.specs.Step.Rec.{rec_create, rec_destroy};
+    ghost use Rattle.rmm_spec.specs.Step.Rec.{rec_create, rec_destroy, rec_enter};
     ghost use Rattle.spec_machine.specs.View.{state_of};
 
     #[tactic(auto, unfolding(rmm_spec::specs::Step::Rec::rec_create, rmm_spec::specs::Step::Words::words_of, rmm_spec::specs::Step::Named::named, rmm_spec::specs::Lookup::realm_at))]
@@ -70,5 +73,18 @@ impl Machine {
             aux0: rec.aux0.address(),
             aux1: rec.aux1.address(),
         }))
+    }
+
+    #[tactic(auto, unfolding(rmm_spec::specs::Step::Rec::rec_enter, rmm_spec::specs::Step::Words::words_of, rmm_spec::specs::Step::Named::named))]
+    pub(crate) fn rec_enter(&self, cpu: u8, address: u64) -> Result<Accepted, Reply>
+        ensures { result ≡ rec_enter (state_of self.now) cpu address }
+    {
+        let Some(rec) = self.rec(address) else {
+            return Err(input_error());
+        };
+        let rd = owner(&rec);
+        let realm = self.realm_at(rd);
+        let answer = answer_to_enter(&realm, &rec, cpu);
+        accepted_at(rd, address, answer)
     }
 }

@@ -1,25 +1,25 @@
-//! The command that tells a realm what is memory before it runs.
+//! The commands that set the RIPAS of a stretch: before the realm runs, or as one of its RECs asked.
 
 ghost use Rattle.std.specs.Prelude.{◌≡◌, ◌<◌, ◌≤◌};
 ghost use Rattle.rmm_spec.specs.Step.Ripas as spec;
 
 use crate::machine::Machine;
-use crate::reply::{input_error, only_word, realm_error, table_error};
+use crate::reply::{only_word, table_error};
 use flat_tables::{entry_number, entry_size, is_unassigned};
 use granule_state::GRANULE_BYTES;
+use rec_steps::{input_error, realm_error, rec_error};
 use rmm_spec::{
     Accepted, Change, EntryChange, RealmChange, RealmUpdate, RecChange, RecUpdate, Reply, Ripas,
-    Stretch, StretchUse,
+    Stretch, StretchUse, Tag,
 };
 
 impl Machine {
     ghost use Rattle.std.specs.Prelude.{◌≡◌, ◌≤◌, ℕ, IsTrue, false, Ok};
     ghost use Rattle.rmm_spec.specs.declared.accepted.Accepted.TheVariants.{Reaches};
-    ghost use Rattle.rmm_spec.specs.declared.accepted.StretchUse.TheVariants.{Init};
     ghost use Rattle.rmm_spec.specs.Applicable.{CanApply};
     ghost use Rattle.rmm_spec.specs.State.{State};
     ghost use Rattle.rmm_spec.specs.Step.{CarriesOut};
-    ghost use Rattle.rmm_spec.specs.Step.Ripas.{rtt_init_ripas, IsReached, reached_change};
+    ghost use Rattle.rmm_spec.specs.Step.Ripas.{rtt_init_ripas, rtt_set_ripas, IsReached, reached_change};
     ghost use Rattle.spec_machine.specs.View.{state_of};
 
     #[tactic(auto, unfolding(rmm_spec::specs::Step::Ripas::rtt_init_ripas, rmm_spec::specs::Step::Words::words_of, rmm_spec::specs::Step::Named::named, rmm_spec::specs::Lookup::realm_at))]
@@ -55,10 +55,56 @@ impl Machine {
         }))
     }
 
+    #[tactic(auto, unfolding(rmm_spec::specs::Step::Ripas::rtt_set_ripas, rmm_spec::specs::Step::Words::words_of, rmm_spec::specs::Step::Named::named, rmm_spec::specs::Lookup::rec_at, realm_desc::specs::View::rec_record))]
+    pub(crate) fn rtt_set_ripas(
+        &self,
+        rd: u64,
+        address: u64,
+        base: u64,
+        top: u64,
+    ) -> Result<Accepted, Reply>
+        ensures { result ≡ rtt_set_ripas (state_of self.now) rd address base top }
+    {
+        if !self.has_tag(rd, Tag::Rd) {
+            return Err(input_error());
+        }
+        let Some(rec) = self.rec(address) else {
+            return Err(input_error());
+        };
+        if rec.owner.address() != rd {
+            return Err(rec_error());
+        }
+        if !rec.is_ready() {
+            return Err(rec_error());
+        }
+        let Some(request) = rec.request else {
+            return Err(input_error());
+        };
+        if base != request.base {
+            return Err(input_error());
+        }
+        if !(top <= request.top && base < top && top % GRANULE_BYTES == 0) {
+            return Err(input_error());
+        }
+        let level = self.walk(rd, base, 3).level;
+        if !has_room(base, top, level) {
+            return Err(table_error(level));
+        }
+        Ok(Accepted::Reaches(Stretch {
+            rd,
+            base,
+            top,
+            level,
+            purpose: StretchUse::Requested {
+                rec: address,
+                ripas: request.ripas,
+            },
+        }))
+    }
+
     /// Sets the stretch up to the end that the reply tells, where that is allowed. Else it changes nothing.
     pub(crate) fn reach(&mut self, stretch: &Stretch, reply: &Reply) -> bool
         requires level { stretch.now.level ≤ 3 }
-        requires init { stretch.now.purpose ≡ Init }
         requires can { (top : ℕ) → IsReached (state_of self.old) stretch.now top
             → CanApply (state_of self.old) (reached_change stretch.now top) }
         ensures step { IsTrue result → CarriesOut (Ok (Reaches stretch.now)) (state_of self.old) reply.now (state_of self.new) }

@@ -1,22 +1,34 @@
 //! Parts of a change, as a store makes them.
 
-ghost use Rattle.std.specs.Prelude.{◌≡◌, IsTrue};
-ghost use Rattle.rmm_spec.specs.Change.{realm_updated};
-ghost use Rattle.spec_machine.specs.Served.{is_building};
-
 use crate::store::Store;
-use realm_desc::Realm;
-use rmm_spec::{EntryChange, RealmChange, RealmUpdate, TagChange};
+use rmm_spec::{EntryChange, RealmChange, RecChange, TagChange};
 
 impl Store {
-    ghost use Rattle.std.specs.Prelude.{◌≡◌, IsTrue, IfSome, Some};
-    ghost use Rattle.rmm_spec.specs.Change.{with_tag_change, with_realm_change, with_entry_change};
-    ghost use Rattle.rmm_spec.specs.Lookup.{is_granule, realm_at};
-    ghost use Rattle.spec_machine.specs.Served.{builds};
-    ghost use Rattle.spec_machine.specs.Stored.{stored, CanWrite};
+    ghost use Rattle.std.specs.Prelude.{◌≡◌, IsTrue, IfSome};
+    ghost use Rattle.rmm_spec.specs.Change.{with_tag_change, with_realm_change, with_rec_change, with_entry_change};
+    ghost use Rattle.rmm_spec.specs.Lookup.{is_granule};
+    ghost use Rattle.spec_machine.specs.Stored.{stored, CanWrite, IsRealmThere, IsRecThere};
 
-    /// Gives a page its tag, where one goes with the change.
-    pub(crate) fn change_tag(&mut self, page: Option<TagChange>)
+    /// Changes a page's tag and the records of a realm and of a REC, each where it goes with the change.
+    pub(crate) fn change_records(
+        &mut self,
+        page: Option<TagChange>,
+        realm: Option<RealmChange>,
+        rec: Option<RecChange>,
+    )
+        requires page { IfSome page (λ change. IsTrue (is_granule self.old.config.granules change.granule)) }
+        requires realm { IfSome realm (IsRealmThere (stored self.old)) }
+        requires rec { IfSome rec (IsRecThere (stored self.old)) }
+        ensures size { self.new.config ≡ self.old.config }
+        ensures state { stored self.new ≡ with_rec_change (with_realm_change (with_tag_change (stored self.old) page) realm) rec }
+    {
+        self.change_tag(page);
+        self.change_realm(realm);
+        self.change_rec(rec);
+    }
+
+    // Gives a page its tag, where one goes with the change.
+    fn change_tag(&mut self, page: Option<TagChange>)
         requires { IfSome page (λ change. IsTrue (is_granule self.old.config.granules change.granule)) }
         ensures size { self.new.config ≡ self.old.config }
         ensures state { stored self.new ≡ with_tag_change (stored self.old) page }
@@ -26,19 +38,33 @@ impl Store {
         }
     }
 
-    /// Updates a realm's record, where one goes with the change.
-    pub(crate) fn change_realm(&mut self, change: Option<RealmChange>)
-        requires made { IsTrue (builds change) }
-        requires granule { IfSome change (λ c. IsTrue (is_granule self.old.config.granules c.rd)) }
-        requires there { IfSome change (λ c. (stored self.old).realm c.rd ≡ Some (realm_at (stored self.old) c.rd)) }
+    // Updates a realm's record, where one goes with the change.
+    fn change_realm(&mut self, change: Option<RealmChange>)
+        requires { IfSome change (IsRealmThere (stored self.old)) }
         ensures size { self.new.config ≡ self.old.config }
         ensures state { stored self.new ≡ with_realm_change (stored self.old) change }
     {
         if let Some(RealmChange { rd, update }) = change {
-            let Some(realm) = self.realm(rd) else {
+            let Some(mut realm) = self.realm(rd) else {
                 unreachable!()
             };
-            self.put_realm(rd, updated(realm, update));
+            realm.update(update);
+            self.put_realm(rd, realm);
+        }
+    }
+
+    // Updates a REC's record, where one goes with the change.
+    fn change_rec(&mut self, change: Option<RecChange>)
+        requires { IfSome change (IsRecThere (stored self.old)) }
+        ensures size { self.new.config ≡ self.old.config }
+        ensures state { stored self.new ≡ with_rec_change (stored self.old) change }
+    {
+        if let Some(RecChange { rec, update }) = change {
+            let Some(mut record) = self.rec(rec) else {
+                unreachable!()
+            };
+            record.update(update);
+            self.put_rec(rec, record);
         }
     }
 
@@ -54,19 +80,4 @@ impl Store {
             ),
         }
     }
-}
-
-// What becomes of the realm's record.
-fn updated(realm: Realm, update: RealmUpdate) -> Realm
-    requires { IsTrue (is_building update) }
-    ensures { result ≡ realm_updated update realm }
-{
-    let mut realm = realm;
-    match update {
-        RealmUpdate::Activated => realm.activate(),
-        RealmUpdate::PageMeasured { ipa, flags, digest } => realm.measure_page(ipa, flags, &digest),
-        RealmUpdate::StretchMeasured { base, top } => realm.measure_stretch(base, top),
-        _ => unreachable!(),
-    }
-    realm
 }

@@ -4,11 +4,12 @@ ghost use Rattle.std.specs.Prelude.{◌≡◌};
 ghost use Rattle.rmm_spec.specs.Step.Table as spec;
 
 use crate::machine::Machine;
-use crate::reply::{done, done_with, input_error, table_error, told};
+use crate::reply::{done, done_with, table_error, told};
 use flat_tables::{
     entry_address, entry_ripas, entry_size, entry_state, is_table, ripas_number, table_number,
 };
 use realm_desc::Realm;
+use rec_steps::input_error;
 use rmm_spec::{Accepted, Change, Entry, Reply, Ripas, Tag};
 
 impl Machine {

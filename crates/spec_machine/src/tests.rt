@@ -183,12 +183,12 @@ fn a_realm_has_eight_indexes(rt: HostRuntime) -> Result<(), Fail> {
 #[test]
 fn what_is_answered(rt: HostRuntime) -> Result<(), Fail> {
     let machine = small_machine(rt.alloc())?;
-    let inside = machine.outcome(0, &command(FunctionId::GranuleDelegate, 0x1000));
-    assert!(rt; matches!(&inside, Some(Ok(_))));
-    let outside = machine.outcome(0, &command(FunctionId::GranuleDelegate, 0x4000));
-    assert!(rt; matches!(&outside, Some(Err(Reply::Err(1, 0)))));
-    let unserved = machine.outcome(0, &command(FunctionId::RecEnter, 0x1000));
-    assert!(rt; unserved.is_none());
+    let within = machine.outcome(0, &command(FunctionId::GranuleDelegate, 0x1000));
+    assert!(rt; within.is_ok());
+    let past = machine.outcome(0, &command(FunctionId::GranuleDelegate, 0x4000));
+    assert!(rt; matches!(&past, Err(Reply::Err(1, 0))));
+    let outside = machine.outcome(0, &command(FunctionId::Exit, 0));
+    assert!(rt; matches!(&outside, Err(Reply::Misplaced)));
     Ok(())
 }
 

@@ -7,10 +7,11 @@ ghost use Rattle.rmm_spec.specs.Walk.{entry_number};
 ghost use Rattle.rmm_spec.specs.Step.Unprotected as spec;
 
 use crate::machine::Machine;
-use crate::reply::{done, input_error, table_error};
+use crate::reply::{done, table_error};
 use flat_tables::{entry_number, is_assigned_ns, is_unassigned_ns};
 use granule_state::GRANULE_BYTES;
 use realm_desc::Realm;
+use rec_steps::input_error;
 use rmm_spec::{Accepted, Change, Entry, EntryChange, Reply};
 
 /// Where the host's memory ends: its addresses have 48 bits.

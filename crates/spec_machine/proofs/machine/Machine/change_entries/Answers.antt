@@ -1,45 +1,50 @@
+use Rattle.std.proofs.Common.{◌≡◌, length, arith}
 use Rattle.rmm_spec.specs.declared.change.Change.TheVariants.{EntriesChanged}
-use Rattle.rmm_spec.specs.Change.{changed}
-use Rattle.std.specs.Prelude.{None}
+use Rattle.rmm_spec.specs.Change.{changed, with_tag_change, with_realm_change, with_rec_change}
 use Rattle.spec_machine.specs.Stored.{stored}
 use Rattle.spec_machine.specs.View.{state_of}
 use Rattle.rmm_sound.proofs.Changes.{changed_sound}
-use Rattle.spec_machine.proofs.Changes.{kept_like}
-use Rattle.spec_machine.proofs.Entries.{page-granule, change-granule, there-after_tag, writable, entries-indexes}
+use Rattle.spec_machine.proofs.Changes.{kept_like, records-indexes}
+use Rattle.spec_machine.proofs.Entries.{page-granule, realm-there, rec-there, records-changed, entries-records, writable}
 use Rattle.spec_machine.proofs.Ownership.{entries_changed-owners}
+use Rattle.spec_machine.proofs.RunningRecs.{rec_change-running}
 use Rattle.spec_machine.proofs.machine.Machine.change_entries.Goals as goal
 
-pub change_tag-requires : goal.change_tag-requires
+pub change_records-requires-clause-page : goal.change_records-requires-clause-page
 unfolding state_of
-change_tag-requires c =
+change_records-requires-clause-page c =
     let a = c.args in
-    page-granule a.self.now.store a.rd a.level a.entries a.page a.self.now.kept.sound c.requires.can.1
+    page-granule a.self.now.store a.rd a.level a.entries a.page a.self.now.kept.sound c.requires.1
 
-pub change_realm-requires-clause-granule : goal.change_realm-requires-clause-granule
+pub change_records-requires-clause-realm : goal.change_records-requires-clause-realm
 unfolding state_of
-change_realm-requires-clause-granule c = rw c.change_tag.ensures.size (change-granule c.args.self.now.store c.args.realm c.requires.can.2)
+change_records-requires-clause-realm c = realm-there (stored c.args.self.now.store) c.args.realm c.args.self.now.kept.sound c.requires.2
 
-pub change_realm-requires-clause-there : goal.change_realm-requires-clause-there
+pub change_records-requires-clause-rec : goal.change_records-requires-clause-rec
 unfolding state_of
-change_realm-requires-clause-there c =
-    rw c.change_tag.ensures.state (there-after_tag (stored c.args.self.now.store) c.args.page c.args.realm c.args.self.now.kept.sound c.requires.can.2)
+change_records-requires-clause-rec c = rec-there (stored c.args.self.now.store) c.args.rec c.args.self.now.kept.sound c.requires.3
 
 pub change_entries-requires : goal.change_entries-requires
 unfolding state_of
 change_entries-requires c =
     let a = c.args in
-    rw (c.change_realm.ensures.state, c.change_tag.ensures.state) (writable (stored a.self.now.store) a.rd a.level a.entries a.page a.realm c.requires.can.1)
+    let s = stored a.self.now.store in
+    rw c.change_records.ensures.state (writable s (with_rec_change (with_realm_change (with_tag_change s a.page) a.realm) a.rec) a.rd a.level a.entries a.page c.requires.1 (records-changed s a.page a.realm a.rec).1)
 
 pub invariant_of-self : goal.invariant_of-self
 unfolding state_of changed
 invariant_of-self c =
     let a = c.args in
     let m = a.self.now in
-    rw (c.change_entries.ensures, c.change_realm.ensures.state, c.change_tag.ensures.state, c.change_page.ensures)
+    let s = stored m.store in
+    let change = EntriesChanged a.rd a.level a.entries a.page a.realm a.rec in
+    let has = entries-records s _ a.rd a.level a.entries a.realm a.rec (records-changed s a.page a.realm a.rec).0 in
+    let places : length m.running.recs.items ≡ 256 = omega (arith, m.running.places, m.running.recs.ok.0) in
+    let same = records-indexes s (changed s change) a.realm a.rec m.kept.sound c.requires.2 c.requires.3 has in
+    rw (c.change_entries.ensures, c.change_records.ensures.state, c.change_page.ensures, c.change.ensures.recs, c.cpu_before-before.ensures)
     (record {
-      kept = kept_like (stored m.store) _ m.vmids.items m.rec_counts.items m.kept
-          (changed_sound (stored m.store) (EntriesChanged a.rd a.level a.entries a.page a.realm None) m.kept.sound c.requires.can)
-          (entries-indexes (stored m.store) a.rd a.level a.entries a.page a.realm m.kept.sound c.requires.can.2);
-      owned = entries_changed-owners (stored m.store) a.rd a.level a.entries a.page a.realm m.owners.realms.items m.kept.sound c.requires.can
-          (entries-indexes (stored m.store) a.rd a.level a.entries a.page a.realm m.kept.sound c.requires.can.2).granules m.owned;
+      kept = kept_like s (changed s change) m.vmids.items m.rec_counts.items m.kept
+          (changed_sound s change m.kept.sound c.requires) same;
+      inside = rec_change-running s (changed s change) a.rec m.running.recs.items m.kept.sound m.inside places c.requires.3 c.change.ensures.placed has.recs;
+      owned = entries_changed-owners s a.rd a.level a.entries a.page a.realm a.rec m.owners.realms.items m.kept.sound c.requires same.granules m.owned;
     })

@@ -32,7 +32,8 @@ invariant_of-self c =
     let m = a.self.now in
     rw (c.take_realm.ensures.state, c.set_tag-2.ensures.state, c.set_tag.ensures.state, c.from.ensures, c.take-2.ensures, c.take.ensures)
     (record {
-      kept = realm_destroyed-kept (stored m.store) m.vmids.items m.rec_counts.items a.rd a.root c.vmid_of.result m.kept (omega arith)
+      kept = realm_destroyed-kept (stored m.store) m.vmids.items m.rec_counts.items a.rd a.root c.vmid_of.result m.kept
           (c.vmid_of.ensures ∙ ap (λ (r : RealmRecord). r.vmid) c.realm_at-realm.ensures) c.requires;
+      inside = m.inside;
       owned = realm_destroyed-owners (stored m.store) a.rd a.root m.owners.realms.items m.kept.sound c.requires m.owned;
     })

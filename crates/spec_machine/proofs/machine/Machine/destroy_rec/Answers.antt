@@ -6,7 +6,7 @@ use Rattle.spec_machine.specs.View.{state_of}
 use Rattle.rmm_spec.proofs.TagLaws.{granule_from_tag}
 use Rattle.spec_machine.proofs.Places.{granule_tagged, place_within}
 use Rattle.spec_machine.proofs.RecCounts.{count-positive}
-use Rattle.spec_machine.proofs.Changes.{rec_destroyed-kept, count-read}
+use Rattle.spec_machine.proofs.Changes.{rec_destroyed-kept, rec_destroyed-running, count-read}
 use Rattle.spec_machine.proofs.Entries.{aux0_tagged, aux1_tagged, owner_tagged}
 use Rattle.rmm_sound.proofs.Searches.{rec_there}
 use Rattle.spec_machine.proofs.Ownership.{rec_destroyed-owners}
@@ -64,5 +64,6 @@ invariant_of-self c =
     )
     (record {
       kept = rec_destroyed-kept (stored m.store) m.vmids.items m.rec_counts.items a.rec a.aux0 a.aux1 c.owner_of-owner.result m.kept c.owner_of-owner.ensures c.requires;
+      inside = rec_destroyed-running (stored m.store) m.running.recs.items a.rec a.aux0 a.aux1 m.kept.sound m.inside c.requires;
       owned = rec_destroyed-owners (stored m.store) a.rec a.aux0 a.aux1 m.owners.realms.items m.kept.sound c.requires m.owned;
     })

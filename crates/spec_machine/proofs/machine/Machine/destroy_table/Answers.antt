@@ -33,6 +33,7 @@ invariant_of-self c =
     (record {
       kept = kept_like (stored m.store) _ m.vmids.items m.rec_counts.items m.kept
           (changed_sound (stored m.store) (TableDestroyed a.rd a.level a.number a.rtt a.entry) m.kept.sound c.requires)
-          (record { granules = refl; rec = refl; vmids = λ vmid g. refl });
+          (record { granules = refl; owned = λ rd g. refl; vmids = λ vmid g. refl });
+      inside = m.inside;
       owned = changed_owners (stored m.store) (TableDestroyed a.rd a.level a.number a.rtt a.entry) m.owners.realms.items m.kept.sound c.requires refl m.owned;
     })

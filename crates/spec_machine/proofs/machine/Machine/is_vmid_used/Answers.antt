@@ -2,7 +2,7 @@ use Rattle.std.proofs.Common.{◌≡◌, None, is_some, sym, ◌∙◌, ap, arit
 use Rattle.std.proofs.lemmas.List.{get_or_default}
 use Rattle.spec_machine.specs.Stored.{stored}
 use Rattle.spec_machine.specs.View.{state_of}
-use Rattle.spec_machine.proofs.Vmids.{is_vmid_used-kept}
+use Rattle.spec_machine.proofs.Lookups.{is_vmid_used-kept}
 use Rattle.spec_machine.proofs.machine.Machine.is_vmid_used.Goals as goal
 
 pub returns : goal.returns

@@ -15,5 +15,6 @@ invariant_of-self-2 c =
     rw (c.put_realm.ensures.state, c.set_tag-2.ensures.state, c.set_tag.ensures.state, c.in_ok-put_root.ensures.ok, c.new_realm-realm.ensures, c.from.ensures, c.new.ensures, c.give-2.ensures, c.give.ensures)
     (record {
       kept = realm_made-kept (stored m.store) m.vmids.items m.rec_counts.items a.rd a.root a.width a.level a.vmid a.algo m.kept (omega arith) c.requires;
+      inside = m.inside;
       owned = changed_owners (stored m.store) (RealmMade a.rd a.root a.width a.level a.vmid a.algo) m.owners.realms.items m.kept.sound c.requires refl m.owned;
     })

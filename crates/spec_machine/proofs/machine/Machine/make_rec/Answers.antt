@@ -7,7 +7,7 @@ use Rattle.spec_machine.specs.View.{state_of}
 use Rattle.rmm_spec.proofs.TagLaws.{granule_from_tag}
 use Rattle.spec_machine.proofs.Places.{granule_tagged, place_within}
 use Rattle.spec_machine.proofs.RecCounts.{count-le}
-use Rattle.spec_machine.proofs.Changes.{rec_made-kept, count-read}
+use Rattle.spec_machine.proofs.Changes.{rec_made-kept, rec_made-running, count-read}
 use Rattle.spec_machine.proofs.Ownership.{changed_owners}
 use Rattle.spec_machine.proofs.machine.Machine.make_rec.Goals as goal
 
@@ -52,5 +52,6 @@ invariant_of-self c =
     )
     (record {
       kept = rec_made-kept (stored m.store) m.vmids.items m.rec_counts.items a.rd a.rec a.mpidr a.flags a.aux0 a.aux1 m.kept c.requires;
+      inside = rec_made-running (stored m.store) m.running.recs.items a.rd a.rec a.mpidr a.flags a.aux0 a.aux1 m.kept.sound m.inside c.requires;
       owned = changed_owners (stored m.store) (RecMade a.rd a.rec a.mpidr a.flags a.aux0 a.aux1) m.owners.realms.items m.kept.sound c.requires refl m.owned;
     })

@@ -17,6 +17,7 @@ invariant_of-self-2 c =
     (record {
       kept = kept_like (stored m.store) _ m.vmids.items m.rec_counts.items m.kept
           (changed_sound (stored m.store) (TableMade a.rd a.level a.number a.rtt a.entry) m.kept.sound c.requires)
-          (record { granules = refl; rec = refl; vmids = λ vmid g. refl });
+          (record { granules = refl; owned = λ rd g. refl; vmids = λ vmid g. refl });
+      inside = m.inside;
       owned = changed_owners (stored m.store) (TableMade a.rd a.level a.number a.rtt a.entry) m.owners.realms.items m.kept.sound c.requires refl m.owned;
     })

@@ -1,5 +1,5 @@
 use Rattle.std.proofs.Common.{◌≡◌, None, rules, replicate}
-use Rattle.spec_machine.proofs.Changes.{kept-opening}
+use Rattle.spec_machine.proofs.Changes.{kept-opening, running-opening}
 use Rattle.spec_machine.proofs.Ownership.{owners-opening}
 use Rattle.spec_machine.proofs.machine.Machine.new.Goals as goal
 
@@ -13,3 +13,6 @@ invariant_of-result-clause-kept c =
 pub invariant_of-result-clause-owned : goal.invariant_of-result-clause-owned
 invariant_of-result-clause-owned c = rw (c.in_ok-owners.ensures, c.in_ok-store.ensures)
     (owners-opening c.args.config c.granules-granules.result c.granules-granules.ensures.count)
+
+pub invariant_of-result-clause-inside : goal.invariant_of-result-clause-inside
+invariant_of-result-clause-inside c = rw (c.in_ok-running.ensures, c.in_ok-store.ensures) (running-opening c.args.config)

@@ -3,9 +3,9 @@ use Rattle.rmm_spec.specs.declared.change.Change.{Change}
 use Rattle.rmm_spec.specs.Change.{changed}
 use Rattle.rmm_spec.proofs.Tests.{both_ways}
 use Rattle.rmm_laws.proofs.Replays.{is_reached-reached}
-use Rattle.spec_machine.specs.Served.{takes_memory}
+use Rattle.spec_machine.specs.Memory.{takes_memory}
 use Rattle.spec_machine.specs.View.{state_of}
-use Rattle.spec_machine.proofs.Made.{init_made}
+use Rattle.spec_machine.proofs.Memory.{reached_takes_none}
 use Rattle.spec_machine.proofs.Reached.{no_reach}
 use Rattle.spec_machine.proofs.machine.Machine.reach.Goals as goal
 
@@ -16,18 +16,15 @@ pub returns-then-not-is_reached-clause-only : goal.returns-then-not-is_reached-c
 returns-then-not-is_reached-clause-only c = λ _ next.
     no_reach (state_of c.args.self.now) c.args.stretch.now c.in-Some.top c.args.reply.now c.in-Some.ensures.found (sym c.if-not-is_reached.ensures) next
 
-pub apply-requires-clause-made : goal.apply-requires-clause-made
-apply-requires-clause-made c = rw c.reached_change.ensures (init_made c.args.stretch.now c.in-Some.top c.requires.init).0
-
-pub apply-requires-clause-can : goal.apply-requires-clause-can
-apply-requires-clause-can c =
+pub apply-requires : goal.apply-requires
+apply-requires c =
     rw c.reached_change.ensures (c.requires.can c.in-Some.top
     (is_reached-reached (state_of c.args.self.now) c.args.stretch.now c.in-Some.top (sym c.if-not-is_reached.ensures)))
 
 pub unreachable-requires : goal.unreachable-requires
 unreachable-requires c =
     let takes : IsTrue (takes_memory c.reached_change.result) = c.in_default-apply.ensures.only in
-    both_ways takes (ap takes_memory c.reached_change.ensures ∙ (init_made c.args.stretch.now c.in-Some.top c.requires.init).1)
+    both_ways takes (ap takes_memory c.reached_change.ensures ∙ reached_takes_none c.args.stretch.now c.in-Some.top)
 
 pub returns-clause-step : goal.returns-clause-step
 returns-clause-step c = λ _. (

@@ -15,6 +15,7 @@ invariant_of-self c =
     rw c.set_tag.ensures.state (record {
       kept = kept_like (stored m.store) _ m.vmids.items m.rec_counts.items m.kept
           (changed_sound (stored m.store) (Retagged (record { granule = c.args.granule; tag = c.args.tag })) m.kept.sound c.requires)
-          (record { granules = refl; rec = refl; vmids = λ vmid g. refl });
+          (record { granules = refl; owned = λ rd g. refl; vmids = λ vmid g. refl });
+      inside = m.inside;
       owned = changed_owners (stored m.store) (Retagged (record { granule = c.args.granule; tag = c.args.tag })) m.owners.realms.items m.kept.sound c.requires refl m.owned;
     })
