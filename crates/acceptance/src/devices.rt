@@ -106,7 +106,7 @@ impl Sink for TornSink {
     ghost failures = { λ sink. sink.failures };
 
     fn make_room(&mut self, count: usize) -> Result<(), AllocError> {
-        if self.failures == u64::MAX {
+        if count > 0 && self.failures == u64::MAX {
             return Err(AllocError);
         }
         self.taken.reserve(count)

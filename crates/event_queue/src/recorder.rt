@@ -1,6 +1,6 @@
 //! The recorder: the queue that CPUs push events into, and the scribe drains.
 
-ghost use Rattle.std.specs.Prelude.{◌≡◌, ℕ, ◌+◌, ◌-◌, ◌<◌, ◌≤◌, IsTrue, IfOk, OnOk, OnErr, List, Some, true, false, [], ◌∷◌, ◌++◌, length, slice_get};
+ghost use Rattle.std.specs.Prelude.{◌≡◌, ℕ, ◌+◌, ◌-◌, ◌<◌, ◌≤◌, IsTrue, IsOk, IfOk, OnOk, OnErr, List, Some, true, false, [], ◌∷◌, ◌++◌, length, slice_get};
 ghost use Rattle.rmm_spec.specs.declared.event.Event.{Event};
 ghost use Rattle.rmm_spec.specs.CommandText.{IsCommand};
 ghost use mathlib.Core.List.{IsPrefix};
@@ -96,7 +96,7 @@ impl Recorder {
 
     /// Moves events from the queue to the end of the history, and returns how many. It takes at most as many as the queue
     /// may hold, and stops where the queue is empty or the history's text has no room for another line. Where memory is
-    /// refused, what was taken stands in the history.
+    /// refused, what was taken stands in the history, and was all that it had room for in memory.
     pub fn drain<R: Wait>(
         &self,
         rt: &R,
@@ -105,7 +105,8 @@ impl Recorder {
     ) -> Result<usize, AllocError>
         requires { CanDrain self.now.queue scribe.old history.old.recorded }
         ensures taken { (taken : List Event) × (scribe.new ≡ record scribe.old { events = scribe.old.events ++ taken })
-            × (length taken ≤ self.now.capacity) × IfOk result (λ count. count ≡ length taken) }
+            × (length taken ≤ self.now.capacity) × IfOk result (λ count. count ≡ length taken)
+            × OnErr result (history.old.room ≤ length taken) }
         ensures history { history.new.recorded ≡ record history.old.recorded { events = scribe.new.events } }
     {
         let capacity = self.queue.capacity();
@@ -139,6 +140,8 @@ impl Recorder {
         ensures moved { IfOk result (λ moved. IsTrue moved → (event : Event) × (scribe.new ≡ record scribe.old { events = scribe.old.events ++ event ∷ [] })) }
         ensures stays { IfOk result (λ moved. moved ≡ false → scribe.new ≡ scribe.old) }
         ensures err { OnErr result (scribe.new ≡ scribe.old) }
+        ensures succeeds { 1 ≤ history.old.room → IsOk result }
+        ensures left { history.old.room ≤ history.new.room + 1 }
         ensures history { history.new.recorded ≡ record history.old.recorded { events = scribe.new.events } }
     {
         if !history.has_room() {

@@ -17,6 +17,7 @@ status_of (Err fault.Arguments) = 2
 status_of (Err (fault.CannotRead path)) = 3
 status_of (Err fault.CannotWrite) = 3
 status_of (Err fault.NoMemory) = 3
+status_of (Err fault.NoThread) = 3
 
 -- without its newline
 abbrev pub fault_line : Fault → List ℕ
@@ -24,6 +25,7 @@ fault_line fault.Arguments = codes "rmmcheck: arguments"
 fault_line (fault.CannotRead path) = codes "rmmcheck: cannot read " ++ path.now
 fault_line fault.CannotWrite = codes "rmmcheck: cannot write"
 fault_line fault.NoMemory = codes "rmmcheck: no memory"
+fault_line fault.NoThread = codes "rmmcheck: cannot start a thread"
 
 -- a verdict's line goes to standard output, and a fault's to standard error
 abbrev pub error_line : Result Verdict Fault → Option (List ℕ)

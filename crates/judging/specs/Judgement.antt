@@ -21,24 +21,16 @@ pub record BreaksOff (history certificate before after : List ℕ) (held_before 
   pub judged : Judges verdict history certificate
   pub begun : HoldsBeginning (verdict_line verdict) before after held_before held_after
 
--- how many failures of each device the answer reports
-abbrev pub history_failures : {T : Type 0} → Result T JudgeFault → ℕ
-history_failures (Ok value) = 0
-history_failures (Err fault.ReadHistory) = 1
-history_failures (Err fault.ReadCertificate) = 0
-history_failures (Err fault.Write) = 0
-history_failures (Err fault.NoMemory) = 0
+-- how many failures of each device
+pub record Failures : Type 0 where
+  pub history : ℕ
+  pub certificate : ℕ
+  pub sink : ℕ
 
-abbrev pub certificate_failures : {T : Type 0} → Result T JudgeFault → ℕ
-certificate_failures (Ok value) = 0
-certificate_failures (Err fault.ReadHistory) = 0
-certificate_failures (Err fault.ReadCertificate) = 1
-certificate_failures (Err fault.Write) = 0
-certificate_failures (Err fault.NoMemory) = 0
-
-abbrev pub sink_failures : {T : Type 0} → Result T JudgeFault → ℕ
-sink_failures (Ok value) = 0
-sink_failures (Err fault.ReadHistory) = 0
-sink_failures (Err fault.ReadCertificate) = 0
-sink_failures (Err fault.Write) = 1
-sink_failures (Err fault.NoMemory) = 0
+-- those that the answer reports
+abbrev pub failures_of : {T : Type 0} → Result T JudgeFault → Failures
+failures_of (Ok value) = record { history = 0; certificate = 0; sink = 0 }
+failures_of (Err fault.ReadHistory) = record { history = 1; certificate = 0; sink = 0 }
+failures_of (Err fault.ReadCertificate) = record { history = 0; certificate = 1; sink = 0 }
+failures_of (Err fault.Write) = record { history = 0; certificate = 0; sink = 1 }
+failures_of (Err fault.NoMemory) = record { history = 0; certificate = 0; sink = 0 }

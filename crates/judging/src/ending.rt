@@ -1,6 +1,6 @@
 //! How the program ends.
 
-ghost use Rattle.std.specs.Prelude.{◌≡◌, option_map};
+ghost use Rattle.std.specs.Prelude.{◌≡◌, ◌≤◌, option_map};
 ghost use Rattle.judging.specs.Ending.{error_line, fault_line, status_of};
 
 use crate::fault::Fault;
@@ -16,6 +16,7 @@ pub struct Ending<'a> {
 /// How the program ends after a verdict whose line it has printed, or after a fault.
 pub fn ends_with<'a>(outcome: Result<Verdict, Fault<'a>>) -> Ending<'a>
     ensures status { result.status ≡ status_of outcome.entry }
+    ensures most { result.status ≤ 3 }
     ensures line { option_map (λ fault. fault_line fault) result.fault ≡ error_line outcome.entry }
 {
     let status = match &outcome {
@@ -23,7 +24,7 @@ pub fn ends_with<'a>(outcome: Result<Verdict, Fault<'a>>) -> Ending<'a>
         Ok(Verdict::No { .. }) => 1,
         Ok(Verdict::HistoryFault(_) | Verdict::CertificateFault(_)) => 2,
         Err(Fault::Arguments) => 2,
-        Err(Fault::CannotRead(_) | Fault::CannotWrite | Fault::NoMemory) => 3,
+        Err(Fault::CannotRead(_) | Fault::CannotWrite | Fault::NoMemory | Fault::NoThread) => 3,
     };
     Ending {
         status,

@@ -18,6 +18,8 @@ pub enum Fault<'a> {
     CannotWrite,
     /// The allocator refused memory.
     NoMemory,
+    /// A thread can't be started.
+    NoThread,
 }
 
 /// The two paths of a `check`, as they were given.
@@ -50,6 +52,7 @@ impl fmt::Display for Fault<'_> {
             Fault::CannotRead(path) => write!(f, "rmmcheck: cannot read {path}"),
             Fault::CannotWrite => f.write_str("rmmcheck: cannot write"),
             Fault::NoMemory => f.write_str("rmmcheck: no memory"),
+            Fault::NoThread => f.write_str("rmmcheck: cannot start a thread"),
         }
     }
 }

@@ -1,12 +1,12 @@
 //! The verdict on two texts, from any two sources, and its line to any sink.
 
-ghost use Rattle.std.specs.Prelude.{◌≡◌, ◌≢◌, ◌⊎◌, ◌+◌, ◌++◌, IfOk, IfErr, IfSome, OnOk, OnErr, Err};
+ghost use Rattle.std.specs.Prelude.{◌≡◌, ◌≢◌, ◌⊎◌, ◌+◌, ◌<◌, ◌++◌, length, IfOk, IfErr, IfSome, OnOk, OnErr, Err};
 ghost use Rattle.std.specs.Io.{StartsWith};
 ghost use Rattle.std.specs.Io.KnownBytes.{Appends, Keeps};
 ghost use Rattle.rmm_spec.specs.Judgement.{Judges};
 ghost use Rattle.rmm_spec.specs.VerdictText.{verdict_line};
 ghost use Rattle.judging.specs.declared.judgement.JudgeFault.TheVariants.{NoMemory, Write};
-ghost use Rattle.judging.specs.Judgement.{BreaksOff, OnVerdict, certificate_failures, history_failures, sink_failures};
+ghost use Rattle.judging.specs.Judgement.{BreaksOff, OnVerdict, failures_of};
 ghost use Rattle.judging.specs.Sink.{HoldsBeginning};
 
 use crate::sink::{Sink, WriteError, write_whole};
@@ -73,13 +73,14 @@ pub fn judge<H: Source, C: Source, K: Sink>(
         (IfSome (C.text certificate.old) (λ whole. C.given certificate.new ≡ whole)) }
 
     // A device is blamed for a failure of its own in this call, and no failure is passed over.
-    ensures history_failures { H.failures history.new ≡ H.failures history.old + history_failures result }
+    ensures history_failures { H.failures history.new ≡ H.failures history.old + (failures_of result).history }
     ensures certificate_failures { C.failures certificate.new
-        ≡ C.failures certificate.old + certificate_failures result }
-    ensures sink_failures { K.failures sink.new ≡ K.failures sink.old + sink_failures result }
+        ≡ C.failures certificate.old + (failures_of result).certificate }
+    ensures sink_failures { K.failures sink.new ≡ K.failures sink.old + (failures_of result).sink }
 {
     let verdict = read_verdict(alloc, history, certificate)?;
-    write_verdict(alloc, &verdict, sink)?;
+    let line = line_of(alloc, &verdict)?;
+    write_line(line.as_slice(), sink)?;
     Ok(verdict)
 }
 
@@ -97,9 +98,9 @@ fn read_verdict<H: Source, C: Source>(
     ensures history { OnOk result (IfSome (H.text history.old) (λ whole. H.given history.new ≡ whole)) }
     ensures certificate { OnOk result
         (IfSome (C.text certificate.old) (λ whole. C.given certificate.new ≡ whole)) }
-    ensures history_failures { H.failures history.new ≡ H.failures history.old + history_failures result }
+    ensures history_failures { H.failures history.new ≡ H.failures history.old + (failures_of result).history }
     ensures certificate_failures { C.failures certificate.new
-        ≡ C.failures certificate.old + certificate_failures result }
+        ≡ C.failures certificate.old + (failures_of result).certificate }
     ensures unwritten { IfErr result (λ fault. fault ≢ JudgeFault.Write) }
 {
     if let Err(error) = read_whole(history) {
@@ -117,20 +118,28 @@ fn read_verdict<H: Source, C: Source>(
     Ok(checker::check(alloc, history.bytes(), certificate.bytes())?)
 }
 
-// Writes the verdict's line. All memory is asked for before the first byte is written.
-fn write_verdict<K: Sink>(alloc: Global, verdict: &Verdict, sink: &mut K) -> Result<(), JudgeFault>
-    ensures ok { OnOk result (K.taken sink.new ≡ K.taken sink.old ++ verdict_line verdict.now) }
-    ensures held { OnOk result (Appends (K.contents sink.old) (K.contents sink.new) (verdict_line verdict.now)) }
-    ensures torn { result ≡ Err JudgeFault.Write → HoldsBeginning (verdict_line verdict.now)
-        (K.taken sink.old) (K.taken sink.new) (K.contents sink.old) (K.contents sink.new) }
-    ensures silent { result ≡ Err JudgeFault.NoMemory → K.taken sink.new ≡ K.taken sink.old }
-    ensures untouched { result ≡ Err JudgeFault.NoMemory → K.contents sink.new ≡ K.contents sink.old }
-    ensures failures { K.failures sink.new ≡ K.failures sink.old + sink_failures result }
-    ensures faults { IfErr result (λ fault. (fault ≢ JudgeFault.ReadHistory) × (fault ≢ JudgeFault.ReadCertificate)) }
+// The verdict's line.
+fn line_of(alloc: Global, verdict: &Verdict) -> Result<Vec<u8>, AllocError>
+    ensures { IfOk result (λ line. line.items ≡ verdict_line verdict.now) }
 {
     let mut line = Vec::new(alloc);
     checker::verdict_text(verdict, &mut line)?;
+    Ok(line)
+}
+
+// Writes a line. The sink makes room for all of it before the first byte, so memory is refused only where it had no room.
+fn write_line<K: Sink>(line: &[u8], sink: &mut K) -> Result<(), JudgeFault>
+    ensures ok { OnOk result (K.taken sink.new ≡ K.taken sink.old ++ line.now) }
+    ensures held { OnOk result (Appends (K.contents sink.old) (K.contents sink.new) line.now) }
+    ensures torn { result ≡ Err JudgeFault.Write → HoldsBeginning line.now
+        (K.taken sink.old) (K.taken sink.new) (K.contents sink.old) (K.contents sink.new) }
+    ensures full { result ≡ Err JudgeFault.NoMemory → K.room sink.old < length line.now }
+    ensures silent { result ≡ Err JudgeFault.NoMemory → K.taken sink.new ≡ K.taken sink.old }
+    ensures untouched { result ≡ Err JudgeFault.NoMemory → K.contents sink.new ≡ K.contents sink.old }
+    ensures failures { K.failures sink.new ≡ K.failures sink.old + (failures_of result).sink }
+    ensures faults { IfErr result (λ fault. (fault ≢ JudgeFault.ReadHistory) × (fault ≢ JudgeFault.ReadCertificate)) }
+{
     sink.make_room(line.len())?;
-    write_whole(line.as_slice(), sink)?;
+    write_whole(line, sink)?;
     Ok(())
 }

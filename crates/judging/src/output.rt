@@ -40,9 +40,9 @@ impl<W: Write> Sink for OutputSink<W> {
 
     ghost failures = { λ sink. sink.failures };
 
-    // A count of failures that can't rise has no memory left.
+    // Where one more failure can't be counted, there is no room.
     fn make_room(&mut self, count: usize) -> Result<(), AllocError> {
-        if self.failures == u64::MAX {
+        if count > 0 && self.failures == u64::MAX {
             return Err(AllocError);
         }
         self.taken.reserve(count)

@@ -1,6 +1,6 @@
 //! A device that takes bytes.
 
-ghost use Rattle.std.specs.Prelude.{◌≡◌, ℕ, ◌+◌, ◌<◌, ◌≤◌, List, ◌++◌, length, Option, None, OnOk, OnErr, IfOk};
+ghost use Rattle.std.specs.Prelude.{◌≡◌, ℕ, ◌+◌, ◌<◌, ◌≤◌, List, ◌++◌, length, Option, None, IsOk, OnOk, OnErr, IfOk};
 ghost use Rattle.std.specs.Io.KnownBytes.{Appends, WriteAppends};
 ghost use Rattle.judging.specs.Sink.{HoldsBeginning, taken_of, write_failures};
 
@@ -26,9 +26,11 @@ pub trait Sink {
     /// How often the device has failed.
     ghost failures: { Self → ℕ };
 
-    /// Prepares for so many bytes, so that no write needs memory. The device isn't asked.
+    /// Prepares for so many bytes, so that no write needs memory. The device isn't asked, and nothing is refused where there is
+    /// room.
     fn make_room(&mut self, count: usize) -> Result<(), AllocError>
         ensures room { OnOk result (count ≤ room self.new) }
+        ensures succeeds { count ≤ room self.old → IsOk result }
         ensures taken { taken self.new ≡ taken self.old }
         ensures contents { contents self.new ≡ contents self.old }
         ensures failures { failures self.new ≡ failures self.old };

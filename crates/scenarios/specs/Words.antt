@@ -1,12 +1,8 @@
 -- The command line, over clap's own definitions of what a command takes and which value an argument gets.
 use Rattle.std.specs.Prelude.{◌≡◌, List, [], Option, Some, true, codes, option_map, option_and_then}
-use Rattle.judging.specs.declared.fault.Fault.{Fault}
-use Rattle.judging.specs.declared.fault.Fault.TheVariants as fault
 use Rattle.judging.specs.declared.fault.Paths.{Paths}
 use Rattle.scenarios.specs.declared.words.Request.{Request}
 use Rattle.scenarios.specs.declared.words.Request.TheVariants.{Check, Threads}
-use Rattle.scenarios.specs.declared.words.WordsFault.{WordsFault}
-use Rattle.scenarios.specs.declared.words.WordsFault.TheVariants as words_fault_is
 use Rattle.clap.specs.declared.parser.matches.ArgMatches.{ArgMatches}
 use Rattle.clap.specs.Words.{App, Row, Rule, Text, fault_of, first_of, new_app, new_rule, subcommand_of, subcommand_rows_of, with_rule, with_subcommand}
 
@@ -48,8 +44,3 @@ IsAsked sub Threads = name_of sub ≡ Some (codes "threads")
 pub record Asks (words : List Text) (request : Request) : Type 0 where
   pub no_fault : fault_of rmmcheck_command words ≡ []
   pub is_asked : IsAsked (subcommand_of rmmcheck_command words) request
-
--- what the program ends with where the words ask for nothing
-abbrev pub words_fault : WordsFault → Fault
-words_fault words_fault_is.Arguments = fault.Arguments
-words_fault words_fault_is.NoMemory = fault.NoMemory

@@ -1,6 +1,7 @@
 //! The program over any runtime: words, files, the verdict's line, the exit status.
 
 ghost use Rattle.std.specs.Prelude.{◌≡◌, ◌≤◌};
+ghost use Rattle.scenarios.specs.Faults.{run_fault};
 
 use crate::words::{Request, request_given};
 use checker::Verdict;
@@ -22,53 +23,48 @@ pub fn run<R: Env + Files + Print + Eprint + AllocGlobal, T: Threads + Wait + Sy
     ensures { result ≤ 3 }
 {
     let words = words_of(rt);
-    let ended = match &words {
+    let outcome = match &words {
         Ok(words) => serve(rt, threads, words.as_slice()),
-        Err(fault) => Err(Stop::Fault(*fault)),
+        Err(fault) => Err(*fault),
     };
-    match ended {
-        Ok(verdict) => end(rt, ends_with(Ok(verdict))),
-        Err(Stop::Fault(fault)) => end(rt, ends_with(Err(fault))),
-        Err(Stop::Thread) => {
-            let _ = rt.eprintln("rmmcheck: cannot start a thread");
-            3
-        }
-    }
-}
-
-// Why the program ends without a verdict.
-#[derive(Clone, Copy, Debug)]
-enum Stop<'a> {
-    Fault(Fault<'a>),
-    Thread,
+    end(rt, ends_with(outcome))
 }
 
 fn serve<'a, R: Files + Print + AllocGlobal, T: Threads + Wait + Sync>(
     rt: &R,
     threads: &T,
     words: &'a [String],
-) -> Result<Verdict, Stop<'a>> {
+) -> Result<Verdict, Fault<'a>> {
     match request_given(rt.alloc(), words) {
-        Ok(Request::Check(paths)) => check_files(rt, paths).map_err(Stop::Fault),
+        Ok(Request::Check(paths)) => check_files(rt, paths),
         Ok(Request::Threads) => run_threads(rt, threads),
-        Err(fault) => Err(Stop::Fault(Fault::from(fault))),
+        Err(fault) => Err(Fault::from(fault)),
     }
 }
 
 // Prints the fixed run of two threads. All of it is there before its first byte is written.
-fn run_threads<'a, R: Print + AllocGlobal, T: Threads + Wait + Sync>(
+fn run_threads<R: Print + AllocGlobal, T: Threads + Wait + Sync>(
     rt: &R,
     threads: &T,
-) -> Result<Verdict, Stop<'a>> {
+) -> Result<Verdict, Fault<'static>> {
     let mut text = Vec::new(rt.alloc());
     let verdict = match two_threads(threads, rt.alloc(), &mut text) {
         Ok(verdict) => verdict,
-        Err(RunFault::NoMemory) => return Err(Stop::Fault(Fault::NoMemory)),
-        Err(RunFault::Thread) => return Err(Stop::Thread),
+        Err(fault) => return Err(fault_of_run(fault)),
     };
     match io::writer(rt).write_all(text.as_slice()) {
         Ok(()) => Ok(verdict),
-        Err(_) => Err(Stop::Fault(Fault::CannotWrite)),
+        Err(_) => Err(Fault::CannotWrite),
+    }
+}
+
+// What ends the program where the run of threads broke off.
+fn fault_of_run(fault: RunFault) -> Fault<'static>
+    ensures { result ≡ run_fault fault }
+{
+    match fault {
+        RunFault::NoMemory => Fault::NoMemory,
+        RunFault::Thread => Fault::NoThread,
     }
 }
 

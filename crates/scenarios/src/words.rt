@@ -2,7 +2,8 @@
 
 ghost use Rattle.std.specs.Prelude.{◌≡◌, ◌≢◌, ℕ, List, [], IfOk, IfSome, IfNone, Err, Some, codes, map, option_map, string_bytes};
 ghost use Rattle.clap.specs.Words.{app_of, fault_of, kind_of, subcommand_rows_of};
-ghost use Rattle.scenarios.specs.Words.{Asks, IsAsked, rmmcheck_command, name_of, value_of, words_fault};
+ghost use Rattle.scenarios.specs.Faults.{words_fault};
+ghost use Rattle.scenarios.specs.Words.{Asks, IsAsked, rmmcheck_command, name_of, value_of};
 
 use clap::error::ErrorKind;
 use clap::{Arg, ArgMatches, Command, Error};

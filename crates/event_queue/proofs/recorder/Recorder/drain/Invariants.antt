@@ -1,4 +1,4 @@
-use Rattle.std.proofs.Common.{◌≡◌, List, ◌++◌, length}
+use Rattle.std.proofs.Common.{◌≡◌, ◌+◌, ◌≤◌, List, ◌++◌, length}
 use Rattle.rmm_spec.specs.declared.event.Event.{Event}
 use Rattle.event_queue.proofs.recorder.Recorder.drain.Given as goal
 
@@ -6,3 +6,4 @@ abbrev pub invariant-loop-taken : goal.invariant-loop-taken
 invariant-loop-taken g l =
     (so_far : List Event) × (length so_far ≡ l.taken) × (l.scribe ≡ record l.initial.scribe { events = l.initial.scribe.events ++ so_far })
     × (l.history.recorded ≡ record l.initial.history.recorded { events = l.scribe.events })
+    × (l.initial.history.room ≤ l.history.room + l.taken)
