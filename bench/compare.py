@@ -1,12 +1,12 @@
 #!/usr/bin/env python3
 """Compares the built program with judge.py on short pairs of texts, of which most are broken somewhere.
 
-usage: compare.py [--served STAGE] [--program PATH] [--jobs COUNT] [PAIRS [SEED]]
+usage: compare.py [--program PATH] [--jobs COUNT] [PAIRS [SEED]]
 
 The histories are those of explore.py on up to 40 granules and 8 CPUs. A pair is left as it is, or has one of its replies,
 words, lines or bytes changed. It prints how often each kind of verdict came and, of the pairs with yes, how often each
 command was accepted and refused by each of its rows, as docs/PROFILE.md counts them. It ends with status 1 at a pair on
-which the two differ. STAGE says which functions the program serves: seven, sixteen or all.
+which the two differ.
 """
 import argparse
 import collections
@@ -19,7 +19,7 @@ import tempfile
 
 sys.dont_write_bytecode = True
 from explore import MOST, STEPS, Explorer
-from functions import NAMES, SERVED_TODAY, STAGES
+from functions import NAMES
 from generate import run
 from judge import judge
 from machine import Machine
@@ -108,10 +108,10 @@ def changed_bytes(text, draw):
 CHANGES = [with_other_reply] * 3 + [with_other_word, with_other_lines]
 
 
-def pair(draw, served):
+def pair(draw):
     """Two texts, and the answers of the machine that was asked for them."""
     machine = CountingMachine(draw.choice([2, 8, 16, 24, 32, 40, 40, 40]))
-    source = Explorer(machine, draw, served)
+    source = Explorer(machine, draw)
     count, lines = draw.choice([1, 1, 2, 4, 8]), draw.choice([20, 100, 200, 400])
     texts = list(run(machine, source, count, draw.randint(1, lines), draw, draw.choice([max, min, draw.choice])))
     for _ in range(draw.choice([0, 0, 1, 1, 2])):
@@ -125,17 +125,17 @@ def pair(draw, served):
 
 def compare(task):
     """Judges the pairs of a task with both. How often each verdict and each answer came, and the first difference."""
-    program, served, count, seed = task
+    program, count, seed = task
     draw = random.Random(seed)
     verdicts, answers = collections.Counter(), collections.Counter()
     with tempfile.TemporaryDirectory() as folder:
         paths = [os.path.join(folder, name) for name in ("history", "certificate")]
         for _ in range(count):
-            texts, given = pair(draw, STAGES[served])
+            texts, given = pair(draw)
             for path, text in zip(paths, texts):
                 with open(path, "w", encoding="ascii", newline="") as file:
                     file.write(text)
-            status, line = judge(*texts, STAGES[served])
+            status, line = judge(*texts)
             done = subprocess.run([program, "check", *paths], stdout=subprocess.PIPE, text=True, check=False)
             if (done.returncode, done.stdout) != (status, f"{line}\n"):
                 return verdicts, answers, (f"{texts!r}: {done.stdout!r} with {done.returncode}, "
@@ -148,12 +148,11 @@ def compare(task):
 
 def tasks(words):
     for first in range(0, words.pairs, PAIRS_A_TASK):
-        yield words.program, words.served, min(PAIRS_A_TASK, words.pairs - first), f"{words.seed} {first}"
+        yield words.program, min(PAIRS_A_TASK, words.pairs - first), f"{words.seed} {first}"
 
 
 def main():
     parser = argparse.ArgumentParser(usage=__doc__)
-    parser.add_argument("--served", choices=STAGES, default=SERVED_TODAY)
     parser.add_argument("--program", default=PROGRAM)
     parser.add_argument("--jobs", type=int, default=os.cpu_count())
     parser.add_argument("pairs", type=int, nargs="?", default=1000)

@@ -21,14 +21,13 @@ def aligned(ipa, level):
 class Explorer:
     """Calls on a small machine, at few addresses of each realm, so that the same entries are met again and again."""
 
-    def __init__(self, machine, draw, served):
+    def __init__(self, machine, draw):
         self.machine = machine
         self.draw = draw
-        self.served = served
         self.opening = [granule for granule in self.granules() if draw.random() < 0.7]
         self.indexes = [draw.sample(NEAR_INDEXES, draw.randint(1, 3)) for _ in range(LAST_LEVEL + 1)]
         self.changes = draw.choice([0, 0.05, 0.3])
-        self.records = draw.choice([0.2, 0.3, 0.7]) if RTT_CREATE in served else 1
+        self.records = draw.choice([0.2, 0.3, 0.7])
 
     def command(self, cpu):
         if self.opening:
@@ -40,8 +39,8 @@ class Explorer:
 
     def fitting(self, cpu):
         rec = self.machine.running.get(cpu)
-        if rec is not None and self.draw.random() < 0.9:
-            return self.from_inside(rec)
+        if self.machine.recs and self.draw.random() < (0.03 if rec is None else 0.9):
+            return self.from_inside(rec or self.draw.choice(list(self.machine.recs.values())))
         rest = self.tagged(DELEGATED)
         if self.draw.random() < (0.07 if len(rest) > 2 else 0.4):
             return self.on_granule()
@@ -89,7 +88,6 @@ class Explorer:
         return aligned(ipa, walk(realm.root, ipa, LAST_LEVEL).level)
 
     def weighted(self, weights):
-        weights = {function: weight for function, weight in weights.items() if function in self.served}
         return self.draw.choices(list(weights), list(weights.values()))[0]
 
     # Commands.

@@ -1,7 +1,4 @@
-"""The functions of docs/PROFILE.md: their numbers, how many words each takes, and which of them the checker serves today."""
-
-# The one place that says what is served: a name of STAGES. The scripts take another by `--served`.
-SERVED_TODAY = "sixteen"
+"""The functions of docs/PROFILE.md: their numbers, how many words each takes, and which are realm calls."""
 
 GRANULE_DELEGATE = "c4000151"
 GRANULE_UNDELEGATE = "c4000152"
@@ -60,16 +57,6 @@ WORDS = {
     SYSTEM_OFF: 0,
     EXIT: 0,
 }
-
-_SEVEN = {
-    GRANULE_DELEGATE, GRANULE_UNDELEGATE, REALM_CREATE, REALM_ACTIVATE, REALM_DESTROY, REC_CREATE, REC_DESTROY,
-}
-_SIXTEEN = _SEVEN | {
-    RTT_CREATE, RTT_DESTROY, RTT_READ_ENTRY, DATA_CREATE, DATA_CREATE_UNKNOWN, DATA_DESTROY, RTT_MAP_UNPROTECTED,
-    RTT_UNMAP_UNPROTECTED, RTT_INIT_RIPAS,
-}
-STAGES = {"seven": _SEVEN, "sixteen": _SIXTEEN, "all": set(WORDS)}
-SERVED = STAGES[SERVED_TODAY]
 
 # Realm calls and Exit are given inside a REC, and all others outside.
 REALM_CALLS = {

@@ -1,13 +1,12 @@
 #!/usr/bin/env python3
 """Writes a history and a certificate that rmmcheck accepts.
 
-usage: generate.py [--served STAGE] LOAD LINES PREFIX [SEED]
+usage: generate.py LOAD LINES PREFIX [SEED]
 
 Eight CPUs work on 4096 granules. Under the load `granules` they delegate and undelegate them. Under the other loads each
 CPU makes realms and destroys them all the time, on 512 granules of its own: `realms` with RECs and with VMIDs that all CPUs
 draw from 256; `tables` with tables four levels deep in both halves, which are filled, read and emptied; `measure` with
-pages and extensions that are measured; `mixed` with all of this and with RECs that are entered, as far as it is served.
-STAGE says which functions are served: seven, sixteen or all.
+pages and extensions that are measured; `mixed` with all of this and with RECs that ask for memory, so that all 27 functions come.
 
 Each CPU calls, commits and returns in turns that are drawn at random, so that up to eight calls overlap; the certificate's
 order is that of the commits, and a reply is what the machine of machine.py gives at the commit. PREFIX.history has LINES
@@ -19,7 +18,6 @@ import random
 import sys
 
 sys.dont_write_bytecode = True
-from functions import SERVED_TODAY, STAGES
 from loads import CPUS, GRANULES, LOADS
 from machine import Machine
 
@@ -64,17 +62,13 @@ def run(machine, source, count, lines, draw, choose=max):
 
 def main():
     parser = argparse.ArgumentParser(usage=__doc__)
-    parser.add_argument("--served", choices=STAGES, default=SERVED_TODAY)
     parser.add_argument("load", choices=LOADS)
     parser.add_argument("lines", type=int)
     parser.add_argument("prefix")
     parser.add_argument("seed", type=int, nargs="?", default=1)
     words = parser.parse_args()
-    served, load = STAGES[words.served], LOADS[words.load]
-    if not load.needs <= served:
-        sys.exit(f"{words.load} needs functions that aren't served")
     draw, machine = random.Random(words.seed), Machine(GRANULES)
-    texts = run(machine, load(machine, draw, served), CPUS, words.lines, draw)
+    texts = run(machine, LOADS[words.load](machine, draw), CPUS, words.lines, draw)
     for name, text in zip(("history", "certificate"), texts):
         with open(f"{words.prefix}.{name}", "w", encoding="ascii", newline="\n") as out:
             out.write("".join(f"{line}\n" for line in text))

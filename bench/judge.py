@@ -1,18 +1,17 @@
 #!/usr/bin/env python3
 """A plain judge of a history and a certificate, written apart from the checker to compare the two.
 
-usage: judge.py [--served STAGE] HISTORY CERTIFICATE
+usage: judge.py HISTORY CERTIFICATE
 
 It reads the texts by regular expressions, compares real-time order by the greatest call place so far, and asks the
 machine of machine.py for each reply. It prints the verdict line and ends with the checker's exit status. Nothing about
-it is proved. STAGE says which functions are served: seven, sixteen or all.
+it is proved.
 """
-import argparse
 import re
 import sys
 
 sys.dont_write_bytecode = True
-from functions import SERVED, SERVED_TODAY, STAGES, WORDS
+from functions import WORDS
 from machine import Machine
 
 MOST_LINES = 1_000_000
@@ -45,7 +44,7 @@ def lines_of(text):
         raise BadLine(len(parts))
 
 
-def read_history(text, served):
+def read_history(text):
     """The number of granules, and each call as (place, function, words, place of return or None, reply)."""
     granules = cpus = None
     calls, made, opened = {}, {}, {}
@@ -61,7 +60,7 @@ def read_history(text, served):
                 raise BadLine(number)
             made[cpu], opened[cpu] = n + 1, n
             words = [int(word, 16) for word in match[4].split()]
-            if match[3] not in served or WORDS[match[3]] != len(words):
+            if WORDS.get(match[3]) != len(words):
                 raise BadLine(number)
             calls[cpu, n] = [number, match[3], words, None, None]
         elif (match := RETURN.match(line)) and is_reply(match[3]):
@@ -122,9 +121,9 @@ def judge_order(granules, calls, lines):
     return 0, f"yes {len(lines)}"
 
 
-def judge(history, certificate, served=SERVED):
+def judge(history, certificate):
     try:
-        granules, calls = read_history(history, served)
+        granules, calls = read_history(history)
     except BadLine as bad:
         return 2, f"fault history {bad}"
     try:
@@ -135,16 +134,13 @@ def judge(history, certificate, served=SERVED):
 
 
 def main():
-    parser = argparse.ArgumentParser(usage=__doc__)
-    parser.add_argument("--served", choices=STAGES, default=SERVED_TODAY)
-    parser.add_argument("history")
-    parser.add_argument("certificate")
-    words = parser.parse_args()
+    if len(sys.argv) != 3:
+        sys.exit(__doc__)
     texts = []
-    for path in (words.history, words.certificate):
+    for path in sys.argv[1:]:
         with open(path, encoding="latin-1", newline="") as file:
             texts.append(file.read())
-    status, line = judge(*texts, STAGES[words.served])
+    status, line = judge(*texts)
     print(line)
     sys.exit(status)
 

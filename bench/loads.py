@@ -2,7 +2,7 @@
 from functions import (CPU_OFF, DATA_CREATE, DATA_CREATE_UNKNOWN, DATA_DESTROY, EXIT, GRANULE_DELEGATE, GRANULE_UNDELEGATE,
                        HOST_CALL, IPA_STATE_GET, IPA_STATE_SET, MEASUREMENT_EXTEND, MEASUREMENT_READ, REALM_ACTIVATE, REALM_CONFIG,
                        REALM_CREATE, REALM_DESTROY, REC_CREATE, REC_DESTROY, REC_ENTER, RTT_CREATE, RTT_DESTROY,
-                       RTT_INIT_RIPAS, RTT_MAP_UNPROTECTED, RTT_READ_ENTRY, RTT_SET_RIPAS, RTT_UNMAP_UNPROTECTED, STAGES, SYSTEM_OFF)
+                       RTT_INIT_RIPAS, RTT_MAP_UNPROTECTED, RTT_READ_ENTRY, RTT_SET_RIPAS, RTT_UNMAP_UNPROTECTED, SYSTEM_OFF)
 from tables import ENTRIES, LAST_LEVEL, PAGE_BYTES, entry_bytes
 
 CPUS = 8
@@ -16,9 +16,7 @@ SPACES = [(0x27, 1), (0x30, 0)]
 class Granules:
     """Delegates and undelegates: mostly granules, half of the time one of a few that the CPUs fight for."""
 
-    needs = STAGES["seven"]
-
-    def __init__(self, machine, draw, _served):
+    def __init__(self, machine, draw):
         self.machine = machine
         self.draw = draw
 
@@ -40,10 +38,9 @@ class Granules:
 class Lives:
     """Lives of realms, one after another on each CPU, each a generator of the realm's commands in order."""
 
-    def __init__(self, machine, draw, served):
+    def __init__(self, machine, draw):
         self.machine = machine
         self.draw = draw
-        self.served = served
         self.plans = [iter(()) for _ in range(CPUS)]
 
     def command(self, cpu):
@@ -77,8 +74,6 @@ class Lives:
 
 class Realms(Lives):
     """Realms and their RECs. VMIDs are drawn from all 256, and one command in twenty is drawn at random."""
-
-    needs = STAGES["seven"]
 
     def life(self, cpu):
         recs = self.draw.randrange(4)
@@ -114,7 +109,6 @@ class Realms(Lives):
 class Tables(Lives):
     """Realms whose tables are made four levels deep in both halves, filled, read, emptied and destroyed."""
 
-    needs = STAGES["sixteen"]
     spaces = [(0x30, 0)]
     tables = range(1, 17)
     pages = range(1, 129)
@@ -175,7 +169,6 @@ class SmallTables(Tables):
 class Measure(SmallTables):
     """Realms whose pages are measured one by one, and whose REC extends and reads measurements."""
 
-    needs = STAGES["all"]
     pages = range(8, 49)
 
     def filled(self, rd, bases, tables, pages):
@@ -200,7 +193,6 @@ class Measure(SmallTables):
 class Inside(SmallTables):
     """Realms whose REC asks for memory, calls its host and turns itself or the realm off."""
 
-    needs = STAGES["all"]
     pages = range(3, 17)
 
     def filled(self, rd, bases, tables, pages):
@@ -237,14 +229,12 @@ class Inside(SmallTables):
 
 
 class Mixed(Lives):
-    """Lives of every kind whose functions are served, and in between granules that all CPUs fight for."""
+    """Lives of every kind, and in between granules that all CPUs fight for."""
 
-    needs = STAGES["seven"]
-
-    def __init__(self, machine, draw, served):
-        super().__init__(machine, draw, served)
-        self.fights = Granules(machine, draw, served)
-        self.kinds = [kind(machine, draw, served) for kind in (Realms, SmallTables, Measure, Inside) if kind.needs <= served]
+    def __init__(self, machine, draw):
+        super().__init__(machine, draw)
+        self.fights = Granules(machine, draw)
+        self.kinds = [kind(machine, draw) for kind in (Realms, SmallTables, Measure, Inside)]
 
     def life(self, cpu):
         return self.draw.choice(self.kinds).life(cpu)

@@ -1,12 +1,11 @@
 #!/usr/bin/env python3
 """Times `rmmcheck check` beside `wc -l` of the same two files in the same run, and prints the README's table of speed.
 
-usage: speed.py [--served STAGE] [--load LOAD] [LINES ..]
+usage: speed.py [--load LOAD] [LINES ..]
 
-Without words it takes 10000, 100000 and 1000000 lines. Each size is measured under each load of generate.py whose functions
-are served, or under the one named. The files are generated anew, and each time is the least of twenty runs, taken in turns.
-Memory is the greatest resident size of one run of the checker, and beside it that size over the history's lines. STAGE says
-which functions are served: seven, sixteen or all.
+Without words it takes 10000, 100000 and 1000000 lines. Each size is measured under each load of generate.py, or under
+the one named. The files are generated anew, and each time is the least of twenty runs, taken in turns. Memory is the greatest
+resident size of one run of the checker, and beside it that size over the history's lines.
 """
 import argparse
 import os
@@ -16,7 +15,6 @@ import tempfile
 import time
 
 sys.dont_write_bytecode = True
-from functions import SERVED_TODAY, STAGES
 from loads import LOADS
 
 HERE = os.path.dirname(os.path.abspath(__file__))
@@ -35,10 +33,9 @@ def run(words):
     return printed, time.perf_counter() - begin, usage.ru_maxrss * 1024, child.returncode
 
 
-def row(load, lines, served, folder):
+def row(load, lines, folder):
     prefix = os.path.join(folder, f"{load}-{lines}")
-    generate = [sys.executable, os.path.join(HERE, "generate.py"), "--served", served]
-    subprocess.run([*generate, load, str(lines), prefix], check=True)
+    subprocess.run([sys.executable, os.path.join(HERE, "generate.py"), load, str(lines), prefix], check=True)
     files = [f"{prefix}.history", f"{prefix}.certificate"]
     check_time = count_time = float("inf")
     memory = 0
@@ -57,7 +54,6 @@ def row(load, lines, served, folder):
 
 def main():
     parser = argparse.ArgumentParser(usage=__doc__)
-    parser.add_argument("--served", choices=STAGES, default=SERVED_TODAY)
     parser.add_argument("--load", choices=LOADS)
     parser.add_argument("lines", type=int, nargs="*", default=[10_000, 100_000, 1_000_000])
     words = parser.parse_args()
@@ -66,11 +62,10 @@ def main():
     subprocess.run([os.path.join(TOP, "rmmcheck"), *first], cwd=TOP, check=True, stdout=subprocess.DEVNULL)
     print("| Load | History lines | Both texts | `wc -l` | `rmmcheck check` | Times `wc -l` | A line | Peak memory | Bytes a line |")
     print("|---|---|---|---|---|---|---|---|---|")
-    served = [name for name, load in LOADS.items() if load.needs <= STAGES[words.served]]
     with tempfile.TemporaryDirectory() as folder:
-        for load in [words.load] if words.load else served:
+        for load in [words.load] if words.load else LOADS:
             for count in words.lines:
-                print(row(load, count, words.served, folder), flush=True)
+                print(row(load, count, folder), flush=True)
 
 
 main()
