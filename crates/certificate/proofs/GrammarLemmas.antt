@@ -99,6 +99,25 @@ BeginsWith-written (line ∷ lines) text is some = (
   record { more = []; is_certificate = is.is_certificate; is_text = is.is_text ∙ sym (append-nil (certificate_text (line ∷ lines))) },
 )
 
+-- what is written where nothing stood is the certificate's text
+pub IsCertificateText-written : (lines : List Line) (front text whole : List ℕ) → IsCertificate lines → text ≡ whole
+    → whole ≡ front ++ certificate_text lines → front ≡ [] → IsCertificateText text lines
+IsCertificateText-written lines front text whole is_certificate is put nothing = record {
+  is_certificate = is_certificate;
+  is_text = is ∙ put ∙ ap (λ f. f ++ certificate_text lines) nothing;
+}
+
+-- a certificate whose text isn't empty has a line
+pub some_line : (lines : List Line) → 0 < length (certificate_text lines) → 0 < length lines
+some_line [] some = absurd (omega arith)
+some_line (line ∷ lines) some = omega arith
+
+-- a text that begins with a line isn't empty
+pub some_text : (lines : List Line) (text more : List ℕ) → text ≡ certificate_text lines ++ more → 0 < length lines → 0 < length text
+some_text [] text more is some = absurd (omega arith)
+some_text (line ∷ lines) text more is some =
+    omega (arith, ap length is, length-append (certificate_text (line ∷ lines)) more, length-append (line_text (line_parts line)) (10 ∷ certificate_text lines))
+
 -- a bad line that is reported of a text says that it is in no certificate's
 pub bad_line_outside : {T : Type 0} (text : List ℕ) (result : Result T CertFault) (line : ℕ) → IfErr result (IsFaultOf text) → result ≡ Err (BadLine line)
     → InCertificates text → ⊥

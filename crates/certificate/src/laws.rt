@@ -1,6 +1,6 @@
 //! The laws of the reader and the writer: each is the contract of a function that calls both.
 
-ghost use Rattle.std.specs.Prelude.{◌≡◌, ℕ, Err, IfOk, IfErr};
+ghost use Rattle.std.specs.Prelude.{◌≡◌, ◌<◌, ℕ, length, Err, IfOk, IfErr, OnErr};
 ghost use Rattle.rmm_spec.specs.CertificateText.{InCertificates};
 ghost use Rattle.certificate.specs.Faults.{IsFaultOf};
 ghost use Rattle.certificate.specs.declared.fault.CertFault.TheVariants.{BadLine};
@@ -11,9 +11,10 @@ use crate::reader::read;
 use crate::writing::write;
 use std::alloc::{AllocError, Global};
 
-/// What is written reads back as it was: no line of it is bad.
+/// What is written reads back as it was: no line of it is bad. Without lines no memory is taken.
 pub fn read_back(alloc: Global, certificate: &Certificate) -> Result<Certificate, AllocError>
-    ensures { IfOk result (λ again. again.lines ≡ certificate.now.lines) }
+    ensures same { IfOk result (λ again. again.lines ≡ certificate.now.lines) }
+    ensures refused { OnErr result (0 < length certificate.now.lines) }
 {
     let _well_formed = certificate.len();
     let mut text = Vec::new(alloc);

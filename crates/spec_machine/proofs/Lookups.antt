@@ -1,5 +1,5 @@
 -- What a machine finds by places is what the definitions search for.
-use Rattle.std.proofs.Common.{◌≡◌, ℕ, true, ◌==◌, Option, Some, None, is_some, List, IsTrue, IfSome, refl, sym, ◌∙◌, ap, slice_index_or}
+use Rattle.std.proofs.Common.{◌≡◌, ℕ, true, Option, Some, None, is_some, List, IsTrue, IfSome, refl, sym, ◌∙◌, ap, slice_index_or}
 use Rattle.std.proofs.lemmas.Bool.{eq-eqb}
 use Rattle.rmm_spec.specs.State.{State, RealmRecord, RecRecord}
 use Rattle.rmm_spec.specs.Lookup.{has_vmid, is_vmid_used, runs_on, is_inside, rec_inside, realm_at}

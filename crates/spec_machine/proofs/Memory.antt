@@ -1,7 +1,7 @@
 -- Which commands make a change that takes memory, and how deep a stretch lies.
-use Rattle.std.proofs.Common.{◌≡◌, ◌≤◌, ℕ, ◌==◌, Bool, true, false, ◌||◌, ◌/◌, List, [], ◌∷◌, IsTrue, is_some, refl, sym, ◌∙◌, ap}
+use Rattle.std.proofs.Common.{◌≡◌, ◌≤◌, ℕ, ◌==◌, Bool, false, ◌||◌, ◌/◌, List, [], ◌∷◌, IsTrue, is_some, refl, sym, ◌∙◌, ap}
 use Rattle.std.specs.Prelude.{Ok}
-use Rattle.rmm_spec.specs.declared.accepted.Accepted.TheVariants.{Done, Reaches}
+use Rattle.rmm_spec.specs.declared.accepted.Accepted.TheVariants.{Reaches}
 use Rattle.rmm_spec.specs.declared.accepted.Stretch.{Stretch}
 use Rattle.rmm_spec.specs.declared.accepted.StretchUse.{StretchUse}
 use Rattle.rmm_spec.specs.declared.accepted.StretchUse.TheVariants.{Init, Requested}

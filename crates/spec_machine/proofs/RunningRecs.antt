@@ -1,5 +1,5 @@
 -- The list of running RECs goes with each change of a REC.
-use Rattle.std.proofs.Common.{◌≡◌, ℕ, ◌<◌, ◌==◌, false, if◌then◌else◌, Option, Some, None, is_some, is_none, List, length, IsTrue, IfSome, refl, sym, ◌∙◌, ap, subst, arith, slice_index_or}
+use Rattle.std.proofs.Common.{◌≡◌, ℕ, ◌==◌, false, if◌then◌else◌, Option, Some, None, is_some, is_none, List, length, IsTrue, IfSome, refl, sym, ◌∙◌, ap, subst, arith, slice_index_or}
 use Rattle.rmm_spec.specs.declared.change.RecChange.{RecChange}
 use Rattle.rmm_spec.specs.declared.change.RecUpdate.{RecUpdate}
 use Rattle.rmm_spec.specs.declared.change.RecUpdate.TheVariants.{Entered, Exited, RipasRequested, HostCalled, TurnedOff, SystemTurnedOff, RequestMoved}
@@ -11,7 +11,6 @@ use Rattle.rmm_spec.specs.Lookup.{has_tag, is_cpu, runs_on, rec_at}
 use Rattle.rmm_spec.specs.Sound.{IsSound}
 use Rattle.rmm_spec.proofs.Tests.{both_ways}
 use Rattle.rmm_sound.proofs.Cases.{none_of}
-use Rattle.rmm_sound.proofs.Entries.{value_there}
 use Rattle.rmm_sound.proofs.Searches.{rec_there}
 use Rattle.spec_machine.specs.Kept.{AreNamed}
 use Rattle.spec_machine.specs.Running.{AreRunning, IsPlaced, cpu_before, without_cpu, with_update, with_running}

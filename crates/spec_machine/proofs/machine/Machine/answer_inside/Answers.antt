@@ -5,7 +5,6 @@ use Rattle.rmm_sound.proofs.Searches.{rec_there}
 use Rattle.rec_steps.specs.Answers.{answer_at, IsRipasRead}
 use Rattle.rec_steps.specs.Held.{IsHeld}
 use Rattle.spec_machine.specs.View.{state_of}
-use Rattle.spec_machine.proofs.Entries.{owner_tagged}
 use Rattle.spec_machine.proofs.Lookups.{held_at}
 use Rattle.spec_machine.proofs.machine.Machine.answer_inside.Goals as goal
 

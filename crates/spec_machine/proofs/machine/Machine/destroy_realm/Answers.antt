@@ -1,4 +1,4 @@
-use Rattle.std.proofs.Common.{ap, ◌∙◌, arith}
+use Rattle.std.proofs.Common.{ap, ◌∙◌}
 use Rattle.rmm_spec.specs.Change.{changed}
 use Rattle.rmm_spec.specs.State.{RealmRecord}
 use Rattle.rmm_spec.specs.declared.tag.Tag.TheVariants.{Rtt}
