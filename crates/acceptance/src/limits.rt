@@ -126,7 +126,7 @@ fn forged_histories(rt: HostRuntime) -> Result<(), Fail> {
                 "rmh1 4 2\nc 0 0 c4000151 1000\nr 1 0 ok\n",
                 "fault history 3",
             ),
-            // A command that isn't served, a word too few, a word too many, capitals.
+            // A number that no command has, a word too few, a word too many, capitals.
             forged_history("rmh1 4 1\nc 0 0 c4000150 1000\n", "fault history 2"),
             forged_history("rmh1 4 1\nc 0 0 c4000151\n", "fault history 2"),
             forged_history("rmh1 4 1\nc 0 0 c4000151 1000 0\n", "fault history 2"),

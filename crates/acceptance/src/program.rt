@@ -5,6 +5,7 @@ use scenarios::run;
 use std::alloc::Global;
 use std::cell::RefCell;
 use std::io::ErrorKind;
+use std::process::Abort;
 use std::sync::Wait;
 use std::test::Fail;
 use std::thread::Threads;
@@ -99,67 +100,86 @@ fn words_of_the_program(rt: HostRuntime) -> Result<(), Fail> {
     Ok(())
 }
 
+// A check of these files ends so.
+fn expect_outcome<R: Abort + AllocGlobal + Threads + Wait + Sync>(
+    rt: &R,
+    history: Option<TestFile>,
+    certificate: Option<TestFile>,
+    is_full: bool,
+    expected: &str,
+) -> Result<(), Fail> {
+    let mut runtime = runtime(rt.alloc(), "rmmcheck check h c");
+    runtime.history = history;
+    runtime.certificate = certificate;
+    runtime.is_full = is_full;
+    let line = outcome(rt, runtime)?;
+    assert!(rt; line.as_str() == expected, "{line} in place of {expected}");
+    Ok(())
+}
+
+// Both files are opened before either is read.
 #[test]
 fn first_fault_ends_the_program(rt: HostRuntime) -> Result<(), Fail> {
     let (whole_history, whole_certificate) = (file(HISTORY, 100), file(CERTIFICATE, 100));
     let (torn_history, torn_certificate) = (file(HISTORY, 2), file(CERTIFICATE, 1));
-    // Both files are opened before either is read.
-    let cases = [
-        (None, None, "cannot read h"),
-        (torn_history, None, "cannot read c"),
-        (torn_history, torn_certificate, "cannot read h"),
-        (whole_history, torn_certificate, "cannot read c"),
-        (whole_history, whole_certificate, "cannot write"),
-    ];
-    for (history, certificate, fault) in cases {
-        let mut runtime = runtime(rt.alloc(), "rmmcheck check h c");
-        runtime.history = history;
-        runtime.certificate = certificate;
-        runtime.is_full = true;
-        let line = outcome(&rt, runtime)?;
-        let expected = format!(in rt.alloc(); "3||rmmcheck: {fault}\n")?;
-        assert!(rt;
-            line.as_str() == expected.as_str(),
-            "{line} in place of {fault}"
-        );
-    }
-    Ok(())
+    let (no_history, no_certificate) = (
+        "3||rmmcheck: cannot read h\n",
+        "3||rmmcheck: cannot read c\n",
+    );
+    expect_outcome(&rt, None, None, true, no_history)?;
+    expect_outcome(&rt, torn_history, None, true, no_certificate)?;
+    expect_outcome(&rt, torn_history, torn_certificate, true, no_history)?;
+    expect_outcome(&rt, whole_history, torn_certificate, true, no_certificate)?;
+    expect_outcome(
+        &rt,
+        whole_history,
+        whole_certificate,
+        true,
+        "3||rmmcheck: cannot write\n",
+    )
 }
 
 #[test]
 fn refused_memory_is_reported(rt: HostRuntime) -> Result<(), Fail> {
     let (whole_history, whole_certificate) = (file(HISTORY, 100), file(CERTIFICATE, 100));
-    let cases = [
-        (file_too_large(HISTORY, 0), whole_certificate),
-        (file_too_large(HISTORY, 3), whole_certificate),
-        (whole_history, file_too_large(CERTIFICATE, 1)),
-    ];
-    for (history, certificate) in cases {
-        let mut runtime = runtime(rt.alloc(), "rmmcheck check h c");
-        runtime.history = history;
-        runtime.certificate = certificate;
-        let line = outcome(&rt, runtime)?;
-        assert!(rt; line.as_str() == "3||rmmcheck: no memory\n", "{line}");
-    }
-    Ok(())
+    let told = "3||rmmcheck: no memory\n";
+    expect_outcome(
+        &rt,
+        file_too_large(HISTORY, 0),
+        whole_certificate,
+        false,
+        told,
+    )?;
+    expect_outcome(
+        &rt,
+        file_too_large(HISTORY, 3),
+        whole_certificate,
+        false,
+        told,
+    )?;
+    expect_outcome(
+        &rt,
+        whole_history,
+        file_too_large(CERTIFICATE, 1),
+        false,
+        told,
+    )
 }
 
 #[test]
 fn status_of_the_verdict(rt: HostRuntime) -> Result<(), Fail> {
-    let cases = [
-        (HISTORY, CERTIFICATE, "0|yes 1\n|"),
-        (HISTORY, b"".as_slice(), "1|no 1 missing 0 0\n|"),
-        (HISTORY, b"k 0\n".as_slice(), "2|fault certificate 1\n|"),
-        (b"".as_slice(), CERTIFICATE, "2|fault history 1\n|"),
-    ];
-    for (history, certificate, expected) in cases {
-        let mut runtime = runtime(rt.alloc(), "rmmcheck check h c");
-        runtime.history = file(history, 100);
-        runtime.certificate = file(certificate, 100);
-        let line = outcome(&rt, runtime)?;
-        assert!(rt; line.as_str() == expected, "{line} in place of {expected}");
-    }
-    Ok(())
+    let (whole_history, whole_certificate) = (file(HISTORY, 100), file(CERTIFICATE, 100));
+    let empty = file(b"", 100);
+    expect_outcome(&rt, whole_history, whole_certificate, false, "0|yes 1\n|")?;
+    expect_outcome(&rt, whole_history, empty, false, "1|no 1 missing 0 0\n|")?;
+    expect_outcome(
+        &rt,
+        whole_history,
+        file(b"k 0\n", 100),
+        false,
+        "2|fault certificate 1\n|",
+    )?;
+    expect_outcome(&rt, empty, whole_certificate, false, "2|fault history 1\n|")
 }
 
 #[test]

@@ -1,52 +1,63 @@
 //! Realms and RECs: made, activated and destroyed, with verdicts that were worked out by hand.
 
-use crate::script::{Step, answered, line_of_script};
+use crate::script::{Script, expect_script};
 use crate::table::{Row, expect_lines};
+use std::process::Abort;
 use std::test::Fail;
 
 // Two realms that want one VMID, a REC that overlaps, destroying in the wrong order, an index that is taken once,
 // activation twice, and a realm of the other width.
-fn two_lives() -> [Step; 12] {
-    [
-        answered("c4000158 1000 2000 27 1 1 0", "ok"),
-        answered("c4000158 3000 4000 27 1 1 0", "err 1 0"),
-        answered("c400015a 1000 5000 0 1 6000 7000", "ok"),
-        answered("c400015a 1000 3000 0 1 4000 8000", "err 1 0"),
-        answered("c4000159 1000", "err 2 0"),
-        answered("c400015b 5000", "ok"),
-        answered("c400015a 1000 5000 0 1 6000 7000", "err 1 0"),
-        answered("c4000157 1000", "ok"),
-        answered("c4000157 1000", "err 2 0"),
-        answered("c400015a 1000 5000 1 1 6000 7000", "err 2 0"),
-        answered("c4000159 1000", "ok"),
-        answered("c4000158 3000 4000 30 0 1 0", "ok"),
-    ]
-}
+const TWO_LIVES: &str = "\
+REALM_CREATE 1000 2000 27 1 1 0 -> ok
+REALM_CREATE 3000 4000 27 1 1 0 -> err 1 0
+REC_CREATE 1000 5000 0 1 6000 7000 -> ok
+REC_CREATE 1000 3000 0 1 4000 8000 -> err 1 0
+REALM_DESTROY 1000 -> err 2 0
+REC_DESTROY 5000 -> ok
+REC_CREATE 1000 5000 0 1 6000 7000 -> err 1 0
+REALM_ACTIVATE 1000 -> ok
+REALM_ACTIVATE 1000 -> err 2 0
+REC_CREATE 1000 5000 1 1 6000 7000 -> err 2 0
+REALM_DESTROY 1000 -> ok
+REALM_CREATE 3000 4000 30 0 1 0 -> ok
+";
 
 #[test]
 fn realms_and_recs_come_and_go(rt: HostRuntime) -> Result<(), Fail> {
-    let line = line_of_script(rt.alloc(), 8, two_lives().as_slice())?;
-    assert!(rt; line.as_str() == "yes 20\n", "{line}");
+    expect_script(&rt, 8, &[TWO_LIVES], "yes 20")
+}
+
+// So many of the steps get their replies, and the next one, which this is, doesn't get this other one.
+fn expect_not<R: Abort + AllocGlobal>(
+    rt: &R,
+    count: usize,
+    step: &str,
+    other: &str,
+) -> Result<(), Fail> {
+    let mut script = Script::new(rt.alloc(), 1, 8)?;
+    for before in TWO_LIVES.lines().take(count) {
+        script.add(before)?;
+    }
+    let (command, reply) = step.split_once(" -> ").ok_or("a step without a reply")?;
+    if other == reply {
+        return Ok(());
+    }
+    let changed = format!(in rt.alloc(); "{command} -> {other}")?;
+    script.add(changed.as_str())?;
+    script.expect_no(rt)
+}
+
+fn expect_no_other<R: Abort + AllocGlobal>(rt: &R, count: usize, step: &str) -> Result<(), Fail> {
+    for other in "ok,ok 0,err 1 0,err 2 0,err 3 0,misplaced".split(',') {
+        expect_not(rt, count, step, other)?;
+    }
     Ok(())
 }
 
 #[test]
 fn no_step_has_another_reply(rt: HostRuntime) -> Result<(), Fail> {
-    let others = ["ok", "ok 0", "err 1 0", "err 2 0", "err 3 0", "misplaced"];
-    for index in 0..12 {
-        for other in others {
-            let mut steps = two_lives();
-            if steps[index].reply == other {
-                continue;
-            }
-            steps[index].reply = other;
-            let line = line_of_script(rt.alloc(), 8, steps.as_slice())?;
-            let expected = format!(in rt.alloc(); "no {} reply\n", index + 9)?;
-            assert!(rt;
-                line == expected,
-                "{line} in place of {expected} with {other}"
-            );
-        }
+    for (count, step) in TWO_LIVES.lines().enumerate() {
+        expect_no_other(&rt, count, step)?;
     }
     Ok(())
 }

@@ -1,107 +1,126 @@
-//! Scripts: what one CPU calls, each call answered before the next is made, and committed in that order.
+//! Scripts: what CPUs call, each call answered before the next is made, and committed in that order.
 
-use crate::table::verdict_of;
+use crate::table::{expect_told, verdict_of};
 use std::alloc::Global;
 use std::fmt::Write;
 use std::process::Abort;
 use std::test::Fail;
 
-/// A command's text and the text of its reply.
-#[derive(Clone, Copy)]
-pub struct Step {
-    pub command: &'static str,
-    pub reply: &'static str,
-}
+const MOST_CPUS: usize = 2;
 
-pub fn answered(command: &'static str, reply: &'static str) -> Step {
-    Step { command, reply }
-}
-
-/// The line on a machine of 16 granules, of which so many, from 0x1000 on, are delegated before the steps.
-pub fn line_of_script(alloc: Global, delegated: u8, steps: &[Step]) -> Result<String, Fail> {
-    let mut script = Script::new(alloc, delegated)?;
-    for Step { command, reply } in steps {
-        script.push(command, reply)?;
-    }
-    script.line()
-}
-
-/// A run of CPU 0 on a machine of 16 granules.
+/// A run on a machine of 16 granules.
 #[derive(Drop)]
 pub struct Script {
     alloc: Global,
     history: String,
     certificate: String,
+    calls: [usize; MOST_CPUS],
     steps: usize,
 }
 
 impl Script {
-    /// So many granules, from 0x1000 on, are delegated.
-    pub fn new(alloc: Global, delegated: u8) -> Result<Script, Fail> {
+    /// So many granules, from 0x1000 on, are delegated by CPU 0.
+    pub fn new(alloc: Global, cpus: usize, delegated: u8) -> Result<Script, Fail> {
         let mut script = Script {
             alloc,
-            history: String::from_str(alloc, "rmh1 16 1\n")?,
+            history: format!(in alloc; "rmh1 16 {cpus}\n")?,
             certificate: String::new(alloc),
+            calls: [0; MOST_CPUS],
             steps: 0,
         };
         for number in 0..delegated {
             let command = format!(in alloc; "c4000151 {:x}", (u64::from(number) + 1) * 0x1000)?;
-            script.push(command.as_str(), "ok")?;
+            script.push(0, command.as_str(), "ok")?;
         }
         Ok(script)
     }
 
-    fn push(&mut self, command: &str, reply: &str) -> Result<(), Fail> {
-        let number = self.steps;
-        self.steps = number.checked_add(1).ok_or("too many steps")?;
+    // The command's text with its function's number, and the text of its reply.
+    fn push(&mut self, cpu: usize, command: &str, reply: &str) -> Result<(), Fail> {
+        let calls = self.calls.get_mut(cpu).ok_or("no such CPU")?;
+        let number = *calls;
+        *calls = number.checked_add(1).ok_or("too many calls")?;
+        self.steps = self.steps.checked_add(1).ok_or("too many steps")?;
         write!(
             self.history,
-            "c 0 {number} {command}\nr 0 {number} {reply}\n"
+            "c {cpu} {number} {command}\nr {cpu} {number} {reply}\n"
         )?;
-        write!(self.certificate, "k 0 {number}\n")?;
+        write!(self.certificate, "k {cpu} {number}\n")?;
         Ok(())
     }
 
-    /// Each line of the text is a command by its name, an arrow and its reply.
+    /// Each line of the text is a command by its name, an arrow and its reply, behind `1: ` where CPU 1 calls it.
     pub fn add(&mut self, text: &str) -> Result<(), Fail> {
         for line in text.lines() {
+            let (cpu, line) = match line.strip_prefix("1: ") {
+                Some(rest) => (1, rest),
+                None => (0, line),
+            };
             let (call, reply) = line.split_once(" -> ").ok_or("a line without a reply")?;
             let (name, words) = call.split_once(' ').unwrap_or((call, ""));
             let number = number_of(name).ok_or("no such command")?;
             let command = format!(in self.alloc; "{number:08x} {words}")?;
-            self.push(command.as_str().trim_ascii_end(), reply)?;
+            self.push(cpu, command.as_str().trim_ascii_end(), reply)?;
         }
         Ok(())
     }
 
-    pub fn steps(&self) -> usize {
-        self.steps
-    }
-
-    pub fn line(&self) -> Result<String, Fail> {
-        verdict_of(
+    /// This is the line of its verdict without the newline.
+    pub fn expect<R: Abort + AllocGlobal>(&self, rt: &R, expected: &str) -> Result<(), Fail> {
+        let line = verdict_of(
             self.alloc,
             self.history.as_bytes(),
             self.certificate.as_bytes(),
-        )
+        )?;
+        expect_told(rt, line.as_str(), expected);
+        Ok(())
+    }
+
+    /// Every step has its reply.
+    pub fn expect_yes<R: Abort + AllocGlobal>(&self, rt: &R) -> Result<(), Fail> {
+        let expected = format!(in self.alloc; "yes {}", self.steps)?;
+        self.expect(rt, expected.as_str())
+    }
+
+    /// The last step doesn't get its reply, and each one before it does.
+    pub fn expect_no<R: Abort + AllocGlobal>(&self, rt: &R) -> Result<(), Fail> {
+        let expected = format!(in self.alloc; "no {} reply", self.steps)?;
+        self.expect(rt, expected.as_str())
     }
 }
 
-/// The texts are one script, and this is the line of its verdict without the newline.
+/// The texts are one script of CPU 0, and this is the line of its verdict without the newline.
 pub fn expect_script<R: Abort + AllocGlobal>(
     rt: &R,
     delegated: u8,
     texts: &[&str],
     expected: &str,
 ) -> Result<(), Fail> {
-    let mut script = Script::new(rt.alloc(), delegated)?;
+    expect_script_of(rt, 1, delegated, texts, expected)
+}
+
+/// The texts are one script of two CPUs, and this is the line of its verdict without the newline.
+pub fn expect_script_of_two<R: Abort + AllocGlobal>(
+    rt: &R,
+    delegated: u8,
+    texts: &[&str],
+    expected: &str,
+) -> Result<(), Fail> {
+    expect_script_of(rt, 2, delegated, texts, expected)
+}
+
+fn expect_script_of<R: Abort + AllocGlobal>(
+    rt: &R,
+    cpus: usize,
+    delegated: u8,
+    texts: &[&str],
+    expected: &str,
+) -> Result<(), Fail> {
+    let mut script = Script::new(rt.alloc(), cpus, delegated)?;
     for text in texts {
         script.add(text)?;
     }
-    let line = script.line()?;
-    let told = line.as_str().strip_suffix("\n");
-    assert!(rt; told == Some(expected), "{line} in place of {expected}");
-    Ok(())
+    script.expect(rt, expected)
 }
 
 fn number_of(name: &str) -> Option<u32> {

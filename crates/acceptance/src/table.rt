@@ -21,6 +21,14 @@ pub fn verdict_of(alloc: Global, history: &[u8], certificate: &[u8]) -> Result<S
     Ok(String::from_utf8(line)?)
 }
 
+/// The verdict's line that was told is this one, without the newline.
+pub fn expect_told<R: Abort>(rt: &R, told: &str, expected: &str) {
+    assert!(rt;
+        told.strip_suffix("\n") == Some(expected),
+        "{told} in place of {expected}"
+    );
+}
+
 pub fn expect_lines<R: Abort + AllocGlobal>(rt: &R, rows: &[Row]) -> Result<(), Fail> {
     for row in rows {
         let line = verdict_of(
@@ -28,14 +36,7 @@ pub fn expect_lines<R: Abort + AllocGlobal>(rt: &R, rows: &[Row]) -> Result<(), 
             row.history.as_bytes(),
             row.certificate.as_bytes(),
         )?;
-        let told = line.as_str().strip_suffix("\n");
-        assert!(rt;
-            told == Some(row.line),
-            "{} for {} and {}",
-            line,
-            row.history,
-            row.certificate
-        );
+        expect_told(rt, line.as_str(), row.line);
         expect_round_trips(rt, row)?;
     }
     Ok(())

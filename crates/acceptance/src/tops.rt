@@ -1,11 +1,13 @@
-//! How far RTT_INIT_RIPAS may get: each end that is allowed, and those next to them that aren't, at each level.
+//! How far RTT_INIT_RIPAS and RTT_SET_RIPAS may get: each end that is allowed, and those next to them that aren't, at each
+//! level.
 
 use crate::script::Script;
 use std::fmt::Write;
 use std::process::Abort;
 use std::test::Fail;
 
-/// A stretch from an address of the realm at 1000 on, with so many entries of a size that the command may set.
+/// A stretch from an address of the realm at 1000 on, with so many entries of a size that the command may set: as the REC at
+/// 5000 has asked for it, or before the realm runs.
 #[derive(Clone, Copy)]
 struct Stretch {
     before: &'static str,
@@ -14,6 +16,7 @@ struct Stretch {
     level: u64,
     size: u64,
     entries: u64,
+    is_asked_for: bool,
 }
 
 impl Stretch {
@@ -22,8 +25,8 @@ impl Stretch {
     }
 }
 
-// The verdict's line where the command replies with this end. Where it may, the last entry before it is then RAM, and the
-// next one isn't, if it is one of the stretch.
+// The verdict where the command replies with this end. Where it may, the last entry before it is then RAM, and the next one
+// isn't, if it is one of the stretch; and the REC that asked is told of it.
 fn expect_end<R: Abort + AllocGlobal>(
     rt: &R,
     stretch: &Stretch,
@@ -36,9 +39,10 @@ fn expect_end<R: Abort + AllocGlobal>(
         level,
         size,
         entries,
+        is_asked_for,
         ..
     } = *stretch;
-    let mut script = Script::new(rt.alloc(), 7)?;
+    let mut script = Script::new(rt.alloc(), 1, 7)?;
     script.add(before)?;
     let mut text = String::new(rt.alloc());
     write!(text, "{command} -> ok {end:x}\n")?;
@@ -55,19 +59,15 @@ fn expect_end<R: Abort + AllocGlobal>(
             "RTT_READ_ENTRY 1000 {end:x} {level} -> ok {level} 0 0 0\n"
         )?;
     }
+    if is_allowed && is_asked_for {
+        write!(text, "REC_ENTER 5000 -> ok {end:x}\n")?;
+    }
     script.add(text.as_str())?;
-    let steps = script.steps();
-    let expected = if is_allowed {
-        format!(in rt.alloc(); "yes {steps}\n")?
+    if is_allowed {
+        script.expect_yes(rt)
     } else {
-        format!(in rt.alloc(); "no {steps} reply\n")?
-    };
-    let line = script.line()?;
-    assert!(rt;
-        line == expected,
-        "{line} in place of {expected} for {text}"
-    );
-    Ok(())
+        script.expect_no(rt)
+    }
 }
 
 fn expect_ends<R: Abort + AllocGlobal>(rt: &R, stretch: &Stretch) -> Result<(), Fail> {
@@ -106,6 +106,7 @@ fn ends_among_pages(rt: HostRuntime) -> Result<(), Fail> {
         level: 3,
         size: 0x1000,
         entries: 512,
+        is_asked_for: false,
     };
     expect_ends(&rt, &whole)?;
     let asked = Stretch {
@@ -146,6 +147,7 @@ fn ends_among_tables_of_pages(rt: HostRuntime) -> Result<(), Fail> {
         level: 2,
         size: 0x20_0000,
         entries: 3,
+        is_asked_for: false,
     };
     expect_ends(&rt, &barred)?;
     let whole = Stretch {
@@ -176,6 +178,7 @@ fn ends_in_a_root(rt: HostRuntime) -> Result<(), Fail> {
         level: 1,
         size: 0x4000_0000,
         entries: 255,
+        is_asked_for: false,
     };
     expect_ends(&rt, &narrow)?;
     let wide = Stretch {
@@ -185,6 +188,71 @@ fn ends_in_a_root(rt: HostRuntime) -> Result<(), Fail> {
         level: 0,
         size: 0x80_0000_0000,
         entries: 256,
+        is_asked_for: false,
     };
     expect_ends(&rt, &wide)
+}
+
+const PAGES_ASKED_FOR: &str = "\
+REALM_CREATE 1000 2000 27 1 1 0 -> ok
+RTT_CREATE 1000 3000 0 2 -> ok
+RTT_CREATE 1000 4000 0 3 -> ok
+REC_CREATE 1000 5000 0 1 6000 7000 -> ok
+REALM_ACTIVATE 1000 -> ok
+REC_ENTER 5000 -> ok 0
+IPA_STATE_SET 1f0000 400000 1 -> ok
+Exit -> ok 4 1f0000 400000 1
+";
+
+// By the end of the table, and by the top of a command that asks for less than the REC did.
+#[test]
+fn ends_of_pages_asked_for(rt: HostRuntime) -> Result<(), Fail> {
+    let whole = Stretch {
+        before: PAGES_ASKED_FOR,
+        command: "RTT_SET_RIPAS 1000 5000 1f0000 400000",
+        base: 0x1f_0000,
+        level: 3,
+        size: 0x1000,
+        entries: 16,
+        is_asked_for: true,
+    };
+    expect_ends(&rt, &whole)?;
+    let less = Stretch {
+        command: "RTT_SET_RIPAS 1000 5000 1f0000 1f3000",
+        entries: 3,
+        ..whole
+    };
+    expect_ends(&rt, &less)
+}
+
+const TABLES_ASKED_FOR: &str = "\
+REALM_CREATE 1000 2000 27 1 1 0 -> ok
+RTT_CREATE 1000 3000 0 2 -> ok
+RTT_CREATE 1000 4000 600000 3 -> ok
+REC_CREATE 1000 5000 0 1 6000 7000 -> ok
+REALM_ACTIVATE 1000 -> ok
+REC_ENTER 5000 -> ok 0
+IPA_STATE_SET 0 4000000000 1 -> ok
+Exit -> ok 4 0 4000000000 1
+";
+
+// By a table, and by a top inside an entry.
+#[test]
+fn ends_of_tables_asked_for(rt: HostRuntime) -> Result<(), Fail> {
+    let barred = Stretch {
+        before: TABLES_ASKED_FOR,
+        command: "RTT_SET_RIPAS 1000 5000 0 4000000000",
+        base: 0,
+        level: 2,
+        size: 0x20_0000,
+        entries: 3,
+        is_asked_for: true,
+    };
+    expect_ends(&rt, &barred)?;
+    let inside = Stretch {
+        command: "RTT_SET_RIPAS 1000 5000 0 5ff000",
+        entries: 2,
+        ..barred
+    };
+    expect_ends(&rt, &inside)
 }
