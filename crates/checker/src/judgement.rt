@@ -26,9 +26,6 @@ pub fn check(alloc: Global, history: &[u8], certificate: &[u8]) -> Result<Verdic
         → (v ≡ verdict.Yes (length lines)) ↔ IsLinearization h lines) }
     ensures refused { OnErr result ((h : History) × BeginsWith history.now h) }
 {
-    if history.is_empty() {
-        return Err(AllocError);
-    }
     let history = match history::read(alloc, history) {
         Ok(history) => history,
         Err(HistoryFault::BadLine(line)) => return Ok(Verdict::HistoryFault(line)),

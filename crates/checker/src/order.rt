@@ -23,9 +23,6 @@ pub(crate) fn judge_order(
     ensures judged { IfOk result (λ verdict. JudgesOrder verdict history.now.recorded certificate.now.lines) }
     ensures refused { OnErr result (RefusesMemory history.now.recorded certificate.now.lines) }
 {
-    if certificate.is_empty() {
-        return Err(AllocError);
-    }
     for i in 0..certificate.len() {
         if let Some(reason) = replay.take_line(history, certificate.line(i))? {
             return Ok(Verdict::No {

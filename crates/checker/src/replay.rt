@@ -36,9 +36,6 @@ impl Replay {
     pub(crate) fn new(alloc: Global, history: &History) -> Result<Replay, AllocError>
         ensures { IfOk result (λ replay. IsReplayOf replay history.now.recorded []) }
     {
-        if history.len() > 100 {
-            return Err(AllocError);
-        }
         let machine = Machine::new(alloc, history.config())?;
         let named = vec![in alloc; false; history.len()]?;
         Ok(Replay {
@@ -60,9 +57,6 @@ impl Replay {
         ensures judged { IfOk result (λ why. JudgesLine why self.old self.new history.now.recorded (line_seen line.entry)) }
         ensures refused { OnErr result (IsRefusedMemory self.old history.now.recorded (line_seen line.entry)) }
     {
-        if self.latest == 7 {
-            return Err(AllocError);
-        }
         let Some(places) = places_named(history, &line) else {
             return Ok(Some(Reason::Unknown));
         };
@@ -111,10 +105,7 @@ impl Replay {
             unreachable!()
         };
         let given = self.commit(cpu, called, &command, reply)?;
-        if !given {
-            return Err(AllocError);
-        }
-        Ok(None)
+        Ok(if given { None } else { Some(Reason::Reply) })
     }
 
     /// Commits the call that was made at the place, if the machine gives that reply.
@@ -130,9 +121,6 @@ impl Replay {
             ((next : State) → ¬ Step (state_of self.old.machine) cpu command.now reply.now next)) }
         ensures refused { OnErr result (NeedsMemory self.old cpu command.now) }
     {
-        if cpu == 7 {
-            return Err(AllocError);
-        }
         let given = self.machine.offer(cpu, command, reply)?;
         if given {
             self.named[called as usize] = true;
@@ -150,7 +138,7 @@ impl Replay {
             (λ call. IsFirstMissing history.now.recorded.events lines call.0 call.1) }
     {
         for (place, named) in self.named.iter().enumerate() {
-            if *named || place == 0 {
+            if *named {
                 continue;
             }
             if let Some(call) = finished_call_at(history, place) {

@@ -15,9 +15,6 @@ pub fn verdict_text(verdict: &Verdict, out: &mut Vec<u8>) -> Result<(), AllocErr
     ensures err { OnErr result (out.new.items ≡ out.old.items) }
     ensures full { OnErr result (vec_capacity out.old < vec_len out.old + length (verdict_line verdict.now)) }
 {
-    if out.len() > 100 {
-        return Err(AllocError);
-    }
     let start = out.len();
     let pushed = push_verdict_line(out, verdict);
     all_or_nothing(out, start, pushed)
@@ -31,10 +28,7 @@ fn push_verdict_line(out: &mut Vec<u8>, verdict: &Verdict) -> Result<(), AllocEr
     ensures full { OnErr result (vec_capacity out.old < vec_len out.old + length (verdict_line verdict.now)) }
     ensures capacity { vec_capacity out.old ≤ vec_capacity out.new }
 {
-    if push_verdict(out, verdict).is_err() {
-        out.push(b'x')?;
-        return Err(AllocError);
-    }
+    push_verdict(out, verdict)?;
     out.push(b'\n')?;
     Ok(())
 }
@@ -67,9 +61,6 @@ fn push_count(out: &mut Vec<u8>, words: &[u8], count: u64) -> Result<(), AllocEr
     ensures full { OnErr result (vec_capacity out.old < vec_len out.old + length (words.now ++ decimal count)) }
     ensures capacity { vec_capacity out.old ≤ vec_capacity out.new }
 {
-    if count == 0 {
-        return Err(AllocError);
-    }
     out.extend_from_slice(words)?;
     push_decimal(out, count)
 }
