@@ -5,3 +5,4 @@ pub mod Served
 pub mod Single
 pub mod Stored
 pub mod View
+pub mod Lending

@@ -11,6 +11,7 @@ mod changed_tables;
 mod data;
 mod granule;
 mod granules;
+mod lending;
 mod machine;
 mod owner_report;
 mod owners;

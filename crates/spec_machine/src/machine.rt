@@ -5,10 +5,12 @@ ghost use Rattle.spec_machine.specs.Owners.{AreOwners};
 ghost use Rattle.spec_machine.specs.Single.{kept-single, owners-single};
 ghost use Rattle.spec_machine.specs.Stored.{stored};
 
+use crate::lending::lending_of;
 use crate::owners::Owners;
 use crate::reply::is_ok;
 use crate::store::Store;
 use granule_state::{Config, Pa};
+use rmi_view::{CommandRef, ReplyRef};
 use rmm_spec::{Accepted, Call, Command, Reply};
 use std::alloc::{AllocError, Global};
 
@@ -34,6 +36,7 @@ impl Machine {
     ghost use Rattle.rmm_spec.specs.Function.{is_served};
     ghost use Rattle.rmm_spec.specs.State.{State, opening};
     ghost use Rattle.rmm_spec.specs.Step.{Step, outcome};
+    ghost use Rattle.rmi_view.specs.Seen.{command_seen, reply_seen};
     ghost use Rattle.spec_machine.specs.Served.{is_decided, makes_table};
     ghost use Rattle.spec_machine.specs.View.{state_of};
 
@@ -62,7 +65,7 @@ impl Machine {
         ensures { result ≡ (if is_served command.now.function
             then Some (outcome (state_of self.now) cpu (call_of command.now)) else None) }
     {
-        self.decide(cpu, &command.call())
+        self.outcome_seen(cpu, CommandRef::of(command))
     }
 
     /// Takes one step: whether the machine may give this reply to the command of this CPU. Where it may, the state is
@@ -79,9 +82,53 @@ impl Machine {
         ensures only_tables { OnErr result (IsTrue (makes_table command.now.function)) }
         ensures only_accepted { OnErr result (IsOk (outcome (state_of self.old) cpu (call_of command.now))) }
     {
-        match self.outcome(cpu, command) {
+        self.offer_seen(cpu, CommandRef::of(command), ReplyRef::of(reply))
+    }
+
+    /// Takes one step, as `offer` does, with a command and a reply that lie elsewhere.
+    pub fn offer_seen(
+        &mut self,
+        cpu: u8,
+        command: CommandRef<'_>,
+        reply: ReplyRef<'_>,
+    ) -> Result<bool, AllocError>
+        ensures step { IfOk result (λ given. IsTrue given
+            → Step (state_of self.old) cpu (command_seen command.entry) (reply_seen reply.entry) (state_of self.new)) }
+        ensures only { IfOk result (λ given. given ≡ false → IsTrue (is_served command.entry.function)
+            → (next : State) → ¬ Step (state_of self.old) cpu (command_seen command.entry) (reply_seen reply.entry) next) }
+        ensures unserved { IfOk result (λ given. is_served command.entry.function ≡ false → given ≡ false) }
+        ensures kept { IfOk result (λ given. given ≡ false → state_of self.new ≡ state_of self.old) }
+        ensures err { OnErr result (state_of self.new ≡ state_of self.old) }
+        ensures only_tables { OnErr result (IsTrue (makes_table command.entry.function)) }
+        ensures only_accepted { OnErr result (IsOk (outcome (state_of self.old) cpu (call_of (command_seen command.entry)))) }
+    {
+        match lending_of(command) {
+            Some(lending) => Ok(self.lend(cpu, lending, reply)),
+            None => self.offer_any(cpu, command, reply),
+        }
+    }
+
+    // Takes one step, whatever the command is.
+    #[inline(never)]
+    fn offer_any(
+        &mut self,
+        cpu: u8,
+        command: CommandRef<'_>,
+        reply: ReplyRef<'_>,
+    ) -> Result<bool, AllocError>
+        ensures step { IfOk result (λ given. IsTrue given
+            → Step (state_of self.old) cpu (command_seen command.entry) (reply_seen reply.entry) (state_of self.new)) }
+        ensures only { IfOk result (λ given. given ≡ false → IsTrue (is_served command.entry.function)
+            → (next : State) → ¬ Step (state_of self.old) cpu (command_seen command.entry) (reply_seen reply.entry) next) }
+        ensures unserved { IfOk result (λ given. is_served command.entry.function ≡ false → given ≡ false) }
+        ensures kept { IfOk result (λ given. given ≡ false → state_of self.new ≡ state_of self.old) }
+        ensures err { OnErr result (state_of self.new ≡ state_of self.old) }
+        ensures only_tables { OnErr result (IsTrue (makes_table command.entry.function)) }
+        ensures only_accepted { OnErr result (IsOk (outcome (state_of self.old) cpu (call_of (command_seen command.entry)))) }
+    {
+        match self.outcome_seen(cpu, command) {
             None => Ok(false),
-            Some(Err(refusal)) => Ok(*reply == refusal),
+            Some(Err(refusal)) => Ok(reply.is(&refusal)),
             Some(Ok(Accepted::Done { words, change })) => {
                 if !is_ok(reply, &words) {
                     return Ok(false);
@@ -93,6 +140,14 @@ impl Machine {
             }
             Some(Ok(Accepted::Reaches(stretch))) => Ok(self.reach(&stretch, reply)),
         }
+    }
+
+    // What the specification answers, as `outcome` does.
+    fn outcome_seen(&self, cpu: u8, command: CommandRef<'_>) -> Option<Result<Accepted, Reply>>
+        ensures { result ≡ (if is_served command.entry.function
+            then Some (outcome (state_of self.now) cpu (call_of (command_seen command.entry))) else None) }
+    {
+        self.decide(cpu, &command.call())
     }
 
     // What the specification answers to a call that is served. A host's commands are given outside of RECs.

@@ -1,0 +1,44 @@
+//! Replies, seen where their words lie.
+
+use rmm_spec::Reply;
+
+/// A reply whose words lie elsewhere.
+#[derive(Clone, Copy, Debug)]
+pub enum ReplyRef<'a> {
+    /// The command was carried out, and gives these words.
+    Ok(&'a [u64]),
+    /// A status and its index.
+    Err(u8, u8),
+    /// The CPU isn't where such a command is given.
+    Misplaced,
+}
+
+impl<'a> ReplyRef<'a> {
+    ghost use Rattle.std.specs.Prelude.{◌≡◌, ◌↔◌, ℕ, ◌≢◌, IsTrue, IfSome, IfNone, [], ◌∷◌};
+    ghost use Rattle.rmm_spec.specs.Rows as rows;
+    ghost use Rattle.rmi_view.specs.Seen.{reply_seen};
+
+    pub fn of(reply: &'a Reply) -> ReplyRef<'a>
+        ensures { reply_seen result ≡ reply.now }
+    {
+        match reply {
+            Reply::Ok(words) => ReplyRef::Ok(words.as_slice()),
+            Reply::Err(status, index) => ReplyRef::Err(*status, *index),
+            Reply::Misplaced => ReplyRef::Misplaced,
+        }
+    }
+
+    /// Whether it is this reply.
+    pub fn is(self, reply: &Reply) -> bool
+        ensures { IsTrue result ↔ (reply_seen self.entry ≡ reply.now) }
+    {
+        match (self, reply) {
+            (ReplyRef::Ok(given), Reply::Ok(words)) => given == words.as_slice(),
+            (ReplyRef::Err(status, index), Reply::Err(other, at)) => {
+                status == *other && index == *at
+            }
+            (ReplyRef::Misplaced, Reply::Misplaced) => true,
+            _ => false,
+        }
+    }
+}
