@@ -1,4 +1,5 @@
 -- What is seen of a command and of a reply.
+use Rattle.std.specs.Prelude.{⊤, ◌≤◌, length}
 use Rattle.rmm_spec.specs.declared.command.Command.{Command}
 use Rattle.rmm_spec.specs.declared.reply.Reply.{Reply}
 use Rattle.rmm_spec.specs.declared.reply.Reply.TheVariants as reply
@@ -13,3 +14,9 @@ abbrev pub reply_seen : ReplyRef → Reply
 reply_seen (seen.Ok words) = reply.Ok (record { items = words.now })
 reply_seen (seen.Err status index) = reply.Err status index
 reply_seen seen.Misplaced = reply.Misplaced
+
+-- a reply of its own has room for its words
+abbrev pub HasFewWords : Reply → Type 0
+HasFewWords (reply.Ok words) = length words.items ≤ 10
+HasFewWords (reply.Err status index) = ⊤
+HasFewWords reply.Misplaced = ⊤

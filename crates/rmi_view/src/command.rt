@@ -1,5 +1,6 @@
 //! Commands, seen where their words lie.
 
+use crate::words::owned;
 use rmm_spec::{Call, Command, FunctionId};
 
 /// A command whose words lie elsewhere.
@@ -10,7 +11,7 @@ pub struct CommandRef<'a> {
 }
 
 impl<'a> CommandRef<'a> {
-    ghost use Rattle.std.specs.Prelude.{◌≡◌};
+    ghost use Rattle.std.specs.Prelude.{◌≡◌, ◌≤◌, length};
     ghost use Rattle.rmm_spec.specs.Call.{call_of};
     ghost use Rattle.rmi_view.specs.Seen.{command_seen};
 
@@ -20,6 +21,17 @@ impl<'a> CommandRef<'a> {
         CommandRef {
             function: command.function,
             words: command.words.as_slice(),
+        }
+    }
+
+    /// A command of its own.
+    pub fn to_command(self) -> Command
+        requires { length self.words.now ≤ 10 }
+        ensures { result ≡ command_seen self.entry }
+    {
+        Command {
+            function: self.function,
+            words: owned(self.words),
         }
     }
 

@@ -6,6 +6,7 @@
 
 mod command;
 mod reply;
+mod words;
 
 pub use command::CommandRef;
 pub use reply::ReplyRef;

@@ -1,5 +1,6 @@
 //! Replies, seen where their words lie.
 
+use crate::words::owned;
 use rmm_spec::Reply;
 
 /// A reply whose words lie elsewhere.
@@ -14,9 +15,8 @@ pub enum ReplyRef<'a> {
 }
 
 impl<'a> ReplyRef<'a> {
-    ghost use Rattle.std.specs.Prelude.{◌≡◌, ◌↔◌, ℕ, ◌≢◌, IsTrue, IfSome, IfNone, [], ◌∷◌};
-    ghost use Rattle.rmm_spec.specs.Rows as rows;
-    ghost use Rattle.rmi_view.specs.Seen.{reply_seen};
+    ghost use Rattle.std.specs.Prelude.{◌≡◌, ◌↔◌, IsTrue};
+    ghost use Rattle.rmi_view.specs.Seen.{HasFewWords, reply_seen};
 
     pub fn of(reply: &'a Reply) -> ReplyRef<'a>
         ensures { reply_seen result ≡ reply.now }
@@ -25,6 +25,18 @@ impl<'a> ReplyRef<'a> {
             Reply::Ok(words) => ReplyRef::Ok(words.as_slice()),
             Reply::Err(status, index) => ReplyRef::Err(*status, *index),
             Reply::Misplaced => ReplyRef::Misplaced,
+        }
+    }
+
+    /// A reply of its own.
+    pub fn to_reply(self) -> Reply
+        requires { HasFewWords (reply_seen self) }
+        ensures { result ≡ reply_seen self.entry }
+    {
+        match self {
+            ReplyRef::Ok(words) => Reply::Ok(owned(words)),
+            ReplyRef::Err(status, index) => Reply::Err(status, index),
+            ReplyRef::Misplaced => Reply::Misplaced,
         }
     }
 
