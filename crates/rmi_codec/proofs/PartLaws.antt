@@ -81,11 +81,11 @@ parts_from-past line at past = let test : nat_lt (length line) at ≡ true = gri
 pub parts_from-behind : (line : List ℕ) (at count next : ℕ) → at + count ≤ length line → next ≡ at + count + 1 → parts_from next line ≡ parts_behind count (drop at line)
 parts_from-behind line at count next within is_next =
     elim (cases_eq count (length (drop at line))) [
-      inl last ↦ parts_from-past line next (omega (arith, length-drop at line, last, is_next)) ∙ sym (parts_behind-end (drop at line) count last)
-    | inr other ↦
-        let inside : next ≤ length line = omega (arith, length-drop at line, other) in
-        let same : drop next line ≡ drop 1 (drop count (drop at line)) = rw is_next (sym (ap (drop 1) (drop-drop count at line) ∙ drop-drop 1 (at + count) line)) in
-        parts_from-within line next inside ∙ ap parts_of same ∙ sym (parts_behind-space (drop at line) count other)
+      | inl last ↦ parts_from-past line next (omega (arith, length-drop at line, last, is_next)) ∙ sym (parts_behind-end (drop at line) count last)
+      | inr other ↦
+          let inside : next ≤ length line = omega (arith, length-drop at line, other) in
+          let same : drop next line ≡ drop 1 (drop count (drop at line)) = rw is_next (sym (ap (drop 1) (drop-drop count at line) ∙ drop-drop 1 (at + count) line)) in
+          parts_from-within line next inside ∙ ap parts_of same ∙ sym (parts_behind-space (drop at line) count other)
     ]
 
 over_cases : (is_over : Bool) (ps parts : List (List ℕ)) → ps ≢ [] → (if is_over then [] else ps) ≡ parts → (is_over ≡ true → parts ≡ []) × (parts ≡ [] → is_over ≡ true)
