@@ -4,6 +4,7 @@ ghost use Rattle.std.specs.Prelude.{◌≡◌, ℕ, ◌<◌, ◌↔◌, List, []
 ghost use Rattle.std.specs.Bool.{MatchBool};
 ghost use Rattle.rmm_spec.specs.declared.command.Command.{Command};
 ghost use Rattle.rmm_spec.specs.declared.line.Line.{Line};
+ghost use Rattle.rmi_view.specs.Seen.{command_seen, reply_seen};
 ghost use Rattle.certificate.specs.LineRef.{line_seen};
 ghost use Rattle.history.specs.Calls.{ArePlacesOf};
 ghost use Rattle.rmm_spec.specs.HistoryText.{IsHistory};
@@ -15,7 +16,8 @@ ghost use Rattle.checker.specs.Progress.{AreNamedBelow, IsFinishedCallAt, HasNoF
 
 use certificate::LineRef;
 use history::{History, Places};
-use rmm_spec::{Command, Reason, Reply};
+use rmi_view::{CommandRef, ReplyRef};
+use rmm_spec::Reason;
 use spec_machine::Machine;
 use std::alloc::{AllocError, Global};
 
@@ -74,13 +76,13 @@ impl Replay {
                 let Some(reply) = history.reply_at(returned as usize) else {
                     unreachable!()
                 };
-                self.take_reply(history, cpu, places.called, &reply)
+                self.take_reply(history, cpu, places.called, reply)
             }
             LineRef::Unfinished { cpu, reply, .. } => {
                 if places.returned.is_some() {
                     return Ok(Some(Reason::Kind));
                 }
-                self.take_reply(history, cpu, places.called, reply)
+                self.take_reply(history, cpu, places.called, ReplyRef::of(reply))
             }
         }
     }
@@ -91,20 +93,20 @@ impl Replay {
         history: &History,
         cpu: u8,
         called: u32,
-        reply: &Reply,
+        reply: ReplyRef<'_>,
     ) -> Result<Option<Reason>, AllocError>
         requires is_history { IsHistory history.now.recorded }
         requires counted { length self.old.named.items ≡ length history.now.recorded.events }
         requires is_called { (number : ℕ) × (command : Command) × IsCalled history.now.recorded.events called cpu number command }
-        ensures judged { IfOk result (λ why. (line : Line) → IsDue self.old history.now.recorded line cpu called reply.now
+        ensures judged { IfOk result (λ why. (line : Line) → IsDue self.old history.now.recorded line cpu called (reply_seen reply.entry)
             → JudgesLine why self.old self.new history.now.recorded line) }
-        ensures refused { OnErr result ((line : Line) → IsDue self.old history.now.recorded line cpu called reply.now
+        ensures refused { OnErr result ((line : Line) → IsDue self.old history.now.recorded line cpu called (reply_seen reply.entry)
             → IsRefusedMemory self.old history.now.recorded line) }
     {
         let Some(command) = history.command_at(called as usize) else {
             unreachable!()
         };
-        let given = self.commit(cpu, called, &command, reply)?;
+        let given = self.commit(cpu, called, command, reply)?;
         Ok(if given { None } else { Some(Reason::Reply) })
     }
 
@@ -113,15 +115,15 @@ impl Replay {
         &mut self,
         cpu: u8,
         called: u32,
-        command: &Command,
-        reply: &Reply,
+        command: CommandRef<'_>,
+        reply: ReplyRef<'_>,
     ) -> Result<bool, AllocError>
         requires { called < length self.old.named.items }
-        ensures given { IfOk result (λ given. MatchBool given (Commits self.old self.new cpu called command.now reply.now)
-            ((next : State) → ¬ Step (state_of self.old.machine) cpu command.now reply.now next)) }
-        ensures refused { OnErr result (NeedsMemory self.old cpu command.now) }
+        ensures given { IfOk result (λ given. MatchBool given (Commits self.old self.new cpu called (command_seen command.entry) (reply_seen reply.entry))
+            ((next : State) → ¬ Step (state_of self.old.machine) cpu (command_seen command.entry) (reply_seen reply.entry) next)) }
+        ensures refused { OnErr result (NeedsMemory self.old cpu (command_seen command.entry)) }
     {
-        let given = self.machine.offer(cpu, command, reply)?;
+        let given = self.machine.offer_seen(cpu, command, reply)?;
         if given {
             self.named[called as usize] = true;
             self.latest = self.latest.max(called);

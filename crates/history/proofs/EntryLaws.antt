@@ -12,25 +12,27 @@ use Rattle.rmm_spec.specs.declared.function_id.FunctionId.{FunctionId}
 use Rattle.rmm_spec.specs.declared.reply.Reply.TheVariants as reply
 use Rattle.rmm_spec.proofs.Lines.{each-weaker}
 use Rattle.rmm_spec.proofs.Texts.{AllByRecursion-append}
-use Rattle.history.specs.Entry.{words_at, event_of, events_in, HasWithin, HasWords, HasStored, IsHeld}
+use Rattle.rmm_spec.specs.HistoryText.{IsEvent}
+use Rattle.rmi_codec.proofs.PartLaws.{word_count-le}
+use Rattle.history.specs.Entry.{stretch, words_at, HasFewWords, event_of, events_in, HasWithin, HasWords, HasStored, IsHeld}
 use Rattle.history.specs.declared.entry.Entry.{Entry}
 use Rattle.history.specs.declared.entry.Entry.TheVariants as of
 use Rattle.history.specs.declared.entry.Stretch.{Stretch}
 
 -- words at the end leave those of a stretch as they are
-words_at-append : (words more : List ℕ) (stretch : Stretch) → HasWithin (length words) stretch → words_at (words ++ more) stretch ≡ words_at words stretch
-words_at-append words more stretch within =
-    let before : stretch.first ≤ length words = omega (arith, within.0) in
-    let enough : stretch.count ≤ length (drop stretch.first words) = omega (arith, within.0, length-drop stretch.first words) in
+words_at-append : (words more : List ℕ) (place : Stretch) → HasWithin (length words) place → words_at (words ++ more) place ≡ words_at words place
+words_at-append words more place within =
+    let before : place.first ≤ length words = omega (arith, within.0) in
+    let enough : place.count ≤ length (drop place.first words) = omega (arith, within.0, length-drop place.first words) in
     ap (λ (ws : List ℕ). record { items = ws })
-    (ap (λ ws. take stretch.count ws) (drop-append-le stretch.first words more before) ∙ take-append-le stretch.count (drop stretch.first words) more enough)
+    (ap (λ ws. take place.count ws) (drop-append-le place.first words more before) ∙ take-append-le place.count (drop place.first words) more enough)
 
 -- they leave the event of an entry as it is
 event_of-append : (words more : List ℕ) (entry : Entry) → HasWords (length words) entry → event_of (words ++ more) entry ≡ event_of words entry
-event_of-append words more (of.Called cpu function number stretch) has =
-    ap (λ (ws : ArrayVec ℕ). seen.Called cpu number (record { function = function; words = ws })) (words_at-append words more stretch has)
-event_of-append words more (of.Answered cpu number stretch) has =
-    ap (λ (ws : ArrayVec ℕ). seen.Returned cpu number (reply.Ok ws)) (words_at-append words more stretch has)
+event_of-append words more (of.Called cpu function count number first) has =
+    ap (λ (ws : ArrayVec ℕ). seen.Called cpu number (record { function = function; words = ws })) (words_at-append words more (stretch first count) has)
+event_of-append words more (of.Answered cpu count number first) has =
+    ap (λ (ws : ArrayVec ℕ). seen.Returned cpu number (reply.Ok ws)) (words_at-append words more (stretch first count) has)
 event_of-append words more (of.Refused cpu number status index) has = refl
 event_of-append words more (of.Misplaced cpu number) has = refl
 
@@ -44,10 +46,10 @@ events_in-append words more (entry ∷ entries) each =
 
 -- more words leave each entry its own
 HasWords-more : (count more : ℕ) (entry : Entry) → HasWords count entry → HasWords (count + more) entry
-HasWords-more count more (of.Called cpu function number stretch) has = (omega (arith, has.0), has.1)
-HasWords-more count more (of.Answered cpu number stretch) has = (omega (arith, has.0), has.1)
-HasWords-more count more (of.Refused cpu number status index) has = tt
-HasWords-more count more (of.Misplaced cpu number) has = tt
+HasWords-more size more (of.Called cpu function count number first) has = (omega (arith, has.0), has.1)
+HasWords-more size more (of.Answered cpu count number first) has = (omega (arith, has.0), has.1)
+HasWords-more size more (of.Refused cpu number status index) has = tt
+HasWords-more size more (of.Misplaced cpu number) has = tt
 
 -- the entries are held after one more event was of
 pub IsHeld-stored : (words new_words : List ℕ) (entries new_entries : List Entry) (event : Event) → IsHeld words entries
@@ -85,9 +87,16 @@ slice_get-events_in words entries events place found events_are within is_found 
 
 -- An entry that is no call's stands for no call.
 pub event_of-no_call : (words : List ℕ) (found : Entry)
-    → ((cpu : ℕ) (function : FunctionId) (number : ℕ) (stretch : Stretch) → found ≡ of.Called cpu function number stretch → ⊥)
+    → ((cpu : ℕ) (function : FunctionId) (count number first : ℕ) → found ≡ of.Called cpu function count number first → ⊥)
     → (cpu number : ℕ) (command : Command) → event_of words found ≡ seen.Called cpu number command → ⊥
-event_of-no_call words (of.Called cpu function number stretch) not_called = λ _ _ _ _. not_called cpu function number stretch refl
-event_of-no_call words (of.Answered cpu number stretch) not_called = λ c n command is_called. absurd (cc)
+event_of-no_call words (of.Called cpu function count number first) not_called = λ _ _ _ _. not_called cpu function count number first refl
+event_of-no_call words (of.Answered cpu count number first) not_called = λ c n command is_called. absurd (cc)
 event_of-no_call words (of.Refused cpu number status index) not_called = λ c n command is_called. absurd (cc)
 event_of-no_call words (of.Misplaced cpu number) not_called = λ c n command is_called. absurd (cc)
+
+-- an event that may be recorded has no more words than an entry
+pub few_words : (cpus : ℕ) (event : Event) → IsEvent cpus event → HasFewWords event
+few_words cpus (seen.Called cpu number command) is = omega (arith, is.1.counted, word_count-le command.function)
+few_words cpus (seen.Returned cpu number (reply.Ok words)) is = is.1.0
+few_words cpus (seen.Returned cpu number (reply.Err status index)) is = tt
+few_words cpus (seen.Returned cpu number reply.Misplaced) is = tt

@@ -1,5 +1,5 @@
 -- What is told of a call.
-use Rattle.std.specs.Prelude.{ℕ, List, MatchOption}
+use Rattle.std.specs.Prelude.{◌≡◌, ℕ, ◌+◌, List, MatchOption}
 use Rattle.rmm_spec.specs.declared.command.Command.{Command}
 use Rattle.rmm_spec.specs.declared.event.Event.{Event}
 use Rattle.rmm_spec.specs.declared.reply.Reply.{Reply}
@@ -12,7 +12,12 @@ pub record ArePlacesOf (events : List Event) (cpu number : ℕ) (places : Places
   pub called : (command : Command) × IsCalled events places.called cpu number command
   pub returned : MatchOption places.returned (¬ IsFinished events cpu number) (λ place. (given : Reply) × IsReturned events place cpu number given)
 
--- the places of a call and of its return, with its command and its reply
+-- the line of the text on which the event of a place stands, behind the header
+abbrev pub line_at : ℕ → ℕ
+line_at place = place + 2
+
+-- the lines of a call and of its return, with its command and its reply
 pub record IsCallOf (events : List Event) (cpu number : ℕ) (call : Call) : Type 0 where
-  pub called : IsCalled events call.called cpu number call.command
-  pub answer : MatchOption call.answer (¬ IsFinished events cpu number) (λ answer. IsReturned events answer.returned cpu number answer.reply)
+  pub called : (place : ℕ) × (call.called ≡ line_at place) × IsCalled events place cpu number call.command
+  pub answer : MatchOption call.answer (¬ IsFinished events cpu number)
+      (λ answer. (place : ℕ) × (answer.returned ≡ line_at place) × IsReturned events place cpu number answer.reply)

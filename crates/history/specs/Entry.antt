@@ -5,6 +5,7 @@ use Rattle.arrayvec.specs.ArrayVec.{ArrayVec}
 use Rattle.rmm_spec.specs.declared.event.Event.{Event}
 use Rattle.rmm_spec.specs.declared.event.Event.TheVariants as event
 use Rattle.rmm_spec.specs.declared.reply.Reply.TheVariants as reply
+use Rattle.rmi_view.specs.Seen as replied
 use Rattle.history.specs.declared.entry.Entry.{Entry}
 use Rattle.history.specs.declared.entry.Entry.TheVariants as stored
 use Rattle.history.specs.declared.entry.Stretch.{Stretch}
@@ -14,13 +15,16 @@ abbrev pub room_of : ℕ → ℕ → ℕ
 room_of entries words = min entries (words / 10)
 
 abbrev pub words_at : List ℕ → Stretch → ArrayVec ℕ
-words_at words stretch = record { items = take stretch.count (drop stretch.first words) }
+words_at words place = record { items = take place.count (drop place.first words) }
+
+abbrev pub stretch : ℕ → ℕ → Stretch
+stretch first count = record { first = first; count = count }
 
 -- the event of an entry, whose words stand among all words
 abbrev pub event_of : List ℕ → Entry → Event
-event_of words (stored.Called cpu function number stretch) =
-    event.Called cpu number (record { function = function; words = words_at words stretch })
-event_of words (stored.Answered cpu number stretch) = event.Returned cpu number (reply.Ok (words_at words stretch))
+event_of words (stored.Called cpu function count number first) =
+    event.Called cpu number (record { function = function; words = words_at words (stretch first count) })
+event_of words (stored.Answered cpu count number first) = event.Returned cpu number (reply.Ok (words_at words (stretch first count)))
 event_of words (stored.Refused cpu number status index) = event.Returned cpu number (reply.Err status index)
 event_of words (stored.Misplaced cpu number) = event.Returned cpu number reply.Misplaced
 
@@ -29,14 +33,14 @@ events_in words entries = map (event_of words) entries
 
 -- of so many words, the stretch has at most ten
 abbrev pub HasWithin : ℕ → Stretch → Type 0
-HasWithin count stretch = (stretch.first + stretch.count ≤ count) × (stretch.count ≤ 10)
+HasWithin size place = (place.first + place.count ≤ size) × (place.count ≤ 10)
 
 -- the words of an entry are among so many
 abbrev pub HasWords : ℕ → Entry → Type 0
-HasWords count (stored.Called cpu function number stretch) = HasWithin count stretch
-HasWords count (stored.Answered cpu number stretch) = HasWithin count stretch
-HasWords count (stored.Refused cpu number status index) = ⊤
-HasWords count (stored.Misplaced cpu number) = ⊤
+HasWords size (stored.Called cpu function count number first) = HasWithin size (stretch first count)
+HasWords size (stored.Answered cpu count number first) = HasWithin size (stretch first count)
+HasWords size (stored.Refused cpu number status index) = ⊤
+HasWords size (stored.Misplaced cpu number) = ⊤
 
 -- Each entry has its words, and there are no more words than entries may have.
 pub record IsHeld (words : List ℕ) (entries : List Entry) : Type 0 where
@@ -56,3 +60,8 @@ pub record HasStored (old_words : List ℕ) (old_entries : List Entry) (words : 
   pub entry : Entry
   pub is_entered : IsEntered old_words words event entry
   pub is_last : entries ≡ old_entries ++ entry ∷ []
+
+-- an event with no more words than an entry has
+abbrev pub HasFewWords : Event → Type 0
+HasFewWords (event.Called cpu number command) = length command.words.items ≤ 10
+HasFewWords (event.Returned cpu number given) = replied.HasFewWords given

@@ -1,13 +1,13 @@
 //! The events of a history, in less memory than a vector of them.
 
 ghost use Rattle.std.specs.Prelude.{◌≡◌, ℕ, ◌+◌, ◌-◌, ◌^◌, ◌<◌, ◌≤◌, ◌++◌, ◌∷◌, [], length, vec_len, vec_capacity, IsOk, IfOk, OnOk, OnErr};
-ghost use Rattle.history.specs.Entry.{words_at, room_of, HasWithin, HasStored, IsEntered};
+ghost use Rattle.history.specs.Entry.{words_at, room_of, HasFewWords, HasWithin, HasStored, IsEntered};
 ghost use Rattle.history.specs.EventRef.{event_seen};
 ghost use Rattle.history.specs.Room.{spare};
 
 use crate::event_ref::EventRef;
-use arrayvec::ArrayVec;
-use rmm_spec::{FunctionId, Reply};
+use rmi_view::ReplyRef;
+use rmm_spec::FunctionId;
 use std::alloc::AllocError;
 
 /// Where the words of an event stand.
@@ -23,13 +23,15 @@ pub enum Entry {
     Called {
         cpu: u8,
         function: FunctionId,
+        count: u8,
         number: u32,
-        words: Stretch,
+        first: u32,
     },
     Answered {
         cpu: u8,
+        count: u8,
         number: u32,
-        words: Stretch,
+        first: u32,
     },
     Refused {
         cpu: u8,
@@ -43,7 +45,7 @@ pub enum Entry {
     },
 }
 
-const _: () = prove!(size_of::<Entry>() <= 16);
+const _: () = prove!(size_of::<Entry>() == 12);
 
 /// Takes memory for one event more, where it isn't there.
 pub fn reserve_event(entries: &mut Vec<Entry>, words: &mut Vec<u64>) -> Result<(), AllocError>
@@ -63,7 +65,8 @@ pub fn store(
     words: &mut Vec<u64>,
     event: EventRef<'_>,
 ) -> Result<(), AllocError>
-    requires { length words.old.items < 2 ^ 32 }
+    requires words { length words.old.items < 2 ^ 32 }
+    requires few { HasFewWords (event_seen event) }
     ensures ok { OnOk result (HasStored words.old.items entries.old.items words.new.items entries.new.items (event_seen event.entry)) }
     ensures same_entries { OnErr result (entries.new.items ≡ entries.old.items) }
     ensures same_words { OnErr result (words.new.items ≡ words.old.items) }
@@ -78,7 +81,8 @@ pub fn store(
 
 /// Enters the words of an event behind all others, and gives its entry.
 fn enter(words: &mut Vec<u64>, event: EventRef<'_>) -> Result<Entry, AllocError>
-    requires { length words.old.items < 2 ^ 32 }
+    requires words { length words.old.items < 2 ^ 32 }
+    requires few { HasFewWords (event_seen event) }
     ensures ok { IfOk result (IsEntered words.old.items words.new.items (event_seen event.entry)) }
     ensures err { OnErr result (words.new.items ≡ words.old.items) }
     ensures sure { vec_len words.old + 10 ≤ vec_capacity words.old → IsOk result }
@@ -89,42 +93,52 @@ fn enter(words: &mut Vec<u64>, event: EventRef<'_>) -> Result<Entry, AllocError>
             cpu,
             number,
             command,
-        } => Ok(Entry::Called {
-            cpu,
-            function: command.function,
-            number,
-            words: append(words, &command.words)?,
-        }),
+        } => {
+            let Stretch { first, count } = append(words, command.words)?;
+            Ok(Entry::Called {
+                cpu,
+                function: command.function,
+                count,
+                number,
+                first,
+            })
+        }
         EventRef::Returned { cpu, number, reply } => match reply {
-            Reply::Ok(given) => Ok(Entry::Answered {
+            ReplyRef::Ok(given) => {
+                let Stretch { first, count } = append(words, given)?;
+                Ok(Entry::Answered {
+                    cpu,
+                    count,
+                    number,
+                    first,
+                })
+            }
+            ReplyRef::Err(status, index) => Ok(Entry::Refused {
                 cpu,
                 number,
-                words: append(words, given)?,
+                status,
+                index,
             }),
-            Reply::Err(status, index) => Ok(Entry::Refused {
-                cpu,
-                number,
-                status: *status,
-                index: *index,
-            }),
-            Reply::Misplaced => Ok(Entry::Misplaced { cpu, number }),
+            ReplyRef::Misplaced => Ok(Entry::Misplaced { cpu, number }),
         },
     }
 }
 
 /// Appends the words of one event, and returns where they stand.
-fn append(words: &mut Vec<u64>, more: &ArrayVec<u64, 10>) -> Result<Stretch, AllocError>
-    requires { length words.old.items < 2 ^ 32 }
-    ensures ok { IfOk result (λ stretch. stretch ≡ record { first = length words.old.items; count = length more.now.items }) }
-    ensures items { OnOk result (words.new.items ≡ words.old.items ++ more.now.items) }
-    ensures few { OnOk result (length more.now.items ≤ 10) }
+fn append(words: &mut Vec<u64>, more: &[u64]) -> Result<Stretch, AllocError>
+    requires words { length words.old.items < 2 ^ 32 }
+    requires few { length more.now ≤ 10 }
+    ensures ok { IfOk result (λ stretch. stretch ≡ record { first = length words.old.items; count = length more.now }) }
+    ensures items { OnOk result (words.new.items ≡ words.old.items ++ more.now) }
     ensures err { OnErr result (words.new.items ≡ words.old.items) }
     ensures sure { vec_len words.old + 10 ≤ vec_capacity words.old → IsOk result }
     ensures capacity { vec_capacity words.old ≤ vec_capacity words.new }
 {
-    let more = more.as_slice();
     let first = words.len() as u32;
-    words.extend_from_slice(more)?;
+    words.reserve(more.len())?;
+    for word in more {
+        words.push_reserved(*word);
+    }
     Ok(Stretch {
         first,
         count: more.len() as u8,
@@ -132,14 +146,11 @@ fn append(words: &mut Vec<u64>, more: &ArrayVec<u64, 10>) -> Result<Stretch, All
 }
 
 /// The words that stand there.
-pub fn words_at(words: &[u64], stretch: Stretch) -> ArrayVec<u64, 10>
+pub fn words_at(words: &[u64], stretch: Stretch) -> &[u64]
     requires { HasWithin (length words.now) stretch }
-    ensures { result ≡ words_at words.now stretch }
+    ensures words { result.now ≡ (words_at words.now stretch).items }
+    ensures few { length result.now ≤ 10 }
 {
     let first = stretch.first as usize;
-    let mut found = ArrayVec::new();
-    found
-        .try_extend_from_slice(&words[first..first + stretch.count as usize])
-        .unwrap();
-    found
+    &words[first..first + stretch.count as usize]
 }

@@ -3,7 +3,8 @@
 ghost use Rattle.std.specs.Prelude.{◌≡◌};
 ghost use Rattle.history.specs.EventRef.{event_seen};
 
-use rmm_spec::{Command, Event, Reply};
+use rmi_view::{CommandRef, ReplyRef};
+use rmm_spec::Event;
 
 /// An event whose command or reply lies elsewhere. An event of its own is large to move.
 #[derive(Clone, Copy)]
@@ -11,12 +12,12 @@ pub enum EventRef<'a> {
     Called {
         cpu: u8,
         number: u32,
-        command: &'a Command,
+        command: CommandRef<'a>,
     },
     Returned {
         cpu: u8,
         number: u32,
-        reply: &'a Reply,
+        reply: ReplyRef<'a>,
     },
 }
 
@@ -32,12 +33,12 @@ impl<'a> EventRef<'a> {
             } => EventRef::Called {
                 cpu: *cpu,
                 number: *number,
-                command,
+                command: CommandRef::of(command),
             },
             Event::Returned { cpu, number, reply } => EventRef::Returned {
                 cpu: *cpu,
                 number: *number,
-                reply,
+                reply: ReplyRef::of(reply),
             },
         }
     }

@@ -5,16 +5,18 @@ ghost use Rattle.rmm_spec.specs.declared.command.Command.{Command};
 ghost use Rattle.rmm_spec.specs.declared.reply.Reply.{Reply};
 ghost use Rattle.rmm_spec.specs.HistoryText.{IsHistory, CanFollow, cpu_of};
 ghost use Rattle.rmm_spec.specs.Linearization.{IsCalled, IsReturned, IsKnown};
-ghost use Rattle.history.specs.Calls.{ArePlacesOf, IsCallOf};
+ghost use Rattle.history.specs.Calls.{line_at, ArePlacesOf, IsCallOf};
 ghost use Rattle.history.specs.EventRef.{event_seen};
+ghost use Rattle.rmi_view.specs.Seen.{command_seen, reply_seen, HasFewWords};
 ghost use Rattle.history.specs.Index.{IsSubhistory};
 ghost use Rattle.history.specs.Next.{HasText, Continues};
 
-use crate::entry::{Entry, reserve_event, store, words_at};
+use crate::entry::{Entry, Stretch, reserve_event, store, words_at};
 use crate::event_ref::EventRef;
 use crate::subhistory::{Subhistory, make_room_at};
 use granule_state::Config;
 use rmi_codec::reply_has_text;
+use rmi_view::{CommandRef, ReplyRef};
 use rmm_spec::{Command, Event, Reply};
 use std::alloc::{AllocError, Global};
 use std::marker::Model;
@@ -33,7 +35,7 @@ pub struct Places {
     pub returned: Option<u32>,
 }
 
-/// A call of a history.
+/// A call of a history, with the line of the text on which it was made. The header is line 1.
 #[derive(Debug, Drop, PartialEq, Eq)]
 pub struct Call {
     pub called: u32,
@@ -42,7 +44,7 @@ pub struct Call {
     pub answer: Option<Answer>,
 }
 
-/// What a call was answered, and where.
+/// What a call was answered, and on which line.
 #[derive(Debug, Drop, PartialEq, Eq)]
 pub struct Answer {
     pub returned: u32,
@@ -117,18 +119,25 @@ impl History {
             Entry::Called {
                 cpu,
                 function,
+                count,
                 number,
-                words,
+                first,
             } => {
-                let words = words_at(&self.words, words);
+                let words = words_at(&self.words, Stretch { first, count });
                 Event::Called {
                     cpu,
                     number,
-                    command: Command { function, words },
+                    command: CommandRef { function, words }.to_command(),
                 }
             }
-            Entry::Answered { cpu, number, words } => {
-                let reply = Reply::Ok(words_at(&self.words, words));
+            Entry::Answered {
+                cpu,
+                count,
+                number,
+                first,
+            } => {
+                let words = words_at(&self.words, Stretch { first, count });
+                let reply = ReplyRef::Ok(words).to_reply();
                 Event::Returned { cpu, number, reply }
             }
             Entry::Refused {
@@ -160,35 +169,41 @@ impl History {
     }
 
     /// The command of the call at a place, where the event there is a call.
-    pub fn command_at(&self, place: usize) -> Option<Command>
+    pub fn command_at(&self, place: usize) -> Option<CommandRef<'_>>
         requires { place < length self.now.recorded.events }
-        ensures some { IfSome result (λ command. (cpu : ℕ) × (number : ℕ) × IsCalled self.now.recorded.events place cpu number command) }
+        ensures some { IfSome result (λ command. (cpu : ℕ) × (number : ℕ) × IsCalled self.now.recorded.events place cpu number (command_seen command)) }
+        ensures few { IfSome result (λ command. length command.words.now ≤ 10) }
         ensures none { IfNone result ((cpu number : ℕ) (command : Command) → ¬ IsCalled self.now.recorded.events place cpu number command) }
     {
-        match &self.entries[place] {
+        match self.entries[place] {
             Entry::Called {
                 function,
-                words,
+                count,
+                first,
                 ..
-            } => Some(Command {
-                function: *function,
-                words: words_at(&self.words, *words),
+            } => Some(CommandRef {
+                function,
+                words: words_at(&self.words, Stretch { first, count }),
             }),
             _ => None,
         }
     }
 
     /// The reply of the return at a place, where the event there is a return.
-    pub fn reply_at(&self, place: usize) -> Option<Reply>
+    pub fn reply_at(&self, place: usize) -> Option<ReplyRef<'_>>
         requires { place < length self.now.recorded.events }
-        ensures some { IfSome result (λ given. (cpu : ℕ) × (number : ℕ) × IsReturned self.now.recorded.events place cpu number given) }
+        ensures some { IfSome result (λ given. (cpu : ℕ) × (number : ℕ) × IsReturned self.now.recorded.events place cpu number (reply_seen given)) }
+        ensures few { IfSome result (λ given. HasFewWords (reply_seen given)) }
         ensures none { IfNone result ((cpu number : ℕ) (given : Reply) → ¬ IsReturned self.now.recorded.events place cpu number given) }
     {
-        match &self.entries[place] {
+        match self.entries[place] {
             Entry::Called { .. } => None,
-            Entry::Answered { words, .. } => Some(Reply::Ok(words_at(&self.words, *words))),
-            Entry::Refused { status, index, .. } => Some(Reply::Err(*status, *index)),
-            Entry::Misplaced { .. } => Some(Reply::Misplaced),
+            Entry::Answered { count, first, .. } => Some(ReplyRef::Ok(words_at(
+                &self.words,
+                Stretch { first, count },
+            ))),
+            Entry::Refused { status, index, .. } => Some(ReplyRef::Err(status, index)),
+            Entry::Misplaced { .. } => Some(ReplyRef::Misplaced),
         }
     }
 
@@ -281,6 +296,7 @@ impl History {
         ensures some { IfSome result (IsCallOf self.now.recorded.events cpu number) }
         ensures none { IfNone result (¬ IsKnown self.now.recorded.events cpu number) }
     {
+        self.well_formed();
         let Places { called, returned } = self.places_of(cpu, number)?;
         let Some(command) = self.command_at(called as usize) else {
             unreachable!()
@@ -290,13 +306,16 @@ impl History {
                 let Some(reply) = self.reply_at(returned as usize) else {
                     unreachable!()
                 };
-                Some(Answer { returned, reply })
+                Some(Answer {
+                    returned: line_at(returned),
+                    reply: reply.to_reply(),
+                })
             }
             None => None,
         };
         Some(Call {
-            called,
-            command,
+            called: line_at(called),
+            command: command.to_command(),
             answer,
         })
     }
@@ -313,6 +332,14 @@ impl History {
             None
         }
     }
+}
+
+/// The line of the text on which the event of a place stands. The header is line 1.
+fn line_at(place: u32) -> u32
+    requires { place < MOST_LINES }
+    ensures { result ≡ line_at place }
+{
+    place + 2
 }
 
 fn cpu_of(event: EventRef<'_>) -> u8

@@ -12,6 +12,7 @@ use crate::fault::HistoryFault;
 use crate::history::{History, MOST_LINES};
 use crate::line::header_from;
 use rmi_codec::{Head, Parts, command_from, head_from, next_line, reply_from};
+use rmi_view::{CommandRef, ReplyRef};
 use std::alloc::{AllocError, Global};
 
 /// Reads a history. A line that would be its 1,000,001st is bad, and so is the first of a text without any.
@@ -89,7 +90,7 @@ fn record_line(history: &mut History, line: &[u8]) -> Result<bool, AllocError>
             let Ok(command) = command_from(parts) else {
                 return Ok(false);
             };
-            let command = &command;
+            let command = CommandRef::of(&command);
             record(
                 history,
                 EventRef::Called {
@@ -103,7 +104,7 @@ fn record_line(history: &mut History, line: &[u8]) -> Result<bool, AllocError>
             let Ok(reply) = reply_from(parts) else {
                 return Ok(false);
             };
-            let reply = &reply;
+            let reply = ReplyRef::of(&reply);
             record(history, EventRef::Returned { cpu, number, reply })
         }
         _ => Ok(false),
@@ -143,15 +144,16 @@ mod tests {
         assert_eq!(rt; (places.called, places.returned), (0, Some(1)));
         assert!(rt; history.places_of(0, 1).is_none());
         let call = history.call_of(0, 0).ok_or("no call")?;
-        assert_eq!(rt; call.called, 0);
+        assert_eq!(rt; call.called, 2);
         assert_eq!(rt; call.command.function, FunctionId::GranuleDelegate);
         assert_eq!(rt; call.command.words.as_slice(), [0x1000].as_slice());
-        assert!(rt; history.command_at(0) == Some(call.command));
+        let command = history.command_at(0).ok_or("no command")?;
+        assert!(rt; command.to_command() == call.command);
         assert!(rt; history.command_at(1).is_none());
         let answer = call.answer.ok_or("no answer")?;
-        assert_eq!(rt; answer.returned, 1);
+        assert_eq!(rt; answer.returned, 3);
         assert!(rt; history.reply_at(0).is_none());
-        assert!(rt; matches!(history.reply_at(1), Some(Reply::Ok(words)) if words.is_empty()));
+        assert!(rt; matches!(history.reply_at(1), Some(ReplyRef::Ok(words)) if words.is_empty()));
         assert!(rt; matches!(answer.reply, Reply::Ok(words) if words.is_empty()));
         assert!(rt; history.call_of(0, 1).is_none());
         assert_eq!(rt; history.called_at(0), Some((0, 0)));

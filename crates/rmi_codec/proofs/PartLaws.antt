@@ -1,9 +1,10 @@
 -- Lines read part by part: the first space, words, and the three forms of a reply.
-use Rattle.std.proofs.Common.{◌≡◌, ◌≢◌, ℕ, ◌+◌, ◌^◌, ◌<◌, ◌≤◌, Bool, true, false, if◌then◌else◌, ◌==◌, cond, ltb, List, [], ◌∷◌, ◌++◌, map, length, get_or, take, drop, codes, Some, None, Option, position, refl, sym, ap, ◌∙◌, arith, lit≤}
+use Rattle.std.proofs.Common.{◌≡◌, ◌≢◌, ℕ, ◌+◌, ◌^◌, ◌<◌, ◌≤◌, Bool, true, false, if◌then◌else◌, ◌==◌, cond, ltb, List, [], ◌∷◌, ◌++◌, map, length, get_or, take, drop, codes, Some, None, Option, position, refl, sym, ap, nat_lt, inl, inr, ◌∙◌, arith, lit≤}
 use Rattle.std.specs.List.{AllByRecursion, position_or_len, slice_split}
 use Rattle.std.specs.Option.{unwrap_or}
+use Rattle.std.proofs.lemmas.Bool.{cases_eq}
 use Rattle.std.proofs.lemmas.Bool.Decides.{nat_tests}
-use Rattle.std.proofs.lemmas.List.{drop-drop, take_all}
+use Rattle.std.proofs.lemmas.List.{drop-drop, length-drop, take_all}
 use Rattle.std.proofs.lemmas.List.Elements.{All-from_get_or}
 use Rattle.std.proofs.lemmas.List.Quantifiers.{position-Some}
 use Rattle.std.proofs.lemmas.List.Splits.{join_with_byte-slice_split, slice_split_none, slice_split_first, length-slice_split}
@@ -17,7 +18,7 @@ use Rattle.rmm_spec.specs.CommandText.{AreWords, IsReply, reply_parts}
 use Rattle.rmm_spec.specs.Function.{word_count}
 use Rattle.rmm_spec.specs.Text.{decimal, word, line_text, parts_of}
 use Rattle.rmm_spec.proofs.Texts.{IsPart, bytes_apart, decimal-injective}
-use Rattle.rmi_codec.specs.Spaced.{parts_behind}
+use Rattle.rmi_codec.specs.Spaced.{parts_behind, parts_from}
 
 abbrev is_space : ℕ → Bool
 is_space byte = byte == 32
@@ -68,10 +69,32 @@ parts_of-first line = cut_first line (position is_space line) refl
 pub parts_of-some : (line : List ℕ) → parts_of line ≢ []
 parts_of-some line e = omega (arith, ap length e, length-slice_split is_space line)
 
--- what is left is nothing where the line is over, and nowhere else
-pub over_only : (line : List ℕ) (is_over : Bool) (parts : List (List ℕ)) → (if is_over then [] else parts_of line) ≡ parts → (is_over ≡ true → parts ≡ []) × (parts ≡ [] → is_over ≡ true)
-over_only line true parts view = ((λ _. sym view), (λ _. refl))
-over_only line false parts view = ((λ bad. absurd (cc)), (λ none. absurd (parts_of-some line (view ∙ none))))
+-- from a place within a line on there are the parts of the rest
+pub parts_from-within : (line : List ℕ) (at : ℕ) → at ≤ length line → parts_from at line ≡ parts_of (drop at line)
+parts_from-within line at within = let test : nat_lt (length line) at ≡ false = grind (arith, nat_tests) in rw test
+
+-- past a line's end there is none
+pub parts_from-past : (line : List ℕ) (at : ℕ) → length line < at → parts_from at line ≡ []
+parts_from-past line at past = let test : nat_lt (length line) at ≡ true = grind (arith, nat_tests) in rw test
+
+-- the parts behind one are those from the place behind its space
+pub parts_from-behind : (line : List ℕ) (at count next : ℕ) → at + count ≤ length line → next ≡ at + count + 1 → parts_from next line ≡ parts_behind count (drop at line)
+parts_from-behind line at count next within is_next =
+    elim (cases_eq count (length (drop at line))) [
+      | inl last ↦ parts_from-past line next (omega (arith, length-drop at line, last, is_next)) ∙ sym (parts_behind-end (drop at line) count last)
+      | inr other ↦
+          let inside : next ≤ length line = omega (arith, length-drop at line, other) in
+          let same : drop next line ≡ drop 1 (drop count (drop at line)) = rw is_next (sym (ap (drop 1) (drop-drop count at line) ∙ drop-drop 1 (at + count) line)) in
+          parts_from-within line next inside ∙ ap parts_of same ∙ sym (parts_behind-space (drop at line) count other)
+    ]
+
+over_cases : (is_over : Bool) (ps parts : List (List ℕ)) → ps ≢ [] → (if is_over then [] else ps) ≡ parts → (is_over ≡ true → parts ≡ []) × (parts ≡ [] → is_over ≡ true)
+over_cases true ps parts some view = ((λ _. sym view), (λ _. refl))
+over_cases false ps parts some view = ((λ bad. absurd (cc)), (λ none. absurd (some (view ∙ none))))
+
+-- what is left is nothing past the line's end, and nowhere else
+pub over_only : (line : List ℕ) (at : ℕ) (parts : List (List ℕ)) → parts_from at line ≡ parts → (nat_lt (length line) at ≡ true → parts ≡ []) × (parts ≡ [] → nat_lt (length line) at ≡ true)
+over_only line at parts view = over_cases (nat_lt (length line) at) (parts_of (drop at line)) parts (parts_of-some (drop at line)) view
 
 -- a text is the line of its parts
 pub line_text-from_parts : (text : List ℕ) (parts : List (List ℕ)) → parts_of text ≡ parts → text ≡ line_text parts

@@ -1,6 +1,6 @@
 //! A line, cut at its spaces.
 
-ghost use Rattle.std.specs.Prelude.{◌≡◌, ◌≢◌, ◌==◌, ◌↔◌, ℕ, ◌<◌, ◌≤◌, ◌^◌, [], ◌∷◌, List, length, IsTrue, IfSome, IfNone, position};
+ghost use Rattle.std.specs.Prelude.{◌≡◌, ◌≢◌, ◌==◌, ◌↔◌, ℕ, ◌<◌, ◌≤◌, ◌^◌, [], ◌∷◌, List, length, drop, IsTrue, IfSome, IfNone, position, ◌+◌};
 ghost use Rattle.rmm_spec.specs.Text.{numeral, parts_of};
 ghost use Rattle.rmi_codec.specs.Spaced.{parts_behind};
 
@@ -10,17 +10,18 @@ use std::marker::Model;
 /// The parts of a line that are left to read. A line of n spaces has n + 1 parts, and a part may be empty.
 #[derive(Drop)]
 pub struct Parts<'a> {
-    rest: &'a [u8],
-    is_over: bool,
+    line: &'a [u8],
+    // where the next part begins, and past the line's end where none is left
+    at: usize,
 }
 
 impl<'a> Model for Parts<'a> {
-    ghost use Rattle.std.specs.Prelude.{ℕ, List, [], if◌then◌else◌};
-    ghost use Rattle.rmm_spec.specs.Text.{parts_of};
+    ghost use Rattle.std.specs.Prelude.{ℕ, List};
+    ghost use Rattle.rmi_codec.specs.Spaced.{parts_from};
 
     ghost Value = { List (List ℕ) };
 
-    ghost view = { λ p. if p.is_over then [] else parts_of p.rest.now };
+    ghost view = { λ p. parts_from p.at p.line.now };
 }
 
 // The index of the first space.
@@ -31,18 +32,15 @@ fn first_space(line: &[u8]) -> Option<usize>
     line.iter().position(|byte| *byte == b' ')
 }
 
-// What stands behind the end of a line's first part.
+// What stands behind the part that begins at a place and is so long.
 #[inline(always)]
-fn behind(line: &[u8], end: usize) -> Parts<'_>
-    requires { end ≤ length line.now }
-    ensures { result ≡ parts_behind end line.now }
+fn behind(line: &[u8], at: usize, count: usize) -> Parts<'_>
+    requires { at + count ≤ length line.now }
+    ensures { result ≡ parts_behind count (drop at line.now) }
 {
-    if end < line.len() {
-        return Parts::of(line.split_at(end).1.split_at(1).1);
-    }
     Parts {
-        rest: line,
-        is_over: true,
+        line,
+        at: at + count + 1,
     }
 }
 
@@ -51,10 +49,7 @@ impl<'a> Parts<'a> {
     pub fn of(line: &'a [u8]) -> Parts<'a>
         ensures { result ≡ parts_of line.now }
     {
-        Parts {
-            rest: line,
-            is_over: false,
-        }
+        Parts { line, at: 0 }
     }
 
     /// Takes the next part off.
@@ -63,12 +58,13 @@ impl<'a> Parts<'a> {
         ensures over { IfNone result (self.old ≡ []) }
         ensures stays { IfNone result (self.new ≡ []) }
     {
-        if self.is_over {
+        if self.at > self.line.len() {
             return None;
         }
-        let end = first_space(self.rest).unwrap_or(self.rest.len());
-        let part = self.rest.split_at(end).0;
-        *self = behind(self.rest, end);
+        let rest = self.line.split_at(self.at).1;
+        let end = first_space(rest).unwrap_or(rest.len());
+        let part = rest.split_at(end).0;
+        *self = behind(self.line, self.at, end);
         Some(part)
     }
 
@@ -81,11 +77,12 @@ impl<'a> Parts<'a> {
         ensures none { IfNone result ((n : ℕ) (rest : List (List ℕ)) → n < 2 ^ 64 → self.old ≢ numeral base n ∷ rest) }
         ensures kept { IfNone result (self.new ≡ self.old) }
     {
-        if self.is_over {
+        if self.at > self.line.len() {
             return None;
         }
-        let (number, end) = numeral_prefix(self.rest, base)?;
-        *self = behind(self.rest, end);
+        let rest = self.line.split_at(self.at).1;
+        let (number, end) = numeral_prefix(rest, base)?;
+        *self = behind(self.line, self.at, end);
         Some(number)
     }
 
@@ -94,6 +91,6 @@ impl<'a> Parts<'a> {
     pub(crate) fn is_over(&self) -> bool
         ensures { IsTrue result ↔ (self.now ≡ []) }
     {
-        self.is_over
+        self.at > self.line.len()
     }
 }

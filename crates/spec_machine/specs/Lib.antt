@@ -6,3 +6,4 @@ pub mod Running
 pub mod Single
 pub mod Stored
 pub mod View
+pub mod Lending

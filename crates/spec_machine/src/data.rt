@@ -20,6 +20,7 @@ impl Machine {
     ghost use Rattle.spec_machine.specs.View.{state_of};
 
     #[tactic(auto, unfolding(rmm_spec::specs::Step::Data::data_create, rmm_spec::specs::Step::Words::words_of, rmm_spec::specs::Step::Named::named, rmm_spec::specs::Lookup::realm_at))]
+    #[inline(never)]
     pub(crate) fn data_create(
         &self,
         rd: u64,
@@ -71,6 +72,7 @@ impl Machine {
     }
 
     #[tactic(auto, unfolding(rmm_spec::specs::Step::Data::data_create_unknown, rmm_spec::specs::Step::Words::words_of, rmm_spec::specs::Step::Named::named, rmm_spec::specs::Lookup::realm_at))]
+    #[inline(never)]
     pub(crate) fn data_create_unknown(
         &self,
         rd: u64,
@@ -112,6 +114,7 @@ impl Machine {
     }
 
     #[tactic(auto, unfolding(rmm_spec::specs::Step::Data::data_destroy, rmm_spec::specs::Step::Words::words_of, rmm_spec::specs::Step::Named::named, rmm_spec::specs::Lookup::realm_at))]
+    #[inline(never)]
     pub(crate) fn data_destroy(&self, rd: u64, ipa: u64) -> Result<Accepted, Reply>
         ensures { result ≡ data_destroy (state_of self.now) rd ipa }
     {

@@ -12,6 +12,7 @@ mod data;
 mod granule;
 mod granules;
 mod inside;
+mod lending;
 mod machine;
 mod outside;
 mod owner_report;

@@ -6,11 +6,13 @@ ghost use Rattle.spec_machine.specs.Running.{AreRunning};
 ghost use Rattle.spec_machine.specs.Single.{kept-single, owners-single};
 ghost use Rattle.spec_machine.specs.Stored.{stored};
 
+use crate::lending::lending_of;
 use crate::owners::Owners;
 use crate::reply::is_ok;
 use crate::running::Running;
 use crate::store::Store;
 use granule_state::{Config, Pa};
+use rmi_view::{CommandRef, ReplyRef};
 use rmm_spec::{Accepted, Command, Reply};
 use std::alloc::{AllocError, Global};
 
@@ -38,6 +40,7 @@ impl Machine {
     ghost use Rattle.rmm_spec.specs.State.{State, opening};
     ghost use Rattle.rmm_spec.specs.Step.{Step, outcome};
     ghost use Rattle.spec_machine.specs.Memory.{makes_table};
+    ghost use Rattle.rmi_view.specs.Seen.{command_seen, reply_seen};
     ghost use Rattle.spec_machine.specs.View.{state_of};
 
     /// A machine of that size in which every granule is the host's.
@@ -66,10 +69,7 @@ impl Machine {
     pub fn outcome(&self, cpu: u8, command: &Command) -> Result<Accepted, Reply>
         ensures { result ≡ outcome (state_of self.now) cpu (call_of command.now) }
     {
-        match self.rec_inside(cpu) {
-            None => self.answer_outside(cpu, &command.call()),
-            Some(rec) => self.answer_inside(cpu, rec.address(), &command.call()),
-        }
+        self.outcome_seen(cpu, CommandRef::of(command))
     }
 
     /// Takes one step: whether the machine may give this reply to the command of this CPU. Where it may, the state is
@@ -84,8 +84,50 @@ impl Machine {
         ensures only_tables { OnErr result (IsTrue (makes_table command.now.function)) }
         ensures only_accepted { OnErr result (IsOk (outcome (state_of self.old) cpu (call_of command.now))) }
     {
-        match self.outcome(cpu, command) {
-            Err(refusal) => Ok(*reply == refusal),
+        self.offer_seen(cpu, CommandRef::of(command), ReplyRef::of(reply))
+    }
+
+    /// Takes one step, as `offer` does, with a command and a reply that lie elsewhere.
+    pub fn offer_seen(
+        &mut self,
+        cpu: u8,
+        command: CommandRef<'_>,
+        reply: ReplyRef<'_>,
+    ) -> Result<bool, AllocError>
+        ensures step { IfOk result (λ given. IsTrue given
+            → Step (state_of self.old) cpu (command_seen command.entry) (reply_seen reply.entry) (state_of self.new)) }
+        ensures only { IfOk result (λ given. given ≡ false
+            → (next : State) → ¬ Step (state_of self.old) cpu (command_seen command.entry) (reply_seen reply.entry) next) }
+        ensures kept { IfOk result (λ given. given ≡ false → state_of self.new ≡ state_of self.old) }
+        ensures err { OnErr result (state_of self.new ≡ state_of self.old) }
+        ensures only_tables { OnErr result (IsTrue (makes_table command.entry.function)) }
+        ensures only_accepted { OnErr result (IsOk (outcome (state_of self.old) cpu (call_of (command_seen command.entry)))) }
+    {
+        match lending_of(command) {
+            Some(lending) => Ok(self.lend(cpu, lending, reply)),
+            None => self.offer_any(cpu, command, reply),
+        }
+    }
+
+    // Takes one step, whatever the command is.
+    #[inline(never)]
+    fn offer_any(
+        &mut self,
+        cpu: u8,
+        command: CommandRef<'_>,
+        reply: ReplyRef<'_>,
+    ) -> Result<bool, AllocError>
+        ensures step { IfOk result (λ given. IsTrue given
+            → Step (state_of self.old) cpu (command_seen command.entry) (reply_seen reply.entry) (state_of self.new)) }
+        ensures only { IfOk result (λ given. given ≡ false
+            → (next : State) → ¬ Step (state_of self.old) cpu (command_seen command.entry) (reply_seen reply.entry) next) }
+        ensures kept { IfOk result (λ given. given ≡ false → state_of self.new ≡ state_of self.old) }
+        ensures err { OnErr result (state_of self.new ≡ state_of self.old) }
+        ensures only_tables { OnErr result (IsTrue (makes_table command.entry.function)) }
+        ensures only_accepted { OnErr result (IsOk (outcome (state_of self.old) cpu (call_of (command_seen command.entry)))) }
+    {
+        match self.outcome_seen(cpu, command) {
+            Err(refusal) => Ok(reply.is(&refusal)),
             Ok(Accepted::Done { words, change }) => {
                 if !is_ok(reply, &words) {
                     return Ok(false);
@@ -96,6 +138,17 @@ impl Machine {
                 Ok(true)
             }
             Ok(Accepted::Reaches(stretch)) => Ok(self.reach(&stretch, reply)),
+        }
+    }
+
+    // What the specification answers, as `outcome` does.
+    fn outcome_seen(&self, cpu: u8, command: CommandRef<'_>) -> Result<Accepted, Reply>
+        ensures { result ≡ outcome (state_of self.now) cpu (call_of (command_seen command.entry)) }
+    {
+        let call = command.call();
+        match self.rec_inside(cpu) {
+            None => self.answer_outside(cpu, &call),
+            Some(rec) => self.answer_inside(cpu, rec.address(), &call),
         }
     }
 }

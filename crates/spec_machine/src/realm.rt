@@ -12,6 +12,7 @@ impl Machine {
     ghost use Rattle.spec_machine.specs.View.{state_of};
 
     #[tactic(auto, unfolding(rmm_spec::specs::Step::Realm::realm_create, rmm_spec::specs::Step::Words::words_of, rmm_spec::specs::Step::Named::named))]
+    #[inline(never)]
     pub(crate) fn realm_create(
         &self,
         rd: u64,
@@ -56,6 +57,7 @@ impl Machine {
     }
 
     #[tactic(auto, unfolding(rmm_spec::specs::Step::Realm::realm_activate, rmm_spec::specs::Step::Words::words_of, rmm_spec::specs::Step::Named::named, rmm_spec::specs::Lookup::realm_at))]
+    #[inline(never)]
     pub(crate) fn realm_activate(&self, rd: u64) -> Result<Accepted, Reply>
         ensures { result ≡ realm_activate (state_of self.now) rd }
     {
@@ -73,6 +75,7 @@ impl Machine {
     }
 
     #[tactic(auto, unfolding(rmm_spec::specs::Step::Realm::realm_destroy, rmm_spec::specs::Step::Words::words_of, rmm_spec::specs::Step::Named::named, rmm_spec::specs::Lookup::realm_at, realm_desc::specs::View::realm_record))]
+    #[inline(never)]
     pub(crate) fn realm_destroy(&self, rd: u64) -> Result<Accepted, Reply>
         ensures { result ≡ realm_destroy (state_of self.now) rd }
     {

@@ -13,6 +13,7 @@ impl Machine {
     ghost use Rattle.spec_machine.specs.View.{state_of};
 
     #[tactic(auto, unfolding(rmm_spec::specs::Step::Rec::rec_create, rmm_spec::specs::Step::Words::words_of, rmm_spec::specs::Step::Named::named, rmm_spec::specs::Lookup::realm_at))]
+    #[inline(never)]
     pub(crate) fn rec_create(
         &self,
         rd: u64,
@@ -59,6 +60,7 @@ impl Machine {
     }
 
     #[tactic(auto, unfolding(rmm_spec::specs::Step::Rec::rec_destroy, rmm_spec::specs::Step::Words::words_of, rmm_spec::specs::Step::Named::named, rmm_spec::specs::Lookup::rec_at, realm_desc::specs::View::rec_record))]
+    #[inline(never)]
     pub(crate) fn rec_destroy(&self, address: u64) -> Result<Accepted, Reply>
         ensures { result ≡ rec_destroy (state_of self.now) address }
     {

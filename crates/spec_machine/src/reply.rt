@@ -3,8 +3,10 @@
 ghost use Rattle.std.specs.Prelude.{◌≡◌, ◌≢◌, ◌↔◌, ℕ, IsTrue, IfSome, IfNone, [], ◌∷◌};
 ghost use Rattle.rmm_spec.specs.declared.change.Change.TheVariants.{Unchanged};
 ghost use Rattle.rmm_spec.specs.Rows as rows;
+ghost use Rattle.rmi_view.specs.Seen.{reply_seen};
 
 use arrayvec::ArrayVec;
+use rmi_view::ReplyRef;
 use rmm_spec::{Accepted, Change, Reply};
 
 /// A table or an entry of this level is in the way (DEN0137, RMI_ERROR_RTT).
@@ -49,22 +51,36 @@ pub fn told(told: [u64; 4]) -> Accepted
     }
 }
 
-/// Whether the command was carried out and gave these words.
-pub fn is_ok(reply: &Reply, words: &ArrayVec<u64, 10>) -> bool
-    ensures { IsTrue result ↔ (reply.now ≡ Reply.Ok words.now) }
+/// Whether a word, or what it names, was found not to fit the command.
+pub fn is_input_error(reply: ReplyRef<'_>) -> bool
+    ensures { IsTrue result ↔ (reply_seen reply.entry ≡ rows.input_error) }
 {
-    matches!(reply, Reply::Ok(given) if given.as_slice() == words.as_slice())
+    matches!(reply, ReplyRef::Err(1, 0))
+}
+
+/// Whether the command was carried out and gave no words.
+pub fn is_done(reply: ReplyRef<'_>) -> bool
+    ensures { IsTrue result ↔ (reply_seen reply.entry ≡ rows.ok []) }
+{
+    matches!(reply, ReplyRef::Ok(given) if given.is_empty())
+}
+
+/// Whether the command was carried out and gave these words.
+pub fn is_ok(reply: ReplyRef<'_>, words: &ArrayVec<u64, 10>) -> bool
+    ensures { IsTrue result ↔ (reply_seen reply.entry ≡ Reply.Ok words.now) }
+{
+    matches!(reply, ReplyRef::Ok(given) if given == words.as_slice())
 }
 
 /// The word of a reply that has one, and no other reply's.
-pub fn only_word(reply: &Reply) -> Option<u64>
-    ensures found { IfSome result (λ word. reply.now ≡ rows.ok (word ∷ [])) }
-    ensures none { IfNone result ((word : ℕ) → reply.now ≢ rows.ok (word ∷ [])) }
+pub fn only_word(reply: ReplyRef<'_>) -> Option<u64>
+    ensures found { IfSome result (λ word. reply_seen reply.entry ≡ rows.ok (word ∷ [])) }
+    ensures none { IfNone result ((word : ℕ) → reply_seen reply.entry ≢ rows.ok (word ∷ [])) }
 {
-    let Reply::Ok(words) = reply else {
+    let ReplyRef::Ok(words) = reply else {
         return None;
     };
-    match words.as_slice() {
+    match words {
         [word] => Some(*word),
         _ => None,
     }

@@ -8,6 +8,7 @@ use crate::reply::{only_word, table_error};
 use flat_tables::{entry_number, entry_size, is_unassigned};
 use granule_state::GRANULE_BYTES;
 use rec_steps::{input_error, realm_error, rec_error};
+use rmi_view::ReplyRef;
 use rmm_spec::{
     Accepted, Change, EntryChange, RealmChange, RealmUpdate, RecChange, RecUpdate, Reply, Ripas,
     Stretch, StretchUse, Tag,
@@ -20,9 +21,11 @@ impl Machine {
     ghost use Rattle.rmm_spec.specs.State.{State};
     ghost use Rattle.rmm_spec.specs.Step.{CarriesOut};
     ghost use Rattle.rmm_spec.specs.Step.Ripas.{rtt_init_ripas, rtt_set_ripas, IsReached, reached_change};
+    ghost use Rattle.rmi_view.specs.Seen.{reply_seen};
     ghost use Rattle.spec_machine.specs.View.{state_of};
 
     #[tactic(auto, unfolding(rmm_spec::specs::Step::Ripas::rtt_init_ripas, rmm_spec::specs::Step::Words::words_of, rmm_spec::specs::Step::Named::named, rmm_spec::specs::Lookup::realm_at))]
+    #[inline(never)]
     pub(crate) fn rtt_init_ripas(&self, rd: u64, base: u64, top: u64) -> Result<Accepted, Reply>
         ensures { result ≡ rtt_init_ripas (state_of self.now) rd base top }
     {
@@ -103,12 +106,12 @@ impl Machine {
     }
 
     /// Sets the stretch up to the end that the reply tells, where that is allowed. Else it changes nothing.
-    pub(crate) fn reach(&mut self, stretch: &Stretch, reply: &Reply) -> bool
+    pub(crate) fn reach(&mut self, stretch: &Stretch, reply: ReplyRef<'_>) -> bool
         requires level { stretch.now.level ≤ 3 }
         requires can { (top : ℕ) → IsReached (state_of self.old) stretch.now top
             → CanApply (state_of self.old) (reached_change stretch.now top) }
-        ensures step { IsTrue result → CarriesOut (Ok (Reaches stretch.now)) (state_of self.old) reply.now (state_of self.new) }
-        ensures only { result ≡ false → (next : State) → ¬ CarriesOut (Ok (Reaches stretch.now)) (state_of self.old) reply.now next }
+        ensures step { IsTrue result → CarriesOut (Ok (Reaches stretch.now)) (state_of self.old) (reply_seen reply.entry) (state_of self.new) }
+        ensures only { result ≡ false → (next : State) → ¬ CarriesOut (Ok (Reaches stretch.now)) (state_of self.old) (reply_seen reply.entry) next }
         ensures kept { result ≡ false → state_of self.new ≡ state_of self.old }
     {
         let Some(top) = only_word(reply) else {

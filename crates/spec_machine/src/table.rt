@@ -18,6 +18,7 @@ impl Machine {
     ghost use Rattle.spec_machine.specs.View.{state_of};
 
     #[tactic(auto, unfolding(rmm_spec::specs::Step::Table::rtt_create, rmm_spec::specs::Step::Words::words_of, rmm_spec::specs::Step::Named::named, rmm_spec::specs::Lookup::realm_at))]
+    #[inline(never)]
     pub(crate) fn rtt_create(
         &self,
         rd: u64,
@@ -65,6 +66,7 @@ impl Machine {
     }
 
     #[tactic(auto, unfolding(rmm_spec::specs::Step::Table::rtt_destroy, rmm_spec::specs::Step::Words::words_of, rmm_spec::specs::Step::Named::named, rmm_spec::specs::Lookup::realm_at))]
+    #[inline(never)]
     pub(crate) fn rtt_destroy(&self, rd: u64, ipa: u64, level: u64) -> Result<Accepted, Reply>
         ensures { result ≡ rtt_destroy (state_of self.now) rd ipa level }
     {
@@ -108,6 +110,7 @@ impl Machine {
     }
 
     #[tactic(auto, unfolding(rmm_spec::specs::Step::Table::rtt_read_entry, rmm_spec::specs::Step::Words::words_of, rmm_spec::specs::Step::Named::named, rmm_spec::specs::Lookup::realm_at))]
+    #[inline(never)]
     pub(crate) fn rtt_read_entry(&self, rd: u64, ipa: u64, level: u64) -> Result<Accepted, Reply>
         ensures { result ≡ rtt_read_entry (state_of self.now) rd ipa level }
     {

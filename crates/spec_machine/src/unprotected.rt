@@ -23,6 +23,7 @@ impl Machine {
     ghost use Rattle.spec_machine.specs.View.{state_of};
 
     #[tactic(auto, unfolding(rmm_spec::specs::Step::Unprotected::rtt_map_unprotected, rmm_spec::specs::Step::Words::words_of, rmm_spec::specs::Step::Named::named, rmm_spec::specs::Lookup::realm_at))]
+    #[inline(never)]
     pub(crate) fn rtt_map_unprotected(
         &self,
         rd: u64,
@@ -54,6 +55,7 @@ impl Machine {
     }
 
     #[tactic(auto, unfolding(rmm_spec::specs::Step::Unprotected::rtt_unmap_unprotected, rmm_spec::specs::Step::Words::words_of, rmm_spec::specs::Step::Named::named, rmm_spec::specs::Lookup::realm_at))]
+    #[inline(never)]
     pub(crate) fn rtt_unmap_unprotected(&self, rd: u64, ipa: u64) -> Result<Accepted, Reply>
         ensures { result ≡ rtt_unmap_unprotected (state_of self.now) rd ipa }
     {

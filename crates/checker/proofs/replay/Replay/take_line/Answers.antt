@@ -4,6 +4,7 @@ use Rattle.std.proofs.lemmas.Result.{IfOk-weaker, on_err_weaker}
 use Rattle.rmm_spec.specs.declared.line.Line.TheVariants.{Keep, Unfinished}
 use Rattle.checker.proofs.Calls.{told_at_return}
 use Rattle.checker.specs.Replay.{IsDue}
+use Rattle.rmi_view.specs.Seen.{reply_seen}
 use Rattle.checker.proofs.Judging.{IsDue-kept, IsDue-unfinished, MatchOption-at_not_some}
 use Rattle.checker.proofs.replay.Replay.take_line.Goals as goal
 
@@ -13,7 +14,7 @@ due_kept c =
     let history = c.args.history.now.recorded in
     let keep = c.in-Keep in
     let returned = c.in-Some-returned.returned in
-    let reply = c.in-Some-reply_at.reply in
+    let reply = reply_seen c.in-Some-reply_at.reply in
     let places = rw keep.is at c.in-Some.ensures.some in
     let has_returned = rw c.in-Some-returned.is at places.returned in
     IsDue-kept c.args.self.now history c.requires.is_history keep.cpu keep.number c.in-Some.places.called c.index.result.now returned reply
@@ -41,11 +42,11 @@ due_unfinished c =
 pub returns-else-is_some-clause-judged : goal.returns-else-is_some-clause-judged
 returns-else-is_some-clause-judged c =
     let named = c.in-Unfinished in
-    IfOk-weaker c.take_reply-in-Unfinished.result _ _ (λ why taken. rw named.is (taken (Unfinished named.cpu named.number named.reply.now) (due_unfinished c)))
+    IfOk-weaker c.take_reply-in-Unfinished.result _ _ (λ why taken. rw named.is (taken (Unfinished named.cpu named.number named.reply.now) (rw c.of.ensures (due_unfinished c))))
     c.take_reply-in-Unfinished.ensures.judged
 
 pub returns-else-is_some-clause-refused : goal.returns-else-is_some-clause-refused
 returns-else-is_some-clause-refused c =
     let named = c.in-Unfinished in
-    on_err_weaker c.take_reply-in-Unfinished.result (λ refused. rw named.is (refused (Unfinished named.cpu named.number named.reply.now) (due_unfinished c)))
+    on_err_weaker c.take_reply-in-Unfinished.result (λ refused. rw named.is (refused (Unfinished named.cpu named.number named.reply.now) (rw c.of.ensures (due_unfinished c))))
     c.take_reply-in-Unfinished.ensures.refused

@@ -4,7 +4,7 @@ use Rattle.history.specs.Entry.{event_of, events_in, room_of}
 use Rattle.history.specs.Room.{spare}
 use Rattle.history.specs.EventRef.{event_seen}
 use Rattle.history.proofs.SubhistoryLaws.{IsIndexed-push, IsIndexed-refused, has_subhistory}
-use Rattle.history.proofs.EntryLaws.{IsHeld-stored, events_in-stored}
+use Rattle.history.proofs.EntryLaws.{IsHeld-stored, events_in-stored, few_words}
 use Rattle.history.proofs.RoomLaws.{least_spare-limit, room_left, room_at}
 use Rattle.history.proofs.history.History.append.Goals as goal
 
@@ -51,8 +51,11 @@ returns-clause-left c =
     (room_left _ _ inside.subhistories c.cpu_of.result c.index-self-cpu_of.result _ within c.store.ensures.left
     (omega (arith, c.make_room.ensures.grows, c.enter.ensures.left)))
 
-pub store-requires : goal.store-requires
-store-requires c =
+pub store-requires-clause-few : goal.store-requires-clause-few
+store-requires-clause-few c = few_words _ (event_seen c.args.event) c.requires.follows.is_event
+
+pub store-requires-clause-words : goal.store-requires-clause-words
+store-requires-clause-words c =
     let inside = c.self.inside in
     let line = rw (← c.self.view_is) at c.requires.line in
     omega (arith, line, c.self.invariant.held.few_words, length-map inside.entries.items (event_of inside.words.items))

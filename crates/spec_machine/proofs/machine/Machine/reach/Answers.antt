@@ -1,3 +1,4 @@
+use Rattle.rmi_view.specs.Seen.{reply_seen}
 use Rattle.std.proofs.Common.{IsTrue, sym, ◌∙◌, ap}
 use Rattle.rmm_spec.specs.declared.change.Change.{Change}
 use Rattle.rmm_spec.specs.Change.{changed}
@@ -14,7 +15,7 @@ returns-in_default-clause-only c = λ _ next (top, (reached, told, changed)). c.
 
 pub returns-then-not-is_reached-clause-only : goal.returns-then-not-is_reached-clause-only
 returns-then-not-is_reached-clause-only c = λ _ next.
-    no_reach (state_of c.args.self.now) c.args.stretch.now c.in-Some.top c.args.reply.now c.in-Some.ensures.found (sym c.if-not-is_reached.ensures) next
+    no_reach (state_of c.args.self.now) c.args.stretch.now c.in-Some.top (reply_seen c.args.reply) c.in-Some.ensures.found (sym c.if-not-is_reached.ensures) next
 
 pub apply-requires : goal.apply-requires
 apply-requires c =

@@ -1,19 +1,20 @@
 use Rattle.std.proofs.Common.{sym}
+use Rattle.rmi_view.specs.Seen.{command_seen}
 use Rattle.spec_machine.specs.View.{state_of}
 use Rattle.spec_machine.proofs.Memory.{done_makes, stretch_level}
 use Rattle.rmm_sound.proofs.Runs.{done_applies, reached_applies}
-use Rattle.spec_machine.proofs.machine.Machine.offer.Goals as goal
+use Rattle.spec_machine.proofs.machine.Machine.offer_any.Goals as goal
 
 pub apply-requires : goal.apply-requires
 unfolding state_of
 apply-requires c =
     let is = rw c.in-Ok-Done.field-0-is at c.in-Ok-Done.ensures in
-    done_applies (state_of c.args.self.now) c.args.cpu c.args.command.now _ _ c.args.self.now.kept.sound (sym is)
+    done_applies (state_of c.args.self.now) c.args.cpu (command_seen c.args.command) _ _ c.args.self.now.kept.sound (sym is)
 
 pub returns-in_default-clause-only_tables : goal.returns-in_default-clause-only_tables
 returns-in_default-clause-only_tables c =
     let is = rw c.in-Ok-Done.field-0-is at c.in-Ok-Done.ensures in
-    done_makes (state_of c.args.self.now) c.args.cpu c.args.command.now _ _ (sym is) c.in_default.ensures.only
+    done_makes (state_of c.args.self.now) c.args.cpu (command_seen c.args.command) _ _ (sym is) c.in_default.ensures.only
 
 pub reach-requires : goal.reach-requires
 unfolding state_of
@@ -21,8 +22,8 @@ reach-requires c =
     let s = state_of c.args.self.now in
     let is = sym (rw c.in-Ok-Reaches.field-0-is at c.in-Ok-Reaches.ensures) in
     record {
-      level = stretch_level s c.args.cpu c.args.command.now _ c.args.self.now.kept.sound is;
-      can = λ top. reached_applies s c.args.cpu c.args.command.now _ top c.args.self.now.kept.sound is;
+      level = stretch_level s c.args.cpu (command_seen c.args.command) _ c.args.self.now.kept.sound is;
+      can = λ top. reached_applies s c.args.cpu (command_seen c.args.command) _ top c.args.self.now.kept.sound is;
     }
 
 pub returns-in-Ok-Reaches-clause-only : goal.returns-in-Ok-Reaches-clause-only

@@ -1,0 +1,15 @@
+//! Words of a command or a reply of its own.
+
+ghost use Rattle.std.specs.Prelude.{◌≡◌, ◌≤◌, length};
+
+use arrayvec::ArrayVec;
+
+/// The words, copied.
+pub(crate) fn owned(words: &[u64]) -> ArrayVec<u64, 10>
+    requires { length words.now ≤ 10 }
+    ensures { result.items ≡ words.now }
+{
+    let mut copy = ArrayVec::new();
+    copy.try_extend_from_slice(words).unwrap();
+    copy
+}
