@@ -9,7 +9,7 @@ use Rattle.rmm_spec.specs.HistoryText.{History}
 use Rattle.rmm_spec.specs.Step.{Step, outcome}
 use Rattle.rmm_spec.specs.Linearization.{IsCalled, IsOfItsKind, IsReplyOf, IsTooLate, cpu_named, number_named}
 use Rattle.rmm_spec.specs.FirstFault.{FailsBy}
-use Rattle.spec_machine.specs.Served.{makes_table}
+use Rattle.spec_machine.specs.Memory.{makes_table}
 use Rattle.spec_machine.specs.View.{state_of}
 use Rattle.checker.specs.Progress.{Progress}
 use Rattle.checker.specs.declared.replay.Replay.{Replay}

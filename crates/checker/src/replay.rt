@@ -6,7 +6,6 @@ ghost use Rattle.rmm_spec.specs.declared.command.Command.{Command};
 ghost use Rattle.rmm_spec.specs.declared.line.Line.{Line};
 ghost use Rattle.certificate.specs.LineRef.{line_seen};
 ghost use Rattle.history.specs.Calls.{ArePlacesOf};
-ghost use Rattle.rmm_spec.specs.Function.{is_served};
 ghost use Rattle.rmm_spec.specs.HistoryText.{IsHistory};
 ghost use Rattle.rmm_spec.specs.State.{State};
 ghost use Rattle.rmm_spec.specs.Step.{Step};
@@ -117,8 +116,7 @@ impl Replay {
         command: &Command,
         reply: &Reply,
     ) -> Result<bool, AllocError>
-        requires within { called < length self.old.named.items }
-        requires served { IsTrue (is_served command.now.function) }
+        requires { called < length self.old.named.items }
         ensures given { IfOk result (λ given. MatchBool given (Commits self.old self.new cpu called command.now reply.now)
             ((next : State) → ¬ Step (state_of self.old.machine) cpu command.now reply.now next)) }
         ensures refused { OnErr result (NeedsMemory self.old cpu command.now) }

@@ -59,7 +59,10 @@ fn commands(rt: HostRuntime) {
         FunctionId::MeasurementExtend,
         &[1, 3, 0x636261, 0, 0, 0, 0, 0, 0, 0],
     );
-    assert_eq!(rt; read_command("c4000193 1 3 636261 0 0 0 0 0 0 0"), Ok(ten_words));
+    assert_eq!(rt;
+        read_command("c4000193 1 3 636261 0 0 0 0 0 0 0"),
+        Ok(ten_words)
+    );
 }
 
 #[test]

@@ -1,6 +1,6 @@
--- The functions of the profile: their numbers, how many words each takes, and which of them are served today.
+-- The functions of the profile: their numbers, and how many words each takes.
 -- Arm's function identifiers (DEN0137, RMI and RSI commands; PSCI); Exit is this project's own.
-use Rattle.std.specs.Prelude.{ℕ, Bool, true, false}
+use Rattle.std.specs.Prelude.{ℕ}
 use Rattle.rmm_spec.specs.declared.function_id.FunctionId.{FunctionId}
 use Rattle.rmm_spec.specs.declared.function_id.FunctionId.TheVariants.{GranuleDelegate, GranuleUndelegate, DataCreate, DataCreateUnknown, DataDestroy, RealmActivate, RealmCreate, RealmDestroy, RecCreate, RecDestroy, RecEnter, RttCreate, RttDestroy, RttMapUnprotected, RttReadEntry, RttUnmapUnprotected, RttInitRipas, RttSetRipas, MeasurementRead, MeasurementExtend, RealmConfig, IpaStateSet, IpaStateGet, HostCall, CpuOff, SystemOff, Exit}
 
@@ -63,23 +63,3 @@ word_count HostCall = 1
 word_count CpuOff = 0
 word_count SystemOff = 0
 word_count Exit = 0
-
--- whether the texts and the machine have the function today
-unfoldable pub is_served : FunctionId → Bool
-is_served GranuleDelegate = true
-is_served GranuleUndelegate = true
-is_served RealmActivate = true
-is_served RealmCreate = true
-is_served RealmDestroy = true
-is_served RecCreate = true
-is_served RecDestroy = true
-is_served DataCreate = true
-is_served DataCreateUnknown = true
-is_served DataDestroy = true
-is_served RttCreate = true
-is_served RttDestroy = true
-is_served RttMapUnprotected = true
-is_served RttReadEntry = true
-is_served RttUnmapUnprotected = true
-is_served RttInitRipas = true
-is_served _ = false

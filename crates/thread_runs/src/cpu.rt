@@ -48,7 +48,7 @@ impl Cpu {
 }
 
 /// GRANULE_DELEGATE of the granule at an address.
-#[tactic(auto, unfolding(rmm_spec::specs::Function::is_served, rmm_spec::specs::Function::word_count))]
+#[tactic(auto, unfolding(rmm_spec::specs::Function::word_count))]
 fn delegate(granule: u64) -> Command
     ensures command { result ≡ delegate granule }
     ensures served { IsGranuleCommand result }

@@ -5,7 +5,6 @@ use Rattle.std.proofs.lemmas.Result.{err_from_is_err_and}
 use Rattle.rmm_spec.specs.declared.event.Event.TheVariants.{Called}
 use Rattle.rmm_spec.specs.Step.{Step}
 use Rattle.spec_machine.specs.View.{state_of}
-use Rattle.rmm_spec.proofs.Places.{call_is_event}
 use Rattle.checker.proofs.Judging.{IsReady-from_due, IsRefusedMemory-due, Progress-line, FailsBy-line, called_within}
 use Rattle.checker.proofs.replay.Replay.take_reply.Goals as goal
 
@@ -14,15 +13,10 @@ command_at-requires c =
     let made = c.requires.is_called in
     slice_get_within c.args.history.now.recorded.events c.args.called (Called c.args.cpu made.0 made.1) made.2
 
-pub commit-requires-clause-within : goal.commit-requires-clause-within
-commit-requires-clause-within c =
+pub commit-requires : goal.commit-requires
+commit-requires c =
     let made = c.requires.is_called in
     called_within c.args.history.now.recorded c.args.self.now.named.items c.args.called c.args.cpu made.0 made.1 c.requires.counted made.2
-
-pub commit-requires-clause-served : goal.commit-requires-clause-served
-commit-requires-clause-served c =
-    let made = c.in-Some.ensures.some in
-    (call_is_event c.args.history.now.recorded c.args.called made.0 made.1 c.in-Some.command c.requires.is_history made.2).1.served
 
 pub returns-then-given-clause-judged : goal.returns-then-given-clause-judged
 returns-then-given-clause-judged c = λ line due before is_replay.
