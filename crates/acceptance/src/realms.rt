@@ -42,8 +42,7 @@ fn expect_not<R: Abort + AllocGlobal>(
     if other == reply {
         return Ok(());
     }
-    let changed = format!(in rt.alloc(); "{command} -> {other}")?;
-    script.add(changed.as_str())?;
+    script.call(command, other)?;
     script.expect_no(rt)
 }
 

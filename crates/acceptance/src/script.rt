@@ -49,20 +49,25 @@ impl Script {
         Ok(())
     }
 
-    /// Each line of the text is a command by its name, an arrow and its reply, behind `1: ` where CPU 1 calls it.
+    /// Each line of the text is a call, an arrow and its reply.
     pub fn add(&mut self, text: &str) -> Result<(), Fail> {
         for line in text.lines() {
-            let (cpu, line) = match line.strip_prefix("1: ") {
-                Some(rest) => (1, rest),
-                None => (0, line),
-            };
             let (call, reply) = line.split_once(" -> ").ok_or("a line without a reply")?;
-            let (name, words) = call.split_once(' ').unwrap_or((call, ""));
-            let number = number_of(name).ok_or("no such command")?;
-            let command = format!(in self.alloc; "{number:08x} {words}")?;
-            self.push(cpu, command.as_str().trim_ascii_end(), reply)?;
+            self.call(call, reply)?;
         }
         Ok(())
+    }
+
+    /// A command by its name, with its words, behind `1: ` where CPU 1 calls it.
+    pub fn call(&mut self, call: &str, reply: &str) -> Result<(), Fail> {
+        let (cpu, command) = match call.strip_prefix("1: ") {
+            Some(rest) => (1, rest),
+            None => (0, call),
+        };
+        let (name, words) = command.split_once(' ').unwrap_or((command, ""));
+        let number = number_of(name).ok_or("no such command")?;
+        let command = format!(in self.alloc; "{number:08x} {words}")?;
+        self.push(cpu, command.as_str().trim_ascii_end(), reply)
     }
 
     /// This is the line of its verdict without the newline.

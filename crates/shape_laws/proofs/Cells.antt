@@ -1,5 +1,5 @@
 -- Cells by what lies in them, and the maps of a whole, before and after one cell is changed.
-use Rattle.std.proofs.Common.{◌≡◌, ℕ, Bool, true, false, ◌==◌, ◌&&◌, if◌then◌else◌, IsTrue, Option, Some, is_some, refl, sym, ap, ◌∙◌, eq-eqb, ne_eqb}
+use Rattle.std.proofs.Common.{◌≡◌, ℕ, Bool, true, false, ◌==◌, ◌&&◌, if◌then◌else◌, IsTrue, Option, Some, is_some, refl, sym, ap, ◌∙◌, eq-eqb}
 use Rattle.std.proofs.lemmas.Bool.{false≢true, and_from, true_from_ne_false}
 use Rattle.std.proofs.lemmas.Option.{none-some, same_Some}
 use Rattle.rmm_spec.specs.declared.tag.Tag.{Tag}
@@ -224,18 +224,3 @@ pub record IsAt (v : Views) (address : ℕ) (c : Cell) : Type 0 where
 
 pub IsAt-cell : (cells : ℕ → Cell) (address : ℕ) (c : Cell) → cells address ≡ c → IsAt (views_of cells) address c
 IsAt-cell cells address c is = record { tag = ap tag_of is; realm = ap realm_in is; rec = ap rec_in is; table = ap table_in is }
-
--- a cell changed elsewhere leaves it there
-pub IsAt-elsewhere : (v : Views) (key : ℕ) (new : Cell) (address : ℕ) (c : Cell) → (address == key) ≡ false → IsAt v address c
-    → IsAt (views_put v key new) address c
-IsAt-elsewhere v key new address c apart is = record {
-  tag = put-elsewhere v.tags key (tag_of new) address apart ∙ is.tag;
-  realm = put-elsewhere v.realms key (realm_in new) address apart ∙ is.realm;
-  rec = put-elsewhere v.recs key (rec_in new) address apart ∙ is.rec;
-  table = put-elsewhere v.tables key (table_in new) address apart ∙ is.table;
-}
-
--- granules with other tags are apart
-pub addresses_apart : (v : Views) (a b : ℕ) (c d : Cell) → IsAt v a c → IsAt v b d → (tag_number (tag_of c) == tag_number (tag_of d)) ≡ false
-    → (a == b) ≡ false
-addresses_apart v a b c d is other differ = ne_eqb a b (λ same. tags_differ (sym is.tag ∙ ap v.tags same ∙ other.tag) differ)

@@ -71,11 +71,6 @@ granule-number granules address is =
 pub same_place : (rd level number other l n : ℕ) → other ≡ rd → l ≡ level → n ≡ number → is_same_entry rd level number other l n ≡ true
 same_place rd level number other l n here at first = rw (here, at, first) (spot_itself rd level number)
 
--- one place is another as that is the one
-pub same_place-back : (rd level number other l n : ℕ) → is_same_entry rd level number other l n ≡ false → is_same_entry other l n rd level number ≡ false
-same_place-back rd level number other l n apart =
-    false_from_ne_true _ (λ same. spot_hit other l n rd level number same (λ here at first. both_ways (same_place rd level number other l n (sym here) (sym at) (sym first)) apart))
-
 pub holds-is_table_of : (tables : ℕ → Option TableRecord) (granule rd level number : ℕ) → HoldsTable tables granule rd level number
     → IsTrue (is_table_of rd level number (tables granule))
 holds-is_table_of tables granule rd level number held =

@@ -106,14 +106,7 @@ ripas-get first last ripas xs j order =
     subst (λ rest. IsStretch (entry_with_ripas ripas) first (last - first) xs (take first xs ++ (map (entry_with_ripas ripas) (slice_range xs first last) ++ rest)) j)
     ends (stretch-get (entry_with_ripas ripas) first (last - first) xs j)
 
--- an entry with another RIPAS is a link where it was one
-pub ripas-link : (ripas : Ripas) (e : Entry) → is_table (entry_with_ripas ripas e) ≡ is_table e
-ripas-link ripas (Unassigned old) = refl
-ripas-link ripas (Assigned old granule) = refl
-ripas-link ripas (Table granule) = refl
-ripas-link ripas UnassignedNs = refl
-ripas-link ripas (AssignedNs page) = refl
-
+-- an entry with another RIPAS is a link only where it was that link
 pub ripas-is_link : (ripas : Ripas) (e : Entry) (child : ℕ) → entry_with_ripas ripas e ≡ Table child → e ≡ Table child
 ripas-is_link ripas (Unassigned old) child same = absurd (let bad : Unassigned ripas ≡ Table child = same in cc)
 ripas-is_link ripas (Assigned old granule) child same = absurd (let bad : Assigned ripas granule ≡ Table child = same in cc)

@@ -11,9 +11,3 @@ pub mod Placed
 pub mod Locals
 pub mod Refusals
 pub mod Retagged
-pub mod Moved
-pub mod SmallRuns
-pub mod SmallTakes
-pub mod OneRealm
-pub mod Broken
-pub mod OneRec

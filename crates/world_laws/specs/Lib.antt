@@ -1,2 +1,1 @@
 pub mod Replaced
-pub mod SmallWorlds

@@ -7,7 +7,6 @@
 
 mod laws;
 mod local_laws;
-mod small_worlds;
 
 pub use laws::{
     a_lock_has_one_holder, every_run_is_certified, no_wait_cycle, stuck_behind_stopped,
@@ -15,10 +14,4 @@ pub use laws::{
 pub use local_laws::{
     delegations_are_local, input_refusals_are_local, local_on_any_hold,
     misplaced_commands_are_local,
-};
-pub use small_worlds::{
-    a_stopped_cpu_keeps_its_lock, broken_realms_are_not_well_shaped,
-    broken_recs_are_not_well_shaped, broken_wholes_are_not_well_shaped, one_realm_is_well_shaped,
-    one_rec_is_well_shaped, strays_would_circle, two_cpus_delegate_one_granule,
-    word_order_does_not_rise,
 };

@@ -1,0 +1,3 @@
+pub mod SmallWholes
+pub mod SmallWorlds
+pub mod Strays
