@@ -9,7 +9,7 @@ use Rattle.checker.proofs.Judging.{IsDue-kept, IsDue-unfinished, MatchOption-at_
 use Rattle.checker.proofs.replay.Replay.take_line.Goals as goal
 
 -- a kept line whose call is found and in time is due
-due_kept : (c : goal.After-take_reply) → IsDue c.args.self.now c.args.history.now.recorded (Keep c.in-Keep.cpu c.in-Keep.number) c.in-Keep.cpu c.in-Some.places.called c.in-Some-reply_at.reply
+due_kept : (c : goal.After-take_reply) → IsDue c.args.self.now c.args.history.now.recorded (Keep c.in-Keep.cpu c.in-Keep.number) c.in-Keep.cpu c.in-Some.places.called (reply_seen c.in-Some-reply_at.reply)
 due_kept c =
     let history = c.args.history.now.recorded in
     let keep = c.in-Keep in
