@@ -7,3 +7,4 @@ pub mod Named
 pub mod Names
 pub mod Settled
 pub mod Plan
+pub mod Sides

@@ -13,6 +13,7 @@ mod name_list;
 mod names;
 mod plain_held;
 mod serving;
+mod side;
 mod taking;
 #[cfg(test)]
 mod tests;
@@ -24,3 +25,4 @@ pub use laws::{answers_are_local, settled_commands_are_ready, tested_takes_rise}
 pub use plain_held::PlainHeld;
 pub use rmm_spec::Change;
 pub use serving::served;
+pub use side::Side;
