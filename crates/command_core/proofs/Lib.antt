@@ -8,3 +8,4 @@ pub mod CallAnswers
 pub mod Roots
 pub mod Ready
 pub mod PlainCells
+pub mod Others

@@ -8,3 +8,4 @@ pub mod Names
 pub mod Settled
 pub mod Plan
 pub mod Sides
+pub mod Callers

@@ -5,6 +5,7 @@
 //! The world of turns and the monitor's threads are to depend on it.
 #![tactic(auto)]
 
+mod caller;
 mod cell;
 mod cpu_place;
 mod held;
@@ -13,6 +14,7 @@ mod name_list;
 mod names;
 mod plain_held;
 mod serving;
+mod settling;
 mod side;
 mod taking;
 #[cfg(test)]
