@@ -228,7 +228,7 @@ entry_known granules cpu hold a b g t number held is above =
 
 -- ---- the side table
 
-owned_count : (granules cpu : ℕ) (hold : Hold) (a : Whole granules cpu hold) (rd : ℕ)
+pub owned_count : (granules cpu : ℕ) (hold : Hold) (a : Whole granules cpu hold) (rd : ℕ)
     → has_rec (state granules cpu hold a) rd ≡ not (hold.side.rec_counts rd == 0)
 unfolding has_rec flat_state
 owned_count granules cpu hold a rd =
@@ -252,7 +252,7 @@ vmid_owner : (vmid : ℕ) (o : Option RealmRecord) → has_vmid vmid o ≡ true 
 vmid_owner vmid None has = absurd (false≢true has)
 vmid_owner vmid (Some realm) has = (realm, refl, eqb-true realm.vmid vmid has)
 
-used_listed : (granules cpu : ℕ) (hold : Hold) (a : Whole granules cpu hold) (vmid : ℕ)
+pub used_listed : (granules cpu : ℕ) (hold : Hold) (a : Whole granules cpu hold) (vmid : ℕ)
     → is_vmid_used (state granules cpu hold a) vmid ≡ is_some (hold.side.vmids vmid)
 unfolding is_vmid_used flat_state
 used_listed granules cpu hold a vmid = by (hold.side.vmids vmid) refl

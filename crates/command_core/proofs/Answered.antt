@@ -1,0 +1,129 @@
+-- What is answered from the held cells is what each whole that agrees answers: one lemma a command, over any two states.
+use Rattle.std.proofs.Common.{◌≡◌, ℕ, Bool, true, false, not, ◌&&◌, ◌==◌, if◌then◌else◌, List, [], ◌∷◌, Option, Some, None, Result, Ok, Err, refl, sym, ap, ◌∙◌, subst}
+use Rattle.std.specs.Prelude.{IsTrue, is_none, is_some, nat_lt, nat_le}
+use Rattle.rmm_spec.specs.declared.accepted.Accepted.{Accepted}
+use Rattle.rmm_spec.specs.declared.call.Call.TheVariants as call
+use Rattle.rmm_spec.specs.declared.change.Change.TheVariants.{RealmMade, RealmDestroyed, RecMade}
+use Rattle.rmm_spec.specs.declared.reply.Reply.{Reply}
+use Rattle.rmm_spec.specs.declared.tag.Tag.TheVariants.{Undelegated, Delegated, Rd, Rec}
+use Rattle.rmm_spec.specs.State.{State, RealmRecord, RecRecord}
+use Rattle.rmm_spec.specs.Lookup.{has_tag, realm_at, rec_at, is_new, is_vmid_used, has_rec}
+use Rattle.rmm_spec.specs.Rows.{Row, decided, row, input, done, realm_error, rec_error}
+use Rattle.rmm_spec.specs.Walk.{has_link}
+use Rattle.rmm_spec.specs.Step.Front.{with_front}
+use Rattle.rmm_spec.specs.Step.Words.{words_of, is_space}
+use Rattle.rmm_spec.specs.Step.Named.{named}
+use Rattle.rmm_spec.specs.Step.Granule.{granule_delegate, granule_undelegate}
+use Rattle.rmm_spec.specs.Step.Realm.{realm_create, realm_activate, realm_destroy}
+use Rattle.rmm_spec.specs.Step.Rec.{rec_create, rec_destroy, rec_enter}
+use Rattle.rmm_spec.specs.Step.RealmCall.{measurement_read, measurement_extend, realm_config, ipa_state_set, host_call, cpu_off, system_off, rec_exit}
+use Rattle.rmm_spec.specs.Local.{Hold}
+use Rattle.command_core.specs.Changed.{CanAnswer}
+
+-- what the rows refuse needs nothing of what is held
+pub can-decided : (cpu : ℕ) (hold : Hold) (rows : List Row) (accepted : Accepted) → CanAnswer cpu hold (Ok accepted) → CanAnswer cpu hold (decided rows accepted)
+can-decided cpu hold [] accepted can = can
+can-decided cpu hold (first ∷ rows) accepted can = by first.holds (can-decided cpu hold rows accepted can)
+  where
+    by : (b : Bool) → CanAnswer cpu hold (decided rows accepted) → CanAnswer cpu hold (if b then decided rows accepted else Err first.otherwise)
+    by true later = later
+    by false later = tt
+
+-- ---- a host's commands
+
+pub granule_delegate-same : (s t : State) (g : ℕ) → has_tag s g Undelegated ≡ has_tag t g Undelegated → granule_delegate s g ≡ granule_delegate t g
+unfolding granule_delegate words_of named
+granule_delegate-same s t g tag = rw tag refl
+
+pub granule_undelegate-same : (s t : State) (g : ℕ) → has_tag s g Delegated ≡ has_tag t g Delegated → granule_undelegate s g ≡ granule_undelegate t g
+unfolding granule_undelegate words_of named
+granule_undelegate-same s t g tag = rw tag refl
+
+pub realm_activate-same : (s t : State) (rd : ℕ) → has_tag s rd Rd ≡ has_tag t rd Rd → realm_at s rd ≡ realm_at t rd → realm_activate s rd ≡ realm_activate t rd
+unfolding realm_activate words_of named
+realm_activate-same s t rd tag realm = rw (tag, realm) refl
+
+pub rec_create-same : (s t : State) (rd rec mpidr flags aux0 aux1 : ℕ) → has_tag s rd Rd ≡ has_tag t rd Rd → has_tag s rec Delegated ≡ has_tag t rec Delegated
+    → has_tag s aux0 Delegated ≡ has_tag t aux0 Delegated → has_tag s aux1 Delegated ≡ has_tag t aux1 Delegated → realm_at s rd ≡ realm_at t rd
+    → rec_create s rd rec mpidr flags aux0 aux1 ≡ rec_create t rd rec mpidr flags aux0 aux1
+unfolding rec_create words_of named
+rec_create-same s t rd rec mpidr flags aux0 aux1 of_rd of_rec of_aux0 of_aux1 realm =
+    λ i. decided
+    (input (not (rec == aux0) && not (rec == aux1) && not (aux0 == aux1)) ∷ input (nat_le flags 1)
+    ∷ input (of_rd i) ∷ input (of_rec i) ∷ input (of_aux0 i) ∷ input (of_aux1 i)
+    ∷ row (is_new (realm i)) (realm_error 0) ∷ input (mpidr == (realm i).next_index && nat_lt mpidr 8) ∷ [])
+    (done [] (RecMade rd rec mpidr flags aux0 aux1))
+
+-- whether the VMID is used is told by the side table
+pub realm_create-listed : (s t : State) (rd root width level vmid algo : ℕ) (used : Bool) → has_tag s rd Delegated ≡ has_tag t rd Delegated
+    → has_tag s root Delegated ≡ has_tag t root Delegated → is_vmid_used s vmid ≡ used
+    → realm_create s rd root width level vmid algo
+    ≡ decided (with_front t (call.RealmCreate rd root width level vmid algo) (input (not used) ∷ [])) (done [] (RealmMade rd root width level vmid algo))
+unfolding realm_create words_of named
+realm_create-listed s t rd root width level vmid algo used of_rd of_root is =
+    λ i. decided
+    (input (not (rd == root)) ∷ input (is_space width level) ∷ input (nat_le vmid 0xff) ∷ input (algo == 0)
+    ∷ input (of_rd i) ∷ input (of_root i) ∷ input (not (is i)) ∷ [])
+    (done [] (RealmMade rd root width level vmid algo))
+
+-- whether the realm has RECs is told by the side table, and whether its root has a link by that table
+pub realm_destroy-listed : (s t : State) (rd root : ℕ) (recs linked : Bool) → has_tag s rd Rd ≡ has_tag t rd Rd → has_rec s rd ≡ recs
+    → has_link s rd (realm_at s rd).start_level 0 ≡ linked → (realm_at s rd).root ≡ root
+    → realm_destroy s rd
+    ≡ decided (with_front t (call.RealmDestroy rd) (row (not recs) (realm_error 0) ∷ row (not linked) (realm_error 0) ∷ [])) (done [] (RealmDestroyed rd root))
+unfolding realm_destroy words_of named
+realm_destroy-listed s t rd root recs linked of_rd has_recs has_links is_root =
+    λ i. decided
+    (input (of_rd i) ∷ row (not (has_recs i)) (realm_error 0) ∷ row (not (has_links i)) (realm_error 0) ∷ [])
+    (done [] (RealmDestroyed rd (is_root i)))
+
+pub rec_destroy-same : (s t : State) (rec : ℕ) → has_tag s rec Rec ≡ has_tag t rec Rec → rec_at s rec ≡ rec_at t rec → rec_destroy s rec ≡ rec_destroy t rec
+unfolding rec_destroy words_of named
+rec_destroy-same s t rec tag same = rw (tag, same) refl
+
+pub rec_enter-same : (s t : State) (cpu rec : ℕ) → has_tag s rec Rec ≡ has_tag t rec Rec → rec_at s rec ≡ rec_at t rec
+    → realm_at s (rec_at s rec).owner ≡ realm_at t (rec_at t rec).owner → rec_enter s cpu rec ≡ rec_enter t cpu rec
+unfolding rec_enter words_of named
+rec_enter-same s t cpu rec tag same realm = rw (tag, realm, same) refl
+
+-- ---- realm calls
+
+pub measurement_read-same : (s t : State) (rec index : ℕ) → realm_at s (rec_at s rec).owner ≡ realm_at t (rec_at t rec).owner
+    → measurement_read s rec index ≡ measurement_read t rec index
+unfolding measurement_read words_of named
+measurement_read-same s t rec index realm = rw realm refl
+
+pub measurement_extend-same : (s t : State) (rec index size : ℕ) (values : List ℕ) → rec_at s rec ≡ rec_at t rec
+    → measurement_extend s rec index size values ≡ measurement_extend t rec index size values
+unfolding measurement_extend words_of named
+measurement_extend-same s t rec index size values same = rw same refl
+
+pub realm_config-same : (s t : State) (rec : ℕ) → realm_at s (rec_at s rec).owner ≡ realm_at t (rec_at t rec).owner
+    → realm_config s rec ≡ realm_config t rec
+unfolding realm_config words_of named
+realm_config-same s t rec realm = rw realm refl
+
+pub ipa_state_set-same : (s t : State) (rec base top ripas : ℕ) → realm_at s (rec_at s rec).owner ≡ realm_at t (rec_at t rec).owner
+    → ipa_state_set s rec base top ripas ≡ ipa_state_set t rec base top ripas
+unfolding ipa_state_set words_of named
+ipa_state_set-same s t rec base top ripas realm = rw realm refl
+
+pub system_off-same : (s t : State) (rec : ℕ) → rec_at s rec ≡ rec_at t rec → system_off s rec ≡ system_off t rec
+unfolding system_off words_of named
+system_off-same s t rec same = rw same refl
+
+pub rec_exit-same : (s t : State) (rec : ℕ) → rec_at s rec ≡ rec_at t rec → rec_exit s rec ≡ rec_exit t rec
+unfolding rec_exit words_of named
+rec_exit-same s t rec same = rw same refl
+
+pub host_call-same : (s t : State) (rec imm : ℕ) → host_call s rec imm ≡ host_call t rec imm
+unfolding host_call words_of named
+host_call-same s t rec imm = refl
+
+pub cpu_off-same : (s t : State) (rec : ℕ) → cpu_off s rec ≡ cpu_off t rec
+unfolding cpu_off words_of named
+cpu_off-same s t rec = refl
+
+pub rec_destroy-running : (s : State) (rec : ℕ) → has_tag s rec Rec ≡ true → is_none (rec_at s rec).cpu ≡ false → rec_destroy s rec ≡ Err rec_error
+unfolding rec_destroy words_of named
+rec_destroy-running s rec tag running = rw (tag, running) refl

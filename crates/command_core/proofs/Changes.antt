@@ -1,0 +1,205 @@
+-- What a change makes of what is held is what it makes of each whole that agrees: so what all of them answer is a local step.
+use Rattle.std.proofs.Common.{◌≡◌, ℕ, zero, suc, Bool, true, false, ◌&&◌, ◌==◌, if◌then◌else◌, List, [], ◌∷◌, ◌++◌, Option, Some, None, Result, Ok, Err, refl, sym, ap, ◌∙◌, subst, eqb-true, eq-eqb}
+use Rattle.std.specs.Prelude.{IsTrue, Contains, is_some, unwrap_or}
+use Rattle.std.specs.List.{AllByRecursion}
+use Rattle.std.proofs.lemmas.Bool.{false≢true, and_parts}
+use Rattle.std.proofs.lemmas.List.Elements.{All-contains, All-from_recursion}
+use Rattle.std.proofs.lemmas.Option.{none-some, same_Some}
+use Rattle.rmm_spec.specs.declared.accepted.Accepted.{Accepted}
+use Rattle.rmm_spec.specs.declared.accepted.Accepted.TheVariants.{Done, Reaches}
+use Rattle.rmm_spec.specs.declared.change.Change.{Change}
+use Rattle.rmm_spec.specs.declared.change.Change.TheVariants.{Unchanged, Retagged, RealmMade, RealmDestroyed, RecMade, RecDestroyed, RecordsChanged, TableMade, TableDestroyed, EntriesChanged}
+use Rattle.rmm_spec.specs.declared.change.RealmChange.{RealmChange}
+use Rattle.rmm_spec.specs.declared.change.RealmUpdate.{RealmUpdate}
+use Rattle.rmm_spec.specs.declared.change.RealmUpdate.TheVariants.{RecCounted}
+use Rattle.rmm_spec.specs.declared.change.RecChange.{RecChange}
+use Rattle.rmm_spec.specs.declared.change.RecUpdate.{RecUpdate}
+use Rattle.rmm_spec.specs.declared.change.RecUpdate.TheVariants as update
+use Rattle.rmm_spec.specs.declared.command.Command.{Command}
+use Rattle.rmm_spec.specs.declared.reply.Reply.{Reply}
+use Rattle.rmm_spec.specs.declared.tag.Tag.{Tag}
+use Rattle.rmm_spec.specs.declared.tag.Tag.TheVariants as tag
+use Rattle.rmm_spec.specs.Applicable.{CanApply}
+use Rattle.rmm_spec.specs.Call.{call_of}
+use Rattle.rmm_spec.specs.Lookup.{has_tag, tag_number, is_granule}
+use Rattle.rmm_spec.specs.State.{RecRecord}
+use Rattle.rmm_spec.specs.Rows.{ok, done}
+use Rattle.rmm_spec.specs.Step.{Step, outcome}
+use Rattle.rmm_spec.specs.Cell.{Cell, Undelegated, Delegated, Rd, Rec, RecAux, Data, Rtt, put, tag_of, rec_in, recs_of}
+use Rattle.rmm_spec.specs.Flat.{flat_state}
+use Rattle.rmm_spec.specs.Shape.{Side, CpuPlace, Outside, Inside, IsWellShaped}
+use Rattle.rmm_spec.specs.Local.{HeldCell, Hold, granules_held, Agrees, put_all, LocalStep}
+use Rattle.rmm_sound.proofs.Runs.{done_applies}
+use Rattle.world_laws.proofs.Locals.{unchanged-is_local, step-is_local, put-same}
+use Rattle.world_laws.proofs.Lists.{put-other}
+use Rattle.world_laws.proofs.Refusals.{Step-refused}
+use Rattle.shape_laws.specs.Whole.{cells_changed, side_changed, side_without_vmid, side_without_rec, places_changed, places_of_rec, cell_with_tag, cell_with_realm, cell_with_rec, whole_changed}
+use Rattle.shape_laws.proofs.Accepted.{done-keeps_shape}
+use Rattle.shape_laws.proofs.Ties.{well_shaped-is_sound}
+use Rattle.refusal_laws.proofs.Readings.{Whole, state}
+use Rattle.command_core.specs.Seen.{is_held, known_cell}
+use Rattle.command_core.specs.Changed.{realm_cells, rec_cells, new_cells, place_with_rec, new_place, hold_changed, IsOnCpu, RunsHere, CanChange, CanAnswer, Answers}
+use Rattle.command_core.proofs.SeenCells.{known-same, held-contains}
+
+-- ---- granules with two tags are two
+
+unfolded_tag : (granules : ℕ) (cells : ℕ → Cell) (g : ℕ) (t : Tag) → IsTrue (has_tag (flat_state granules cells) g t) → (tag_number (tag_of (cells g)) == tag_number t) ≡ true
+unfolding has_tag flat_state
+unfolded_tag granules cells g t has = (and_parts (is_granule granules g) (tag_number (tag_of (cells g)) == tag_number t) has).1
+
+tags_apart : (granules : ℕ) (cells : ℕ → Cell) (g h : ℕ) (t u : Tag) → IsTrue (has_tag (flat_state granules cells) g t) → IsTrue (has_tag (flat_state granules cells) h u)
+    → (tag_number t == tag_number u) ≡ false → g ≡ h → ⊥
+tags_apart granules cells g h t u first second apart same =
+    let one = eqb-true (tag_number (tag_of (cells g))) (tag_number t) (unfolded_tag granules cells g t first) in
+    let two = eqb-true (tag_number (tag_of (cells h))) (tag_number u) (unfolded_tag granules cells h u second) in
+    false≢true (sym apart ∙ eq-eqb (tag_number t) (tag_number u) (sym one ∙ (ap (λ x. tag_number (tag_of (cells x))) same ∙ two)))
+
+-- ---- cells
+
+-- the whole's cell at a granule that is held
+pub same_at : (granules cpu : ℕ) (hold : Hold) (w : Whole granules cpu hold) (g : ℕ) → IsTrue (is_held g hold.cells) → w.cells g ≡ known_cell hold.cells g
+same_at granules cpu hold w g held = known-same hold.cells w.cells g w.agrees held
+
+cells-changed : (granules cpu : ℕ) (hold : Hold) (w : Whole granules cpu hold) (change : Change) → CanApply (state granules cpu hold w) change
+    → CanChange cpu hold change → cells_changed granules w.cells change ≡ put_all w.cells (new_cells hold.cells change)
+unfolding cells_changed new_cells
+cells-changed granules cpu hold w Unchanged can fits = refl
+cells-changed granules cpu hold w (Retagged change) can fits =
+    ap (λ c. put w.cells change.granule (cell_with_tag change.tag c)) (same_at granules cpu hold w change.granule fits.held.0)
+cells-changed granules cpu hold w (RealmMade rd root width level vmid algo) can fits = refl
+cells-changed granules cpu hold w (RealmDestroyed rd root) can fits = refl
+cells-changed granules cpu hold w (RecMade rd rec mpidr flags aux0 aux1) can fits =
+    let a = tags_apart granules w.cells rd rec tag.Rd tag.Delegated can.rd_tag can.rec_tag refl in
+    let b = tags_apart granules w.cells rd aux0 tag.Rd tag.Delegated can.rd_tag can.aux0_tag refl in
+    let c = tags_apart granules w.cells rd aux1 tag.Rd tag.Delegated can.rd_tag can.aux1_tag refl in
+    let whole = put (put (put w.cells rec (Rec _)) aux0 RecAux) aux1 RecAux in
+    let at_rd : whole rd ≡ known_cell hold.cells rd =
+    put-other (put (put w.cells rec (Rec _)) aux0 RecAux) aux1 RecAux rd c
+    ∙ (put-other (put w.cells rec (Rec _)) aux0 RecAux rd b ∙ (put-other w.cells rec (Rec _) rd a ∙ same_at granules cpu hold w rd fits.held.1.1.1.0)) in
+    ap (λ x. put whole rd (cell_with_realm (RecCounted mpidr flags) x)) at_rd
+cells-changed granules cpu hold w (RecDestroyed rec aux0 aux1) can fits = refl
+cells-changed granules cpu hold w (RecordsChanged None None) can fits = refl
+cells-changed granules cpu hold w (RecordsChanged (Some realm) None) can fits =
+    ap (λ c. put w.cells realm.rd (cell_with_realm realm.update c)) (same_at granules cpu hold w realm.rd fits.held.0)
+cells-changed granules cpu hold w (RecordsChanged None (Some rec)) can fits =
+    ap (λ c. put w.cells rec.rec (cell_with_rec rec.update c)) (same_at granules cpu hold w rec.rec fits.held.0)
+cells-changed granules cpu hold w (RecordsChanged (Some realm) (Some rec)) can fits =
+    let apart = tags_apart granules w.cells rec.rec realm.rd tag.Rec tag.Rd can.1.0 can.0.0 refl in
+    let at_rd = same_at granules cpu hold w realm.rd fits.held.0 in
+    let at_rec : put w.cells realm.rd (cell_with_realm realm.update (w.cells realm.rd)) rec.rec ≡ known_cell hold.cells rec.rec =
+    put-other w.cells realm.rd (cell_with_realm realm.update (w.cells realm.rd)) rec.rec apart ∙ same_at granules cpu hold w rec.rec fits.held.1.0 in
+    ap (λ c. put (put w.cells realm.rd (cell_with_realm realm.update (w.cells realm.rd))) rec.rec (cell_with_rec rec.update c)) at_rec
+    ∙ ap (λ c. put (put w.cells realm.rd (cell_with_realm realm.update c)) rec.rec (cell_with_rec rec.update (known_cell hold.cells rec.rec))) at_rd
+cells-changed granules cpu hold w (TableMade rd level number rtt entry) can fits = absurd fits.here
+cells-changed granules cpu hold w (TableDestroyed rd level number rtt entry) can fits = absurd fits.here
+cells-changed granules cpu hold w (EntriesChanged rd level entries page realm rec) can fits = absurd fits.here
+
+-- ---- beside the cells
+
+side-changed : (granules cpu : ℕ) (hold : Hold) (w : Whole granules cpu hold) (change : Change) → CanChange cpu hold change
+    → side_changed w.cells hold.side change ≡ side_changed (known_cell hold.cells) hold.side change
+unfolding side_changed new_cells
+side-changed granules cpu hold w (RealmMade rd root width level vmid algo) fits = refl
+side-changed granules cpu hold w (RealmDestroyed rd root) fits =
+    ap (λ c. side_without_vmid hold.side c) (same_at granules cpu hold w rd fits.held.0)
+side-changed granules cpu hold w (RecMade rd rec mpidr flags aux0 aux1) fits = refl
+side-changed granules cpu hold w (RecDestroyed rec aux0 aux1) fits =
+    ap (λ c. side_without_rec hold.side c) (same_at granules cpu hold w rec fits.held.0)
+side-changed granules cpu hold w Unchanged fits = refl
+side-changed granules cpu hold w (Retagged change) fits = refl
+side-changed granules cpu hold w (RecordsChanged realm rec) fits = refl
+side-changed granules cpu hold w (TableMade rd level number rtt entry) fits = refl
+side-changed granules cpu hold w (TableDestroyed rd level number rtt entry) fits = refl
+side-changed granules cpu hold w (EntriesChanged rd level entries page realm rec) fits = refl
+
+-- a place that is put in where it was
+same_place : (granules cpu : ℕ) (hold : Hold) (w : Whole granules cpu hold) → w.places ≡ put w.places cpu hold.place
+same_place granules cpu hold w = sym (put-same w.places cpu hold.place w.placed)
+
+pub rec_cell : (c : Cell) (rec : RecRecord) → rec_in c ≡ Some rec → c ≡ Rec rec
+rec_cell Undelegated rec is = absurd (none-some rec is)
+rec_cell Delegated rec is = absurd (none-some rec is)
+rec_cell (Rd realm) rec is = absurd (none-some rec is)
+rec_cell (Rec other) rec is = ap Rec (same_Some other rec is)
+rec_cell RecAux rec is = absurd (none-some rec is)
+rec_cell Data rec is = absurd (none-some rec is)
+rec_cell (Rtt table) rec is = absurd (none-some rec is)
+
+place-rec : (granules cpu : ℕ) (hold : Hold) (w : Whole granules cpu hold) (address : ℕ) (u : RecUpdate) (c : Cell) → w.cells address ≡ c
+    → IsOnCpu cpu hold.place address u → places_of_rec w.places address u c ≡ put w.places cpu (place_with_rec hold.place address u c)
+place-rec granules cpu hold w address (update.Entered on) (Rec rec) is here = ap (λ x. put w.places x (Inside address rec.owner)) here
+place-rec granules cpu hold w address (update.Entered on) Undelegated is here = same_place granules cpu hold w
+place-rec granules cpu hold w address (update.Entered on) Delegated is here = same_place granules cpu hold w
+place-rec granules cpu hold w address (update.Entered on) (Rd realm) is here = same_place granules cpu hold w
+place-rec granules cpu hold w address (update.Entered on) RecAux is here = same_place granules cpu hold w
+place-rec granules cpu hold w address (update.Entered on) Data is here = same_place granules cpu hold w
+place-rec granules cpu hold w address (update.Entered on) (Rtt table) is here = same_place granules cpu hold w
+place-rec granules cpu hold w address update.Exited c is here =
+    let runs = (w.shaped.recs.inside cpu address here.0).0 (w.placed ∙ here.1) in
+    let cell : c ≡ Rec runs.it = sym is ∙ rec_cell (w.cells address) runs.it runs.is_rec in
+    subst (λ x. places_of_rec w.places address update.Exited x ≡ put w.places cpu Outside) (sym cell)
+    (rw (runs.is_on) refl)
+place-rec granules cpu hold w address (update.RipasRequested base top ripas) c is here = same_place granules cpu hold w
+place-rec granules cpu hold w address (update.HostCalled imm) c is here = same_place granules cpu hold w
+place-rec granules cpu hold w address update.TurnedOff c is here = same_place granules cpu hold w
+place-rec granules cpu hold w address update.SystemTurnedOff c is here = same_place granules cpu hold w
+place-rec granules cpu hold w address (update.RequestMoved base) c is here = same_place granules cpu hold w
+
+places-changed : (granules cpu : ℕ) (hold : Hold) (w : Whole granules cpu hold) (change : Change) → CanChange cpu hold change
+    → places_changed w.cells w.places change ≡ put w.places cpu (new_place hold.cells hold.place change)
+unfolding places_changed new_place new_cells
+places-changed granules cpu hold w Unchanged fits = same_place granules cpu hold w
+places-changed granules cpu hold w (Retagged change) fits = same_place granules cpu hold w
+places-changed granules cpu hold w (RealmMade rd root width level vmid algo) fits = same_place granules cpu hold w
+places-changed granules cpu hold w (RealmDestroyed rd root) fits = same_place granules cpu hold w
+places-changed granules cpu hold w (RecMade rd rec mpidr flags aux0 aux1) fits = same_place granules cpu hold w
+places-changed granules cpu hold w (RecDestroyed rec aux0 aux1) fits = same_place granules cpu hold w
+places-changed granules cpu hold w (RecordsChanged realm None) fits = same_place granules cpu hold w
+places-changed granules cpu hold w (RecordsChanged None (Some rec)) fits =
+    let same = same_at granules cpu hold w rec.rec fits.held.0 in
+    subst (λ c. places_of_rec w.places rec.rec rec.update (w.cells rec.rec) ≡ put w.places cpu (place_with_rec hold.place rec.rec rec.update c)) same
+    (place-rec granules cpu hold w rec.rec rec.update (w.cells rec.rec) refl fits.here)
+places-changed granules cpu hold w (RecordsChanged (Some realm) (Some rec)) fits =
+    let same = same_at granules cpu hold w rec.rec fits.held.1.0 in
+    subst (λ c. places_of_rec w.places rec.rec rec.update (w.cells rec.rec) ≡ put w.places cpu (place_with_rec hold.place rec.rec rec.update c)) same
+    (place-rec granules cpu hold w rec.rec rec.update (w.cells rec.rec) refl fits.here)
+places-changed granules cpu hold w (TableMade rd level number rtt entry) fits = absurd fits.here
+places-changed granules cpu hold w (TableDestroyed rd level number rtt entry) fits = absurd fits.here
+places-changed granules cpu hold w (EntriesChanged rd level entries page realm rec) fits = absurd fits.here
+
+-- ---- local steps
+
+-- each cell that is put in has its place
+all_held : (hold : Hold) (changes : List HeldCell) → AllByRecursion (λ (h : HeldCell). IsTrue (is_held h.granule hold.cells)) changes
+    → (h : HeldCell) → Contains changes h → Contains (granules_held hold.cells) h.granule
+all_held hold changes each h has =
+    held-contains hold.cells h.granule
+    (All-contains (λ (x : HeldCell). IsTrue (is_held x.granule hold.cells)) changes h
+    (All-from_recursion (λ (x : HeldCell). IsTrue (is_held x.granule hold.cells)) changes each) has)
+
+-- what every whole that agrees answers is a local step
+pub answers-local : (granules cpu : ℕ) (command : Command) (hold : Hold) (answer : Result Accepted Reply) → CanAnswer cpu hold answer
+    → ((w : Whole granules cpu hold) → outcome (state granules cpu hold w) cpu (call_of command) ≡ answer)
+    → Answers granules cpu command hold answer
+unfolding new_cells new_place side_changed
+answers-local granules cpu command hold (Err refusal) can each =
+    unchanged-is_local granules cpu command refusal hold
+    (λ cells places shaped agrees placed.
+    Step-refused (flat_state granules cells) cpu command refusal
+    (each (record { cells = cells; places = places; shaped = shaped; agrees = agrees; placed = placed })))
+answers-local granules cpu command hold (Ok (Done words change)) can each =
+    step-is_local granules cpu command (ok words.items) hold (new_cells hold.cells change)
+    (side_changed (known_cell hold.cells) hold.side change) (new_place hold.cells hold.place change)
+    (all_held hold (new_cells hold.cells change) can.held)
+    (λ cells places shaped agrees placed.
+    let w : Whole granules cpu hold = record { cells = cells; places = places; shaped = shaped; agrees = agrees; placed = placed } in
+    let s = flat_state granules cells in
+    let applies = done_applies s cpu command words.items change (well_shaped-is_sound granules hold.side places cells shaped) (each w) in
+    let kept = done-keeps_shape granules (record { cells = cells; side = hold.side; places = places }) cpu command words.items change shaped (each w) in
+    let of_cells = cells-changed granules cpu hold w change applies can in (
+      subst (λ whole. Step s cpu command (ok words.items) (flat_state granules whole)) of_cells kept.1,
+      subst (λ whole. IsWellShaped granules (side_changed (known_cell hold.cells) hold.side change) (put places cpu (new_place hold.cells hold.place change)) whole) of_cells
+          (subst (λ p. IsWellShaped granules (side_changed (known_cell hold.cells) hold.side change) p (cells_changed granules cells change)) (places-changed granules cpu hold w change can)
+          (subst (λ side. IsWellShaped granules side (places_changed cells places change) (cells_changed granules cells change)) (side-changed granules cpu hold w change can) kept.0)),
+    ))
+answers-local granules cpu command hold (Ok (Reaches stretch)) can each = absurd can

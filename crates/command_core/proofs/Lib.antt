@@ -1,0 +1,11 @@
+pub mod SeenCells
+pub mod Changes
+pub mod Rising
+pub mod Answered
+pub mod Fronts
+pub mod HostAnswers
+pub mod CallAnswers
+pub mod Roots
+pub mod Ready
+pub mod PlainCells
+pub mod Others

@@ -1,0 +1,11 @@
+pub mod Seen
+pub mod Plain
+pub mod PlainLaws
+pub mod Served
+pub mod Changed
+pub mod Named
+pub mod Names
+pub mod Settled
+pub mod Plan
+pub mod Sides
+pub mod Callers

@@ -1,0 +1,91 @@
+-- What a CPU may take next, told by the cells that it holds: the granules that its command names, upwards, and then a part of
+-- what it holds. This project's own.
+use Rattle.std.specs.Prelude.{ℕ, Bool, true, false, not, ◌&&◌, ◌||◌, ◌==◌, nat_lt, nat_le, if◌then◌else◌, List, Option, Some, None, length}
+use Rattle.std.specs.List.{fold, list_any, list_all}
+use Rattle.rmm_spec.specs.declared.call.Call.{Call}
+use Rattle.rmm_spec.specs.Lookup.{tag_number, is_granule}
+use Rattle.rmm_spec.specs.Rows.{Needed}
+use Rattle.rmm_spec.specs.Step.Words.{words_of}
+use Rattle.rmm_spec.specs.Step.Named.{named}
+use Rattle.rmm_spec.specs.Cell.{Cell, Undelegated, Delegated, Rd, Rec, RecAux, Data, Rtt, tag_of, is_data}
+use Rattle.rmm_spec.specs.Locks.{is_named, names_part, depth}
+use Rattle.rmm_spec.specs.Local.{HeldCell, granules_held}
+use Rattle.command_core.specs.Seen.{cell_in, is_held}
+
+-- ---- tags
+
+-- whether the granule is named with another tag than this cell has
+abbrev pub is_wrong_for : Cell → ℕ → List Needed → Bool
+is_wrong_for cell granule names = list_any (λ (n : Needed). n.granule == granule && not (tag_number (tag_of cell) == tag_number n.tag)) names
+
+abbrev pub is_wrong : Option Cell → ℕ → List Needed → Bool
+is_wrong None granule names = false
+is_wrong (Some cell) granule names = is_wrong_for cell granule names
+
+-- whether a granule that is held and named has another tag than is needed there
+unfoldable pub has_wrong : List Needed → List HeldCell → Bool
+has_wrong names held = list_any (λ granule. is_wrong (cell_in granule held) granule names) (granules_held held)
+
+-- whether the command's words allow it, and each granule that it names is one
+unfoldable pub words_fit : ℕ → Call → Bool
+words_fit granules call = list_all (λ allowed. allowed) (words_of call) && list_all (λ (n : Needed). is_granule granules n.granule) (named call)
+
+-- whether all granules that are named are held
+unfoldable pub holds_all : List Needed → List HeldCell → Bool
+holds_all names held = list_all (λ (n : Needed). is_held n.granule held) names
+
+-- ---- the next by name
+
+abbrev pub is_less : ℕ → Option ℕ → Bool
+is_less granule None = true
+is_less granule (Some best) = nat_lt granule best
+
+-- the lesser of the two, where the named granule is one that may be taken
+abbrev pub lesser : ℕ → List HeldCell → Option ℕ → Needed → Option ℕ
+lesser granules held best n =
+    if is_granule granules n.granule && not (is_held n.granule held) && is_less n.granule best then Some n.granule else best
+
+-- the least granule that is named and isn't held
+unfoldable pub least_missing : ℕ → List Needed → List HeldCell → Option ℕ
+least_missing granules names held = fold (lesser granules held) None names
+
+-- ---- what may be taken
+
+-- whether what is held at a granule is named, as it has to be, and below the one that is to be taken
+abbrev pub fits_below : List Needed → ℕ → ℕ → Option Cell → Bool
+fits_below names next granule None = false
+fits_below names next granule (Some cell) =
+    is_named names granule && nat_lt granule next && not (is_wrong_for cell granule names) && not (is_data cell)
+
+abbrev pub are_below : List Needed → ℕ → List HeldCell → Bool
+are_below names next held = list_all (λ granule. fits_below names next granule (cell_in granule held)) (granules_held held)
+
+-- whether a named granule may be taken: it is above all that are held, and those are named
+unfoldable pub is_upward : ℕ → List Needed → List HeldCell → ℕ → Bool
+is_upward granules names held next =
+    is_granule granules next && is_named names next && nat_le (length held) 5 && are_below names next held
+
+-- whether a realm has the granule for its root, or a REC for one of its two others
+abbrev pub has_part : Option Cell → ℕ → Bool
+has_part (Some (Rd realm)) granule = realm.root == granule
+has_part (Some (Rec rec)) granule = rec.aux0 == granule || rec.aux1 == granule
+has_part _ granule = false
+
+abbrev pub has_aux_part : Option Cell → ℕ → Bool
+has_aux_part (Some (Rec rec)) granule = rec.aux0 == granule || rec.aux1 == granule
+has_aux_part _ granule = false
+
+-- whether what is held at a granule is named, as it has to be, or an auxiliary granule of the REC above
+abbrev pub fits_beside : List Needed → Option Cell → ℕ → Option Cell → Bool
+fits_beside names above granule None = false
+fits_beside names above granule (Some cell) =
+    (is_named names granule || has_aux_part above granule) && not (is_wrong_for cell granule names) && not (is_data cell) && depth cell == 0
+
+abbrev pub are_beside : List Needed → ℕ → List HeldCell → Bool
+are_beside names above held = list_all (λ granule. fits_beside names (cell_in above held) granule (cell_in granule held)) (granules_held held)
+
+-- whether a part of the realm or REC above may be taken: no table is held
+unfoldable pub is_downward : ℕ → List Needed → List HeldCell → ℕ → ℕ → Bool
+is_downward granules names held above next =
+    is_granule granules next && not (is_held next held) && nat_le (length held) 5 && has_part (cell_in above held) next
+    && are_beside names above held

@@ -1,0 +1,10 @@
+//! Where a CPU is.
+
+use granule_state::Pa;
+
+/// In the host's world, or inside a REC of the realm at rd.
+#[derive(Clone, Copy, Debug, PartialEq, Eq)]
+pub enum CpuPlace {
+    Outside,
+    Inside { rec: Pa, rd: Pa },
+}

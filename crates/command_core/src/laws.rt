@@ -1,0 +1,43 @@
+//! What the core rests on: each law is the contract of a function that does nothing.
+
+ghost use Rattle.std.specs.Prelude.{◌≡◌, ℕ, true, IsTrue, List, Result};
+ghost use Rattle.rmm_spec.specs.declared.accepted.Accepted.{Accepted};
+ghost use Rattle.rmm_spec.specs.declared.command.Command.{Command};
+ghost use Rattle.rmm_spec.specs.declared.reply.Reply.{Reply};
+ghost use Rattle.rmm_spec.specs.Call.{call_of};
+ghost use Rattle.rmm_spec.specs.Rows.{Needed};
+ghost use Rattle.rmm_spec.specs.Step.{outcome};
+ghost use Rattle.rmm_spec.specs.Cell.{Cell};
+ghost use Rattle.rmm_spec.specs.Flat.{flat_state};
+ghost use Rattle.rmm_spec.specs.Shape.{CpuPlace, IsWellShaped};
+ghost use Rattle.rmm_spec.specs.Local.{HeldCell, Hold, granules_held, Agrees};
+ghost use Rattle.rmm_spec.specs.Locks.{IsRisingTake};
+ghost use Rattle.command_core.specs.Seen.{are_distinct};
+ghost use Rattle.command_core.specs.Served.{is_served};
+ghost use Rattle.command_core.specs.Changed.{CanAnswer, Answers};
+ghost use Rattle.command_core.specs.Named.{is_upward, is_downward};
+ghost use Rattle.command_core.specs.Settled.{is_settled};
+ghost use Rattle.command_core.specs.Plan.{IsReady};
+
+/// What every well-shaped whole answers that agrees with what is held is a local step: a refusal that changes nothing, or the
+/// answer's words with its change, made of the cells that are held, of the side table and of the CPU's place.
+pub fn answers_are_local()
+    ensures { (granules cpu : ℕ) (command : Command) (hold : Hold) (answer : Result Accepted Reply) → CanAnswer cpu hold answer
+        → ((cells : ℕ → Cell) (places : ℕ → CpuPlace) → IsWellShaped granules hold.side places cells → Agrees cells hold.cells
+        → places cpu ≡ hold.place → outcome (flat_state granules cells) cpu (call_of command) ≡ answer)
+        → Answers granules cpu command hold answer }
+{}
+
+/// Where what is held settles a served command, it allows a local step, whatever the side table has and whichever CPU it is.
+pub fn settled_commands_are_ready()
+    ensures { (granules : ℕ) (command : Command) (place : CpuPlace) (held : List HeldCell) → is_served (call_of command) ≡ true
+        → is_settled granules (call_of command) place held ≡ true → IsReady granules command place held }
+{}
+
+/// What passes the test of a take by name, or of a part of a realm or REC that is held, is a rising take of it.
+pub fn tested_takes_rise()
+    ensures upward { (granules : ℕ) (names : List Needed) (held : List HeldCell) (next : ℕ) → IsTrue (are_distinct (granules_held held))
+        → is_upward granules names held next ≡ true → IsRisingTake granules names held next }
+    ensures downward { (granules : ℕ) (names : List Needed) (held : List HeldCell) (above next : ℕ) → IsTrue (are_distinct (granules_held held))
+        → is_downward granules names held above next ≡ true → IsRisingTake granules names held next }
+{}

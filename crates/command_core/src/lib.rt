@@ -1,0 +1,30 @@
+//! The monitor's core: what a CPU does with the granules that it holds, and nothing else of the machine before it.
+//! It promises that cells held under locks are read and replaced by address; that what all wholes answer which agree with
+//! those is a local step; and where a served command takes no further lock. Which lock it takes, and its answer, come later.
+//! Nothing here waits. Addresses are in bytes.
+//! The world of turns and the monitor's threads are to depend on it.
+#![tactic(auto)]
+
+mod caller;
+mod cell;
+mod cpu_place;
+mod held;
+mod laws;
+mod name_list;
+mod names;
+mod plain_held;
+mod serving;
+mod settling;
+mod side;
+mod taking;
+#[cfg(test)]
+mod tests;
+
+pub use cell::Cell;
+pub use cpu_place::CpuPlace;
+pub use held::Held;
+pub use laws::{answers_are_local, settled_commands_are_ready, tested_takes_rise};
+pub use plain_held::PlainHeld;
+pub use rmm_spec::Change;
+pub use serving::served;
+pub use side::Side;

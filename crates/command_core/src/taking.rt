@@ -1,0 +1,219 @@
+//! What may be taken next, told by the cells that are held.
+
+ghost use Rattle.std.specs.Prelude.{◌≡◌, ◌==◌, option_map, option_copied};
+ghost use Rattle.rmm_spec.specs.Locks.{depth};
+ghost use Rattle.rmm_spec.specs.Locks as locks;
+ghost use Rattle.rmm_spec.specs.Lookup as lookup;
+ghost use Rattle.rmm_spec.specs.Cell as whole;
+ghost use Rattle.command_core.specs.Seen as seen;
+ghost use Rattle.command_core.specs.Seen.{cell_of};
+ghost use Rattle.command_core.specs.Named as spec;
+
+use crate::cell::Cell;
+use crate::held::Held;
+use crate::name_list::Name;
+use crate::names::is_tag;
+use granule_state::{Config, Pa, granule_at};
+
+/// Whether a granule is one of the machine's.
+pub(crate) fn is_granule(config: &Config, address: u64) -> bool
+    ensures { result ≡ lookup.is_granule config.now.granules address }
+{
+    granule_at(config, address).is_some()
+}
+
+/// Whether a granule is held.
+pub(crate) fn is_held<H: Held>(held: &H, pa: Pa) -> bool
+    ensures { result ≡ seen.is_held pa (H.cells held.now) }
+{
+    held.cell(pa).is_some()
+}
+
+/// Whether a granule is named.
+fn is_named(names: &[Name], granule: u64) -> bool
+    ensures { result ≡ locks.is_named names.now granule }
+{
+    names.iter().any(|name| name.granule == granule)
+}
+
+// Whether the granule is named with another tag than its cell has.
+fn is_wrong_for(cell: &Cell, granule: u64, names: &[Name]) -> bool
+    ensures { result ≡ spec.is_wrong_for (cell_of cell.now) granule names.now }
+{
+    let tag = cell.tag();
+    names
+        .iter()
+        .any(|name| name.granule == granule && !is_tag(tag, name.tag))
+}
+
+// Whether what is held at a granule has another tag than is needed there.
+fn is_wrong<H: Held>(held: &H, pa: Pa, names: &[Name]) -> bool
+    ensures { result ≡ spec.is_wrong (seen.cell_in pa (H.cells held.now)) pa names.now }
+{
+    match held.cell(pa) {
+        None => false,
+        Some(cell) => is_wrong_for(cell, pa.address(), names),
+    }
+}
+
+/// Whether a granule that is held and named has another tag than is needed there.
+#[tactic(auto, unfolding(crate::specs::Named::has_wrong))]
+pub(crate) fn has_wrong<H: Held>(names: &[Name], held: &H) -> bool
+    ensures { result ≡ spec.has_wrong names.now (H.cells held.now) }
+{
+    held.held().iter().any(|pa| is_wrong(held, *pa, names))
+}
+
+/// Whether all granules that are named are held.
+#[tactic(auto, unfolding(crate::specs::Named::holds_all))]
+pub(crate) fn holds_all<H: Held>(names: &[Name], held: &H) -> bool
+    ensures { result ≡ spec.holds_all names.now (H.cells held.now) }
+{
+    names
+        .iter()
+        .all(|name| is_held(held, Pa::new(name.granule)))
+}
+
+// Whether what is held at a granule is named, as it has to be, and below the one that is to be taken.
+fn fits_below<H: Held>(names: &[Name], next: u64, held: &H, pa: Pa) -> bool
+    ensures { result ≡ spec.fits_below names.now next pa (seen.cell_in pa (H.cells held.now)) }
+{
+    let granule = pa.address();
+    match held.cell(pa) {
+        None => false,
+        Some(cell) => {
+            is_named(names, granule)
+                && granule < next
+                && !is_wrong_for(cell, granule, names)
+                && !is_data(cell)
+        }
+    }
+}
+
+fn is_data(cell: &Cell) -> bool
+    ensures { result ≡ whole.is_data (cell_of cell.now) }
+{
+    matches!(cell, Cell::Data)
+}
+
+// Whether each granule that is held is named, as it has to be, and below the one that is to be taken.
+fn are_below<H: Held>(names: &[Name], next: u64, held: &H) -> bool
+    ensures { result ≡ spec.are_below names.now next (H.cells held.now) }
+{
+    held.held()
+        .iter()
+        .all(|pa| fits_below(names, next, held, *pa))
+}
+
+/// Whether a named granule may be taken: it is above all that are held, and those are named.
+#[tactic(auto, unfolding(crate::specs::Named::is_upward))]
+pub(crate) fn is_upward<H: Held>(config: &Config, names: &[Name], held: &H, next: u64) -> bool
+    ensures { result ≡ spec.is_upward config.now.granules names.now (H.cells held.now) next }
+{
+    is_granule(config, next)
+        && is_named(names, next)
+        && held.held().len() <= 5
+        && are_below(names, next, held)
+}
+
+// Whether a realm has the granule for its root, or a REC for one of its two others.
+#[tactic(auto, unfolding(realm_desc::specs::View::realm_record, realm_desc::specs::View::rec_record))]
+fn has_part(above: Option<&Cell>, granule: u64) -> bool
+    ensures { result ≡ spec.has_part (option_map cell_of (option_copied above.entry)) granule }
+{
+    match above {
+        Some(Cell::Rd(realm)) => realm.root.address() == granule,
+        Some(Cell::Rec(rec)) => rec.aux0.address() == granule || rec.aux1.address() == granule,
+        _ => false,
+    }
+}
+
+// Whether it is one of the two others of a REC.
+#[tactic(auto, unfolding(realm_desc::specs::View::rec_record))]
+fn has_aux_part(above: Option<&Cell>, granule: u64) -> bool
+    ensures { result ≡ spec.has_aux_part (option_map cell_of (option_copied above.entry)) granule }
+{
+    match above {
+        Some(Cell::Rec(rec)) => rec.aux0.address() == granule || rec.aux1.address() == granule,
+        _ => false,
+    }
+}
+
+fn is_no_table(cell: &Cell) -> bool
+    ensures { result ≡ (depth (cell_of cell.now) == 0) }
+{
+    !matches!(cell, Cell::Rtt(_))
+}
+
+// Whether what is held at a granule is named, as it has to be, or an auxiliary granule of the REC above.
+fn fits_beside<H: Held>(names: &[Name], above: Pa, held: &H, pa: Pa) -> bool
+    ensures { result ≡ spec.fits_beside names.now (seen.cell_in above (H.cells held.now)) pa (seen.cell_in pa (H.cells held.now)) }
+{
+    let granule = pa.address();
+    match held.cell(pa) {
+        None => false,
+        Some(cell) => {
+            (is_named(names, granule) || has_aux_part(held.cell(above), granule))
+                && !is_wrong_for(cell, granule, names)
+                && !is_data(cell)
+                && is_no_table(cell)
+        }
+    }
+}
+
+fn are_beside<H: Held>(names: &[Name], above: Pa, held: &H) -> bool
+    ensures { result ≡ spec.are_beside names.now above (H.cells held.now) }
+{
+    held.held()
+        .iter()
+        .all(|pa| fits_beside(names, above, held, *pa))
+}
+
+/// Whether a part of the realm or REC above may be taken: no table is held.
+#[tactic(auto, unfolding(crate::specs::Named::is_downward))]
+pub(crate) fn is_downward<H: Held>(
+    config: &Config,
+    names: &[Name],
+    held: &H,
+    above: Pa,
+    next: Pa,
+) -> bool
+    ensures { result ≡ spec.is_downward config.now.granules names.now (H.cells held.now) above next }
+{
+    is_granule(config, next.address())
+        && !is_held(held, next)
+        && held.held().len() <= 5
+        && has_part(held.cell(above), next.address())
+        && are_beside(names, above, held)
+}
+
+// The lesser of the two, where the named granule is one that may be taken.
+fn lesser<H: Held>(config: &Config, held: &H, best: Option<u64>, name: &Name) -> Option<u64>
+    ensures { result ≡ spec.lesser config.now.granules (H.cells held.now) best name.now }
+{
+    let granule = name.granule;
+    if is_granule(config, granule) && !is_held(held, Pa::new(granule)) && is_less(granule, best) {
+        Some(granule)
+    } else {
+        best
+    }
+}
+
+fn is_less(granule: u64, best: Option<u64>) -> bool
+    ensures { result ≡ spec.is_less granule best }
+{
+    match best {
+        None => true,
+        Some(best) => granule < best,
+    }
+}
+
+/// The least granule that is named and isn't held.
+#[tactic(auto, unfolding(crate::specs::Named::least_missing))]
+pub(crate) fn least_missing<H: Held>(config: &Config, names: &[Name], held: &H) -> Option<u64>
+    ensures { result ≡ spec.least_missing config.now.granules names.now (H.cells held.now) }
+{
+    names
+        .iter()
+        .fold(None, |best, name| lesser(config, held, best, name))
+}
