@@ -14,14 +14,16 @@ pub struct OwnerRow {
 }
 
 impl Machine {
-    ghost use Rattle.std.specs.Prelude.{◌≡◌, OnOk, OnErr};
+    ghost use Rattle.std.specs.Prelude.{◌≡◌, ◌+◌, ◌<◌, OnOk, OnErr, vec_len, vec_capacity};
     ghost use Rattle.spec_machine.specs.View.{state_of};
     ghost use Rattle.spec_machine.specs.Report.{AddsOwners};
 
     /// Adds a row for each granule, in the order of addresses. Refused memory, it adds none.
+    #[tactic(auto, unfolding(crate::specs::View::state_of, crate::specs::Stored::stored))]
     pub fn owner_report(&self, rows: &mut Vec<OwnerRow>) -> Result<(), AllocError>
         ensures ok { OnOk result (AddsOwners (state_of self.now) rows.old.items rows.new.items) }
         ensures err { OnErr result (rows.new.items ≡ rows.old.items) }
+        ensures full { OnErr result (vec_capacity rows.old < vec_len rows.old + (state_of self.now).granules) }
     {
         let granules = self.store.config.granules() as usize;
         rows.reserve(granules)?;
