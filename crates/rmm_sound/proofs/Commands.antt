@@ -1,7 +1,7 @@
--- What an accepted command does is a change that the state can take: by command, each by its rows.
-use Rattle.std.proofs.Common.{◌≡◌, ℕ, IsTrue, List, length, is_none, refl}
+-- What an accepted command does is a change that the state can take: each command by its rows.
+use Rattle.std.proofs.Common.{◌≡◌, ℕ, ◌<◌, ◌&&◌, ◌==◌, IsTrue, List, length, is_none, nat_le, not, refl, inl, inr, arith}
 use Rattle.std.specs.Prelude.{Ok}
-use Rattle.std.proofs.lemmas.Bool.{and_parts, not-true}
+use Rattle.std.proofs.lemmas.Bool.{and_parts, not-true, eqb-true, ltb-true, leb-true}
 use Rattle.rmm_spec.specs.declared.accepted.Accepted.{Accepted}
 use Rattle.rmm_spec.specs.declared.call.Call.{Call}
 use Rattle.rmm_spec.specs.declared.call.Call.TheVariants as call
@@ -11,16 +11,18 @@ use Rattle.rmm_spec.specs.declared.function_id.FunctionId.TheVariants as functio
 use Rattle.rmm_spec.specs.declared.reply.Reply.TheVariants as reply
 use Rattle.rmm_spec.specs.Call.{call_from, call_of, class_of}
 use Rattle.rmm_spec.specs.State.{State}
-use Rattle.rmm_spec.specs.Lookup.{is_inside, rec_inside, rec_at}
+use Rattle.rmm_spec.specs.Lookup.{is_inside, rec_inside, realm_at, rec_at}
+use Rattle.rmm_spec.specs.Walk.{half}
 use Rattle.rmm_spec.specs.Sound.{IsSound}
 use Rattle.rmm_spec.specs.Step.{is_placed, answer_of, outcome}
+use Rattle.rmm_spec.specs.Step.Words.{words_of}
+use Rattle.rmm_spec.specs.Step.Named.{named}
 use Rattle.rmm_sound.proofs.ByRows.{row_holds}
-use Rattle.rmm_sound.proofs.Applies.{Applies, inside_running}
-use Rattle.rmm_sound.proofs.RecordCommands.{granule_delegate_applies, granule_undelegate_applies, realm_create_applies, realm_activate_applies, realm_destroy_applies, rec_create_applies, rec_destroy_applies, rec_enter_applies}
-use Rattle.rmm_sound.proofs.TableCommands.{rtt_create_applies, rtt_destroy_applies, rtt_read_entry_applies}
-use Rattle.rmm_sound.proofs.PageCommands.{data_create_applies, data_create_unknown_applies, data_destroy_applies, rtt_map_unprotected_applies, rtt_unmap_unprotected_applies}
-use Rattle.rmm_sound.proofs.RipasCommands.{rtt_init_ripas_applies, rtt_set_ripas_applies}
-use Rattle.rmm_sound.proofs.RealmCalls.{measurement_read_applies, measurement_extend_applies, realm_config_applies, ipa_state_set_applies, ipa_state_get_applies, host_call_applies, cpu_off_applies, system_off_applies, rec_exit_applies}
+use Rattle.rmm_sound.proofs.Applies.{Applies, IsRunning, inside_running, idle_awaits_nothing}
+use Rattle.rmm_sound.proofs.Behind.{behind, Follows, answer_applies}
+use Rattle.rmm_sound.proofs.TableCommands.{rtt_create_follows, rtt_destroy_follows}
+use Rattle.rmm_sound.proofs.PageCommands.{data_create_follows, data_create_unknown_follows, data_destroy_follows, rtt_map_unprotected_follows, rtt_unmap_unprotected_follows}
+use Rattle.rmm_sound.proofs.RipasCommands.{rtt_init_ripas_follows, rtt_set_ripas_follows}
 
 -- a call's digest or values are as many words as the function takes
 abbrev pub IsWhole : Call → Type 0
@@ -31,73 +33,80 @@ IsWhole _ = Unit {0}
 -- as they are in a call that is read from a command
 whole_call : (called : FunctionId) (words : List ℕ) → IsWhole (call_from called words)
 unfolding call_from
-whole_call function.GranuleDelegate words = tt
-whole_call function.GranuleUndelegate words = tt
 whole_call function.DataCreate words = refl
-whole_call function.DataCreateUnknown words = tt
-whole_call function.DataDestroy words = tt
-whole_call function.RealmActivate words = tt
-whole_call function.RealmCreate words = tt
-whole_call function.RealmDestroy words = tt
-whole_call function.RecCreate words = tt
-whole_call function.RecDestroy words = tt
-whole_call function.RecEnter words = tt
-whole_call function.RttCreate words = tt
-whole_call function.RttDestroy words = tt
-whole_call function.RttMapUnprotected words = tt
-whole_call function.RttReadEntry words = tt
-whole_call function.RttUnmapUnprotected words = tt
-whole_call function.RttInitRipas words = tt
-whole_call function.RttSetRipas words = tt
-whole_call function.MeasurementRead words = tt
 whole_call function.MeasurementExtend words = refl
-whole_call function.RealmConfig words = tt
-whole_call function.IpaStateSet words = tt
-whole_call function.IpaStateGet words = tt
-whole_call function.HostCall words = tt
-whole_call function.CpuOff words = tt
-whole_call function.SystemOff words = tt
-whole_call function.Exit words = tt
+whole_call _ words = tt
 
 -- a command has the words that its call takes
 pub whole_command : (command : Command) → IsWhole (call_of command)
 whole_command command = whole_call command.function command.words.items
 
--- what is accepted, by command
-answer_applies : (s : State) (cpu : ℕ) (called : Call) (a : Accepted) → IsSound s → IsWhole called
-    → IsTrue (is_placed s cpu (class_of called)) → answer_of s cpu called ≡ Ok a → Applies s a
-unfolding answer_of class_of
-answer_applies s cpu (call.GranuleDelegate granule) a sound whole placed is = granule_delegate_applies s granule a is
-answer_applies s cpu (call.GranuleUndelegate granule) a sound whole placed is = granule_undelegate_applies s granule a is
-answer_applies s cpu (call.DataCreate rd granule ipa source flags digest) a sound whole placed is = data_create_applies s rd granule ipa source flags digest a sound whole is
-answer_applies s cpu (call.DataCreateUnknown rd granule ipa) a sound whole placed is = data_create_unknown_applies s rd granule ipa a sound is
-answer_applies s cpu (call.DataDestroy rd ipa) a sound whole placed is = data_destroy_applies s rd ipa a sound is
-answer_applies s cpu (call.RealmActivate rd) a sound whole placed is = realm_activate_applies s rd a is
-answer_applies s cpu (call.RealmCreate rd root width level vmid algo) a sound whole placed is = realm_create_applies s rd root width level vmid algo a is
-answer_applies s cpu (call.RealmDestroy rd) a sound whole placed is = realm_destroy_applies s rd a is
-answer_applies s cpu (call.RecCreate rd rec mpidr flags aux0 aux1) a sound whole placed is = rec_create_applies s rd rec mpidr flags aux0 aux1 a is
-answer_applies s cpu (call.RecDestroy rec) a sound whole placed is = rec_destroy_applies s rec a is
-answer_applies s cpu (call.RecEnter rec) a sound whole placed is = rec_enter_applies s cpu rec a sound (not-true (is_inside s cpu) placed) is
-answer_applies s cpu (call.RttCreate rd rtt ipa level) a sound whole placed is = rtt_create_applies s rd rtt ipa level a sound is
-answer_applies s cpu (call.RttDestroy rd ipa level) a sound whole placed is = rtt_destroy_applies s rd ipa level a sound is
-answer_applies s cpu (call.RttMapUnprotected rd ipa page) a sound whole placed is = rtt_map_unprotected_applies s rd ipa page a sound is
-answer_applies s cpu (call.RttReadEntry rd ipa level) a sound whole placed is = rtt_read_entry_applies s rd ipa level a is
-answer_applies s cpu (call.RttUnmapUnprotected rd ipa) a sound whole placed is = rtt_unmap_unprotected_applies s rd ipa a sound is
-answer_applies s cpu (call.RttInitRipas rd base top) a sound whole placed is = rtt_init_ripas_applies s rd base top a sound is
-answer_applies s cpu (call.RttSetRipas rd rec base top) a sound whole placed is = rtt_set_ripas_applies s rd rec base top a sound is
-answer_applies s cpu (call.MeasurementRead index) a sound whole placed is = measurement_read_applies s (rec_inside s cpu) index a is
-answer_applies s cpu (call.MeasurementExtend index size values) a sound whole placed is = measurement_extend_applies s (rec_inside s cpu) index size values a (inside_running s cpu sound (and_parts (is_inside s cpu) (is_none (rec_at s (rec_inside s cpu)).pending) placed).0) whole is
-answer_applies s cpu call.RealmConfig a sound whole placed is = realm_config_applies s (rec_inside s cpu) a is
-answer_applies s cpu (call.IpaStateSet base top ripas) a sound whole placed is = ipa_state_set_applies s (rec_inside s cpu) base top ripas a (inside_running s cpu sound (and_parts (is_inside s cpu) (is_none (rec_at s (rec_inside s cpu)).pending) placed).0) is
-answer_applies s cpu (call.IpaStateGet ipa) a sound whole placed is = ipa_state_get_applies s (rec_inside s cpu) ipa a is
-answer_applies s cpu (call.HostCall imm) a sound whole placed is = host_call_applies s (rec_inside s cpu) imm a (inside_running s cpu sound (and_parts (is_inside s cpu) (is_none (rec_at s (rec_inside s cpu)).pending) placed).0) is
-answer_applies s cpu call.CpuOff a sound whole placed is = cpu_off_applies s (rec_inside s cpu) a (inside_running s cpu sound (and_parts (is_inside s cpu) (is_none (rec_at s (rec_inside s cpu)).pending) placed).0) is
-answer_applies s cpu call.SystemOff a sound whole placed is = system_off_applies s (rec_inside s cpu) a (inside_running s cpu sound (and_parts (is_inside s cpu) (is_none (rec_at s (rec_inside s cpu)).pending) placed).0) is
-answer_applies s cpu call.Exit a sound whole placed is = rec_exit_applies s (rec_inside s cpu) a (inside_running s cpu sound placed) is
+-- a call of a realm comes from a REC that runs
+call_running : (s : State) (cpu : ℕ) → IsSound s → IsTrue (is_inside s cpu && is_none (rec_at s (rec_inside s cpu)).pending) → IsRunning s (rec_inside s cpu)
+call_running s cpu sound placed = inside_running s cpu sound (and_parts (is_inside s cpu) (is_none (rec_at s (rec_inside s cpu)).pending) placed).0
+
+-- each command
+command_follows : (s : State) (cpu : ℕ) (c : Call) → IsSound s → IsWhole c → IsTrue (is_placed s cpu (class_of c)) → Follows s cpu c
+unfolding behind class_of words_of named
+command_follows s cpu (call.GranuleDelegate granule) sound whole placed (tag, _) = inl (tag, refl)
+command_follows s cpu (call.GranuleUndelegate granule) sound whole placed (tag, _) = inr (tag, refl)
+command_follows s cpu (call.RealmCreate rd root width level vmid algo) sound whole placed (differ, (space, (vmid_fits, (is_algo, (rd_tag, (root_tag, (unused, _))))))) = record {
+  rd_tag = rd_tag;
+  root_tag = root_tag;
+  apart = not-true _ differ;
+  space = space;
+  vmid_fits = vmid_fits;
+  unused = not-true _ unused;
+  is_algo = eqb-true algo 0 is_algo;
+}
+command_follows s cpu (call.RealmActivate rd) sound whole placed (rd_tag, _) = ((rd_tag, tt), tt)
+command_follows s cpu (call.RealmDestroy rd) sound whole placed (rd_tag, (childless, (unlinked, _))) =
+    record { rd_tag = rd_tag; is_root = refl; childless = not-true _ childless; unlinked = not-true _ unlinked }
+command_follows s cpu (call.RecCreate rd rec mpidr flags aux0 aux1) sound whole placed (differ, (flags_fit, (rd_tag, (rec_tag, (aux0_tag, (aux1_tag, (new, (index_fits, _)))))))) =
+    let three = and_parts (not (rec == aux0) && not (rec == aux1)) (not (aux0 == aux1)) differ in
+    let two = and_parts (not (rec == aux0)) (not (rec == aux1)) three.0 in
+    record {
+      rd_tag = rd_tag;
+      rec_tag = rec_tag;
+      aux0_tag = aux0_tag;
+      aux1_tag = aux1_tag;
+      apart0 = not-true _ two.0;
+      apart1 = not-true _ two.1;
+      apart = not-true _ three.1;
+      index_fits = index_fits;
+      flags_fit = flags_fit;
+    }
+command_follows s cpu (call.RecDestroy rec) sound whole placed (rec_tag, (ready, _)) =
+    record { rec_tag = rec_tag; is_aux0 = refl; is_aux1 = refl; ready = ready }
+command_follows s cpu (call.RecEnter rec) sound whole placed (rec_tag, (not_new, (not_off, (ready, _)))) =
+    let idle = (and_parts (is_none (rec_at s rec).cpu) (rec_at s rec).runnable ready).0 in
+    (tt, (rec_tag, (idle, not-true (is_inside s cpu) placed, idle_awaits_nothing s rec sound rec_tag idle)))
+command_follows s cpu (call.RttCreate rd rtt ipa level) sound whole placed holds = rtt_create_follows s cpu rd rtt ipa level sound holds
+command_follows s cpu (call.RttDestroy rd ipa level) sound whole placed holds = rtt_destroy_follows s cpu rd ipa level sound holds
+command_follows s cpu (call.DataCreate rd granule ipa source flags digest) sound whole placed holds = data_create_follows s cpu rd granule ipa source flags digest sound whole holds
+command_follows s cpu (call.DataCreateUnknown rd granule ipa) sound whole placed holds = data_create_unknown_follows s cpu rd granule ipa sound holds
+command_follows s cpu (call.DataDestroy rd ipa) sound whole placed holds = data_destroy_follows s cpu rd ipa sound holds
+command_follows s cpu (call.RttMapUnprotected rd ipa page) sound whole placed holds = rtt_map_unprotected_follows s cpu rd ipa page sound holds
+command_follows s cpu (call.RttUnmapUnprotected rd ipa) sound whole placed holds = rtt_unmap_unprotected_follows s cpu rd ipa sound holds
+command_follows s cpu (call.RttInitRipas rd base top) sound whole placed holds = rtt_init_ripas_follows s cpu rd base top sound holds
+command_follows s cpu (call.RttSetRipas rd rec base top) sound whole placed holds = rtt_set_ripas_follows s cpu rd rec base top sound holds
+command_follows s cpu (call.MeasurementExtend index size values) sound whole placed (index_fits, (size_fits, _)) =
+    let index_in = and_parts (nat_le 1 index) (nat_le index 4) index_fits in
+    let size_in = and_parts (nat_le 1 size) (nat_le size 0x40) size_fits in
+    (((call_running s cpu sound placed).owner, (leb-true 1 index index_in.0, leb-true index 4 index_in.1, leb-true size 0x40 size_in.1, whole)), tt)
+command_follows s cpu (call.IpaStateSet base top ripas) sound whole placed (pages, (ordered, (ripas_fits, (within, _)))) =
+    let running = call_running s cpu sound placed in
+    let below : base < top = ltb-true base top ordered in
+    (tt, (running.tag, (running.cpu, record { pages = pages; ordered = omega arith; protected = leb-true top (half (realm_at s (rec_at s (rec_inside s cpu)).owner)) within })))
+command_follows s cpu (call.HostCall imm) sound whole placed _ = let running = call_running s cpu sound placed in (tt, (running.tag, running.cpu))
+command_follows s cpu call.CpuOff sound whole placed _ = let running = call_running s cpu sound placed in (tt, (running.tag, running.cpu))
+command_follows s cpu call.SystemOff sound whole placed _ = let running = call_running s cpu sound placed in ((running.owner, tt), (running.tag, running.cpu))
+command_follows s cpu call.Exit sound whole placed _ = let running = inside_running s cpu sound placed in (tt, (running.tag, running.cpu))
+command_follows s cpu _ sound whole placed _ = tt
 
 -- what is accepted can be applied
 pub accepted_applies : (s : State) (cpu : ℕ) (called : Call) (a : Accepted) → IsSound s → IsWhole called → outcome s cpu called ≡ Ok a → Applies s a
 unfolding outcome
 accepted_applies s cpu called a sound whole is =
     row_holds (Applies s a) (is_placed s cpu (class_of called)) (answer_of s cpu called) reply.Misplaced a is
-    (λ placed answered. answer_applies s cpu called a sound whole placed answered)
+    (λ placed. answer_applies s cpu called a (command_follows s cpu called sound whole placed))

@@ -19,11 +19,10 @@ pub mod Changes
 pub mod Walked
 pub mod Opening
 pub mod Applies
+pub mod Behind
 pub mod Ends
-pub mod RecordCommands
 pub mod TableCommands
 pub mod PageCommands
 pub mod RipasCommands
-pub mod RealmCalls
 pub mod Commands
 pub mod Runs

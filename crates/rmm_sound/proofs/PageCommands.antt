@@ -1,38 +1,24 @@
 -- Commands that give pages to a realm, map the host's and take them back: what is accepted can be applied.
-use Rattle.std.proofs.Common.{◌≡◌, ℕ, ◌<◌, ◌==◌, false, IsTrue, nat_lt, nat_le, List, [], ◌∷◌, length, refl, inl, inr}
-use Rattle.std.specs.Prelude.{Ok}
+use Rattle.std.proofs.Common.{◌≡◌, ℕ, ◌<◌, false, IsTrue, nat_lt, nat_le, List, length, refl, inl, inr}
 use Rattle.std.proofs.lemmas.Bool.{and_parts, eqb-true, ltb-true}
-use Rattle.rmm_spec.specs.declared.accepted.Accepted.{Accepted}
 use Rattle.rmm_spec.specs.declared.entry.Entry.TheVariants.{Unassigned, Assigned, UnassignedNs, AssignedNs}
 use Rattle.rmm_spec.specs.declared.tag.Ripas.TheVariants.{Ram}
 use Rattle.rmm_spec.specs.State.{State}
-use Rattle.rmm_spec.specs.Lookup.{is_new, realm_at}
-use Rattle.rmm_spec.specs.Walk.{entry_number, entry_at, full, half, is_table, is_assigned, is_unassigned, is_unassigned_ram, is_unassigned_ns, is_assigned_ns, entry_address, entry_ripas, reach, walk}
-use Rattle.rmm_spec.specs.Rows.{row, input, realm_error, table_error}
+use Rattle.rmm_spec.specs.Lookup.{realm_at}
+use Rattle.rmm_spec.specs.Walk.{entry_number, entry_at, full, half, is_table, is_unassigned, is_unassigned_ram, is_unassigned_ns, is_assigned_ns, entry_address, entry_ripas, reach, walk}
 use Rattle.rmm_spec.specs.Step.Words.{words_of}
 use Rattle.rmm_spec.specs.Step.Named.{named}
-use Rattle.rmm_spec.specs.Step.Front.{with_front}
-use Rattle.rmm_spec.specs.Step.Data.{data_create, data_create_unknown, data_destroy, ripas_after_data}
-use Rattle.rmm_spec.specs.Step.Unprotected.{rtt_map_unprotected, rtt_unmap_unprotected, is_upper}
+use Rattle.rmm_spec.specs.Step.Data.{ripas_after_data}
 use Rattle.rmm_spec.specs.Sound.{IsSound}
-use Rattle.rmm_sound.proofs.ByRows.{by_rows}
-use Rattle.rmm_sound.proofs.Applies.{Applies}
+use Rattle.rmm_sound.proofs.Behind.{behind, Follows}
 use Rattle.rmm_sound.proofs.Ends.{at_end, page_replaced, page_protected, page_unprotected, walked_whole}
 use Rattle.rmm_sound.proofs.Walked.{walked_protected, unassigned_kind, ram_kind, assigned_kind, unassigned_ns_kind, assigned_ns_kind}
 use Rattle.rmm_spec.specs.declared.call.Call.TheVariants as call
 
 -- a page is given and measured
-pub data_create_applies : (s : State) (rd granule ipa source flags : ℕ) (digest : List ℕ) (a : Accepted) → IsSound s → length digest ≡ 4 → data_create s rd granule ipa source flags digest ≡ Ok a → Applies s a
-unfolding data_create words_of named
-data_create_applies s rd granule ipa source flags digest a sound whole is =
-    by_rows (Applies s)
-    (with_front s (call.DataCreate rd granule ipa source flags digest) (input (nat_lt ipa (half (realm_at s rd)))
-    ∷ row (is_new (realm_at s rd)) (realm_error 0)
-    ∷ row ((walk s rd ipa 3).level == 3) (table_error (walk s rd ipa 3).level)
-    ∷ row (is_unassigned_ram (walk s rd ipa 3).entry) (table_error 3)
-    ∷ []))
-    _ a is
-    (λ flags_fit aligned rd_tag page_tag source_tag below new ends free.
+pub data_create_follows : (s : State) (cpu rd granule ipa source flags : ℕ) (digest : List ℕ) → IsSound s → length digest ≡ 4 → Follows s cpu (call.DataCreate rd granule ipa source flags digest)
+unfolding behind words_of named
+data_create_follows s cpu rd granule ipa source flags digest sound whole (flags_fit, (aligned, (rd_tag, (page_tag, (source_tag, (below, (new, (ends, (free, _))))))))) =
     let at : reach s rd ipa 3 ≡ 3 = eqb-true (reach s rd ipa 3) 3 ends in
     let inside : ipa < half (realm_at s rd) = ltb-true ipa (half (realm_at s rd)) below in
     let old = unassigned_kind (entry_at s rd 3 (entry_number 3 ipa)) (ram_kind (entry_at s rd 3 (entry_number 3 ipa)) (at_end (λ e. IsTrue (is_unassigned_ram e)) s rd ipa at free)) in (
@@ -43,19 +29,12 @@ data_create_applies s rd granule ipa source flags digest a sound whole is =
       ),
       (rd_tag, whole),
       tt,
-    ))
+    )
 
 -- a page is given
-pub data_create_unknown_applies : (s : State) (rd granule ipa : ℕ) (a : Accepted) → IsSound s → data_create_unknown s rd granule ipa ≡ Ok a → Applies s a
-unfolding data_create_unknown words_of named
-data_create_unknown_applies s rd granule ipa a sound is =
-    by_rows (Applies s)
-    (with_front s (call.DataCreateUnknown rd granule ipa) (input (nat_lt ipa (half (realm_at s rd)))
-    ∷ row ((walk s rd ipa 3).level == 3) (table_error (walk s rd ipa 3).level)
-    ∷ row (is_unassigned (walk s rd ipa 3).entry) (table_error 3)
-    ∷ []))
-    _ a is
-    (λ aligned rd_tag page_tag below ends free.
+pub data_create_unknown_follows : (s : State) (cpu rd granule ipa : ℕ) → IsSound s → Follows s cpu (call.DataCreateUnknown rd granule ipa)
+unfolding behind words_of named
+data_create_unknown_follows s cpu rd granule ipa sound (aligned, (rd_tag, (page_tag, (below, (ends, (free, _)))))) =
     let at : reach s rd ipa 3 ≡ 3 = eqb-true (reach s rd ipa 3) 3 ends in
     let inside : ipa < half (realm_at s rd) = ltb-true ipa (half (realm_at s rd)) below in
     let old = unassigned_kind (entry_at s rd 3 (entry_number 3 ipa)) (at_end (λ e. IsTrue (is_unassigned e)) s rd ipa at free) in (
@@ -66,19 +45,12 @@ data_create_unknown_applies s rd granule ipa a sound is =
       ),
       tt,
       tt,
-    ))
+    )
 
 -- a page is taken back
-pub data_destroy_applies : (s : State) (rd ipa : ℕ) (a : Accepted) → IsSound s → data_destroy s rd ipa ≡ Ok a → Applies s a
-unfolding data_destroy words_of named
-data_destroy_applies s rd ipa a sound is =
-    by_rows (Applies s)
-    (with_front s (call.DataDestroy rd ipa) (input (nat_lt ipa (half (realm_at s rd)))
-    ∷ row ((walk s rd ipa 3).level == 3) (table_error (walk s rd ipa 3).level)
-    ∷ row (is_assigned (walk s rd ipa 3).entry) (table_error 3)
-    ∷ []))
-    _ a is
-    (λ aligned rd_tag below ends taken.
+pub data_destroy_follows : (s : State) (cpu rd ipa : ℕ) → IsSound s → Follows s cpu (call.DataDestroy rd ipa)
+unfolding behind words_of named
+data_destroy_follows s cpu rd ipa sound (aligned, (rd_tag, (below, (ends, (taken, _))))) =
     let at : reach s rd ipa 3 ≡ 3 = eqb-true (reach s rd ipa 3) 3 ends in
     let inside : ipa < half (realm_at s rd) = ltb-true ipa (half (realm_at s rd)) below in
     let old = assigned_kind (walk s rd ipa 3).entry taken in (
@@ -90,19 +62,12 @@ data_destroy_applies s rd ipa a sound is =
       ),
       tt,
       tt,
-    ))
+    )
 
 -- a page of the host is mapped
-pub rtt_map_unprotected_applies : (s : State) (rd ipa page : ℕ) (a : Accepted) → IsSound s → rtt_map_unprotected s rd ipa page ≡ Ok a → Applies s a
-unfolding rtt_map_unprotected words_of named
-rtt_map_unprotected_applies s rd ipa page a sound is =
-    by_rows (Applies s)
-    (with_front s (call.RttMapUnprotected rd ipa page) (input (is_upper (realm_at s rd) ipa)
-    ∷ row ((walk s rd ipa 3).level == 3) (table_error (walk s rd ipa 3).level)
-    ∷ row (is_unassigned_ns (walk s rd ipa 3).entry) (table_error 3)
-    ∷ []))
-    _ a is
-    (λ aligned page_fits rd_tag upper ends free.
+pub rtt_map_unprotected_follows : (s : State) (cpu rd ipa page : ℕ) → IsSound s → Follows s cpu (call.RttMapUnprotected rd ipa page)
+unfolding behind words_of named
+rtt_map_unprotected_follows s cpu rd ipa page sound (aligned, (page_fits, (rd_tag, (upper, (ends, (free, _)))))) =
     let at : reach s rd ipa 3 ≡ 3 = eqb-true (reach s rd ipa 3) 3 ends in
     let bounds = and_parts (nat_le (half (realm_at s rd)) ipa) (nat_lt ipa (full (realm_at s rd))) upper in
     let old = unassigned_ns_kind (entry_at s rd 3 (entry_number 3 ipa)) (at_end (λ e. IsTrue (is_unassigned_ns e)) s rd ipa at free) in (
@@ -113,19 +78,12 @@ rtt_map_unprotected_applies s rd ipa page a sound is =
       ),
       tt,
       tt,
-    ))
+    )
 
 -- a page of the host is unmapped
-pub rtt_unmap_unprotected_applies : (s : State) (rd ipa : ℕ) (a : Accepted) → IsSound s → rtt_unmap_unprotected s rd ipa ≡ Ok a → Applies s a
-unfolding rtt_unmap_unprotected words_of named
-rtt_unmap_unprotected_applies s rd ipa a sound is =
-    by_rows (Applies s)
-    (with_front s (call.RttUnmapUnprotected rd ipa) (input (is_upper (realm_at s rd) ipa)
-    ∷ row ((walk s rd ipa 3).level == 3) (table_error (walk s rd ipa 3).level)
-    ∷ row (is_assigned_ns (walk s rd ipa 3).entry) (table_error 3)
-    ∷ []))
-    _ a is
-    (λ aligned rd_tag upper ends free.
+pub rtt_unmap_unprotected_follows : (s : State) (cpu rd ipa : ℕ) → IsSound s → Follows s cpu (call.RttUnmapUnprotected rd ipa)
+unfolding behind words_of named
+rtt_unmap_unprotected_follows s cpu rd ipa sound (aligned, (rd_tag, (upper, (ends, (free, _))))) =
     let at : reach s rd ipa 3 ≡ 3 = eqb-true (reach s rd ipa 3) 3 ends in
     let bounds = and_parts (nat_le (half (realm_at s rd)) ipa) (nat_lt ipa (full (realm_at s rd))) upper in
     let old = assigned_ns_kind (entry_at s rd 3 (entry_number 3 ipa)) (at_end (λ e. IsTrue (is_assigned_ns e)) s rd ipa at free) in (
@@ -136,4 +94,4 @@ rtt_unmap_unprotected_applies s rd ipa a sound is =
       ),
       tt,
       tt,
-    ))
+    )

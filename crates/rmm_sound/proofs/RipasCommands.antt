@@ -1,36 +1,25 @@
 -- Commands that set the RIPAS of a stretch: each end that may be reached can be applied.
-use Rattle.std.proofs.Common.{◌≡◌, ℕ, ◌+◌, ◌<◌, ◌≤◌, ◌==◌, ◌&&◌, IsTrue, nat_lt, nat_le, [], ◌∷◌, is_some, is_none, refl, sym, subst, arith}
-use Rattle.std.specs.Prelude.{Ok}
+use Rattle.std.proofs.Common.{◌≡◌, ℕ, ◌+◌, ◌<◌, ◌≤◌, ◌==◌, ◌&&◌, IsTrue, nat_lt, nat_le, is_some, refl, sym, subst, arith}
 use Rattle.std.proofs.lemmas.Bool.{and_parts, and_from, eqb-true, ltb-true, leb-true}
-use Rattle.rmm_spec.specs.declared.accepted.Accepted.{Accepted}
 use Rattle.rmm_spec.specs.declared.accepted.Stretch.{Stretch}
 use Rattle.rmm_spec.specs.declared.accepted.StretchUse.TheVariants.{Init, Requested}
 use Rattle.rmm_spec.specs.State.{State, Request}
-use Rattle.rmm_spec.specs.Lookup.{is_new, realm_at, rec_at, request_of}
+use Rattle.rmm_spec.specs.Lookup.{realm_at, rec_at, request_of}
 use Rattle.rmm_spec.specs.Walk.{entry_size, half, is_multiple, is_unassigned, reach, walk}
-use Rattle.rmm_spec.specs.Rows.{row, input, realm_error, rec_error, table_error}
 use Rattle.rmm_spec.specs.Step.Words.{words_of, is_page}
 use Rattle.rmm_spec.specs.Step.Named.{named}
-use Rattle.rmm_spec.specs.Step.Front.{with_front}
-use Rattle.rmm_spec.specs.Step.Ripas.{rtt_init_ripas, rtt_set_ripas, has_room, reached_change}
+use Rattle.rmm_spec.specs.Step.Ripas.{has_room, reached_change}
 use Rattle.rmm_spec.specs.Sound.{IsRequest, IsSound}
-use Rattle.rmm_sound.proofs.ByRows.{by_rows}
-use Rattle.rmm_sound.proofs.Applies.{Applies, request_there}
+use Rattle.rmm_sound.proofs.Applies.{request_there}
+use Rattle.rmm_sound.proofs.Behind.{behind, Follows}
 use Rattle.rmm_sound.proofs.Ends.{stretch_can_be_set, reached_page}
 use Rattle.rmm_sound.proofs.Walked.{walked_protected}
 use Rattle.rmm_spec.specs.declared.call.Call.TheVariants as call
 
 -- a stretch becomes memory before the realm runs
-pub rtt_init_ripas_applies : (s : State) (rd base top : ℕ) (a : Accepted) → IsSound s → rtt_init_ripas s rd base top ≡ Ok a → Applies s a
-unfolding rtt_init_ripas words_of named reached_change
-rtt_init_ripas_applies s rd base top a sound is =
-    by_rows (Applies s)
-    (with_front s (call.RttInitRipas rd base top) (input (nat_le top (half (realm_at s rd)))
-    ∷ row (is_new (realm_at s rd)) (realm_error 0)
-    ∷ row (is_unassigned (walk s rd base 3).entry && has_room base top (walk s rd base 3).level) (table_error (walk s rd base 3).level)
-    ∷ []))
-    _ a is
-    (λ pages ordered rd_tag within new room end reached.
+pub rtt_init_ripas_follows : (s : State) (cpu rd base top : ℕ) → IsSound s → Follows s cpu (call.RttInitRipas rd base top)
+unfolding behind words_of named reached_change
+rtt_init_ripas_follows s cpu rd base top sound (pages, (ordered, (rd_tag, (within, (new, (room, _)))))) end reached =
     let bound : top ≤ half (realm_at s rd) = leb-true top (half (realm_at s rd)) within in
     let below : base < top = ltb-true base top ordered in
     let starts = (and_parts (is_unassigned (walk s rd base 3).entry) (has_room base top (walk s rd base 3).level) room).1 in
@@ -43,21 +32,12 @@ rtt_init_ripas_applies s rd base top a sound is =
       ),
       (rd_tag, tt),
       tt,
-    ))
+    )
 
 -- a stretch gets the RIPAS that a REC asked for
-pub rtt_set_ripas_applies : (s : State) (rd rec base top : ℕ) (a : Accepted) → IsSound s → rtt_set_ripas s rd rec base top ≡ Ok a → Applies s a
-unfolding rtt_set_ripas words_of named reached_change
-rtt_set_ripas_applies s rd rec base top a sound is =
-    by_rows (Applies s)
-    (with_front s (call.RttSetRipas rd rec base top) (row ((rec_at s rec).owner == rd) rec_error
-    ∷ row (is_none (rec_at s rec).cpu) rec_error
-    ∷ input (is_some (rec_at s rec).request && base == (request_of (rec_at s rec)).base)
-    ∷ input (nat_le top (request_of (rec_at s rec)).top && nat_lt base top && is_page top)
-    ∷ row (has_room base top (walk s rd base 3).level) (table_error (walk s rd base 3).level)
-    ∷ []))
-    _ a is
-    (λ rd_tag rec_tag owned idle asked fits room end reached.
+pub rtt_set_ripas_follows : (s : State) (cpu rd rec base top : ℕ) → IsSound s → Follows s cpu (call.RttSetRipas rd rec base top)
+unfolding behind words_of named reached_change
+rtt_set_ripas_follows s cpu rd rec base top sound (rd_tag, (rec_tag, (owned, (idle, (asked, (fits, (room, _))))))) end reached =
     let request : Request = request_of (rec_at s rec) in
     let is_request = and_parts (is_some (rec_at s rec).request) (base == request.base) asked in
     let bounds = and_parts (nat_le top request.top && nat_lt base top) (is_page top) fits in
@@ -86,4 +66,4 @@ rtt_set_ripas_applies s rd rec base top a sound is =
           },
         ),
       ),
-    ))
+    )

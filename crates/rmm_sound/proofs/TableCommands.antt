@@ -1,36 +1,22 @@
 -- Commands that make, destroy and read tables: what is accepted can be applied.
-use Rattle.std.proofs.Common.{◌≡◌, ℕ, suc, ◌-◌, ◌*◌, ◌/◌, ◌<◌, ◌≤◌, ◌==◌, ◌&&◌, not, IsTrue, nat_lt, nat_le, [], ◌∷◌, Some, is_some, sym, ◌∙◌, ap, subst, arith}
-use Rattle.std.specs.Prelude.{Ok}
+use Rattle.std.proofs.Common.{◌≡◌, ℕ, suc, ◌-◌, ◌*◌, ◌/◌, ◌<◌, ◌≤◌, ◌==◌, IsTrue, Some, is_some, sym, ◌∙◌, ap, subst, arith}
 use Rattle.std.proofs.lemmas.Bool.{and_parts, not-true, eqb-true, ltb-true, leb-true}
-use Rattle.rmm_spec.specs.declared.accepted.Accepted.{Accepted}
 use Rattle.rmm_spec.specs.State.{State}
 use Rattle.rmm_spec.specs.Lookup.{realm_at}
-use Rattle.rmm_spec.specs.Walk.{entry_size, entry_number, table_number, entry_at, entry_for, full, is_table, is_in_use, entry_address, reach, walk}
-use Rattle.rmm_spec.specs.Rows.{row, input, table_error}
+use Rattle.rmm_spec.specs.Walk.{entry_size, entry_number, table_number, entry_at, entry_for, full, is_table, entry_address, reach, walk}
 use Rattle.rmm_spec.specs.Step.Words.{words_of}
 use Rattle.rmm_spec.specs.Step.Named.{named}
-use Rattle.rmm_spec.specs.Step.Front.{with_front}
-use Rattle.rmm_spec.specs.Step.Table.{rtt_create, rtt_destroy, rtt_read_entry}
 use Rattle.rmm_spec.specs.Sound.{IsSound}
-use Rattle.rmm_sound.proofs.ByRows.{by_rows}
-use Rattle.rmm_sound.proofs.Applies.{Applies}
+use Rattle.rmm_sound.proofs.Behind.{behind, Follows}
 use Rattle.rmm_sound.proofs.Ends.{table_number-above, after_table_fits}
 use Rattle.rmm_sound.proofs.Entries.{link_there}
 use Rattle.rmm_sound.proofs.Walked.{IsWalked, walked, table_starts, entry_begins}
 use Rattle.rmm_spec.specs.declared.call.Call.TheVariants as call
 
 -- a table is put in
-pub rtt_create_applies : (s : State) (rd rtt ipa level : ℕ) (a : Accepted) → IsSound s → rtt_create s rd rtt ipa level ≡ Ok a → Applies s a
-unfolding rtt_create words_of named
-rtt_create_applies s rd rtt ipa level a sound is =
-    by_rows (Applies s)
-    (with_front s (call.RttCreate rd rtt ipa level) (input (nat_lt (realm_at s rd).start_level level)
-    ∷ input (nat_lt ipa (full (realm_at s rd)))
-    ∷ row ((walk s rd ipa (level - 1)).level == level - 1) (table_error (walk s rd ipa (level - 1)).level)
-    ∷ row (not (is_table (walk s rd ipa (level - 1)).entry)) (table_error (level - 1))
-    ∷ []))
-    _ a is
-    (λ level_fits aligned rd_tag rtt_tag above below ends leaf.
+pub rtt_create_follows : (s : State) (cpu rd rtt ipa level : ℕ) → IsSound s → Follows s cpu (call.RttCreate rd rtt ipa level)
+unfolding behind words_of named
+rtt_create_follows s cpu rd rtt ipa level sound (level_fits, (aligned, (rd_tag, (rtt_tag, (above, (below, (ends, (leaf, _)))))))) =
     let last : level ≤ 3 = leb-true level 3 level_fits in
     let under : (realm_at s rd).start_level < level = ltb-true (realm_at s rd).start_level level above in
     let inside : ipa < full (realm_at s rd) = ltb-true ipa (full (realm_at s rd)) below in
@@ -45,20 +31,12 @@ rtt_create_applies s rd rtt ipa level a sound is =
       parent = subst (λ n. IsTrue (is_some (s.table rd (level - 1) (n / 512)))) (sym number) end.table;
       is_entry = ap (λ l. entry_for s rd l ipa) at ∙ ap (entry_at s rd (level - 1)) (sym number);
       leaf = not-true _ leaf;
-    })
+    }
 
 -- a table is taken out
-pub rtt_destroy_applies : (s : State) (rd ipa level : ℕ) (a : Accepted) → IsSound s → rtt_destroy s rd ipa level ≡ Ok a → Applies s a
-unfolding rtt_destroy words_of named
-rtt_destroy_applies s rd ipa level a sound is =
-    by_rows (Applies s)
-    (with_front s (call.RttDestroy rd ipa level) (input (nat_lt (realm_at s rd).start_level level)
-    ∷ input (nat_lt ipa (full (realm_at s rd)))
-    ∷ row ((walk s rd ipa (level - 1)).level == level - 1 && is_table (walk s rd ipa (level - 1)).entry) (table_error (walk s rd ipa (level - 1)).level)
-    ∷ row (not (is_in_use s rd level (table_number level ipa))) (table_error level)
-    ∷ []))
-    _ a is
-    (λ level_fits aligned rd_tag above below linked unused.
+pub rtt_destroy_follows : (s : State) (cpu rd ipa level : ℕ) → IsSound s → Follows s cpu (call.RttDestroy rd ipa level)
+unfolding behind words_of named
+rtt_destroy_follows s cpu rd ipa level sound (level_fits, (aligned, (rd_tag, (above, (below, (linked, (unused, _))))))) =
     let last : level ≤ 3 = leb-true level 3 level_fits in
     let under : (realm_at s rd).start_level < level = ltb-true (realm_at s rd).start_level level above in
     let inside : ipa < full (realm_at s rd) = ltb-true ipa (full (realm_at s rd)) below in
@@ -79,15 +57,4 @@ rtt_destroy_applies s rd ipa level a sound is =
       unused = not-true _ unused;
       vacant = kind.0;
       kind = kind.1;
-    })
-
--- an entry is read
-pub rtt_read_entry_applies : (s : State) (rd ipa level : ℕ) (a : Accepted) → rtt_read_entry s rd ipa level ≡ Ok a → Applies s a
-unfolding rtt_read_entry words_of named
-rtt_read_entry_applies s rd ipa level a is =
-    by_rows (Applies s)
-    (with_front s (call.RttReadEntry rd ipa level) (input (nat_le (realm_at s rd).start_level level)
-    ∷ input (nat_lt ipa (full (realm_at s rd)))
-    ∷ []))
-    _ a is
-    (λ level_fits aligned rd_tag above below. tt)
+    }
