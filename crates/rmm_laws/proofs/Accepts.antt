@@ -1,75 +1,58 @@
 -- A step with an `ok` reply: the command's rows hold, and its change is made.
-use Rattle.std.proofs.Common.{◌≡◌, ℕ, Bool, true, false, if◌then◌else◌, ◌<◌, ◌^◌, List, [], Some, Result, Ok, Err, slice_index, refl, sym, ◌∙◌, ap, subst, arith}
+use Rattle.std.proofs.Common.{◌≡◌, ℕ, true, ◌<◌, ◌^◌, List, [], Some, Result, Ok, Err, slice_index, refl, sym, ◌∙◌, ap, subst, arith}
 use Rattle.std.proofs.Math.Nat.{div-eq_of_lt}
 use Rattle.rmm_spec.specs.declared.accepted.Accepted.{Accepted}
 use Rattle.rmm_spec.specs.declared.call.Call.{Call}
 use Rattle.rmm_spec.specs.declared.call.Call.TheVariants as call
 use Rattle.rmm_spec.specs.declared.function_id.FunctionId.TheVariants as function
 use Rattle.rmm_spec.specs.declared.reply.Reply.{Reply}
-use Rattle.rmm_spec.specs.declared.reply.Reply.TheVariants as reply
 use Rattle.rmm_spec.specs.declared.tag.Tag.TheVariants.{Undelegated, Delegated}
-use Rattle.rmm_spec.specs.Call.{call_from, class_of}
+use Rattle.rmm_spec.specs.Call.{call_from}
 use Rattle.rmm_spec.specs.Change.{changed}
 use Rattle.rmm_spec.specs.Ownership.{is_accepted}
-use Rattle.rmm_spec.specs.Rows.{Row, ok, decided}
+use Rattle.rmm_spec.specs.Rows.{ok}
 use Rattle.rmm_spec.specs.State.{State, RealmRecord}
 use Rattle.rmm_spec.specs.Update.{with_tag}
 use Rattle.rmm_spec.specs.Walk.{table_number, entry_for, IsWalk}
-use Rattle.rmm_spec.specs.Step.{is_placed, answer_of, outcome, CarriesOut, Step}
+use Rattle.rmm_spec.specs.Step.{outcome, CarriesOut, Step}
 use Rattle.rmm_spec.specs.Step.Front.{with_front}
-use Rattle.rmm_spec.specs.Step.Granule.{granule_delegate, granule_undelegate}
 use Rattle.rmm_spec.specs.Step.Named.{named}
-use Rattle.rmm_spec.specs.Step.Realm.{realm_create}
 use Rattle.rmm_spec.specs.Step.Words.{is_space, words_of}
 use Rattle.rmm_spec.specs.Sound.{IsSound}
 use Rattle.rmm_spec.proofs.TagLaws.{tag-has_tag, with_tag-restored}
 use Rattle.rmm_sound.proofs.Cases.{spot_itself}
 use Rattle.rmm_laws.specs.Commands.{command}
 use Rattle.rmm_laws.proofs.Facts.{root_covers}
-use Rattle.rmm_laws.proofs.RowLaws.{AllHold, AllRefuse, decided-accepted, decided-refused, front-refuse, front-rest}
+use Rattle.rmm_sound.proofs.ByRows.{AllHold}
+use Rattle.rmm_sound.proofs.Behind.{behind}
+use Rattle.rmm_laws.proofs.RowLaws.{Leads, front-rest, outcome-leads}
 use Rattle.rmm_spec.proofs.Tests.{both_ways}
 
--- by its placing
-placed-carries_by : (placed : Bool) (answer : Result Accepted Reply) (s : State) (given : Reply) (next : State) → is_accepted given ≡ true
-    → CarriesOut (if placed then answer else Err reply.Misplaced) s given next → CarriesOut answer s given next
-placed-carries_by true answer s given next accepted carried = carried
-placed-carries_by false answer s given next accepted carried = both_ways (sym (ap is_accepted carried.0) ∙ accepted) refl
+-- what leads to a reply that accepts
+leads-accepted : (s : State) (cpu : ℕ) (c : Call) (found : Result Accepted Reply) (given : Reply) (next : State) → Leads s cpu c found → is_accepted given ≡ true
+    → CarriesOut found s given next → AllHold (with_front s c (behind s cpu c).0) × CarriesOut (Ok (behind s cpu c).1) s given next
+leads-accepted s cpu c (Ok found) given next all accepted carried = (all.0, subst (λ a. CarriesOut (Ok a) s given next) (sym all.1) carried)
+leads-accepted s cpu c (Err refusal) given next refused accepted carried = both_ways (sym (ap is_accepted carried.0) ∙ accepted) refused
 
--- what is accepted is placed
-placed-carries : (s : State) (cpu : ℕ) (c : Call) (given : Reply) (next : State) → is_accepted given ≡ true
-    → CarriesOut (outcome s cpu c) s given next → CarriesOut (answer_of s cpu c) s given next
-unfolding outcome
-placed-carries s cpu c given next accepted carried = placed-carries_by (is_placed s cpu (class_of c)) (answer_of s cpu c) s given next accepted carried
-
--- then its rows hold, and what stands behind them is carried out
-rows-carry : (s : State) (c : Call) (rest : List Row) (accepted : Accepted) (found : Result Accepted Reply) (given : Reply) (next : State)
-    → decided (with_front s c rest) accepted ≡ found → AllRefuse rest → is_accepted given ≡ true → CarriesOut found s given next
-    → AllHold (with_front s c rest) × CarriesOut (Ok accepted) s given next
-rows-carry s c rest accepted (Ok found) given next is refuse is_ok carried =
-    let all = decided-accepted (with_front s c rest) accepted found is in
-    (all.0, subst (λ a. CarriesOut (Ok a) s given next) (sym all.1) carried)
-rows-carry s c rest accepted (Err refusal) given next is refuse is_ok carried =
-    both_ways (sym (ap is_accepted carried.0) ∙ is_ok) (decided-refused (with_front s c rest) accepted refusal (front-refuse s c rest refuse) is)
+-- where a step accepts, the command's rows hold, and what stands behind them is carried out
+step-accepted : (s : State) (cpu : ℕ) (c : Call) (given : Reply) (next : State) → is_accepted given ≡ true → CarriesOut (outcome s cpu c) s given next
+    → AllHold (with_front s c (behind s cpu c).0) × CarriesOut (Ok (behind s cpu c).1) s given next
+step-accepted s cpu c given next = leads-accepted s cpu c (outcome s cpu c) given next (outcome-leads s cpu c (outcome s cpu c) refl)
 
 -- ---- a granule is lent and taken back
 
 delegated : (s : State) (cpu : ℕ) (words : List ℕ) (next : State) → Step s cpu (command function.GranuleDelegate words) (ok []) next
     → (s.tag (slice_index words 0) ≡ Undelegated) × (next ≡ with_tag s (slice_index words 0) Delegated)
-unfolding answer_of call_from granule_delegate named changed
+unfolding behind call_from named changed
 delegated s cpu words next step =
     let g = slice_index words 0 in
-    let found = answer_of s cpu (call.GranuleDelegate g) in
-    let carried = rows-carry s (call.GranuleDelegate g) [] _ found (ok []) next refl tt refl (placed-carries s cpu (call.GranuleDelegate g) (ok []) next refl step) in
+    let carried = step-accepted s cpu (call.GranuleDelegate g) (ok []) next refl step in
     (tag-has_tag s g Undelegated (front-rest s (call.GranuleDelegate g) [] carried.0).1.0, carried.1.1)
 
 undelegated : (s : State) (cpu : ℕ) (words : List ℕ) (next : State) → Step s cpu (command function.GranuleUndelegate words) (ok []) next
     → next ≡ with_tag s (slice_index words 0) Undelegated
-unfolding answer_of call_from granule_undelegate named changed
-undelegated s cpu words next step =
-    let g = slice_index words 0 in
-    let found = answer_of s cpu (call.GranuleUndelegate g) in
-    let carried = rows-carry s (call.GranuleUndelegate g) [] _ found (ok []) next refl tt refl (placed-carries s cpu (call.GranuleUndelegate g) (ok []) next refl step) in
-    carried.1.1
+unfolding behind call_from changed
+undelegated s cpu words next step = (step-accepted s cpu (call.GranuleUndelegate (slice_index words 0)) (ok []) next refl step).1.1
 
 -- a granule that is lent and taken back leaves the state as it was
 pub undelegated-delegated : (old middle next : State) (cpu other : ℕ) (words : List ℕ)
@@ -99,14 +82,14 @@ root-walk s rd ipa level root is number = record {
 -- the root of a realm that was just made covers every address of the space
 pub fresh-root : (old next : State) (cpu ipa : ℕ) (words : List ℕ) → Step old cpu (command function.RealmCreate words) (ok []) next → ipa < 2 ^ slice_index words 2
     → let rd = slice_index words 0 in let level = slice_index words 3 in IsWalk next rd ipa level level (slice_index words 1) (entry_for next rd level ipa)
-unfolding answer_of call_from realm_create words_of changed
+unfolding behind call_from words_of changed
 fresh-root old next cpu ipa words step below =
     let rd = slice_index words 0 in
     let root = slice_index words 1 in
     let width = slice_index words 2 in
     let level = slice_index words 3 in
     let c = call.RealmCreate rd root width level (slice_index words 4) (slice_index words 5) in
-    let carried = rows-carry old c _ _ (answer_of old cpu c) (ok []) next refl (refl, tt) refl (placed-carries old cpu c (ok []) next refl step) in
+    let carried = step-accepted old cpu c (ok []) next refl step in
     let space = (front-rest old c _ carried.0).0.1.0 in
     root-walk next rd ipa level root (ap (λ (s : State). s.table rd level 0) carried.1.1 ∙ rw (spot_itself rd level 0) refl) (root_number width level ipa space below)
 

@@ -1,5 +1,5 @@
 -- Along a run the state is sound, the open claims are its ties, and the commits say what made its realms and RECs.
-use Rattle.std.proofs.Common.{◌≡◌, ℕ, false, ◌⊎◌, ◌++◌, List, [], ◌∷◌, None, Some, Result, Ok, Err, take, refl, sym, ◌∙◌, ap, ap₂, subst, inl, inr}
+use Rattle.std.proofs.Common.{◌≡◌, ℕ, false, ◌++◌, List, [], ◌∷◌, None, Some, Result, Ok, Err, take, refl, sym, ◌∙◌, ap, subst, inl}
 use Rattle.rmm_spec.specs.declared.accepted.Accepted.{Accepted}
 use Rattle.rmm_spec.specs.declared.accepted.Accepted.TheVariants.{Done, Reaches}
 use Rattle.rmm_spec.specs.declared.change.Change.{Change}
@@ -12,7 +12,7 @@ use Rattle.rmm_spec.specs.Call.{call_of}
 use Rattle.rmm_spec.specs.Change.{changed}
 use Rattle.rmm_spec.specs.HistoryText.{Config, History}
 use Rattle.rmm_spec.specs.Judgement.{IsIsolatedThroughout}
-use Rattle.rmm_spec.specs.Ownership.{Claim, claim, is_accepted, latest_root, latest_rec, root_made, rec_made, rec_claims, claims, claims_opened, claims_closed, claims_after, claims_from, without_claims, IsIsolated}
+use Rattle.rmm_spec.specs.Ownership.{Claim, claim, is_accepted, latest_root, latest_rec, rec_claims, claims, claims_closed, claims_after, claims_from, without_claims, IsIsolated}
 use Rattle.rmm_spec.specs.Run.{JournalEntry, IsRun}
 use Rattle.rmm_spec.specs.Rows.{ok}
 use Rattle.rmm_spec.specs.Sound.{IsSound}
@@ -25,7 +25,7 @@ use Rattle.rmm_sound.proofs.Opening.{opening_sound}
 use Rattle.rmm_sound.proofs.Runs.{done_applies, reached_applies}
 use Rattle.rmm_sound.proofs.Searches.{realm_there, rec_there}
 use Rattle.rmm_laws.proofs.ChangeAccounts.{roots_at, recs_at, change-accounts}
-use Rattle.rmm_laws.proofs.ChangeWords.{opened, closed, root_of, rec_of}
+use Rattle.rmm_laws.proofs.ChangeWords.{opened, closed}
 use Rattle.rmm_laws.proofs.CommandFacts.{Tells, OutcomeTells, outcome-tells}
 use Rattle.rmm_laws.proofs.Owners.{AreOwned, changed-owned, owned-isolated}
 use Rattle.rmm_laws.proofs.Recorded.{IsRecorded, root_in, parts_in, roots-after, recs-after}
