@@ -24,7 +24,7 @@ use Rattle.rmm_sound.proofs.Cases.{spot_itself}
 use Rattle.rmm_laws.specs.Commands.{command}
 use Rattle.rmm_laws.proofs.Facts.{root_covers}
 use Rattle.rmm_sound.proofs.ByRows.{AllHold}
-use Rattle.rmm_sound.proofs.Behind.{behind}
+use Rattle.rmm_spec.proofs.Behind.{behind}
 use Rattle.rmm_laws.proofs.RowLaws.{Leads, front-rest, outcome-leads}
 use Rattle.rmm_spec.proofs.Tests.{both_ways}
 

@@ -24,7 +24,7 @@ use Rattle.rmm_spec.specs.Step.Ripas.{can_be_set, has_room, IsReached, reached_c
 use Rattle.rmm_spec.proofs.WalkLaws.{reach-le, walk_ends_unlinked, first_reached}
 use Rattle.rmm_laws.proofs.ChangeWords.{is_within, opened, closed, root_of, rec_of}
 use Rattle.rmm_sound.proofs.ByRows.{AllHold}
-use Rattle.rmm_sound.proofs.Behind.{behind}
+use Rattle.rmm_spec.proofs.Behind.{behind}
 use Rattle.rmm_laws.proofs.RowLaws.{Leads, front-rest, outcome-leads}
 use Rattle.rmm_spec.proofs.Tests.{both_ways}
 

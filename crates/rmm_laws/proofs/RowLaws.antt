@@ -17,7 +17,7 @@ use Rattle.rmm_spec.specs.Step.Front.{with_front}
 use Rattle.rmm_spec.specs.Step.Named.{named}
 use Rattle.rmm_spec.specs.Step.Words.{words_of}
 use Rattle.rmm_sound.proofs.ByRows.{AllHold, decided-accepted}
-use Rattle.rmm_sound.proofs.Behind.{behind}
+use Rattle.rmm_spec.proofs.Behind.{behind}
 
 -- whether each row refuses where it fails
 abbrev pub all_refuse : List Row → Bool

@@ -1,13 +1,18 @@
 -- What an accepted command does is a change that the state can take; and what is known of the REC that a command is about.
-use Rattle.std.proofs.Common.{◌≡◌, ℕ, IsTrue, Option, Some, None, is_some, is_none, refl, sym, ◌∙◌, ap, subst, unwrap_or}
+use Rattle.std.proofs.Common.{◌≡◌, ℕ, IsTrue, Option, Some, None, Ok, is_some, is_none, refl, sym, ◌∙◌, ap, subst, unwrap_or}
 use Rattle.rmm_spec.specs.declared.accepted.Accepted.{Accepted}
 use Rattle.rmm_spec.specs.declared.accepted.Accepted.TheVariants.{Done, Reaches}
+use Rattle.rmm_spec.specs.declared.call.Call.{Call}
 use Rattle.rmm_spec.specs.declared.tag.Tag.TheVariants.{Rd, Rec}
 use Rattle.rmm_spec.specs.State.{State, RecRecord, Request, Pending}
 use Rattle.rmm_spec.specs.Lookup.{no_request, has_tag, is_cpu, runs_on, is_inside, rec_inside, realm_at, rec_at, request_of}
 use Rattle.rmm_spec.specs.Sound.{IsRequest, IsSound}
 use Rattle.rmm_spec.specs.Step.Ripas.{IsReached, reached_change}
 use Rattle.rmm_spec.specs.Applicable.{CanApply}
+use Rattle.rmm_spec.specs.Step.{answer_of}
+use Rattle.rmm_spec.specs.Step.Front.{with_front}
+use Rattle.rmm_spec.proofs.Behind.{behind}
+use Rattle.rmm_sound.proofs.ByRows.{AllHold, decided-accepted}
 use Rattle.rmm_sound.proofs.Cases.{both_ways}
 use Rattle.rmm_sound.proofs.Searches.{inside_runs, realm_there, rec_there, rec_at-is}
 
@@ -15,6 +20,21 @@ use Rattle.rmm_sound.proofs.Searches.{inside_runs, realm_there, rec_there, rec_a
 abbrev pub Applies : State → Accepted → Type 0
 Applies s (Done words change) = CanApply s change
 Applies s (Reaches stretch) = (top : ℕ) → IsReached s stretch top → CanApply s (reached_change stretch top)
+
+-- all of a command's rows hold
+abbrev pub Holds : State → ℕ → Call → Type 0
+Holds s cpu c = AllHold (with_front s c (behind s cpu c).0)
+
+-- where they hold, the state can take what is done
+abbrev pub Follows : State → ℕ → Call → Type 0
+Follows s cpu c = Holds s cpu c → Applies s (behind s cpu c).1
+
+-- then it can take what is accepted
+pub answer_applies : (s : State) (cpu : ℕ) (c : Call) (a : Accepted) → Follows s cpu c → answer_of s cpu c ≡ Ok a → Applies s a
+answer_applies s cpu c a follows is =
+    let rest = behind s cpu c in
+    let all = decided-accepted (with_front s c rest.0) rest.1 a (sym rest.2 ∙ is) in
+    subst (Applies s) all.1 (follows all.0)
 
 -- ---- the REC that a CPU is inside of
 

@@ -17,9 +17,9 @@ use Rattle.rmm_spec.specs.Sound.{IsSound}
 use Rattle.rmm_spec.specs.Step.{is_placed, answer_of, outcome}
 use Rattle.rmm_spec.specs.Step.Words.{words_of}
 use Rattle.rmm_spec.specs.Step.Named.{named}
+use Rattle.rmm_spec.proofs.Behind.{behind}
 use Rattle.rmm_sound.proofs.ByRows.{row_holds}
-use Rattle.rmm_sound.proofs.Applies.{Applies, IsRunning, inside_running, idle_awaits_nothing}
-use Rattle.rmm_sound.proofs.Behind.{behind, Follows, answer_applies}
+use Rattle.rmm_sound.proofs.Applies.{Applies, Follows, IsRunning, answer_applies, inside_running, idle_awaits_nothing}
 use Rattle.rmm_sound.proofs.TableCommands.{rtt_create_follows, rtt_destroy_follows}
 use Rattle.rmm_sound.proofs.PageCommands.{data_create_follows, data_create_unknown_follows, data_destroy_follows, rtt_map_unprotected_follows, rtt_unmap_unprotected_follows}
 use Rattle.rmm_sound.proofs.RipasCommands.{rtt_init_ripas_follows, rtt_set_ripas_follows}

@@ -19,7 +19,6 @@ pub mod Changes
 pub mod Walked
 pub mod Opening
 pub mod Applies
-pub mod Behind
 pub mod Ends
 pub mod TableCommands
 pub mod PageCommands

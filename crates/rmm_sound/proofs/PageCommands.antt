@@ -10,7 +10,8 @@ use Rattle.rmm_spec.specs.Step.Words.{words_of}
 use Rattle.rmm_spec.specs.Step.Named.{named}
 use Rattle.rmm_spec.specs.Step.Data.{ripas_after_data}
 use Rattle.rmm_spec.specs.Sound.{IsSound}
-use Rattle.rmm_sound.proofs.Behind.{behind, Follows}
+use Rattle.rmm_spec.proofs.Behind.{behind}
+use Rattle.rmm_sound.proofs.Applies.{Follows}
 use Rattle.rmm_sound.proofs.Ends.{at_end, page_replaced, page_protected, page_unprotected, walked_whole}
 use Rattle.rmm_sound.proofs.Walked.{walked_protected, unassigned_kind, ram_kind, assigned_kind, unassigned_ns_kind, assigned_ns_kind}
 use Rattle.rmm_spec.specs.declared.call.Call.TheVariants as call

@@ -10,8 +10,8 @@ use Rattle.rmm_spec.specs.Step.Words.{words_of, is_page}
 use Rattle.rmm_spec.specs.Step.Named.{named}
 use Rattle.rmm_spec.specs.Step.Ripas.{has_room, reached_change}
 use Rattle.rmm_spec.specs.Sound.{IsRequest, IsSound}
-use Rattle.rmm_sound.proofs.Applies.{request_there}
-use Rattle.rmm_sound.proofs.Behind.{behind, Follows}
+use Rattle.rmm_spec.proofs.Behind.{behind}
+use Rattle.rmm_sound.proofs.Applies.{Follows, request_there}
 use Rattle.rmm_sound.proofs.Ends.{stretch_can_be_set, reached_page}
 use Rattle.rmm_sound.proofs.Walked.{walked_protected}
 use Rattle.rmm_spec.specs.declared.call.Call.TheVariants as call

@@ -7,7 +7,8 @@ use Rattle.rmm_spec.specs.Walk.{entry_size, entry_number, table_number, entry_at
 use Rattle.rmm_spec.specs.Step.Words.{words_of}
 use Rattle.rmm_spec.specs.Step.Named.{named}
 use Rattle.rmm_spec.specs.Sound.{IsSound}
-use Rattle.rmm_sound.proofs.Behind.{behind, Follows}
+use Rattle.rmm_spec.proofs.Behind.{behind}
+use Rattle.rmm_sound.proofs.Applies.{Follows}
 use Rattle.rmm_sound.proofs.Ends.{table_number-above, after_table_fits}
 use Rattle.rmm_sound.proofs.Entries.{link_there}
 use Rattle.rmm_sound.proofs.Walked.{IsWalked, walked, table_starts, entry_begins}

@@ -7,3 +7,4 @@ pub mod Records
 pub mod Places
 pub mod TagLaws
 pub mod WalkLaws
+pub mod Behind

@@ -239,32 +239,7 @@ function_numbered n =
 function_numbered-number_of : (f : FunctionId) → function_numbered (number_of f) ≡ f
 unfolding function_numbered number_of
 function_numbered-number_of GranuleDelegate = refl
-function_numbered-number_of GranuleUndelegate = refl
-function_numbered-number_of DataCreate = refl
-function_numbered-number_of DataCreateUnknown = refl
-function_numbered-number_of DataDestroy = refl
-function_numbered-number_of RealmActivate = refl
-function_numbered-number_of RealmCreate = refl
-function_numbered-number_of RealmDestroy = refl
-function_numbered-number_of RecCreate = refl
-function_numbered-number_of RecDestroy = refl
-function_numbered-number_of RecEnter = refl
-function_numbered-number_of RttCreate = refl
-function_numbered-number_of RttDestroy = refl
-function_numbered-number_of RttMapUnprotected = refl
-function_numbered-number_of RttReadEntry = refl
-function_numbered-number_of RttUnmapUnprotected = refl
-function_numbered-number_of RttInitRipas = refl
-function_numbered-number_of RttSetRipas = refl
-function_numbered-number_of MeasurementRead = refl
-function_numbered-number_of MeasurementExtend = refl
-function_numbered-number_of RealmConfig = refl
-function_numbered-number_of IpaStateSet = refl
-function_numbered-number_of IpaStateGet = refl
-function_numbered-number_of HostCall = refl
-function_numbered-number_of CpuOff = refl
-function_numbered-number_of SystemOff = refl
-function_numbered-number_of Exit = refl
+function_numbered-number_of _ = refl
 
 -- no two functions have one number
 pub number_of-injective : (f g : FunctionId) → number_of f ≡ number_of g → f ≡ g
@@ -274,32 +249,7 @@ number_of-injective f g e = sym (function_numbered-number_of f) ∙ ap function_
 pub number_of-lt : (f : FunctionId) → number_of f < 16 ^ 8
 unfolding number_of
 number_of-lt GranuleDelegate = lit< tt
-number_of-lt GranuleUndelegate = lit< tt
-number_of-lt DataCreate = lit< tt
-number_of-lt DataCreateUnknown = lit< tt
-number_of-lt DataDestroy = lit< tt
-number_of-lt RealmActivate = lit< tt
-number_of-lt RealmCreate = lit< tt
-number_of-lt RealmDestroy = lit< tt
-number_of-lt RecCreate = lit< tt
-number_of-lt RecDestroy = lit< tt
-number_of-lt RecEnter = lit< tt
-number_of-lt RttCreate = lit< tt
-number_of-lt RttDestroy = lit< tt
-number_of-lt RttMapUnprotected = lit< tt
-number_of-lt RttReadEntry = lit< tt
-number_of-lt RttUnmapUnprotected = lit< tt
-number_of-lt RttInitRipas = lit< tt
-number_of-lt RttSetRipas = lit< tt
-number_of-lt MeasurementRead = lit< tt
-number_of-lt MeasurementExtend = lit< tt
-number_of-lt RealmConfig = lit< tt
-number_of-lt IpaStateSet = lit< tt
-number_of-lt IpaStateGet = lit< tt
-number_of-lt HostCall = lit< tt
-number_of-lt CpuOff = lit< tt
-number_of-lt SystemOff = lit< tt
-number_of-lt Exit = lit< tt
+number_of-lt _ = lit< tt
 
 -- ---- commands and replies
 

@@ -1,5 +1,5 @@
 -- What stands behind the rows on a command's words and granules: its other rows, and what is done where all hold.
-use Rattle.std.proofs.Common.{◌≡◌, ℕ, List, Ok, refl, sym, ◌∙◌, subst}
+use Rattle.std.proofs.Common.{◌≡◌, ℕ, List, refl}
 use Rattle.rmm_spec.specs.declared.accepted.Accepted.{Accepted}
 use Rattle.rmm_spec.specs.declared.call.Call.{Call}
 use Rattle.rmm_spec.specs.declared.call.Call.TheVariants as call
@@ -15,26 +15,9 @@ use Rattle.rmm_spec.specs.Step.Data.{data_create, data_create_unknown, data_dest
 use Rattle.rmm_spec.specs.Step.Unprotected.{rtt_map_unprotected, rtt_unmap_unprotected}
 use Rattle.rmm_spec.specs.Step.Ripas.{rtt_init_ripas, rtt_set_ripas}
 use Rattle.rmm_spec.specs.Step.RealmCall.{measurement_read, measurement_extend, realm_config, ipa_state_set, ipa_state_get, host_call, cpu_off, system_off, rec_exit}
-use Rattle.rmm_sound.proofs.ByRows.{AllHold, decided-accepted}
-use Rattle.rmm_sound.proofs.Applies.{Applies}
 
 -- both are read off the command's definition
 unfoldable pub behind : (s : State) (cpu : ℕ) (c : Call) → (rows : List Row) × (accepted : Accepted) × (answer_of s cpu c ≡ decided (with_front s c rows) accepted)
 unfolding answer_of granule_delegate granule_undelegate realm_create realm_activate realm_destroy rec_create rec_destroy rec_enter rtt_create rtt_destroy rtt_read_entry data_create data_create_unknown data_destroy rtt_map_unprotected rtt_unmap_unprotected rtt_init_ripas rtt_set_ripas measurement_read measurement_extend realm_config ipa_state_set ipa_state_get host_call cpu_off system_off rec_exit
 behind s cpu (call.GranuleDelegate granule) = (_, _, refl)
 behind s cpu _ = (_, _, refl)
-
--- all of a command's rows hold
-abbrev pub Holds : State → ℕ → Call → Type 0
-Holds s cpu c = AllHold (with_front s c (behind s cpu c).0)
-
--- where they hold, the state can take what is done
-abbrev pub Follows : State → ℕ → Call → Type 0
-Follows s cpu c = Holds s cpu c → Applies s (behind s cpu c).1
-
--- then it can take what is accepted
-pub answer_applies : (s : State) (cpu : ℕ) (c : Call) (a : Accepted) → Follows s cpu c → answer_of s cpu c ≡ Ok a → Applies s a
-answer_applies s cpu c a follows is =
-    let rest = behind s cpu c in
-    let all = decided-accepted (with_front s c rest.0) rest.1 a (sym rest.2 ∙ is) in
-    subst (Applies s) all.1 (follows all.0)
