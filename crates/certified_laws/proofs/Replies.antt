@@ -7,7 +7,6 @@ use Rattle.rmm_spec.specs.declared.accepted.Accepted.TheVariants.{Done, Reaches}
 use Rattle.rmm_spec.specs.declared.accepted.StretchUse.{StretchUse}
 use Rattle.rmm_spec.specs.declared.accepted.StretchUse.TheVariants.{Init, Requested}
 use Rattle.rmm_spec.specs.declared.call.Call.{Call}
-use Rattle.rmm_spec.specs.declared.call.Call.TheVariants.{RttCreate, RttDestroy, RttReadEntry}
 use Rattle.rmm_spec.specs.declared.command.Command.{Command}
 use Rattle.rmm_spec.specs.declared.entry.Entry.{Entry}
 use Rattle.rmm_spec.specs.declared.entry.Entry.TheVariants.{Unassigned, Assigned, Table, UnassignedNs, AssignedNs}
@@ -24,18 +23,14 @@ use Rattle.rmm_spec.specs.State.{State, RealmRecord, Request, Pending, Psci, Rip
 use Rattle.rmm_spec.specs.Lookup.{realm_at, rec_at, rec_inside, ripas_number}
 use Rattle.rmm_spec.specs.Walk.{entry_state, reach, half}
 use Rattle.rmm_spec.specs.Rows.{Row, Needed, decided, inputs, tagged, input_error, realm_error, rec_error, table_error, ok}
+use Rattle.rmm_spec.proofs.Behind.{behind}
 use Rattle.rmm_spec.specs.Step.{Step, CarriesOut, answer_of, outcome, is_placed}
 use Rattle.rmm_spec.specs.Step.Front.{with_front}
 use Rattle.rmm_spec.specs.Step.Named.{named}
 use Rattle.rmm_spec.specs.Step.Words.{words_of}
-use Rattle.rmm_spec.specs.Step.Granule.{granule_delegate, granule_undelegate}
-use Rattle.rmm_spec.specs.Step.Realm.{realm_create, realm_activate, realm_destroy}
-use Rattle.rmm_spec.specs.Step.Rec.{rec_create, rec_destroy, rec_enter}
-use Rattle.rmm_spec.specs.Step.Table.{rtt_create, rtt_destroy, rtt_read_entry, entry_after_table}
-use Rattle.rmm_spec.specs.Step.Data.{data_create, data_create_unknown, data_destroy}
-use Rattle.rmm_spec.specs.Step.Unprotected.{rtt_map_unprotected, rtt_unmap_unprotected}
-use Rattle.rmm_spec.specs.Step.Ripas.{rtt_init_ripas, rtt_set_ripas, reached_change, stretch_change}
-use Rattle.rmm_spec.specs.Step.RealmCall.{measurement_read, measurement_extend, realm_config, ipa_state_set, ipa_state_get, host_call, cpu_off, system_off, rec_exit, exit_words}
+use Rattle.rmm_spec.specs.Step.Table.{entry_after_table}
+use Rattle.rmm_spec.specs.Step.Ripas.{reached_change, stretch_change}
+use Rattle.rmm_spec.specs.Step.RealmCall.{exit_words}
 use Rattle.rmm_spec.proofs.WalkLaws.{reach-le}
 use Rattle.certified_laws.proofs.Told.{EntryFits, RequestFits, PendingFits, EachIn, ChangeFits, StateFits, either, slice_index_or-each, realm_at-fits, rec_at-fits, request_of-fits, entry_at-fits, AreWords-measurement, StateFits-changed}
 
@@ -119,21 +114,6 @@ HasText-front s c rows accepted have =
     let both = have tests in
     HasText-decided (tagged s (named c) rows) accepted (AllHaveTexts-tagged s (named c) rows both.0) both.1)
 
--- ---- what the words of a command tell
-
--- a level that is named is one of the four
-level_to_create : (rd rtt ipa level : ℕ) → AllByRecursion IsTrue (words_of (RttCreate rd rtt ipa level)) → level ≤ 3
-unfolding words_of
-level_to_create rd rtt ipa level tests = leb-true level 3 tests.0
-
-level_to_destroy : (rd ipa level : ℕ) → AllByRecursion IsTrue (words_of (RttDestroy rd ipa level)) → level ≤ 3
-unfolding words_of
-level_to_destroy rd ipa level tests = leb-true level 3 tests.0
-
-level_to_read : (rd ipa level : ℕ) → AllByRecursion IsTrue (words_of (RttReadEntry rd ipa level)) → level ≤ 3
-unfolding words_of
-level_to_read rd ipa level tests = leb-true level 3 tests.0
-
 -- ---- replies with words
 
 -- how a reply tells a RIPAS, an entry and an exit is words
@@ -172,116 +152,93 @@ EntryFits-after_table realm ipa = either EntryFits (nat_lt ipa (half realm)) (Un
 
 -- ---- functions
 
--- what each of the 27 is answered with has a text and fits
-HasText-answer_of : (f : FunctionId) (w : List ℕ) (s : State) (cpu : ℕ) → StateFits s → AreWords w → HasText (answer_of s cpu (call_from f w))
-unfolding call_from answer_of granule_delegate granule_undelegate realm_create realm_activate realm_destroy rec_create rec_destroy rec_enter rtt_create rtt_destroy rtt_read_entry data_create data_create_unknown data_destroy rtt_map_unprotected rtt_unmap_unprotected rtt_init_ripas rtt_set_ripas measurement_read measurement_extend realm_config ipa_state_set ipa_state_get host_call cpu_off system_off rec_exit
-HasText-answer_of function.GranuleDelegate w s cpu fits words =
-    HasText-front s (call_from function.GranuleDelegate w) _ _ (λ tests. (tt, ((omega arith, tt), tt)))
-HasText-answer_of function.GranuleUndelegate w s cpu fits words =
-    HasText-front s (call_from function.GranuleUndelegate w) _ _ (λ tests. (tt, ((omega arith, tt), tt)))
-HasText-answer_of function.DataCreate w s cpu fits words =
-    HasText-front s (call_from function.DataCreate w) _ _ (λ tests. (
-      (IsReply-input_error, (IsReply-realm_error, (IsReply-walk s (slice_index w 0) (slice_index w 2) 3 (omega arith), (IsReply-table_error 3 (omega arith), tt)))),
-      ((omega arith, tt), (word w 1 words, tt)),
-    ))
-HasText-answer_of function.DataCreateUnknown w s cpu fits words =
-    HasText-front s (call_from function.DataCreateUnknown w) _ _ (λ tests. (
-      (IsReply-input_error, (IsReply-walk s (slice_index w 0) (slice_index w 2) 3 (omega arith), (IsReply-table_error 3 (omega arith), tt))),
-      ((omega arith, tt), (word w 1 words, tt)),
-    ))
-HasText-answer_of function.DataDestroy w s cpu fits words =
-    HasText-front s (call_from function.DataDestroy w) _ _ (λ tests. (
-      (IsReply-input_error, (IsReply-walk s (slice_index w 0) (slice_index w 1) 3 (omega arith), (IsReply-table_error 3 (omega arith), tt))),
-      ((omega arith, (entry_at-fits s (slice_index w 0) _ _ fits, tt)), (omega arith, tt)),
-    ))
-HasText-answer_of function.RealmActivate w s cpu fits words =
-    HasText-front s (call_from function.RealmActivate w) _ _ (λ tests. ((IsReply-realm_error, tt), ((omega arith, tt), tt)))
-HasText-answer_of function.RealmCreate w s cpu fits words =
-    HasText-front s (call_from function.RealmCreate w) _ _ (λ tests. (
-      (IsReply-input_error, tt),
-      ((omega arith, tt), (word w 1 words, word w 2 words, word w 5 words)),
-    ))
-HasText-answer_of function.RealmDestroy w s cpu fits words =
-    HasText-front s (call_from function.RealmDestroy w) _ _ (λ tests. ((IsReply-realm_error, (IsReply-realm_error, tt)), ((omega arith, tt), tt)))
-HasText-answer_of function.RecCreate w s cpu fits words =
-    HasText-front s (call_from function.RecCreate w) _ _ (λ tests. ((IsReply-realm_error, (IsReply-input_error, tt)), ((omega arith, tt), tt)))
-HasText-answer_of function.RecDestroy w s cpu fits words =
-    HasText-front s (call_from function.RecDestroy w) _ _ (λ tests. ((IsReply-rec_error, tt), ((omega arith, tt), tt)))
-HasText-answer_of function.RecEnter w s cpu fits words =
-    HasText-front s (call_from function.RecEnter w) _ _ (λ tests. (
-      (IsReply-realm_error, ((omega arith, omega arith), (IsReply-rec_error, tt))),
-      ((omega arith, ((request_of-fits (rec_at s (slice_index w 0)) (rec_at-fits s (slice_index w 0) fits)).0, tt)), tt),
-    ))
-HasText-answer_of function.RttCreate w s cpu fits words =
-    HasText-front s (call_from function.RttCreate w) _ _ (λ tests.
-    let level = level_to_create (slice_index w 0) (slice_index w 1) (slice_index w 2) (slice_index w 3) tests in (
+-- where its words are allowed, what stands behind the rows of each of the 27 has texts and fits
+HasText-behind : (f : FunctionId) (w : List ℕ) (s : State) (cpu : ℕ) → StateFits s → AreWords w → AllByRecursion IsTrue (words_of (call_from f w))
+    → AllHaveTexts (behind s cpu (call_from f w)).0 × HasText (Ok (behind s cpu (call_from f w)).1)
+unfolding behind call_from words_of
+HasText-behind function.DataCreate w s cpu fits words tests = (
+  (IsReply-input_error, (IsReply-realm_error, (IsReply-walk s (slice_index w 0) (slice_index w 2) 3 (omega arith), (IsReply-table_error 3 (omega arith), tt)))),
+  ((omega arith, tt), (word w 1 words, tt)),
+)
+HasText-behind function.DataCreateUnknown w s cpu fits words tests = (
+  (IsReply-input_error, (IsReply-walk s (slice_index w 0) (slice_index w 2) 3 (omega arith), (IsReply-table_error 3 (omega arith), tt))),
+  ((omega arith, tt), (word w 1 words, tt)),
+)
+HasText-behind function.DataDestroy w s cpu fits words tests = (
+  (IsReply-input_error, (IsReply-walk s (slice_index w 0) (slice_index w 1) 3 (omega arith), (IsReply-table_error 3 (omega arith), tt))),
+  ((omega arith, (entry_at-fits s (slice_index w 0) _ _ fits, tt)), (omega arith, tt)),
+)
+HasText-behind function.RealmActivate w s cpu fits words tests = ((IsReply-realm_error, tt), ((omega arith, tt), tt))
+HasText-behind function.RealmCreate w s cpu fits words tests = (
+  (IsReply-input_error, tt),
+  ((omega arith, tt), (word w 1 words, word w 2 words, word w 5 words)),
+)
+HasText-behind function.RealmDestroy w s cpu fits words tests = ((IsReply-realm_error, (IsReply-realm_error, tt)), ((omega arith, tt), tt))
+HasText-behind function.RecCreate w s cpu fits words tests = ((IsReply-realm_error, (IsReply-input_error, tt)), ((omega arith, tt), tt))
+HasText-behind function.RecDestroy w s cpu fits words tests = ((IsReply-rec_error, tt), ((omega arith, tt), tt))
+HasText-behind function.RecEnter w s cpu fits words tests = (
+  (IsReply-realm_error, ((omega arith, omega arith), (IsReply-rec_error, tt))),
+  ((omega arith, ((request_of-fits (rec_at s (slice_index w 0)) (rec_at-fits s (slice_index w 0) fits)).0, tt)), tt),
+)
+HasText-behind function.RttCreate w s cpu fits words tests =
+    let level = leb-true (slice_index w 3) 3 tests.0 in (
       (IsReply-input_error, (IsReply-input_error, (IsReply-walk s (slice_index w 0) (slice_index w 2) _ (omega (arith, level)), (IsReply-table_error _ (omega (arith, level)), tt)))),
       ((omega arith, tt), (word w 1 words, entry_at-fits s (slice_index w 0) _ _ fits)),
-    ))
-HasText-answer_of function.RttDestroy w s cpu fits words =
-    HasText-front s (call_from function.RttDestroy w) _ _ (λ tests.
-    let level = level_to_destroy (slice_index w 0) (slice_index w 1) (slice_index w 2) tests in (
+    )
+HasText-behind function.RttDestroy w s cpu fits words tests =
+    let level = leb-true (slice_index w 2) 3 tests.0 in (
       (IsReply-input_error, (IsReply-input_error, (IsReply-walk s (slice_index w 0) (slice_index w 1) _ (omega (arith, level)), (IsReply-table_error _ level, tt)))),
       ((omega arith, (entry_at-fits s (slice_index w 0) _ _ fits, tt)), EntryFits-after_table (realm_at s (slice_index w 0)) (slice_index w 1)),
-    ))
-HasText-answer_of function.RttMapUnprotected w s cpu fits words =
-    HasText-front s (call_from function.RttMapUnprotected w) _ _ (λ tests. (
-      (IsReply-input_error, (IsReply-walk s (slice_index w 0) (slice_index w 1) 3 (omega arith), (IsReply-table_error 3 (omega arith), tt))),
-      ((omega arith, tt), (word w 2 words, tt)),
-    ))
-HasText-answer_of function.RttReadEntry w s cpu fits words =
-    HasText-front s (call_from function.RttReadEntry w) _ _ (λ tests.
-    let level = level_to_read (slice_index w 0) (slice_index w 1) (slice_index w 2) tests in (
+    )
+HasText-behind function.RttMapUnprotected w s cpu fits words tests = (
+  (IsReply-input_error, (IsReply-walk s (slice_index w 0) (slice_index w 1) 3 (omega arith), (IsReply-table_error 3 (omega arith), tt))),
+  ((omega arith, tt), (word w 2 words, tt)),
+)
+HasText-behind function.RttReadEntry w s cpu fits words tests =
+    let level = leb-true (slice_index w 2) 3 tests.0 in (
       (IsReply-input_error, (IsReply-input_error, tt)),
       ((omega arith, (omega (arith, level, reach-le s (slice_index w 0) (slice_index w 1) (slice_index w 2)), (entry_state-word _, (entry_at-fits s (slice_index w 0) _ _ fits, (ripas_number-word _, tt))))), tt),
-    ))
-HasText-answer_of function.RttUnmapUnprotected w s cpu fits words =
-    HasText-front s (call_from function.RttUnmapUnprotected w) _ _ (λ tests. (
-      (IsReply-input_error, (IsReply-walk s (slice_index w 0) (slice_index w 1) 3 (omega arith), (IsReply-table_error 3 (omega arith), tt))),
-      ((omega arith, tt), (omega arith, tt)),
-    ))
-HasText-answer_of function.RttInitRipas w s cpu fits words =
-    HasText-front s (call_from function.RttInitRipas w) _ _ (λ tests. (
-      (IsReply-input_error, (IsReply-realm_error, (IsReply-walk s (slice_index w 0) (slice_index w 1) 3 (omega arith), tt))),
-      word w 2 words,
-    ))
-HasText-answer_of function.RttSetRipas w s cpu fits words =
-    HasText-front s (call_from function.RttSetRipas w) _ _ (λ tests. (
-      (IsReply-rec_error, (IsReply-rec_error, (IsReply-input_error, (IsReply-input_error, (IsReply-walk s (slice_index w 0) (slice_index w 2) 3 (omega arith), tt))))),
-      word w 3 words,
-    ))
-HasText-answer_of function.MeasurementRead w s cpu fits words =
-    HasText-front s (call_from function.MeasurementRead w) _ _ (λ tests. (
-      tt,
-      (IsReply-measurement _ (AreWords-measurement _ (slice_index w 0) (realm_at-fits s _ fits)), tt),
-    ))
-HasText-answer_of function.MeasurementExtend w s cpu fits words =
-    HasText-front s (call_from function.MeasurementExtend w) _ _ (λ tests. (tt, ((omega arith, tt), tt)))
-HasText-answer_of function.RealmConfig w s cpu fits words =
-    HasText-front s (call_from function.RealmConfig w) _ _ (λ tests.
+    )
+HasText-behind function.RttUnmapUnprotected w s cpu fits words tests = (
+  (IsReply-input_error, (IsReply-walk s (slice_index w 0) (slice_index w 1) 3 (omega arith), (IsReply-table_error 3 (omega arith), tt))),
+  ((omega arith, tt), (omega arith, tt)),
+)
+HasText-behind function.RttInitRipas w s cpu fits words tests = (
+  (IsReply-input_error, (IsReply-realm_error, (IsReply-walk s (slice_index w 0) (slice_index w 1) 3 (omega arith), tt))),
+  word w 2 words,
+)
+HasText-behind function.RttSetRipas w s cpu fits words tests = (
+  (IsReply-rec_error, (IsReply-rec_error, (IsReply-input_error, (IsReply-input_error, (IsReply-walk s (slice_index w 0) (slice_index w 2) 3 (omega arith), tt))))),
+  word w 3 words,
+)
+HasText-behind function.MeasurementRead w s cpu fits words tests = (
+  tt,
+  (IsReply-measurement _ (AreWords-measurement _ (slice_index w 0) (realm_at-fits s _ fits)), tt),
+)
+HasText-behind function.RealmConfig w s cpu fits words tests =
     let realm = realm_at-fits s (rec_at s (rec_inside s cpu)).owner fits in (
       tt,
       ((omega arith, (realm.width, (realm.algo, tt))), tt),
-    ))
-HasText-answer_of function.IpaStateSet w s cpu fits words =
-    HasText-front s (call_from function.IpaStateSet w) _ _ (λ tests. (
-      (IsReply-input_error, tt),
-      ((omega arith, tt), (word w 0 words, word w 1 words)),
-    ))
-HasText-answer_of function.IpaStateGet w s cpu fits words =
-    HasText-front s (call_from function.IpaStateGet w) _ _ (λ tests. ((IsReply-input_error, tt), ((omega arith, (ripas_number-word _, tt)), tt)))
-HasText-answer_of function.HostCall w s cpu fits words =
-    HasText-front s (call_from function.HostCall w) _ _ (λ tests. (tt, ((omega arith, tt), word w 0 words)))
-HasText-answer_of function.CpuOff w s cpu fits words =
-    HasText-front s (call_from function.CpuOff w) _ _ (λ tests. (tt, ((omega arith, tt), tt)))
-HasText-answer_of function.SystemOff w s cpu fits words =
-    HasText-front s (call_from function.SystemOff w) _ _ (λ tests. (tt, ((omega arith, tt), tt)))
-HasText-answer_of function.Exit w s cpu fits words =
-    HasText-front s (call_from function.Exit w) _ _ (λ tests.
+    )
+HasText-behind function.IpaStateSet w s cpu fits words tests = (
+  (IsReply-input_error, tt),
+  ((omega arith, tt), (word w 0 words, word w 1 words)),
+)
+HasText-behind function.IpaStateGet w s cpu fits words tests = ((IsReply-input_error, tt), ((omega arith, (ripas_number-word _, tt)), tt))
+HasText-behind function.HostCall w s cpu fits words tests = (tt, ((omega arith, tt), word w 0 words))
+HasText-behind function.Exit w s cpu fits words tests =
     let rec = rec_at-fits s (rec_inside s cpu) fits in (
       tt,
       (IsReply-exit _ _ (request_of-fits (rec_at s (rec_inside s cpu)) rec) rec.1, tt),
-    ))
+    )
+HasText-behind _ w s cpu fits words tests = (tt, ((omega arith, tt), tt))
+
+-- what each is answered with has a text and fits
+HasText-answer_of : (f : FunctionId) (w : List ℕ) (s : State) (cpu : ℕ) → StateFits s → AreWords w → HasText (answer_of s cpu (call_from f w))
+HasText-answer_of f w s cpu fits words =
+    let c = call_from f w in
+    let rest = behind s cpu c in
+    subst HasText (sym rest.2) (HasText-front s c rest.0 rest.1 (HasText-behind f w s cpu fits words))
 
 -- what the machine replies has a text, and its next state fits, where the command's words are words and the state before fits
 pub IsReply-Step : (old : State) (cpu : ℕ) (command : Command) (given : Reply) (new : State) → StateFits old → AreWords command.words.items

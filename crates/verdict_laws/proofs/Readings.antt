@@ -81,32 +81,7 @@ read_function part = function_among (GranuleDelegate ∷ GranuleUndelegate ∷ D
 read_function-fixed_hex : (f : FunctionId) → read_function (fixed_hex 8 (number_of f)) ≡ f
 unfolding read_function fixed_hex number_of
 read_function-fixed_hex GranuleDelegate = refl
-read_function-fixed_hex GranuleUndelegate = refl
-read_function-fixed_hex DataCreate = refl
-read_function-fixed_hex DataCreateUnknown = refl
-read_function-fixed_hex DataDestroy = refl
-read_function-fixed_hex RealmActivate = refl
-read_function-fixed_hex RealmCreate = refl
-read_function-fixed_hex RealmDestroy = refl
-read_function-fixed_hex RecCreate = refl
-read_function-fixed_hex RecDestroy = refl
-read_function-fixed_hex RecEnter = refl
-read_function-fixed_hex RttCreate = refl
-read_function-fixed_hex RttDestroy = refl
-read_function-fixed_hex RttMapUnprotected = refl
-read_function-fixed_hex RttReadEntry = refl
-read_function-fixed_hex RttUnmapUnprotected = refl
-read_function-fixed_hex RttInitRipas = refl
-read_function-fixed_hex RttSetRipas = refl
-read_function-fixed_hex MeasurementRead = refl
-read_function-fixed_hex MeasurementExtend = refl
-read_function-fixed_hex RealmConfig = refl
-read_function-fixed_hex IpaStateSet = refl
-read_function-fixed_hex IpaStateGet = refl
-read_function-fixed_hex HostCall = refl
-read_function-fixed_hex CpuOff = refl
-read_function-fixed_hex SystemOff = refl
-read_function-fixed_hex Exit = refl
+read_function-fixed_hex _ = refl
 
 -- ---- commands and replies
 

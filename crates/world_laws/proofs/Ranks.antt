@@ -1,10 +1,11 @@
 -- Ranks: along each wait what is waited for rises, from named granules by address over tables by level to data and
 -- auxiliary granules.
 use Rattle.std.proofs.Common.{◌≡◌, ℕ, suc, ◌+◌, ◌*◌, ◌%◌, ◌<◌, ◌≤◌, Bool, true, false, ◌||◌, ◌==◌, IsTrue, List, Option, Some, None, slice_get, ◌⊎◌, inl, inr, refl, sym, ap, ◌∙◌, subst, arith, eqb-true, ltb-true}
-use Rattle.std.specs.Prelude.{Contains, nat_lt}
-use Rattle.std.specs.List.{AllByRecursion}
-use Rattle.std.proofs.lemmas.Bool.{false≢true, and_parts}
-use Rattle.std.proofs.lemmas.List.Elements.{All-contains, All-from_recursion}
+use Rattle.std.specs.Prelude.{Contains, nat_lt, not}
+use Rattle.std.specs.List.{list_all}
+use Rattle.std.proofs.lemmas.Bool.{false≢true, and_parts, not-true}
+use Rattle.std.proofs.lemmas.List.Elements.{All-contains}
+use Rattle.std.proofs.lemmas.List.Sums.{AllPass-from_list_all}
 use Rattle.rmm_spec.specs.declared.call.Call.{Call}
 use Rattle.rmm_spec.specs.declared.call.Call.TheVariants as call
 use Rattle.rmm_spec.specs.declared.entry.Entry.{Entry}
@@ -40,38 +41,22 @@ is_part_tag tag.Data = true
 is_part_tag tag.Rtt = true
 
 abbrev AreWholes : List Needed → Type 0
-AreWholes names = AllByRecursion (λ (n : Needed). is_part_tag n.tag ≡ false) names
+AreWholes names = list_all (λ (n : Needed). not (is_part_tag n.tag)) names ≡ true
 
 AreWholes-named : (c : Call) → AreWholes (named c)
 unfolding named
-AreWholes-named (call.GranuleDelegate granule) = (refl, tt)
-AreWholes-named (call.GranuleUndelegate granule) = (refl, tt)
-AreWholes-named (call.DataCreate rd granule ipa source flags digest) = (refl, (refl, (refl, tt)))
-AreWholes-named (call.DataCreateUnknown rd granule ipa) = (refl, (refl, tt))
-AreWholes-named (call.DataDestroy rd ipa) = (refl, tt)
-AreWholes-named (call.RealmActivate rd) = (refl, tt)
-AreWholes-named (call.RealmCreate rd root width level vmid algo) = (refl, (refl, tt))
-AreWholes-named (call.RealmDestroy rd) = (refl, tt)
-AreWholes-named (call.RecCreate rd rec mpidr flags aux0 aux1) = (refl, (refl, (refl, (refl, tt))))
-AreWholes-named (call.RecDestroy rec) = (refl, tt)
-AreWholes-named (call.RecEnter rec) = (refl, tt)
-AreWholes-named (call.RttCreate rd rtt ipa level) = (refl, (refl, tt))
-AreWholes-named (call.RttDestroy rd ipa level) = (refl, tt)
-AreWholes-named (call.RttMapUnprotected rd ipa page) = (refl, tt)
-AreWholes-named (call.RttReadEntry rd ipa level) = (refl, tt)
-AreWholes-named (call.RttUnmapUnprotected rd ipa) = (refl, tt)
-AreWholes-named (call.RttInitRipas rd base top) = (refl, tt)
-AreWholes-named (call.RttSetRipas rd rec base top) = (refl, (refl, tt))
-AreWholes-named _ = tt
+AreWholes-named (call.GranuleDelegate granule) = refl
+AreWholes-named _ = refl
 
 AreWholes-learnt : (rd : ℕ) (c : Call) → AreWholes (needs_outside (Some rd) c)
-AreWholes-learnt rd (call.RecEnter rec) = (refl, AreWholes-named (call.RecEnter rec))
+unfolding named
+AreWholes-learnt rd (call.RecEnter rec) = refl
 AreWholes-learnt rd c = AreWholes-named c
 
 AreWholes-needs : (place : CpuPlace) (learnt : Option ℕ) (c : Call) → AreWholes (needs place learnt c)
 AreWholes-needs Outside None c = AreWholes-named c
 AreWholes-needs Outside (Some rd) c = AreWholes-learnt rd c
-AreWholes-needs (Inside rec rd) learnt c = (refl, (refl, tt))
+AreWholes-needs (Inside rec rd) learnt c = refl
 
 -- a granule that is held and named has the tag that is needed there, and is no part
 named-no_part : (granules : ℕ) (names : List Needed) (held : List HeldCell) (wanted : ℕ) (h : HeldCell) → AreWholes names
@@ -80,9 +65,8 @@ named-no_part granules names held wanted h wholes rising has is =
     let found = passing_member (λ (n : Needed). n.granule == h.granule) names is in
     let member = Contains-from_slice_get names found.0 found.1 found.2 in
     let needed_tag : tag_of h.cell ≡ found.1.tag = rising.tags h found.1 has member (eqb-true found.1.granule h.granule found.3) in
-    let whole : is_part_tag found.1.tag ≡ false =
-    All-contains (λ (n : Needed). is_part_tag n.tag ≡ false) names found.1 (All-from_recursion (λ (n : Needed). is_part_tag n.tag ≡ false) names wholes) member in
-    ap is_part_tag needed_tag ∙ whole
+    let whole = All-contains (λ (n : Needed). not (is_part_tag n.tag) ≡ true) names found.1 (AllPass-from_list_all (λ (n : Needed). not (is_part_tag n.tag)) names wholes) member in
+    ap is_part_tag needed_tag ∙ not-true (is_part_tag found.1.tag) whole
 
 -- ---- what a part is
 

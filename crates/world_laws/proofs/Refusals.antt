@@ -6,7 +6,6 @@ use Rattle.std.proofs.lemmas.Bool.{false≢true, and_right, and_left}
 use Rattle.std.proofs.lemmas.Option.{none-some}
 use Rattle.rmm_spec.specs.declared.accepted.Accepted.{Accepted}
 use Rattle.rmm_spec.specs.declared.call.Call.{Call}
-use Rattle.rmm_spec.specs.declared.call.Call.TheVariants as call
 use Rattle.rmm_spec.specs.declared.command.Command.{Command}
 use Rattle.rmm_spec.specs.declared.reply.Reply.{Reply}
 use Rattle.rmm_spec.specs.declared.reply.Reply.TheVariants as reply
@@ -18,14 +17,7 @@ use Rattle.rmm_spec.specs.Step.Front.{with_front}
 use Rattle.rmm_spec.specs.Step.Words.{words_of}
 use Rattle.rmm_spec.specs.Step.Named.{named}
 use Rattle.rmm_spec.specs.Step.{Step, CarriesOut, answer_of, outcome, is_placed}
-use Rattle.rmm_spec.specs.Step.Granule.{granule_delegate, granule_undelegate}
-use Rattle.rmm_spec.specs.Step.Realm.{realm_create, realm_activate, realm_destroy}
-use Rattle.rmm_spec.specs.Step.Rec.{rec_create, rec_destroy, rec_enter}
-use Rattle.rmm_spec.specs.Step.Table.{rtt_create, rtt_destroy, rtt_read_entry}
-use Rattle.rmm_spec.specs.Step.Data.{data_create, data_create_unknown, data_destroy}
-use Rattle.rmm_spec.specs.Step.Unprotected.{rtt_map_unprotected, rtt_unmap_unprotected}
-use Rattle.rmm_spec.specs.Step.Ripas.{rtt_init_ripas, rtt_set_ripas}
-use Rattle.rmm_spec.specs.Step.RealmCall.{measurement_read, measurement_extend, realm_config, ipa_state_set, ipa_state_get, host_call, cpu_off, system_off, rec_exit}
+use Rattle.rmm_spec.proofs.Behind.{behind}
 use Rattle.rmm_spec.specs.Cell.{Cell, tag_of}
 use Rattle.rmm_spec.specs.Flat.{flat_state}
 use Rattle.rmm_spec.specs.Shape.{Side, CpuPlace, Outside, Inside, IsWellShaped}
@@ -74,34 +66,7 @@ decided-front s c rows accepted (by_tag i n is wrong) =
 
 -- each command begins with those rows
 answer_of-front : (s : State) (cpu : ℕ) (c : Call) → IsRefusedInFront s c → answer_of s cpu c ≡ Err input_error
-unfolding answer_of granule_delegate granule_undelegate realm_create realm_activate realm_destroy rec_create rec_destroy rec_enter rtt_create rtt_destroy rtt_read_entry data_create data_create_unknown data_destroy rtt_map_unprotected rtt_unmap_unprotected rtt_init_ripas rtt_set_ripas measurement_read measurement_extend realm_config ipa_state_set ipa_state_get host_call cpu_off system_off rec_exit
-answer_of-front s cpu (call.GranuleDelegate granule) refused = decided-front s (call.GranuleDelegate granule) _ _ refused
-answer_of-front s cpu (call.GranuleUndelegate granule) refused = decided-front s (call.GranuleUndelegate granule) _ _ refused
-answer_of-front s cpu (call.DataCreate rd granule ipa source flags digest) refused = decided-front s (call.DataCreate rd granule ipa source flags digest) _ _ refused
-answer_of-front s cpu (call.DataCreateUnknown rd granule ipa) refused = decided-front s (call.DataCreateUnknown rd granule ipa) _ _ refused
-answer_of-front s cpu (call.DataDestroy rd ipa) refused = decided-front s (call.DataDestroy rd ipa) _ _ refused
-answer_of-front s cpu (call.RealmActivate rd) refused = decided-front s (call.RealmActivate rd) _ _ refused
-answer_of-front s cpu (call.RealmCreate rd root width level vmid algo) refused = decided-front s (call.RealmCreate rd root width level vmid algo) _ _ refused
-answer_of-front s cpu (call.RealmDestroy rd) refused = decided-front s (call.RealmDestroy rd) _ _ refused
-answer_of-front s cpu (call.RecCreate rd rec mpidr flags aux0 aux1) refused = decided-front s (call.RecCreate rd rec mpidr flags aux0 aux1) _ _ refused
-answer_of-front s cpu (call.RecDestroy rec) refused = decided-front s (call.RecDestroy rec) _ _ refused
-answer_of-front s cpu (call.RecEnter rec) refused = decided-front s (call.RecEnter rec) _ _ refused
-answer_of-front s cpu (call.RttCreate rd rtt ipa level) refused = decided-front s (call.RttCreate rd rtt ipa level) _ _ refused
-answer_of-front s cpu (call.RttDestroy rd ipa level) refused = decided-front s (call.RttDestroy rd ipa level) _ _ refused
-answer_of-front s cpu (call.RttMapUnprotected rd ipa page) refused = decided-front s (call.RttMapUnprotected rd ipa page) _ _ refused
-answer_of-front s cpu (call.RttReadEntry rd ipa level) refused = decided-front s (call.RttReadEntry rd ipa level) _ _ refused
-answer_of-front s cpu (call.RttUnmapUnprotected rd ipa) refused = decided-front s (call.RttUnmapUnprotected rd ipa) _ _ refused
-answer_of-front s cpu (call.RttInitRipas rd base top) refused = decided-front s (call.RttInitRipas rd base top) _ _ refused
-answer_of-front s cpu (call.RttSetRipas rd rec base top) refused = decided-front s (call.RttSetRipas rd rec base top) _ _ refused
-answer_of-front s cpu (call.MeasurementRead index) refused = decided-front s (call.MeasurementRead index) _ _ refused
-answer_of-front s cpu (call.MeasurementExtend index size values) refused = decided-front s (call.MeasurementExtend index size values) _ _ refused
-answer_of-front s cpu call.RealmConfig refused = decided-front s call.RealmConfig _ _ refused
-answer_of-front s cpu (call.IpaStateSet base top ripas) refused = decided-front s (call.IpaStateSet base top ripas) _ _ refused
-answer_of-front s cpu (call.IpaStateGet ipa) refused = decided-front s (call.IpaStateGet ipa) _ _ refused
-answer_of-front s cpu (call.HostCall imm) refused = decided-front s (call.HostCall imm) _ _ refused
-answer_of-front s cpu call.CpuOff refused = decided-front s call.CpuOff _ _ refused
-answer_of-front s cpu call.SystemOff refused = decided-front s call.SystemOff _ _ refused
-answer_of-front s cpu call.Exit refused = decided-front s call.Exit _ _ refused
+answer_of-front s cpu c refused = let rest = behind s cpu c in rest.2 ∙ decided-front s c rest.0 rest.1 refused
 
 -- ---- local steps
 
