@@ -9,3 +9,4 @@ pub mod Roots
 pub mod Ready
 pub mod PlainCells
 pub mod Others
+pub mod Steps

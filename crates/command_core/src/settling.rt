@@ -78,8 +78,8 @@ fn words_fit(config: &Config, call: &Call) -> bool
     words_hold(call) && are_granules(config, names.as_slice())
 }
 
-// Whether a part is held, or is no granule that could be taken.
-fn is_seen<H: Held>(config: &Config, part: Pa, held: &H) -> bool
+/// Whether a part is held, or is no granule that could be taken.
+pub(crate) fn is_seen<H: Held>(config: &Config, part: Pa, held: &H) -> bool
     ensures { result ≡ spec.is_seen config.now.granules part (H.cells held.now) }
 {
     is_held(held, part) || !is_granule(config, part.address())

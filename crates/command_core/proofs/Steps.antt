@@ -1,0 +1,294 @@
+-- What a CPU does next where what it holds doesn't settle its command: it takes a lock at a rising take, or frees one that it
+-- holds. That there is always one of the two rests on no plan: with nothing held, what is wanted is a granule that is named.
+use Rattle.std.proofs.Common.{◌≡◌, ℕ, ◌-◌, Bool, true, false, not, ◌&&◌, ◌||◌, ◌==◌, if◌then◌else◌, List, [], ◌∷◌, length, Option, Some, None, refl, sym, ap, ◌∙◌, arith, eq-eqb}
+use Rattle.std.specs.Prelude.{IsTrue, IfSome, Contains, is_some, unwrap_or}
+use Rattle.std.specs.List.{fold, list_all}
+use Rattle.std.proofs.lemmas.Bool.{false≢true, and_parts, or_parts, not-true, not-false}
+use Rattle.std.proofs.lemmas.List.Folds.{list_any_at}
+use Rattle.std.proofs.lemmas.Option.{none-some, slice_get-get_or}
+use Rattle.rmm_spec.specs.declared.call.Call.{Call}
+use Rattle.rmm_spec.specs.declared.call.Call.TheVariants as call
+use Rattle.rmm_spec.specs.declared.command.Command.{Command}
+use Rattle.rmm_spec.specs.declared.tag.Tag.TheVariants as tag
+use Rattle.rmm_spec.specs.Call.{Class, ByHost, ByRealm, ByExit, call_of, class_of}
+use Rattle.rmm_spec.specs.Lookup.{is_granule}
+use Rattle.rmm_spec.specs.Rows.{Needed}
+use Rattle.rmm_spec.specs.Step.Words.{words_of}
+use Rattle.rmm_spec.specs.Step.Named.{needed, named}
+use Rattle.rmm_spec.specs.Cell.{Cell, Rd, Rec}
+use Rattle.rmm_spec.specs.Shape.{CpuPlace, Outside, Inside}
+use Rattle.rmm_spec.specs.Local.{HeldCell, granules_held}
+use Rattle.rmm_spec.specs.Locks.{is_named, needs, needs_outside, IsRisingTake}
+use Rattle.world_laws.proofs.Members.{Contains-head, Contains-tail, Contains-from_slice_get}
+use Rattle.command_core.specs.declared.next.Next.{Next}
+use Rattle.command_core.specs.declared.next.Next.TheVariants.{Take, Free, Ready}
+use Rattle.command_core.specs.Seen.{cell_in, is_held, are_distinct}
+use Rattle.command_core.specs.Named.{has_wrong, words_fit, is_less, lesser, least_missing, is_upward, is_downward, holds_all}
+use Rattle.command_core.specs.Settled.{can_learn, is_realm_in, is_owner_seen, is_complete, is_misfit, is_settled_outside, is_settled_inside, is_settled}
+use Rattle.command_core.specs.Served.{is_served}
+use Rattle.command_core.specs.Plan.{IsStep, IsPlanned, is_ready}
+use Rattle.command_core.specs.Next.{last_taken, taken, take_named, take_least, take_part, take_root, take_auxes, next_aux, learn_realm, take_realm, next_to_enter, first_named, next_outside, next_inside, next_unsettled, next}
+use Rattle.command_core.proofs.Ready.{settled-ready}
+use Rattle.command_core.proofs.SeenCells.{held-contains}
+use Rattle.command_core.proofs.Rising.{upward-rises, downward-rises}
+
+-- ---- the last taken
+
+-- where something is held, one was taken last
+some-last : (h : HeldCell) (held : List HeldCell) → last_taken (h ∷ held) ≡ None → ⊥
+some-last h held none =
+    none-some _ (sym none ∙ slice_get-get_or (granules_held (h ∷ held)) (length (granules_held (h ∷ held)) - 1) 0 (omega arith))
+
+found-last : (held : List HeldCell) (g : ℕ) (c : Cell) → cell_in g held ≡ Some c → last_taken held ≡ None → ⊥
+found-last [] g c found none = none-some c found
+found-last (h ∷ held) g c found none = some-last h held none
+
+-- what is taken where that rises, and may be taken where nothing is held, is a step
+taken-steps : (granules : ℕ) (c : Call) (place : CpuPlace) (names : List Needed) (held : List HeldCell) (next : ℕ) (may_take : Bool)
+    → (may_take ≡ true → IsRisingTake granules names held next) → (last_taken held ≡ None → may_take ≡ true)
+    → IsStep granules c place names held (taken next may_take (last_taken held))
+taken-steps granules c place names held next may_take rises alone = by may_take refl (last_taken held) refl
+  where
+    by : (b : Bool) → may_take ≡ b → (last : Option ℕ) → last_taken held ≡ last → IsStep granules c place names held (taken next b last)
+    by true may last is = rises may
+    by false may (Some g) is = Contains-from_slice_get (granules_held held) (length (granules_held held) - 1) g is
+    by false may None is = absurd (false≢true (sym may ∙ alone is))
+
+-- ---- by name
+
+-- a granule that is named
+record IsOne (granules : ℕ) (names : List Needed) (granule : ℕ) : Type 0 where
+  is_lock : is_granule granules granule ≡ true
+  is_one : is_named names granule ≡ true
+
+upward-alone : (granules : ℕ) (names : List Needed) (held : List HeldCell) (next : ℕ) → IsOne granules names next → last_taken held ≡ None
+    → is_upward granules names held next ≡ true
+unfolding is_upward
+upward-alone granules names [] next one none = rw (one.is_lock, one.is_one) refl
+upward-alone granules names (h ∷ held) next one none = absurd (some-last h held none)
+
+named-steps : (granules : ℕ) (c : Call) (place : CpuPlace) (names : List Needed) (held : List HeldCell) (next : ℕ)
+    → IsTrue (are_distinct (granules_held held)) → IsOne granules names next → IsStep granules c place names held (take_named granules names held next)
+named-steps granules c place names held next distinct one =
+    taken-steps granules c place names held next (is_upward granules names held next) (upward-rises granules names held next distinct)
+    (upward-alone granules names held next one)
+
+named-has : (names : List Needed) (n : Needed) → Contains names n → is_named names n.granule ≡ true
+named-has names n has =
+    list_any_at (λ (m : Needed). m.granule == n.granule) names has.0 n has.1
+    (ap (λ (m : Needed). m.granule == n.granule) has.2 ∙ eq-eqb n.granule n.granule refl)
+
+-- the least that is missing is named
+least-one : (granules : ℕ) (held : List HeldCell) (all names : List Needed) (best : Option ℕ) → ((n : Needed) → Contains names n → is_named all n.granule ≡ true)
+    → IfSome best (IsOne granules all) → IfSome (fold (lesser granules held) best names) (IsOne granules all)
+least-one granules held all [] best each one = one
+least-one granules held all (n ∷ names) best each one =
+    least-one granules held all names (lesser granules held best n) (λ m has. each m (Contains-tail n names m has))
+    (by (is_granule granules n.granule && not (is_held n.granule held) && is_less n.granule best) refl)
+  where
+    by : (b : Bool) → (is_granule granules n.granule && not (is_held n.granule held) && is_less n.granule best) ≡ b
+        → IfSome (if b then Some n.granule else best) (IsOne granules all)
+    by true is =
+        let parts = and_parts (is_granule granules n.granule && not (is_held n.granule held)) (is_less n.granule best) is in
+        record { is_lock = (and_parts (is_granule granules n.granule) (not (is_held n.granule held)) parts.0).0; is_one = each n (Contains-head n names) }
+    by false is = one
+
+least-steps : (granules : ℕ) (c : Call) (place : CpuPlace) (names : List Needed) (held : List HeldCell) (other : ℕ)
+    → IsTrue (are_distinct (granules_held held)) → IsOne granules names other → IsStep granules c place names held (take_least granules names held other)
+unfolding least_missing
+least-steps granules c place names held other distinct one =
+    named-steps granules c place names held (unwrap_or (least_missing granules names held) other) distinct
+    (by (least_missing granules names held) (least-one granules held names names None (named-has names) tt))
+  where
+    by : (o : Option ℕ) → IfSome o (IsOne granules names) → IsOne granules names (unwrap_or o other)
+    by (Some next) least = least
+    by None least = one
+
+-- ---- parts
+
+part-steps : (granules : ℕ) (c : Call) (place : CpuPlace) (names : List Needed) (held : List HeldCell) (above next : ℕ) (cell : Cell)
+    → IsTrue (are_distinct (granules_held held)) → cell_in above held ≡ Some cell → IsStep granules c place names held (take_part granules names held above next)
+part-steps granules c place names held above next cell distinct found =
+    taken-steps granules c place names held next (is_downward granules names held above next) (downward-rises granules names held above next distinct)
+    (λ none. absurd (found-last held above cell found none))
+
+root-steps : (granules : ℕ) (c : Call) (place : CpuPlace) (names : List Needed) (held : List HeldCell) (rd : ℕ) → IsTrue (are_distinct (granules_held held))
+    → IsOne granules names rd → (o : Option Cell) → cell_in rd held ≡ o → IsStep granules c place names held (take_root granules names held rd o)
+root-steps granules c place names held rd distinct one (Some (Rd realm)) found =
+    part-steps granules c place names held rd realm.root (Rd realm) distinct found
+root-steps granules c place names held rd distinct one _ found = named-steps granules c place names held rd distinct one
+
+auxes-steps : (granules : ℕ) (c : Call) (place : CpuPlace) (names : List Needed) (held : List HeldCell) (rec : ℕ) → IsTrue (are_distinct (granules_held held))
+    → IsOne granules names rec → (o : Option Cell) → cell_in rec held ≡ o → IsStep granules c place names held (take_auxes granules names held rec o)
+auxes-steps granules c place names held rec distinct one (Some (Rec it)) found =
+    part-steps granules c place names held rec (next_aux granules it held) (Rec it) distinct found
+auxes-steps granules c place names held rec distinct one _ found = named-steps granules c place names held rec distinct one
+
+-- ---- REC_ENTER
+
+learn-steps : (granules : ℕ) (held : List HeldCell) (rec : ℕ) → IsTrue (are_distinct (granules_held held)) → is_granule granules rec ≡ true
+    → (o : Option Cell) → cell_in rec held ≡ o → is_owner_seen granules rec o held ≡ false
+    → IsStep granules (call.RecEnter rec) Outside (named (call.RecEnter rec)) held (learn_realm granules held rec o)
+unfolding named
+learn-steps granules held rec distinct lock (Some (Rec it)) found unseen =
+    let can = not-false (can_learn granules rec it.owner) (or_parts (not (can_learn granules rec it.owner)) (is_realm_in (cell_in it.owner held)) unseen).0 in
+    let parts = and_parts (is_granule granules it.owner) (not (it.owner == rec)) can in
+    record {
+      rec = it;
+      is_held = held-contains held rec (ap (λ (o : Option Cell). is_some o) found);
+      is_outside = refl;
+      is_enter = refl;
+      is_rec = found;
+      is_owner = refl;
+      is_lock = parts.0;
+      is_other = not-true (it.owner == rec) parts.1;
+    }
+learn-steps granules held rec distinct lock _ found unseen =
+    named-steps granules (call.RecEnter rec) Outside (named (call.RecEnter rec)) held rec distinct
+    (record { is_lock = lock; is_one = named-has (needed rec tag.Rec ∷ []) (needed rec tag.Rec) (Contains-head (needed rec tag.Rec) []) })
+
+realm-steps : (granules : ℕ) (held : List HeldCell) (rec rd : ℕ) → IsTrue (are_distinct (granules_held held)) → is_granule granules rec ≡ true
+    → (o : Option Cell) → cell_in rec held ≡ o
+    → IsStep granules (call.RecEnter rec) Outside (needs_outside (Some rd) (call.RecEnter rec)) held (take_realm granules held rec rd o)
+unfolding named
+realm-steps granules held rec rd distinct lock (Some (Rec it)) found =
+    let names : List Needed = needed rd tag.Rd ∷ needed rec tag.Rec ∷ [] in
+    taken-steps granules (call.RecEnter rec) Outside names held rd (rd == it.owner && is_upward granules names held rd)
+    (λ may. upward-rises granules names held rd distinct (and_parts (rd == it.owner) (is_upward granules names held rd) may).1)
+    (λ none. absurd (found-last held rec (Rec it) found none))
+realm-steps granules held rec rd distinct lock _ found =
+    least-steps granules (call.RecEnter rec) Outside (needed rd tag.Rd ∷ needed rec tag.Rec ∷ []) held rec distinct
+    (record {
+      is_lock = lock;
+      is_one =
+          named-has (needed rd tag.Rd ∷ needed rec tag.Rec ∷ []) (needed rec tag.Rec)
+          (Contains-tail (needed rd tag.Rd) (needed rec tag.Rec ∷ []) (needed rec tag.Rec) (Contains-head (needed rec tag.Rec) []));
+    })
+
+enter-steps : (granules : ℕ) (held : List HeldCell) (rec : ℕ) (learnt : Option ℕ) → IsTrue (are_distinct (granules_held held)) → is_granule granules rec ≡ true
+    → is_owner_seen granules rec (cell_in rec held) held ≡ false
+    → IsStep granules (call.RecEnter rec) Outside (needs_outside learnt (call.RecEnter rec)) held (next_to_enter granules rec (cell_in rec held) held learnt)
+enter-steps granules held rec None distinct lock unseen = learn-steps granules held rec distinct lock (cell_in rec held) refl unseen
+enter-steps granules held rec (Some rd) distinct lock unseen = realm-steps granules held rec rd distinct lock (cell_in rec held) refl
+
+-- ---- outside of RECs
+
+-- the first is named, where not all are held
+first-one : (granules : ℕ) (names : List Needed) (held : List HeldCell) → list_all (λ (n : Needed). is_granule granules n.granule) names ≡ true
+    → holds_all names held ≡ false → IsOne granules names (first_named names)
+unfolding holds_all
+first-one granules [] held locks missing = absurd (false≢true (sym missing))
+first-one granules (n ∷ names) held locks missing = record {
+  is_lock = (and_parts (is_granule granules n.granule) (list_all (λ (m : Needed). is_granule granules m.granule) names) locks).0;
+  is_one = named-has (n ∷ names) n (Contains-head n names);
+}
+
+only-one : (granules : ℕ) (n : Needed) → list_all (λ (m : Needed). is_granule granules m.granule) (n ∷ []) ≡ true → IsOne granules (n ∷ []) n.granule
+only-one granules n locks = record { is_lock = (and_parts (is_granule granules n.granule) true locks).0; is_one = named-has (n ∷ []) n (Contains-head n []) }
+
+-- each command by the names that it has without what is learnt
+plain-steps : (granules : ℕ) (c : Call) (learnt : Option ℕ) (held : List HeldCell) → IsTrue (are_distinct (granules_held held))
+    → list_all (λ (n : Needed). is_granule granules n.granule) (named c) ≡ true → is_complete granules c held ≡ false
+    → ((rec : ℕ) → c ≡ call.RecEnter rec → ⊥) → IsStep granules c Outside (named c) held (next_outside granules c learnt held)
+unfolding is_complete next_outside named
+plain-steps granules (call.RecEnter rec) learnt held distinct locks incomplete other = absurd (other rec refl)
+plain-steps granules (call.RealmDestroy rd) learnt held distinct locks incomplete other =
+    root-steps granules (call.RealmDestroy rd) Outside (named (call.RealmDestroy rd)) held rd distinct (only-one granules (needed rd tag.Rd) locks) (cell_in rd held) refl
+plain-steps granules (call.RecDestroy rec) learnt held distinct locks incomplete other =
+    auxes-steps granules (call.RecDestroy rec) Outside (named (call.RecDestroy rec)) held rec distinct (only-one granules (needed rec tag.Rec) locks) (cell_in rec held) refl
+plain-steps granules c learnt held distinct locks incomplete other =
+    least-steps granules c Outside (named c) held (first_named (named c)) distinct (first-one granules (named c) held locks incomplete)
+
+-- what is learnt is named by an Enter alone
+outside-steps : (granules : ℕ) (c : Call) (learnt : Option ℕ) (held : List HeldCell) → IsTrue (are_distinct (granules_held held))
+    → list_all (λ (n : Needed). is_granule granules n.granule) (named c) ≡ true → is_complete granules c held ≡ false
+    → IsStep granules c Outside (needs_outside learnt c) held (next_outside granules c learnt held)
+unfolding is_complete next_outside named
+outside-steps granules (call.RecEnter rec) learnt held distinct locks incomplete =
+    enter-steps granules held rec learnt distinct (and_parts (is_granule granules rec) true locks).0 incomplete
+outside-steps granules c None held distinct locks incomplete = plain-steps granules c None held distinct locks incomplete (λ rec same. cc)
+outside-steps granules c (Some rd) held distinct locks incomplete = plain-steps granules c (Some rd) held distinct locks incomplete (λ rec same. cc)
+
+-- ---- inside of a REC
+
+fitting : (granules rec rd : ℕ) (held : List HeldCell) → is_misfit granules rec rd held ≡ false → is_granule granules rec ≡ true
+unfolding is_misfit
+fitting granules rec rd held fits =
+    let locks = is_granule granules rec && is_granule granules rd in
+    let first = or_parts (not (locks && not (rec == rd))) (has_wrong (needed rec tag.Rec ∷ needed rd tag.Rd ∷ []) held) fits in
+    let second = and_parts locks (not (rec == rd)) (not-false (locks && not (rec == rd)) first.0) in
+    (and_parts (is_granule granules rec) (is_granule granules rd) second.0).0
+
+inside-steps : (k : Class) (granules : ℕ) (c : Call) (rec rd : ℕ) (held : List HeldCell) → IsTrue (are_distinct (granules_held held))
+    → is_settled_inside k granules rec rd held ≡ false
+    → IsStep granules c (Inside rec rd) (needed rec tag.Rec ∷ needed rd tag.Rd ∷ []) held (next_inside k granules rec rd held)
+inside-steps k granules c rec rd held distinct = by k
+  where
+    names : List Needed
+    names = needed rec tag.Rec ∷ needed rd tag.Rd ∷ []
+
+    one : is_misfit granules rec rd held ≡ false → IsOne granules names rec
+    one fits = record { is_lock = fitting granules rec rd held fits; is_one = named-has names (needed rec tag.Rec) (Contains-head (needed rec tag.Rec) (needed rd tag.Rd ∷ [])) }
+
+    by : (kind : Class) → is_settled_inside kind granules rec rd held ≡ false → IsStep granules c (Inside rec rd) names held (next_inside kind granules rec rd held)
+    by ByHost open_yet = absurd (false≢true (sym open_yet))
+    by ByRealm open_yet = least-steps granules c (Inside rec rd) names held rec distinct
+        (one (or_parts (is_misfit granules rec rd held) (is_held rec held && is_held rd held) open_yet).0)
+    by ByExit open_yet = named-steps granules c (Inside rec rd) names held rec distinct
+        (one (or_parts (is_misfit granules rec rd held) (is_held rec held) open_yet).0)
+
+-- ---- any command
+
+unsettled-steps : (granules : ℕ) (c : Call) (place : CpuPlace) (learnt : Option ℕ) (held : List HeldCell) → IsTrue (are_distinct (granules_held held))
+    → is_settled granules c place held ≡ false → IsStep granules c place (needs place learnt c) held (next_unsettled granules c place learnt held)
+unfolding is_settled words_fit
+unsettled-steps granules c Outside learnt held distinct unsettled = by (class_of c) unsettled
+  where
+    by : (k : Class) → is_settled_outside k granules c held ≡ false → IsStep granules c Outside (needs_outside learnt c) held (next_outside granules c learnt held)
+    by ByRealm is = absurd (false≢true (sym is))
+    by ByExit is = absurd (false≢true (sym is))
+    by ByHost is =
+        let parts = or_parts (not (words_fit granules c) || has_wrong (named c) held) (is_complete granules c held) is in
+        let fit = not-false (words_fit granules c) (or_parts (not (words_fit granules c)) (has_wrong (named c) held) parts.0).0 in
+        outside-steps granules c learnt held distinct
+        (and_parts (list_all (λ allowed. allowed) (words_of c)) (list_all (λ (n : Needed). is_granule granules n.granule) (named c)) fit).1 parts.1
+unsettled-steps granules c (Inside rec rd) learnt held distinct unsettled = inside-steps (class_of c) granules c rec rd held distinct unsettled
+
+-- ---- the next step
+
+step-planned : (granules : ℕ) (command : Command) (place : CpuPlace) (learnt : Option ℕ) (held : List HeldCell) (n : Next)
+    → IsStep granules (call_of command) place (needs place learnt (call_of command)) held n → IsPlanned granules command place learnt held n
+step-planned granules command place learnt held Ready step = absurd step
+step-planned granules command place learnt held (Take granule) step = step
+step-planned granules command place learnt held (Free granule rd) step = step
+
+-- a step isn't ready
+step-unready : (granules : ℕ) (c : Call) (place : CpuPlace) (names : List Needed) (held : List HeldCell) (n : Next) → IsStep granules c place names held n
+    → false ≡ is_ready n
+step-unready granules c place names held Ready step = absurd step
+step-unready granules c place names held (Take granule) step = refl
+step-unready granules c place names held (Free granule rd) step = refl
+
+pub next-planned : (granules : ℕ) (command : Command) (place : CpuPlace) (learnt : Option ℕ) (held : List HeldCell) → is_served (call_of command) ≡ true
+    → IsTrue (are_distinct (granules_held held)) → IsPlanned granules command place learnt held (next granules (call_of command) place learnt held)
+unfolding next
+next-planned granules command place learnt held served distinct = by (is_settled granules (call_of command) place held) refl
+  where
+    otherwise : Next
+    otherwise = next_unsettled granules (call_of command) place learnt held
+
+    by : (b : Bool) → is_settled granules (call_of command) place held ≡ b → IsPlanned granules command place learnt held (if b then Ready else otherwise)
+    by true settled = settled-ready granules command place held served settled
+    by false unsettled =
+        step-planned granules command place learnt held otherwise (unsettled-steps granules (call_of command) place learnt held distinct unsettled)
+
+pub next-settled : (granules : ℕ) (c : Call) (place : CpuPlace) (learnt : Option ℕ) (held : List HeldCell)
+    → IsTrue (are_distinct (granules_held held)) → is_settled granules c place held ≡ is_ready (next granules c place learnt held)
+unfolding next
+next-settled granules c place learnt held distinct = by (is_settled granules c place held) refl
+  where
+    by : (b : Bool) → is_settled granules c place held ≡ b → b ≡ is_ready (if b then Ready else next_unsettled granules c place learnt held)
+    by true settled = refl
+    by false unsettled =
+        step-unready granules c place (needs place learnt c) held (next_unsettled granules c place learnt held)
+        (unsettled-steps granules c place learnt held distinct unsettled)

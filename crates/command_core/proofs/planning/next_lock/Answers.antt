@@ -1,0 +1,26 @@
+use Rattle.std.proofs.Common.{sym, ap, ◌∙◌, subst}
+use Rattle.rmm_spec.specs.declared.call.Call.{Call}
+use Rattle.rmm_spec.specs.Call.{call_of}
+use Rattle.command_core.specs.declared.next.Next.{Next}
+use Rattle.command_core.specs.Seen.{place_of}
+use Rattle.command_core.specs.Plan.{IsPlanned, is_ready}
+use Rattle.command_core.specs.Next.{next}
+use Rattle.command_core.proofs.Steps.{next-planned, next-settled}
+use Rattle.command_core.proofs.planning.next_lock.Goals as goal
+
+pub returns-clause-settled : goal.returns-clause-settled
+returns-clause-settled g c =
+    let a = c.args in
+    let held = g.H.Held.cells a.held.now in
+    let place = place_of a.place.now in
+    next-settled a.config.now.granules (call_of a.command.now) place a.learnt held (g.met.H.Held.distinct a.held.now)
+    ∙ ap is_ready (sym (c.next_for.ensures ∙ ap (λ (x : Call). next a.config.now.granules x place a.learnt held) c.call.ensures))
+
+pub returns-clause-planned : goal.returns-clause-planned
+returns-clause-planned g c =
+    let a = c.args in
+    let held = g.H.Held.cells a.held.now in
+    let place = place_of a.place.now in
+    subst (λ (n : Next). IsPlanned a.config.now.granules a.command.now place a.learnt held n)
+    (sym (c.next_for.ensures ∙ ap (λ (x : Call). next a.config.now.granules x place a.learnt held) c.call.ensures))
+    (next-planned a.config.now.granules a.command.now place a.learnt held c.requires.served (g.met.H.Held.distinct a.held.now))
