@@ -1,5 +1,5 @@
 -- In a state that holds the two records: what the definitions answer, and the step that an answer is.
-use Rattle.std.proofs.Common.{◌≡◌, ℕ, Bool, true, false, ◌==◌, if◌then◌else◌, ◌&&◌, not, IsTrue, List, [], ◌∷◌, refl, sym, ap, ◌∙◌, subst}
+use Rattle.std.proofs.Common.{◌≡◌, ℕ, Bool, true, false, ◌==◌, if◌then◌else◌, ◌&&◌, not, IsTrue, [], ◌∷◌, refl, sym, ap, ◌∙◌, subst}
 use Rattle.std.specs.Prelude.{Result, Ok, Err, Option, Some, None, is_none, unwrap_or}
 use Rattle.arrayvec.specs.ArrayVec.{ArrayVec}
 use Rattle.std.proofs.lemmas.Bool.{eqb-true, and_from, and_right}
@@ -25,7 +25,7 @@ use Rattle.rmm_spec.specs.Step.RealmCall.{exit_words, rec_change, rec_exit}
 use Rattle.rmm_spec.specs.Step.Rec.{rec_enter}
 use Rattle.rmm_spec.specs.Step.Words.{words_of}
 use Rattle.rmm_spec.specs.Update.{with_realm, with_rec}
-use Rattle.rec_steps.specs.Answers.{answer_at, change_at, realm_after, rec_after}
+use Rattle.rec_steps.specs.Answers.{answer_at, call_row, change_at, realm_after, rec_after}
 use Rattle.rec_steps.specs.Held.{IsHeld}
 use Rattle.rec_steps.specs.declared.step.RecStep.{RecStep}
 
@@ -141,22 +141,26 @@ pub outcome-enter : (s : State) (cpu address : ℕ) (c : Call) → c ≡ call.Re
 unfolding outcome answer_of class_of
 outcome-enter s cpu address c is outside = rw (is, outside) refl
 
--- a REC with no exit pending gives a realm call, and is answered what its realm and itself lead to
-pub outcome-call : (s : State) (cpu : ℕ) (c d : Call) (realm : RealmRecord) (rec : RecRecord) (given : Result RecStep Reply)
-    → IsTrue (is_inside s cpu) → IsHeld s (rec_inside s cpu) realm rec → is_none rec.pending ≡ true → c ≡ d → class_of d ≡ ByRealm
-    → (realm_at s (rec_at s (rec_inside s cpu)).owner ≡ realm
-    → answer_at (rec_at s (rec_inside s cpu)).owner (rec_inside s cpu) given ≡ answer_of s cpu d)
-    → answer_at rec.owner (rec_inside s cpu) given ≡ outcome s cpu c
-unfolding outcome
-outcome-call s cpu c d realm rec given inside held free is class answered =
-    let address = rec_inside s cpu in
-    let here = rec_at-held s address rec held.has_rec in
-    let calls : is_none (rec_at s address).pending ≡ true = ap (λ (r : RecRecord). is_none r.pending) here ∙ free in
-    let placed : is_placed s cpu (class_of d) ≡ true = ap (is_placed s cpu) class ∙ and_from (is_inside s cpu) _ inside calls in
-    ap (λ (r : RecRecord). answer_at r.owner address given) (sym here)
-    ∙ answered (realm_at-IsHeld s address realm rec held)
-    ∙ when_true (is_placed s cpu (class_of d)) (answer_of s cpu d) (Err reply.Misplaced) placed
-    ∙ ap (outcome s cpu) (sym is)
+-- a REC with no exit pending is answered by its rows, and gives no host's command
+pub outcome-row : (s : State) (cpu : ℕ) (c : Call) (realm : RealmRecord) (rec : RecRecord) → IsTrue (is_inside s cpu)
+    → IsHeld s (rec_inside s cpu) realm rec → is_none rec.pending ≡ true → (c ≡ call.Exit → ⊥) → call_row s (rec_inside s cpu) c ≡ outcome s cpu c
+unfolding outcome answer_of class_of call_row
+outcome-row s cpu c realm rec inside held free other = by c other
+  where
+    placed : is_placed s cpu ByRealm ≡ true
+    placed = and_from (is_inside s cpu) _ inside (ap (λ (r : RecRecord). is_none r.pending) (rec_at-held s (rec_inside s cpu) rec held.has_rec) ∙ free)
+
+    by : (d : Call) → (d ≡ call.Exit → ⊥) → call_row s (rec_inside s cpu) d ≡ outcome s cpu d
+    by (call.MeasurementRead index) other = when_true (is_placed s cpu ByRealm) _ _ placed
+    by (call.MeasurementExtend index size values) other = when_true (is_placed s cpu ByRealm) _ _ placed
+    by call.RealmConfig other = when_true (is_placed s cpu ByRealm) _ _ placed
+    by (call.IpaStateSet base top ripas) other = when_true (is_placed s cpu ByRealm) _ _ placed
+    by (call.IpaStateGet ipa) other = when_true (is_placed s cpu ByRealm) _ _ placed
+    by (call.HostCall imm) other = when_true (is_placed s cpu ByRealm) _ _ placed
+    by call.CpuOff other = when_true (is_placed s cpu ByRealm) _ _ placed
+    by call.SystemOff other = when_true (is_placed s cpu ByRealm) _ _ placed
+    by call.Exit other = absurd (other refl)
+    by _ other = when_false (is_placed s cpu ByHost) _ _ (ap not inside)
 
 -- only Exit is given while an exit is pending
 exit_class : (c : Call) → class_of c ≡ ByExit → c ≡ call.Exit
@@ -178,30 +182,6 @@ unfolding outcome
 outcome-pending s cpu c rec inside held waits other =
     when_false (is_placed s cpu (class_of c)) (answer_of s cpu c) (Err reply.Misplaced)
     (pending_misplaced s cpu rec (class_of c) inside held waits (λ class. other (exit_class c class)))
-
--- what is neither a realm call nor Exit is a host's command
-pub host_class : (c : Call) → (c ≡ call.Exit → ⊥) → ((index : ℕ) → c ≡ call.MeasurementRead index → ⊥)
-    → ((index size : ℕ) (values : List ℕ) → c ≡ call.MeasurementExtend index size values → ⊥) → (c ≡ call.RealmConfig → ⊥)
-    → ((base top ripas : ℕ) → c ≡ call.IpaStateSet base top ripas → ⊥) → ((ipa : ℕ) → c ≡ call.IpaStateGet ipa → ⊥)
-    → ((imm : ℕ) → c ≡ call.HostCall imm → ⊥) → (c ≡ call.CpuOff → ⊥) → (c ≡ call.SystemOff → ⊥) → class_of c ≡ ByHost
-unfolding class_of
-host_class call.Exit exit read extend config set get host off system = absurd (exit refl)
-host_class (call.MeasurementRead index) exit read extend config set get host off system = absurd (read index refl)
-host_class (call.MeasurementExtend index size values) exit read extend config set get host off system =
-    absurd (extend index size values refl)
-host_class call.RealmConfig exit read extend config set get host off system = absurd (config refl)
-host_class (call.IpaStateSet base top ripas) exit read extend config set get host off system = absurd (set base top ripas refl)
-host_class (call.IpaStateGet ipa) exit read extend config set get host off system = absurd (get ipa refl)
-host_class (call.HostCall imm) exit read extend config set get host off system = absurd (host imm refl)
-host_class call.CpuOff exit read extend config set get host off system = absurd (off refl)
-host_class call.SystemOff exit read extend config set get host off system = absurd (system refl)
-host_class _ exit read extend config set get host off system = refl
-
--- a host's command isn't given inside
-pub outcome-host : (s : State) (cpu : ℕ) (c : Call) → IsTrue (is_inside s cpu) → class_of c ≡ ByHost → Err reply.Misplaced ≡ outcome s cpu c
-unfolding outcome
-outcome-host s cpu c inside class =
-    when_false (is_placed s cpu (class_of c)) (answer_of s cpu c) (Err reply.Misplaced) (ap (is_placed s cpu) class ∙ ap not inside)
 
 -- a REC leaves, and its host is told why
 pub answered_exit : (s : State) (cpu : ℕ) (c : Call) (rec : RecRecord) (words : ArrayVec ℕ) → c ≡ call.Exit → IsTrue (is_inside s cpu)

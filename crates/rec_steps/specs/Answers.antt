@@ -3,7 +3,7 @@ use Rattle.std.specs.Prelude.{◌≡◌, ℕ, Bool, true, false, ◌&&◌, Resul
 use Rattle.rmm_spec.specs.declared.accepted.Accepted.{Accepted}
 use Rattle.rmm_spec.specs.declared.accepted.Accepted.TheVariants.{Done}
 use Rattle.rmm_spec.specs.declared.call.Call.{Call}
-use Rattle.rmm_spec.specs.declared.call.Call.TheVariants.{IpaStateGet}
+use Rattle.rmm_spec.specs.declared.call.Call.TheVariants.{MeasurementRead, MeasurementExtend, RealmConfig, IpaStateSet, IpaStateGet, HostCall, CpuOff, SystemOff}
 use Rattle.rmm_spec.specs.declared.change.Change.{Change}
 use Rattle.rmm_spec.specs.declared.change.Change.TheVariants.{Unchanged, RecordsChanged}
 use Rattle.rmm_spec.specs.declared.change.RealmUpdate.{RealmUpdate}
@@ -14,6 +14,7 @@ use Rattle.rmm_spec.specs.declared.tag.Ripas.{Ripas}
 use Rattle.rmm_spec.specs.Applicable.{IsRealmUpdate}
 use Rattle.rmm_spec.specs.Change.{realm_updated, rec_updated}
 use Rattle.rmm_spec.specs.State.{State, RealmRecord, RecRecord}
+use Rattle.rmm_spec.specs.Step.RealmCall.{measurement_read, measurement_extend, realm_config, ipa_state_set, ipa_state_get, host_call, cpu_off, system_off}
 use Rattle.rmm_spec.specs.Walk.{walk, entry_ripas, is_protected}
 use Rattle.realm_desc.specs.Updates.{IsRecUpdate}
 use Rattle.rec_steps.specs.declared.step.RecStep.{RecStep}
@@ -37,6 +38,18 @@ abbrev pub answer_at : ℕ → ℕ → Result RecStep Reply → Result Accepted 
 answer_at rd rec (Ok step) = Ok (accepted_at rd rec step)
 answer_at rd rec (Err refusal) = Err refusal
 
+-- what a realm's call is answered by its rows, to the REC at an address
+unfoldable pub call_row : State → ℕ → Call → Result Accepted Reply
+call_row s rec (MeasurementRead index) = measurement_read s rec index
+call_row s rec (MeasurementExtend index size values) = measurement_extend s rec index size values
+call_row s rec RealmConfig = realm_config s rec
+call_row s rec (IpaStateSet base top ripas) = ipa_state_set s rec base top ripas
+call_row s rec (IpaStateGet ipa) = ipa_state_get s rec ipa
+call_row s rec (HostCall imm) = host_call s rec imm
+call_row s rec CpuOff = cpu_off s rec
+call_row s rec SystemOff = system_off s rec
+call_row s rec _ = Err reply.Misplaced
+
 abbrev pub is_refusal : Reply → Bool
 is_refusal (reply.Ok words) = false
 is_refusal (reply.Err status index) = true
@@ -44,7 +57,12 @@ is_refusal reply.Misplaced = true
 
 -- ---- what is read
 
--- whether the command of a CPU inside the REC reads an entry: an IPA_STATE_GET with good words, with no exit pending
+-- whether the call reads an entry: an IPA_STATE_GET with good words
+abbrev pub is_read : RealmRecord → Call → Bool
+is_read realm (IpaStateGet ipa) = is_protected realm ipa
+is_read realm _ = false
+
+-- whether the command of a CPU inside the REC reads one, with no exit pending
 abbrev pub is_walk : RealmRecord → RecRecord → Call → Bool
 is_walk realm rec (IpaStateGet ipa) = is_none rec.pending && is_protected realm ipa
 is_walk realm rec _ = false

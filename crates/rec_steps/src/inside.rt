@@ -3,20 +3,19 @@
 ghost use Rattle.std.specs.Prelude.{◌≡◌, ℕ, IfOk, IfSome, IsTrue, is_some};
 ghost use Rattle.rmm_spec.specs.Call.{call_of};
 ghost use Rattle.rmm_spec.specs.State.{State};
-ghost use Rattle.rmm_spec.specs.Lookup.{is_inside, rec_inside};
+ghost use Rattle.rmm_spec.specs.Lookup.{is_inside, rec_inside, realm_at, rec_at};
 ghost use Rattle.rmm_spec.specs.Step.{Step, outcome};
 ghost use Rattle.rmm_spec.specs.Update.{with_realm, with_rec};
-ghost use Rattle.rec_steps.specs.Answers.{answer_at, is_refusal, is_walk, IsRipasRead, IsStep};
+ghost use Rattle.rec_steps.specs.Answers.{answer_at, call_row, is_refusal, is_read, is_walk, IsRipasRead, IsStep};
 ghost use Rattle.rec_steps.specs.Held.{IsHeld};
 
 use crate::ipa_state::{ipa_state_get, ipa_state_set};
-use crate::leaving::{cpu_off, exit_words, host_call, system_off};
+use crate::leaving::{answer_to_exit, cpu_off, host_call, system_off};
 use crate::measurement::{measurement_extend, measurement_read};
 use crate::realm_config::config_of;
-use crate::reply::reply_words;
 use crate::step::RecStep;
 use realm_desc::{Realm, Rec};
-use rmm_spec::{Call, Command, RecUpdate, Reply, Ripas};
+use rmm_spec::{Call, Command, Reply, Ripas};
 
 /// Whether the command of a CPU inside the REC reads an entry, whose RIPAS is then to be handed in.
 pub fn walks(realm: &Realm, rec: &Rec, command: &Command) -> bool
@@ -42,15 +41,24 @@ pub fn answer_inside(
     ensures fits { IfOk result IsStep }
 {
     if let Call::Exit = call {
-        return Ok(RecStep {
-            words: reply_words(&exit_words(rec)),
-            realm: None,
-            rec: Some(RecUpdate::Exited),
-        });
+        return Ok(answer_to_exit(rec));
     }
     if !rec.can_call() {
         return Err(Reply::Misplaced);
     }
+    answer_to_call(realm, call, ripas)
+}
+
+/// What is answered to a realm's call of a REC that doesn't wait to leave. Where the call reads an entry, the RIPAS is that
+/// entry's.
+#[tactic(auto, unfolding(crate::specs::Answers::call_row))]
+pub fn answer_to_call(realm: &Realm, call: &Call, ripas: Option<Ripas>) -> Result<RecStep, Reply>
+    requires { IsTrue (is_read realm.now call.now) → IsTrue (is_some ripas) }
+    ensures answer { (s : State) (address : ℕ) → realm_at s (rec_at s address).owner ≡ realm.now
+        → IfSome ripas (IsRipasRead s (rec_at s address).owner call.now)
+        → answer_at (rec_at s address).owner address result ≡ call_row s address call.now }
+    ensures fits { IfOk result IsStep }
+{
     match call {
         Call::MeasurementRead { index } => measurement_read(realm, *index),
         Call::MeasurementExtend {

@@ -1,7 +1,8 @@
 //! A REC asks to leave to its host, and leaves.
 
-ghost use Rattle.std.specs.Prelude.{◌≡◌, ℕ, IfOk, IsTrue, Some};
+ghost use Rattle.std.specs.Prelude.{◌≡◌, ℕ, IfOk, IsTrue, Some, None};
 ghost use Rattle.rmm_spec.specs.declared.call.Call.TheVariants as call;
+ghost use Rattle.rmm_spec.specs.declared.change.RecUpdate.TheVariants as update;
 ghost use Rattle.rmm_spec.specs.declared.command.Command.{Command};
 ghost use Rattle.rmm_spec.specs.Call.{call_of};
 ghost use Rattle.rmm_spec.specs.State.{State};
@@ -49,9 +50,20 @@ pub(crate) fn system_off() -> Result<RecStep, Reply>
     })
 }
 
-/// Why the REC leaves, as its host is told.
+/// What is answered where the REC, which runs, is to leave: why it does, as its host is told.
+pub fn answer_to_exit(rec: &Rec) -> RecStep
+    ensures { result ≡ record { words = record { items = exit_words (request_of rec.now) rec.now.pending }; realm = None; rec = Some update.Exited } }
+{
+    RecStep {
+        words: reply_words(&exit_words(rec)),
+        realm: None,
+        rec: Some(RecUpdate::Exited),
+    }
+}
+
+// Why the REC leaves, as its host is told.
 #[tactic(auto, unfolding(realm_desc::specs::View::rec_record))]
-pub(crate) fn exit_words(rec: &Rec) -> [u64; 4]
+fn exit_words(rec: &Rec) -> [u64; 4]
     ensures { result ≡ exit_words (request_of rec.now) rec.now.pending }
 {
     match rec.pending {

@@ -1,8 +1,6 @@
 use Rattle.std.proofs.Common.{◌≡◌, rules, ◌∙◌}
-use Rattle.std.specs.Prelude.{Result, Ok, Err, Some, None}
-use Rattle.rmm_spec.specs.declared.accepted.Accepted.{Accepted}
+use Rattle.std.specs.Prelude.{Ok, Err, Some, None}
 use Rattle.rmm_spec.specs.declared.change.RecUpdate.TheVariants.{Entered}
-use Rattle.rmm_spec.specs.declared.reply.Reply.{Reply}
 use Rattle.rec_steps.specs.Answers.{accepted_at}
 use Rattle.rec_steps.specs.declared.step.RecStep.{RecStep}
 use Rattle.rec_steps.proofs.Steps.{enter_rows, rec_enter-IsHeld}
