@@ -7,15 +7,15 @@ use Rattle.rmm_spec.specs.declared.entry.Entry.{Entry}
 use Rattle.rmm_spec.specs.declared.entry.Entry.TheVariants.{Unassigned, Assigned, Table, UnassignedNs, AssignedNs}
 use Rattle.rmm_spec.specs.State.{State}
 use Rattle.rmm_spec.specs.Lookup.{any_below, all_below}
-use Rattle.rmm_spec.specs.Walk.{is_table, is_live, linked_entry, entry_at, is_in_use, has_link}
+use Rattle.rmm_spec.specs.Walk.{is_table, is_live, linked_entry, entry_at, is_in_use}
 use Rattle.flat_tables.specs.declared.kept_table.KeptTable.{KeptTable}
 use Rattle.flat_tables.specs.declared.tables.Tables.{Tables}
-use Rattle.flat_tables.specs.Flat.{kept_at, leaf_in, leaf_of, link_of, with_maps}
+use Rattle.flat_tables.specs.Flat.{kept_at, leaf_in, leaf_of, leaf_found, link_of, with_maps}
 
 -- the entry in a table that is kept, or isn't
 pub entry-in : (s : State) (tables : Tables) (rd level number : ℕ) (found : Option KeptTable) → found ≡ kept_at tables rd level (number / 512)
     → entry_at (with_maps s tables) rd level number ≡ linked_entry (link_of tables rd level number) (option_and_then (leaf_in (number % 512)) found)
-unfolding entry_at leaf_of
+unfolding entry_at leaf_found
 entry-in s tables rd level number found is = rw is refl
 
 -- the same, from what is looked up
@@ -100,32 +100,3 @@ pub in_use-none : (s : State) (rd level number n : ℕ) → n ≡ 512 → any_be
     → false ≡ is_in_use s rd level number
 unfolding is_in_use
 in_use-none s rd level number n all none = sym (rw all at none)
-
--- whether an entry links to a table, where that table is looked up
-linked-by : (s : State) (tables : Tables) (rd level number : ℕ) (below : Option ℕ) (b : Bool) → below ≡ link_of tables rd level number
-    → b ≡ is_some below → is_table (entry_at (with_maps s tables) rd level number) ≡ b
-linked-by s tables rd level number below b is test =
-    is_table-entry_at s tables rd level number ∙ ap (λ (found : Option ℕ). is_some found) (sym is) ∙ sym test
-
--- one entry links to a table
-pub link-found : (s : State) (tables : Tables) (rd level number k : ℕ) (below : Option ℕ) → k < 512 → below ≡ link_of tables rd level (512 * number + k)
-    → true ≡ is_some below → true ≡ has_link (with_maps s tables) rd level number
-unfolding has_link
-link-found s tables rd level number k below within is test =
-    sym (any_below-found (λ n. is_table (entry_at (with_maps s tables) rd level (512 * number + n))) k 512 within
-    (linked-by s tables rd level (512 * number + k) below true is test))
-
--- one more entry that doesn't
-pub link-more : (s : State) (tables : Tables) (rd level number k : ℕ) (below : Option ℕ)
-    → any_below k (λ n. is_table (entry_at (with_maps s tables) rd level (512 * number + n))) ≡ false
-    → below ≡ link_of tables rd level (512 * number + k) → false ≡ is_some below
-    → any_below (k + 1) (λ n. is_table (entry_at (with_maps s tables) rd level (512 * number + n))) ≡ false
-link-more s tables rd level number k below none is test =
-    any_below-more (λ n. is_table (entry_at (with_maps s tables) rd level (512 * number + n))) k none
-    (linked-by s tables rd level (512 * number + k) below false is test)
-
--- no entry does
-pub link-none : (s : State) (rd level number n : ℕ) → n ≡ 512 → any_below n (λ k. is_table (entry_at s rd level (512 * number + k))) ≡ false
-    → false ≡ has_link s rd level number
-unfolding has_link
-link-none s rd level number n all none = sym (rw all at none)

@@ -1,5 +1,7 @@
 mod Commands
+mod Counts
 mod EntryReads
+mod Linked
 mod Paths
 mod Runs
 mod Sizes

@@ -9,9 +9,9 @@ use Rattle.rmm_spec.specs.State.{State}
 use Rattle.rmm_spec.specs.Walk.{entry_size, table_number, entry_number, entry_for, linked_entry, reach, walk}
 use Rattle.flat_tables.specs.declared.kept_table.KeptTable.{KeptTable}
 use Rattle.flat_tables.specs.declared.tables.Tables.{Tables}
-use Rattle.flat_tables.specs.Flat.{kept_at, leaf_in, table_of, link_of, with_maps}
+use Rattle.flat_tables.specs.Flat.{kept_at, kept_in, leaf_in, table_of, table_found, link_of, with_maps}
 use Rattle.flat_tables.proofs.EntryReads.{entry-in}
-use Rattle.flat_tables.proofs.Updates.{table_of-absent}
+use Rattle.flat_tables.proofs.Updates.{table_found-absent}
 
 -- a table's number is that of its entries over 512
 table_number-over : (level ipa : ℕ) → level ≤ 3 → table_number level ipa ≡ entry_number level ipa / 512
@@ -22,7 +22,7 @@ table_number-over level ipa within =
 
 -- the table that is kept there has its granule
 table_of-there : (tables : Tables) (rd level number : ℕ) (kept : KeptTable) → kept_at tables rd level number ≡ Some kept → table_of tables rd level number ≡ Some kept.granule
-unfolding table_of
+unfolding table_found
 table_of-there tables rd level number kept there = rw there refl
 
 -- ---- where the walk ends
@@ -63,7 +63,7 @@ walk-kept s tables rd ipa level kept below entry within there link is_entry =
 pub table-absent : (tables : Tables) (rd level ipa : ℕ) → level ≤ 3 → kept_at tables rd level (entry_number level ipa / 512) ≡ None
     → table_of tables rd level (table_number level ipa) ≡ None
 table-absent tables rd level ipa within absent =
-    rw (table_number-over level ipa within) (table_of-absent tables rd level (entry_number level ipa / 512) absent)
+    rw (table_number-over level ipa within) (table_found-absent (kept_in tables) rd level (entry_number level ipa / 512) absent)
 
 -- a walk that finds no table at all
 pub walk-absent : (s : State) (tables : Tables) (rd ipa level : ℕ) (below : Option ℕ) (entry : Entry) → level ≤ 3 → level ≡ 0

@@ -7,11 +7,11 @@ use Rattle.rmm_spec.specs.declared.tag.Ripas.{Ripas}
 use Rattle.rmm_spec.specs.State.{State}
 use Rattle.rmm_spec.specs.Update.{is_same_entry, entry_with_ripas, with_ripas}
 use Rattle.flat_tables.specs.declared.kept_table.KeptTable.{KeptTable}
-use Rattle.flat_tables.specs.declared.tables.Tables.{Tables}
-use Rattle.flat_tables.specs.Flat.{kept_at, leaf_in, granule_of, table_of, leaf_of, with_maps}
+use Rattle.flat_tables.specs.Flat.{found_at, leaf_in, granule_of, table_found, leaf_found, with_found}
+use Rattle.flat_tables.specs.Links.{Kept}
 use Rattle.flat_tables.proofs.Spots.{is_same_entry-parts}
 use Rattle.flat_tables.proofs.Commands.{same_maps}
-use Rattle.flat_tables.proofs.Updates.{IsPut, kept_at-put, table-leaf-by}
+use Rattle.flat_tables.proofs.Updates.{IsPut, found_at-put, table-leaf-by}
 
 -- a run of a list's leaves is changed, from one place up to but not another
 pub record IsRun (old new : List (Option Entry)) (from to : ℕ) (ripas : Ripas) : Type 0 where
@@ -36,18 +36,18 @@ run-leaf-by : (level first last n : ℕ) (ripas : Ripas) (before after : KeptTab
 run-leaf-by level first last n ripas before after found test run false was is_test = rw is_test refl
 run-leaf-by level first last n ripas before after found test run true was is_test = rw (is_test, was refl) (run.each (n % 512))
 
-pub ripas_set : (s : State) (old new : Tables) (rd level first last : ℕ) (ripas : Ripas) (before after : KeptTable)
+pub ripas_set : (s : State) (old new : Kept) (rd level first last : ℕ) (ripas : Ripas) (before after : KeptTable)
     → first ≤ last → last ≤ (first / 512 + 1) * 512
-    → kept_at old rd level (first / 512) ≡ Some before → after.granule ≡ before.granule
+    → found_at old rd level (first / 512) ≡ Some before → after.granule ≡ before.granule
     → IsRun before.leaves.items after.leaves.items (first % 512) (first % 512 + (last - first)) ripas
-    → IsPut old new rd level (first / 512) (Some after) → with_maps s new ≡ with_ripas (with_maps s old) rd level first last ripas
-unfolding table_of leaf_of
+    → IsPut old new rd level (first / 512) (Some after) → with_found s new ≡ with_ripas (with_found s old) rd level first last ripas
+unfolding table_found leaf_found
 ripas_set s old new rd level first last ripas before after order one_table was same run put =
-    same_maps s new (table_of old)
-    (λ other l n. if other == rd && l == level && nat_le first n && nat_lt n last then option_map (entry_with_ripas ripas) (leaf_of old other l n) else leaf_of old other l n)
-    (λ other l n. ap (option_map granule_of) (kept_at-put old new rd level (first / 512) (Some after) put other l n)
+    same_maps s new (table_found old)
+    (λ other l n. if other == rd && l == level && nat_le first n && nat_lt n last then option_map (entry_with_ripas ripas) (leaf_found old other l n) else leaf_found old other l n)
+    (λ other l n. ap (option_map granule_of) (found_at-put old new rd level (first / 512) (Some after) put other l n)
     ∙ table-leaf-by old new rd level (first / 512) before after was same other l n _ refl)
-    (λ other l n. ap (option_and_then (leaf_in (n % 512))) (kept_at-put old new rd level (first / 512) (Some after) put other l (n / 512))
-    ∙ run-leaf-by level first last n ripas before after (kept_at old other l (n / 512)) _ run (is_same_entry rd level (first / 512) other l (n / 512))
+    (λ other l n. ap (option_and_then (leaf_in (n % 512))) (found_at-put old new rd level (first / 512) (Some after) put other l (n / 512))
+    ∙ run-leaf-by level first last n ripas before after (found_at old other l (n / 512)) _ run (is_same_entry rd level (first / 512) other l (n / 512))
     (λ here. let at = is_same_entry-parts rd level (first / 512) other l (n / 512) here in rw (at.0, at.1, at.2) was)
     (in-run rd level first last other l n order one_table))

@@ -3,7 +3,7 @@ use Rattle.std.proofs.Common.{◌≡◌, ℕ, ◌+◌, ◌-◌, ◌/◌, ◌%◌
 use Rattle.std.proofs.lemmas.Bool.{and_parts, and_left, and_right, eqb-true, eq-eqb, ne_eqb}
 use Rattle.std.proofs.lemmas.Bool.Decides.{nat_tests}
 use Rattle.rmm_spec.specs.Update.{is_same_entry}
-use Rattle.flat_tables.specs.Flat.{is_same_spot, spot}
+use Rattle.flat_tables.specs.Links.{is_same_spot, spot}
 
 -- a spot is itself
 pub is_same_entry-same : (rd level number : ℕ) → is_same_entry rd level number rd level number ≡ true

@@ -4,25 +4,24 @@ use Rattle.std.proofs.lemmas.Bool.{eq-eqb, eqb-true}
 use Rattle.std.proofs.lemmas.Grind.{get_or-set_at}
 use Rattle.std.proofs.lemmas.List.{get_or-set_other}
 use Rattle.rmm_spec.proofs.Tests.{both_ways}
-use Rattle.std.specs.HashMap.{get}
 use Rattle.std.specs.Option.{option_and_then}
 use Rattle.rmm_spec.specs.declared.entry.Entry.{Entry}
 use Rattle.rmm_spec.specs.State.{State}
 use Rattle.rmm_spec.specs.Update.{is_same_entry}
 use Rattle.flat_tables.specs.declared.kept_table.KeptTable.{KeptTable}
 use Rattle.flat_tables.specs.declared.spot.Spot.{Spot}
-use Rattle.flat_tables.specs.declared.tables.Tables.{Tables}
-use Rattle.flat_tables.specs.Flat.{is_same_spot, spot, kept_at, leaf_in, granule_of, table_of, leaf_of, with_maps, IsReplaced}
+use Rattle.flat_tables.specs.Flat.{found_at, leaf_in, granule_of, table_found, leaf_found, with_found, IsReplaced}
+use Rattle.flat_tables.specs.Links.{is_same_spot, spot, Kept}
 use Rattle.flat_tables.proofs.Spots.{is_same_spot-spot, is_same_entry-parts, is_same_entry-entry}
 
 -- what is kept at one spot is replaced
-pub record IsPut (old new : Tables) (rd level number : ℕ) (kept : Option KeptTable) : Type 0 where
-  pub each : (q : Spot) → get is_same_spot new.kept q ≡ cond (is_same_spot (spot rd level number) q) kept (get is_same_spot old.kept q)
+pub record IsPut (old new : Kept) (rd level number : ℕ) (kept : Option KeptTable) : Type 0 where
+  pub each : (q : Spot) → new q ≡ cond (is_same_spot (spot rd level number) q) kept (old q)
 
 -- the kept table at a spot, by whether it is the one that was replaced
-pub kept_at-put : (old new : Tables) (rd level number : ℕ) (kept : Option KeptTable) → IsPut old new rd level number kept
-    → (other l n : ℕ) → kept_at new other l n ≡ (if is_same_entry rd level number other l n then kept else kept_at old other l n)
-kept_at-put old new rd level number kept put other l n =
+pub found_at-put : (old new : Kept) (rd level number : ℕ) (kept : Option KeptTable) → IsPut old new rd level number kept
+    → (other l n : ℕ) → found_at new other l n ≡ (if is_same_entry rd level number other l n then kept else found_at old other l n)
+found_at-put old new rd level number kept put other l n =
     let e = put.each (spot other l n) in
     rw (← is_same_spot-spot rd level number other l n) e
 
@@ -32,38 +31,38 @@ chosen-after f true x y = refl
 chosen-after f false x y = refl
 
 -- what the flat maps are then
-pub replaced : (old new : Tables) (rd level number : ℕ) (kept : Option KeptTable) → IsPut old new rd level number kept → IsReplaced old new rd level number kept
-unfolding table_of leaf_of
+pub replaced : (old new : Kept) (rd level number : ℕ) (kept : Option KeptTable) → IsPut old new rd level number kept → IsReplaced old new rd level number kept
+unfolding table_found leaf_found
 replaced old new rd level number kept put = record {
   tables = λ other l n.
-      ap (option_map granule_of) (kept_at-put old new rd level number kept put other l n)
-      ∙ chosen-after (option_map granule_of) (is_same_entry rd level number other l n) kept (kept_at old other l n);
+      ap (option_map granule_of) (found_at-put old new rd level number kept put other l n)
+      ∙ chosen-after (option_map granule_of) (is_same_entry rd level number other l n) kept (found_at old other l n);
   leaves = λ other l n.
-      ap (option_and_then (leaf_in (n % 512))) (kept_at-put old new rd level number kept put other l (n / 512))
-      ∙ chosen-after (option_and_then (leaf_in (n % 512))) (is_same_entry rd level number other l (n / 512)) kept (kept_at old other l (n / 512));
+      ap (option_and_then (leaf_in (n % 512))) (found_at-put old new rd level number kept put other l (n / 512))
+      ∙ chosen-after (option_and_then (leaf_in (n % 512))) (is_same_entry rd level number other l (n / 512)) kept (found_at old other l (n / 512));
 }
 
 -- where the same entries are kept the flat maps are the same
-pub unchanged : (s : State) (old new : Tables) → new.kept.entries ≡ old.kept.entries → with_maps s new ≡ with_maps s old
-unfolding table_of leaf_of
+pub unchanged : (s : State) (old new : Kept) → new ≡ old → with_found s new ≡ with_found s old
+unfolding table_found leaf_found
 unchanged s old new same = rw same refl
 
 -- a table that isn't kept has no granule and no leaf
-pub table_of-absent : (tables : Tables) (rd level number : ℕ) → kept_at tables rd level number ≡ None → table_of tables rd level number ≡ None
-unfolding table_of
-table_of-absent tables rd level number absent = rw absent refl
+pub table_found-absent : (tables : Kept) (rd level number : ℕ) → found_at tables rd level number ≡ None → table_found tables rd level number ≡ None
+unfolding table_found
+table_found-absent tables rd level number absent = rw absent refl
 
-pub leaf_of-absent : (tables : Tables) (rd level number : ℕ) → kept_at tables rd level (number / 512) ≡ None → leaf_of tables rd level number ≡ None
-unfolding leaf_of
-leaf_of-absent tables rd level number absent = rw absent refl
+pub leaf_found-absent : (tables : Kept) (rd level number : ℕ) → found_at tables rd level (number / 512) ≡ None → leaf_found tables rd level number ≡ None
+unfolding leaf_found
+leaf_found-absent tables rd level number absent = rw absent refl
 
 -- ---- a leaf is replaced
 
 -- the table that was replaced lies in the same granule
-pub table-leaf-by : (old new : Tables) (rd level number : ℕ) (before after : KeptTable)
-    → kept_at old rd level number ≡ Some before → after.granule ≡ before.granule
+pub table-leaf-by : (old new : Kept) (rd level number : ℕ) (before after : KeptTable)
+    → found_at old rd level number ≡ Some before → after.granule ≡ before.granule
     → (other l n : ℕ) (b : Bool) → is_same_entry rd level number other l n ≡ b
-    → option_map granule_of (if b then Some after else kept_at old other l n) ≡ option_map granule_of (kept_at old other l n)
+    → option_map granule_of (if b then Some after else found_at old other l n) ≡ option_map granule_of (found_at old other l n)
 table-leaf-by old new rd level number before after was same other l n false apart = refl
 table-leaf-by old new rd level number before after was same other l n true here =
     let at : (other ≡ rd) × (l ≡ level) × (n ≡ number) = is_same_entry-parts rd level number other l n here in
@@ -90,37 +89,37 @@ leaf-leaf-by rd level number leaf before after found written other l n true test
     (written-by before.leaves.items (number % 512) (n % 512) leaf place (n % 512 == number % 512) refl)
 
 -- what the flat maps are where a leaf is put into a table that is there
-pub record IsLeafPut (old new : Tables) (rd level number : ℕ) (leaf : Option Entry) : Type 0 where
-  pub tables : (other l n : ℕ) → table_of new other l n ≡ table_of old other l n
-  pub leaves : (other l n : ℕ) → leaf_of new other l n ≡ (if is_same_entry rd level number other l n then leaf else leaf_of old other l n)
+pub record IsLeafPut (old new : Kept) (rd level number : ℕ) (leaf : Option Entry) : Type 0 where
+  pub tables : (other l n : ℕ) → table_found new other l n ≡ table_found old other l n
+  pub leaves : (other l n : ℕ) → leaf_found new other l n ≡ (if is_same_entry rd level number other l n then leaf else leaf_found old other l n)
 
-pub leaf_put : (old new : Tables) (rd level number : ℕ) (leaf : Option Entry) (before after : KeptTable)
-    → kept_at old rd level (number / 512) ≡ Some before → after.granule ≡ before.granule
+pub leaf_put : (old new : Kept) (rd level number : ℕ) (leaf : Option Entry) (before after : KeptTable)
+    → found_at old rd level (number / 512) ≡ Some before → after.granule ≡ before.granule
     → after.leaves.items ≡ slice_set before.leaves.items (number % 512) leaf
     → IsPut old new rd level (number / 512) (Some after) → IsLeafPut old new rd level number leaf
-unfolding table_of leaf_of
+unfolding table_found leaf_found
 leaf_put old new rd level number leaf before after was same written put = record {
   tables = λ other l n.
-      ap (option_map granule_of) (kept_at-put old new rd level (number / 512) (Some after) put other l n)
+      ap (option_map granule_of) (found_at-put old new rd level (number / 512) (Some after) put other l n)
       ∙ table-leaf-by old new rd level (number / 512) before after was same other l n _ refl;
   leaves = λ other l n.
-      ap (option_and_then (leaf_in (n % 512))) (kept_at-put old new rd level (number / 512) (Some after) put other l (n / 512))
-      ∙ leaf-leaf-by rd level number leaf before after (kept_at old other l (n / 512)) written other l n _ refl
+      ap (option_and_then (leaf_in (n % 512))) (found_at-put old new rd level (number / 512) (Some after) put other l (n / 512))
+      ∙ leaf-leaf-by rd level number leaf before after (found_at old other l (n / 512)) written other l n _ refl
       (λ here. let at = is_same_entry-parts rd level (number / 512) other l (n / 512) here in rw (at.0, at.1, at.2) was);
 }
 
 -- where the same is kept the flat maps are the same
-table_of-kept : (old new : Tables) (other l n : ℕ) → new.kept ≡ old.kept → table_of new other l n ≡ table_of old other l n
-unfolding table_of
-table_of-kept old new other l n same = rw same refl
+table_found-kept : (old new : Kept) (other l n : ℕ) → new ≡ old → table_found new other l n ≡ table_found old other l n
+unfolding table_found
+table_found-kept old new other l n same = rw same refl
 
-leaf_of-kept : (old new : Tables) (other l n : ℕ) → new.kept ≡ old.kept → leaf_of new other l n ≡ leaf_of old other l n
-unfolding leaf_of
-leaf_of-kept old new other l n same = rw same refl
+leaf_found-kept : (old new : Kept) (other l n : ℕ) → new ≡ old → leaf_found new other l n ≡ leaf_found old other l n
+unfolding leaf_found
+leaf_found-kept old new other l n same = rw same refl
 
 -- nothing is changed where a leaf is taken out of a table that isn't there
-absent-by : (old : Tables) (rd level number other l n : ℕ) (leaf : Option Entry) → leaf ≡ None → leaf_of old rd level number ≡ None
-    → (b : Bool) → is_same_entry rd level number other l n ≡ b → leaf_of old other l n ≡ (if b then leaf else leaf_of old other l n)
+absent-by : (old : Kept) (rd level number other l n : ℕ) (leaf : Option Entry) → leaf ≡ None → leaf_found old rd level number ≡ None
+    → (b : Bool) → is_same_entry rd level number other l n ≡ b → leaf_found old other l n ≡ (if b then leaf else leaf_found old other l n)
 absent-by old rd level number other l n leaf none absent false apart = refl
 absent-by old rd level number other l n leaf none absent true here =
     let at : (other ≡ rd) × (l ≡ level) × (n ≡ number) = is_same_entry-parts rd level number other l n here in
@@ -131,12 +130,12 @@ none-of : (leaf : Option Entry) (table : Option ℕ) → (IsSome leaf → IsSome
 none-of None table there absent = refl
 none-of (Some entry) table there absent = both_ways (there refl) (rw absent refl)
 
-pub leaf_put_absent : (old new : Tables) (rd level number : ℕ) (leaf : Option Entry) → (IsSome leaf → IsSome (table_of old rd level (number / 512)))
-    → kept_at old rd level (number / 512) ≡ None → new.kept ≡ old.kept → IsLeafPut old new rd level number leaf
+pub leaf_put_absent : (old new : Kept) (rd level number : ℕ) (leaf : Option Entry) → (IsSome leaf → IsSome (table_found old rd level (number / 512)))
+    → found_at old rd level (number / 512) ≡ None → new ≡ old → IsLeafPut old new rd level number leaf
 leaf_put_absent old new rd level number leaf there absent same = record {
-  tables = λ other l n. table_of-kept old new other l n same;
-  leaves = λ other l n. leaf_of-kept old new other l n same
+  tables = λ other l n. table_found-kept old new other l n same;
+  leaves = λ other l n. leaf_found-kept old new other l n same
       ∙ absent-by old rd level number other l n leaf
-      (none-of leaf (table_of old rd level (number / 512)) there (table_of-absent old rd level (number / 512) absent))
-      (leaf_of-absent old rd level number absent) _ refl;
+      (none-of leaf (table_found old rd level (number / 512)) there (table_found-absent old rd level (number / 512) absent))
+      (leaf_found-absent old rd level number absent) _ refl;
 }

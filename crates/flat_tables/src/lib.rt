@@ -9,6 +9,7 @@ mod changes;
 mod entries;
 mod entry_reads;
 mod kept_table;
+mod links;
 mod searches;
 mod spot;
 mod tables;

@@ -36,13 +36,7 @@ impl Tables {
         requires { number < 2 ^ 55 }
         ensures { (s : State) → result ≡ has_link (with_maps s self.now) rd level number }
     {
-        let first = 512 * number;
-        for place in 0..ENTRIES {
-            if self.below(rd, level, first + place as u64).is_some() {
-                return true;
-            }
-        }
-        false
+        level < 3 && self.link_count(rd, level + 1, number) > 0
     }
 
     /// Whether a stretch may be set up to `top`.

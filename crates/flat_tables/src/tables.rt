@@ -1,8 +1,11 @@
 //! The tables of all realms, and one table put in, taken out or changed.
 
-ghost use Rattle.std.specs.Prelude.{◌≡◌, ◌%◌};
+ghost use Rattle.std.specs.Prelude.{◌≡◌, ◌/◌, ◌%◌};
+ghost use Rattle.std.specs.HashMap.{get};
+ghost use Rattle.flat_tables.specs.Links.{is_same_spot, spot, AreCounted};
 
 use crate::kept_table::KeptTable;
+use crate::links::Links;
 use crate::spot::Spot;
 use rmm_spec::{Entry, Ripas};
 use std::alloc::{AllocError, Global};
@@ -13,6 +16,8 @@ use std::collections::HashMap;
 pub struct Tables {
     pub(crate) alloc: Global,
     kept: HashMap<Spot, KeptTable>,
+    links: Links,
+    ghost counted: { AreCounted (get is_same_spot kept) links },
 }
 
 impl Tables {
@@ -20,10 +25,10 @@ impl Tables {
     ghost use Rattle.std.specs.Option.{option_copied};
     ghost use Rattle.rmm_spec.specs.State.{State};
     ghost use Rattle.rmm_spec.specs.Update.{is_same_entry, with_ripas};
-    ghost use Rattle.flat_tables.specs.Flat.{kept_at, table_of, leaf_of, with_maps, IsReplaced};
+    ghost use Rattle.flat_tables.specs.Flat.{kept_at, kept_in, link_count, table_of, leaf_of, with_maps, IsReplaced};
 
     /// No tables.
-    #[tactic(auto, unfolding(crate::specs::Flat::table_of, crate::specs::Flat::leaf_of))]
+    #[tactic(auto, unfolding(crate::specs::Flat::table_found, crate::specs::Flat::leaf_found))]
     pub fn new(alloc: Global) -> Tables
         ensures tables { (rd level number : ℕ) → table_of result rd level number ≡ None }
         ensures leaves { (rd level number : ℕ) → leaf_of result rd level number ≡ None }
@@ -31,6 +36,7 @@ impl Tables {
         Tables {
             alloc,
             kept: HashMap::new(alloc),
+            links: Links::new(alloc),
         }
     }
 
@@ -42,7 +48,7 @@ impl Tables {
     }
 
     /// The granule of the table there.
-    #[tactic(auto, unfolding(crate::specs::Flat::table_of))]
+    #[tactic(auto, unfolding(crate::specs::Flat::table_found))]
     pub fn table(&self, rd: u64, level: u8, number: u64) -> Option<u64>
         ensures { result ≡ table_of self.now rd level number }
     {
@@ -51,7 +57,7 @@ impl Tables {
     }
 
     /// The leaf there.
-    #[tactic(auto, unfolding(crate::specs::Flat::leaf_of))]
+    #[tactic(auto, unfolding(crate::specs::Flat::leaf_found))]
     pub fn leaf(&self, rd: u64, level: u8, number: u64) -> Option<Entry>
         ensures { result ≡ leaf_of self.now rd level number }
     {
@@ -67,20 +73,36 @@ impl Tables {
         number: u64,
         table: KeptTable,
     ) -> Result<(), AllocError>
-        ensures ok { OnOk result (IsReplaced self.old self.new rd level number (Some table)) }
+        ensures ok { OnOk result (IsReplaced (kept_in self.old) (kept_in self.new) rd level number (Some table)) }
         ensures err { OnErr result ((s : State) → with_maps s self.new ≡ with_maps s self.old) }
     {
+        let Ok(()) = self.links.reserve() else {
+            return Err(AllocError);
+        };
         match self.kept.insert(Spot { rd, level, number }, table) {
-            Ok(_) => Ok(()),
+            Ok(Some(_)) => Ok(()),
+            Ok(None) => {
+                self.links.add(place_above(rd, level, number));
+                Ok(())
+            }
             Err(_) => Err(AllocError),
         }
     }
 
     // Takes a table out, if there is one.
     pub(crate) fn take(&mut self, rd: u64, level: u8, number: u64)
-        ensures { IsReplaced self.old self.new rd level number None }
+        ensures { IsReplaced (kept_in self.old) (kept_in self.new) rd level number None }
     {
-        let _ = self.kept.remove(&Spot { rd, level, number });
+        if self.kept.remove(&Spot { rd, level, number }).is_some() {
+            self.links.take(place_above(rd, level, number));
+        }
+    }
+
+    // How many tables of the level are kept below the table of that number at the level above.
+    pub(crate) fn link_count(&self, rd: u64, level: u8, number: u64) -> usize
+        ensures { result ≡ link_count self.now rd level number }
+    {
+        self.links.count(Spot { rd, level, number })
     }
 
     // Puts a leaf into a table that is there, or takes the one there out.
@@ -117,6 +139,17 @@ impl Tables {
         if let Some(kept) = self.kept.get_mut(&table) {
             kept.set_ripas(from, to, ripas);
         }
+    }
+}
+
+// Where a table is counted: at its level, by the number of the table above it.
+fn place_above(rd: u64, level: u8, number: u64) -> Spot
+    ensures { result ≡ spot rd level (number / 512) }
+{
+    Spot {
+        rd,
+        level,
+        number: number / 512,
     }
 }
 
