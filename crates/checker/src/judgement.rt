@@ -9,8 +9,7 @@ ghost use Rattle.rmm_spec.specs.CertificateText.{IsCertificateText};
 ghost use Rattle.rmm_spec.specs.Linearization.{IsLinearization};
 ghost use Rattle.rmm_spec.specs.Judgement.{Judges};
 
-use crate::order::judge_order;
-use crate::replay::Replay;
+use crate::judged::judged_order;
 use certificate::CertFault;
 use history::HistoryFault;
 use rmm_spec::Verdict;
@@ -36,8 +35,7 @@ pub fn check(alloc: Global, history: &[u8], certificate: &[u8]) -> Result<Verdic
         Err(CertFault::BadLine(line)) => return Ok(Verdict::CertificateFault(line)),
         Err(CertFault::NoMemory) => return Err(AllocError),
     };
-    let replay = Replay::new(alloc, &history)?;
-    judge_order(replay, &history, &certificate)
+    Ok(judged_order(alloc, &history, &certificate)?.verdict)
 }
 
 #[cfg(test)]

@@ -5,11 +5,13 @@
 //! `judging` and the acceptance tests depend on it.
 #![tactic(auto)]
 
+mod judged;
 mod judgement;
 mod order;
 mod replay;
 mod report;
 
+pub use judged::{JudgedOrder, judged_order};
 pub use judgement::check;
 pub use report::verdict_text;
 pub use rmm_spec::{Reason, Verdict};

@@ -3,6 +3,8 @@
 ghost use Rattle.std.specs.Prelude.{[], IfOk, OnErr};
 ghost use Rattle.rmm_spec.specs.HistoryText.{IsHistory};
 ghost use Rattle.rmm_spec.specs.Judgement.{JudgesOrder};
+ghost use Rattle.spec_machine.specs.View.{state_of};
+ghost use Rattle.checker.specs.Judged.{IsLeftBy};
 ghost use Rattle.checker.specs.Replay.{IsReplayOf, RefusesMemory};
 
 use crate::replay::Replay;
@@ -14,13 +16,14 @@ use std::alloc::AllocError;
 /// Whether the certificate's order is a linearization of the history, or the first step that fails. It is refused memory only
 /// at a line whose call makes a table, after lines that pass.
 pub(crate) fn judge_order(
-    mut replay: Replay,
+    replay: &mut Replay,
     history: &History,
     certificate: &Certificate,
 ) -> Result<Verdict, AllocError>
     requires is_history { IsHistory history.now.recorded }
-    requires fresh { IsReplayOf replay history.now.recorded [] }
+    requires fresh { IsReplayOf replay.old history.now.recorded [] }
     ensures judged { IfOk result (λ verdict. JudgesOrder verdict history.now.recorded certificate.now.lines) }
+    ensures left { IfOk result (λ verdict. IsLeftBy verdict history.now.recorded certificate.now.lines (state_of replay.new.machine)) }
     ensures refused { OnErr result (RefusesMemory history.now.recorded certificate.now.lines) }
 {
     for i in 0..certificate.len() {

@@ -1,6 +1,6 @@
 //! What is kept of the lines so far.
 
-ghost use Rattle.std.specs.Prelude.{◌≡◌, ℕ, ◌<◌, ◌↔◌, List, [], length, IsTrue, IfOk, OnErr, IfSome, IfNone, MatchOption};
+ghost use Rattle.std.specs.Prelude.{◌≡◌, ℕ, ◌<◌, ◌↔◌, List, [], length, false, IsTrue, IfOk, OnErr, IfSome, IfNone, MatchOption};
 ghost use Rattle.std.specs.Bool.{MatchBool};
 ghost use Rattle.rmm_spec.specs.declared.command.Command.{Command};
 ghost use Rattle.rmm_spec.specs.declared.line.Line.{Line};
@@ -25,7 +25,7 @@ use std::alloc::{AllocError, Global};
 /// and the latest place of such a call, or 0.
 #[derive(Drop)]
 pub(crate) struct Replay {
-    machine: Machine,
+    pub(crate) machine: Machine,
     named: Vec<bool>,
     latest: u32,
 }
@@ -57,6 +57,7 @@ impl Replay {
         requires is_history { IsHistory history.now.recorded }
         requires counted { length self.old.named.items ≡ length history.now.recorded.events }
         ensures judged { IfOk result (λ why. JudgesLine why self.old self.new history.now.recorded (line_seen line.entry)) }
+        ensures kept { IfOk result (λ why. IfSome why (λ reason. state_of self.new.machine ≡ state_of self.old.machine)) }
         ensures refused { OnErr result (IsRefusedMemory self.old history.now.recorded (line_seen line.entry)) }
     {
         let Some(places) = places_named(history, &line) else {
@@ -100,6 +101,7 @@ impl Replay {
         requires is_called { (number : ℕ) × (command : Command) × IsCalled history.now.recorded.events called cpu number command }
         ensures judged { IfOk result (λ why. (line : Line) → IsDue self.old history.now.recorded line cpu called (reply_seen reply.entry)
             → JudgesLine why self.old self.new history.now.recorded line) }
+        ensures kept { IfOk result (λ why. IfSome why (λ reason. state_of self.new.machine ≡ state_of self.old.machine)) }
         ensures refused { OnErr result ((line : Line) → IsDue self.old history.now.recorded line cpu called (reply_seen reply.entry)
             → IsRefusedMemory self.old history.now.recorded line) }
     {
@@ -121,6 +123,7 @@ impl Replay {
         requires { called < length self.old.named.items }
         ensures given { IfOk result (λ given. MatchBool given (Commits self.old self.new cpu called (command_seen command.entry) (reply_seen reply.entry))
             ((next : State) → ¬ Step (state_of self.old.machine) cpu (command_seen command.entry) (reply_seen reply.entry) next)) }
+        ensures kept { IfOk result (λ given. given ≡ false → state_of self.new.machine ≡ state_of self.old.machine) }
         ensures refused { OnErr result (NeedsMemory self.old cpu (command_seen command.entry)) }
     {
         let given = self.machine.offer_seen(cpu, command, reply)?;

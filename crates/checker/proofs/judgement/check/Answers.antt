@@ -1,5 +1,4 @@
 -- The bad line of either text, and the verdict on what they stand for.
-use Rattle.std.proofs.lemmas.Result.{IfOk-weaker}
 use Rattle.rmm_spec.specs.declared.verdict.Verdict.TheVariants as verdict
 use Rattle.history.proofs.GrammarLaws.{BeginsWith-whole}
 use Rattle.checker.proofs.Verdicts.{Judges-from_order, Judges-valid, OnErr-always}
@@ -19,16 +18,14 @@ returns-in-Err-BadLine-read-clause-valid c =
 
 pub returns-clause-judged : goal.returns-clause-judged
 returns-clause-judged c =
-    IfOk-weaker c.judge_order.result _ _
-    (λ v order. Judges-from_order v c.args.history.now c.args.certificate.now c.in-Ok.history.recorded c.in-Ok-read.certificate.lines c.in-Ok.ensures.found c.in-Ok-read.ensures.found order)
-    c.judge_order.ensures.judged
+    Judges-from_order _ c.args.history.now c.args.certificate.now c.in-Ok.history.recorded c.in-Ok-read.certificate.lines c.in-Ok.ensures.found c.in-Ok-read.ensures.found
+    c.in_ok-judged_order.ensures.judged
 
 pub returns-clause-valid : goal.returns-clause-valid
 returns-clause-valid c =
-    IfOk-weaker c.judge_order.result _ _
-    (λ v order. Judges-valid v c.args.history.now c.args.certificate.now
-    (Judges-from_order v c.args.history.now c.args.certificate.now c.in-Ok.history.recorded c.in-Ok-read.certificate.lines c.in-Ok.ensures.found c.in-Ok-read.ensures.found order))
-    c.judge_order.ensures.judged
+    Judges-valid _ c.args.history.now c.args.certificate.now
+    (Judges-from_order _ c.args.history.now c.args.certificate.now c.in-Ok.history.recorded c.in-Ok-read.certificate.lines c.in-Ok.ensures.found c.in-Ok-read.ensures.found
+    c.in_ok-judged_order.ensures.judged)
 
 pub returns-in-Err-NoMemory-clause-refused : goal.returns-in-Err-NoMemory-clause-refused
 returns-in-Err-NoMemory-clause-refused c =
@@ -38,8 +35,5 @@ returns-in-Err-NoMemory-clause-refused c =
 pub returns-in-Err-NoMemory-read-clause-refused : goal.returns-in-Err-NoMemory-read-clause-refused
 returns-in-Err-NoMemory-read-clause-refused c = (c.in-Ok.history.recorded, BeginsWith-whole c.args.history.now _ c.in-Ok.ensures.found)
 
-pub returns-clause-refused : goal.returns-clause-refused
-returns-clause-refused c = OnErr-always c.judge_order.result (c.in-Ok.history.recorded, BeginsWith-whole c.args.history.now _ c.in-Ok.ensures.found)
-
-pub returns-in_err-replay-clause-refused : goal.returns-in_err-replay-clause-refused
-returns-in_err-replay-clause-refused c = OnErr-always c.from_residual.result (c.in-Ok.history.recorded, BeginsWith-whole c.args.history.now _ c.in-Ok.ensures.found)
+pub returns-in_err-judged_order-clause-refused : goal.returns-in_err-judged_order-clause-refused
+returns-in_err-judged_order-clause-refused c = OnErr-always c.from_residual.result (c.in-Ok.history.recorded, BeginsWith-whole c.args.history.now _ c.in-Ok.ensures.found)
