@@ -5,8 +5,9 @@ use rmm_spec::Tag;
 use rtt_table::Table;
 
 /// A granule's state with what lies in it (DEN0137, granule state), so that the two agree.
-#[derive(Debug, Drop)]
+#[derive(Debug, Default, Drop)]
 pub enum Cell {
+    #[default]
     Undelegated,
     Delegated,
     Rd(Realm),

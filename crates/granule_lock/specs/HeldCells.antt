@@ -1,0 +1,25 @@
+-- What contracts see of the granules of a machine and of what a CPU holds. This project's own.
+use Rattle.std.specs.Prelude.{ℕ, ◌==◌, not, List, [], ◌∷◌}
+use Rattle.std.specs.List.{filter}
+use Rattle.rmm_spec.specs.Local.{HeldCell}
+use Rattle.world_laws.specs.Replaced.{held_at}
+use Rattle.command_core.specs.Seen.{cell_of}
+use Rattle.command_core.specs.declared.cell.Cell.{Cell}
+use Rattle.granule_lock.specs.declared.hold.Hold.{Hold}
+
+-- how many granules there are
+pub record GranulesView : Type 0 where
+  pub granules : ℕ
+
+-- granules with their cells
+abbrev pub paired : List ℕ → List Cell → List HeldCell
+paired [] cells = []
+paired (g ∷ granules) [] = []
+paired (g ∷ granules) (c ∷ cells) = held_at g (cell_of c) ∷ paired granules cells
+
+abbrev pub hold_cells : Hold → List HeldCell
+hold_cells hold = paired hold.granules.items hold.cells.items
+
+-- what is held but at one granule, in the same order
+abbrev pub without_cell : ℕ → List HeldCell → List HeldCell
+without_cell granule held = filter (λ (h : HeldCell). not (h.granule == granule)) held

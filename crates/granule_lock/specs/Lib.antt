@@ -1,0 +1,2 @@
+pub mod HeldCells
+pub mod HoldLaws

@@ -1,0 +1,102 @@
+//! The cells that a CPU holds.
+
+ghost use Rattle.std.specs.Prelude.{◌≡◌, ◌≤◌, length, IsTrue};
+ghost use Rattle.command_core.specs.Seen.{are_distinct};
+
+use arrayvec::ArrayVec;
+use command_core::{Cell, Held};
+use granule_state::Pa;
+use std::mem::replace;
+
+/// Up to six cells with their granules, in the order in which they were taken. Only a take adds one.
+#[derive(Debug, Drop)]
+pub struct Hold {
+    granules: ArrayVec<Pa, 6>,
+    cells: ArrayVec<Cell, 6>,
+    ghost same_count: { length cells.items ≡ length granules.items },
+    ghost few: { length granules.items ≤ 6 },
+    ghost distinct: { IsTrue (are_distinct granules.items) },
+}
+
+impl Hold {
+    ghost use Rattle.std.specs.Prelude.{◌≡◌, ◌++◌, ◌∷◌, [], ◌<◌, ◌==◌, false, Some, length, position};
+    ghost use Rattle.world_laws.specs.Replaced.{held_at};
+    ghost use Rattle.command_core.specs.Seen.{cell_of, cell_in, is_held};
+    ghost use Rattle.granule_lock.specs.HeldCells.{hold_cells, without_cell};
+
+    /// No cells.
+    pub fn new() -> Hold
+        ensures { hold_cells result ≡ [] }
+    {
+        Hold {
+            granules: ArrayVec::new(),
+            cells: ArrayVec::new(),
+        }
+    }
+
+    /// One cell more, of a granule that isn't held yet.
+    pub(crate) fn push(&mut self, pa: Pa, cell: Cell)
+        requires room { length (hold_cells self.old) < 6 }
+        requires new { is_held pa (hold_cells self.old) ≡ false }
+        ensures { hold_cells self.new ≡ hold_cells self.old ++ held_at pa (cell_of cell) ∷ [] }
+    {
+        self.granules.push(pa);
+        self.cells.push(cell);
+    }
+
+    /// Takes a held cell out.
+    pub(crate) fn remove(&mut self, pa: Pa) -> Cell
+        requires { IsTrue (is_held pa (hold_cells self.old)) }
+        ensures cells { hold_cells self.new ≡ without_cell pa (hold_cells self.old) }
+        ensures given { cell_in pa (hold_cells self.old) ≡ Some (cell_of result) }
+    {
+        let place = self.place_of(pa);
+        self.granules.remove(place);
+        self.cells.remove(place)
+    }
+
+    // Where a held granule stands.
+    fn place_of(&self, pa: Pa) -> usize
+        requires { IsTrue (is_held pa (hold_cells self.now)) }
+        ensures { position (λ granule. granule == pa) self.now.granules.items ≡ Some result }
+    {
+        let Some(place) = self.find(pa) else {
+            unreachable!()
+        };
+        place
+    }
+
+    // Where a granule stands, if it is held.
+    fn find(&self, pa: Pa) -> Option<usize>
+        ensures { result ≡ position (λ granule. granule == pa) self.now.granules.items }
+    {
+        self.granules.iter().position(|granule| *granule == pa)
+    }
+}
+
+impl Held for Hold {
+    ghost use Rattle.granule_lock.specs.HeldCells.{hold_cells};
+    ghost use Rattle.granule_lock.specs.HoldLaws.{hold-few, hold-distinct};
+
+    ghost cells = { hold_cells };
+
+    ghost few = { hold-few };
+
+    ghost distinct = { hold-distinct };
+
+    fn held(&self) -> &[Pa] {
+        &self.granules
+    }
+
+    fn cell(&self, pa: Pa) -> Option<&Cell> {
+        match self.find(pa) {
+            Some(place) => Some(&self.cells[place]),
+            None => None,
+        }
+    }
+
+    fn swap(&mut self, pa: Pa, cell: Cell) -> Cell {
+        let place = self.place_of(pa);
+        replace(&mut self.cells[place], cell)
+    }
+}

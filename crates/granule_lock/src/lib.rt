@@ -1,0 +1,16 @@
+//! The granules of a running monitor, each behind a lock of its own, and the cells that a CPU holds.
+//! It promises that a take adds one cell to what is held and a give removes that granule's alone, that what is held is
+//! read and replaced by address, and by the type of a cell that its granule's state and contents agree.
+//! A take may wait for another CPU, and what it promises holds where it returns; addresses are in bytes.
+//! The monitor is to depend on it.
+#![tactic(auto)]
+
+mod granule;
+mod granules;
+mod hold;
+
+pub use granules::Granules;
+pub use hold::Hold;
+
+#[cfg(test)]
+mod tests;
