@@ -158,7 +158,7 @@ some_units zero size some unit = absurd (omega arith)
 some_units (suc n) size some unit = omega arith
 
 -- each end passes the test
-reached-is_reached : (s : State) (stretch : Stretch) (top : ℕ) → IsReached s stretch top → is_reached s stretch top ≡ true
+pub reached-is_reached : (s : State) (stretch : Stretch) (top : ℕ) → IsReached s stretch top → is_reached s stretch top ≡ true
 unfolding is_reached entry_size
 reached-is_reached s stretch top r =
     let size = 2 ^ (12 + 9 * (3 - stretch.level)) in

@@ -25,7 +25,7 @@ first_word (reply.Err status index) = 0
 first_word reply.Misplaced = 0
 
 -- the word of a reply of one word
-word_of : (a b : ℕ) → ok (a ∷ []) ≡ ok (b ∷ []) → a ≡ b
+pub word_of : (a b : ℕ) → ok (a ∷ []) ≡ ok (b ∷ []) → a ≡ b
 unfolding first_word
 word_of a b same = ap first_word same
 
