@@ -67,6 +67,7 @@ unfolding is_upward
 upward-alone granules names [] next one none = rw (one.is_lock, one.is_one) refl
 upward-alone granules names (h ∷ held) next one none = absurd (some-last h held none)
 
+-- a granule that is named is taken, or the last is freed
 named-steps : (granules : ℕ) (c : Call) (place : CpuPlace) (names : List Needed) (held : List HeldCell) (next : ℕ)
     → IsTrue (are_distinct (granules_held held)) → IsOne granules names next → IsStep granules c place names held (take_named granules names held next)
 named-steps granules c place names held next distinct one =
@@ -93,6 +94,7 @@ least-one granules held all (n ∷ names) best each one =
         record { is_lock = (and_parts (is_granule granules n.granule) (not (is_held n.granule held)) parts.0).0; is_one = each n (Contains-head n names) }
     by false is = one
 
+-- so is the least that is missing
 least-steps : (granules : ℕ) (c : Call) (place : CpuPlace) (names : List Needed) (held : List HeldCell) (other : ℕ)
     → IsTrue (are_distinct (granules_held held)) → IsOne granules names other → IsStep granules c place names held (take_least granules names held other)
 unfolding least_missing
@@ -106,6 +108,7 @@ least-steps granules c place names held other distinct one =
 
 -- ---- parts
 
+-- a part of what is held is taken, or the last is freed
 part-steps : (granules : ℕ) (c : Call) (place : CpuPlace) (names : List Needed) (held : List HeldCell) (above next : ℕ) (cell : Cell)
     → IsTrue (are_distinct (granules_held held)) → cell_in above held ≡ Some cell → IsStep granules c place names held (take_part granules names held above next)
 part-steps granules c place names held above next cell distinct found =
@@ -211,6 +214,7 @@ outside-steps granules c (Some rd) held distinct locks incomplete = plain-steps 
 
 -- ---- inside of a REC
 
+-- where nothing speaks against the place, its REC is a granule
 fitting : (granules rec rd : ℕ) (held : List HeldCell) → is_misfit granules rec rd held ≡ false → is_granule granules rec ≡ true
 unfolding is_misfit
 fitting granules rec rd held fits =

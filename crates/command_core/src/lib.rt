@@ -1,6 +1,7 @@
 //! The monitor's core: what a CPU does with the granules that it holds, and nothing else of the machine before it.
 //! It promises that cells held under locks are read and replaced by address; that what all wholes answer which agree with
-//! those is a local step; and where a served command takes no further lock. Which lock it takes, and its answer, come later.
+//! those is a local step; and what a CPU does next for a served command, whatever it holds: it takes a lock at a rising take,
+//! frees one, or is ready to commit. The answer comes later.
 //! Nothing here waits. Addresses are in bytes.
 //! The world of turns and the monitor's threads are to depend on it.
 #![tactic(auto)]
@@ -14,6 +15,8 @@ mod name_list;
 mod names;
 mod next;
 mod plain_held;
+#[cfg(test)]
+mod plan_tests;
 mod planning;
 mod serving;
 mod settling;

@@ -41,7 +41,7 @@ fn take_named<H: Held>(config: &Config, names: &[Name], held: &H, next: u64) -> 
     taken(Pa::new(next), may_take, held)
 }
 
-// Of what is named and isn't held the least is taken. Where all is held, the other granule given can't be taken.
+// The least that is named and missing is taken. Where none is, another stands for it, which can't be taken then.
 fn take_least<H: Held>(config: &Config, names: &[Name], held: &H, other: u64) -> Next
     ensures { result ≡ spec.take_least config.now.granules names.now (H.cells held.now) other }
 {
@@ -84,7 +84,10 @@ fn take_auxes<H: Held>(config: &Config, names: &[Name], held: &H, rec: Pa) -> Ne
     ensures { result ≡ spec.take_auxes config.now.granules names.now (H.cells held.now) rec (cell_in rec (H.cells held.now)) }
 {
     match held.cell(rec) {
-        Some(Cell::Rec(it)) => { take_part(config, names, held, rec, next_aux(config, it, held)) }
+        Some(Cell::Rec(it)) => {
+            let next = next_aux(config, it, held);
+            take_part(config, names, held, rec, next)
+        }
         _ => take_named(config, names, held, rec.address()),
     }
 }
