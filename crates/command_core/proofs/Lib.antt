@@ -9,3 +9,5 @@ pub mod Roots
 pub mod Ready
 pub mod PlainCells
 pub mod Others
+pub mod SideTable
+pub mod NewRoots

@@ -9,3 +9,4 @@ pub mod Settled
 pub mod Plan
 pub mod Sides
 pub mod Callers
+pub mod Rooms
