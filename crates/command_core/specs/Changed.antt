@@ -179,3 +179,14 @@ abbrev pub Answers : ℕ → ℕ → Command → Hold → Result Accepted Reply 
 Answers granules cpu command hold (Err refusal) = Decides granules cpu command hold refusal Unchanged
 Answers granules cpu command hold (Ok (Done words change)) = Decides granules cpu command hold (reply.Ok words) change
 Answers granules cpu command hold (Ok (Reaches stretch)) = ⊥
+
+-- what is answered can be made, and is a local step
+pub record IsAnswer (granules cpu : ℕ) (command : Command) (hold : Hold) (answer : Result Accepted Reply) : Type 0 where
+  pub can : CanAnswer cpu hold answer
+  pub is_local : Answers granules cpu command hold answer
+
+-- where it is no refusal, its change can be made of the records
+abbrev pub CanMakeAnswer : Hold → Result Accepted Reply → Type 0
+CanMakeAnswer hold (Err refusal) = Unit {0}
+CanMakeAnswer hold (Ok (Done words change)) = CanMake hold change
+CanMakeAnswer hold (Ok (Reaches stretch)) = Unit {0}
