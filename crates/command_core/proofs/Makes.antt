@@ -12,7 +12,7 @@ use Rattle.rmm_spec.specs.declared.change.Change.TheVariants.{RealmMade, RealmDe
 use Rattle.rmm_spec.specs.declared.change.RealmUpdate.{RealmUpdate}
 use Rattle.rmm_spec.specs.declared.change.RealmUpdate.TheVariants.{Activated}
 use Rattle.rmm_spec.specs.declared.change.RecUpdate.{RecUpdate}
-use Rattle.rmm_spec.specs.declared.change.RecUpdate.TheVariants.{Entered, Exited}
+use Rattle.rmm_spec.specs.declared.change.RecUpdate.TheVariants.{Entered}
 use Rattle.rmm_spec.specs.declared.reply.Reply.{Reply}
 use Rattle.rmm_spec.specs.declared.reply.Reply.TheVariants as reply
 use Rattle.rmm_spec.specs.Applicable.{IsRealmUpdate}
@@ -31,7 +31,7 @@ use Rattle.realm_desc.specs.Updates.{IsRecUpdate}
 use Rattle.command_core.specs.Seen.{cell_in, is_held, known_cell}
 use Rattle.command_core.specs.Changed.{CountsIn, FitsRealm, FitsRec, CanMakeAnswer}
 use Rattle.command_core.specs.Named.{words_fit, has_wrong}
-use Rattle.command_core.specs.Decided.{root_destroyed, realm_destroyed, realm_activated, rec_created, rec_destroyed, owner_entered, rec_entered, late_answer, host_answer, rec_left}
+use Rattle.command_core.specs.Decided.{root_destroyed, realm_destroyed, realm_activated, rec_created, rec_destroyed, owner_entered, rec_entered, late_answer, host_answer}
 
 known : (held : List HeldCell) (g : ℕ) (c : Cell) → cell_in g held ≡ Some c → known_cell held g ≡ c
 known held g c found = ap (λ (o : Option Cell). unwrap_or o Undelegated) found
@@ -180,7 +180,3 @@ host-makes granules cpu hold c few = by (words_fit granules c) (not (has_wrong (
     by false d unfit = tt
     by true false fits = tt
     by true true fits = late-makes granules cpu hold c few fits
-
-pub left-makes : (hold : Hold) (rec : ℕ) (o : Option Cell) → cell_in rec hold.cells ≡ o → CanMakeAnswer hold (rec_left rec o)
-left-makes hold rec (Some (Rec it)) found = record { fits = (tt, subst (FitsRec Exited) (sym (known hold.cells rec (Rec it) found)) tt); counts = tt }
-left-makes hold rec _ found = tt

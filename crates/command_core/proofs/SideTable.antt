@@ -1,9 +1,8 @@
 -- One place of the side table is changed: what it then tells of each VMID and of each realm.
-use Rattle.std.proofs.Common.{◌≡◌, ℕ, zero, suc, ◌/◌, ◌%◌, ◌*◌, ◌<◌, ◌==◌, ◌&&◌, Bool, true, false, if◌then◌else◌, List, length, Option, Some, None, get_or, slice_get, slice_set, replicate, IsTrue, nat_lt, refl, sym, ap, ◌∙◌, arith}
-use Rattle.std.specs.Prelude.{slice_index, unwrap_or}
+use Rattle.std.proofs.Common.{◌≡◌, ℕ, zero, suc, ◌/◌, ◌%◌, ◌*◌, ◌<◌, ◌==◌, ◌&&◌, Bool, true, false, if◌then◌else◌, List, length, None, slice_get, slice_set, replicate, IsTrue, nat_lt, refl, sym, ap, ◌∙◌, arith}
+use Rattle.std.specs.Prelude.{slice_index}
 use Rattle.std.proofs.lemmas.Bool.{false≢true, and_parts, eqb-true, ltb-true, ltb-false}
 use Rattle.std.proofs.lemmas.List.{get_or_past, get_or-set_same, get_or-set_other}
-use Rattle.std.proofs.lemmas.Option.{unwrap_or-slice_get}
 use Rattle.rmm_spec.specs.Lookup.{is_granule}
 use Rattle.rmm_spec.specs.Cell.{put}
 use Rattle.world_laws.proofs.Lists.{keys_apart}
@@ -11,31 +10,11 @@ use Rattle.command_core.specs.Sides.{listed_at, counted_at}
 
 -- ---- VMIDs
 
-listed_at-get_or : (items : List (Option ℕ)) (vmid : ℕ) → listed_at (slice_get items vmid) ≡ get_or items vmid None
-listed_at-get_or items vmid = by (slice_get items vmid) ∙ unwrap_or-slice_get items vmid None
-  where
-    by : (found : Option (Option ℕ)) → listed_at found ≡ unwrap_or found None
-    by None = refl
-    by (Some listed) = refl
-
 -- no VMID is used
 pub listed_at-replicate : (n vmid : ℕ) → listed_at (slice_get (replicate n None) vmid) ≡ None
 listed_at-replicate zero vmid = refl
 listed_at-replicate (suc n) zero = refl
 listed_at-replicate (suc n) (suc vmid) = listed_at-replicate n vmid
-
-pub listed_at-set : (items : List (Option ℕ)) (vmid : ℕ) (realm : Option ℕ) → vmid < length items
-    → (λ other. listed_at (slice_get (slice_set items vmid realm) other)) ≡ put (λ other. listed_at (slice_get items other)) vmid realm
-listed_at-set items vmid realm within = λ i other. at other (other == vmid) refl i
-  where
-    at : (other : ℕ) (b : Bool) → (other == vmid) ≡ b
-        → listed_at (slice_get (slice_set items vmid realm) other) ≡ (if b then realm else listed_at (slice_get items other))
-    at other true same =
-        listed_at-get_or (slice_set items vmid realm) other
-        ∙ (ap (λ k. get_or (slice_set items vmid realm) k None) (eqb-true other vmid same) ∙ get_or-set_same items vmid realm None within)
-    at other false apart =
-        listed_at-get_or (slice_set items vmid realm) other
-        ∙ (get_or-set_other items vmid other realm None (keys_apart other vmid apart) ∙ sym (listed_at-get_or items other))
 
 -- ---- counts
 
