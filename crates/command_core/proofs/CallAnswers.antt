@@ -1,17 +1,15 @@
 -- A command of a CPU inside a REC, of which that REC and its realm are held: what is answered from the two is a local step.
-use Rattle.std.proofs.Common.{◌≡◌, ℕ, Bool, true, false, not, ◌&&◌, ◌==◌, if◌then◌else◌, List, [], ◌∷◌, Option, Some, None, Result, Ok, Err, ◌⊎◌, inl, inr, refl, sym, ap, ◌∙◌, subst}
-use Rattle.std.specs.Prelude.{IsTrue, is_none, is_some, nat_le, unwrap_or}
+use Rattle.std.proofs.Common.{◌≡◌, ℕ, true, false, ◌&&◌, [], ◌∷◌, Some, Err, refl, sym, ap, ◌∙◌, subst}
+use Rattle.std.specs.Prelude.{IsTrue, is_none, is_some, nat_le}
 use Rattle.std.proofs.lemmas.Bool.{false≢true, and_from}
-use Rattle.rmm_spec.specs.declared.accepted.Accepted.{Accepted}
 use Rattle.rmm_spec.specs.declared.call.Call.{Call}
 use Rattle.rmm_spec.specs.declared.call.Call.TheVariants as call
 use Rattle.rmm_spec.specs.declared.change.Change.TheVariants.{Unchanged, RecordsChanged}
 use Rattle.rmm_spec.specs.declared.change.RealmUpdate.TheVariants as realm_update
 use Rattle.rmm_spec.specs.declared.change.RecUpdate.TheVariants as rec_update
 use Rattle.rmm_spec.specs.declared.command.Command.{Command}
-use Rattle.rmm_spec.specs.declared.reply.Reply.{Reply}
 use Rattle.rmm_spec.specs.declared.reply.Reply.TheVariants as reply
-use Rattle.rmm_spec.specs.Call.{Class, ByHost, ByRealm, ByExit, call_of, class_of}
+use Rattle.rmm_spec.specs.Call.{ByHost, ByRealm, ByExit, call_of, class_of}
 use Rattle.rmm_spec.specs.Change.{measurement_at}
 use Rattle.rmm_spec.specs.Measure.{measurement_words}
 use Rattle.rmm_spec.specs.State.{State, RealmRecord, RecRecord}
@@ -22,19 +20,19 @@ use Rattle.rmm_spec.specs.Step.{answer_of, outcome, is_placed}
 use Rattle.rmm_spec.specs.Step.Front.{with_front}
 use Rattle.rmm_spec.specs.Step.RealmCall.{measurement_read, measurement_extend, realm_config, ipa_state_set, host_call, cpu_off, system_off, rec_exit, rec_change, realm_change, ripas_asked, exit_words}
 use Rattle.rmm_spec.specs.Cell.{Cell, Undelegated, Delegated, Rd, Rec, RecAux, Data, Rtt, realm_in}
-use Rattle.rmm_spec.specs.Flat.{flat_state}
 use Rattle.rmm_spec.specs.Shape.{Inside}
 use Rattle.rmm_spec.specs.Local.{Hold}
 use Rattle.world_laws.proofs.Placed.{is_inside-inside}
 use Rattle.world_laws.proofs.Refusals.{outcome-misplaced}
-use Rattle.refusal_laws.proofs.Readings.{Whole, state, rec_at-cell, rec_inside-place}
-use Rattle.command_core.specs.Seen.{cell_in, is_held, known_cell}
-use Rattle.command_core.specs.Changed.{new_cells, CanAnswer, Answers}
+use Rattle.refusal_laws.proofs.Readings.{Whole, state, rec_inside-place}
+use Rattle.rec_steps.specs.Answers.{call_row}
+use Rattle.command_core.specs.Seen.{is_held, known_cell}
+use Rattle.command_core.specs.Changed.{new_cells, CanAnswer, IsAnswer}
 use Rattle.command_core.specs.Plan.{call_answer}
 use Rattle.command_core.specs.Settled.{seen}
 use Rattle.command_core.specs.Served.{is_served}
 use Rattle.command_core.proofs.SeenCells.{realm-same, rec-same}
-use Rattle.command_core.proofs.Changes.{same_at, rec_cell, answers-local}
+use Rattle.command_core.proofs.Changes.{same_at, rec_cell, is_answer}
 use Rattle.command_core.proofs.Answered
 
 -- ---- each whole that agrees
@@ -46,7 +44,7 @@ outcome-placed s cpu c placed = rw placed refl
 -- a REC's command reads the REC and its realm alone
 call-same : (s t : State) (cpu rec : ℕ) (c : Call) → is_served c ≡ true → (class_of c ≡ ByHost → ⊥) → rec_inside s cpu ≡ rec → rec_at s rec ≡ rec_at t rec
     → (class_of c ≡ ByRealm → realm_at s (rec_at s rec).owner ≡ realm_at t (rec_at t rec).owner) → answer_of s cpu c ≡ call_answer t rec c
-unfolding answer_of call_answer class_of is_served
+unfolding answer_of call_answer call_row class_of is_served
 call-same s t cpu rec (call.MeasurementRead index) served others inside same realm =
     ap (λ x. measurement_read s x index) inside ∙ Answered.measurement_read-same s t rec index (realm refl)
 call-same s t cpu rec (call.MeasurementExtend index size values) served others inside same realm =
@@ -65,33 +63,34 @@ call-same s t cpu rec _ served others inside same realm = absurd (others refl)
 
 -- ---- what is changed
 
-can-call : (cpu : ℕ) (hold : Hold) (s : State) (rec rd : ℕ) (c : Call) → hold.place ≡ Inside rec rd → IsTrue (is_held rec hold.cells)
+can-call : (cpu : ℕ) (hold : Hold) (s : State) (rec rd : ℕ) (c : Call) → is_served c ≡ true → hold.place ≡ Inside rec rd → IsTrue (is_held rec hold.cells)
     → (class_of c ≡ ByRealm → IsTrue (is_held (rec_at s rec).owner hold.cells)) → CanAnswer cpu hold (call_answer s rec c)
-unfolding call_answer new_cells measurement_read measurement_extend realm_config ipa_state_set host_call cpu_off system_off rec_exit class_of
-can-call cpu hold s rec rd (call.MeasurementRead index) place held owner =
+unfolding call_answer call_row is_served new_cells measurement_read measurement_extend realm_config ipa_state_set host_call cpu_off system_off rec_exit class_of
+can-call cpu hold s rec rd (call.MeasurementRead index) served place held owner =
     Answered.can-decided cpu hold (with_front s (call.MeasurementRead index) [])
     (done (measurement_words (measurement_at (realm_at s (rec_at s rec).owner) index)) Unchanged) (record { held = tt; here = tt })
-can-call cpu hold s rec rd (call.MeasurementExtend index size values) place held owner =
+can-call cpu hold s rec rd (call.MeasurementExtend index size values) served place held owner =
     Answered.can-decided cpu hold (with_front s (call.MeasurementExtend index size values) [])
     (done [] (realm_change (rec_at s rec).owner (realm_update.MeasurementExtended index size values))) (record { held = (owner refl, tt); here = tt })
-can-call cpu hold s rec rd call.RealmConfig place held owner =
+can-call cpu hold s rec rd call.RealmConfig served place held owner =
     Answered.can-decided cpu hold (with_front s call.RealmConfig [])
     (done ((realm_at s (rec_at s rec).owner).width ∷ (realm_at s (rec_at s rec).owner).algo ∷ []) Unchanged) (record { held = tt; here = tt })
-can-call cpu hold s rec rd (call.IpaStateSet base top ripas) place held owner =
+can-call cpu hold s rec rd (call.IpaStateSet base top ripas) served place held owner =
     Answered.can-decided cpu hold (with_front s (call.IpaStateSet base top ripas) (input (nat_le top (half (realm_at s (rec_at s rec).owner))) ∷ []))
     (done [] (rec_change rec (rec_update.RipasRequested base top (ripas_asked ripas)))) (record { held = (held, tt); here = tt })
-can-call cpu hold s rec rd (call.HostCall imm) place held owner =
+can-call cpu hold s rec rd (call.HostCall imm) served place held owner =
     Answered.can-decided cpu hold (with_front s (call.HostCall imm) []) (done [] (rec_change rec (rec_update.HostCalled imm))) (record { held = (held, tt); here = tt })
-can-call cpu hold s rec rd call.CpuOff place held owner =
+can-call cpu hold s rec rd call.CpuOff served place held owner =
     Answered.can-decided cpu hold (with_front s call.CpuOff []) (done [] (rec_change rec rec_update.TurnedOff)) (record { held = (held, tt); here = tt })
-can-call cpu hold s rec rd call.SystemOff place held owner =
+can-call cpu hold s rec rd call.SystemOff served place held owner =
     Answered.can-decided cpu hold (with_front s call.SystemOff [])
     (done [] (RecordsChanged (Some (record { rd = (rec_at s rec).owner; update = realm_update.TurnedOff }))
     (Some (record { rec = rec; update = rec_update.SystemTurnedOff })))) (record { held = (owner refl, (held, tt)); here = tt })
-can-call cpu hold s rec rd call.Exit place held owner =
+can-call cpu hold s rec rd call.Exit served place held owner =
     Answered.can-decided cpu hold (with_front s call.Exit [])
     (done (exit_words (request_of (rec_at s rec)) (rec_at s rec).pending) (rec_change rec rec_update.Exited)) (record { held = (held, tt); here = (rd, place) })
-can-call cpu hold s rec rd _ place held owner = tt
+can-call cpu hold s rec rd (call.IpaStateGet ipa) served place held owner = absurd (false≢true served)
+can-call cpu hold s rec rd _ served place held owner = tt
 
 -- ---- the place
 
@@ -159,10 +158,10 @@ is_inside-here granules cpu hold w rec rd place = is_inside-inside granules hold
 pub call-answered : (granules cpu : ℕ) (command : Command) (hold : Hold) (rec rd : ℕ) → is_served (call_of command) ≡ true → class_of (call_of command) ≡ ByRealm
     → hold.place ≡ Inside rec rd → IsTrue (is_held rec hold.cells) → IsTrue (is_held (rec_at (seen granules hold.cells) rec).owner hold.cells)
     → is_none (rec_at (seen granules hold.cells) rec).pending ≡ true
-    → Answers granules cpu command hold (call_answer (seen granules hold.cells) rec (call_of command))
+    → IsAnswer granules cpu command hold (call_answer (seen granules hold.cells) rec (call_of command))
 call-answered granules cpu command hold rec rd served realm place held owner ready =
-    answers-local granules cpu command hold (call_answer (seen granules hold.cells) rec (call_of command))
-    (can-call cpu hold (seen granules hold.cells) rec rd (call_of command) place held (λ same. owner))
+    is_answer granules cpu command hold (call_answer (seen granules hold.cells) rec (call_of command))
+    (can-call cpu hold (seen granules hold.cells) rec rd (call_of command) served place held (λ same. owner))
     (λ w. call-outcome granules cpu command hold w rec rd (call_of command) refl served
     (λ host. let bad : ByRealm ≡ ByHost = sym realm ∙ host in cc) place held (λ same. owner)
     (ap (λ k. is_placed (state granules cpu hold w) cpu k) realm
@@ -172,19 +171,19 @@ call-answered granules cpu command hold rec rd served realm place held owner rea
 -- of one that does
 pub waiting-misplaced : (granules cpu : ℕ) (command : Command) (hold : Hold) (rec rd : ℕ) → class_of (call_of command) ≡ ByRealm
     → hold.place ≡ Inside rec rd → IsTrue (is_held rec hold.cells) → is_none (rec_at (seen granules hold.cells) rec).pending ≡ false
-    → Answers granules cpu command hold (Err reply.Misplaced)
+    → IsAnswer granules cpu command hold (Err reply.Misplaced)
 waiting-misplaced granules cpu command hold rec rd realm place held waiting =
-    answers-local granules cpu command hold (Err reply.Misplaced) tt
+    is_answer granules cpu command hold (Err reply.Misplaced) tt
     (λ w. outcome-misplaced (state granules cpu hold w) cpu (call_of command)
     (ap (λ k. is_placed (state granules cpu hold w) cpu k) realm
     ∙ (λ i. is_inside-here granules cpu hold w rec rd place i && (pending-same granules cpu hold w rec rd place held ∙ waiting) i)))
 
 pub exit-answered : (granules cpu : ℕ) (command : Command) (hold : Hold) (rec rd : ℕ) → is_served (call_of command) ≡ true → class_of (call_of command) ≡ ByExit
     → hold.place ≡ Inside rec rd → IsTrue (is_held rec hold.cells)
-    → Answers granules cpu command hold (call_answer (seen granules hold.cells) rec (call_of command))
+    → IsAnswer granules cpu command hold (call_answer (seen granules hold.cells) rec (call_of command))
 exit-answered granules cpu command hold rec rd served exit place held =
-    answers-local granules cpu command hold (call_answer (seen granules hold.cells) rec (call_of command))
-    (can-call cpu hold (seen granules hold.cells) rec rd (call_of command) place held (λ same. absurd (let bad : ByExit ≡ ByRealm = sym exit ∙ same in cc)))
+    is_answer granules cpu command hold (call_answer (seen granules hold.cells) rec (call_of command))
+    (can-call cpu hold (seen granules hold.cells) rec rd (call_of command) served place held (λ same. absurd (let bad : ByExit ≡ ByRealm = sym exit ∙ same in cc)))
     (λ w. call-outcome granules cpu command hold w rec rd (call_of command) refl served
     (λ host. let bad : ByExit ≡ ByHost = sym exit ∙ host in cc) place held (λ same. absurd (let bad : ByExit ≡ ByRealm = sym exit ∙ same in cc))
     (ap (λ k. is_placed (state granules cpu hold w) cpu k) exit ∙ is_inside-here granules cpu hold w rec rd place))

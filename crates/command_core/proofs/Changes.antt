@@ -1,6 +1,6 @@
 -- What a change makes of what is held is what it makes of each whole that agrees: so what all of them answer is a local step.
-use Rattle.std.proofs.Common.{◌≡◌, ℕ, zero, suc, Bool, true, false, ◌&&◌, ◌==◌, if◌then◌else◌, List, [], ◌∷◌, ◌++◌, Option, Some, None, Result, Ok, Err, refl, sym, ap, ◌∙◌, subst, eqb-true, eq-eqb}
-use Rattle.std.specs.Prelude.{IsTrue, Contains, is_some, unwrap_or}
+use Rattle.std.proofs.Common.{◌≡◌, ℕ, true, false, ◌==◌, List, Some, None, Result, Ok, Err, refl, sym, ap, ◌∙◌, subst, eqb-true, eq-eqb}
+use Rattle.std.specs.Prelude.{IsTrue, Contains}
 use Rattle.std.specs.List.{AllByRecursion}
 use Rattle.std.proofs.lemmas.Bool.{false≢true, and_parts}
 use Rattle.std.proofs.lemmas.List.Elements.{All-contains, All-from_recursion}
@@ -9,10 +9,7 @@ use Rattle.rmm_spec.specs.declared.accepted.Accepted.{Accepted}
 use Rattle.rmm_spec.specs.declared.accepted.Accepted.TheVariants.{Done, Reaches}
 use Rattle.rmm_spec.specs.declared.change.Change.{Change}
 use Rattle.rmm_spec.specs.declared.change.Change.TheVariants.{Unchanged, Retagged, RealmMade, RealmDestroyed, RecMade, RecDestroyed, RecordsChanged, TableMade, TableDestroyed, EntriesChanged}
-use Rattle.rmm_spec.specs.declared.change.RealmChange.{RealmChange}
-use Rattle.rmm_spec.specs.declared.change.RealmUpdate.{RealmUpdate}
 use Rattle.rmm_spec.specs.declared.change.RealmUpdate.TheVariants.{RecCounted}
-use Rattle.rmm_spec.specs.declared.change.RecChange.{RecChange}
 use Rattle.rmm_spec.specs.declared.change.RecUpdate.{RecUpdate}
 use Rattle.rmm_spec.specs.declared.change.RecUpdate.TheVariants as update
 use Rattle.rmm_spec.specs.declared.command.Command.{Command}
@@ -23,22 +20,22 @@ use Rattle.rmm_spec.specs.Applicable.{CanApply}
 use Rattle.rmm_spec.specs.Call.{call_of}
 use Rattle.rmm_spec.specs.Lookup.{has_tag, tag_number, is_granule}
 use Rattle.rmm_spec.specs.State.{RecRecord}
-use Rattle.rmm_spec.specs.Rows.{ok, done}
+use Rattle.rmm_spec.specs.Rows.{ok}
 use Rattle.rmm_spec.specs.Step.{Step, outcome}
-use Rattle.rmm_spec.specs.Cell.{Cell, Undelegated, Delegated, Rd, Rec, RecAux, Data, Rtt, put, tag_of, rec_in, recs_of}
+use Rattle.rmm_spec.specs.Cell.{Cell, Undelegated, Delegated, Rd, Rec, RecAux, Data, Rtt, put, tag_of, rec_in}
 use Rattle.rmm_spec.specs.Flat.{flat_state}
-use Rattle.rmm_spec.specs.Shape.{Side, CpuPlace, Outside, Inside, IsWellShaped}
-use Rattle.rmm_spec.specs.Local.{HeldCell, Hold, granules_held, Agrees, put_all, LocalStep}
+use Rattle.rmm_spec.specs.Shape.{Outside, Inside, IsWellShaped}
+use Rattle.rmm_spec.specs.Local.{HeldCell, Hold, granules_held, put_all}
 use Rattle.rmm_sound.proofs.Runs.{done_applies}
 use Rattle.world_laws.proofs.Locals.{unchanged-is_local, step-is_local, put-same}
 use Rattle.world_laws.proofs.Lists.{put-other}
 use Rattle.world_laws.proofs.Refusals.{Step-refused}
-use Rattle.shape_laws.specs.Whole.{cells_changed, side_changed, side_without_vmid, side_without_rec, places_changed, places_of_rec, cell_with_tag, cell_with_realm, cell_with_rec, whole_changed}
+use Rattle.shape_laws.specs.Whole.{cells_changed, side_changed, side_without_vmid, side_without_rec, places_changed, places_of_rec, cell_with_tag, cell_with_realm, cell_with_rec}
 use Rattle.shape_laws.proofs.Accepted.{done-keeps_shape}
 use Rattle.shape_laws.proofs.Ties.{well_shaped-is_sound}
 use Rattle.refusal_laws.proofs.Readings.{Whole, state}
 use Rattle.command_core.specs.Seen.{is_held, known_cell}
-use Rattle.command_core.specs.Changed.{realm_cells, rec_cells, new_cells, place_with_rec, new_place, hold_changed, IsOnCpu, RunsHere, CanChange, CanAnswer, Answers}
+use Rattle.command_core.specs.Changed.{new_cells, place_with_rec, new_place, IsOnCpu, CanChange, CanAnswer, Answers, IsAnswer}
 use Rattle.command_core.proofs.SeenCells.{known-same, held-contains}
 
 -- ---- granules with two tags are two
@@ -203,3 +200,8 @@ answers-local granules cpu command hold (Ok (Done words change)) can each =
           (subst (λ side. IsWellShaped granules side (places_changed cells places change) (cells_changed granules cells change)) (side-changed granules cpu hold w change can) kept.0)),
     ))
 answers-local granules cpu command hold (Ok (Reaches stretch)) can each = absurd can
+
+pub is_answer : (granules cpu : ℕ) (command : Command) (hold : Hold) (answer : Result Accepted Reply) → CanAnswer cpu hold answer
+    → ((w : Whole granules cpu hold) → outcome (state granules cpu hold w) cpu (call_of command) ≡ answer)
+    → IsAnswer granules cpu command hold answer
+is_answer granules cpu command hold answer can each = record { can = can; is_local = answers-local granules cpu command hold answer can each }

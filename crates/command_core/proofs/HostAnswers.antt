@@ -1,38 +1,34 @@
 -- A host's command of which all is held that its rows read: what is answered from the held cells is a local step.
-use Rattle.std.proofs.Common.{◌≡◌, ℕ, Bool, true, false, not, ◌&&◌, ◌||◌, ◌==◌, if◌then◌else◌, List, [], ◌∷◌, Option, Some, None, Result, Ok, Err, refl, sym, ap, ◌∙◌, subst}
+use Rattle.std.proofs.Common.{◌≡◌, ℕ, not, ◌&&◌, ◌==◌, [], ◌∷◌, Option, Some, None, Result, refl, sym, ap, ◌∙◌}
 use Rattle.std.specs.Prelude.{IsTrue, is_none, is_some, nat_lt, unwrap_or}
-use Rattle.std.proofs.lemmas.Bool.{false≢true, and_parts, and_from, eq-eqb}
 use Rattle.rmm_spec.specs.declared.accepted.Accepted.{Accepted}
 use Rattle.rmm_spec.specs.declared.call.Call.{Call}
 use Rattle.rmm_spec.specs.declared.call.Call.TheVariants as call
-use Rattle.rmm_spec.specs.declared.change.Change.TheVariants.{Retagged, RealmMade, RecMade, RecDestroyed, RecordsChanged}
+use Rattle.rmm_spec.specs.declared.change.Change.TheVariants.{Retagged, RecMade, RecordsChanged}
 use Rattle.rmm_spec.specs.declared.change.RealmUpdate.TheVariants.{Activated}
 use Rattle.rmm_spec.specs.declared.change.RecUpdate.TheVariants.{Entered}
 use Rattle.rmm_spec.specs.declared.command.Command.{Command}
 use Rattle.rmm_spec.specs.declared.reply.Reply.{Reply}
 use Rattle.rmm_spec.specs.declared.tag.Tag.TheVariants as tag
 use Rattle.rmm_spec.specs.Call.{ByHost, call_of, class_of}
-use Rattle.rmm_spec.specs.State.{State, RealmRecord, RecRecord}
-use Rattle.rmm_spec.specs.Lookup.{tag_number, is_granule, has_tag, realm_at, rec_at, request_of, is_new, is_system_off, is_vmid_used}
-use Rattle.rmm_spec.specs.Rows.{row, input, done, input_error, realm_error, rec_error}
+use Rattle.rmm_spec.specs.State.{RecRecord}
+use Rattle.rmm_spec.specs.Lookup.{realm_at, rec_at, request_of, is_new, is_system_off}
+use Rattle.rmm_spec.specs.Rows.{row, input, done, realm_error, rec_error}
 use Rattle.rmm_spec.specs.Step.{answer_of, outcome}
 use Rattle.rmm_spec.specs.Step.Front.{with_front}
-use Rattle.rmm_spec.specs.Step.Words.{words_of}
-use Rattle.rmm_spec.specs.Step.Named.{named}
 use Rattle.rmm_spec.specs.Step.Granule.{granule_delegate, granule_undelegate}
-use Rattle.rmm_spec.specs.Step.Realm.{realm_create, realm_activate}
-use Rattle.rmm_spec.specs.Step.Rec.{rec_create, rec_destroy, rec_enter}
-use Rattle.rmm_spec.specs.Cell.{Cell, Undelegated, Delegated, Rd, Rec, tag_of, rec_in}
-use Rattle.rmm_spec.specs.Flat.{flat_state}
+use Rattle.rmm_spec.specs.Step.Realm.{realm_activate}
+use Rattle.rmm_spec.specs.Step.Rec.{rec_create, rec_enter}
+use Rattle.rmm_spec.specs.Cell.{Cell, Undelegated, Rec}
 use Rattle.rmm_spec.specs.Shape.{Outside}
 use Rattle.rmm_spec.specs.Local.{Hold}
 use Rattle.world_laws.proofs.Refusals.{outcome-host}
 use Rattle.refusal_laws.proofs.Readings.{Whole, state, rec_at-cell}
 use Rattle.command_core.specs.Seen.{cell_in, is_held, known_cell}
-use Rattle.command_core.specs.Changed.{new_cells, Answers}
+use Rattle.command_core.specs.Changed.{new_cells, IsAnswer}
 use Rattle.command_core.specs.Settled.{seen}
 use Rattle.command_core.proofs.SeenCells.{tag-same, realm-same, rec-same}
-use Rattle.command_core.proofs.Changes.{same_at, answers-local}
+use Rattle.command_core.proofs.Changes.{same_at, is_answer}
 use Rattle.command_core.proofs.Answered
 
 -- ---- each whole that agrees
@@ -48,11 +44,11 @@ host-outcome granules cpu command hold w c is host place answer same =
 -- ---- granules
 
 pub delegate-answered : (granules cpu : ℕ) (command : Command) (hold : Hold) (g : ℕ) → call_of command ≡ call.GranuleDelegate g → hold.place ≡ Outside
-    → IsTrue (is_held g hold.cells) → Answers granules cpu command hold (granule_delegate (seen granules hold.cells) g)
+    → IsTrue (is_held g hold.cells) → IsAnswer granules cpu command hold (granule_delegate (seen granules hold.cells) g)
 unfolding granule_delegate new_cells answer_of class_of
 delegate-answered granules cpu command hold g is place held =
     let s = seen granules hold.cells in
-    answers-local granules cpu command hold (granule_delegate s g)
+    is_answer granules cpu command hold (granule_delegate s g)
     (Answered.can-decided cpu hold (with_front s (call.GranuleDelegate g) []) (done [] (Retagged (record { granule = g; tag = tag.Delegated })))
     (record { held = (held, tt); here = tt }))
     (λ w. host-outcome granules cpu command hold w (call.GranuleDelegate g) is refl place (granule_delegate s g)
@@ -60,11 +56,11 @@ delegate-answered granules cpu command hold g is place held =
     (tag-same granules w.cells (known_cell hold.cells) g tag.Undelegated (same_at granules cpu hold w g held))))
 
 pub undelegate-answered : (granules cpu : ℕ) (command : Command) (hold : Hold) (g : ℕ) → call_of command ≡ call.GranuleUndelegate g → hold.place ≡ Outside
-    → IsTrue (is_held g hold.cells) → Answers granules cpu command hold (granule_undelegate (seen granules hold.cells) g)
+    → IsTrue (is_held g hold.cells) → IsAnswer granules cpu command hold (granule_undelegate (seen granules hold.cells) g)
 unfolding granule_undelegate new_cells answer_of class_of
 undelegate-answered granules cpu command hold g is place held =
     let s = seen granules hold.cells in
-    answers-local granules cpu command hold (granule_undelegate s g)
+    is_answer granules cpu command hold (granule_undelegate s g)
     (Answered.can-decided cpu hold (with_front s (call.GranuleUndelegate g) []) (done [] (Retagged (record { granule = g; tag = tag.Undelegated })))
     (record { held = (held, tt); here = tt }))
     (λ w. host-outcome granules cpu command hold w (call.GranuleUndelegate g) is refl place (granule_undelegate s g)
@@ -74,11 +70,11 @@ undelegate-answered granules cpu command hold g is place held =
 -- ---- realms and RECs
 
 pub activate-answered : (granules cpu : ℕ) (command : Command) (hold : Hold) (rd : ℕ) → call_of command ≡ call.RealmActivate rd → hold.place ≡ Outside
-    → IsTrue (is_held rd hold.cells) → Answers granules cpu command hold (realm_activate (seen granules hold.cells) rd)
+    → IsTrue (is_held rd hold.cells) → IsAnswer granules cpu command hold (realm_activate (seen granules hold.cells) rd)
 unfolding realm_activate new_cells answer_of class_of
 activate-answered granules cpu command hold rd is place held =
     let s = seen granules hold.cells in
-    answers-local granules cpu command hold (realm_activate s rd)
+    is_answer granules cpu command hold (realm_activate s rd)
     (Answered.can-decided cpu hold (with_front s (call.RealmActivate rd) (row (is_new (realm_at s rd)) (realm_error 0) ∷ []))
     (done [] (RecordsChanged (Some (record { rd = rd; update = Activated })) None))
     (record { held = (held, tt); here = tt }))
@@ -90,12 +86,12 @@ activate-answered granules cpu command hold rd is place held =
 pub rec_create-answered : (granules cpu : ℕ) (command : Command) (hold : Hold) (rd rec mpidr flags aux0 aux1 : ℕ)
     → call_of command ≡ call.RecCreate rd rec mpidr flags aux0 aux1 → hold.place ≡ Outside → IsTrue (is_held rd hold.cells) → IsTrue (is_held rec hold.cells)
     → IsTrue (is_held aux0 hold.cells) → IsTrue (is_held aux1 hold.cells)
-    → Answers granules cpu command hold (rec_create (seen granules hold.cells) rd rec mpidr flags aux0 aux1)
+    → IsAnswer granules cpu command hold (rec_create (seen granules hold.cells) rd rec mpidr flags aux0 aux1)
 unfolding rec_create new_cells answer_of class_of
 rec_create-answered granules cpu command hold rd rec mpidr flags aux0 aux1 is place rd_held rec_held aux0_held aux1_held =
     let s = seen granules hold.cells in
     let known = known_cell hold.cells in
-    answers-local granules cpu command hold (rec_create s rd rec mpidr flags aux0 aux1)
+    is_answer granules cpu command hold (rec_create s rd rec mpidr flags aux0 aux1)
     (Answered.can-decided cpu hold (with_front s (call.RecCreate rd rec mpidr flags aux0 aux1)
     (row (is_new (realm_at s rd)) (realm_error 0) ∷ input (mpidr == (realm_at s rd).next_index && nat_lt mpidr 8) ∷ []))
     (done [] (RecMade rd rec mpidr flags aux0 aux1))
@@ -112,13 +108,13 @@ rec_create-answered granules cpu command hold rd rec mpidr flags aux0 aux1 is pl
 -- a REC of which the realm is held
 pub enter-answered : (granules cpu : ℕ) (command : Command) (hold : Hold) (rec : ℕ) (it : RecRecord) → call_of command ≡ call.RecEnter rec → hold.place ≡ Outside
     → cell_in rec hold.cells ≡ Some (Rec it) → IsTrue (is_held it.owner hold.cells)
-    → Answers granules cpu command hold (rec_enter (seen granules hold.cells) cpu rec)
+    → IsAnswer granules cpu command hold (rec_enter (seen granules hold.cells) cpu rec)
 unfolding rec_enter new_cells answer_of class_of
 enter-answered granules cpu command hold rec it is place found owner_held =
     let s = seen granules hold.cells in
     let known = known_cell hold.cells in
     let held : IsTrue (is_held rec hold.cells) = ap (λ (o : Option Cell). is_some o) found in
-    answers-local granules cpu command hold (rec_enter s cpu rec)
+    is_answer granules cpu command hold (rec_enter s cpu rec)
     (Answered.can-decided cpu hold (with_front s (call.RecEnter rec)
     (row (not (is_new (realm_at s (rec_at s rec).owner))) (realm_error 0) ∷ row (not (is_system_off (realm_at s (rec_at s rec).owner))) (realm_error 1)
     ∷ row (is_none (rec_at s rec).cpu && (rec_at s rec).runnable) rec_error ∷ []))

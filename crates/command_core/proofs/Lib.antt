@@ -3,6 +3,7 @@ pub mod Changes
 pub mod Rising
 pub mod Answered
 pub mod Fronts
+pub mod Passed
 pub mod HostAnswers
 pub mod CallAnswers
 pub mod Roots
@@ -10,3 +11,7 @@ pub mod Ready
 pub mod PlainCells
 pub mod Others
 pub mod Steps
+pub mod SideTable
+pub mod NewRoots
+pub mod Makes
+pub mod Called

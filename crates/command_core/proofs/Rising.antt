@@ -1,5 +1,5 @@
 -- What passes the tests of a take is a rising take.
-use Rattle.std.proofs.Common.{◌≡◌, ℕ, zero, suc, ◌<◌, ◌≤◌, Bool, true, false, not, ◌&&◌, ◌||◌, ◌==◌, nat_lt, nat_le, if◌then◌else◌, List, [], ◌∷◌, length, get_or, Option, Some, None, ◌⊎◌, inl, inr, refl, sym, ap, ◌∙◌, subst, arith, eqb-true, eq-eqb, ltb-true}
+use Rattle.std.proofs.Common.{◌≡◌, ℕ, zero, suc, ◌<◌, ◌≤◌, Bool, true, false, not, ◌&&◌, ◌||◌, ◌==◌, nat_lt, nat_le, if◌then◌else◌, List, [], ◌∷◌, length, get_or, Option, Some, None, inl, inr, refl, sym, ap, ◌∙◌, subst, arith, eqb-true, eq-eqb, ltb-true}
 use Rattle.std.specs.Prelude.{IsTrue, Contains, is_some}
 use Rattle.std.specs.List.{list_any, list_all}
 use Rattle.std.proofs.lemmas.Bool.{false≢true, and_parts, not-true}
@@ -10,7 +10,7 @@ use Rattle.rmm_spec.specs.Lookup.{tag_number, is_granule}
 use Rattle.rmm_spec.specs.Rows.{Needed}
 use Rattle.rmm_spec.specs.Cell.{Cell, Undelegated, Delegated, Rd, Rec, RecAux, Data, Rtt, tag_of, is_data}
 use Rattle.rmm_spec.specs.Local.{HeldCell, granules_held}
-use Rattle.rmm_spec.specs.Locks.{is_named, names_part, depth, IsStray, IsNextNamed, IsNextPart, IsRisingTake}
+use Rattle.rmm_spec.specs.Locks.{is_named, names_part, depth, IsStray, IsRisingTake}
 use Rattle.rmm_spec.proofs.TagLaws.{tag_number-injective}
 use Rattle.world_laws.specs.Replaced.{held_at}
 use Rattle.world_laws.proofs.Members.{Contains-nil, Contains-head, Contains-tail}
@@ -32,21 +32,21 @@ all_at p (x ∷ held) all h has = by (all_at p held) has.0 has.1 has.2
     by rest zero within is = subst (λ (y : HeldCell). p y.granule ≡ true) is parts.0
     by rest (suc k) within is = rest parts.1 h (k, omega arith, is)
 
--- no granule behind the first is the first
-later_apart : (g : ℕ) (held : List HeldCell) → list_any (λ other. other == g) (granules_held held) ≡ false → (h : HeldCell) → Contains held h → (h.granule == g) ≡ false
-later_apart g [] none h has = absurd (Contains-nil h has)
-later_apart g (x ∷ held) none h has = by (later_apart g held) has.0 has.1 has.2
+-- what no granule that is held passes, this one doesn't
+pub none_at : (p : ℕ → Bool) (held : List HeldCell) → list_any p (granules_held held) ≡ false → (h : HeldCell) → Contains held h → p h.granule ≡ false
+none_at p [] none h has = absurd (Contains-nil h has)
+none_at p (x ∷ held) none h has = by (none_at p held) has.0 has.1 has.2
   where
     first : (b c : Bool) → (b || c) ≡ false → (b ≡ false) × (c ≡ false)
     first true c is = absurd (false≢true (sym is))
     first false c is = (refl, is)
 
-    parts : ((x.granule == g) ≡ false) × (list_any (λ other. other == g) (granules_held held) ≡ false)
-    parts = first (x.granule == g) (list_any (λ other. other == g) (granules_held held)) none
+    parts : (p x.granule ≡ false) × (list_any p (granules_held held) ≡ false)
+    parts = first (p x.granule) (list_any p (granules_held held)) none
 
-    by : (list_any (λ other. other == g) (granules_held held) ≡ false → (y : HeldCell) → Contains held y → (y.granule == g) ≡ false)
-        → (k : ℕ) → k < length (x ∷ held) → get_or (x ∷ held) k h ≡ h → (h.granule == g) ≡ false
-    by rest zero within is = subst (λ (y : HeldCell). (y.granule == g) ≡ false) is parts.0
+    by : (list_any p (granules_held held) ≡ false → (y : HeldCell) → Contains held y → p y.granule ≡ false)
+        → (k : ℕ) → k < length (x ∷ held) → get_or (x ∷ held) k h ≡ h → p h.granule ≡ false
+    by rest zero within is = subst (λ (y : HeldCell). p y.granule ≡ false) is parts.0
     by rest (suc k) within is = rest parts.1 h (k, omega arith, is)
 
 -- each held cell is found at its granule
@@ -69,7 +69,7 @@ found-own (x ∷ held) distinct h has = by (found-own held) has.0 has.1 has.2
     by rest (suc k) within is =
         let there : Contains held h = (k, omega arith, is) in
         let apart : (h.granule == x.granule) ≡ false =
-        later_apart x.granule held (not-true (list_any (λ other. other == x.granule) (granules_held held)) parts.0) h there in
+        none_at (λ other. other == x.granule) held (not-true (list_any (λ other. other == x.granule) (granules_held held)) parts.0) h there in
         behind (let swapped : (x.granule == h.granule) ≡ false = grind (arith, nat_tests) in swapped) (rest parts.1 h there)
 
 -- what is found is held
@@ -91,7 +91,7 @@ same_tag : (a b : Tag) → (tag_number a == tag_number b) ≡ true → a ≡ b
 same_tag a b is = tag_number-injective a b (eqb-true (tag_number a) (tag_number b) is)
 
 -- a name of the granule has the cell's tag
-right_tag : (names : List Needed) (g : ℕ) (c : Cell) → is_wrong_for c g names ≡ false → (n : Needed) → Contains names n → n.granule ≡ g → tag_of c ≡ n.tag
+pub right_tag : (names : List Needed) (g : ℕ) (c : Cell) → is_wrong_for c g names ≡ false → (n : Needed) → Contains names n → n.granule ≡ g → tag_of c ≡ n.tag
 right_tag [] g c right n has same = absurd (Contains-nil n has)
 right_tag (m ∷ names) g c right n has same = by (right_tag names g c) has.0 has.1 has.2
   where

@@ -1,5 +1,5 @@
 -- What is held is what a whole has that agrees with it.
-use Rattle.std.proofs.Common.{◌≡◌, ℕ, zero, suc, Bool, true, false, ◌&&◌, ◌==◌, if◌then◌else◌, List, [], ◌∷◌, Option, Some, None, refl, sym, ap, ◌∙◌, subst, eqb-true}
+use Rattle.std.proofs.Common.{◌≡◌, ℕ, Bool, true, false, ◌&&◌, ◌==◌, if◌then◌else◌, List, [], ◌∷◌, Some, refl, ap, subst, eqb-true}
 use Rattle.std.specs.Prelude.{IsTrue, Contains, is_some, unwrap_or}
 use Rattle.std.proofs.lemmas.Bool.{false≢true, and_from, eq-eqb}
 use Rattle.rmm_spec.specs.declared.tag.Tag.{Tag}
@@ -7,6 +7,7 @@ use Rattle.rmm_spec.specs.Lookup.{tag_number, is_granule, has_tag, realm_at, rec
 use Rattle.rmm_spec.specs.Cell.{Cell, Undelegated, tag_of, realm_in, rec_in}
 use Rattle.rmm_spec.specs.Flat.{flat_state}
 use Rattle.rmm_spec.specs.Local.{HeldCell, granules_held, Agrees}
+use Rattle.world_laws.specs.Replaced.{replaced_cells}
 use Rattle.world_laws.proofs.Members.{Contains-head, Contains-tail}
 use Rattle.command_core.specs.Seen.{cell_in, is_held, known_cell}
 
@@ -28,6 +29,17 @@ held-contains (h ∷ held) g has = by (h.granule == g) refl (held-contains held 
         → IsTrue (is_some (if b then Some h.cell else cell_in g held)) → Contains (h.granule ∷ granules_held held) g
     by true same rest here = subst (λ x. Contains (h.granule ∷ granules_held held) x) (eqb-true h.granule g same) (Contains-head h.granule (granules_held held))
     by false apart rest here = Contains-tail h.granule (granules_held held) g (rest here)
+
+-- what is held is held, whatever its cells are
+pub is_held-replaced_cells : (held : List HeldCell) (g granule : ℕ) (cell : Cell) → is_held g (replaced_cells held granule cell) ≡ is_held g held
+is_held-replaced_cells [] g granule cell = refl
+is_held-replaced_cells (h ∷ held) g granule cell = by (h.granule == g) (is_held-replaced_cells held g granule cell)
+  where
+    by : (b : Bool) → is_held g (replaced_cells held granule cell) ≡ is_held g held
+        → is_some (if b then Some (if h.granule == granule then cell else h.cell) else cell_in g (replaced_cells held granule cell))
+        ≡ is_some (if b then Some h.cell else cell_in g held)
+    by true rest = refl
+    by false rest = rest
 
 -- ---- what rows read of it
 

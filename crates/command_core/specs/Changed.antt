@@ -1,12 +1,13 @@
 -- What a change makes of what one CPU holds: its cells, the side table and its place. It is what the same change makes of a
 -- whole, on the cells that are held. This project's own.
-use Rattle.std.specs.Prelude.{◌≡◌, ℕ, IsTrue, List, [], ◌∷◌, ◌++◌, Option, Some, None, Result, Ok, Err}
+use Rattle.std.specs.Prelude.{◌≡◌, ℕ, ◌≤◌, ◌&&◌, ◌==◌, nat_lt, IsTrue, List, [], ◌∷◌, ◌++◌, Option, Some, None, Result, Ok, Err}
 use Rattle.std.specs.List.{AllByRecursion}
 use Rattle.rmm_spec.specs.declared.accepted.Accepted.{Accepted}
 use Rattle.rmm_spec.specs.declared.accepted.Accepted.TheVariants.{Done, Reaches}
 use Rattle.rmm_spec.specs.declared.change.Change.{Change}
 use Rattle.rmm_spec.specs.declared.change.Change.TheVariants.{Unchanged, Retagged, RealmMade, RealmDestroyed, RecMade, RecDestroyed, RecordsChanged, TableMade, TableDestroyed, EntriesChanged}
 use Rattle.rmm_spec.specs.declared.change.RealmChange.{RealmChange}
+use Rattle.rmm_spec.specs.declared.change.RealmUpdate.{RealmUpdate}
 use Rattle.rmm_spec.specs.declared.change.RealmUpdate.TheVariants.{RecCounted}
 use Rattle.rmm_spec.specs.declared.change.RecChange.{RecChange}
 use Rattle.rmm_spec.specs.declared.change.RecUpdate.{RecUpdate}
@@ -14,12 +15,18 @@ use Rattle.rmm_spec.specs.declared.change.RecUpdate.TheVariants.{Entered, Exited
 use Rattle.rmm_spec.specs.declared.command.Command.{Command}
 use Rattle.rmm_spec.specs.declared.reply.Reply.{Reply}
 use Rattle.rmm_spec.specs.declared.reply.Reply.TheVariants as reply
+use Rattle.rmm_spec.specs.declared.tag.Tag.{Tag}
+use Rattle.rmm_spec.specs.declared.tag.Tag.TheVariants as tag
+use Rattle.rmm_spec.specs.Applicable.{IsRealmUpdate}
 use Rattle.rmm_spec.specs.Change.{new_realm, new_rec}
-use Rattle.rmm_spec.specs.Cell.{Cell, Undelegated, Delegated, Rd, Rec, RecAux, Data, Rtt}
-use Rattle.rmm_spec.specs.Shape.{CpuPlace, Outside, Inside}
+use Rattle.rmm_spec.specs.Lookup.{is_granule}
+use Rattle.rmm_spec.specs.Step.Words.{is_space}
+use Rattle.rmm_spec.specs.Cell.{Cell, Delegated, Rd, Rec, RecAux, Rtt}
+use Rattle.rmm_spec.specs.Shape.{Side, CpuPlace, Outside, Inside}
 use Rattle.rmm_spec.specs.Local.{HeldCell, Hold, LocalStep}
 use Rattle.world_laws.specs.Replaced.{held_at, replaced_all}
 use Rattle.shape_laws.specs.Whole.{cell_with_tag, cell_with_realm, cell_with_rec, root_table, side_changed}
+use Rattle.realm_desc.specs.Updates.{IsRecUpdate}
 use Rattle.command_core.specs.Seen.{is_held, known_cell}
 
 -- ---- cells
@@ -68,6 +75,9 @@ new_place held place change = place
 
 -- ---- what is held
 
+abbrev pub hold_of : List HeldCell → Side → CpuPlace → Hold
+hold_of cells side place = record { cells = cells; side = side; place = place }
+
 abbrev pub hold_changed : Hold → Change → Hold
 hold_changed hold change = record {
   cells = replaced_all hold.cells (new_cells hold.cells change);
@@ -90,9 +100,16 @@ RunsHere cpu place (TableDestroyed rd level number rtt entry) = ⊥
 RunsHere cpu place (EntriesChanged rd level entries page realm rec) = ⊥
 RunsHere cpu place _ = Unit {0}
 
--- each cell that is put in has its place, and the REC that is entered or left is this CPU's
+-- each cell that is put in has its place
+abbrev pub AreAllHeld : List HeldCell → List HeldCell → Type 0
+AreAllHeld held changes = AllByRecursion (λ (h : HeldCell). IsTrue (is_held h.granule held)) changes
+
+abbrev pub AreHeld : List HeldCell → Change → Type 0
+AreHeld held change = AreAllHeld held (new_cells held change)
+
+-- and the REC that is entered or left is this CPU's
 pub record CanChange (cpu : ℕ) (hold : Hold) (change : Change) : Type 0 where
-  pub held : AllByRecursion (λ (h : HeldCell). IsTrue (is_held h.granule hold.cells)) (new_cells hold.cells change)
+  pub held : AreHeld hold.cells change
   pub here : RunsHere cpu hold.place change
 
 -- what is answered is a refusal, or a change that can be made of what is held
@@ -100,6 +117,56 @@ abbrev pub CanAnswer : ℕ → Hold → Result Accepted Reply → Type 0
 CanAnswer cpu hold (Err refusal) = Unit {0}
 CanAnswer cpu hold (Ok (Done words change)) = CanChange cpu hold change
 CanAnswer cpu hold (Ok (Reaches stretch)) = ⊥
+
+-- ---- what a change requires of the records that are held, and of the side table
+
+-- a granule that holds nothing
+abbrev pub IsPlain : Tag → Type 0
+IsPlain tag.Rd = ⊥
+IsPlain tag.Rec = ⊥
+IsPlain tag.Rtt = ⊥
+IsPlain _ = Unit {0}
+
+-- a realm whose next REC has that index
+abbrev pub CountsIn : ℕ → Cell → Type 0
+CountsIn mpidr (Rd realm) = IsTrue (mpidr == realm.next_index && nat_lt mpidr 8)
+CountsIn mpidr _ = ⊥
+
+abbrev pub FitsRealm : RealmUpdate → Cell → Type 0
+FitsRealm update (Rd realm) = IsRealmUpdate update
+FitsRealm update _ = ⊥
+
+abbrev pub FitsRec : RecUpdate → Cell → Type 0
+FitsRec update (Rec rec) = IsRecUpdate rec update
+FitsRec update _ = ⊥
+
+abbrev pub FitsRealmChange : List HeldCell → Option RealmChange → Type 0
+FitsRealmChange held None = Unit {0}
+FitsRealmChange held (Some change) = FitsRealm change.update (known_cell held change.rd)
+
+abbrev pub FitsRecChange : List HeldCell → Option RecChange → Type 0
+FitsRecChange held None = Unit {0}
+FitsRecChange held (Some change) = FitsRec change.update (known_cell held change.rec)
+
+-- the records are what the change updates
+abbrev pub FitsCells : List HeldCell → Change → Type 0
+FitsCells held (Retagged change) = IsPlain change.tag
+FitsCells held (RealmMade rd root width level vmid algo) = IsTrue (is_space width level) × (algo ≡ 0)
+FitsCells held (RecMade rd rec mpidr flags aux0 aux1) = CountsIn mpidr (known_cell held rd)
+FitsCells held (RecordsChanged realm rec) = FitsRealmChange held realm × FitsRecChange held rec
+FitsCells held (TableMade rd level number rtt entry) = ⊥
+FitsCells held (TableDestroyed rd level number rtt entry) = ⊥
+FitsCells held (EntriesChanged rd level entries page realm rec) = ⊥
+FitsCells held _ = Unit {0}
+
+-- a REC that is made is counted at a granule's address, and a machine has 4096 granules at most
+abbrev pub CanCount : Side → Change → Type 0
+CanCount side (RecMade rd rec mpidr flags aux0 aux1) = IsTrue (is_granule 4096 rd) × (side.rec_counts rd ≤ 4096)
+CanCount side _ = Unit {0}
+
+pub record CanMake (hold : Hold) (change : Change) : Type 0 where
+  pub fits : FitsCells hold.cells change
+  pub counts : CanCount hold.side change
 
 -- ---- decisions
 
@@ -112,3 +179,14 @@ abbrev pub Answers : ℕ → ℕ → Command → Hold → Result Accepted Reply 
 Answers granules cpu command hold (Err refusal) = Decides granules cpu command hold refusal Unchanged
 Answers granules cpu command hold (Ok (Done words change)) = Decides granules cpu command hold (reply.Ok words) change
 Answers granules cpu command hold (Ok (Reaches stretch)) = ⊥
+
+-- what is answered can be made, and is a local step
+pub record IsAnswer (granules cpu : ℕ) (command : Command) (hold : Hold) (answer : Result Accepted Reply) : Type 0 where
+  pub can : CanAnswer cpu hold answer
+  pub is_local : Answers granules cpu command hold answer
+
+-- where it is no refusal, its change can be made of the records
+abbrev pub CanMakeAnswer : Hold → Result Accepted Reply → Type 0
+CanMakeAnswer hold (Err refusal) = Unit {0}
+CanMakeAnswer hold (Ok (Done words change)) = CanMake hold change
+CanMakeAnswer hold (Ok (Reaches stretch)) = Unit {0}

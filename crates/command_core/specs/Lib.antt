@@ -7,6 +7,8 @@ pub mod Named
 pub mod Names
 pub mod Settled
 pub mod Plan
+pub mod Decided
 pub mod Sides
 pub mod Callers
 pub mod Next
+pub mod Rooms

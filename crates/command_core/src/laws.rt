@@ -2,6 +2,7 @@
 
 ghost use Rattle.std.specs.Prelude.{◌≡◌, ℕ, true, IsTrue, List, Result};
 ghost use Rattle.rmm_spec.specs.declared.accepted.Accepted.{Accepted};
+ghost use Rattle.rmm_spec.specs.declared.change.Change.{Change};
 ghost use Rattle.rmm_spec.specs.declared.command.Command.{Command};
 ghost use Rattle.rmm_spec.specs.declared.reply.Reply.{Reply};
 ghost use Rattle.rmm_spec.specs.Call.{call_of};
@@ -10,11 +11,13 @@ ghost use Rattle.rmm_spec.specs.Step.{outcome};
 ghost use Rattle.rmm_spec.specs.Cell.{Cell};
 ghost use Rattle.rmm_spec.specs.Flat.{flat_state};
 ghost use Rattle.rmm_spec.specs.Shape.{CpuPlace, IsWellShaped};
-ghost use Rattle.rmm_spec.specs.Local.{HeldCell, Hold, granules_held, Agrees};
+ghost use Rattle.rmm_spec.specs.Local.{HeldCell, Hold, granules_held, Agrees, LocalStep};
 ghost use Rattle.rmm_spec.specs.Locks.{IsRisingTake};
-ghost use Rattle.command_core.specs.Seen.{are_distinct};
+ghost use Rattle.world_laws.specs.Replaced.{replaced_all};
+ghost use Rattle.shape_laws.specs.Whole.{side_changed};
+ghost use Rattle.command_core.specs.Seen.{are_distinct, known_cell};
 ghost use Rattle.command_core.specs.Served.{is_served};
-ghost use Rattle.command_core.specs.Changed.{CanAnswer, Answers};
+ghost use Rattle.command_core.specs.Changed.{CanAnswer, Answers, Decides, new_cells, new_place};
 ghost use Rattle.command_core.specs.Named.{is_upward, is_downward};
 ghost use Rattle.command_core.specs.Settled.{is_settled};
 ghost use Rattle.command_core.specs.Plan.{IsReady};
@@ -40,4 +43,11 @@ pub fn tested_takes_rise()
         → is_upward granules names held next ≡ true → IsRisingTake granules names held next }
     ensures downward { (granules : ℕ) (names : List Needed) (held : List HeldCell) (above next : ℕ) → IsTrue (are_distinct (granules_held held))
         → is_downward granules names held above next ≡ true → IsRisingTake granules names held next }
+{}
+
+/// A decided change that is made of what is held is a local step, from what was held to what is held then.
+pub fn applied_decisions_are_local()
+    ensures { (granules cpu : ℕ) (command : Command) (hold new : Hold) (given : Reply) (change : Change) → Decides granules cpu command hold given change
+        → new.cells ≡ replaced_all hold.cells (new_cells hold.cells change) → new.side ≡ side_changed (known_cell hold.cells) hold.side change
+        → new.place ≡ new_place hold.cells hold.place change → LocalStep granules cpu command given hold new }
 {}

@@ -1,15 +1,18 @@
-//! The monitor's core: what a CPU does with the granules that it holds, and nothing else of the machine before it.
-//! It promises that cells held under locks are read and replaced by address; that what all wholes answer which agree with
-//! those is a local step; and what a CPU does next for a served command, whatever it holds: it takes a lock at a rising take,
-//! frees one, or is ready to commit. The answer comes later.
-//! Nothing here waits. Addresses are in bytes.
+//! The monitor's core: what a CPU does with the granules that it holds. Nothing here waits; addresses are in bytes.
+//! It promises that cells held under locks are read and replaced by address; what a CPU does next for a served command,
+//! whatever it holds: it takes a lock at a rising take, frees one, or is ready to commit; and that the reply and the change that
+//! it is then given are a step of the machine, whatever the other cells are, made with the memory that was taken before it.
 //! The world of turns and the monitor's threads are to depend on it.
 #![tactic(auto)]
 
+mod applying;
 mod caller;
 mod cell;
+mod change_room;
 mod cpu_place;
+mod deciding;
 mod held;
+mod host_answers;
 mod laws;
 mod name_list;
 mod names;
@@ -18,6 +21,10 @@ mod plain_held;
 #[cfg(test)]
 mod plan_tests;
 mod planning;
+mod put_cells;
+mod realm_answers;
+mod rec_answers;
+mod rooms;
 mod serving;
 mod settling;
 mod side;
@@ -25,13 +32,20 @@ mod taking;
 #[cfg(test)]
 mod tests;
 
+pub use applying::apply;
 pub use cell::Cell;
+pub use change_room::Room;
 pub use cpu_place::CpuPlace;
+pub use deciding::decide;
 pub use held::Held;
 pub use laws::{answers_are_local, settled_commands_are_ready, tested_takes_rise};
 pub use next::Next;
+pub use laws::{
+    answers_are_local, applied_decisions_are_local, settled_commands_are_ready, tested_takes_rise,
+};
 pub use plain_held::PlainHeld;
 pub use planning::next_lock;
 pub use rmm_spec::Change;
+pub use rooms::room;
 pub use serving::served;
 pub use side::Side;

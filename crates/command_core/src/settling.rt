@@ -67,9 +67,9 @@ fn are_granules(config: &Config, names: &[Name]) -> bool
     names.iter().all(|name| is_granule(config, name.granule))
 }
 
-// Whether the words allow it, and each granule that is named is one.
+/// Whether the words allow it, and each granule that is named is one.
 #[tactic(auto, unfolding(crate::specs::Named::words_fit))]
-fn words_fit(config: &Config, call: &Call) -> bool
+pub(crate) fn words_fit(config: &Config, call: &Call) -> bool
     requires served { IsTrue (is_served call.now) }
     requires host { class_of call.now ≡ ByHost }
     ensures { result ≡ named.words_fit config.now.granules call.now }

@@ -1,33 +1,40 @@
 //! What is kept of no granule.
 
-use granule_state::{Config, GRANULE_BYTES, Pa};
+ghost use Rattle.std.specs.Prelude.{◌≡◌, ◌<◌, ◌/◌, IsTrue, vec_len};
+ghost use Rattle.rmm_spec.specs.Lookup.{is_granule};
+
+use granule_state::{GRANULE_BYTES, Pa};
 use std::alloc::{AllocError, Global};
 
 /// How many VMIDs there are.
 const VMIDS: usize = 256;
 
-/// The realm that has each VMID, and how many RECs belong to each realm.
+/// How many granules a machine has at most.
+const GRANULES: usize = 4096;
+
+/// The realm that has each VMID, and how many RECs belong to each realm, for a machine of any size.
 #[derive(Debug, Drop)]
 pub struct Side {
     // at each VMID the descriptor of the realm that has it
-    pub(crate) vmids: Vec<Option<Pa>>,
+    vmids: Vec<Option<Pa>>,
     // at each granule how many RECs belong to the realm there
-    pub(crate) rec_counts: Vec<u64>,
+    rec_counts: Vec<u64>,
+    ghost vmids_whole: { vec_len vmids ≡ 256 },
+    ghost counts_whole: { vec_len rec_counts ≡ 4096 },
 }
 
 #[tactic(auto, unfolding(crate::specs::Sides::side_of))]
 impl Side {
-    ghost use Rattle.std.specs.Prelude.{◌≡◌, ℕ, IfOk, None};
-    ghost use Rattle.command_core.specs.Sides.{side_of};
+    ghost use Rattle.std.specs.Prelude.{◌≡◌, ◌≤◌, ◌+◌, ◌-◌, ℕ, IfOk, IsTrue, None, Some};
+    ghost use Rattle.command_core.specs.Sides.{side_of, with_vmid, with_count};
 
     /// No VMID is used, and no realm has a REC.
-    pub fn new(alloc: Global, config: &Config) -> Result<Side, AllocError>
+    pub fn new(alloc: Global) -> Result<Side, AllocError>
         ensures unused { IfOk result (λ side. (vmid : ℕ) → (side_of side).vmids vmid ≡ None) }
         ensures none { IfOk result (λ side. (rd : ℕ) → (side_of side).rec_counts rd ≡ 0) }
     {
-        let granules = config.granules() as usize;
         let vmids = vec![in alloc; None; VMIDS]?;
-        let rec_counts = vec![in alloc; 0; granules]?;
+        let rec_counts = vec![in alloc; 0; GRANULES]?;
         Ok(Side { vmids, rec_counts })
     }
 
@@ -54,4 +61,48 @@ impl Side {
             None => 0,
         }
     }
+
+    /// Gives a VMID to a realm, or frees it.
+    pub(crate) fn set_vmid(&mut self, vmid: u8, realm: Option<Pa>)
+        ensures { side_of self.new ≡ with_vmid (side_of self.old) vmid realm }
+    {
+        self.vmids[usize::from(vmid)] = realm;
+    }
+
+    /// The realm has one REC more.
+    pub(crate) fn count_rec(&mut self, rd: Pa)
+        requires granule { IsTrue (is_granule 4096 rd) }
+        requires limit { (side_of self.old).rec_counts rd ≤ 4096 }
+        ensures { side_of self.new ≡ with_count (side_of self.old) rd ((side_of self.old).rec_counts rd + 1) }
+    {
+        let count = self.rec_count(rd);
+        self.set_count(rd, count + 1);
+    }
+
+    /// The realm has one REC less, where it has any.
+    pub(crate) fn uncount_rec(&mut self, rd: Pa)
+        ensures { side_of self.new ≡ with_count (side_of self.old) rd ((side_of self.old).rec_counts rd - 1) }
+    {
+        let count = self.rec_count(rd);
+        if count > 0 {
+            self.set_count(rd, count - 1);
+        }
+    }
+
+    fn set_count(&mut self, rd: Pa, count: u64)
+        requires { IsTrue (is_granule 4096 rd) }
+        ensures { side_of self.new ≡ with_count (side_of self.old) rd count }
+    {
+        self.rec_counts[place_of(rd)] = count;
+    }
+}
+
+// Where what is kept of a granule stands.
+#[tactic(auto, using(crate::proofs::SideTable::place_within))]
+fn place_of(granule: Pa) -> usize
+    requires { IsTrue (is_granule 4096 granule) }
+    ensures place { result ≡ granule / 4096 }
+    ensures within { result < 4096 }
+{
+    (granule.address() / GRANULE_BYTES) as usize
 }

@@ -1,23 +1,22 @@
 -- In a state that holds the two records: what the definitions answer, and the step that an answer is.
-use Rattle.std.proofs.Common.{◌≡◌, ℕ, Bool, true, false, ◌==◌, if◌then◌else◌, ◌&&◌, not, IsTrue, [], ◌∷◌, refl, sym, ap, ◌∙◌, subst}
-use Rattle.std.specs.Prelude.{Result, Ok, Err, Option, Some, None, is_none, unwrap_or}
+use Rattle.std.proofs.Common.{◌≡◌, ℕ, Bool, true, false, ◌==◌, if◌then◌else◌, not, IsTrue, refl, sym, ap, ◌∙◌, subst}
+use Rattle.std.specs.Prelude.{Ok, Err, Option, Some, None, is_none, unwrap_or}
 use Rattle.arrayvec.specs.ArrayVec.{ArrayVec}
 use Rattle.std.proofs.lemmas.Bool.{eqb-true, and_from, and_right}
-use Rattle.rmm_spec.specs.declared.accepted.Accepted.{Accepted}
 use Rattle.rmm_spec.specs.declared.accepted.Accepted.TheVariants.{Done}
 use Rattle.rmm_spec.specs.declared.call.Call.{Call}
 use Rattle.rmm_spec.specs.declared.call.Call.TheVariants as call
 use Rattle.rmm_spec.specs.declared.command.Command.{Command}
 use Rattle.rmm_spec.specs.declared.change.RealmUpdate.{RealmUpdate}
 use Rattle.rmm_spec.specs.declared.change.RecUpdate.{RecUpdate}
-use Rattle.rmm_spec.specs.declared.change.RecUpdate.TheVariants.{Entered, Exited}
+use Rattle.rmm_spec.specs.declared.change.RecUpdate.TheVariants.{Exited}
 use Rattle.rmm_spec.specs.declared.reply.Reply.{Reply}
 use Rattle.rmm_spec.specs.declared.reply.Reply.TheVariants as reply
 use Rattle.rmm_spec.specs.declared.tag.Tag.TheVariants as tag
 use Rattle.rmm_spec.specs.Call.{Class, ByHost, ByRealm, ByExit, call_of, class_of}
 use Rattle.rmm_spec.specs.Change.{changed, realm_updated, rec_updated}
-use Rattle.rmm_spec.specs.Lookup.{no_realm, no_rec, has_tag, is_inside, rec_inside, realm_at, rec_at, request_of, is_new, is_system_off}
-use Rattle.rmm_spec.specs.Rows.{row, decided, done, input_error, realm_error, rec_error}
+use Rattle.rmm_spec.specs.Lookup.{no_realm, no_rec, has_tag, is_inside, rec_inside, realm_at, rec_at, request_of}
+use Rattle.rmm_spec.specs.Rows.{done, input_error}
 use Rattle.rmm_spec.specs.State.{State, RealmRecord, RecRecord}
 use Rattle.rmm_spec.specs.Step.{Step, CarriesOut, answer_of, is_placed, outcome}
 use Rattle.rmm_spec.specs.Step.Named.{named}
@@ -25,7 +24,7 @@ use Rattle.rmm_spec.specs.Step.RealmCall.{exit_words, rec_change, rec_exit}
 use Rattle.rmm_spec.specs.Step.Rec.{rec_enter}
 use Rattle.rmm_spec.specs.Step.Words.{words_of}
 use Rattle.rmm_spec.specs.Update.{with_realm, with_rec}
-use Rattle.rec_steps.specs.Answers.{answer_at, call_row, change_at, realm_after, rec_after}
+use Rattle.rec_steps.specs.Answers.{answer_at, call_row, enter_rows, change_at, realm_after, rec_after}
 use Rattle.rec_steps.specs.Held.{IsHeld}
 use Rattle.rec_steps.specs.declared.step.RecStep.{RecStep}
 
@@ -115,17 +114,7 @@ when_true b x y is = rw is refl
 when_false : {A : Type 0} (b : Bool) (x y : A) → b ≡ false → y ≡ (if b then x else y)
 when_false b x y is = rw is refl
 
--- the rows of an Enter over the two records
-abbrev pub enter_rows : RealmRecord → RecRecord → ℕ → ℕ → Result Accepted Reply
-enter_rows realm rec cpu address =
-    decided
-    (row (not (is_new realm)) (realm_error 0)
-    ∷ row (not (is_system_off realm)) (realm_error 1)
-    ∷ row (is_none rec.cpu && rec.runnable) rec_error
-    ∷ [])
-    (done ((request_of rec).base ∷ []) (rec_change address (Entered cpu)))
-
--- they are those that a state with these records has
+-- the rows of an Enter over the two records are those that a state with these records has
 pub rec_enter-IsHeld : (s : State) (cpu address : ℕ) (realm : RealmRecord) (rec : RecRecord) → IsHeld s address realm rec
     → IsTrue (has_tag s address tag.Rec) → enter_rows realm rec cpu address ≡ rec_enter s cpu address
 unfolding rec_enter words_of named

@@ -1,5 +1,5 @@
 -- What is answered from the records of a REC and of its realm alone, and what they become.
-use Rattle.std.specs.Prelude.{◌≡◌, ℕ, Bool, true, false, ◌&&◌, Result, Ok, Err, Option, Some, None, IfSome, is_none}
+use Rattle.std.specs.Prelude.{◌≡◌, ℕ, Bool, true, false, not, ◌&&◌, [], ◌∷◌, Result, Ok, Err, Option, Some, None, IfSome, is_none}
 use Rattle.rmm_spec.specs.declared.accepted.Accepted.{Accepted}
 use Rattle.rmm_spec.specs.declared.accepted.Accepted.TheVariants.{Done}
 use Rattle.rmm_spec.specs.declared.call.Call.{Call}
@@ -8,13 +8,16 @@ use Rattle.rmm_spec.specs.declared.change.Change.{Change}
 use Rattle.rmm_spec.specs.declared.change.Change.TheVariants.{Unchanged, RecordsChanged}
 use Rattle.rmm_spec.specs.declared.change.RealmUpdate.{RealmUpdate}
 use Rattle.rmm_spec.specs.declared.change.RecUpdate.{RecUpdate}
+use Rattle.rmm_spec.specs.declared.change.RecUpdate.TheVariants.{Entered}
 use Rattle.rmm_spec.specs.declared.reply.Reply.{Reply}
 use Rattle.rmm_spec.specs.declared.reply.Reply.TheVariants as reply
 use Rattle.rmm_spec.specs.declared.tag.Ripas.{Ripas}
 use Rattle.rmm_spec.specs.Applicable.{IsRealmUpdate}
 use Rattle.rmm_spec.specs.Change.{realm_updated, rec_updated}
+use Rattle.rmm_spec.specs.Lookup.{request_of, is_new, is_system_off}
+use Rattle.rmm_spec.specs.Rows.{row, decided, done, realm_error, rec_error}
 use Rattle.rmm_spec.specs.State.{State, RealmRecord, RecRecord}
-use Rattle.rmm_spec.specs.Step.RealmCall.{measurement_read, measurement_extend, realm_config, ipa_state_set, ipa_state_get, host_call, cpu_off, system_off}
+use Rattle.rmm_spec.specs.Step.RealmCall.{rec_change, measurement_read, measurement_extend, realm_config, ipa_state_set, ipa_state_get, host_call, cpu_off, system_off}
 use Rattle.rmm_spec.specs.Walk.{walk, entry_ripas, is_protected}
 use Rattle.realm_desc.specs.Updates.{IsRecUpdate}
 use Rattle.rec_steps.specs.declared.step.RecStep.{RecStep}
@@ -49,6 +52,16 @@ call_row s rec (HostCall imm) = host_call s rec imm
 call_row s rec CpuOff = cpu_off s rec
 call_row s rec SystemOff = system_off s rec
 call_row s rec _ = Err reply.Misplaced
+
+-- the rows of an Enter over the two records
+abbrev pub enter_rows : RealmRecord → RecRecord → ℕ → ℕ → Result Accepted Reply
+enter_rows realm rec cpu address =
+    decided
+    (row (not (is_new realm)) (realm_error 0)
+    ∷ row (not (is_system_off realm)) (realm_error 1)
+    ∷ row (is_none rec.cpu && rec.runnable) rec_error
+    ∷ [])
+    (done ((request_of rec).base ∷ []) (rec_change address (Entered cpu)))
 
 abbrev pub is_refusal : Reply → Bool
 is_refusal (reply.Ok words) = false

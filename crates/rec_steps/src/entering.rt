@@ -10,7 +10,7 @@ ghost use Rattle.rmm_spec.specs.Lookup.{has_tag, is_inside};
 ghost use Rattle.rmm_spec.specs.Step.{Step};
 ghost use Rattle.rmm_spec.specs.Step.Rec.{rec_enter};
 ghost use Rattle.rmm_spec.specs.Update.{with_realm, with_rec};
-ghost use Rattle.rec_steps.specs.Answers.{answer_at, is_refusal, IsStep};
+ghost use Rattle.rec_steps.specs.Answers.{answer_at, enter_rows, is_refusal, IsStep};
 ghost use Rattle.rec_steps.specs.Held.{IsHeld};
 
 use crate::reply::{realm_error, rec_error, reply_words};
@@ -23,6 +23,7 @@ use rmm_spec::{RecUpdate, Reply};
 pub fn answer_to_enter(realm: &Realm, rec: &Rec, cpu: u8) -> Result<RecStep, Reply>
     ensures answer { (s : State) (address : ℕ) → IsHeld s address realm.now rec.now → IsTrue (has_tag s address tag.Rec)
         → answer_at rec.now.owner address result ≡ rec_enter s cpu address }
+    ensures rows { (address : ℕ) → answer_at rec.now.owner address result ≡ enter_rows realm.now rec.now cpu address }
     ensures fits { IfOk result IsStep }
 {
     if realm.is_new() {

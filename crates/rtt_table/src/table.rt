@@ -3,7 +3,7 @@
 ghost use Rattle.std.specs.Prelude.{All, ◌≡◌, ℕ, ◌<◌, ◌≤◌, ◌↔◌, IsTrue, IfOk, IfSome, length, map, replicate, Some, slice_get, slice_set};
 ghost use Rattle.std.specs.List.{list_any};
 ghost use Rattle.rmm_spec.specs.Update.{entry_with_ripas};
-ghost use Rattle.rmm_spec.specs.Walk.{is_live};
+ghost use Rattle.rmm_spec.specs.Walk.{is_live, is_table};
 ghost use Rattle.rmm_spec.specs.Table.{entry_index, has_ripas, entries_with_ripas, AreAlike};
 
 use granule_state::Ipa;
@@ -83,6 +83,13 @@ impl Table {
         self.entries.iter().any(|entry| is_in_use(*entry))
     }
 
+    /// Whether some entry is a link to a table.
+    pub fn has_link(&self) -> bool
+        ensures { result ≡ list_any is_table self.now.entries }
+    {
+        self.entries.iter().any(|entry| is_link(*entry))
+    }
+
     /// Whether all 512 entries are equal.
     pub fn is_uniform(&self) -> bool
         ensures { IsTrue result ↔ AreAlike self.now.entries }
@@ -109,6 +116,13 @@ fn is_in_use(entry: Entry) -> bool
         Entry::Assigned(..) | Entry::AssignedNs(_) | Entry::Table(_) => true,
         Entry::Unassigned(_) | Entry::UnassignedNs => false,
     }
+}
+
+// Whether an entry leads to a table.
+fn is_link(entry: Entry) -> bool
+    ensures { result ≡ is_table entry }
+{
+    matches!(entry, Entry::Table(_))
 }
 
 // Whether each entry equals the given one.

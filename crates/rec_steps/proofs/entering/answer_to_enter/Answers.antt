@@ -1,9 +1,9 @@
 use Rattle.std.proofs.Common.{◌≡◌, rules, ◌∙◌}
 use Rattle.std.specs.Prelude.{Ok, Err, Some, None}
 use Rattle.rmm_spec.specs.declared.change.RecUpdate.TheVariants.{Entered}
-use Rattle.rec_steps.specs.Answers.{accepted_at}
+use Rattle.rec_steps.specs.Answers.{accepted_at, enter_rows}
 use Rattle.rec_steps.specs.declared.step.RecStep.{RecStep}
-use Rattle.rec_steps.proofs.Steps.{enter_rows, rec_enter-IsHeld}
+use Rattle.rec_steps.proofs.Steps.{rec_enter-IsHeld}
 use Rattle.rec_steps.proofs.entering.answer_to_enter.Goals as goal
 
 pub returns-then-is_new-clause-answer : goal.returns-then-is_new-clause-answer

@@ -1,0 +1,17 @@
+-- The memory that a change needs.
+use Rattle.std.specs.Prelude.{◌≡◌, Bool, true, false, Some}
+use Rattle.rmm_spec.specs.declared.change.Change.{Change}
+use Rattle.rmm_spec.specs.declared.change.Change.TheVariants.{RealmMade, TableMade}
+use Rattle.shape_laws.specs.Whole.{root_table}
+use Rattle.command_core.specs.declared.change_room.Room.{Room}
+
+-- whether the change puts in a table
+abbrev pub makes_table : Change → Bool
+makes_table (RealmMade rd root width level vmid algo) = true
+makes_table (TableMade rd level number rtt entry) = true
+makes_table _ = false
+
+-- the room has the root of the realm that the change makes
+abbrev pub IsRoomFor : Change → Room → Type 0
+IsRoomFor (RealmMade rd root width level vmid algo) room = room.root ≡ Some (root_table rd width level)
+IsRoomFor _ room = Unit {0}

@@ -1,0 +1,102 @@
+//! A decided change, made of the cells that are held, of the side table and of the CPU's place.
+
+ghost use Rattle.std.specs.Prelude.{◌≡◌, option_map, option_copied, unwrap_or};
+ghost use Rattle.rmm_spec.specs.Cell as whole;
+ghost use Rattle.world_laws.specs.Replaced.{replaced_all};
+ghost use Rattle.shape_laws.specs.Whole.{side_changed};
+ghost use Rattle.command_core.specs.Changed as spec;
+ghost use Rattle.command_core.specs.Changed.{hold_of, new_cells, AreHeld, CanMake, CanCount};
+ghost use Rattle.command_core.specs.Rooms.{IsRoomFor};
+ghost use Rattle.command_core.specs.Seen.{cell_of, place_of, known_cell};
+ghost use Rattle.command_core.specs.Sides.{side_of};
+
+use crate::cell::Cell;
+use crate::change_room::Room;
+use crate::cpu_place::CpuPlace;
+use crate::held::Held;
+use crate::put_cells::put_cells;
+use crate::side::Side;
+use granule_state::Pa;
+use rmm_spec::{Change, RecChange, RecUpdate};
+
+/// Makes the change, with the room that was taken for it. The records are updated as the definitions say; no memory is taken.
+pub fn apply<H: Held>(
+    held: &mut H,
+    side: &mut Side,
+    place: &mut CpuPlace,
+    change: Change,
+    room: Room,
+)
+    requires held { AreHeld (H.cells held.old) change }
+    requires makes { CanMake (hold_of (H.cells held.old) (side_of side.old) (place_of place.old)) change }
+    requires room { IsRoomFor change room }
+    ensures cells { H.cells held.new ≡ replaced_all (H.cells held.old) (new_cells (H.cells held.old) change) }
+    ensures side { side_of side.new ≡ side_changed (known_cell (H.cells held.old)) (side_of side.old) change }
+    ensures place { place_of place.new ≡ spec.new_place (H.cells held.old) (place_of place.old) change }
+{
+    *place = place_after(held, *place, &change);
+    change_side(held, side, &change);
+    put_cells(held, &change, room);
+}
+
+// Where the CPU is after the change.
+#[tactic(auto, unfolding(crate::specs::Changed::new_place))]
+fn place_after<H: Held>(held: &H, place: CpuPlace, change: &Change) -> CpuPlace
+    ensures { place_of result ≡ spec.new_place (H.cells held.now) (place_of place) change.now }
+{
+    match change {
+        Change::RecordsChanged {
+            rec: Some(change),
+            ..
+        }
+        | Change::EntriesChanged {
+            rec: Some(change),
+            ..
+        } => place_with_rec(held.cell(Pa::new(change.rec)), place, change),
+        _ => place,
+    }
+}
+
+// A CPU that enters a REC is inside of it, and one that leaves is outside.
+#[tactic(auto, unfolding(realm_desc::specs::View::rec_record))]
+fn place_with_rec(cell: Option<&Cell>, place: CpuPlace, change: &RecChange) -> CpuPlace
+    ensures { place_of result ≡ spec.place_with_rec (place_of place) change.now.rec change.now.update
+        (unwrap_or (option_map cell_of (option_copied cell.entry)) whole.Undelegated) }
+{
+    match (change.update, cell) {
+        (RecUpdate::Entered { .. }, Some(Cell::Rec(rec))) => CpuPlace::Inside {
+            rec: Pa::new(change.rec),
+            rd: rec.owner,
+        },
+        (RecUpdate::Exited, _) => CpuPlace::Outside,
+        _ => place,
+    }
+}
+
+// What the change makes of the side table: of the VMIDs where a realm is made or destroyed, of the counts where a REC is.
+#[tactic(auto, unfolding(shape_laws::specs::Whole::side_changed, realm_desc::specs::View::realm_record, realm_desc::specs::View::rec_record))]
+fn change_side<H: Held>(held: &H, side: &mut Side, change: &Change)
+    requires { CanCount (side_of side.old) change.now }
+    ensures { side_of side.new ≡ side_changed (known_cell (H.cells held.now)) (side_of side.old) change.now }
+{
+    match *change {
+        Change::RealmMade { rd, vmid, .. } => side.set_vmid(vmid, Some(Pa::new(rd))),
+        Change::RealmDestroyed { rd, .. } => {
+            if let Some(Cell::Rd(realm)) = held.cell(Pa::new(rd)) {
+                side.set_vmid(realm.vmid, None);
+            }
+        }
+        Change::RecMade { rd, .. } => side.count_rec(Pa::new(rd)),
+        Change::RecDestroyed { rec, .. } => {
+            if let Some(Cell::Rec(rec)) = held.cell(Pa::new(rec)) {
+                side.uncount_rec(rec.owner);
+            }
+        }
+        Change::Unchanged
+        | Change::Retagged(_)
+        | Change::RecordsChanged { .. }
+        | Change::TableMade { .. }
+        | Change::TableDestroyed { .. }
+        | Change::EntriesChanged { .. } => {}
+    }
+}

@@ -1,0 +1,9 @@
+//! The memory of one change.
+
+use rtt_table::Table;
+
+/// What a change puts in that takes memory: the root of a realm that is made.
+#[derive(Debug, Drop)]
+pub struct Room {
+    pub(crate) root: Option<Table>,
+}

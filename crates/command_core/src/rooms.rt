@@ -1,0 +1,53 @@
+//! The memory that a change needs, taken before it.
+
+ghost use Rattle.std.specs.Prelude.{◌≡◌, IfOk, OnErr, IsTrue};
+ghost use Rattle.shape_laws.specs.Whole as whole;
+ghost use Rattle.command_core.specs.Rooms.{IsRoomFor, makes_table};
+ghost use Rattle.command_core.specs.Sides.{side_of};
+
+use crate::change_room::Room;
+use crate::side::Side;
+use rmm_spec::{Change, Entry, Place, Ripas};
+use rtt_table::Table;
+use std::alloc::{AllocError, Global};
+
+/// How many entries of a root are of the protected half.
+const PROTECTED: usize = 256;
+
+/// Takes all memory that the change needs. It is refused only where the change makes a table and memory was refused; on
+/// both ways the side table holds what it held.
+pub fn room(alloc: Global, _side: &mut Side, change: &Change) -> Result<Room, AllocError>
+    ensures kept { side_of _side.new ≡ side_of _side.old }
+    ensures ok { IfOk result (IsRoomFor change.now) }
+    ensures only { OnErr result (IsTrue (makes_table change.now)) }
+{
+    match *change {
+        Change::RealmMade {
+            rd,
+            width,
+            level,
+            ..
+        } => {
+            let root = root_table(alloc, rd, width, level)?;
+            Ok(Room { root: Some(root) })
+        }
+        _ => Ok(Room { root: None }),
+    }
+}
+
+// The root of a realm that was just made: nothing was said of its lower half, and its upper half is the host's.
+fn root_table(alloc: Global, rd: u64, width: u8, level: u8) -> Result<Table, AllocError>
+    ensures { IfOk result (λ table. table ≡ whole.root_table rd width level) }
+{
+    let place = Place {
+        rd,
+        level,
+        base: 0,
+        width,
+    };
+    let mut table = Table::new(alloc, place, Entry::UnassignedNs)?;
+    for at in 0..PROTECTED {
+        table.set_entry(at, Entry::Unassigned(Ripas::Empty));
+    }
+    Ok(table)
+}
