@@ -1,32 +1,37 @@
 -- What a certificate's fields stand for.
 use Rattle.std.specs.Prelude.{⊤, ℕ, ◌<◌, ◌≤◌, List, map, length, slice_index_or}
 use Rattle.std.specs.List.{AllByRecursion}
+use Rattle.certificate.specs.declared.certificate.Claim.{Claim}
 use Rattle.certificate.specs.declared.certificate.Named.{Named}
 use Rattle.certificate.specs.declared.certificate.Named.TheVariants as named
 use Rattle.rmm_spec.specs.declared.line.Line.{Line}
 use Rattle.rmm_spec.specs.declared.line.Line.TheVariants as line
 use Rattle.rmm_spec.specs.CertificateText.{IsCertificate}
-use Rattle.rmm_spec.specs.declared.reply.Reply.{Reply}
 use Rattle.rmm_spec.specs.declared.reply.Reply.TheVariants.{Misplaced}
 
--- the line of a name, whose reply has its index
-abbrev pub line_of : List Reply → Named → Line
-line_of replies (named.Keep cpu number) = line.Keep cpu number
-line_of replies (named.Unfinished cpu number index) = line.Unfinished cpu number (slice_index_or replies index Misplaced)
+-- a claim at an index that there isn't
+abbrev pub no_claim : Claim
+no_claim = record { number = 0; reply = Misplaced }
 
--- a name's reply is there
-abbrev pub HasReply : ℕ → Named → Type 0
-HasReply count (named.Keep cpu number) = ⊤
-HasReply count (named.Unfinished cpu number index) = index < count
+-- the line of a name, whose claim has its index
+abbrev pub line_of : List Claim → Named → Line
+line_of claims (named.Keep cpu number) = line.Keep cpu number
+line_of claims (named.Unfinished cpu index) =
+    line.Unfinished cpu (slice_index_or claims index no_claim).number (slice_index_or claims index no_claim).reply
 
-abbrev pub lines_of : List Named → List Reply → List Line
-lines_of names replies = map (line_of replies) names
+-- a name's claim is there
+abbrev pub HasClaim : ℕ → Named → Type 0
+HasClaim count (named.Keep cpu number) = ⊤
+HasClaim count (named.Unfinished cpu index) = index < count
 
--- The lines are a certificate, and each name's reply is there.
-pub record IsHeld (names : List Named) (replies : List Reply) : Type 0 where
-  pub is_certificate : IsCertificate (lines_of names replies)
-  pub each_reply : AllByRecursion (HasReply (length replies)) names
-  pub few_replies : length replies ≤ length names
+abbrev pub lines_of : List Named → List Claim → List Line
+lines_of names claims = map (line_of claims) names
+
+-- The lines are a certificate, and each name's claim is there.
+pub record IsHeld (names : List Named) (claims : List Claim) : Type 0 where
+  pub is_certificate : IsCertificate (lines_of names claims)
+  pub each_claim : AllByRecursion (HasClaim (length claims)) names
+  pub few_claims : length claims ≤ length names
 
 -- What contracts see of a certificate: its lines, and how many more lines, and replies of unfinished ones, are sure to take no memory.
 pub record Claimed : Type 0 where

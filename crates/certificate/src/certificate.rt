@@ -10,20 +10,27 @@ use std::marker::Model;
 /// The most lines that a certificate has.
 pub const MOST_LINES: usize = 1_000_000;
 
-/// A line without its reply, which has an index among the replies.
+/// A line in eight bytes. What an unfinished one claims has an index among the claims.
 #[derive(Clone, Copy, Debug)]
 enum Named {
     Keep { cpu: u8, number: u32 },
-    Unfinished { cpu: u8, number: u32, index: u32 },
+    Unfinished { cpu: u8, index: u32 },
 }
 
-const _: () = prove!(size_of::<Named>() <= 16);
+const _: () = prove!(size_of::<Named>() == 8);
+
+/// The number of an unfinished call, and the reply that it is claimed to have had.
+#[derive(Debug, Drop)]
+struct Claim {
+    number: u32,
+    reply: Reply,
+}
 
 /// The lines that a certificate claims, the first to take effect first.
 #[derive(Debug, Drop)]
 pub struct Certificate {
     names: Vec<Named>,
-    replies: Vec<Reply>,
+    claims: Vec<Claim>,
 }
 
 impl Model for Certificate {
@@ -33,12 +40,12 @@ impl Model for Certificate {
     ghost Value = { Claimed };
 
     ghost view = { λ c. record {
-      lines = lines_of c.names.items c.replies.items;
+      lines = lines_of c.names.items c.claims.items;
       line_room = vec_capacity c.names - vec_len c.names;
-      reply_room = vec_capacity c.replies - vec_len c.replies;
+      reply_room = vec_capacity c.claims - vec_len c.claims;
     } };
 
-    ghost invariant = { λ c. IsHeld c.names.items c.replies.items };
+    ghost invariant = { λ c. IsHeld c.names.items c.claims.items };
 }
 
 /// One line of a certificate, as it is read from there.
@@ -59,6 +66,7 @@ pub enum LineRef<'a> {
 
 impl Certificate {
     ghost use Rattle.certificate.specs.LineRef.{line_seen};
+    ghost use Rattle.rmm_spec.specs.declared.line.Line.TheVariants as line;
     ghost use Rattle.certificate.specs.View.{HasRoomFor};
 
     /// A certificate without lines.
@@ -67,7 +75,7 @@ impl Certificate {
     {
         Certificate {
             names: Vec::new(alloc),
-            replies: Vec::new(alloc),
+            claims: Vec::new(alloc),
         }
     }
 
@@ -92,11 +100,14 @@ impl Certificate {
     {
         match self.names[i] {
             Named::Keep { cpu, number } => LineRef::Keep { cpu, number },
-            Named::Unfinished { cpu, number, index } => LineRef::Unfinished {
-                cpu,
-                number,
-                reply: &self.replies[index as usize],
-            },
+            Named::Unfinished { cpu, index } => {
+                let claim = &self.claims[index as usize];
+                LineRef::Unfinished {
+                    cpu,
+                    number: claim.number,
+                    reply: &claim.reply,
+                }
+            }
         }
     }
 
@@ -115,16 +126,39 @@ impl Certificate {
         ensures err { OnErr result (self.new.lines ≡ self.old.lines) }
         ensures succeeds { HasRoomFor line self.old → IsOk result }
     {
+        match line {
+            Line::Keep { cpu, number } => self.keep(cpu, number),
+            Line::Unfinished { cpu, number, reply } => self.claim(cpu, number, reply),
+        }
+    }
+
+    /// Appends the line of a finished call, as `push` does.
+    #[inline(always)]
+    pub(crate) fn keep(&mut self, cpu: u8, number: u32) -> Result<(), AllocError>
+        requires is_line { IsLine (line.Keep cpu number) }
+        requires room { length self.old.lines < MOST_LINES }
+        ensures ok { OnOk result (self.new.lines ≡ self.old.lines ++ line.Keep cpu number ∷ []) }
+        ensures err { OnErr result (self.new.lines ≡ self.old.lines) }
+        ensures succeeds { 1 ≤ self.old.line_room → IsOk result }
+    {
         self.names.reserve(1)?;
-        let name = match line {
-            Line::Keep { cpu, number } => Named::Keep { cpu, number },
-            Line::Unfinished { cpu, number, reply } => {
-                let index = self.replies.len() as u32;
-                self.replies.push(reply)?;
-                Named::Unfinished { cpu, number, index }
-            }
-        };
-        self.names.push_reserved(name);
+        self.names.push_reserved(Named::Keep { cpu, number });
+        Ok(())
+    }
+
+    /// Appends the line of an unfinished call, as `push` does.
+    #[inline(never)]
+    pub(crate) fn claim(&mut self, cpu: u8, number: u32, reply: Reply) -> Result<(), AllocError>
+        requires is_line { IsLine (line.Unfinished cpu number reply) }
+        requires room { length self.old.lines < MOST_LINES }
+        ensures ok { OnOk result (self.new.lines ≡ self.old.lines ++ line.Unfinished cpu number reply ∷ []) }
+        ensures err { OnErr result (self.new.lines ≡ self.old.lines) }
+        ensures succeeds { 1 ≤ self.old.line_room → 1 ≤ self.old.reply_room → IsOk result }
+    {
+        self.names.reserve(1)?;
+        let index = self.claims.len() as u32;
+        self.claims.push(Claim { number, reply })?;
+        self.names.push_reserved(Named::Unfinished { cpu, index });
         Ok(())
     }
 }

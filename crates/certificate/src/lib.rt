@@ -1,7 +1,7 @@
 //! Certificates: the order in which a run's calls are claimed to have taken effect.
 //! A text is read in one pass to the lines that it stands for, or to its first bad line.
 //! It promises that reader and writer are inverse on the grammar, `specs/CertificateText.antt` of `rmm_spec`: see `laws.rt`.
-//! A kept line takes 16 bytes and no allocation of its own; the rare unfinished line keeps its reply beside.
+//! A line takes 8 bytes and no allocation of its own; the rare unfinished line keeps its number and its reply beside.
 //! The checker depends on it.
 #![tactic(auto)]
 

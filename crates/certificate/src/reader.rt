@@ -1,22 +1,24 @@
 //! Texts, read to certificates.
 
-ghost use Rattle.std.specs.Prelude.{IfOk, IfErr, IfSome, IfNone};
+ghost use Rattle.std.specs.Prelude.{◌≡◌, ◌<◌, length, false, IsTrue, IfOk, IfErr, OnErr};
 ghost use Rattle.certificate.specs.Faults.{IsFaultOf};
-ghost use Rattle.certificate.specs.Spelling.{IsLineOf, IsNoLine};
+ghost use Rattle.certificate.specs.Spelling.{HasTaken, IsLineOf, IsNoLine};
+ghost use Rattle.rmm_spec.specs.declared.line.Line.{Line};
 ghost use Rattle.rmm_spec.specs.CertificateText.{IsCertificateText};
 ghost use Rattle.rmm_spec.specs.Text.{parts_of};
 
-use crate::certificate::Certificate;
+use crate::certificate::{Certificate, MOST_LINES};
 use crate::fault::CertFault;
 use crate::line::{CALLS, CPUS};
 use rmi_codec::{Head, Parts, head_from, next_line, reply_from};
-use rmm_spec::Line;
-use std::alloc::Global;
+use std::alloc::{AllocError, Global};
 
-// The line that the bytes spell.
-fn line_from(bytes: &[u8]) -> Option<Line>
-    ensures found { IfSome result (IsLineOf (parts_of bytes.now)) }
-    ensures none { IfNone result (IsNoLine (parts_of bytes.now)) }
+// Appends the line that the bytes spell, where they spell one.
+fn take_line(lines: &mut Certificate, bytes: &[u8]) -> Result<bool, AllocError>
+    requires { length lines.old.lines < MOST_LINES }
+    ensures taken { IfOk result (λ done. IsTrue done → HasTaken lines.old.lines lines.new.lines (parts_of bytes.now)) }
+    ensures refused { IfOk result (λ done. done ≡ false → IsNoLine (parts_of bytes.now)) }
+    ensures no_memory { OnErr result ((line : Line) × IsLineOf (parts_of bytes.now) line) }
 {
     let mut parts = Parts::of(bytes);
     let Some(
@@ -27,21 +29,22 @@ fn line_from(bytes: &[u8]) -> Option<Line>
         },
     ) = head_from(&mut parts, CPUS, CALLS)
     else {
-        return None;
+        return Ok(false);
     };
     match letter {
         b'k' => match parts.next_part() {
-            None => Some(Line::Keep { cpu, number }),
-            Some(_) => None,
+            None => lines.keep(cpu, number)?,
+            Some(_) => return Ok(false),
         },
         b'u' => {
             let Ok(reply) = reply_from(parts) else {
-                return None;
+                return Ok(false);
             };
-            Some(Line::Unfinished { cpu, number, reply })
+            lines.claim(cpu, number, reply)?;
         }
-        _ => None,
+        _ => return Ok(false),
     }
+    Ok(true)
 }
 
 /// Reads a certificate. The empty text is the one without lines, and a line past the most that there may be is bad.
@@ -59,10 +62,9 @@ pub fn read(alloc: Global, text: &[u8]) -> Result<Certificate, CertFault>
         let Some((bytes, later)) = next_line(rest) else {
             return Err(bad_line);
         };
-        let Some(line) = line_from(bytes) else {
+        if !take_line(&mut lines, bytes)? {
             return Err(bad_line);
-        };
-        lines.push(line)?;
+        }
         rest = later;
     }
     Ok(lines)

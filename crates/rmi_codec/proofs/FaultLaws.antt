@@ -47,7 +47,7 @@ IsWordsFault-from_part excess BadSpacing xs entry parts read some none h =
 IsWordsFault-from_part excess BadForm xs entry parts read some none h = absurd (some h)
 
 -- and one of a part that is to be a status is one of the status
-pub IsSmallFault-from_part : (told : CodecFault) (parts : List (List ℕ)) → ((n : ℕ) (rest : List (List ℕ)) → n < 2 ^ 64 → parts ≢ decimal n ∷ rest) → IsPartFault told parts → IsSmallFault told parts
+pub IsSmallFault-from_part : (told : CodecFault) (parts : List (List ℕ)) → ((n : ℕ) (rest : List (List ℕ)) → n ≤ 255 → parts ≢ decimal n ∷ rest) → IsPartFault told parts → IsSmallFault told parts
 IsSmallFault-from_part UnknownNumber parts none h = h
 IsSmallFault-from_part WordCount parts none h = h
 IsSmallFault-from_part BadWord [] none h = absurd (h refl)
@@ -55,11 +55,6 @@ IsSmallFault-from_part BadWord (part ∷ rest) none h =
     Any-read IsNoByte (part ∷ rest) [] (part ∷ rest) rest part refl refl (λ n small same. none n rest (omega arith) (ap (λ p. p ∷ rest) same))
 IsSmallFault-from_part BadSpacing parts none h = Contains-nil_among parts [] parts h.0 [] refl h.1 refl
 IsSmallFault-from_part BadForm parts none h = h
-
--- a number of more than a byte
-pub BadWord-from_great : (parts rest : List (List ℕ)) (number : ℕ) → parts ≡ decimal number ∷ rest → 256 ≤ number → IsSmallFault BadWord parts
-BadWord-from_great parts rest number next great =
-    Any-read IsNoByte parts [] parts rest (decimal number) refl next (λ n small same. let number-is = decimal-injective number n same in omega arith)
 
 Any-cons : {X : Type 0} (P : X → Type 0) (x : X) (xs : List X) → Any P xs → Any P (x ∷ xs)
 Any-cons P x xs h = (h.0 + 1, h.1, omega (arith, h.2), rw (add-one h.0) h.3, h.4)

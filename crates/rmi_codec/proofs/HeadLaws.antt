@@ -4,17 +4,10 @@ use Rattle.rmi_codec.specs.Head.{HasNoHead, head_parts}
 use Rattle.rmi_codec.specs.Limited.{HasNoNumber}
 use Rattle.rmm_spec.specs.Text.{decimal}
 
--- no parts
-pub HasNoHead-nil : (cpus calls : ℕ) (parts : List (List ℕ)) → parts ≡ [] → HasNoHead cpus calls parts
-HasNoHead-nil cpus calls parts over letter cpu number more few fewer is =
-    let same : [] ≡ head_parts letter cpu number more = sym over ∙ is in cc
-
--- a first part that is no letter
-pub HasNoHead-letter : (cpus calls : ℕ) (parts : List (List ℕ)) (part : List ℕ) (rest : List (List ℕ)) → parts ≡ part ∷ rest
-    → ((letter : ℕ) → part ≡ letter ∷ [] → ⊥) → HasNoHead cpus calls parts
-HasNoHead-letter cpus calls parts part rest cut none letter cpu number more few fewer is =
-    let same : part ∷ rest ≡ head_parts letter cpu number more = sym cut ∙ is in
-    none letter (let e : part ≡ letter ∷ [] = cc in e)
+-- no letter
+pub HasNoHead-letter : (cpus calls : ℕ) (parts : List (List ℕ)) → ((letter : ℕ) (rest : List (List ℕ)) → parts ≡ (letter ∷ []) ∷ rest → ⊥)
+    → HasNoHead cpus calls parts
+HasNoHead-letter cpus calls parts none letter cpu number more few fewer is = none letter (decimal cpu ∷ decimal number ∷ more) is
 
 -- no CPU behind it
 pub HasNoHead-cpu : (cpus calls : ℕ) (parts : List (List ℕ)) (part : List ℕ) (rest : List (List ℕ)) → parts ≡ part ∷ rest

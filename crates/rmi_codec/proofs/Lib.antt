@@ -4,3 +4,4 @@ pub mod NumberLaws
 pub mod PartLaws
 pub mod PrefixLaws
 pub mod WriteLaws
+mod FunctionLaws

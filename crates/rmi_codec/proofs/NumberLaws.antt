@@ -46,6 +46,20 @@ SpellsSoFar-more base part count number d big inside so_far small is =
       first = so_far.first;
     }
 
+-- before a first digit that isn't 0
+pub SpellsSoFar-none : (base : ℕ) (part : List ℕ) (d : ℕ) → 0 < d → glyph d ≡ get_or part 0 0 → SpellsSoFar base part 0 0
+SpellsSoFar-none base part d positive is = record {
+  spelled = refl;
+  positive = λ h. absurd (omega arith);
+  first = λ e. let d-is : d ≡ 0 = glyph-injective d 0 (is ∙ e) in absurd (omega arith);
+}
+
+-- the first digit alone
+pub SpellsSoFar-first : (base : ℕ) (part : List ℕ) (d : ℕ) → 2 ≤ base → 0 < length part → 0 < d → d < base → glyph d ≡ get_or part 0 0 → SpellsSoFar base part 1 d
+SpellsSoFar-first base part d big some positive small is =
+    let sum : 0 * base + d ≡ d = omega arith in
+    subst (λ n. SpellsSoFar base part 1 n) sum (SpellsSoFar-more base part 0 0 d big some (SpellsSoFar-none base part d positive is) small is)
+
 map-glyph-digits : (base : ℕ) (ds : List ℕ) → AllBelowBase base ds → AllByRecursion (IsDigit base) (map glyph ds)
 map-glyph-digits base [] h = tt
 map-glyph-digits base (d ∷ ds) h = ((d, h.0, refl), map-glyph-digits base ds h.1)
@@ -108,54 +122,9 @@ digits_more base n big some =
 
 -- ---- eight digits
 
--- the first bytes are the last digits of a number that has no more of them
-pub record SpellsFixed (part : List ℕ) (count number : ℕ) : Type 0 where
-  pub spelled : take count part ≡ fixed_hex count number
-  pub small : number < 16 ^ count
-
-pub fixed_hex-zero : (n : ℕ) → fixed_hex 0 n ≡ []
+fixed_hex-zero : (n : ℕ) → fixed_hex 0 n ≡ []
 unfolding fixed_hex
 fixed_hex-zero n = refl
-
-pub SpellsFixed-none : (part : List ℕ) → SpellsFixed part 0 0
-SpellsFixed-none part = record { spelled = sym (fixed_hex-zero 0); small = lit< tt }
-
--- one digit more
-pub SpellsFixed-more : (part : List ℕ) (count number d : ℕ) → count < length part → SpellsFixed part count number → d < 16 → glyph d ≡ get_or part count 0 → SpellsFixed part (count + 1) (number * 16 + d)
-SpellsFixed-more part count number d inside so_far small is =
-    let high : (number * 16 + d) / 16 ≡ number = div-mul-add number 16 d small in
-    let low : (number * 16 + d) % 16 ≡ d = mod-mul-add number 16 d small in
-    let power : 16 ^ (count + 1) ≡ 16 ^ count * 16 = rw (add-one count) (pow-suc 16 count) in
-    let below = so_far.small in
-    let digits : fixed_hex (count + 1) (number * 16 + d) ≡ fixed_hex count number ++ glyph d ∷ [] =
-    ap (λ k. fixed_hex k (number * 16 + d)) (add-one count) ∙ fixed_hex-suc count (number * 16 + d)
-    ∙ ap (λ n. fixed_hex count n ++ glyph ((number * 16 + d) % 16) ∷ []) high
-    ∙ ap (λ n. fixed_hex count number ++ glyph n ∷ []) low in
-    record {
-      spelled = take_more part count 0 inside
-          ∙ ap (λ front. front ++ get_or part count 0 ∷ []) so_far.spelled
-          ∙ ap (λ byte. fixed_hex count number ++ byte ∷ []) (sym is)
-          ∙ sym digits;
-      small = omega arith;
-    }
-
-fixed_hex-digits : (count n : ℕ) → AllByRecursion (IsDigit 16) (fixed_hex count n)
-fixed_hex-digits zero n = rw (fixed_hex-zero n) tt
-fixed_hex-digits (suc count) n =
-    rw (fixed_hex-suc count n) (AllByRecursion-append (IsDigit 16) (fixed_hex count (n / 16)) (glyph (n % 16) ∷ []) (fixed_hex-digits count (n / 16)) ((n % 16, omega arith, refl), tt))
-
--- no number is spelled with a byte that isn't a hex digit
-pub no_fixed_hex-at_byte : (part : List ℕ) (i count n : ℕ) → i < length part → ((d : ℕ) → d < 16 → glyph d ≢ get_or part i 0) → part ≡ fixed_hex count n → ⊥
-no_fixed_hex-at_byte part i count n inside bad e =
-    let P : List ℕ → Type 0 = λ bytes. AllByRecursion (IsDigit 16) bytes in
-    let digit = All-from_recursion (IsDigit 16) part (subst P (sym e) (fixed_hex-digits count n)) i 0 inside in
-    bad digit.0 digit.1 digit.2
-
--- all digits are read
-pub SpellsFixed-end : (part : List ℕ) (count number digits : ℕ) → count ≡ digits → length part ≡ digits → SpellsFixed part count number → (part ≡ fixed_hex digits number) × (number < 16 ^ digits)
-SpellsFixed-end part count number digits count-is long so_far =
-    let P : ℕ → Type 0 = λ k. number < 16 ^ k in
-    (sym (take_all count part (omega arith)) ∙ so_far.spelled ∙ ap (λ k. fixed_hex k number) count-is, subst P count-is so_far.small)
 
 pub fixed_hex_none : (count n : ℕ) → count ≡ 0 → fixed_hex count n ≡ []
 fixed_hex_none count n none = ap (λ k. fixed_hex k n) none ∙ fixed_hex-zero n

@@ -9,9 +9,9 @@ use Rattle.std.proofs.lemmas.List.{get_or-take, get_or_at, length-append, length
 use Rattle.std.proofs.lemmas.List.Elements.{All-weaker, All-from_recursion}
 use Rattle.std.proofs.lemmas.List.Splits.{slice_split_none, slice_split_at, length-slice_split}
 use Rattle.rmm_spec.specs.Text.{glyph, numeral, line_text, parts_of}
-use Rattle.rmm_spec.proofs.Texts.{IsPlain, map-glyph-plain, parts_of-line_text, numeral_some, numeral-zero, numeral-IsPart}
+use Rattle.rmm_spec.proofs.Texts.{IsPlain, glyph-IsPlain, map-glyph-plain, parts_of-line_text, numeral_some, numeral-zero, numeral-IsPart}
 use Rattle.rmi_codec.specs.Spaced.{parts_behind}
-use Rattle.rmi_codec.proofs.NumberLaws.{SpellsSoFar, SpellsSoFar-more, le_from_SpellsSoFar, no_numeral-at_byte, no_numeral-leading_zero}
+use Rattle.rmi_codec.proofs.NumberLaws.{SpellsSoFar, SpellsSoFar-none, SpellsSoFar-first, SpellsSoFar-more, le_from_SpellsSoFar, no_numeral-at_byte, no_numeral-leading_zero}
 use Rattle.rmi_codec.proofs.PartLaws.{line_text-from_parts, parts_behind-end, parts_behind-space}
 
 -- the part begins the line, and ends with it or at a space
@@ -72,7 +72,7 @@ no_spaces bytes plain =
     All-weaker IsPlain (λ byte. (byte == 32) ≡ false) (λ byte is. grind (arith, nat_tests)) bytes (All-from_recursion IsPlain bytes plain)
 
 -- a part that ends at a place of a line is the first, by the test whether the place is the end
-cut_at : (line part : List ℕ) (end : ℕ) → AllByRecursion IsPlain part → take end line ≡ part → end ≤ length line → (end < length line → get_or line end 0 ≡ 32) → (b : Bool) → (end == length line) ≡ b → parts_of line ≡ part ∷ (if b then [] else parts_of (drop 1 (drop end line)))
+pub cut_at : (line part : List ℕ) (end : ℕ) → AllByRecursion IsPlain part → take end line ≡ part → end ≤ length line → (end < length line → get_or line end 0 ≡ 32) → (b : Bool) → (end == length line) ≡ b → parts_of line ≡ part ∷ (if b then [] else parts_of (drop 1 (drop end line)))
 cut_at line part end plain front inside ended true test =
     let last : length line ≤ end = grind (arith, nat_tests) in
     ap (λ bytes. parts_of bytes) (sym (take_all end line last) ∙ front) ∙ slice_split_none (λ byte. byte == 32) part (no_spaces part plain)
@@ -102,6 +102,21 @@ pub zero_read : (base : ℕ) (line : List ℕ) → 2 ≤ base → 0 < length lin
 zero_read base [] big some first ended = absurd (omega arith)
 zero_read base (byte ∷ line) big some first ended =
     numeral_read base (byte ∷ line) 1 0 big (ap (λ b. b ∷ []) first ∙ sym (numeral-zero base)) (omega arith) ended
+
+-- and so is one digit
+pub one_digit_read : (base : ℕ) (line : List ℕ) (d : ℕ) → 2 ≤ base → 0 < length line → d < base → glyph d ≡ get_or line 0 0 → (1 < length line → get_or line 1 0 ≡ 32) → parts_of line ≡ numeral base d ∷ parts_behind 1 line
+one_digit_read base line zero big some small is ended = zero_read base line big some (sym is) ended
+one_digit_read base line (suc d) big some small is ended =
+    digits_read base line 1 (suc d) big some (λ e. (glyph-IsPlain (suc d)).0 (is ∙ e)) some
+    (SpellsSoFar-first base line (suc d) big some (omega arith) small is) ended
+
+-- none begins with another byte than a digit
+pub no_numeral-at_first : (base : ℕ) (line : List ℕ) (n : ℕ) (rest : List (List ℕ)) → 2 ≤ base → ((d : ℕ) → d < base → glyph d ≢ get_or line 0 0) → parts_of line ≡ numeral base n ∷ rest → ⊥
+no_numeral-at_first base line n rest big none e =
+    let is = IsFirstPart-from_parts line (numeral base n) rest e in
+    let is_part = numeral-IsPart base n big in
+    no_numeral-at_byte base (numeral base n) 0 n big is_part.some
+    (λ digit. none digit.0 digit.1 (digit.2 ∙ sym (IsFirstPart-byte line (numeral base n) 0 is is_part.some))) refl
 
 -- no number has no digits
 pub no_numeral-at_end : (base : ℕ) (line : List ℕ) (n : ℕ) (rest : List (List ℕ)) → 2 ≤ base → (0 < length line → get_or line 0 0 ≡ 32) → parts_of line ≡ numeral base n ∷ rest → ⊥
@@ -143,6 +158,11 @@ no_numeral-below base line end number d n rest big inside so_far small shown bel
     let within = SpellsSoFar-within base line (numeral base n) (end + 1) (number * base + d) (omega arith) more is (cases_lt _ _) in
     let le = le_from_SpellsSoFar base (numeral base n) (end + 1) (number * base + d) n big (SpellsSoFar-part base line (numeral base n) (end + 1) (number * base + d) within more is) refl in
     omega arith
+
+-- none is less than its first digit
+pub no_numeral-below_first : (base : ℕ) (line : List ℕ) (d n : ℕ) (rest : List (List ℕ)) → 2 ≤ base → 0 < length line → d < base → glyph d ≡ get_or line 0 0 → n < d → parts_of line ≡ numeral base n ∷ rest → ⊥
+no_numeral-below_first base line d n rest big some small is below e =
+    no_numeral-below base line 0 0 d n rest big some (SpellsSoFar-none base line d (omega arith) is) small is (omega (arith, below)) e
 
 -- ---- behind a part
 

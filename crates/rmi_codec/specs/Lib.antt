@@ -3,3 +3,4 @@ pub mod Spaced
 pub mod Limited
 pub mod Beginning
 pub mod Head
+pub mod FunctionText

@@ -1,15 +1,17 @@
 //! Commands.
 
-ghost use Rattle.std.specs.Prelude.{◌≡◌, ◌++◌, length, take, Ok, IfOk, IfErr, OnOk, OnErr, ◌≤◌, ◌<◌, ◌+◌, vec_len, vec_capacity};
+ghost use Rattle.std.specs.Prelude.{◌≡◌, ◌≢◌, ℕ, List, ◌∷◌, ◌++◌, length, take, Ok, IfOk, IfErr, OnOk, OnErr, ◌≤◌, ◌<◌, ◌+◌, vec_len, vec_capacity};
 ghost use Rattle.rmm_spec.specs.declared.command.Command.{Command};
+ghost use Rattle.rmm_spec.specs.declared.function_id.FunctionId.{FunctionId};
+ghost use Rattle.rmm_spec.specs.Function.{number_of};
 ghost use Rattle.rmm_spec.specs.CommandText.{IsCommand, command_parts, command_text};
-ghost use Rattle.rmm_spec.specs.Text.{parts_of};
+ghost use Rattle.rmm_spec.specs.Text.{fixed_hex, parts_of};
 ghost use Rattle.rmi_codec.specs.Faults.{IsCommandFault};
 ghost use Rattle.rmi_codec.specs.Beginning.{IsBeginning};
 
 use crate::fault::CodecFault;
 use crate::fixed_hex::push_fixed_hex;
-use crate::function::{function_from, words_of};
+use crate::function::words_of;
 use crate::parts::Parts;
 use crate::whole::all_or_nothing;
 use crate::word::{push_words, read_words};
@@ -23,14 +25,8 @@ pub fn command_from(mut parts: Parts<'_>) -> Result<Command, CodecFault>
     ensures only { (c : Command) → IsCommand c → parts.entry ≡ command_parts c → result ≡ Ok c }
     ensures fault { IfErr result (λ e. IsCommandFault e parts.entry) }
 {
-    let Some(part) = parts.next_part() else {
-        return Err(CodecFault::UnknownNumber);
-    };
-    if part.is_empty() {
-        return Err(CodecFault::BadSpacing);
-    }
-    let Some(function) = function_from(part) else {
-        return Err(CodecFault::UnknownNumber);
+    let Some(function) = parts.next_function() else {
+        return Err(number_fault(parts));
     };
     let mut words = ArrayVec::new();
     read_words(&mut words, parts, CodecFault::WordCount)?;
@@ -38,6 +34,19 @@ pub fn command_from(mut parts: Parts<'_>) -> Result<Command, CodecFault>
         return Err(CodecFault::WordCount);
     }
     Ok(Command { function, words })
+}
+
+// Why the first part is no function's number, where it is none.
+#[cold]
+#[inline(never)]
+fn number_fault(mut parts: Parts<'_>) -> CodecFault
+    requires { (f : FunctionId) (rest : List (List ℕ)) → parts ≢ fixed_hex 8 (number_of f) ∷ rest }
+    ensures { IsCommandFault result parts.entry }
+{
+    match parts.next_part() {
+        Some(part) if part.is_empty() => CodecFault::BadSpacing,
+        _ => CodecFault::UnknownNumber,
+    }
 }
 
 /// Reads a command's text.

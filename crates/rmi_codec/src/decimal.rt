@@ -17,15 +17,16 @@ pub fn decimal_from(part: &[u8]) -> Option<u64>
     numeral_from(part, 10)
 }
 
-// Takes the next part off, where it is a decimal of 64 bits. Else nothing is taken.
+// Takes the next part off, where it is a decimal within the limit. Else nothing is taken.
 #[inline(always)]
 #[tactic(auto, unfolding(rmm_spec::specs::Text::decimal))]
-pub(crate) fn next_decimal(parts: &mut Parts<'_>) -> Option<u64>
+pub(crate) fn next_decimal(parts: &mut Parts<'_>, most: u64) -> Option<u64>
     ensures found { IfSome result (λ n. parts.old ≡ decimal n ∷ parts.new) }
-    ensures none { IfNone result ((n : ℕ) (rest : List (List ℕ)) → n < 2 ^ 64 → parts.old ≢ decimal n ∷ rest) }
+    ensures within { IfSome result (λ n. n ≤ most) }
+    ensures none { IfNone result ((n : ℕ) (rest : List (List ℕ)) → n ≤ most → parts.old ≢ decimal n ∷ rest) }
     ensures kept { IfNone result (parts.new ≡ parts.old) }
 {
-    parts.next_numeral(10)
+    parts.next_numeral(10, most)
 }
 
 /// Appends a decimal. Where memory is refused, a beginning of it may have been appended.

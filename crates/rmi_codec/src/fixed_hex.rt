@@ -1,27 +1,11 @@
 //! Numbers in eight hex digits.
 
-ghost use Rattle.std.specs.Prelude.{◌≡◌, ℕ, ◌<◌, ◌^◌, ◌++◌, length, take, Some, IfSome, OnOk, OnErr, ◌≤◌, ◌+◌, vec_len, vec_capacity};
+ghost use Rattle.std.specs.Prelude.{◌≡◌, ◌<◌, ◌++◌, length, take, OnOk, OnErr, ◌≤◌, ◌+◌, vec_len, vec_capacity};
 ghost use Rattle.rmm_spec.specs.Text.{fixed_hex};
 ghost use Rattle.rmi_codec.specs.Beginning.{IsBeginning};
 
-use crate::numeral::{byte_from, digit_from};
+use crate::numeral::byte_from;
 use std::alloc::AllocError;
-
-// The number that eight digits spell.
-pub(crate) fn fixed_hex_from(part: &[u8]) -> Option<u64>
-    ensures found { IfSome result (λ n. part.now ≡ fixed_hex 8 n) }
-    ensures only { (n : ℕ) → n < 16 ^ 8 → part.now ≡ fixed_hex 8 n → result ≡ Some n }
-{
-    if part.len() != 8 {
-        return None;
-    }
-    let mut number: u64 = 0;
-    for byte in part {
-        let digit = digit_from(*byte)?;
-        number = number * 16 + digit;
-    }
-    Some(number)
-}
 
 // Appends the last digits of a number, so many of them.
 #[tactic(auto, using(std::proofs::lemmas::Grind::common_steps, crate::proofs::NumberLaws::fixed_hex_none, crate::proofs::NumberLaws::fixed_hex_more))]

@@ -1,47 +1,50 @@
 //! Functions, by their numbers.
 
-ghost use Rattle.std.specs.Prelude.{◌≡◌, ◌<◌, ◌^◌, ◌≤◌, ℕ, Some, IfSome};
+ghost use Rattle.std.specs.Prelude.{◌≡◌, ◌≢◌, ◌≤◌, ◌∷◌, ℕ, List, length, Some, IfSome, IfNone};
 ghost use Rattle.rmm_spec.specs.declared.function_id.FunctionId.{FunctionId};
 ghost use Rattle.rmm_spec.specs.Function.{number_of, word_count};
-ghost use Rattle.rmm_spec.specs.Text.{fixed_hex};
+ghost use Rattle.rmm_spec.specs.Text.{fixed_hex, parts_of};
+ghost use Rattle.rmi_codec.specs.FunctionText.{text_number};
+ghost use Rattle.rmi_codec.specs.Spaced.{parts_behind};
 
-use crate::fixed_hex::fixed_hex_from;
+use crate::numeral::is_end;
 use rmm_spec::FunctionId;
 
-// The function of a number.
-#[tactic(auto, unfolding(rmm_spec::specs::Function::number_of))]
-fn function_numbered(number: u64) -> Option<FunctionId>
-    ensures found { IfSome result (λ f. number_of f ≡ number) }
-    ensures only { (f : FunctionId) → number_of f ≡ number → result ≡ Some f }
+// The function whose number's text has these bytes, read as one number with the first byte highest.
+#[inline(always)]
+#[tactic(auto, unfolding(crate::specs::FunctionText::text_number))]
+fn function_spelled(bytes: u64) -> Option<FunctionId>
+    ensures found { IfSome result (λ f. text_number f ≡ bytes) }
+    ensures only { (f : FunctionId) → text_number f ≡ bytes → result ≡ Some f }
 {
-    let function = match number {
-        0xc400_0151 => FunctionId::GranuleDelegate,
-        0xc400_0152 => FunctionId::GranuleUndelegate,
-        0xc400_0153 => FunctionId::DataCreate,
-        0xc400_0154 => FunctionId::DataCreateUnknown,
-        0xc400_0155 => FunctionId::DataDestroy,
-        0xc400_0157 => FunctionId::RealmActivate,
-        0xc400_0158 => FunctionId::RealmCreate,
-        0xc400_0159 => FunctionId::RealmDestroy,
-        0xc400_015a => FunctionId::RecCreate,
-        0xc400_015b => FunctionId::RecDestroy,
-        0xc400_015c => FunctionId::RecEnter,
-        0xc400_015d => FunctionId::RttCreate,
-        0xc400_015e => FunctionId::RttDestroy,
-        0xc400_015f => FunctionId::RttMapUnprotected,
-        0xc400_0161 => FunctionId::RttReadEntry,
-        0xc400_0162 => FunctionId::RttUnmapUnprotected,
-        0xc400_0168 => FunctionId::RttInitRipas,
-        0xc400_0169 => FunctionId::RttSetRipas,
-        0xc400_0192 => FunctionId::MeasurementRead,
-        0xc400_0193 => FunctionId::MeasurementExtend,
-        0xc400_0196 => FunctionId::RealmConfig,
-        0xc400_0197 => FunctionId::IpaStateSet,
-        0xc400_0198 => FunctionId::IpaStateGet,
-        0xc400_0199 => FunctionId::HostCall,
-        0x8400_0002 => FunctionId::CpuOff,
-        0x8400_0008 => FunctionId::SystemOff,
-        1 => FunctionId::Exit,
+    let function = match bytes {
+        0x6334_3030_3031_3531 => FunctionId::GranuleDelegate,
+        0x6334_3030_3031_3532 => FunctionId::GranuleUndelegate,
+        0x6334_3030_3031_3533 => FunctionId::DataCreate,
+        0x6334_3030_3031_3534 => FunctionId::DataCreateUnknown,
+        0x6334_3030_3031_3535 => FunctionId::DataDestroy,
+        0x6334_3030_3031_3537 => FunctionId::RealmActivate,
+        0x6334_3030_3031_3538 => FunctionId::RealmCreate,
+        0x6334_3030_3031_3539 => FunctionId::RealmDestroy,
+        0x6334_3030_3031_3561 => FunctionId::RecCreate,
+        0x6334_3030_3031_3562 => FunctionId::RecDestroy,
+        0x6334_3030_3031_3563 => FunctionId::RecEnter,
+        0x6334_3030_3031_3564 => FunctionId::RttCreate,
+        0x6334_3030_3031_3565 => FunctionId::RttDestroy,
+        0x6334_3030_3031_3566 => FunctionId::RttMapUnprotected,
+        0x6334_3030_3031_3631 => FunctionId::RttReadEntry,
+        0x6334_3030_3031_3632 => FunctionId::RttUnmapUnprotected,
+        0x6334_3030_3031_3638 => FunctionId::RttInitRipas,
+        0x6334_3030_3031_3639 => FunctionId::RttSetRipas,
+        0x6334_3030_3031_3932 => FunctionId::MeasurementRead,
+        0x6334_3030_3031_3933 => FunctionId::MeasurementExtend,
+        0x6334_3030_3031_3936 => FunctionId::RealmConfig,
+        0x6334_3030_3031_3937 => FunctionId::IpaStateSet,
+        0x6334_3030_3031_3938 => FunctionId::IpaStateGet,
+        0x6334_3030_3031_3939 => FunctionId::HostCall,
+        0x3834_3030_3030_3032 => FunctionId::CpuOff,
+        0x3834_3030_3030_3038 => FunctionId::SystemOff,
+        0x3030_3030_3030_3031 => FunctionId::Exit,
         _ => return None,
     };
     Some(function)
@@ -78,11 +81,22 @@ pub(crate) fn words_of(function: FunctionId) -> usize
     }
 }
 
-// The function whose number a part spells.
-pub(crate) fn function_from(part: &[u8]) -> Option<FunctionId>
-    ensures found { IfSome result (λ f. part.now ≡ fixed_hex 8 (number_of f)) }
-    ensures only { (f : FunctionId) → part.now ≡ fixed_hex 8 (number_of f) → result ≡ Some f }
+// The function whose number is the first part of a line.
+#[inline(always)]
+pub(crate) fn function_prefix(line: &[u8]) -> Option<FunctionId>
+    ensures found { IfSome result (λ f. parts_of line.now ≡ fixed_hex 8 (number_of f) ∷ parts_behind 8 line.now) }
+    ensures inside { IfSome result (λ f. 8 ≤ length line.now) }
+    ensures none { IfNone result ((f : FunctionId) (rest : List (List ℕ)) → parts_of line.now ≢ fixed_hex 8 (number_of f) ∷ rest) }
 {
-    let number = fixed_hex_from(part)?;
-    function_numbered(number)
+    if line.len() < 8 {
+        return None;
+    }
+    if !is_end(line, 8) {
+        return None;
+    }
+    let bytes = [
+        line[0], line[1], line[2], line[3], line[4], line[5], line[6], line[7],
+    ];
+    let function = function_spelled(u64::from_be_bytes(bytes))?;
+    Some(function)
 }

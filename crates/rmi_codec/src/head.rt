@@ -19,22 +19,15 @@ pub struct Head {
     pub number: u32,
 }
 
-// The letter that a part is.
-fn letter_from(part: &[u8]) -> Option<u8>
-    ensures found { IfSome result (λ letter. part.now ≡ letter ∷ []) }
-    ensures only { (letter : ℕ) → part.now ≡ letter ∷ [] → result ≡ Some letter }
-{
-    if part.len() == 1 { Some(part[0]) } else { None }
-}
-
 /// Takes a head off the parts, where its CPU and its number are below these limits.
+#[inline(always)]
 pub fn head_from(parts: &mut Parts<'_>, cpus: u8, calls: u32) -> Option<Head>
     ensures found { IfSome result (λ head. parts.old ≡ head_parts head.letter head.cpu head.number parts.new) }
     ensures cpu { IfSome result (λ head. head.cpu < cpus) }
     ensures number { IfSome result (λ head. head.number < calls) }
     ensures none { IfNone result (HasNoHead cpus calls parts.old) }
 {
-    let letter = letter_from(parts.next_part()?)?;
+    let letter = parts.next_letter()?;
     let cpu = number_below(parts, u32::from(cpus))? as u8;
     let number = number_below(parts, calls)?;
     Some(Head {

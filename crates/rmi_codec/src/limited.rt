@@ -13,9 +13,7 @@ pub fn number_below(parts: &mut Parts<'_>, limit: u32) -> Option<u32>
     ensures found { IfSome result (λ n. parts.old ≡ decimal n ∷ parts.new) }
     ensures none { IfNone result (HasNoNumber limit parts.old) }
 {
-    let number = next_decimal(parts)?;
-    if number >= u64::from(limit) {
-        return None;
-    }
+    let most = limit.checked_sub(1)?;
+    let number = next_decimal(parts, u64::from(most))?;
     Some(number as u32)
 }

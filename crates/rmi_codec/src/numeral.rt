@@ -8,64 +8,48 @@ ghost use Rattle.rmi_codec.specs.Beginning.{IsBeginning};
 
 use std::alloc::AllocError;
 
-// The decimal digit that a byte shows.
+// The digit of a base that a byte shows, and no less than the base where it shows none. No branch depends on the byte:
+// digits can't be foreseen.
 #[inline(always)]
-fn decimal_digit_from(byte: u8) -> Option<u64>
-    ensures found { IfSome result (λ d. (d < 10) × (glyph d ≡ byte)) }
-    ensures none { IfNone result ((d : ℕ) → d < 10 → glyph d ≢ byte) }
-{
-    let digit = u32::from(byte).wrapping_sub(u32::from(b'0'));
-    if digit < 10 {
-        Some(u64::from(digit))
-    } else {
-        None
-    }
-}
-
-// The hex digit that a byte shows. No branch but the last depends on the byte: digits can't be foreseen.
-#[inline(always)]
-pub(crate) fn digit_from(byte: u8) -> Option<u64>
-    ensures found { IfSome result (λ d. (d < 16) × (glyph d ≡ byte)) }
-    ensures none { IfNone result ((d : ℕ) → d < 16 → glyph d ≢ byte) }
+fn digit_of(byte: u8, base: u64) -> u64
+    requires { base ≤ 16 }
+    ensures shown { result < base → glyph result ≡ byte }
+    ensures none { base ≤ result → (d : ℕ) → d < base → glyph d ≢ byte }
 {
     let wide = u32::from(byte);
     let low = wide.wrapping_sub(u32::from(b'0'));
+    if base <= 10 {
+        return u64::from(low);
+    }
     let letter = wide.wrapping_sub(u32::from(b'a'));
-    let digit = if low < 10 {
+    if low < 10 {
         u64::from(low)
     } else {
         u64::from(letter) + 10
-    };
-    if digit < 16 { Some(digit) } else { None }
+    }
 }
 
-// The number with one digit more, where it has 64 bits.
+// The number with one digit more, where it is within the limit. Where the limit is small, the product can't pass 64 bits.
 #[inline(always)]
-fn with_digit(number: u64, base: u64, digit: u64) -> Option<u64>
+fn with_digit(number: u64, base: u64, digit: u64, most: u64) -> Option<u64>
+    requires number { number ≤ most }
+    requires base { base ≤ 16 }
+    requires digit { digit < base }
     ensures some { IfSome result (λ n. n ≡ number * base + digit) }
-    ensures none { IfNone result (2 ^ 64 ≤ number * base + digit) }
+    ensures within { IfSome result (λ n. n ≤ most) }
+    ensures none { IfNone result (most < number * base + digit) }
 {
-    number.checked_mul(base)?.checked_add(digit)
-}
-
-// The digit of a base that a byte shows.
-#[inline(always)]
-fn digit_below(byte: u8, base: u64) -> Option<u64>
-    requires { base ≤ 16 }
-    ensures found { IfSome result (λ d. (d < base) × (glyph d ≡ byte)) }
-    ensures none { IfNone result ((d : ℕ) → d < base → glyph d ≢ byte) }
-{
-    let digit = if base <= 10 {
-        decimal_digit_from(byte)?
+    let longer = if most <= u64::from(u32::MAX) {
+        number * base + digit
     } else {
-        digit_from(byte)?
+        number.checked_mul(base)?.checked_add(digit)?
     };
-    if digit < base { Some(digit) } else { None }
+    if longer <= most { Some(longer) } else { None }
 }
 
 // Whether a part of a line ends here: at a space or with the line.
 #[inline(always)]
-fn is_end(line: &[u8], end: usize) -> bool
+pub(crate) fn is_end(line: &[u8], end: usize) -> bool
     requires { end ≤ length line.now }
     ensures ended { IsTrue result → end < length line.now → get_or line.now end 0 ≡ 32 }
     ensures inside { IsFalse result → end < length line.now }
@@ -74,33 +58,62 @@ fn is_end(line: &[u8], end: usize) -> bool
     end == line.len() || line[end] == b' '
 }
 
-// The number of 64 bits that the first part of a line spells, with the part's end.
+// The number within the limit that the first part of a line spells, with the part's end.
 #[inline(always)]
-pub(crate) fn numeral_prefix(line: &[u8], base: u64) -> Option<(u64, usize)>
+pub(crate) fn numeral_prefix(line: &[u8], base: u64, most: u64) -> Option<(u64, usize)>
     requires least { 2 ≤ base }
     requires most { base ≤ 16 }
     ensures found { IfSome result (λ p. parts_of line.now ≡ numeral base p.0 ∷ parts_behind p.1 line.now) }
+    ensures within { IfSome result (λ p. p.0 ≤ most) }
     ensures inside { IfSome result (λ p. p.1 ≤ length line.now) }
-    ensures none { IfNone result ((n : ℕ) (rest : List (List ℕ)) → n < 2 ^ 64
-        → parts_of line.now ≢ numeral base n ∷ rest) }
+    ensures none { IfNone result ((n : ℕ) (rest : List (List ℕ)) → n ≤ most → parts_of line.now ≢ numeral base n ∷ rest) }
 {
-    if is_end(line, 0) {
+    if line.is_empty() {
         return None;
     }
-    if line[0] == b'0' {
-        return if is_end(line, 1) { Some((0, 1)) } else { None };
+    let first = digit_of(line[0], base);
+    if first >= base {
+        return None;
     }
-    let mut number: u64 = 0;
-    let mut end: usize = 0;
+    if first > most {
+        return None;
+    }
+    if is_end(line, 1) {
+        return Some((first, 1));
+    }
+    if first == 0 {
+        return None;
+    }
+    longer_prefix(line, base, most, first)
+}
+
+// The same where the first part is longer than its first digit, which isn't 0.
+#[inline(always)]
+fn longer_prefix(line: &[u8], base: u64, most: u64, first: u64) -> Option<(u64, usize)>
+    requires least { 2 ≤ base }
+    requires most { base ≤ 16 }
+    requires some { 0 < length line.now }
+    requires first { first ≤ most }
+    requires digit { first < base }
+    requires positive { 0 < first }
+    requires shown { glyph first ≡ get_or line.now 0 0 }
+    ensures found { IfSome result (λ p. parts_of line.now ≡ numeral base p.0 ∷ parts_behind p.1 line.now) }
+    ensures within { IfSome result (λ p. p.0 ≤ most) }
+    ensures inside { IfSome result (λ p. p.1 ≤ length line.now) }
+    ensures none { IfNone result ((n : ℕ) (rest : List (List ℕ)) → n ≤ most → parts_of line.now ≢ numeral base n ∷ rest) }
+{
+    let mut number = first;
+    let mut end: usize = 1;
     while end < line.len() {
-        let Some(digit) = digit_below(line[end], base) else {
+        let digit = digit_of(line[end], base);
+        if digit >= base {
             return if is_end(line, end) {
                 Some((number, end))
             } else {
                 None
             };
-        };
-        number = with_digit(number, base, digit)?;
+        }
+        number = with_digit(number, base, digit, most)?;
         end += 1;
     }
     Some((number, end))
@@ -114,7 +127,7 @@ pub(crate) fn numeral_from(part: &[u8], base: u64) -> Option<u64>
     ensures found { IfSome result (λ n. part.now ≡ numeral base n) }
     ensures only { (n : ℕ) → n < 2 ^ 64 → part.now ≡ numeral base n → result ≡ Some n }
 {
-    let (number, end) = numeral_prefix(part, base)?;
+    let (number, end) = numeral_prefix(part, base, u64::MAX)?;
     if end == part.len() {
         Some(number)
     } else {

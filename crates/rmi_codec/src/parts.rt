@@ -1,10 +1,14 @@
 //! A line, cut at its spaces.
 
 ghost use Rattle.std.specs.Prelude.{◌≡◌, ◌≢◌, ◌==◌, ◌↔◌, ℕ, ◌<◌, ◌≤◌, ◌^◌, [], ◌∷◌, List, length, drop, IsTrue, IfSome, IfNone, position, ◌+◌};
-ghost use Rattle.rmm_spec.specs.Text.{numeral, parts_of};
+ghost use Rattle.rmm_spec.specs.declared.function_id.FunctionId.{FunctionId};
+ghost use Rattle.rmm_spec.specs.Function.{number_of};
+ghost use Rattle.rmm_spec.specs.Text.{fixed_hex, numeral, parts_of};
 ghost use Rattle.rmi_codec.specs.Spaced.{parts_behind};
 
-use crate::numeral::numeral_prefix;
+use crate::function::function_prefix;
+use crate::numeral::{is_end, numeral_prefix};
+use rmm_spec::FunctionId;
 use std::marker::Model;
 
 /// The parts of a line that are left to read. A line of n spaces has n + 1 parts, and a part may be empty.
@@ -68,22 +72,57 @@ impl<'a> Parts<'a> {
         Some(part)
     }
 
-    /// Takes the next part off, where it spells a number of 64 bits in this base. Else nothing is taken.
+    /// Takes the next part off, where it is one byte. Else nothing is taken.
     #[inline(always)]
-    pub(crate) fn next_numeral(&mut self, base: u64) -> Option<u64>
+    pub(crate) fn next_letter(&mut self) -> Option<u8>
+        ensures found { IfSome result (λ letter. self.old ≡ (letter ∷ []) ∷ self.new) }
+        ensures none { IfNone result ((letter : ℕ) (rest : List (List ℕ)) → self.old ≢ (letter ∷ []) ∷ rest) }
+    {
+        if self.at >= self.line.len() {
+            return None;
+        }
+        let rest = self.line.split_at(self.at).1;
+        let letter = rest[0];
+        if letter == b' ' || !is_end(rest, 1) {
+            return None;
+        }
+        *self = behind(self.line, self.at, 1);
+        Some(letter)
+    }
+
+    /// Takes the next part off, where it spells a number within the limit in this base. Else nothing is taken.
+    #[inline(always)]
+    pub(crate) fn next_numeral(&mut self, base: u64, most: u64) -> Option<u64>
         requires least { 2 ≤ base }
         requires most { base ≤ 16 }
         ensures found { IfSome result (λ n. self.old ≡ numeral base n ∷ self.new) }
-        ensures none { IfNone result ((n : ℕ) (rest : List (List ℕ)) → n < 2 ^ 64 → self.old ≢ numeral base n ∷ rest) }
+        ensures within { IfSome result (λ n. n ≤ most) }
+        ensures none { IfNone result ((n : ℕ) (rest : List (List ℕ)) → n ≤ most → self.old ≢ numeral base n ∷ rest) }
         ensures kept { IfNone result (self.new ≡ self.old) }
     {
         if self.at > self.line.len() {
             return None;
         }
         let rest = self.line.split_at(self.at).1;
-        let (number, end) = numeral_prefix(rest, base)?;
+        let (number, end) = numeral_prefix(rest, base, most)?;
         *self = behind(self.line, self.at, end);
         Some(number)
+    }
+
+    /// Takes the next part off, where it is the number of a function. Else nothing is taken.
+    #[inline(always)]
+    pub(crate) fn next_function(&mut self) -> Option<FunctionId>
+        ensures found { IfSome result (λ f. self.old ≡ fixed_hex 8 (number_of f) ∷ self.new) }
+        ensures none { IfNone result ((f : FunctionId) (rest : List (List ℕ)) → self.old ≢ fixed_hex 8 (number_of f) ∷ rest) }
+        ensures kept { IfNone result (self.new ≡ self.old) }
+    {
+        if self.at > self.line.len() {
+            return None;
+        }
+        let rest = self.line.split_at(self.at).1;
+        let function = function_prefix(rest)?;
+        *self = behind(self.line, self.at, 8);
+        Some(function)
     }
 
     /// Whether no part is left.

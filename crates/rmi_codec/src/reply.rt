@@ -23,12 +23,9 @@ fn take_small(parts: &mut Parts<'_>) -> Result<u8, CodecFault>
     ensures only { (n : ℕ) (rest : List (List ℕ)) → n < 256 → parts.old ≡ decimal n ∷ rest → result ≡ Ok n }
     ensures fault { IfErr result (λ e. IsSmallFault e parts.old) }
 {
-    let Some(number) = next_decimal(parts) else {
+    let Some(number) = next_decimal(parts, u64::from(u8::MAX)) else {
         return Err(part_fault(parts));
     };
-    if number >= 256 {
-        return Err(CodecFault::BadWord);
-    }
     Ok(number as u8)
 }
 

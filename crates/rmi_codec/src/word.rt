@@ -21,7 +21,7 @@ fn next_word(parts: &mut Parts<'_>) -> Option<u64>
     ensures none { IfNone result ((w : ℕ) (rest : List (List ℕ)) → w < 2 ^ 64 → parts.old ≢ word w ∷ rest) }
     ensures kept { IfNone result (parts.new ≡ parts.old) }
 {
-    parts.next_numeral(16)
+    parts.next_numeral(16, u64::MAX)
 }
 
 // Appends a word behind a space.

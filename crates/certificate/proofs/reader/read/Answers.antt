@@ -18,28 +18,30 @@ returns-in_default-clause-fault c =
     rw c.len.ensures.count
     (unfinished_line c.loop-rest.lines.lines _ c.loop-rest.rest.now c.loop-rest.invariant.well_formed c.loop-rest.invariant.text c.in_default.ensures.unfinished (goes_on _ c.loop-rest-test.ensures))
 
-pub returns-in_default-line_from-clause-fault : goal.returns-in_default-line_from-clause-fault
-returns-in_default-line_from-clause-fault c =
+pub returns-then-not-branch-clause-fault : goal.returns-then-not-branch-clause-fault
+returns-then-not-branch-clause-fault c =
     rw c.len.ensures.count
     (bad_line c.loop-rest.lines.lines _ c.in-Some.bytes.now c.loop-rest.rest.now c.in-Some.later.now c.loop-rest.invariant.well_formed c.loop-rest.invariant.text
-    c.in-Some.ensures.line c.in-Some.ensures.no_newline c.in_default-line_from.ensures.none)
+    c.in-Some.ensures.line c.in-Some.ensures.no_newline (c.in_ok-take_line.ensures.refused c.if-not-branch.true))
 
 pub loop-rest-preserved : goal.loop-rest-preserved
 loop-rest-preserved c =
     let room : length c.loop-rest.lines.lines < 1000000 =
     c.has_room.ensures.0 c.if-not-has_room.false in
+    let taken = c.in_ok-take_line.ensures.taken c.if-not-branch.false in
     record {
-      text = rw c.in_ok-push.ensures.ok
-          (certificate_text-push c.loop-rest.lines.lines c.in-Some-line_from.line _ c.in-Some.bytes.now c.loop-rest.rest.now c.in-Some.later.now
-          c.loop-rest.invariant.text c.in-Some.ensures.line c.in-Some-line_from.ensures.found);
-      well_formed = rw c.in_ok-push.ensures.ok
-          (IsCertificate-push c.loop-rest.lines.lines c.in-Some-line_from.line c.loop-rest.invariant.well_formed c.in-Some-line_from.ensures.found.is_line room);
+      text = rw taken.taken
+          (certificate_text-push c.loop-rest.lines.lines taken.line _ c.in-Some.bytes.now c.loop-rest.rest.now c.in-Some.later.now
+          c.loop-rest.invariant.text c.in-Some.ensures.line taken.is_line);
+      well_formed = rw taken.taken
+          (IsCertificate-push c.loop-rest.lines.lines taken.line c.loop-rest.invariant.well_formed taken.is_line.is_line room);
     }
 
-pub returns-in_err-push-clause-fault : goal.returns-in_err-push-clause-fault
-returns-in_err-push-clause-fault c =
+pub returns-in_err-take_line-clause-fault : goal.returns-in_err-take_line-clause-fault
+returns-in_err-take_line-clause-fault c =
     let p = err_from_is_err_and c.from_residual.result c.from_residual.ensures.1 in
+    let spelled = c.in_err-take_line.ensures.no_memory in
     rw (p.1, p.2)
-    (BeginsWith-next c.loop-rest.lines.lines c.in-Some-line_from.line _ c.in-Some.bytes.now c.loop-rest.rest.now c.in-Some.later.now
+    (BeginsWith-next c.loop-rest.lines.lines spelled.0 _ c.in-Some.bytes.now c.loop-rest.rest.now c.in-Some.later.now
     c.loop-rest.invariant.well_formed (c.has_room.ensures.0 c.if-not-has_room.false)
-    c.loop-rest.invariant.text c.in-Some.ensures.line c.in-Some-line_from.ensures.found)
+    c.loop-rest.invariant.text c.in-Some.ensures.line spelled.1)

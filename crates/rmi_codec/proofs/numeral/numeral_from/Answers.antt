@@ -1,11 +1,11 @@
-use Rattle.std.proofs.Common.{[], Some, sym, ap, ◌∙◌}
+use Rattle.std.proofs.Common.{[], Some, sym, ap, ◌∙◌, arith}
 use Rattle.rmm_spec.proofs.Texts.{numeral-injective}
 use Rattle.rmi_codec.proofs.PrefixLaws.{numeral_alone, parts_of-numeral, no_parts_behind}
 use Rattle.rmi_codec.proofs.numeral.numeral_from.Goals as goal
 
 pub returns-in_err-number-clause-only : goal.returns-in_err-number-clause-only
 returns-in_err-number-clause-only c = λ n small e.
-    absurd (c.in_err-number.ensures.none n [] small (parts_of-numeral c.args.base c.args.part.now n c.requires.least e))
+    absurd (c.in_err-number.ensures.none n [] (omega (arith, small)) (parts_of-numeral c.args.base c.args.part.now n c.requires.least e))
 
 pub returns-then-end-part-clause-found : goal.returns-then-end-part-clause-found
 returns-then-end-part-clause-found c =
