@@ -139,12 +139,14 @@ pub none-used : (n : ℕ) → any_below n (λ k. is_used (option_and_then (leaf_
 none-used zero = refl
 none-used (suc n) = none-used n
 
+-- a table that links to one below is in use
 pub in_use-linked : (s : State) (tables : Tables) (rd level number : ℕ) → true ≡ has_link (with_maps s tables) rd level number
     → true ≡ is_in_use (with_maps s tables) rd level number
 in_use-linked s tables rd level number linked =
     sym (in_use-parts s tables rd level number (kept_at tables rd level number) refl
     ∙ or_left (has_link (with_maps s tables) rd level number) (any_below 512 (λ k. is_used (option_and_then (leaf_in k) (kept_at tables rd level number)))) (sym linked))
 
+-- one that doesn't is in use where a leaf of it is used
 pub in_use-unlinked : (s : State) (tables : Tables) (rd level number : ℕ) (found : Option KeptTable) → found ≡ kept_at tables rd level number
     → false ≡ has_link (with_maps s tables) rd level number
     → any_below 512 (λ k. is_used (option_and_then (leaf_in k) found)) ≡ is_in_use (with_maps s tables) rd level number
