@@ -1,5 +1,5 @@
 -- Entries over the flat maps, and searches through a table's.
-use Rattle.std.proofs.Common.{◌≡◌, ℕ, zero, suc, ◌+◌, ◌*◌, ◌/◌, ◌%◌, ◌<◌, ◌==◌, Bool, true, false, Option, Some, None, is_some, refl, sym, ap, ◌∙◌, add-one, arith}
+use Rattle.std.proofs.Common.{◌≡◌, ℕ, zero, suc, ◌+◌, ◌*◌, ◌/◌, ◌%◌, ◌<◌, ◌==◌, ◌||◌, Bool, true, false, Option, Some, None, is_some, refl, sym, ap, ◌∙◌, add-one, arith}
 use Rattle.std.proofs.lemmas.Bool.{or_from, or_left, or_right, and_from, and_left, and_right}
 use Rattle.std.proofs.lemmas.Bool.Decides.{nat_tests}
 use Rattle.std.specs.Option.{option_and_then}
@@ -7,10 +7,10 @@ use Rattle.rmm_spec.specs.declared.entry.Entry.{Entry}
 use Rattle.rmm_spec.specs.declared.entry.Entry.TheVariants.{Unassigned, Assigned, Table, UnassignedNs, AssignedNs}
 use Rattle.rmm_spec.specs.State.{State}
 use Rattle.rmm_spec.specs.Lookup.{any_below, all_below}
-use Rattle.rmm_spec.specs.Walk.{is_table, is_live, linked_entry, entry_at, is_in_use}
+use Rattle.rmm_spec.specs.Walk.{is_table, is_live, linked_entry, entry_at, is_in_use, has_link}
 use Rattle.flat_tables.specs.declared.kept_table.KeptTable.{KeptTable}
 use Rattle.flat_tables.specs.declared.tables.Tables.{Tables}
-use Rattle.flat_tables.specs.Flat.{kept_at, leaf_in, leaf_of, leaf_found, link_of, with_maps}
+use Rattle.flat_tables.specs.Flat.{kept_at, leaf_in, is_used, leaf_of, leaf_found, link_of, with_maps}
 
 -- the entry in a table that is kept, or isn't
 pub entry-in : (s : State) (tables : Tables) (rd level number : ℕ) (found : Option KeptTable) → found ≡ kept_at tables rd level (number / 512)
@@ -81,22 +81,75 @@ all_below-more passes n all holds = rw (add-one n) (and_from (passes n) (all_bel
 
 -- ---- a table's entries
 
--- one entry keeps its table in use
-pub in_use-found : (s : State) (rd level number k : ℕ) (entry : Entry) → k < 512 → entry ≡ entry_at s rd level (512 * number + k)
-    → true ≡ is_live entry → true ≡ is_in_use s rd level number
-unfolding is_in_use
-in_use-found s rd level number k entry below is live =
-    sym (any_below-found (λ n. is_live (entry_at s rd level (512 * number + n))) k 512 below (ap (λ (e : Entry). is_live e) (sym is) ∙ sym live))
+-- one leaf keeps its table in use
+pub used-found : (kept : KeptTable) (place : ℕ) → place < 512 → true ≡ is_used (leaf_in place kept)
+    → true ≡ any_below 512 (λ k. is_used (leaf_in k kept))
+used-found kept place below used = sym (any_below-found (λ k. is_used (leaf_in k kept)) place 512 below (sym used))
 
--- one more entry that doesn't
-pub in_use-more : (s : State) (rd level number k : ℕ) (entry : Entry) → any_below k (λ n. is_live (entry_at s rd level (512 * number + n))) ≡ false
-    → entry ≡ entry_at s rd level (512 * number + k) → false ≡ is_live entry
-    → any_below (k + 1) (λ n. is_live (entry_at s rd level (512 * number + n))) ≡ false
-in_use-more s rd level number k entry none is idle =
-    any_below-more (λ n. is_live (entry_at s rd level (512 * number + n))) k none (ap (λ (e : Entry). is_live e) (sym is) ∙ sym idle)
+-- no leaf does
+pub used-none : (kept : KeptTable) (n : ℕ) → n ≡ 512 → any_below n (λ k. is_used (leaf_in k kept)) ≡ false
+    → false ≡ any_below 512 (λ k. is_used (leaf_in k kept))
+used-none kept n all none = sym (rw all at none)
 
--- no entry does
-pub in_use-none : (s : State) (rd level number n : ℕ) → n ≡ 512 → any_below n (λ k. is_live (entry_at s rd level (512 * number + k))) ≡ false
-    → false ≡ is_in_use s rd level number
-unfolding is_in_use
-in_use-none s rd level number n all none = sym (rw all at none)
+-- one of two tests is passed where the one is or the other is
+any_below-either : (n : ℕ) (either first second : ℕ → Bool) → ((k : ℕ) → k < n → either k ≡ (first k || second k))
+    → any_below n either ≡ (any_below n first || any_below n second)
+any_below-either zero either first second same = refl
+any_below-either (suc n) either first second same =
+    rw (same n (omega arith), any_below-either n either first second (λ k below. same k (omega arith)))
+    (four (first n) (second n) (any_below n first) (any_below n second))
+  where
+    four : (a b c d : Bool) → ((a || b) || (c || d)) ≡ ((a || c) || (b || d))
+    four true b c d = refl
+    four false true true d = refl
+    four false true false d = refl
+    four false false c d = refl
+
+-- an entry keeps its table in use by a table below it or by its leaf
+live-by : (below : Option ℕ) (leaf : Option Entry) → is_live (linked_entry below leaf) ≡ (is_table (linked_entry below leaf) || is_used leaf)
+live-by (Some granule) leaf = refl
+live-by None None = refl
+live-by None (Some (Unassigned ripas)) = refl
+live-by None (Some (Assigned ripas granule)) = refl
+live-by None (Some (Table granule)) = refl
+live-by None (Some UnassignedNs) = refl
+live-by None (Some (AssignedNs page)) = refl
+
+live-entry : (s : State) (tables : Tables) (rd level number k : ℕ) (found : Option KeptTable) → k < 512 → found ≡ kept_at tables rd level number
+    → is_live (entry_at (with_maps s tables) rd level (512 * number + k))
+    ≡ (is_table (entry_at (with_maps s tables) rd level (512 * number + k)) || is_used (option_and_then (leaf_in k) found))
+live-entry s tables rd level number k found below is =
+    let above : (512 * number + k) / 512 ≡ number = omega arith in
+    let place : (512 * number + k) % 512 ≡ k = omega arith in
+    rw (entry-in s tables rd level (512 * number + k) found (rw above is))
+    (rw place (live-by (link_of tables rd level (512 * number + k)) (option_and_then (leaf_in k) found)))
+
+-- a table is in use where it links to one below or where a leaf of it is used
+pub in_use-parts : (s : State) (tables : Tables) (rd level number : ℕ) (found : Option KeptTable) → found ≡ kept_at tables rd level number
+    → is_in_use (with_maps s tables) rd level number
+    ≡ (has_link (with_maps s tables) rd level number || any_below 512 (λ k. is_used (option_and_then (leaf_in k) found)))
+unfolding is_in_use has_link
+in_use-parts s tables rd level number found is =
+    any_below-either 512 (λ k. is_live (entry_at (with_maps s tables) rd level (512 * number + k)))
+    (λ k. is_table (entry_at (with_maps s tables) rd level (512 * number + k))) (λ k. is_used (option_and_then (leaf_in k) found))
+    (λ k below. live-entry s tables rd level number k found below is)
+
+-- where no table is kept no leaf is used
+pub none-used : (n : ℕ) → any_below n (λ k. is_used (option_and_then (leaf_in k) None)) ≡ false
+none-used zero = refl
+none-used (suc n) = none-used n
+
+-- a table that links to one below is in use
+pub in_use-linked : (s : State) (tables : Tables) (rd level number : ℕ) → true ≡ has_link (with_maps s tables) rd level number
+    → true ≡ is_in_use (with_maps s tables) rd level number
+in_use-linked s tables rd level number linked =
+    sym (in_use-parts s tables rd level number (kept_at tables rd level number) refl
+    ∙ or_left (has_link (with_maps s tables) rd level number) (any_below 512 (λ k. is_used (option_and_then (leaf_in k) (kept_at tables rd level number)))) (sym linked))
+
+-- one that doesn't is in use where a leaf of it is used
+pub in_use-unlinked : (s : State) (tables : Tables) (rd level number : ℕ) (found : Option KeptTable) → found ≡ kept_at tables rd level number
+    → false ≡ has_link (with_maps s tables) rd level number
+    → any_below 512 (λ k. is_used (option_and_then (leaf_in k) found)) ≡ is_in_use (with_maps s tables) rd level number
+in_use-unlinked s tables rd level number found is unlinked =
+    sym (in_use-parts s tables rd level number found is
+    ∙ ap (λ (b : Bool). b || any_below 512 (λ k. is_used (option_and_then (leaf_in k) found))) (sym unlinked))

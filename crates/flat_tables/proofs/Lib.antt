@@ -1,6 +1,6 @@
 mod Commands
-mod Counts
-mod EntryReads
+pub mod Counts
+pub mod EntryReads
 mod Linked
 mod Paths
 mod Runs

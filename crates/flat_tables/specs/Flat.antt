@@ -6,7 +6,7 @@ use Rattle.rmm_spec.specs.declared.accepted.Stretch.{Stretch}
 use Rattle.rmm_spec.specs.declared.entry.Entry.{Entry}
 use Rattle.rmm_spec.specs.State.{State}
 use Rattle.rmm_spec.specs.Update.{is_same_entry}
-use Rattle.rmm_spec.specs.Walk.{entry_size, table_size, table_number, is_multiple}
+use Rattle.rmm_spec.specs.Walk.{is_live, linked_entry, entry_size, table_size, table_number, is_multiple}
 use Rattle.flat_tables.specs.declared.kept_table.KeptTable.{KeptTable}
 use Rattle.flat_tables.specs.declared.tables.Tables.{Tables}
 use Rattle.flat_tables.specs.Links.{is_same_spot, spot, count_at, Kept}
@@ -28,6 +28,10 @@ link_count tables rd level number = count_at tables.links (spot rd level number)
 -- the leaf at a place of a table
 abbrev pub leaf_in : ℕ → KeptTable → Option Entry
 leaf_in place kept = slice_index_or kept.leaves.items place None
+
+-- whether a leaf keeps its table in use
+abbrev pub is_used : Option Entry → Bool
+is_used leaf = is_live (linked_entry None leaf)
 
 abbrev pub granule_of : KeptTable → ℕ
 granule_of kept = kept.granule

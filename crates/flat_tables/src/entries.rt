@@ -3,6 +3,7 @@
 ghost use Rattle.std.specs.Prelude.{◌≡◌, ◌^◌, ◌<◌, ◌≤◌};
 ghost use Rattle.rmm_spec.specs.Walk as spec;
 ghost use Rattle.rmm_spec.specs.Step.Ripas as stretch;
+ghost use Rattle.flat_tables.specs.Flat.{is_used};
 
 use rmm_spec::{Entry, Ripas, StretchUse};
 
@@ -74,6 +75,13 @@ pub fn is_live(entry: Entry) -> bool
         Entry::Assigned(..) | Entry::AssignedNs(_) | Entry::Table(_) => true,
         Entry::Unassigned(_) | Entry::UnassignedNs => false,
     }
+}
+
+/// Whether a leaf keeps its table in use.
+pub fn is_used(leaf: Option<Entry>) -> bool
+    ensures { result ≡ is_used leaf }
+{
+    is_live(linked(None, leaf))
 }
 
 /// Whether the RIPAS of an entry may be set: never a link's, and before a realm runs no page's.

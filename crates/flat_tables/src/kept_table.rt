@@ -3,6 +3,7 @@
 ghost use Rattle.std.specs.Prelude.{◌≡◌, length, option_map};
 ghost use Rattle.rmm_spec.specs.Update.{entry_with_ripas};
 
+use crate::entries::is_used;
 use rmm_spec::{Entry, Ripas};
 use std::alloc::{AllocError, Global};
 
@@ -20,7 +21,8 @@ pub struct KeptTable {
 impl KeptTable {
     ghost use Rattle.std.specs.Prelude.{◌≡◌, ℕ, ◌<◌, ◌≤◌, ◌&&◌, nat_lt, nat_le, if◌then◌else◌, IfOk, option_map, Some, slice_set};
     ghost use Rattle.rmm_spec.specs.Update.{entry_with_ripas};
-    ghost use Rattle.flat_tables.specs.Flat.{leaf_in};
+    ghost use Rattle.rmm_spec.specs.Lookup.{any_below};
+    ghost use Rattle.flat_tables.specs.Flat.{leaf_in, is_used};
 
     /// A table of which each entry of the lower half is one leaf, and each of the upper half another.
     pub fn new(
@@ -45,6 +47,18 @@ impl KeptTable {
         ensures { result ≡ leaf_in place self.now }
     {
         self.leaves[place]
+    }
+
+    /// Whether one of the leaves keeps the table in use.
+    pub fn is_used(&self) -> bool
+        ensures { result ≡ any_below 512 (λ place. is_used (leaf_in place self.now)) }
+    {
+        for place in 0..ENTRIES {
+            if is_used(self.leaf(place)) {
+                return true;
+            }
+        }
+        false
     }
 
     /// Puts a leaf at a place, or takes the one there out.

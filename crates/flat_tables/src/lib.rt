@@ -1,6 +1,6 @@
 //! The translation tables of all realms, each at its realm, level and number, and what a walk through them finds.
 //! It promises that each look-up is the definitions' over the flat maps, and each change the definitions' update of them.
-//! An entry is found in two look-ups, and a table's 512 entries are made and taken out without a look at other tables.
+//! An entry is found in two look-ups, a table's 512 entries are made and taken out at once, and links to tables are counted.
 //! Only `put_root` and `put_table` take memory; refused, they leave all as it was. Addresses are in bytes.
 //! The specification machine depends on it.
 #![tactic(auto)]

@@ -3,8 +3,7 @@
 ghost use Rattle.std.specs.Prelude.{◌≡◌, ◌≤◌};
 ghost use Rattle.flat_tables.specs.Flat as flat;
 
-use crate::entries::{can_be_set, entry_number, entry_size, is_live, table_number};
-use crate::kept_table::ENTRIES;
+use crate::entries::{can_be_set, entry_number, entry_size, table_number};
 use crate::tables::Tables;
 use rmm_spec::Stretch;
 
@@ -20,15 +19,13 @@ impl Tables {
         requires { number < 2 ^ 55 }
         ensures { (s : State) → result ≡ is_in_use (with_maps s self.now) rd level number }
     {
-        let table = self.at(rd, level, number);
-        let first = 512 * number;
-        for place in 0..ENTRIES {
-            let entry = self.entry_in(table, rd, level, first + place as u64);
-            if is_live(entry) {
-                return true;
-            }
+        if self.has_link(rd, level, number) {
+            return true;
         }
-        false
+        match self.at(rd, level, number) {
+            Some(kept) => kept.is_used(),
+            None => false,
+        }
     }
 
     /// Whether the table of that number links to one below it.

@@ -20,9 +20,10 @@ use Rattle.rmm_sound.proofs.Records.{updated_like}
 use Rattle.rmm_sound.proofs.Searches.{realm_there, rec_there}
 use Rattle.rmm_sound.proofs.Tags.{has_tag-other}
 use Rattle.rmm_laws.proofs.Keeps.{rec_updated-like}
-use Rattle.spec_machine.specs.Kept.{IsKept, count_below, rec_count}
+use Rattle.rmm_spec.specs.Shape.{count_below}
+use Rattle.spec_machine.specs.Kept.{IsKept, rec_count}
 use Rattle.spec_machine.specs.Running.{AreRunning}
-use Rattle.spec_machine.proofs.Counts.{count_below-same}
+use Rattle.flat_tables.proofs.Counts.{count_below-same}
 use Rattle.spec_machine.proofs.Lookups.{is_vmid_used-kept}
 use Rattle.spec_machine.proofs.Named.{named-nowhere, same-changed, named-same, named-added, named-removed}
 use Rattle.spec_machine.proofs.Places.{place_within, get_or-replicate_all}
@@ -33,7 +34,7 @@ use Rattle.spec_machine.proofs.RunningRecs.{idle-nowhere}
 
 no_recs : (n : ℕ) → count_below n (λ k. false) ≡ 0
 no_recs zero = refl
-no_recs (suc n) = rw zero-add (no_recs n)
+no_recs (suc n) = no_recs n
 
 pub kept-opening : (config : Config) (n : ℕ) → n ≡ config.granules → IsKept (opening config) (replicate 256 None) (replicate n 0)
 unfolding opening rec_count

@@ -1,5 +1,4 @@
 pub mod Places
-pub mod Counts
 pub mod Named
 pub mod Lookups
 pub mod RunningRecs

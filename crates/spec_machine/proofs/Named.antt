@@ -1,12 +1,18 @@
 -- What has a number is found by the number's place.
-use Rattle.std.proofs.Common.{◌≡◌, ◌≢◌, ℕ, ◌*◌, ◌/◌, ◌<◌, ◌==◌, Bool, true, false, if◌then◌else◌, Option, Some, None, is_some, List, length, IsTrue, refl, sym, ◌∙◌, ap, arith, nat_lt, slice_index_or, slice_set, replicate}
+use Rattle.std.proofs.Common.{◌≡◌, ◌≢◌, ℕ, zero, suc, ◌*◌, ◌/◌, ◌<◌, ◌==◌, Bool, true, false, if◌then◌else◌, Option, Some, None, is_some, List, length, IsTrue, refl, sym, ◌∙◌, ap, arith, nat_lt, slice_index_or, slice_set, replicate}
 use Rattle.std.proofs.lemmas.Bool.{eqb-true, eqb-false, eq-eqb, ne_eqb, ltb-true, ltb-false}
 use Rattle.std.proofs.lemmas.List.{get_or-set_same, get_or-set_other, get_or_past}
 use Rattle.rmm_spec.specs.Lookup.{is_granule, any_below}
 use Rattle.rmm_spec.proofs.Tests.{both_ways}
 use Rattle.spec_machine.specs.Kept.{names, AreNamed}
-use Rattle.spec_machine.proofs.Counts.{any_below-none, any_below-some}
+use Rattle.flat_tables.proofs.EntryReads.{any_below-found}
 use Rattle.spec_machine.proofs.Places.{place_within, place-granule, get_or-replicate_all}
+
+-- none is found where none passes
+any_below-none : (n : ℕ) (passes : ℕ → Bool) → ((k : ℕ) → k < n → passes k ≡ false) → any_below n passes ≡ false
+any_below-none zero passes none = refl
+any_below-none (suc n) passes none =
+    rw (none n (omega arith)) (any_below-none n passes (λ k below. none k (omega arith)))
 
 -- a number is had by something exactly where its place has an address
 pub any_below-named : {A : Type 0} (granules : ℕ) (has : A → Bool) (kept : ℕ → A) (named : Option ℕ)
@@ -15,7 +21,7 @@ pub any_below-named : {A : Type 0} (granules : ℕ) (has : A → Bool) (kept : �
 any_below-named granules has kept None within named = any_below-none granules (λ k. has (kept (k * 4096))) (λ k below. sym (named (k * 4096)))
 any_below-named granules has kept (Some g) within named =
     let here : has (kept g) ≡ true = sym (named g) ∙ eq-eqb g g refl in
-    any_below-some granules (g / 4096) (λ k. has (kept (k * 4096))) (place_within granules g (within g here))
+    any_below-found (λ k. has (kept (k * 4096))) (g / 4096) granules (place_within granules g (within g here))
     (ap (λ x. has (kept x)) (place-granule granules g (within g here)) ∙ here)
 
 -- nothing is named by places that have no address

@@ -8,8 +8,9 @@ use Rattle.rmm_spec.proofs.Tests.{both_ways}
 use Rattle.rmm_spec.proofs.TagLaws.{granule_from_tag}
 use Rattle.rmm_spec.specs.declared.tag.Tag.TheVariants.{Rd}
 use Rattle.rmm_sound.proofs.Searches.{rec_granule}
-use Rattle.spec_machine.specs.Kept.{IsKept, count_below, rec_count}
-use Rattle.spec_machine.proofs.Counts.{any_below-count_below, count_below-le, count_below-same, count_below-more}
+use Rattle.rmm_spec.specs.Shape.{count_below}
+use Rattle.spec_machine.specs.Kept.{IsKept, rec_count}
+use Rattle.flat_tables.proofs.Counts.{any_below-count_below, count_below-le, count_below-same, count_below-more}
 use Rattle.spec_machine.proofs.Places.{place_within, place-granule, place-apart}
 use Rattle.spec_machine.proofs.Named.{same-changed}
 

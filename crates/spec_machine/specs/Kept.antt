@@ -2,6 +2,7 @@
 use Rattle.std.specs.Prelude.{◌≡◌, ℕ, zero, suc, ◌+◌, ◌*◌, ◌/◌, Bool, false, ◌==◌, if◌then◌else◌, IsTrue, List, length, Option, Some, None, slice_index_or}
 use Rattle.rmm_spec.specs.State.{State}
 use Rattle.rmm_spec.specs.Lookup.{is_granule, has_vmid, is_owned_by}
+use Rattle.rmm_spec.specs.Shape.{count_below}
 use Rattle.rmm_spec.specs.Sound.{IsSound}
 
 -- whether it is that number that is there
@@ -12,11 +13,6 @@ names n (Some other) = n == other
 -- each number's place has the address at which something has the number
 abbrev pub AreNamed : {A : Type 0} → (ℕ → A → Bool) → (ℕ → A) → List (Option ℕ) → Type 0
 AreNamed has kept places = (n g : ℕ) → names g (slice_index_or places n None) ≡ has n (kept g)
-
--- how many numbers below n pass
-abbrev pub count_below : ℕ → (ℕ → Bool) → ℕ
-count_below zero passes = 0
-count_below (suc n) passes = (if passes n then 1 else 0) + count_below n passes
 
 -- how many RECs belong to the realm
 unfoldable pub rec_count : State → ℕ → ℕ
