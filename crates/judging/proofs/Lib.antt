@@ -1,2 +1,1 @@
 mod Written
-mod Given

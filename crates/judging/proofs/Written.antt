@@ -18,11 +18,6 @@ take-further before bytes now after at count e f =
     ∙ ap (λ (xs : List ℕ). before ++ take at bytes ++ take count xs) (take_rest bytes at)
     ∙ append_assoc before (take at bytes) (take count (drop at bytes)) ∙ ap (λ (xs : List ℕ). before ++ xs) (sym (take-add at count bytes))
 
--- a writer holds what it held
-pub Appends-nothing : (held : Option (List ℕ)) → Appends held held []
-Appends-nothing None = tt
-Appends-nothing (Some bytes) = sym (append-nil bytes)
-
 -- one piece behind the other
 pub Appends-both : (old middle new : Option (List ℕ)) (front back : List ℕ) → Appends old middle front → Appends middle new back
     → Appends old new (front ++ back)

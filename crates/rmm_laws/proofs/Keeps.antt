@@ -100,12 +100,7 @@ same-pages s closes rd level number granule ripas is = inl (ripas, is)
 pub rec_updated-like : (update : RecUpdate) (r : RecRecord) → IsRecLike r (Some (rec_updated update r))
 unfolding rec_updated
 rec_updated-like (rec_update.Entered cpu) r = (_, refl, refl, refl, refl)
-rec_updated-like rec_update.Exited r = (_, refl, refl, refl, refl)
-rec_updated-like (rec_update.RipasRequested base top ripas) r = (_, refl, refl, refl, refl)
-rec_updated-like (rec_update.HostCalled imm) r = (_, refl, refl, refl, refl)
-rec_updated-like rec_update.TurnedOff r = (_, refl, refl, refl, refl)
-rec_updated-like rec_update.SystemTurnedOff r = (_, refl, refl, refl, refl)
-rec_updated-like (rec_update.RequestMoved base) r = (_, refl, refl, refl, refl)
+rec_updated-like _ r = (_, refl, refl, refl, refl)
 
 tag_change-keeps : (s : State) (change : Option TagChange) → Keeps s (with_tag_change s change) []
 tag_change-keeps s None = record { realms = same-realms s []; recs = same-recs s []; tables = same-tables s []; pages = same-pages s [] }

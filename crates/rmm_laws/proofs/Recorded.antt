@@ -6,7 +6,6 @@ use Rattle.rmm_spec.specs.declared.change.Change.TheVariants.{Unchanged, Retagge
 use Rattle.rmm_spec.specs.declared.change.EntryChange.{EntryChange}
 use Rattle.rmm_spec.specs.declared.change.EntryChange.TheVariants.{Replaced, RipasSet}
 use Rattle.rmm_spec.specs.declared.change.RealmChange.{RealmChange}
-use Rattle.rmm_spec.specs.declared.change.RealmUpdate.{RealmUpdate}
 use Rattle.rmm_spec.specs.declared.change.RealmUpdate.TheVariants as realm_update
 use Rattle.rmm_spec.specs.declared.change.RecChange.{RecChange}
 use Rattle.rmm_spec.specs.declared.change.TagChange.{TagChange}
@@ -16,6 +15,7 @@ use Rattle.rmm_spec.specs.Ownership.{RecParts}
 use Rattle.rmm_spec.specs.Sound.{IsSound}
 use Rattle.rmm_spec.specs.State.{State, RealmRecord, RecRecord}
 use Rattle.rmm_spec.specs.Lookup.{realm_at, rec_at}
+use Rattle.rmm_sound.proofs.Records.{updated_like}
 use Rattle.rmm_sound.proofs.Searches.{realm_at-is, realm_there, rec_at-is, rec_there}
 use Rattle.rmm_laws.proofs.ChangeWords.{root_of, rec_of}
 use Rattle.rmm_laws.proofs.Keeps.{with_records, rec_updated-like, tag_change-rest, realm_change-rest, rec_change-rest}
@@ -63,16 +63,6 @@ gone-recorded read recorded values place before x v is = elim (chosen (x == plac
 
 -- ---- records are replaced
 
--- an update leaves a realm's root
-realm_updated-root : (update : RealmUpdate) (r : RealmRecord) → (realm_updated update r).root ≡ r.root
-unfolding realm_updated
-realm_updated-root realm_update.Activated r = refl
-realm_updated-root realm_update.TurnedOff r = refl
-realm_updated-root (realm_update.RecCounted mpidr flags) r = refl
-realm_updated-root (realm_update.PageMeasured ipa flags digest) r = refl
-realm_updated-root (realm_update.StretchMeasured base top) r = refl
-realm_updated-root (realm_update.MeasurementExtended index size values) r = refl
-
 -- an update leaves a REC's parts
 rec_updated-parts : (change : RecChange) (r : RecRecord) → parts_in (rec_updated change.update r) ≡ parts_in r
 rec_updated-parts change r =
@@ -87,7 +77,7 @@ realm_change-recorded s t (Some change) roots sound can same recorded =
     let is = realm_there s change.rd sound can.0 in
     let here : t.realm change.rd ≡ Some (realm_at s change.rd) = ap (λ (f : ℕ → Option RealmRecord). f change.rd) same ∙ is in
     put-recorded root_in roots t.realm change.rd (realm_updated change.update (realm_at t change.rd)) (rw same recorded)
-    (recorded change.rd (realm_at s change.rd) is ∙ sym (realm_updated-root change.update (realm_at t change.rd) ∙ ap root_in (realm_at-is t change.rd (realm_at s change.rd) here)))
+    (recorded change.rd (realm_at s change.rd) is ∙ sym ((updated_like change.update (realm_at t change.rd)).root ∙ ap root_in (realm_at-is t change.rd (realm_at s change.rd) here)))
 
 rec_change-recorded : (s t : State) (change : Option RecChange) (recs : ℕ → RecParts) → IsSound s → CanChangeRec s change → t.rec ≡ s.rec
     → IsRecorded parts_in recs s.rec → IsRecorded parts_in recs (with_rec_change t change).rec
@@ -128,7 +118,7 @@ roots-after s (RealmMade rd root width level vmid algo) roots sound can recorded
 roots-after s (RealmDestroyed rd root) roots sound can recorded = gone-recorded root_in roots s.realm rd recorded
 roots-after s (RecMade rd rec mpidr flags aux0 aux1) roots sound can recorded =
     put-recorded root_in roots s.realm rd (realm_updated (realm_update.RecCounted mpidr flags) (realm_at s rd)) recorded
-    (recorded rd (realm_at s rd) (realm_there s rd sound can.rd_tag) ∙ sym (realm_updated-root (realm_update.RecCounted mpidr flags) (realm_at s rd)))
+    (recorded rd (realm_at s rd) (realm_there s rd sound can.rd_tag) ∙ sym (updated_like (realm_update.RecCounted mpidr flags) (realm_at s rd)).root)
 roots-after s (RecDestroyed rec aux0 aux1) roots sound can recorded = recorded
 roots-after s (RecordsChanged realm rec) roots sound can recorded = with_records-roots s None realm rec roots sound can.0 recorded
 roots-after s (TableMade rd level number rtt entry) roots sound can recorded = recorded

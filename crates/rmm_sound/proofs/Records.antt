@@ -1,5 +1,5 @@
 -- A record of a realm or of a REC is replaced by what a command makes of it.
-use Rattle.std.proofs.Common.{◌≡◌, ℕ, ◌==◌, ◌-◌, false, IsTrue, Option, Some, None, is_none, refl, ◌∙◌, ap, subst}
+use Rattle.std.proofs.Common.{◌≡◌, ℕ, ◌==◌, ◌-◌, Bool, false, IsTrue, Option, Some, None, is_none, is_some, refl, ◌∙◌, ap, subst}
 use Rattle.std.proofs.lemmas.Bool.{false_from_ne_true, eq-eqb, eqb-true}
 use Rattle.std.proofs.lemmas.List.{length-set}
 use Rattle.rmm_spec.specs.declared.change.RealmChange.{RealmChange}
@@ -9,7 +9,9 @@ use Rattle.rmm_spec.specs.declared.change.RecChange.{RecChange}
 use Rattle.rmm_spec.specs.declared.change.RecUpdate.{RecUpdate}
 use Rattle.rmm_spec.specs.declared.change.RecUpdate.TheVariants as rec_update
 use Rattle.rmm_spec.specs.declared.tag.Tag.TheVariants.{Rd}
-use Rattle.rmm_spec.specs.State.{State, RealmRecord, RecRecord, Request, Psci, RipasChange, HostCall}
+use Rattle.rmm_spec.specs.declared.function_id.FunctionId.TheVariants as function
+use Rattle.rmm_spec.specs.Function.{number_of}
+use Rattle.rmm_spec.specs.State.{State, RealmRecord, RecRecord, Request, Pending, Psci, RipasChange, HostCall}
 use Rattle.rmm_spec.specs.Update.{with_realm}
 use Rattle.rmm_spec.specs.Lookup.{has_tag, runs_on, realm_at, rec_at}
 use Rattle.rmm_spec.specs.Change.{realm_updated, rec_updated, with_realm_change, with_rec_change}
@@ -26,13 +28,9 @@ use Rattle.rmm_sound.proofs.Searches.{none_runs, realm_there, rec_there, realm_a
 -- no update changes a realm's address space, root or VMID
 pub updated_like : (update : RealmUpdate) (r : RealmRecord) → IsLike r (realm_updated update r)
 unfolding realm_updated
-updated_like realm_update.Activated r = record { width = refl; start_level = refl; vmid = refl; root = refl; measured = refl }
-updated_like realm_update.TurnedOff r = record { width = refl; start_level = refl; vmid = refl; root = refl; measured = refl }
-updated_like (realm_update.RecCounted mpidr flags) r = record { width = refl; start_level = refl; vmid = refl; root = refl; measured = refl }
-updated_like (realm_update.PageMeasured ipa flags digest) r = record { width = refl; start_level = refl; vmid = refl; root = refl; measured = refl }
-updated_like (realm_update.StretchMeasured base top) r = record { width = refl; start_level = refl; vmid = refl; root = refl; measured = refl }
 updated_like (realm_update.MeasurementExtended index size values) r =
     record { width = refl; start_level = refl; vmid = refl; root = refl; measured = length-set r.rems (index - 1) _ }
+updated_like _ r = record { width = refl; start_level = refl; vmid = refl; root = refl; measured = refl }
 
 -- a realm's record is updated
 pub realm_updated_sound : (s : State) (rd : ℕ) (update : RealmUpdate) → IsSound s → IsTrue (has_tag s rd Rd)
@@ -58,6 +56,20 @@ asks : (s : State) (old : RecRecord) (request : Request) → IsRequest (realm_at
     → (r : RealmRecord) (q : Request) → s.realm old.owner ≡ Some r → Some request ≡ Some q → IsRequest r q
 asks s old request is r q at same =
     let here : request ≡ q = cc in subst (λ x. IsRequest r x) here (subst (λ x. IsRequest x request) (realm_at-is s old.owner r at) is)
+
+-- a REC that runs may wait to leave, and not for a RIPAS change
+waits_stands : (s : State) (a : ℕ) (old : RecRecord) (p : Pending) (runnable : Bool) → IsSound s → s.rec a ≡ Some old → IsTrue (is_some old.cpu)
+    → (Some p ≡ Some RipasChange → ⊥) → CanStandFor s a old (record old { pending = Some p; runnable = runnable })
+waits_stands s a old p runnable sound there runs other = record {
+  there = there;
+  owner = refl;
+  aux0 = refl;
+  aux1 = refl;
+  alone = still_alone s a old sound there;
+  running = λ _ pending. runs;
+  asked = λ pending. absurd (other pending);
+  requests = λ r q at. sound.recs.requests a old r q there at;
+}
 
 -- what becomes of a REC's record may stand in its place
 updated_stands : (update : RecUpdate) (s : State) (a : ℕ) (old : RecRecord) → IsSound s → s.rec a ≡ Some old → CanUpdateRec s old update
@@ -93,36 +105,9 @@ updated_stands (rec_update.RipasRequested base top ripas) s a old sound there ca
   asked = λ pending. refl;
   requests = asks s old _ can.1;
 }
-updated_stands (rec_update.HostCalled imm) s a old sound there can = record {
-  there = there;
-  owner = refl;
-  aux0 = refl;
-  aux1 = refl;
-  alone = still_alone s a old sound there;
-  running = λ p pending. can;
-  asked = λ pending. absurd (let bad : Some (HostCall imm) ≡ Some RipasChange = pending in cc);
-  requests = λ r q at. sound.recs.requests a old r q there at;
-}
-updated_stands rec_update.TurnedOff s a old sound there can = record {
-  there = there;
-  owner = refl;
-  aux0 = refl;
-  aux1 = refl;
-  alone = still_alone s a old sound there;
-  running = λ p pending. can;
-  asked = λ pending. absurd (let bad : Some (Psci _) ≡ Some RipasChange = pending in cc);
-  requests = λ r q at. sound.recs.requests a old r q there at;
-}
-updated_stands rec_update.SystemTurnedOff s a old sound there can = record {
-  there = there;
-  owner = refl;
-  aux0 = refl;
-  aux1 = refl;
-  alone = still_alone s a old sound there;
-  running = λ p pending. can;
-  asked = λ pending. absurd (let bad : Some (Psci _) ≡ Some RipasChange = pending in cc);
-  requests = λ r q at. sound.recs.requests a old r q there at;
-}
+updated_stands (rec_update.HostCalled imm) s a old sound there can = waits_stands s a old (HostCall imm) old.runnable sound there can (λ same. cc)
+updated_stands rec_update.TurnedOff s a old sound there can = waits_stands s a old (Psci (number_of function.CpuOff)) false sound there can (λ same. cc)
+updated_stands rec_update.SystemTurnedOff s a old sound there can = waits_stands s a old (Psci (number_of function.SystemOff)) old.runnable sound there can (λ same. cc)
 updated_stands (rec_update.RequestMoved base) s a old sound there can = record {
   there = there;
   owner = refl;

@@ -1,10 +1,8 @@
 -- The command line, over clap's own definitions of what a command takes and which value an argument gets.
 use Rattle.std.specs.Prelude.{◌≡◌, List, [], Option, Some, true, codes, option_map, option_and_then}
-use Rattle.judging.specs.declared.fault.Paths.{Paths}
 use Rattle.scenarios.specs.declared.words.Request.{Request}
 use Rattle.scenarios.specs.declared.words.Request.TheVariants.{Check, Threads}
-use Rattle.clap.specs.declared.parser.matches.ArgMatches.{ArgMatches}
-use Rattle.clap.specs.Words.{App, Row, Rule, Text, fault_of, first_of, new_app, new_rule, subcommand_of, subcommand_rows_of, with_rule, with_subcommand}
+use Rattle.clap.specs.Words.{App, Row, Rule, Text, fault_of, first_of, new_app, new_rule, subcommand_of, with_rule, with_subcommand}
 
 -- a path that has to be given
 abbrev pub path : Text → Rule

@@ -1,12 +1,16 @@
 //! The program over any runtime: words, files, the verdict's line, the exit status.
 
-ghost use Rattle.std.specs.Prelude.{◌≡◌, ◌≤◌};
-ghost use Rattle.scenarios.specs.Faults.{run_fault};
+ghost use Rattle.std.specs.Prelude.{◌≡◌, ◌≢◌, ◌⊎◌, ◌≤◌, ℕ, List, IfOk, IfErr, map, string_bytes};
+ghost use Rattle.std.specs.Io.KnownBytes.{Appends};
+ghost use Rattle.std.specs.IoError.{error_kind};
+ghost use Rattle.thread_runs.specs.Printed.{PrintsTwo};
+ghost use Rattle.scenarios.specs.Faults.{run_fault, unread_fault, EndsCheck, EndsThreads, HasCause};
 
 use crate::words::{Request, request_given};
 use checker::Verdict;
 use judging::{Ending, Fault, FileSource, OutputSink, Paths, ends_with, judge};
-use std::io::Write;
+use std::alloc::Global;
+use std::io::{ErrorKind, Write};
 use std::rt::{Env, Files};
 use std::sync::Wait;
 use std::thread::Threads;
@@ -30,11 +34,14 @@ pub fn run<R: Env + Files + Print + Eprint + AllocGlobal, T: Threads + Wait + Sy
     end(rt, ends_with(outcome))
 }
 
+// Does what the words ask for.
 fn serve<'a, R: Files + Print + AllocGlobal, T: Threads + Wait + Sync>(
     rt: &R,
     threads: &T,
     words: &'a [String],
-) -> Result<Verdict, Fault<'a>> {
+) -> Result<Verdict, Fault<'a>>
+    ensures { IfErr result (HasCause (map string_bytes words.now)) }
+{
     match request_given(rt.alloc(), words) {
         Ok(Request::Check(paths)) => check_files(rt, paths),
         Ok(Request::Threads) => run_threads(rt, threads),
@@ -42,17 +49,33 @@ fn serve<'a, R: Files + Print + AllocGlobal, T: Threads + Wait + Sync>(
     }
 }
 
-// Prints the fixed run of two threads. All of it is there before its first byte is written.
+// Prints the fixed run of two threads.
 fn run_threads<R: Print + AllocGlobal, T: Threads + Wait + Sync>(
     rt: &R,
     threads: &T,
-) -> Result<Verdict, Fault<'static>> {
-    let mut text = Vec::new(rt.alloc());
-    let verdict = match two_threads(threads, rt.alloc(), &mut text) {
+) -> Result<Verdict, Fault<'static>>
+    ensures { IfErr result EndsThreads }
+{
+    print_threads(threads, rt.alloc(), &mut io::writer(rt))
+}
+
+// All of the run's text is there before its first byte is written.
+fn print_threads<T: Threads + Wait + Sync, W: Write>(
+    threads: &T,
+    alloc: Global,
+    out: &mut W,
+) -> Result<Verdict, Fault<'static>>
+    ensures ok { IfOk result (λ verdict. (text : List ℕ) × Appends (W.contents out.old) (W.contents out.new) text
+        × PrintsTwo text verdict) }
+    ensures silent { IfErr result (λ fault. fault ≢ Fault.CannotWrite → out.new ≡ out.old) }
+    ensures faults { IfErr result EndsThreads }
+{
+    let mut text = Vec::new(alloc);
+    let verdict = match two_threads(threads, alloc, &mut text) {
         Ok(verdict) => verdict,
         Err(fault) => return Err(fault_of_run(fault)),
     };
-    match io::writer(rt).write_all(text.as_slice()) {
+    match out.write_all(text.as_slice()) {
         Ok(()) => Ok(verdict),
         Err(_) => Err(Fault::CannotWrite),
     }
@@ -72,7 +95,9 @@ fn fault_of_run(fault: RunFault) -> Fault<'static>
 fn check_files<'a, R: Files + Print + AllocGlobal>(
     rt: &R,
     paths: Paths<'a>,
-) -> Result<Verdict, Fault<'a>> {
+) -> Result<Verdict, Fault<'a>>
+    ensures { IfErr result (EndsCheck paths.entry) }
+{
     let Ok(history) = fs::open(rt, paths.history) else {
         return Err(Fault::CannotRead(paths.history));
     };
@@ -82,15 +107,33 @@ fn check_files<'a, R: Files + Print + AllocGlobal>(
     let mut history = FileSource::new(rt.alloc(), history);
     let mut certificate = FileSource::new(rt.alloc(), certificate);
     let mut sink = OutputSink::new(rt.alloc(), io::writer(rt));
-    judge(rt.alloc(), &mut history, &mut certificate, &mut sink).map_err(|fault| paths.fault(fault))
+    match judge(rt.alloc(), &mut history, &mut certificate, &mut sink) {
+        Ok(verdict) => Ok(verdict),
+        Err(fault) => Err(paths.fault(fault)),
+    }
 }
 
-// The words of the command line. One that is no UTF-8 is a fault of arguments.
-fn words_of<R: Env + AllocGlobal>(rt: &R) -> Result<Vec<String>, Fault<'static>> {
+// The words of the command line.
+fn words_of<R: Env + AllocGlobal>(rt: &R) -> Result<Vec<String>, Fault<'static>>
+    ensures { IfErr result (λ fault. (fault ≡ Fault.NoMemory) ⊎ (fault ≡ Fault.Arguments)) }
+{
     match env::args(rt) {
-        Ok(args) => args.collect(rt.alloc()).map_err(|_| Fault::NoMemory),
-        Err(error) if error.kind() == io::ErrorKind::OutOfMemory => Err(Fault::NoMemory),
-        Err(_) => Err(Fault::Arguments),
+        Ok(args) => match args.collect(rt.alloc()) {
+            Ok(words) => Ok(words),
+            Err(_) => Err(Fault::NoMemory),
+        },
+        Err(error) => Err(fault_of_unread(&error)),
+    }
+}
+
+// What ends the program where its words can't be read.
+fn fault_of_unread(error: &io::Error) -> Fault<'static>
+    ensures cause { result ≡ unread_fault (error_kind error.now) }
+    ensures either { (result ≡ Fault.NoMemory) ⊎ (result ≡ Fault.Arguments) }
+{
+    match error.kind() {
+        ErrorKind::OutOfMemory => Fault::NoMemory,
+        _ => Fault::Arguments,
     }
 }
 

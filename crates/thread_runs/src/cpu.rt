@@ -51,7 +51,7 @@ impl Cpu {
 #[tactic(auto, unfolding(rmm_spec::specs::Function::word_count))]
 fn delegate(granule: u64) -> Command
     ensures command { result ≡ delegate granule }
-    ensures served { IsGranuleCommand result }
+    ensures granule_command { IsGranuleCommand result }
     ensures text { IsCommand result }
 {
     let mut words = ArrayVec::new();

@@ -2,7 +2,7 @@ use Rattle.std.proofs.Common.{rules, ◌≡◌, ◌∙◌, ap, ap₂, true, code
 use Rattle.std.proofs.lemmas.Result.{IfOk-weaker}
 use Rattle.clap.specs.Words.{App, app_of, rule_of, with_rule, with_subcommand}
 use Rattle.clap.specs.Simple.{app_of_fields}
-use Rattle.scenarios.specs.Words.{check_command, threads_command, path}
+use Rattle.scenarios.specs.Words.{check_command, path}
 use Rattle.scenarios.proofs.words.program.Goals as goal
 
 pub returns : goal.returns

@@ -1,5 +1,5 @@
 use Rattle.std.proofs.Common.{◌≡◌, ◌∙◌, List, [], ap, sym, subst, map, string_bytes, ⊎_elim}
-use Rattle.clap.specs.Words.{App, Text, fault_of, is_simple_and_free, subcommand_of, subcommand_rows_of}
+use Rattle.clap.specs.Words.{App, Text, fault_of, is_simple_and_free, subcommand_rows_of}
 use Rattle.scenarios.specs.Words.{rmmcheck_command}
 use Rattle.scenarios.proofs.Asked.{is_free-rmmcheck, subcommand-given}
 use Rattle.scenarios.proofs.Given.{AsksOne, fault_of-none}
