@@ -1,0 +1,3 @@
+pub mod Calls
+pub mod Faults
+pub mod Lines
