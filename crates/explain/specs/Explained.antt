@@ -1,0 +1,94 @@
+-- What an explanation says of two texts.
+use Rattle.std.specs.Prelude.{◌≡◌, ℕ, ◌+◌, ◌<◌, ◌++◌, List, [], take, slice_get, Some}
+use Rattle.rmm_spec.specs.declared.line.Line.{Line}
+use Rattle.rmm_spec.specs.declared.verdict.Reason.{Reason}
+use Rattle.rmm_spec.specs.declared.verdict.Reason.TheVariants as reason
+use Rattle.rmm_spec.specs.declared.verdict.Verdict.{Verdict}
+use Rattle.rmm_spec.specs.declared.verdict.Verdict.TheVariants as verdict
+use Rattle.rmm_spec.specs.Call.{call_of}
+use Rattle.rmm_spec.specs.Text.{HasNoNewline}
+use Rattle.rmm_spec.specs.HistoryText.{History, IsHistoryText}
+use Rattle.rmm_spec.specs.CertificateText.{IsCertificateText}
+use Rattle.rmm_spec.specs.State.{State}
+use Rattle.rmm_spec.specs.Step.{outcome}
+use Rattle.rmm_spec.specs.Linearization.{ReturnsBefore, IsReplyOf}
+use Rattle.rmm_spec.specs.FirstFault.{Passes}
+use Rattle.spec_machine.specs.Report.{AddsOwners}
+use Rattle.explain.specs.declared.explanation.Cause.{Cause}
+use Rattle.explain.specs.declared.explanation.Cause.TheVariants as cause
+use Rattle.explain.specs.declared.explanation.Explanation.{Explanation}
+use Rattle.explain.specs.declared.explanation.Explanation.TheVariants as explanation
+use Rattle.explain.specs.declared.explanation.Refusal.{Refusal}
+use Rattle.explain.specs.declared.explanation.Summary.{Summary}
+use Rattle.explain.specs.Told.{IsTold, NamesAt}
+
+-- ---- the verdict
+
+abbrev pub reason_of : Cause → Reason
+reason_of (cause.Unknown cpu number) = reason.Unknown
+reason_of (cause.Repeated call earlier) = reason.Repeated
+reason_of (cause.Kind call) = reason.Kind
+reason_of (cause.Order call earlier other) = reason.Order
+reason_of (cause.Reply refusal) = reason.Reply
+reason_of (cause.Missing call) = reason.Missing call.cpu call.number
+
+abbrev pub verdict_of : Explanation → Verdict
+verdict_of (explanation.HistoryFault bad) = verdict.HistoryFault bad.line
+verdict_of (explanation.CertificateFault bad) = verdict.CertificateFault bad.line
+verdict_of (explanation.Yes summary) = verdict.Yes summary.count
+verdict_of (explanation.No step cause) = verdict.No step (reason_of cause)
+
+-- ---- what stands behind it
+
+-- The line claims the reply of the call, and the specified answer is the machine's in the state that the lines before lead to.
+pub record IsRefusal (history : History) (lines : List Line) (step : ℕ) (refusal : Refusal) : Type 0 where
+  pub index : ℕ
+  pub counted : step ≡ index + 1
+  pub line : Line
+  pub is_line : slice_get lines index ≡ Some line
+  pub claims : IsReplyOf history.events line refusal.claimed
+  pub old : State
+  pub before : Passes history (take index lines) old
+  pub specifies : refusal.specified ≡ outcome old refusal.call.cpu (call_of refusal.call.call.command)
+
+-- of the line that fails, and of the calls that it is about
+abbrev pub IsCause : Cause → History → List Line → ℕ → Type 0
+IsCause (cause.Unknown cpu number) history lines step = NamesAt lines step cpu number
+IsCause (cause.Repeated call earlier) history lines step =
+    NamesAt lines step call.cpu call.number × IsTold history.events call × NamesAt lines earlier call.cpu call.number × (earlier < step)
+IsCause (cause.Kind call) history lines step = NamesAt lines step call.cpu call.number × IsTold history.events call
+IsCause (cause.Order call earlier other) history lines step =
+    NamesAt lines step call.cpu call.number × IsTold history.events call
+    × NamesAt lines earlier other.cpu other.number × (earlier < step) × IsTold history.events other
+    × ReturnsBefore history.events call.cpu call.number other.cpu other.number
+IsCause (cause.Reply refusal) history lines step =
+    NamesAt lines step refusal.call.cpu refusal.call.number × IsTold history.events refusal.call × IsRefusal history lines step refusal
+IsCause (cause.Missing call) history lines step = IsTold history.events call
+
+-- the machine's CPUs, and the owners in the state to which all lines lead
+pub record IsSummary (history : History) (lines : List Line) (summary : Summary) : Type 0 where
+  pub cpus : summary.cpus ≡ history.config.cpus
+  pub last : State
+  pub all : Passes history lines last
+  pub owners : AddsOwners last [] summary.owners.items
+
+-- the texts stand for a history and an order, which this is told of
+pub record Explains (history_bytes certificate_bytes : List ℕ) (Says : History → List Line → Type 0) : Type 0 where
+  pub history : History
+  pub lines : List Line
+  pub is_history : IsHistoryText history_bytes history
+  pub is_certificate : IsCertificateText certificate_bytes lines
+  pub says : Says history lines
+
+-- the bytes are a line of the text
+pub record IsLineIn (text bytes : List ℕ) : Type 0 where
+  pub before : List ℕ
+  pub after : List ℕ
+  pub is_text : text ≡ before ++ (bytes ++ after)
+  pub no_newline : HasNoNewline bytes
+
+abbrev pub IsExplained : Explanation → List ℕ → List ℕ → Type 0
+IsExplained (explanation.HistoryFault bad) history certificate = IsLineIn history bad.bytes.now
+IsExplained (explanation.CertificateFault bad) history certificate = IsLineIn certificate bad.bytes.now
+IsExplained (explanation.Yes summary) history certificate = Explains history certificate (λ h lines. IsSummary h lines summary)
+IsExplained (explanation.No step cause) history certificate = Explains history certificate (λ h lines. IsCause cause h lines step)

@@ -1,0 +1,39 @@
+-- What is told of a call, and of the lines that name it.
+use Rattle.std.specs.Prelude.{◌≡◌, ℕ, ◌+◌, ◌<◌, List, slice_get, Some}
+use Rattle.rmm_spec.specs.declared.command.Command.{Command}
+use Rattle.rmm_spec.specs.declared.event.Event.{Event}
+use Rattle.rmm_spec.specs.declared.line.Line.{Line}
+use Rattle.rmm_spec.specs.Linearization.{IsCalled, cpu_named, number_named}
+use Rattle.history.specs.Calls.{IsCallOf}
+use Rattle.explain.specs.declared.named_call.NamedCall.{NamedCall}
+
+-- what is told of the call is what the history records
+abbrev pub IsTold : List Event → NamedCall → Type 0
+IsTold events named = IsCallOf events named.cpu named.number named.call
+
+-- the line names the call
+abbrev pub Names : ℕ → ℕ → Line → Type 0
+Names cpu number line = (cpu_named line ≡ cpu) × (number_named line ≡ number)
+
+-- the call of the line was made behind the place
+pub record IsMadeAfter (events : List Event) (returned : ℕ) (line : Line) : Type 0 where
+  pub called : ℕ
+  pub command : Command
+  pub is_called : IsCalled events called (cpu_named line) (number_named line) command
+  pub after : returned < called
+
+-- this is said of the line of the index
+abbrev pub IsLineFor : List Line → ℕ → (Line → Type 0) → Type 0
+IsLineFor lines index Says = (line : Line) × (slice_get lines index ≡ Some line) × Says line
+
+-- of one of the lines
+abbrev pub HasLine : List Line → (Line → Type 0) → Type 0
+HasLine lines Says = (index : ℕ) × IsLineFor lines index Says
+
+-- the line of the step names the call; steps count from 1
+abbrev pub NamesAt : List Line → ℕ → ℕ → ℕ → Type 0
+NamesAt lines step cpu number = (index : ℕ) × (step ≡ index + 1) × IsLineFor lines index (Names cpu number)
+
+-- there is a line of the step
+abbrev pub IsStep : List Line → ℕ → Type 0
+IsStep lines step = (index : ℕ) × (line : Line) × (step ≡ index + 1) × (slice_get lines index ≡ Some line)

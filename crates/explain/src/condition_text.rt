@@ -1,0 +1,196 @@
+//! A condition that fails, in words.
+
+use crate::condition::{Condition, EntryKind, EntryRead, WordFault};
+use rmm_spec::Tag;
+use std::fmt;
+
+impl fmt::Display for Condition {
+    fn fmt<W: fmt::Write>(&self, f: &mut fmt::Formatter<W>) -> fmt::Result {
+        match *self {
+            Condition::None => f.write_str("every condition of the command holds"),
+            Condition::Inside => f.write_str("the CPU is inside a REC"),
+            Condition::Outside => f.write_str("the CPU is outside of RECs"),
+            Condition::ExitPending => f.write_str("the REC has a pending exit"),
+            Condition::Word(fault) => write!(f, "{fault}"),
+            Condition::Tag {
+                granule,
+                needed,
+                found,
+            } => write_tag(f, granule, needed, found),
+            Condition::VmidUsed { vmid } => write!(f, "a realm has VMID {vmid:x}"),
+            Condition::RealmNotNew { rd } => write!(f, "the realm at {rd:x} isn't NEW"),
+            Condition::RealmNew => f.write_str("the REC's realm is NEW"),
+            Condition::RealmOff => f.write_str("the REC's realm is SYSTEM_OFF"),
+            Condition::RealmHasRec { rd, rec } => {
+                write!(f, "{rec:x} is a REC of the realm at {rd:x}")
+            }
+            Condition::RootHasTable { rd } => {
+                write!(f, "an entry of the root of the realm at {rd:x} is TABLE")
+            }
+            Condition::NotNextIndex { mpidr } => {
+                write!(
+                    f,
+                    "{mpidr:x} isn't the realm's next REC index, or isn't below 8"
+                )
+            }
+            Condition::RecRuns { rec } => write!(f, "the REC at {rec:x} runs"),
+            Condition::RecNotReady { rec } => {
+                write!(f, "the REC at {rec:x} runs, or isn't runnable")
+            }
+            Condition::RecOfOtherRealm { rec, rd } => {
+                write!(f, "the REC at {rec:x} isn't of the realm at {rd:x}")
+            }
+            row => write_table_row(f, row),
+        }
+    }
+}
+
+// The conditions over requests, addresses and tables.
+fn write_table_row<W: fmt::Write>(f: &mut fmt::Formatter<W>, row: Condition) -> fmt::Result {
+    match row {
+        Condition::NotRequested { base, top } => write!(
+            f,
+            "{base:x} isn't the base of the REC's request, or {top:x} is no page above it up to the request's top"
+        ),
+        Condition::StartLevel { level } => {
+            write!(f, "the realm's tables begin too low for level {level:x}")
+        }
+        Condition::PastSpace { ipa } => write!(f, "{ipa:x} is past the realm's address space"),
+        Condition::NotProtected { ipa } => {
+            write!(
+                f,
+                "{ipa:x} isn't in the protected half of the realm's address space"
+            )
+        }
+        Condition::TopNotProtected { top } => {
+            write!(
+                f,
+                "{top:x} is past the protected half of the realm's address space"
+            )
+        }
+        Condition::NotUnprotected { ipa } => {
+            write!(
+                f,
+                "{ipa:x} isn't in the unprotected half of the realm's address space"
+            )
+        }
+        Condition::WalkEnds { ipa, level, needed } => {
+            write!(
+                f,
+                "the walk for {ipa:x} ends at level {level}, and has to reach {needed}"
+            )
+        }
+        Condition::EntryIsTable { ipa, level } => {
+            write!(f, "the entry for {ipa:x} at level {level} is TABLE")
+        }
+        Condition::EntryIsNoTable { ipa, level } => {
+            write!(f, "the entry for {ipa:x} at level {level} isn't TABLE")
+        }
+        Condition::TableInUse { ipa, level } => {
+            write!(
+                f,
+                "an entry of the table for {ipa:x} at level {level} is in use"
+            )
+        }
+        Condition::Entry { ipa, needed, found } => write_entry(f, ipa, needed, found),
+        Condition::NoRoom { base, top, level } => write!(
+            f,
+            "the walk for {base:x} ends at level {level} on an entry that can't be set, doesn't begin there, or ends past {top:x}"
+        ),
+        _ => Ok(()),
+    }
+}
+
+fn write_tag<W: fmt::Write>(
+    f: &mut fmt::Formatter<W>,
+    granule: u64,
+    needed: Tag,
+    found: Option<Tag>,
+) -> fmt::Result {
+    let needed = TagText(needed);
+    match found {
+        Some(found) => {
+            let found = TagText(found);
+            write!(f, "{granule:x} is {found}, and has to be {needed}")
+        }
+        None => write!(f, "{granule:x} is no granule, and has to be {needed}"),
+    }
+}
+
+fn write_entry<W: fmt::Write>(
+    f: &mut fmt::Formatter<W>,
+    ipa: u64,
+    needed: EntryKind,
+    found: Option<EntryRead>,
+) -> fmt::Result {
+    write!(f, "the entry for {ipa:x}")?;
+    if let Some(found) = found {
+        write!(f, " is {found}, and")?;
+    }
+    f.write_str(match needed {
+        EntryKind::Unassigned => " has to be UNASSIGNED",
+        EntryKind::UnassignedRam => " has to be UNASSIGNED with RIPAS RAM",
+        EntryKind::Assigned => " has to be ASSIGNED",
+        EntryKind::UnassignedNs => " has to be UNASSIGNED_NS",
+        EntryKind::AssignedNs => " has to be ASSIGNED_NS",
+    })
+}
+
+impl fmt::Display for EntryRead {
+    fn fmt<W: fmt::Write>(&self, f: &mut fmt::Formatter<W>) -> fmt::Result {
+        let address = self.address;
+        match self.state {
+            0 => f.write_str("unassigned")?,
+            1 => write!(f, "assigned to {address:x}")?,
+            _ => write!(f, "TABLE at {address:x}")?,
+        }
+        match self.ripas {
+            0 => Ok(()),
+            1 => f.write_str(" with RIPAS RAM"),
+            _ => f.write_str(" with RIPAS DESTROYED"),
+        }
+    }
+}
+
+/// A tag by its name.
+#[derive(Clone, Copy)]
+pub(crate) struct TagText(pub(crate) Tag);
+
+impl fmt::Display for TagText {
+    fn fmt<W: fmt::Write>(&self, f: &mut fmt::Formatter<W>) -> fmt::Result {
+        f.write_str(match self.0 {
+            Tag::Undelegated => "UNDELEGATED",
+            Tag::Delegated => "DELEGATED",
+            Tag::Rd => "RD",
+            Tag::Rec => "REC",
+            Tag::RecAux => "REC_AUX",
+            Tag::Data => "DATA",
+            Tag::Rtt => "RTT",
+        })
+    }
+}
+
+impl fmt::Display for WordFault {
+    fn fmt<W: fmt::Write>(&self, f: &mut fmt::Formatter<W>) -> fmt::Result {
+        match *self {
+            WordFault::SameGranule => f.write_str("two of the granules are one"),
+            WordFault::Space { width, level } => write!(
+                f,
+                "no realm has width {width:x} and level {level:x}: 27 and 1, or 30 and 0"
+            ),
+            WordFault::Vmid(vmid) => write!(f, "VMID {vmid:x} is above ff"),
+            WordFault::Algo(algo) => write!(f, "algo {algo:x} isn't 0"),
+            WordFault::Flags(flags) => write!(f, "flags {flags:x} is neither 0 nor 1"),
+            WordFault::Level(level) => write!(f, "level {level:x} is above 3"),
+            WordFault::Unaligned { address, size } => {
+                write!(f, "{address:x} is no multiple of {size:x}")
+            }
+            WordFault::PageTooHigh(page) => write!(f, "{page:x} isn't below 1000000000000"),
+            WordFault::EmptyStretch { base, top } => write!(f, "{base:x} isn't below {top:x}"),
+            WordFault::Index(index) => write!(f, "there is no such measurement {index:x}"),
+            WordFault::Size(size) => write!(f, "size {size:x} isn't from 1 to 40"),
+            WordFault::Ripas(ripas) => write!(f, "RIPAS {ripas:x} is neither 0 nor 1"),
+            WordFault::Imm(imm) => write!(f, "imm {imm:x} isn't below 10000"),
+        }
+    }
+}

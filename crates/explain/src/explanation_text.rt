@@ -1,0 +1,137 @@
+//! The lines of a report behind the verdict's.
+
+use crate::call_text::CallText;
+use crate::explanation::{BadLine, Cause, Explanation, Refusal};
+use crate::named_call::NamedCall;
+use crate::reply_text::{AcceptedText, ReplyText, is_by_realm};
+use std::fmt;
+
+impl fmt::Display for Explanation<'_> {
+    fn fmt<W: fmt::Write>(&self, f: &mut fmt::Formatter<W>) -> fmt::Result {
+        match self {
+            Explanation::HistoryFault(bad) => write!(f, "the history's {bad}"),
+            Explanation::CertificateFault(bad) => write!(f, "the certificate's {bad}"),
+            Explanation::Yes(summary) => write!(f, "{summary}"),
+            Explanation::No { step, cause } => write_cause(f, *step, cause),
+        }
+    }
+}
+
+fn write_cause<W: fmt::Write>(f: &mut fmt::Formatter<W>, step: u64, cause: &Cause) -> fmt::Result {
+    match cause {
+        Cause::Unknown { cpu, number } => {
+            write!(f, "step {step} names call {number} of CPU {cpu}\n")?;
+            f.write_str("why: the history has no such call\n")
+        }
+        Cause::Repeated { call, earlier } => {
+            write!(f, "step {step} names {call}")?;
+            write!(f, "why: step {earlier} names the same call\n")
+        }
+        Cause::Kind { call } => {
+            write!(f, "step {step} names {call}")?;
+            f.write_str(if call.call.answer.is_some() {
+                "why: the call returned, so its line has to begin with k\n"
+            } else {
+                "why: the call hasn't returned, so its line has to begin with u\n"
+            })
+        }
+        Cause::Order {
+            call,
+            earlier,
+            other,
+        } => {
+            write!(f, "step {step} names {call}")?;
+            write!(f, "step {earlier} names {other}")?;
+            write_order(f, call, other)
+        }
+        Cause::Reply(refusal) => { write!(f, "step {step} names {refusal}") }
+        Cause::Missing(call) => {
+            write!(f, "no step names {call}")?;
+            f.write_str("why: the call returned, so it has to have a line\n")
+        }
+    }
+}
+
+// Which return came before which call.
+fn write_order<W: fmt::Write>(
+    f: &mut fmt::Formatter<W>,
+    call: &NamedCall,
+    other: &NamedCall,
+) -> fmt::Result {
+    let (cpu, number) = (call.cpu, call.number);
+    let (other_cpu, other_number, made) = (other.cpu, other.number, other.call.called);
+    write!(f, "why: call {number} of CPU {cpu} returned")?;
+    if let Some(answer) = &call.call.answer {
+        let returned = answer.returned;
+        write!(f, " on line {returned}")?;
+    }
+    write!(
+        f,
+        ", before call {other_number} of CPU {other_cpu} was made on line {made}\n"
+    )
+}
+
+impl fmt::Display for NamedCall {
+    fn fmt<W: fmt::Write>(&self, f: &mut fmt::Formatter<W>) -> fmt::Result {
+        let (cpu, number, made) = (self.cpu, self.number, self.call.called);
+        let command = CallText(self.call.command.call());
+        write!(f, "call {number} of CPU {cpu}: {command}\n")?;
+        write!(f, "    called on line {made}")?;
+        match &self.call.answer {
+            Some(answer) => {
+                let returned = answer.returned;
+                let reply = ReplyText {
+                    reply: &answer.reply,
+                    is_by_realm: is_by_realm(self.call.command.function),
+                };
+                write!(f, ", returned on line {returned}: {reply}\n")
+            }
+            None => f.write_str(", not returned\n"),
+        }
+    }
+}
+
+impl fmt::Display for Refusal {
+    fn fmt<W: fmt::Write>(&self, f: &mut fmt::Formatter<W>) -> fmt::Result {
+        let call = &self.call;
+        let is_by_realm = is_by_realm(call.call.command.function);
+        let claimed = ReplyText {
+            reply: &self.claimed,
+            is_by_realm,
+        };
+        let condition = &self.condition;
+        write!(f, "{call}claimed: {claimed}\nspecified: ")?;
+        match &self.specified {
+            Ok(accepted) => {
+                let accepted = AcceptedText(accepted);
+                write!(f, "{accepted}\n")?;
+            }
+            Err(reply) => {
+                let reply = ReplyText { reply, is_by_realm };
+                write!(f, "{reply}\n")?;
+            }
+        }
+        write!(f, "why: {condition}\n")
+    }
+}
+
+impl fmt::Display for BadLine<'_> {
+    fn fmt<W: fmt::Write>(&self, f: &mut fmt::Formatter<W>) -> fmt::Result {
+        let line = self.line;
+        write!(f, "line {line}: ")?;
+        for byte in self.bytes.iter().take(MOST_SHOWN) {
+            match *byte {
+                b' '..=b'~' => f.write_char(char::from(*byte))?,
+                byte => write!(f, "\\x{byte:02x}")?,
+            }
+        }
+        f.write_str(if self.bytes.len() > MOST_SHOWN {
+            " ..\n"
+        } else {
+            "\n"
+        })
+    }
+}
+
+/// How many bytes of a bad line are shown.
+const MOST_SHOWN: usize = 200;

@@ -1,0 +1,320 @@
+//! The condition that fails, found in the state before a step. A command's rows are looked at in their order: where it may be
+//! given, its words, the tags of the granules that it names, and then records and tables, of which the status says which kind.
+
+use crate::condition::{Condition, EntryKind, EntryRead};
+use crate::reply_text::is_by_realm;
+use crate::word_fault::word_fault;
+use arrayvec::ArrayVec;
+use granule_state::GRANULE_BYTES;
+use rmi_view::CommandRef;
+use rmm_spec::{Accepted, Call, Command, FunctionId, Reply, Tag};
+use spec_machine::{Machine, OwnerRow};
+use std::alloc::{AllocError, Global};
+
+/// A state in which a CPU gives a command: the machine, and whose each granule is.
+#[derive(Clone, Copy)]
+pub(crate) struct Place<'a> {
+    pub(crate) machine: &'a Machine,
+    pub(crate) owners: &'a [OwnerRow],
+    pub(crate) cpu: u8,
+}
+
+/// The condition for which the specification answers so.
+pub(crate) fn failing_condition(
+    alloc: Global,
+    machine: &Machine,
+    cpu: u8,
+    command: &Command,
+    specified: &Result<Accepted, Reply>,
+) -> Result<Condition, AllocError> {
+    let mut owners = Vec::new(alloc);
+    machine.owner_report(&mut owners)?;
+    let place = Place {
+        machine,
+        owners: owners.as_slice(),
+        cpu,
+    };
+    let call = command.call();
+    Ok(match specified {
+        Ok(_) => Condition::None,
+        Err(Reply::Err(status, index)) => place.failing_row(&call, *status, *index),
+        Err(_) => place.misplacement(command.function),
+    })
+}
+
+impl Place<'_> {
+    ghost use Rattle.std.specs.Prelude.{◌≤◌, length};
+
+    // Why a command isn't given here.
+    fn misplacement(self, function: FunctionId) -> Condition {
+        if !is_by_realm(function) && function != FunctionId::Exit {
+            Condition::Inside
+        } else if self.answer(FunctionId::Exit, &[]).is_none() {
+            Condition::Outside
+        } else {
+            Condition::ExitPending
+        }
+    }
+
+    fn failing_row(self, call: &Call, status: u8, index: u8) -> Condition {
+        if let Some(fault) = word_fault(call) {
+            return Condition::Word(fault);
+        }
+        if let Some(condition) = self.wrong_tag(call) {
+            return condition;
+        }
+        match status {
+            1 => self.input_row(call),
+            2 => self.realm_row(call, index),
+            3 => self.rec_row(call),
+            _ => self.table_row(call, index),
+        }
+    }
+
+    // The first granule that a command names and that hasn't the tag that it needs.
+    fn wrong_tag(self, call: &Call) -> Option<Condition> {
+        match *call {
+            Call::GranuleDelegate { granule } => self.unless(granule, Tag::Undelegated),
+            Call::GranuleUndelegate { granule } => self.unless(granule, Tag::Delegated),
+            Call::RealmCreate { rd, root, .. } => self
+                .unless(rd, Tag::Delegated)
+                .or(self.unless(root, Tag::Delegated)),
+            Call::RecCreate {
+                rd,
+                rec,
+                aux0,
+                aux1,
+                ..
+            } => self
+                .unless(rd, Tag::Rd)
+                .or(self.unless(rec, Tag::Delegated))
+                .or(self.unless(aux0, Tag::Delegated))
+                .or(self.unless(aux1, Tag::Delegated)),
+            Call::RecDestroy { rec } | Call::RecEnter { rec } => self.unless(rec, Tag::Rec),
+            Call::RttSetRipas { rd, rec, .. } => {
+                self.unless(rd, Tag::Rd).or(self.unless(rec, Tag::Rec))
+            }
+            Call::RttCreate { rd, rtt, .. } => self
+                .unless(rd, Tag::Rd)
+                .or(self.unless(rtt, Tag::Delegated)),
+            Call::DataCreate {
+                rd,
+                granule,
+                source,
+                ..
+            } => self
+                .unless(rd, Tag::Rd)
+                .or(self.unless(granule, Tag::Delegated))
+                .or(self.unless(source, Tag::Undelegated)),
+            Call::DataCreateUnknown { rd, granule, .. } => self
+                .unless(rd, Tag::Rd)
+                .or(self.unless(granule, Tag::Delegated)),
+            Call::DataDestroy { rd, .. }
+            | Call::RealmActivate { rd }
+            | Call::RealmDestroy { rd }
+            | Call::RttDestroy { rd, .. }
+            | Call::RttMapUnprotected { rd, .. }
+            | Call::RttReadEntry { rd, .. }
+            | Call::RttUnmapUnprotected { rd, .. }
+            | Call::RttInitRipas { rd, .. } => self.unless(rd, Tag::Rd),
+            _ => None,
+        }
+    }
+
+    fn unless(self, granule: u64, needed: Tag) -> Option<Condition> {
+        let found = self.tag(granule);
+        if found == Some(needed) {
+            None
+        } else {
+            Some(Condition::Tag {
+                granule,
+                needed,
+                found,
+            })
+        }
+    }
+
+    // The tag of a granule.
+    fn tag(self, granule: u64) -> Option<Tag> {
+        match self.owner(granule) {
+            Some(row) => Some(row.tag),
+            None => None,
+        }
+    }
+
+    // A granule's row, where the address is one's.
+    fn owner(self, granule: u64) -> Option<OwnerRow> {
+        if granule % GRANULE_BYTES != 0 {
+            return None;
+        }
+        self.owners.get((granule / GRANULE_BYTES) as usize).copied()
+    }
+
+    // ERROR_INPUT behind the words and tags.
+    fn input_row(self, call: &Call) -> Condition {
+        match *call {
+            Call::RealmCreate { vmid, .. } => Condition::VmidUsed { vmid },
+            Call::RecCreate { mpidr, .. } => Condition::NotNextIndex { mpidr },
+            Call::RttCreate { rd, ipa, level, .. } | Call::RttDestroy { rd, ipa, level } => {
+                self.space_row(rd, ipa, level, level.checked_sub(1))
+            }
+            Call::RttReadEntry { rd, ipa, level } => self.space_row(rd, ipa, level, Some(level)),
+            Call::RttMapUnprotected { ipa, .. } | Call::RttUnmapUnprotected { ipa, .. } => {
+                Condition::NotUnprotected { ipa }
+            }
+            Call::DataCreate { ipa, .. }
+            | Call::DataCreateUnknown { ipa, .. }
+            | Call::DataDestroy { ipa, .. }
+            | Call::IpaStateGet { ipa } => Condition::NotProtected { ipa },
+            Call::RttInitRipas { top, .. } | Call::IpaStateSet { top, .. } => {
+                Condition::TopNotProtected { top }
+            }
+            Call::RttSetRipas { base, top, .. } => Condition::NotRequested { base, top },
+            _ => Condition::None,
+        }
+    }
+
+    // The walk has to get to a level, and the realm's walks begin below it, or the address is past the realm's space.
+    fn space_row(self, rd: u64, ipa: u64, level: u64, reached: Option<u64>) -> Condition {
+        match reached.and_then(|reached| self.entry(rd, 0, reached)) {
+            Some(_) => Condition::PastSpace { ipa },
+            None => Condition::StartLevel { level },
+        }
+    }
+
+    // ERROR_REALM.
+    fn realm_row(self, call: &Call, index: u8) -> Condition {
+        match *call {
+            Call::RecEnter { .. } if index == 0 => Condition::RealmNew,
+            Call::RecEnter { .. } => Condition::RealmOff,
+            Call::RealmDestroy { rd } => match self.rec_of(rd) {
+                Some(rec) => Condition::RealmHasRec { rd, rec },
+                None => Condition::RootHasTable { rd },
+            },
+            Call::RealmActivate { rd }
+            | Call::RecCreate { rd, .. }
+            | Call::DataCreate { rd, .. }
+            | Call::RttInitRipas { rd, .. } => Condition::RealmNotNew { rd },
+            _ => Condition::None,
+        }
+    }
+
+    // A REC of the realm.
+    fn rec_of(self, rd: u64) -> Option<u64> {
+        self.owners
+            .iter()
+            .find(|row| row.tag == Tag::Rec && row.realm.is_some_and(|realm| realm.address() == rd))
+            .map(|row| row.granule.address())
+    }
+
+    // ERROR_REC.
+    fn rec_row(self, call: &Call) -> Condition {
+        match *call {
+            Call::RecEnter { rec } => Condition::RecNotReady { rec },
+            Call::RttSetRipas { rd, rec, .. } => {
+                let realm = self.owner(rec).and_then(|row| row.realm);
+                if realm.is_some_and(|realm| realm.address() == rd) {
+                    Condition::RecRuns { rec }
+                } else {
+                    Condition::RecOfOtherRealm { rec, rd }
+                }
+            }
+            Call::RecDestroy { rec } => Condition::RecRuns { rec },
+            _ => Condition::None,
+        }
+    }
+
+    // ERROR_RTT at a level.
+    fn table_row(self, call: &Call, level: u8) -> Condition {
+        let at = u64::from(level);
+        match *call {
+            Call::RttCreate {
+                ipa,
+                level: below,
+                ..
+            } if at.saturating_add(1) == below => Condition::EntryIsTable { ipa, level },
+            Call::RttDestroy {
+                ipa,
+                level: below,
+                ..
+            } if at == below => Condition::TableInUse { ipa, level },
+            Call::RttDestroy {
+                ipa,
+                level: below,
+                ..
+            } if at.saturating_add(1) == below => Condition::EntryIsNoTable { ipa, level },
+            Call::RttCreate {
+                ipa,
+                level: below,
+                ..
+            }
+            | Call::RttDestroy {
+                ipa,
+                level: below,
+                ..
+            } => Condition::WalkEnds {
+                ipa,
+                level,
+                needed: below.saturating_sub(1),
+            },
+            Call::RttInitRipas { base, top, .. } | Call::RttSetRipas { base, top, .. } => {
+                Condition::NoRoom { base, top, level }
+            }
+            Call::DataCreate { rd, ipa, .. } => {
+                self.page_row(rd, ipa, level, EntryKind::UnassignedRam)
+            }
+            Call::DataCreateUnknown { rd, ipa, .. } => {
+                self.page_row(rd, ipa, level, EntryKind::Unassigned)
+            }
+            Call::DataDestroy { rd, ipa } => self.page_row(rd, ipa, level, EntryKind::Assigned),
+            Call::RttMapUnprotected { rd, ipa, .. } => {
+                self.page_row(rd, ipa, level, EntryKind::UnassignedNs)
+            }
+            Call::RttUnmapUnprotected { rd, ipa } => {
+                self.page_row(rd, ipa, level, EntryKind::AssignedNs)
+            }
+            _ => Condition::None,
+        }
+    }
+
+    // The walk ends above level 3, or on an entry of another kind.
+    fn page_row(self, rd: u64, ipa: u64, level: u8, needed: EntryKind) -> Condition {
+        if level < 3 {
+            return Condition::WalkEnds {
+                ipa,
+                level,
+                needed: 3,
+            };
+        }
+        Condition::Entry {
+            ipa,
+            needed,
+            found: self.entry(rd, ipa, 3),
+        }
+    }
+
+    // What RTT_READ_ENTRY is answered here.
+    fn entry(self, rd: u64, ipa: u64, level: u64) -> Option<EntryRead> {
+        let words = self.answer(FunctionId::RttReadEntry, &[rd, ipa, level])?;
+        match *words.as_slice() {
+            [level, state, address, ripas] => Some(EntryRead {
+                level,
+                state,
+                address,
+                ripas,
+            }),
+            _ => None,
+        }
+    }
+
+    // The words that a command is answered here, where it is accepted.
+    fn answer(self, function: FunctionId, words: &[u64]) -> Option<ArrayVec<u64, 10>>
+        requires { length words.now ≤ 10 }
+    {
+        let command = CommandRef { function, words }.to_command();
+        match self.machine.outcome(self.cpu, &command) {
+            Ok(Accepted::Done { words, .. }) => Some(words),
+            _ => None,
+        }
+    }
+}

@@ -1,0 +1,27 @@
+//! Why a certificate is a linearization of a history or isn't: the verdict with what stands behind it, and a report of that.
+//! It promises that the verdict which is explained is the one that `Judges` names of the two texts.
+//! The reply that is called specified is the machine's outcome in the state that the lines before the step lead to.
+//! A report is text for people; its first line is the verdict's, and it is appended whole or not at all.
+//! Nothing depends on it yet; the program `rmmexplain` will.
+#![tactic(auto)]
+
+mod call_text;
+mod cause;
+mod condition;
+mod condition_text;
+mod earlier;
+mod explaining;
+mod explanation;
+mod explanation_text;
+mod failing;
+mod named_call;
+mod reply_text;
+mod reporting;
+mod summary_text;
+mod word_fault;
+
+pub use condition::{Condition, EntryKind, EntryRead, WordFault};
+pub use explaining::explain;
+pub use explanation::{BadLine, Cause, Explanation, Refusal, Summary};
+pub use named_call::NamedCall;
+pub use reporting::report;

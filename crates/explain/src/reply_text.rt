@@ -1,0 +1,88 @@
+//! Replies, as the texts have them, with Arm's names of statuses.
+
+use crate::word_fault::entry_size;
+use rmm_spec::{Accepted, FunctionId, Reply, Stretch};
+use std::fmt;
+
+/// A reply as a report names it. A realm's calls have statuses of their own.
+#[derive(Clone, Copy)]
+pub(crate) struct ReplyText<'a> {
+    pub(crate) reply: &'a Reply,
+    pub(crate) is_by_realm: bool,
+}
+
+impl fmt::Display for ReplyText<'_> {
+    fn fmt<W: fmt::Write>(&self, f: &mut fmt::Formatter<W>) -> fmt::Result {
+        match self.reply {
+            Reply::Ok(words) => write_ok(f, words.as_slice()),
+            Reply::Err(status, index) => {
+                write!(f, "err {status} {index}")?;
+                write_status(f, *status, self.is_by_realm)
+            }
+            Reply::Misplaced => f.write_str("misplaced"),
+        }
+    }
+}
+
+/// `ok` with its words.
+pub(crate) fn write_ok<W: fmt::Write>(f: &mut fmt::Formatter<W>, words: &[u64]) -> fmt::Result {
+    f.write_str("ok")?;
+    for word in words {
+        write!(f, " {word:x}")?;
+    }
+    Ok(())
+}
+
+fn write_status<W: fmt::Write>(
+    f: &mut fmt::Formatter<W>,
+    status: u8,
+    is_by_realm: bool,
+) -> fmt::Result {
+    match (status, is_by_realm) {
+        (1, true) => f.write_str(" (RSI_ERROR_INPUT)"),
+        (1, false) => f.write_str(" (RMI_ERROR_INPUT)"),
+        (2, false) => f.write_str(" (RMI_ERROR_REALM)"),
+        (3, false) => f.write_str(" (RMI_ERROR_REC)"),
+        (4, false) => f.write_str(" (RMI_ERROR_RTT)"),
+        _ => Ok(()),
+    }
+}
+
+/// What a command is answered where no row refuses it.
+#[derive(Clone, Copy)]
+pub(crate) struct AcceptedText<'a>(pub(crate) &'a Accepted);
+
+impl fmt::Display for AcceptedText<'_> {
+    fn fmt<W: fmt::Write>(&self, f: &mut fmt::Formatter<W>) -> fmt::Result {
+        match self.0 {
+            Accepted::Done { words, .. } => write_ok(f, words.as_slice()),
+            Accepted::Reaches(stretch) => write_reached(f, stretch),
+        }
+    }
+}
+
+// The replies that the free choice allows.
+fn write_reached<W: fmt::Write>(f: &mut fmt::Formatter<W>, stretch: &Stretch) -> fmt::Result {
+    let size = entry_size(u64::from(stretch.level));
+    let first = stretch.base.saturating_add(size);
+    let top = stretch.top;
+    write!(
+        f,
+        "ok out_top, with out_top from {first:x} in steps of {size:x} up to {top:x} at most, as far as entries of one table can be set"
+    )
+}
+
+/// Whether a realm gives the command, from inside a REC.
+pub(crate) fn is_by_realm(function: FunctionId) -> bool {
+    matches!(
+        function,
+        FunctionId::MeasurementRead
+            | FunctionId::MeasurementExtend
+            | FunctionId::RealmConfig
+            | FunctionId::IpaStateSet
+            | FunctionId::IpaStateGet
+            | FunctionId::HostCall
+            | FunctionId::CpuOff
+            | FunctionId::SystemOff
+    )
+}
