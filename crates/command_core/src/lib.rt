@@ -11,6 +11,8 @@ mod cell;
 mod change_room;
 mod cpu_place;
 mod deciding;
+#[cfg(test)]
+mod deciding_tests;
 mod held;
 mod host_answers;
 mod laws;
