@@ -1,24 +1,10 @@
 -- Commands that a match leaves to its last arm.
-use Rattle.std.proofs.Common.{◌≡◌, ℕ, true, refl, sym, ap, ◌∙◌}
+use Rattle.std.proofs.Common.{◌≡◌, ℕ, true, refl}
 use Rattle.std.proofs.lemmas.Bool.{false≢true}
 use Rattle.rmm_spec.specs.declared.call.Call.{Call}
 use Rattle.rmm_spec.specs.declared.call.Call.TheVariants as call
 use Rattle.rmm_spec.specs.Call.{ByHost, ByRealm, ByExit, class_of}
-use Rattle.rmm_spec.specs.Step.Named.{named}
-use Rattle.rmm_spec.specs.Local.{HeldCell}
-use Rattle.std.specs.Prelude.{List}
-use Rattle.command_core.specs.Named.{holds_all}
 use Rattle.command_core.specs.Served.{is_served}
-use Rattle.command_core.specs.Settled.{is_complete}
-
--- a command without parts is complete where all that it names is held
-pub complete-plain : (granules : ℕ) (c : Call) (held : List HeldCell) → ((rd : ℕ) → c ≡ call.RealmDestroy rd → ⊥)
-    → ((rec : ℕ) → c ≡ call.RecDestroy rec → ⊥) → ((rec : ℕ) → c ≡ call.RecEnter rec → ⊥) → is_complete granules c held ≡ holds_all (named c) held
-unfolding is_complete
-complete-plain granules (call.RealmDestroy rd) held a b e = absurd (a rd refl)
-complete-plain granules (call.RecDestroy rec) held a b e = absurd (b rec refl)
-complete-plain granules (call.RecEnter rec) held a b e = absurd (e rec refl)
-complete-plain granules _ held a b e = refl
 
 -- the host's commands that are served are eight
 pub served-listed : (c : Call) → is_served c ≡ true → class_of c ≡ ByHost → ((g : ℕ) → c ≡ call.GranuleDelegate g → ⊥)
