@@ -1,7 +1,8 @@
 -- Locks that are taken and freed: each still has for holder the CPU that has taken it.
 use Rattle.std.proofs.Common.{arith, ◌+◌, ◌<◌, take, length, get_or, ◌≡◌, ℕ, Bool, true, false, not, ◌&&◌, ◌||◌, ◌==◌, if◌then◌else◌, List, [], ◌∷◌, ◌++◌, Option, Some, None, refl, sym, ap, ◌∙◌, subst, eqb-true, eq-eqb}
 use Rattle.std.specs.Prelude.{IsTrue, Contains}
-use Rattle.std.specs.List.{list_any, list_all, filter}
+use Rattle.std.specs.List.{All, AllByRecursion, list_any, list_all}
+use Rattle.std.proofs.lemmas.List.Elements.{All-from_recursion}
 use Rattle.std.proofs.lemmas.Bool.{false≢true, and_parts, and_from, not-true}
 use Rattle.std.proofs.lemmas.Bool.Decides.{nat_tests}
 use Rattle.std.proofs.lemmas.List.{take_more}
@@ -185,3 +186,15 @@ freed_all-next taken i lock holder within is = λ k other. at other k
         by other (has_taken (take i taken) other) (other == lock) refl refl
         ∙ ap (λ b. if b then None else holder other)
         (sym (ap (λ xs. has_taken xs other) more ∙ list_any-append (λ held. held == other) (take i taken) (lock ∷ [])))
+
+all_pass : (p : ℕ → Bool) (xs : List ℕ) → IsTrue (list_all p xs) → AllByRecursion (λ x. IsTrue (p x)) xs
+all_pass p [] all = tt
+all_pass p (x ∷ xs) all = let parts = and_parts (p x) (list_all p xs) all in (parts.0, all_pass p xs parts.1)
+
+-- locks that are taken have a place where there is one for each granule
+pub locks-of_size : (size granules : ℕ) (taken others : List ℕ) → size ≡ granules → taken ≡ others → IsTrue (list_all (is_granule granules) others)
+    → All (λ lock. IsTrue (is_granule size lock)) taken
+locks-of_size size granules taken others sized same within =
+    subst (λ n. All (λ lock. IsTrue (is_granule n lock)) taken) (sym sized)
+    (subst (λ locks. All (λ lock. IsTrue (is_granule granules lock)) locks) (sym same)
+    (All-from_recursion (λ lock. IsTrue (is_granule granules lock)) others (all_pass (is_granule granules) others within)))
