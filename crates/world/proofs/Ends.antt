@@ -1,5 +1,5 @@
 -- A CPU that is stopped, or gives up, in the fields of a world.
-use Rattle.std.proofs.Common.{◌≡◌, ℕ, ◌<◌, true, false, [], List, Option, None, refl, sym, ap, ◌∙◌, subst}
+use Rattle.std.proofs.Common.{◌≡◌, ℕ, ◌<◌, true, false, [], List, Option, None, refl, sym, ap, ◌∙◌}
 use Rattle.std.proofs.lemmas.Bool.{false≢true}
 use Rattle.rmm_spec.specs.HistoryText.{History}
 use Rattle.rmm_spec.specs.Cell.{Cell, put}

@@ -1,15 +1,15 @@
 -- One cell more is lent: the others are as they were, and those lent so far are the whole's.
-use Rattle.std.proofs.Common.{◌≡◌, ℕ, zero, suc, ◌+◌, ◌<◌, ◌≤◌, Bool, true, false, not, ◌&&◌, ◌==◌, List, [], ◌∷◌, ◌++◌, take, length, get_or, ◌⊎◌, inl, inr, refl, sym, ap, ◌∙◌, subst, arith, slice_set, eq-eqb, eqb-true}
+use Rattle.std.proofs.Common.{◌≡◌, ℕ, zero, suc, ◌+◌, ◌<◌, Bool, true, false, not, ◌==◌, List, [], ◌∷◌, ◌++◌, take, length, get_or, refl, sym, ap, ◌∙◌, subst, arith, slice_set, eq-eqb, eqb-true}
 use Rattle.std.specs.Prelude.{IsTrue, Contains}
 use Rattle.std.specs.List.{list_any}
 use Rattle.std.proofs.lemmas.Bool.{and_parts, not-true}
 use Rattle.std.proofs.lemmas.List.{get_or-set_same, get_or-set_other, take_more}
-use Rattle.std.proofs.lemmas.List.Elements.{Contains-append_left, Contains-push, Contains-push_cases}
+use Rattle.std.proofs.lemmas.List.Elements.{Contains-append_left, Contains-push}
 use Rattle.std.proofs.lemmas.List.Folds.{list_any_at}
 use Rattle.rmm_spec.specs.Cell as whole
 use Rattle.rmm_spec.specs.Cell.{put}
 use Rattle.rmm_spec.proofs.Tests.{both_ways}
-use Rattle.world_laws.proofs.Lists.{put-other, put_elim}
+use Rattle.world_laws.proofs.Lists.{put-other}
 use Rattle.world_laws.proofs.Members.{Contains-nil, Contains-other}
 use Rattle.command_core.specs.Seen.{cell_of, are_distinct}
 use Rattle.command_core.specs.declared.cell.Cell.{Cell}

@@ -6,3 +6,5 @@ pub mod Locked
 pub mod Reached
 pub mod Moves
 pub mod Ends
+pub mod Follows
+pub mod Calls

@@ -1,5 +1,5 @@
 -- A list with an item for each granule, or for each CPU, is a map, and a write to it is a put.
-use Rattle.std.proofs.Common.{◌≡◌, ℕ, ◌*◌, ◌/◌, ◌%◌, ◌<◌, ◌==◌, nat_lt, Bool, true, false, if◌then◌else◌, ◌≢◌, List, length, Option, Some, None, IsTrue, refl, sym, ap, ◌∙◌, arith, slice_index_or, slice_set, slice_get, replicate, eqb-true, eq-eqb}
+use Rattle.std.proofs.Common.{◌≡◌, ℕ, ◌*◌, ◌/◌, ◌%◌, ◌<◌, ◌==◌, nat_lt, Bool, true, false, if◌then◌else◌, ◌≢◌, List, length, Some, IsTrue, refl, ap, ◌∙◌, arith, slice_index_or, slice_set, slice_get, replicate, eqb-true}
 use Rattle.std.proofs.lemmas.Bool.{and_parts, ltb-true, ltb-false}
 use Rattle.std.proofs.lemmas.List.{get_or-replicate, get_or_default, get_or_past, get_or-set_same, get_or-set_other, length-replicate}
 use Rattle.rmm_spec.specs.Lookup.{is_granule}

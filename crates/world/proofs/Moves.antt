@@ -1,23 +1,20 @@
 -- Each move is a turn, after which the world keeps what it kept.
 use Rattle.std.proofs.Common.{◌≡◌, ℕ, ◌+◌, ◌<◌, ◌≤◌, Bool, true, false, ◌==◌, if◌then◌else◌, List, [], ◌∷◌, ◌++◌, length, Option, Some, None, refl, sym, ap, ◌∙◌, subst, arith, eq-eqb}
-use Rattle.std.specs.Prelude.{IsTrue, Contains}
+use Rattle.std.specs.Prelude.{Contains}
 use Rattle.std.specs.List.{list_all}
-use Rattle.std.proofs.lemmas.Bool.{and_parts, and_from}
-use Rattle.std.proofs.lemmas.Option.{none-some}
+use Rattle.std.proofs.lemmas.Bool.{and_parts}
 use Rattle.rmm_spec.specs.declared.command.Command.{Command}
 use Rattle.rmm_spec.specs.declared.event.Event.TheVariants.{Called, Returned}
 use Rattle.rmm_spec.specs.declared.reply.Reply.{Reply}
-use Rattle.rmm_spec.specs.HistoryText.{Config}
-use Rattle.rmm_spec.specs.Lookup.{is_granule, is_cpu}
+use Rattle.rmm_spec.specs.Lookup.{is_cpu}
 use Rattle.rmm_spec.specs.Cell.{put}
 use Rattle.rmm_spec.specs.World.{World, Phase, Between, Deciding, Decided, GivenUp, Stopped, Happens, IsDeciding, IsGoing, MayLearn, phase_learnt, without_granule}
 use Rattle.rmm_spec.specs.World as move
 use Rattle.rmm_spec.specs.Waits.{Will, Report, Did, Blocked, Idle, Turns, IsIdle, IsBlocked, IsRising, MayFree, awaited}
 use Rattle.rmm_spec.specs.Waits as turn
 use Rattle.rmm_spec.proofs.Tests.{both_ways}
-use Rattle.std.proofs.lemmas.Bool.{false≢true}
 use Rattle.world_laws.proofs.Lists.{put_elim}
-use Rattle.world.specs.Kept.{AreLocks, IsFit, AreFit, IsReached, IsKept, IsTurn, serves, serves_phase, calls_made, has_taken, freed_all}
+use Rattle.world.specs.Kept.{AreLocks, IsFit, AreFit, IsReached, IsKept, IsTurn, serves, freed_all}
 use Rattle.world.proofs.Locked.{AreLocks-taken, AreLocks-freed, AreLocks-cleared, taken-contains, contains-taken, held_by}
 use Rattle.world.proofs.Reached.{IsReached-turned}
 

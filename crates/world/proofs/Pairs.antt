@@ -1,6 +1,6 @@
 -- Granules with their cells: where one is found, what they are with another in its place, and how they are put back.
-use Rattle.std.proofs.Common.{◌≡◌, ℕ, zero, suc, ◌+◌, ◌<◌, ◌≤◌, Bool, true, false, not, ◌&&◌, ◌||◌, ◌==◌, cond, ltb, if◌then◌else◌, List, [], ◌∷◌, map, drop, length, get_or, position, Option, Some, None, refl, sym, ap, ◌∙◌, subst, arith, eqb-true, slice_set}
-use Rattle.std.specs.Prelude.{IsTrue, Contains}
+use Rattle.std.proofs.Common.{◌≡◌, ℕ, zero, suc, ◌+◌, ◌<◌, ◌≤◌, Bool, true, false, not, ◌||◌, ◌==◌, cond, ltb, List, [], ◌∷◌, drop, length, get_or, position, Some, None, refl, sym, ap, ◌∙◌, subst, arith, eqb-true, slice_set}
+use Rattle.std.specs.Prelude.{IsTrue}
 use Rattle.std.specs.List.{list_any, position_or_len}
 use Rattle.std.proofs.lemmas.Bool.{false≢true, and_parts, not-true}
 use Rattle.std.proofs.lemmas.Bool.Decides.{nat_tests}
@@ -8,9 +8,8 @@ use Rattle.std.proofs.lemmas.List.Quantifiers.{position-Some}
 use Rattle.std.proofs.lemmas.List.Sums.{fails_before_first}
 use Rattle.rmm_spec.specs.Cell as whole
 use Rattle.rmm_spec.specs.Cell.{put}
-use Rattle.rmm_spec.specs.Local.{HeldCell, granules_held, put_all}
+use Rattle.rmm_spec.specs.Local.{put_all}
 use Rattle.world_laws.specs.Replaced.{replaced_cells, held_at}
-use Rattle.world_laws.proofs.Members.{put_all-other, Contains-tail}
 use Rattle.command_core.specs.Seen.{cell_of, cell_in, are_distinct}
 use Rattle.command_core.specs.declared.cell.Cell.{Cell}
 use Rattle.world.specs.Lent.{pairs, cells_at}

@@ -1,11 +1,10 @@
 -- Where turns lead: one turn more, and what all that they lead to keeps.
-use Rattle.std.proofs.Common.{◌≡◌, ℕ, ◌<◌, List, [], ◌∷◌, ◌++◌, length, Option, None, refl, sym, ap, ◌∙◌, subst}
+use Rattle.std.proofs.Common.{◌≡◌, ℕ, List, [], ◌∷◌, ◌++◌, Option, None, refl, sym, ap, ◌∙◌, subst}
 use Rattle.std.proofs.Math.Logic.{∥∥₁_map}
-use Rattle.rmm_spec.specs.declared.command.Command.{Command}
 use Rattle.rmm_spec.specs.HistoryText.{Config, IsConfig, IsHistory}
 use Rattle.rmm_spec.specs.CertificateText.{IsCertificate}
 use Rattle.rmm_spec.specs.Cell.{put}
-use Rattle.rmm_spec.specs.World.{World, Move, HappenAll, opening_world, history_of, certificate_of}
+use Rattle.rmm_spec.specs.World.{World, opening_world, history_of, certificate_of}
 use Rattle.rmm_spec.specs.Waits.{Will, Report, Turns, Turn, TurnAll, awaited, waits_after}
 use Rattle.world_laws.proofs.Turned.{moves_of_turns}
 use Rattle.certified_laws.proofs.Room.{events-HappenAll}

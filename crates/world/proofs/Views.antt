@@ -1,6 +1,8 @@
 -- One CPU changed in a list of them is one put in what all of them tell.
-use Rattle.std.proofs.Common.{◌≡◌, ℕ, ◌<◌, [], List, length, Option, Some, None, slice_get, slice_set, sym, ap, ◌∙◌, drop}
+use Rattle.std.proofs.Common.{◌≡◌, ℕ, ◌+◌, ◌<◌, [], List, length, Option, Some, None, slice_get, slice_set, sym, ap, ◌∙◌, drop}
+use Rattle.std.proofs.lemmas.List.{drop-drop}
 use Rattle.std.proofs.lemmas.Option.{slice_get_within}
+use Rattle.rmm_spec.specs.declared.command.Command.{Command}
 use Rattle.rmm_spec.specs.Shape.{Outside}
 use Rattle.rmm_spec.specs.World as world
 use Rattle.rmm_spec.specs.Cell.{put}
@@ -83,3 +85,29 @@ pub views-waits : (list : List Cpu) (key : ℕ) (old : Cpu) (waits : Option ℕ)
 views-waits list key old waits is =
     views-set list key (record old { waits = waits }) (slice_get_within list key old is)
     ∙ sym (ap (λ (v : Views). record v { waits = put (views_at list).waits key waits }) (views-here list key old is))
+
+abbrev of_called : List Cpu → ℕ → Phase → List Command → Cpu → Views
+of_called list key p commands cpu = record {
+  taken = put (views_at list).taken key cpu.taken.items;
+  place = put (views_at list).place key (place_of cpu.place);
+  phase = put (views_at list).phase key (phase_in p);
+  program = put (views_at list).program key commands;
+  waits = put (views_at list).waits key cpu.waits;
+}
+
+-- a CPU has called one command more
+pub views-called : (list : List Cpu) (key : ℕ) (old : Cpu) (p : Phase) → slice_get list key ≡ Some old
+    → views_at (slice_set list key (record old { called = old.called + 1; phase = p })) ≡ record (views_at list) {
+      phase = put (views_at list).phase key (phase_in p);
+      program = put (views_at list).program key (drop 1 ((views_at list).program key));
+    }
+views-called list key old p is =
+    let read = of_each-read (λ (c : Cpu). drop c.called c.program.items) [] list key old is in
+    let rest : drop (old.called + 1) old.program.items ≡ drop 1 ((views_at list).program key) =
+    sym (drop-drop 1 old.called old.program.items) ∙ ap (drop 1) (sym read) in
+    views-set list key (record old { called = old.called + 1; phase = p }) (slice_get_within list key old is)
+    ∙ ap (λ commands. of_called list key p commands old) rest
+    ∙ sym (ap (λ (v : Views). record v {
+      phase = put (views_at list).phase key (phase_in p);
+      program = put (views_at list).program key (drop 1 ((views_at list).program key));
+    }) (views-here list key old is))

@@ -1,5 +1,5 @@
 -- Cells that a turn is lent, as held cells.
-use Rattle.std.proofs.Common.{◌≡◌, ℕ, suc, ◌≤◌, List, [], ◌∷◌, map, length, refl, sym, ap, subst, arith}
+use Rattle.std.proofs.Common.{◌≡◌, ℕ, ◌≤◌, List, [], ◌∷◌, map, length, refl, sym, ap, subst, arith}
 use Rattle.std.specs.Prelude.{IsTrue}
 use Rattle.rmm_spec.specs.Cell as whole
 use Rattle.rmm_spec.specs.Local.{HeldCell, granules_held}

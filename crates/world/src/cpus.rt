@@ -1,6 +1,6 @@
 //! The CPUs of a machine.
 
-ghost use Rattle.std.specs.Prelude.{◌≡◌, ◌<◌, ◌++◌, ◌∷◌, [], vec_len, OnOk, OnErr};
+ghost use Rattle.std.specs.Prelude.{◌≡◌, ◌<◌, ◌++◌, ◌∷◌, [], vec_len, drop, slice_get, IsSome, OnOk, OnErr};
 ghost use Rattle.rmm_spec.specs.Cell.{put};
 ghost use Rattle.command_core.specs.Seen.{place_of};
 ghost use Rattle.world.specs.Cpus.{views_of, phase_in, is_going, is_deciding};
@@ -8,6 +8,7 @@ ghost use Rattle.world.specs.Cpus.{views_of, phase_in, is_going, is_deciding};
 use crate::phase::Phase;
 use command_core::CpuPlace;
 use granule_state::Pa;
+use rmi_view::CommandRef;
 use rmm_spec::Command;
 use std::alloc::AllocError;
 
@@ -112,4 +113,42 @@ impl Cpus {
     {
         self.list[cpu as usize].phase.is_deciding()
     }
+
+    /// The next command of a CPU's program, where one is left.
+    pub(crate) fn next_command(&self, cpu: u8) -> Option<Command>
+        requires { cpu < vec_len self.now.list }
+        ensures { result ≡ slice_get ((views_of self.now).program cpu) 0 }
+    {
+        let cpu = &self.list[cpu as usize];
+        let called = cpu.called;
+        let count = cpu.program.len();
+        if called >= count {
+            return None;
+        }
+        let command = &cpu.program[called];
+        Some(copied(command))
+    }
+
+    /// A CPU's next command is called.
+    pub(crate) fn open_call(&mut self, cpu: u8, phase: Phase)
+        requires cpu { cpu < vec_len self.old.list }
+        requires left { IsSome (slice_get ((views_of self.old).program cpu) 0) }
+        ensures size { vec_len self.new.list ≡ vec_len self.old.list }
+        ensures views { views_of self.new ≡ record (views_of self.old) {
+          phase = put (views_of self.old).phase cpu (phase_in phase);
+          program = put (views_of self.old).program cpu (drop 1 ((views_of self.old).program cpu));
+        } }
+    {
+        let cpu = &mut self.list[cpu as usize];
+        cpu.called += 1;
+        cpu.phase = phase;
+    }
+}
+
+/// The same command once more.
+pub(crate) fn copied(command: &Command) -> Command
+    ensures { result ≡ command.now }
+{
+    let _few = command.words.len();
+    CommandRef::of(command).to_command()
 }

@@ -11,8 +11,10 @@ mod cpus;
 mod lent;
 mod locks;
 mod phase;
+mod telling;
 mod turned;
 mod world;
 
 pub use turned::{Kind, Turned, Will};
 pub use world::World;
+pub use world_laws::{every_run_is_certified, no_wait_cycle, stuck_behind_stopped};

@@ -7,7 +7,9 @@ use rmm_spec::{Command, Reply};
 #[derive(Debug, Drop)]
 pub(crate) enum Phase {
     /// No call is open, and the next has this number.
-    Between { number: u32 },
+    Between {
+        number: u32,
+    },
     /// The call is open and not committed. An Enter may have learnt the realm of its REC.
     Deciding {
         number: u32,

@@ -1,4 +1,4 @@
-use Rattle.std.proofs.Common.{◌≡◌, sym, ap, ◌∙◌, arith}
+use Rattle.std.proofs.Common.{ap, ◌∙◌, arith}
 use Rattle.rmm_spec.specs.Cell.{put}
 use Rattle.command_core.specs.Seen.{cell_of}
 use Rattle.command_core.specs.declared.cell.Cell.{Cell}

@@ -1,7 +1,6 @@
 use Rattle.std.proofs.Common.{[], refl}
 use Rattle.std.proofs.lemmas.Option.{slice_get_read}
 use Rattle.world.specs.Cpus.{views_of}
-use Rattle.world.specs.declared.cpus.Cpu.{Cpu}
 use Rattle.world.proofs.Views.{views-taken}
 use Rattle.world.proofs.cpus.Cpus.clear.Goals as goal
 

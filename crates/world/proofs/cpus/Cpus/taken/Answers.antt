@@ -1,7 +1,6 @@
-use Rattle.std.proofs.Common.{[], None, sym, ap, ◌∙◌}
+use Rattle.std.proofs.Common.{[], sym, ◌∙◌}
 use Rattle.std.proofs.lemmas.Option.{slice_get_read}
-use Rattle.rmm_spec.specs.World as world
-use Rattle.world.specs.Cpus.{views_of, phase_in, is_going, is_deciding}
+use Rattle.world.specs.Cpus.{views_of}
 use Rattle.world.specs.declared.cpus.Cpu.{Cpu}
 use Rattle.world.proofs.Listed.{of_each-read}
 use Rattle.world.proofs.cpus.Cpus.taken.Goals as goal

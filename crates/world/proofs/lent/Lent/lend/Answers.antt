@@ -1,4 +1,4 @@
-use Rattle.std.proofs.Common.{◌≡◌, ◌<◌, ◌≤◌, ap, ◌∙◌, arith, length, get_or}
+use Rattle.std.proofs.Common.{◌≡◌, ◌<◌, ap, ◌∙◌, arith, length, get_or}
 use Rattle.std.proofs.lemmas.List.{get_or_default, length-set}
 use Rattle.rmm_spec.specs.Cell as whole
 use Rattle.rmm_spec.specs.Cell.{put}

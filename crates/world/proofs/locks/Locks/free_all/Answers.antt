@@ -1,4 +1,4 @@
-use Rattle.std.proofs.Common.{◌≡◌, ap, ◌∙◌, None, take}
+use Rattle.std.proofs.Common.{ap, ◌∙◌, None}
 use Rattle.rmm_spec.specs.Cell.{put}
 use Rattle.world.specs.Granules.{holder_of}
 use Rattle.world.proofs.Locked.{freed_all-next}

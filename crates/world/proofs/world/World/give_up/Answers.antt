@@ -1,5 +1,4 @@
-use Rattle.std.proofs.Common.{◌≡◌, ◌<◌, [], false, true, subst, sym, ap, ◌∙◌, arith, vec_len}
-use Rattle.rmm_spec.specs.Lookup.{is_granule}
+use Rattle.std.proofs.Common.{[], sym, ap, ◌∙◌, arith, vec_len}
 use Rattle.rmm_spec.specs.Cell.{put}
 use Rattle.rmm_spec.specs.World.{GivenUp}
 use Rattle.command_core.specs.Sides.{side_of}
