@@ -1,12 +1,11 @@
 -- A list with an item for each granule, or for each CPU, is a map, and a write to it is a put.
-use Rattle.std.proofs.Common.{◌≡◌, ℕ, ◌*◌, ◌/◌, ◌%◌, ◌<◌, ◌==◌, nat_lt, Bool, true, false, if◌then◌else◌, ◌≢◌, List, length, Some, IsTrue, refl, ap, ◌∙◌, arith, slice_index_or, slice_set, slice_get, replicate, eqb-true}
-use Rattle.std.proofs.lemmas.Bool.{and_parts, ltb-true, ltb-false}
-use Rattle.std.proofs.lemmas.List.{get_or-replicate, get_or_default, get_or_past, get_or-set_same, get_or-set_other, length-replicate}
+use Rattle.std.proofs.Common.{◌≡◌, ℕ, ◌*◌, ◌/◌, ◌%◌, ◌<◌, ◌==◌, nat_lt, Bool, true, false, if◌then◌else◌, ◌≢◌, List, length, Some, IsTrue, refl, ap, ◌∙◌, arith, slice_index_or, slice_set, slice_get, eqb-true}
+use Rattle.std.proofs.lemmas.Bool.{and_parts, ltb-true}
+use Rattle.std.proofs.lemmas.List.{get_or_default, get_or-set_same, get_or-set_other}
 use Rattle.rmm_spec.specs.Lookup.{is_granule}
 use Rattle.rmm_spec.specs.Cell.{put}
 use Rattle.rmm_spec.proofs.Tests.{both_ways}
 use Rattle.world_laws.proofs.Lists.{keys_apart}
-use Rattle.world_laws.proofs.Locals.{put-same}
 use Rattle.shape_laws.proofs.Slices.{slice_get-set_same, slice_get-set_other}
 use Rattle.world.specs.Granules.{item_at}
 use Rattle.world.specs.Cpus.{told, of_each}
@@ -53,18 +52,6 @@ item_at-granule items default read granules address place size granule at is_rea
     let within : place < length items = omega (arith, size, at, granule-within granules address granule) in
     rw (granule-multiple granules address granule, ← at) (is_read ∙ get_or_default items place read default within)
 
--- equal items are read everywhere
-get_or-replicate_all : {A : Type 0} → (n i : ℕ) (item : A) (below : Bool) → nat_lt i n ≡ below → slice_index_or (replicate n item) i item ≡ item
-get_or-replicate_all n i item true below = get_or-replicate n i item item (ltb-true i n below)
-get_or-replicate_all n i item false past = get_or_past (replicate n item) i item (omega (arith, ltb-false i n past, length-replicate n item))
-
-pub item_at-replicate : {A : Type 0} → (n : ℕ) (item : A) (address : ℕ) → item_at (replicate n item) item address ≡ item
-item_at-replicate n item address = by (address % 4096 == 0) refl
-  where
-    by : (b : Bool) → (address % 4096 == 0) ≡ b → (if b then slice_index_or (replicate n item) (address / 4096) item else item) ≡ item
-    by true multiple = get_or-replicate_all n (address / 4096) item (nat_lt (address / 4096) n) refl
-    by false none = refl
-
 -- ---- CPUs
 
 -- one CPU changes, seen at its own number and at another
@@ -82,9 +69,3 @@ of_each-set tells none list key cpu within = λ i other. of_each-set_cases tells
 pub of_each-read : {A : Type 0} → (tells : Cpu → A) (none : A) (list : List Cpu) (key : ℕ) (cpu : Cpu) → slice_get list key ≡ Some cpu
     → of_each tells none list key ≡ tells cpu
 of_each-read tells none list key cpu is = ap (told tells none) is
-
--- one CPU changes, and tells this as before
-pub of_each-kept : {A : Type 0} → (tells : Cpu → A) (none : A) (list : List Cpu) (key : ℕ) (cpu : Cpu) → key < length list
-    → of_each tells none list key ≡ tells cpu → of_each tells none (slice_set list key cpu) ≡ of_each tells none list
-of_each-kept tells none list key cpu within same =
-    of_each-set tells none list key cpu within ∙ put-same (of_each tells none list) key (tells cpu) same

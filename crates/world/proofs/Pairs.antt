@@ -1,5 +1,5 @@
 -- Granules with their cells: where one is found, what they are with another in its place, and how they are put back.
-use Rattle.std.proofs.Common.{◌≡◌, ℕ, zero, suc, ◌+◌, ◌<◌, ◌≤◌, Bool, true, false, not, ◌||◌, ◌==◌, cond, ltb, List, [], ◌∷◌, drop, length, get_or, position, Some, None, refl, sym, ap, ◌∙◌, subst, arith, eqb-true, slice_set}
+use Rattle.std.proofs.Common.{◌≡◌, ℕ, zero, suc, ◌<◌, ◌≤◌, Bool, true, false, not, ◌||◌, ◌==◌, cond, ltb, List, [], ◌∷◌, length, get_or, position, Some, None, refl, sym, ap, ◌∙◌, subst, arith, eqb-true, slice_set}
 use Rattle.std.specs.Prelude.{IsTrue}
 use Rattle.std.specs.List.{list_any, position_or_len}
 use Rattle.std.proofs.lemmas.Bool.{false≢true, and_parts, not-true}
@@ -8,7 +8,6 @@ use Rattle.std.proofs.lemmas.List.Quantifiers.{position-Some}
 use Rattle.std.proofs.lemmas.List.Sums.{fails_before_first}
 use Rattle.rmm_spec.specs.Cell as whole
 use Rattle.rmm_spec.specs.Cell.{put}
-use Rattle.rmm_spec.specs.Local.{put_all}
 use Rattle.world_laws.specs.Replaced.{replaced_cells, held_at}
 use Rattle.command_core.specs.Seen.{cell_of, cell_in, are_distinct}
 use Rattle.command_core.specs.declared.cell.Cell.{Cell}
@@ -95,21 +94,3 @@ pairs-from_each (x ∷ gs) (c ∷ cs) cells d few each =
     let here : cell_of c ≡ cells x = each 0 (omega arith) in
     let rest = pairs-from_each gs cs cells d (omega (arith, few)) (λ k less. each (suc k) (omega (arith, less))) in
     λ i. held_at x (here i) ∷ rest i
-
-put_all-front : (gs : List ℕ) (cs : List Cell) (i : ℕ) (d : Cell) (cells : ℕ → whole.Cell) → i < length gs → length gs ≤ length cs
-    → put_all cells (pairs (drop i gs) (drop i cs))
-    ≡ put_all (put cells (get_or gs i 0) (cell_of (get_or cs i d))) (pairs (drop (suc i) gs) (drop (suc i) cs))
-put_all-front [] cs i d cells within few = absurd (omega (arith, within))
-put_all-front (x ∷ gs) [] i d cells within few = absurd (omega (arith, few))
-put_all-front (x ∷ gs) (c ∷ cs) zero d cells within few = refl
-put_all-front (x ∷ gs) (c ∷ cs) (suc i) d cells within few = put_all-front gs cs i d cells (omega (arith, within)) (omega (arith, few))
-
--- one cell is put back, and the others are left
-pub put_all-step : (gs : List ℕ) (cs : List Cell) (i : ℕ) (d : Cell) (cells : ℕ → whole.Cell) → i < length gs → length gs ≤ length cs
-    → put_all cells (pairs (drop i gs) (drop i cs))
-    ≡ put_all (put cells (get_or gs i 0) (cell_of (get_or cs i d))) (pairs (drop (i + 1) gs) (drop (i + 1) cs))
-put_all-step gs cs i d cells within few =
-    let next : suc i ≡ i + 1 = omega arith in
-    subst (λ j. put_all cells (pairs (drop i gs) (drop i cs))
-    ≡ put_all (put cells (get_or gs i 0) (cell_of (get_or cs i d))) (pairs (drop j gs) (drop j cs))) next
-    (put_all-front gs cs i d cells within few)
