@@ -5,12 +5,14 @@
 //! The program's scenarios are to depend on it.
 #![tactic(auto)]
 
+mod calling;
 mod cells;
 mod committed;
 mod cpus;
 mod lent;
 mod locks;
 mod phase;
+mod returning;
 mod telling;
 mod turned;
 mod world;
