@@ -8,3 +8,4 @@ pub mod Moves
 pub mod Ends
 pub mod Follows
 pub mod Calls
+pub mod Taking

@@ -9,6 +9,7 @@ mod cells;
 mod committed;
 mod cpus;
 mod lent;
+mod locking;
 mod locks;
 mod phase;
 mod telling;
