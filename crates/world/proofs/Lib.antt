@@ -9,3 +9,5 @@ pub mod Ends
 pub mod Follows
 pub mod Calls
 pub mod Taking
+pub mod Opened
+pub mod Lines

@@ -6,3 +6,4 @@ pub mod Whole
 pub mod Kept
 pub mod World
 pub mod Next
+pub mod Opening

@@ -11,6 +11,7 @@ mod cpus;
 mod lent;
 mod locking;
 mod locks;
+mod opening;
 mod phase;
 mod telling;
 mod turned;
