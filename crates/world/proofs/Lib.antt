@@ -8,3 +8,6 @@ pub mod Moves
 pub mod Ends
 pub mod Follows
 pub mod Calls
+pub mod Few
+pub mod Stepped
+pub mod Commits

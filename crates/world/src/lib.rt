@@ -7,10 +7,12 @@
 
 mod cells;
 mod committed;
+mod committing;
 mod cpus;
 mod lent;
 mod locks;
 mod phase;
+mod stepping;
 mod telling;
 mod turned;
 mod world;
