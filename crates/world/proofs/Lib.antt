@@ -11,3 +11,5 @@ pub mod Calls
 pub mod Taking
 pub mod Opened
 pub mod Lines
+pub mod Stepped
+pub mod Commits

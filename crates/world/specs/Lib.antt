@@ -7,3 +7,4 @@ pub mod Kept
 pub mod World
 pub mod Next
 pub mod Opening
+pub mod Stepped

@@ -7,12 +7,14 @@
 
 mod cells;
 mod committed;
+mod committing;
 mod cpus;
 mod lent;
 mod locking;
 mod locks;
 mod opening;
 mod phase;
+mod stepping;
 mod telling;
 mod turned;
 mod world;
