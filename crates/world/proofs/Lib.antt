@@ -9,3 +9,8 @@ pub mod Ends
 pub mod Follows
 pub mod Calls
 pub mod Returns
+pub mod Taking
+pub mod Opened
+pub mod Lines
+pub mod Stepped
+pub mod Commits

@@ -8,6 +8,7 @@ use Rattle.rmm_spec.specs.declared.event.Event.TheVariants.{Called, Returned}
 use Rattle.rmm_spec.specs.declared.reply.Reply.{Reply}
 use Rattle.rmm_spec.specs.Lookup.{is_cpu}
 use Rattle.rmm_spec.specs.Cell.{put}
+use Rattle.rmm_spec.specs.Local.{Hold, put_all, LocalStep}
 use Rattle.rmm_spec.specs.World.{World, Phase, Between, Deciding, Decided, GivenUp, Stopped, Happens, IsDeciding, IsGoing, MayLearn, phase_learnt, without_granule}
 use Rattle.rmm_spec.specs.World as move
 use Rattle.rmm_spec.specs.Waits.{Will, Report, Did, Blocked, Idle, Turns, IsIdle, IsBlocked, IsRising, MayFree, awaited}
@@ -177,6 +178,36 @@ take-kept old new cpu granule holder waits new_holder new_waits kept within risi
     }) refl waiting
     (subst (AreLocks old.config.granules next.taken) (sym held)
     (AreLocks-taken old.config.granules old.taken holder cpu granule rising.rising.is_lock free kept.locked)) kept.fit)
+
+pub commit-kept : (old new : World) (cpu : ℕ) (given : Reply) (held : Hold) (holder waits new_waits : ℕ → Option ℕ) → IsKept old holder waits
+    → cpu < old.config.cpus → (deciding : IsDeciding old cpu) → LocalStep old.config.granules cpu deciding.command given (move.hold_of old cpu) held
+    → new ≡ record old {
+      cells = put_all old.cells held.cells;
+      side = held.side;
+      place = put old.place cpu held.place;
+      phase = put old.phase cpu (Decided deciding.number deciding.command given);
+      journal = old.journal ++ record { cpu = cpu; number = deciding.number; command = deciding.command; given = given } ∷ [];
+    } → new_waits ≡ put waits cpu None → IsTurn old cpu turn.Go (Did turn.Commit) new holder new_waits
+commit-kept old new cpu given held holder waits new_waits kept within deciding step is waiting =
+    let next : World = record old {
+      cells = put_all old.cells held.cells;
+      side = held.side;
+      place = put old.place cpu held.place;
+      phase = put old.phase cpu (Decided deciding.number deciding.command given);
+      journal = old.journal ++ record { cpu = cpu; number = deciding.number; command = deciding.command; given = given } ∷ [];
+    } in
+    let was : IsFit (Deciding deciding.number deciding.command deciding.learnt) (old.program cpu) =
+    subst (λ p. IsFit p (old.program cpu)) deciding.is_deciding (kept.fit.each cpu) in
+    subst (λ w. IsTurn old cpu turn.Go (Did turn.Commit) w holder new_waits) (sym is)
+    (turn-kept old next cpu turn.Go (Did turn.Commit) holder waits holder new_waits kept (record {
+      move = move.Commit cpu given held;
+      is_kind = refl;
+      is_mover = refl;
+      is_willed = tt;
+      happens = record { is_cpu = within; moves = record { deciding = deciding; step = step; is_new = refl } };
+    }) refl waiting kept.locked
+    (AreFit-phase old.phase old.program cpu (Decided deciding.number deciding.command given)
+    (record { served = was.served; open_served = refl; numbered = was.numbered }) kept.fit))
 
 -- what is learnt leaves a CPU fit
 learnt-fit : (learnt : Option ℕ) (p : Phase) (program : List Command) → IsFit p program → IsFit (phase_learnt learnt p) program

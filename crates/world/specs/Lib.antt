@@ -5,3 +5,6 @@ pub mod Told
 pub mod Whole
 pub mod Kept
 pub mod World
+pub mod Next
+pub mod Opening
+pub mod Stepped

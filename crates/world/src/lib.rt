@@ -8,11 +8,15 @@
 mod calling;
 mod cells;
 mod committed;
+mod committing;
 mod cpus;
 mod lent;
+mod locking;
 mod locks;
+mod opening;
 mod phase;
 mod returning;
+mod stepping;
 mod telling;
 mod turned;
 mod world;

@@ -1,0 +1,101 @@
+//! A CPU commits its open call.
+
+ghost use Rattle.std.specs.Prelude.{◌≡◌, ◌<◌, vec_len};
+ghost use Rattle.world.specs.Cpus.{views_of, phase_in};
+ghost use Rattle.world.specs.Stepped.{open_in};
+ghost use Rattle.world.specs.Whole.{world_from};
+
+use crate::committed::Committed;
+use crate::cpus::{Cpus, copied};
+use crate::phase::Phase;
+use crate::turned::{Kind, Turned};
+use crate::world::World;
+use rmi_view::ReplyRef;
+use rmm_spec::{Command, Reply};
+use std::alloc::{AllocError, Global};
+
+impl Phase {
+    // The number and the command of an open call that isn't committed.
+    fn opened(&self) -> Option<(u32, Command)>
+        ensures { result ≡ open_in (phase_in self.now) }
+    {
+        match self {
+            Phase::Deciding {
+                number,
+                command,
+                ..
+            } => Some((*number, copied(command))),
+            _ => None,
+        }
+    }
+}
+
+impl Cpus {
+    // The number and the command of a CPU's open call, where it isn't committed.
+    fn opened(&self, cpu: u8) -> Option<(u32, Command)>
+        requires { cpu < vec_len self.now.list }
+        ensures { result ≡ open_in ((views_of self.now).phase cpu) }
+    {
+        self.list[cpu as usize].phase.opened()
+    }
+}
+
+impl World {
+    ghost use Rattle.std.specs.Prelude.{◌≡◌, ◌<◌, IfOk, OnErr};
+    ghost use Rattle.rmm_spec.specs.Cell.{put};
+    ghost use Rattle.rmm_spec.specs.Waits.{Turns, awaited};
+    ghost use Rattle.rmm_spec.specs.Waits as waits;
+    ghost use Rattle.world.specs.Stepped.{CanCommit};
+    ghost use Rattle.world.specs.Told.{report_of};
+    ghost use Rattle.world.specs.World.{world_of, waits_of};
+
+    // Commits a CPU's open call, which what it holds settles. Where memory is refused, nothing changes.
+    pub(crate) fn commit(&mut self, alloc: Global, cpu: u8) -> Result<Turned, AllocError>
+        requires cpu { cpu < (world_of self.old).config.cpus }
+        requires can { CanCommit (world_of self.old) cpu }
+        ensures turned { IfOk result (λ turned. Turns (world_of self.old) cpu waits.Go (report_of turned) (world_of self.new)) }
+        ensures waits { IfOk result (λ turned. waits_of self.new ≡ put (waits_of self.old) cpu (awaited (report_of turned))) }
+        ensures err { OnErr result (world_of self.new ≡ world_of self.old) }
+        ensures err_waits { OnErr result (waits_of self.new ≡ waits_of self.old) }
+    {
+        let Some((number, command)) = self.cpus.opened(cpu) else {
+            unreachable!()
+        };
+        let Ok(()) = self.journal.reserve(1) else {
+            return Err(AllocError);
+        };
+        let config = self.history.config();
+        let (cells, side) = (&mut self.cells, &mut self.side);
+        let Ok(reply) = self.cpus.step(alloc, &config, cpu, &command, cells, side) else {
+            return Err(AllocError);
+        };
+        self.journal.push_reserved(Committed {
+            cpu,
+            number,
+            command: copied(&command),
+            reply: reply_copied(&reply),
+        });
+        self.cpus.set_waits(cpu, None);
+        let phase = Phase::Decided {
+            number,
+            command,
+            reply,
+        };
+        self.cpus.set_phase(cpu, phase);
+        Ok(Turned::Did(Kind::Commit))
+    }
+}
+
+// The same reply once more.
+fn reply_copied(reply: &Reply) -> Reply
+    ensures { result ≡ reply.now }
+{
+    match reply {
+        Reply::Ok(words) => {
+            let _few = words.len();
+            ReplyRef::Ok(words.as_slice()).to_reply()
+        }
+        Reply::Err(status, index) => Reply::Err(*status, *index),
+        Reply::Misplaced => Reply::Misplaced,
+    }
+}
