@@ -6,12 +6,11 @@ ghost use Rattle.world.specs.Stepped.{open_in};
 ghost use Rattle.world.specs.Whole.{world_from};
 
 use crate::committed::Committed;
-use crate::cpus::{Cpus, copied};
+use crate::cpus::{Cpus, copied, copied_reply};
 use crate::phase::Phase;
 use crate::turned::{Kind, Turned};
 use crate::world::World;
-use rmi_view::ReplyRef;
-use rmm_spec::{Command, Reply};
+use rmm_spec::Command;
 use std::alloc::{AllocError, Global};
 
 impl Phase {
@@ -73,7 +72,7 @@ impl World {
             cpu,
             number,
             command: copied(&command),
-            reply: reply_copied(&reply),
+            reply: copied_reply(&reply),
         });
         self.cpus.set_waits(cpu, None);
         let phase = Phase::Decided {
@@ -83,19 +82,5 @@ impl World {
         };
         self.cpus.set_phase(cpu, phase);
         Ok(Turned::Did(Kind::Commit))
-    }
-}
-
-// The same reply once more.
-fn reply_copied(reply: &Reply) -> Reply
-    ensures { result ≡ reply.now }
-{
-    match reply {
-        Reply::Ok(words) => {
-            let _few = words.len();
-            ReplyRef::Ok(words.as_slice()).to_reply()
-        }
-        Reply::Err(status, index) => Reply::Err(*status, *index),
-        Reply::Misplaced => Reply::Misplaced,
     }
 }

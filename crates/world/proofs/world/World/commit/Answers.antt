@@ -107,7 +107,7 @@ invariant_of-self-2 c =
       cpu = c.args.cpu;
       number = c.in-Some.number;
       command = c.copied.ensures i;
-      given = c.reply_copied.ensures i;
+      given = c.copied_reply.ensures i;
     } ∷ []) in
     let step = subst (λ (config : Config). MakesStep config.granules c.args.cpu c.in-Some.command c.in-Ok-step.reply (cells_of s.cells) (cells_of c.step.new.cells)
     (side_of s.side) (side_of c.step.new.side) (views_of s.cpus) (views_of c.step.new.self)) c.config-config.ensures c.in-Ok-step.ensures.ok in
@@ -133,7 +133,7 @@ returns-clause-turned c =
       cpu = c.args.cpu;
       number = c.in-Some.number;
       command = c.copied.ensures i;
-      given = c.reply_copied.ensures i;
+      given = c.copied_reply.ensures i;
     } ∷ []) in
     let step = subst (λ (config : Config). MakesStep config.granules c.args.cpu c.in-Some.command c.in-Ok-step.reply (cells_of s.cells) (cells_of c.step.new.cells)
     (side_of s.side) (side_of c.step.new.side) (views_of s.cpus) (views_of c.step.new.self)) c.config-config.ensures c.in-Ok-step.ensures.ok in
