@@ -8,3 +8,5 @@ pub mod Moves
 pub mod Ends
 pub mod Follows
 pub mod Calls
+pub mod Opened
+pub mod Lines

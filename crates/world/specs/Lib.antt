@@ -5,3 +5,4 @@ pub mod Told
 pub mod Whole
 pub mod Kept
 pub mod World
+pub mod Opening

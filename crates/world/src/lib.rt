@@ -10,6 +10,7 @@ mod committed;
 mod cpus;
 mod lent;
 mod locks;
+mod opening;
 mod phase;
 mod telling;
 mod turned;
