@@ -9,7 +9,7 @@ ghost use Rattle.world.specs.World.{world_of, waits_of};
 use crate::committed::Committed;
 use crate::world::World;
 use certificate::Certificate;
-use history::{History, read_back};
+use history::History;
 use rmi_view::ReplyRef;
 use rmm_spec::{Line, Reply};
 use std::alloc::{AllocError, Global};
@@ -21,7 +21,7 @@ impl World {
     pub fn history(&self, alloc: Global) -> Result<History, AllocError>
         ensures { IfOk result (λ history. history.recorded ≡ history_of (world_of self.now)) }
     {
-        read_back(alloc, &self.history)
+        self.history.copy(alloc)
     }
 
     /// The journal so far: a kept line for a commit whose return is recorded, and an unfinished one with its reply for any other.
