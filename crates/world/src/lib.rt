@@ -12,10 +12,12 @@ mod lent;
 mod locks;
 mod opening;
 mod phase;
+mod programs;
 mod telling;
 mod turned;
 mod world;
 
+pub use programs::can_open;
 pub use turned::{Kind, Turned, Will};
 pub use world::World;
 pub use world_laws::{every_run_is_certified, no_wait_cycle, stuck_behind_stopped};
