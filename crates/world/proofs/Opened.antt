@@ -9,13 +9,13 @@ use Rattle.rmm_spec.specs.HistoryText.{Config, History}
 use Rattle.rmm_spec.specs.Cell.{Cell, Undelegated}
 use Rattle.rmm_spec.specs.Shape as shape
 use Rattle.rmm_spec.specs.World.{World, Between, Commitment, opening_world}
-use Rattle.certified_laws.specs.Programs.{HaveTexts, commands_below}
+use Rattle.certified_laws.specs.Programs.{commands_below}
 use Rattle.command_core.specs.Seen.{place_of}
 use Rattle.command_core.specs.declared.cpu_place.CpuPlace.TheVariants.{Outside}
 use Rattle.world.specs.Cpus.{Views, views_at, of_each, phase_in}
 use Rattle.world.specs.Kept.{IsFit, IsReached, IsKept}
 use Rattle.world.specs.Whole.{world_with}
-use Rattle.world.specs.Opening.{programs_of, AreServed, opening_views}
+use Rattle.world.specs.Opening.{programs_of, opening_views, CanOpen}
 use Rattle.world.specs.declared.cpus.Cpu.{Cpu}
 use Rattle.world.specs.declared.phase.Phase.TheVariants as phase
 
@@ -80,13 +80,14 @@ opened-world cells side views journal history config programs is_cells is_vmids 
 
 -- ---- what is kept
 
--- a CPU has no more commands than all have
-length-below : (cpus : ℕ) (programs : ℕ → List Command) (cpu : ℕ) → cpu < cpus → length (programs cpu) ≤ commands_below cpus programs
-length-below zero programs cpu within = absurd (omega (arith, within))
-length-below (suc cpus) programs cpu within = by (cpu == cpus) refl (length-below cpus programs cpu)
+-- a CPU's commands and those of the CPUs before it are no more than all
+pub commands_below-le : (cpus : ℕ) (programs : ℕ → List Command) (cpu : ℕ) → cpu < cpus
+    → length (programs cpu) + commands_below cpu programs ≤ commands_below cpus programs
+commands_below-le zero programs cpu within = absurd (omega (arith, within))
+commands_below-le (suc cpus) programs cpu within = by (cpu == cpus) refl (commands_below-le cpus programs cpu)
   where
-    by : (b : Bool) → (cpu == cpus) ≡ b → (cpu < cpus → length (programs cpu) ≤ commands_below cpus programs)
-        → length (programs cpu) ≤ length (programs cpus) + commands_below cpus programs
+    by : (b : Bool) → (cpu == cpus) ≡ b → (cpu < cpus → length (programs cpu) + commands_below cpu programs ≤ commands_below cpus programs)
+        → length (programs cpu) + commands_below cpu programs ≤ length (programs cpus) + commands_below cpus programs
     by true same rest = rw (eqb-true cpu cpus same) (omega arith)
     by false apart rest =
         let differ : cpu ≡ cpus → ⊥ = λ same. false≢true (sym apart ∙ eq-eqb cpu cpus same) in
@@ -94,30 +95,28 @@ length-below (suc cpus) programs cpu within = by (cpu == cpus) refl (length-belo
         omega (arith, rest below)
 
 -- so it has a number for each
-opened-fit : (cpus : ℕ) (programs : List (Vec Command Global)) → length programs ≡ cpus → AreServed (programs_of programs)
-    → commands_below cpus (programs_of programs) ≤ 499999 → (cpu : ℕ) → IsFit (Between 0) (programs_of programs cpu)
-opened-fit cpus programs count served few cpu = record { served = served cpu; open_served = refl; numbered = by (nat_lt cpu cpus) refl }
+opened-fit : (config : Config) (programs : List (Vec Command Global)) → CanOpen config programs → (cpu : ℕ) → IsFit (Between 0) (programs_of programs cpu)
+opened-fit config programs can cpu = record { served = can.served cpu; open_served = refl; numbered = by (nat_lt cpu config.cpus) refl }
   where
-    by : (b : Bool) → nat_lt cpu cpus ≡ b → 0 + length (programs_of programs cpu) ≤ 499999
-    by true within = omega (arith, few, length-below cpus (programs_of programs) cpu (ltb-true cpu cpus within))
-    by false past = rw (slice_get_past programs cpu (omega (arith, count, ltb-false cpu cpus past))) (omega arith)
+    by : (b : Bool) → nat_lt cpu config.cpus ≡ b → 0 + length (programs_of programs cpu) ≤ 499999
+    by true within = omega (arith, can.few, commands_below-le config.cpus (programs_of programs) cpu (ltb-true cpu config.cpus within))
+    by false past = rw (slice_get_past programs cpu (omega (arith, can.count, ltb-false cpu config.cpus past))) (omega arith)
 
-pub opened-kept : (config : Config) (programs : List (Vec Command Global)) (w : World) (holder waits : ℕ → Option ℕ) → length programs ≡ config.cpus
-    → HaveTexts config (programs_of programs) → AreServed (programs_of programs) → commands_below config.cpus (programs_of programs) ≤ 499999
+pub opened-kept : (config : Config) (programs : List (Vec Command Global)) (w : World) (holder waits : ℕ → Option ℕ) → CanOpen config programs
     → w ≡ opening_world config (programs_of programs) → holder ≡ (λ _. None) → waits ≡ (λ _. None) → IsKept w holder waits
 unfolding opening_world
-opened-kept config programs w holder waits count texts served few is free none =
+opened-kept config programs w holder waits can is free none =
     let reached : IsReached config (opening_world config (programs_of programs)) (λ _. None) = record {
       programs = programs_of programs;
-      have_texts = texts;
-      few = few;
+      have_texts = can.texts;
+      few = can.few;
       turns = [];
       run = refl;
       is_waiting = refl;
     } in
     let opened : IsKept (opening_world config (programs_of programs)) (λ _. None) (λ _. None) = record {
       locked = record { held = λ cpu granule. refl; within = λ cpu. refl; distinct = λ cpu. refl };
-      fit = record { each = opened-fit config.cpus programs count served few };
+      fit = record { each = opened-fit config programs can };
       reached = ∣ reached ∣₁;
     } in
     subst (λ v. IsKept v holder waits) (sym is) (subst (λ h. IsKept (opening_world config (programs_of programs)) h waits) (sym free)

@@ -15,6 +15,7 @@ mod locking;
 mod locks;
 mod opening;
 mod phase;
+mod programs;
 mod returning;
 mod stepping;
 mod telling;
@@ -22,6 +23,7 @@ mod turned;
 mod turning;
 mod world;
 
+pub use programs::can_open;
 pub use turned::{Kind, Turned, Will};
 pub use world::World;
 pub use world_laws::{every_run_is_certified, no_wait_cycle, stuck_behind_stopped};

@@ -1,10 +1,9 @@
 //! A world in which nothing has happened.
 
-ghost use Rattle.std.specs.Prelude.{◌≡◌, ◌≤◌, vec_len, IfOk, None};
+ghost use Rattle.std.specs.Prelude.{◌≡◌, vec_len, IfOk, None};
 ghost use Rattle.rmm_spec.specs.World.{opening_world};
-ghost use Rattle.certified_laws.specs.Programs.{HaveTexts, commands_below};
 ghost use Rattle.world.specs.Cpus.{views_of};
-ghost use Rattle.world.specs.Opening.{programs_of, opening_views, AreServed};
+ghost use Rattle.world.specs.Opening.{programs_of, opening_views, CanOpen};
 ghost use Rattle.world.specs.World.{world_of, waits_of};
 
 use crate::cells::Cells;
@@ -20,17 +19,14 @@ use rmm_spec::Command;
 use std::alloc::{AllocError, Global};
 
 impl World {
-    /// Nothing is delegated, nobody holds a lock, and each CPU has its whole program before it. Where memory is refused there
-    /// is no world, and the programs are dropped.
+    /// Nothing is delegated, nobody holds a lock, and each CPU has its whole program before it. `can_open` is the test that it
+    /// asks for. Where memory is refused there is no world, and the programs are dropped.
     pub fn new(
         alloc: Global,
         config: &Config,
         programs: Vec<Vec<Command>>,
     ) -> Result<World, AllocError>
-        requires cpus { vec_len programs ≡ config.now.cpus }
-        requires texts { HaveTexts config.now (programs_of programs.items) }
-        requires served { AreServed (programs_of programs.items) }
-        requires few { commands_below config.now.cpus (programs_of programs.items) ≤ 499999 }
+        requires { CanOpen config.now programs.items }
         ensures world { IfOk result (λ w. world_of w ≡ opening_world config.now (programs_of programs.items)) }
         ensures waits { IfOk result (λ w. waits_of w ≡ (λ _. None)) }
     {

@@ -10,7 +10,7 @@ use crate::committed::Committed;
 use crate::cpus::copied_reply;
 use crate::world::World;
 use certificate::Certificate;
-use history::{History, read_back};
+use history::History;
 use rmm_spec::Line;
 use std::alloc::{AllocError, Global};
 use world_laws::{every_run_is_certified, no_wait_cycle};
@@ -21,7 +21,7 @@ impl World {
     pub fn history(&self, alloc: Global) -> Result<History, AllocError>
         ensures { IfOk result (λ history. history.recorded ≡ history_of (world_of self.now)) }
     {
-        read_back(alloc, &self.history)
+        self.history.copy(alloc)
     }
 
     /// The journal so far: a kept line for a commit whose return is recorded, and an unfinished one with its reply for any other.

@@ -16,7 +16,7 @@ use crate::locks::Locks;
 use crate::phase::Phase;
 use crate::turned::{Kind, Turned};
 use command_core::Side;
-use granule_state::Pa;
+use granule_state::{Config, Pa};
 use history::History;
 
 /// A machine's granules under their locks, its CPUs with their programs, and what is recorded of their run.
@@ -39,6 +39,14 @@ impl World {
     ghost use Rattle.rmm_spec.specs.Waits as waits;
     ghost use Rattle.world.specs.Told.{report_of};
     ghost use Rattle.world.specs.World.{world_of, waits_of};
+
+    /// The machine's size.
+    #[tactic(auto, unfolding(crate::specs::World::world_of, crate::specs::Whole::world_from))]
+    pub fn config(&self) -> Config
+        ensures { result ≡ (world_of self.now).config }
+    {
+        self.history.config()
+    }
 
     /// What a CPU waits for: the granule that its last turn reported, where it was blocked.
     #[tactic(auto, unfolding(crate::specs::World::waits_of))]

@@ -24,10 +24,10 @@ invariant_of-result c =
       sized = record {
         has_cells = c.in_ok-cells.ensures.size ∙ sym (ap (λ (h : History). h.config.granules) c.new-6.ensures);
         has_locks = c.in_ok-locks.ensures.size ∙ sym (ap (λ (h : History). h.config.granules) c.new-6.ensures);
-        has_cpus = c.in_ok-cpus.ensures.size ∙ c.requires.cpus ∙ sym (ap (λ (h : History). h.config.cpus) c.new-6.ensures);
+        has_cpus = c.in_ok-cpus.ensures.size ∙ programs.ok.0 ∙ c.requires.count ∙ sym (ap (λ (h : History). h.config.cpus) c.new-6.ensures);
       };
       kept = opened-kept config programs.items (world_from cells side cpus c.new-5.result.items history) (holder_of c.in_ok-locks.locks) (views_of cpus).waits
-          (sym programs.ok.0 ∙ c.requires.cpus) c.requires.texts c.requires.served c.requires.few is c.in_ok-locks.ensures.free
+          c.requires is c.in_ok-locks.ensures.free
           (ap (λ (v : Views). v.waits) c.in_ok-cpus.ensures.views);
     }
 
