@@ -19,6 +19,8 @@ mod programs;
 mod returning;
 mod stepping;
 mod telling;
+#[cfg(test)]
+mod tests;
 mod turned;
 mod turning;
 mod world;
