@@ -8,6 +8,5 @@ pub mod Moves
 pub mod Ends
 pub mod Follows
 pub mod Calls
-pub mod Few
-pub mod Stepped
+pub mod Taking
 pub mod Commits

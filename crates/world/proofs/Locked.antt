@@ -2,7 +2,7 @@
 use Rattle.std.proofs.Common.{arith, ◌+◌, ◌<◌, take, length, get_or, ◌≡◌, ℕ, Bool, true, false, not, ◌&&◌, ◌||◌, ◌==◌, if◌then◌else◌, List, [], ◌∷◌, ◌++◌, Option, Some, None, refl, sym, ap, ◌∙◌, subst, eqb-true, eq-eqb}
 use Rattle.std.specs.Prelude.{IsTrue, Contains}
 use Rattle.std.specs.List.{All, AllByRecursion, list_all}
-use Rattle.std.proofs.lemmas.List.Elements.{All-from_recursion}
+use Rattle.std.proofs.lemmas.List.Elements.{All-from_recursion, All-contains}
 use Rattle.std.proofs.lemmas.Bool.{false≢true, and_parts, and_from, not-true}
 use Rattle.std.proofs.lemmas.Bool.Decides.{nat_tests}
 use Rattle.std.proofs.lemmas.List.{take_more}
@@ -198,3 +198,8 @@ locks-of_size size granules taken others sized same within =
     subst (λ n. All (λ lock. IsTrue (is_granule n lock)) taken) (sym sized)
     (subst (λ locks. All (λ lock. IsTrue (is_granule granules lock)) locks) (sym same)
     (All-from_recursion (λ lock. IsTrue (is_granule granules lock)) others (all_pass (is_granule granules) others within)))
+
+-- a lock that is taken is of a granule
+pub granule-taken : (size granules : ℕ) (taken : List ℕ) (lock : ℕ) → size ≡ granules → IsTrue (list_all (is_granule granules) taken) → Contains taken lock
+    → IsTrue (is_granule size lock)
+granule-taken size granules taken lock sized within has = All-contains (λ (x : ℕ). IsTrue (is_granule size x)) taken lock (locks-of_size size granules taken taken sized refl within) has

@@ -29,6 +29,11 @@ abbrev pub is_deciding : world.Phase → Bool
 is_deciding (world.Deciding number command learnt) = true
 is_deciding _ = false
 
+-- whether a call is committed and not returned
+abbrev pub is_decided : world.Phase → Bool
+is_decided (world.Decided number command given) = true
+is_decided _ = false
+
 abbrev pub told : {A : Type 0} → (Cpu → A) → A → Option Cpu → A
 told tells none None = none
 told tells none (Some cpu) = tells cpu

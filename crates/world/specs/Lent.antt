@@ -33,10 +33,10 @@ length-pairs (granule ∷ granules) (cell ∷ cells) = omega (arith, length-pair
 
 -- the granules of what is lent are as they were given
 pub granules_held-lent : (l : Lent) → granules_held (lent_cells l) ≡ l.granules.items
-granules_held-lent l = granules_held-pairs l.granules.items l.cells (omega (arith, l.granules.ok.0, l.few, l.six))
+granules_held-lent l = granules_held-pairs l.granules.items l.cells (omega (arith, l.few, l.six))
 
 pub lent-few : (l : Lent) → length (lent_cells l) ≤ 6
-lent-few l = omega (arith, length-pairs l.granules.items l.cells, l.granules.ok.0, l.few)
+lent-few l = omega (arith, length-pairs l.granules.items l.cells, l.few)
 
 pub lent-distinct : (l : Lent) → IsTrue (are_distinct (granules_held (lent_cells l)))
 lent-distinct l = subst (λ granules. IsTrue (are_distinct granules)) (sym (granules_held-lent l)) l.distinct

@@ -5,4 +5,5 @@ pub mod Told
 pub mod Whole
 pub mod Kept
 pub mod World
+pub mod Next
 pub mod Stepped

@@ -1,21 +1,22 @@
 //! The CPUs of a machine.
 
-ghost use Rattle.std.specs.Prelude.{◌≡◌, ◌<◌, ◌++◌, ◌∷◌, [], vec_len, drop, slice_get, IsSome, OnOk, OnErr};
+ghost use Rattle.std.specs.Prelude.{◌≡◌, ◌<◌, ◌≤◌, ◌++◌, ◌∷◌, [], length, vec_len, drop, slice_get, IsSome};
 ghost use Rattle.rmm_spec.specs.Cell.{put};
+ghost use Rattle.rmm_spec.specs.World.{without_granule, phase_learnt};
 ghost use Rattle.command_core.specs.Seen.{place_of};
 ghost use Rattle.world.specs.Cpus.{views_of, phase_in, is_going, is_deciding};
 
 use crate::phase::Phase;
+use arrayvec::ArrayVec;
 use command_core::CpuPlace;
 use granule_state::Pa;
 use rmi_view::CommandRef;
 use rmm_spec::Command;
-use std::alloc::AllocError;
 
 /// One CPU: what it holds in the order in which it took it, and its program, of which it has called the first commands.
 #[derive(Debug, Drop)]
 pub(crate) struct Cpu {
-    pub(crate) taken: Vec<Pa>,
+    pub(crate) taken: ArrayVec<Pa, 6>,
     pub(crate) place: CpuPlace,
     pub(crate) phase: Phase,
     pub(crate) program: Vec<Command>,
@@ -41,18 +42,22 @@ impl Cpus {
     }
 
     /// A CPU has taken a granule's lock.
-    pub(crate) fn take(&mut self, cpu: u8, pa: Pa) -> Result<(), AllocError>
+    pub(crate) fn take(&mut self, cpu: u8, pa: Pa)
+        requires cpu { cpu < vec_len self.old.list }
+        requires room { length ((views_of self.old).taken cpu) < 6 }
+        ensures size { vec_len self.new.list ≡ vec_len self.old.list }
+        ensures views { views_of self.new ≡ record (views_of self.old) { taken = put (views_of self.old).taken cpu ((views_of self.old).taken cpu ++ pa ∷ []) } }
+    {
+        self.list[cpu as usize].taken.push(pa);
+    }
+
+    /// A CPU has freed a granule's lock.
+    pub(crate) fn remove(&mut self, cpu: u8, pa: Pa)
         requires { cpu < vec_len self.old.list }
         ensures size { vec_len self.new.list ≡ vec_len self.old.list }
-        ensures ok { OnOk result (views_of self.new ≡ record (views_of self.old) { taken = put (views_of self.old).taken cpu ((views_of self.old).taken cpu ++ pa ∷ []) }) }
-        ensures err { OnErr result (views_of self.new ≡ views_of self.old) }
+        ensures views { views_of self.new ≡ record (views_of self.old) { taken = put (views_of self.old).taken cpu (without_granule pa ((views_of self.old).taken cpu)) } }
     {
-        let taken = &mut self.list[cpu as usize].taken;
-        let Ok(()) = taken.reserve(1) else {
-            return Err(AllocError);
-        };
-        taken.push_reserved(pa);
-        Ok(())
+        self.list[cpu as usize].taken.retain(|other| *other != pa);
     }
 
     /// A CPU holds no lock any more.
@@ -85,7 +90,8 @@ impl Cpus {
     /// The locks that a CPU has taken.
     pub(crate) fn taken(&self, cpu: u8) -> &[Pa]
         requires { cpu < vec_len self.now.list }
-        ensures { result.now ≡ (views_of self.now).taken cpu }
+        ensures taken { result.now ≡ (views_of self.now).taken cpu }
+        ensures few { length result.now ≤ 6 }
     {
         &self.list[cpu as usize].taken
     }
@@ -96,6 +102,31 @@ impl Cpus {
         ensures { result ≡ (views_of self.now).waits cpu }
     {
         self.list[cpu as usize].waits
+    }
+
+    /// A CPU has learnt something, or nothing, as it freed a lock.
+    pub(crate) fn learn(&mut self, cpu: u8, learnt: Option<Pa>)
+        requires { cpu < vec_len self.old.list }
+        ensures size { vec_len self.new.list ≡ vec_len self.old.list }
+        ensures views { views_of self.new ≡ record (views_of self.old) { phase = put (views_of self.old).phase cpu (phase_learnt learnt ((views_of self.old).phase cpu)) } }
+    {
+        self.list[cpu as usize].phase.learn(learnt);
+    }
+
+    /// How far a CPU has come.
+    pub(crate) fn phase(&self, cpu: u8) -> &Phase
+        requires { cpu < vec_len self.now.list }
+        ensures { phase_in result.now ≡ (views_of self.now).phase cpu }
+    {
+        &self.list[cpu as usize].phase
+    }
+
+    /// Where a CPU is.
+    pub(crate) fn place(&self, cpu: u8) -> &CpuPlace
+        requires { cpu < vec_len self.now.list }
+        ensures { place_of result.now ≡ (views_of self.now).place cpu }
+    {
+        &self.list[cpu as usize].place
     }
 
     /// Whether a CPU hasn't ended.

@@ -8,6 +8,7 @@ ghost use Rattle.command_core.specs.Seen.{are_distinct};
 ghost use Rattle.world.specs.Granules.{cells_of};
 
 use crate::cells::Cells;
+use arrayvec::ArrayVec;
 use command_core::{Cell, Held};
 use granule_state::Pa;
 use std::mem::replace;
@@ -15,10 +16,10 @@ use std::mem::replace;
 /// Up to six cells, taken out of a machine's and put back after the turn. Lending takes no memory.
 #[derive(Debug, Drop)]
 pub(crate) struct Lent {
-    granules: Vec<Pa>,
+    granules: ArrayVec<Pa, 6>,
     cells: [Cell; 6],
     ghost six: { length cells ≡ 6 },
-    ghost few: { vec_len granules ≤ 6 },
+    ghost few: { length granules.items ≤ 6 },
     ghost distinct: { IsTrue (are_distinct granules.items) },
 }
 
@@ -27,32 +28,33 @@ impl Lent {
     ghost use Rattle.world.specs.Lent.{lent_cells, cells_at};
 
     /// The cells of granules that differ, in their order.
-    pub(crate) fn lend(cells: &mut Cells, granules: Vec<Pa>) -> Lent
-        requires few { vec_len granules ≤ 6 }
-        requires distinct { IsTrue (are_distinct granules.items) }
-        requires granules { All (λ pa. IsTrue (is_granule (vec_len cells.old.list) pa)) granules.items }
+    pub(crate) fn lend(cells: &mut Cells, granules: &[Pa]) -> Lent
+        requires few { length granules.now ≤ 6 }
+        requires distinct { IsTrue (are_distinct granules.now) }
+        requires granules { All (λ pa. IsTrue (is_granule (vec_len cells.old.list) pa)) granules.now }
         ensures size { vec_len cells.new.list ≡ vec_len cells.old.list }
-        ensures granules { result.granules.items ≡ granules.items }
-        ensures lent { lent_cells result ≡ cells_at (cells_of cells.old) granules.items }
-        ensures kept { (x : ℕ) → (Contains granules.items x → ⊥) → cells_of cells.new x ≡ cells_of cells.old x }
+        ensures granules { result.granules.items ≡ granules.now }
+        ensures lent { lent_cells result ≡ cells_at (cells_of cells.old) granules.now }
+        ensures kept { (x : ℕ) → (Contains granules.now x → ⊥) → cells_of cells.new x ≡ cells_of cells.old x }
     {
+        let mut held = ArrayVec::new();
         let mut lent = std::array::from_fn(|_place| Cell::Undelegated);
         for (place, pa) in granules.iter().enumerate() {
+            held.push(*pa);
             let cell = cells.replace(*pa, Cell::Undelegated);
             replace(&mut lent[place], cell);
         }
         Lent {
-            granules,
+            granules: held,
             cells: lent,
         }
     }
 
-    /// Puts the cells back, and returns their granules.
-    pub(crate) fn give_back(self, cells: &mut Cells) -> Vec<Pa>
+    /// Puts the cells back.
+    pub(crate) fn give_back(self, cells: &mut Cells)
         requires { All (λ pa. IsTrue (is_granule (vec_len cells.old.list) pa)) self.granules.items }
         ensures size { vec_len cells.new.list ≡ vec_len cells.old.list }
         ensures cells { cells_of cells.new ≡ put_all (cells_of cells.old) (lent_cells self) }
-        ensures granules { result.items ≡ self.granules.items }
     {
         let Lent {
             granules,
@@ -62,7 +64,6 @@ impl Lent {
             let cell = replace(&mut lent[place], Cell::Undelegated);
             cells.replace(*pa, cell);
         }
-        granules
     }
 
     // Where the cell of a granule stands, where it is lent.

@@ -10,6 +10,7 @@ mod committed;
 mod committing;
 mod cpus;
 mod lent;
+mod locking;
 mod locks;
 mod phase;
 mod stepping;

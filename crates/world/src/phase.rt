@@ -28,6 +28,7 @@ pub(crate) enum Phase {
 
 impl Phase {
     ghost use Rattle.std.specs.Prelude.{◌≡◌};
+    ghost use Rattle.rmm_spec.specs.World.{phase_learnt};
     ghost use Rattle.world.specs.Cpus as spec;
     ghost use Rattle.world.specs.Cpus.{phase_in};
 
@@ -46,5 +47,14 @@ impl Phase {
         ensures { result ≡ spec.is_deciding (phase_in self.now) }
     {
         matches!(self, Phase::Deciding { .. })
+    }
+
+    /// What was learnt gives way to what is.
+    pub(crate) fn learn(&mut self, now: Option<Pa>)
+        ensures { phase_in self.new ≡ phase_learnt now (phase_in self.old) }
+    {
+        if let Phase::Deciding { learnt, .. } = self {
+            *learnt = now;
+        }
     }
 }

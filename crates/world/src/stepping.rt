@@ -1,6 +1,6 @@
 //! A local step on the cells that a CPU has taken.
 
-ghost use Rattle.std.specs.Prelude.{◌≡◌, ◌<◌, ◌≤◌, vec_len, length, IsTrue, IfOk, OnErr};
+ghost use Rattle.std.specs.Prelude.{◌≡◌, ◌<◌, vec_len, IsTrue, IfOk, OnErr};
 ghost use Rattle.std.specs.List.{All};
 ghost use Rattle.rmm_spec.specs.Call.{call_of};
 ghost use Rattle.rmm_spec.specs.Local.{granules_held, LocalStep};
@@ -22,7 +22,6 @@ use command_core::{CpuPlace, Held, Side, applied_decisions_are_local, apply, dec
 use granule_state::Config;
 use rmm_spec::{Command, Reply};
 use std::alloc::{AllocError, Global};
-use std::mem::replace;
 
 // Decides a command on what is held, and makes its change of that. Where memory is refused, nothing changes.
 fn step_on<H: Held>(
@@ -67,7 +66,6 @@ impl Cpus {
         requires served { IsTrue (is_served (call_of command.now)) }
         requires settled { IsTrue (is_settled config.now.granules (call_of command.now) ((views_of self.old).place cpu)
             (cells_at (cells_of cells.old) ((views_of self.old).taken cpu))) }
-        requires few { length ((views_of self.old).taken cpu) ≤ 6 }
         requires distinct { IsTrue (are_distinct ((views_of self.old).taken cpu)) }
         requires granules { All (λ pa. IsTrue (is_granule (vec_len cells.old.list) pa)) ((views_of self.old).taken cpu) }
         ensures size { vec_len self.new.list ≡ vec_len self.old.list }
@@ -78,11 +76,14 @@ impl Cpus {
         ensures err_side { OnErr result (side_of side.new ≡ side_of side.old) }
         ensures err_views { OnErr result (views_of self.new ≡ views_of self.old) }
     {
-        let at = &mut self.list[cpu as usize];
-        let taken = replace(&mut at.taken, Vec::new(alloc));
-        let mut lent = Lent::lend(cells, taken);
-        let replied = step_on(alloc, config, command, cpu, &mut lent, side, &mut at.place);
-        at.taken = lent.give_back(cells);
-        replied
+        let mut lent = Lent::lend(cells, self.taken(cpu));
+        let mut place = *self.place(cpu);
+        let replied = step_on(alloc, config, command, cpu, &mut lent, side, &mut place);
+        lent.give_back(cells);
+        let Ok(reply) = replied else {
+            return Err(AllocError);
+        };
+        self.set_place(cpu, place);
+        Ok(reply)
     }
 }

@@ -10,4 +10,4 @@ returns-clause-views c =
     let list = c.args.self.now.list in
     let old = c.index_mut.result.now in
     views-taken list.items c.args.cpu old (record old { taken = c.clear.new.self }) []
-    (slice_get_read list.items list.len c.args.cpu old list.ok.0 c.requires c.index_mut.ensures.value) refl c.clear.ensures.items
+    (slice_get_read list.items list.len c.args.cpu old list.ok.0 c.requires c.index_mut.ensures.value) refl c.clear.ensures

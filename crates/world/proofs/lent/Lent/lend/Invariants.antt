@@ -9,6 +9,7 @@ abbrev pub invariant-loop-place : goal.invariant-loop-place
 invariant-loop-place l = record {
   size : vec_len l.cells.list ≡ vec_len l.fn.cells.list;
   six : length l.lent ≡ 6;
-  kept : (x : ℕ) → (Contains (take l.place l.fn.granules.items) x → ⊥) → cells_of l.cells x ≡ cells_of l.fn.cells x;
-  lent : (k : ℕ) → k < l.place → cell_of (get_or l.lent k Undelegated) ≡ cells_of l.fn.cells (get_or l.fn.granules.items k 0);
+  held : l.held.items ≡ take l.place l.fn.granules;
+  kept : (x : ℕ) → (Contains (take l.place l.fn.granules) x → ⊥) → cells_of l.cells x ≡ cells_of l.fn.cells x;
+  lent : (k : ℕ) → k < l.place → cell_of (get_or l.lent k Undelegated) ≡ cells_of l.fn.cells (get_or l.fn.granules k 0);
 }

@@ -7,7 +7,7 @@ use Rattle.world.proofs.lent.LentHeld.cell.Goals as goal
 pub returns-in-Some : goal.returns-in-Some
 returns-in-Some c =
     let l = c.args.self.now in
-    sym (cell_in-place l.granules.items l.cells c.args.pa c.in-Some.place c.index-self-place.result (omega (arith, l.granules.ok.0, l.few, l.six))
+    sym (cell_in-place l.granules.items l.cells c.args.pa c.in-Some.place c.index-self-place.result (omega (arith, l.few, l.six))
     (sym c.place_of.ensures ∙ c.in-Some.is) c.index-self-place.is ∙ ap (λ (x : Cell). Some (cell_of x)) c.index-self-place.is)
 
 pub returns-in-None : goal.returns-in-None

@@ -18,13 +18,13 @@ unreachable-requires c =
 pub returns-clause-cells : goal.returns-clause-cells
 returns-clause-cells c =
     let l = c.args.self.now in
-    replaced-place l.granules.items l.cells c.args.pa c.in-Some.place c.replace.new.dest (omega (arith, l.granules.ok.0, l.few, l.six))
+    replaced-place l.granules.items l.cells c.args.pa c.in-Some.place c.replace.new.dest (omega (arith, l.few, l.six))
     (sym c.place_of.ensures ∙ c.in-Some.is) l.distinct
     ∙ ap (λ (x : Cell). replaced_cells (lent_cells l) c.args.pa (cell_of x)) c.replace.ensures.after
 
 pub returns-clause-given : goal.returns-clause-given
 returns-clause-given c =
     let l = c.args.self.now in
-    cell_in-place l.granules.items l.cells c.args.pa c.in-Some.place c.index-self-place.result (omega (arith, l.granules.ok.0, l.few, l.six))
+    cell_in-place l.granules.items l.cells c.args.pa c.in-Some.place c.index-self-place.result (omega (arith, l.few, l.six))
     (sym c.place_of.ensures ∙ c.in-Some.is) c.index-self-place.is
     ∙ ap (λ (x : Cell). Some (cell_of x)) (c.index-self-place.is ∙ sym c.replace.ensures.value)

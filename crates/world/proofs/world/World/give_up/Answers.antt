@@ -48,7 +48,7 @@ pub free_all-requires : goal.free_all-requires
 unfolding world_from
 free_all-requires c =
     let s = c.args.self.now in
-    let taken = c.taken.ensures ∙ ap (λ (v : Views). v.taken c.args.cpu) c.set_waits.ensures.views in
+    let taken = c.taken.ensures.taken ∙ ap (λ (v : Views). v.taken c.args.cpu) c.set_waits.ensures.views in
     locks-of_size (vec_len s.locks.holders) s.history.recorded.config.granules c.taken.result.now ((views_of s.cpus).taken c.args.cpu) s.sized.has_locks taken
     (s.kept.locked.within c.args.cpu)
 
@@ -68,7 +68,7 @@ invariant_of-self-2 c =
     ∙ ap (λ (v : Views). record v { phase = put v.phase c.args.cpu GivenUp }) (c.clear.ensures.views
     ∙ ap (λ (v : Views). record v { taken = put v.taken c.args.cpu [] }) c.set_waits.ensures.views) in
     let freed = c.free_all.ensures.holders
-    ∙ ap (λ taken. freed_all taken (holder_of s.locks)) (c.taken.ensures ∙ ap (λ (v : Views). v.taken c.args.cpu) c.set_waits.ensures.views) in
+    ∙ ap (λ taken. freed_all taken (holder_of s.locks)) (c.taken.ensures.taken ∙ ap (λ (v : Views). v.taken c.args.cpu) c.set_waits.ensures.views) in
     record {
       sized = record {
         has_cells = s.sized.has_cells;
@@ -88,7 +88,7 @@ returns-clause-turned c =
     ∙ ap (λ (v : Views). record v { phase = put v.phase c.args.cpu GivenUp }) (c.clear.ensures.views
     ∙ ap (λ (v : Views). record v { taken = put v.taken c.args.cpu [] }) c.set_waits.ensures.views) in
     let freed = c.free_all.ensures.holders
-    ∙ ap (λ taken. freed_all taken (holder_of s.locks)) (c.taken.ensures ∙ ap (λ (v : Views). v.taken c.args.cpu) c.set_waits.ensures.views) in
+    ∙ ap (λ taken. freed_all taken (holder_of s.locks)) (c.taken.ensures.taken ∙ ap (λ (v : Views). v.taken c.args.cpu) c.set_waits.ensures.views) in
     (gave_up (cells_of s.cells) (side_of s.side) s.journal.items s.history.recorded c.args.cpu (views_of s.cpus) (holder_of s.locks) s.kept
     (views_of c.set_phase.new.self) (holder_of c.free_all.new.self) c.requires (sym c.is_deciding-is_deciding.ensures ∙ c.if-not-is_deciding.false)
     freed views).turned
