@@ -6,4 +6,5 @@ pub mod Whole
 pub mod Kept
 pub mod World
 pub mod Next
+pub mod Opening
 pub mod Stepped

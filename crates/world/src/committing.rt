@@ -6,10 +6,9 @@ ghost use Rattle.world.specs.Whole.{world_from};
 use crate::committed::Committed;
 use crate::cpus::copied;
 use crate::phase::Phase;
+use crate::telling::copied as copied_reply;
 use crate::turned::{Kind, Turned};
 use crate::world::World;
-use rmi_view::ReplyRef;
-use rmm_spec::Reply;
 use std::alloc::{AllocError, Global};
 
 impl World {
@@ -51,7 +50,7 @@ impl World {
             cpu,
             number,
             command: copied(&command),
-            reply: reply_copied(&reply),
+            reply: copied_reply(&reply),
         });
         self.cpus.set_waits(cpu, None);
         let phase = Phase::Decided {
@@ -61,19 +60,5 @@ impl World {
         };
         self.cpus.set_phase(cpu, phase);
         Ok(Turned::Did(Kind::Commit))
-    }
-}
-
-// The same reply once more.
-fn reply_copied(reply: &Reply) -> Reply
-    ensures { result ≡ reply.now }
-{
-    match reply {
-        Reply::Ok(words) => {
-            let _few = words.len();
-            ReplyRef::Ok(words.as_slice()).to_reply()
-        }
-        Reply::Err(status, index) => Reply::Err(*status, *index),
-        Reply::Misplaced => Reply::Misplaced,
     }
 }

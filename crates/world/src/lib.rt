@@ -5,6 +5,7 @@
 //! The program's scenarios are to depend on it.
 #![tactic(auto)]
 
+mod calling;
 mod cells;
 mod committed;
 mod committing;
@@ -12,7 +13,9 @@ mod cpus;
 mod lent;
 mod locking;
 mod locks;
+mod opening;
 mod phase;
+mod returning;
 mod stepping;
 mod telling;
 mod turned;
