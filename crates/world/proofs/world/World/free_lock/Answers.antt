@@ -4,7 +4,7 @@ use Rattle.rmm_spec.specs.World.{without_granule, phase_learnt}
 use Rattle.command_core.specs.Sides.{side_of}
 use Rattle.world.specs.Granules.{cells_of, holder_of}
 use Rattle.world.specs.Cpus.{Views, views_of}
-use Rattle.world.specs.Whole.{world_from}
+use Rattle.world.specs.Whole.{world_from, world_with}
 use Rattle.world.specs.World.{world_of, waits_of}
 use Rattle.world.proofs.Locked.{granule-taken}
 use Rattle.world.proofs.Taking.{freed}
@@ -63,3 +63,12 @@ unfolding waits_of
 returns-clause-waits c = ap (λ (v : Views). v.waits) (c.learn.ensures.views
     ∙ ap (λ (v : Views). record v { phase = put v.phase c.args.cpu (phase_learnt c.args.learnt (v.phase c.args.cpu)) }) (c.remove.ensures.views
     ∙ ap (λ (v : Views). record v { taken = put v.taken c.args.cpu (without_granule c.args.pa (v.taken c.args.cpu)) }) c.set_waits.ensures.views))
+
+pub returns-clause-freed : goal.returns-clause-freed
+unfolding world_of world_from
+returns-clause-freed c =
+    let s = c.args.self.now in
+    let views = c.learn.ensures.views
+    ∙ ap (λ (v : Views). record v { phase = put v.phase c.args.cpu (phase_learnt c.args.learnt (v.phase c.args.cpu)) }) (c.remove.ensures.views
+    ∙ ap (λ (v : Views). record v { taken = put v.taken c.args.cpu (without_granule c.args.pa (v.taken c.args.cpu)) }) c.set_waits.ensures.views) in
+    ap (λ v. world_with (cells_of s.cells) (side_of s.side) v s.journal.items s.history.recorded) views

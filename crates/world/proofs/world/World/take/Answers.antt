@@ -1,11 +1,11 @@
-use Rattle.std.proofs.Common.{◌<◌, ◌∷◌, ◌++◌, [], length, sym, ap, ◌∙◌, arith, subst}
+use Rattle.std.proofs.Common.{◌<◌, ◌∷◌, ◌++◌, [], length, refl, sym, ap, ◌∙◌, arith, subst}
 use Rattle.std.specs.Prelude.{IsTrue}
 use Rattle.rmm_spec.specs.Lookup.{is_granule}
 use Rattle.rmm_spec.specs.Cell.{put}
 use Rattle.command_core.specs.Sides.{side_of}
 use Rattle.world.specs.Granules.{cells_of, holder_of}
 use Rattle.world.specs.Cpus.{Views, views_of}
-use Rattle.world.specs.Whole.{world_from}
+use Rattle.world.specs.Whole.{world_from, world_with}
 use Rattle.world.specs.World.{world_of, waits_of}
 use Rattle.world.proofs.Taking.{rising-next, room-rising, blocked, took}
 use Rattle.world.proofs.world.World.take.Goals as goal
@@ -42,6 +42,12 @@ returns-in-Some-clause-turned c =
 pub returns-in-Some-clause-waits : goal.returns-in-Some-clause-waits
 unfolding waits_of
 returns-in-Some-clause-waits c = ap (λ (v : Views). v.waits) c.set_waits.ensures.views
+
+pub returns-in-Some-clause-does : goal.returns-in-Some-clause-does
+unfolding world_of world_from
+returns-in-Some-clause-does c =
+    let s = c.args.self.now in
+    (refl, ap (λ v. world_with (cells_of s.cells) (side_of s.side) v s.journal.items s.history.recorded) c.set_waits.ensures.views)
 
 pub set_waits-requires-2 : goal.set_waits-requires-2
 unfolding world_of world_from
@@ -94,3 +100,11 @@ pub returns-clause-waits : goal.returns-clause-waits
 unfolding waits_of
 returns-clause-waits c = ap (λ (v : Views). v.waits) (c.take.ensures.views
     ∙ ap (λ (v : Views). record v { taken = put v.taken c.args.cpu (v.taken c.args.cpu ++ c.args.pa ∷ []) }) c.set_waits-2.ensures.views)
+
+pub returns-clause-does : goal.returns-clause-does
+unfolding world_of world_from
+returns-clause-does c =
+    let s = c.args.self.now in
+    let views = c.take.ensures.views
+    ∙ ap (λ (v : Views). record v { taken = put v.taken c.args.cpu (v.taken c.args.cpu ++ c.args.pa ∷ []) }) c.set_waits-2.ensures.views in
+    (refl, ap (λ v. world_with (cells_of s.cells) (side_of s.side) v s.journal.items s.history.recorded) views)
