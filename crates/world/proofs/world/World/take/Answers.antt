@@ -31,23 +31,17 @@ invariant_of-self c =
           (sym c.holder.ensures ∙ c.in-Some.is) c.set_waits.ensures.views).kept;
     }
 
-pub returns-in-Some-clause-turned : goal.returns-in-Some-clause-turned
-unfolding world_of world_from
-returns-in-Some-clause-turned c =
+pub returns-in-Some : goal.returns-in-Some
+unfolding world_of world_from waits_of
+returns-in-Some c =
     let s = c.args.self.now in
-    (blocked (cells_of s.cells) (side_of s.side) s.journal.items s.history.recorded c.args.cpu (views_of s.cpus) (holder_of s.locks) s.kept
-    (views_of c.set_waits.new.self) c.args.pa c.in-Some._other (rising-next (world_of s) c.args.cpu c.args.pa c.requires.next)
-    (sym c.holder.ensures ∙ c.in-Some.is) c.set_waits.ensures.views).turned
-
-pub returns-in-Some-clause-waits : goal.returns-in-Some-clause-waits
-unfolding waits_of
-returns-in-Some-clause-waits c = ap (λ (v : Views). v.waits) c.set_waits.ensures.views
-
-pub returns-in-Some-clause-does : goal.returns-in-Some-clause-does
-unfolding world_of world_from
-returns-in-Some-clause-does c =
-    let s = c.args.self.now in
-    (refl, ap (λ v. world_with (cells_of s.cells) (side_of s.side) v s.journal.items s.history.recorded) c.set_waits.ensures.views)
+    record {
+      turned = (blocked (cells_of s.cells) (side_of s.side) s.journal.items s.history.recorded c.args.cpu (views_of s.cpus) (holder_of s.locks) s.kept
+          (views_of c.set_waits.new.self) c.args.pa c.in-Some._other (rising-next (world_of s) c.args.cpu c.args.pa c.requires.next)
+          (sym c.holder.ensures ∙ c.in-Some.is) c.set_waits.ensures.views).turned;
+      waits = ap (λ (v : Views). v.waits) c.set_waits.ensures.views;
+      does = (refl, ap (λ v. world_with (cells_of s.cells) (side_of s.side) v s.journal.items s.history.recorded) c.set_waits.ensures.views);
+    }
 
 pub set_waits-requires-2 : goal.set_waits-requires-2
 unfolding world_of world_from
@@ -86,25 +80,16 @@ invariant_of-self-2 c =
           (sym c.holder.ensures ∙ c.in_default.is) c.set.ensures.holders views).kept;
     }
 
-pub returns-clause-turned : goal.returns-clause-turned
-unfolding world_of world_from
-returns-clause-turned c =
+pub returns : goal.returns
+unfolding world_of world_from waits_of
+returns c =
     let s = c.args.self.now in
     let views = c.take.ensures.views
     ∙ ap (λ (v : Views). record v { taken = put v.taken c.args.cpu (v.taken c.args.cpu ++ c.args.pa ∷ []) }) c.set_waits-2.ensures.views in
-    (took (cells_of s.cells) (side_of s.side) s.journal.items s.history.recorded c.args.cpu (views_of s.cpus) (holder_of s.locks) s.kept
-    (views_of c.take.new.self) (holder_of c.set.new.self) c.args.pa c.requires.cpu (rising-next (world_of s) c.args.cpu c.args.pa c.requires.next)
-    (sym c.holder.ensures ∙ c.in_default.is) c.set.ensures.holders views).turned
-
-pub returns-clause-waits : goal.returns-clause-waits
-unfolding waits_of
-returns-clause-waits c = ap (λ (v : Views). v.waits) (c.take.ensures.views
-    ∙ ap (λ (v : Views). record v { taken = put v.taken c.args.cpu (v.taken c.args.cpu ++ c.args.pa ∷ []) }) c.set_waits-2.ensures.views)
-
-pub returns-clause-does : goal.returns-clause-does
-unfolding world_of world_from
-returns-clause-does c =
-    let s = c.args.self.now in
-    let views = c.take.ensures.views
-    ∙ ap (λ (v : Views). record v { taken = put v.taken c.args.cpu (v.taken c.args.cpu ++ c.args.pa ∷ []) }) c.set_waits-2.ensures.views in
-    (refl, ap (λ v. world_with (cells_of s.cells) (side_of s.side) v s.journal.items s.history.recorded) views)
+    record {
+      turned = (took (cells_of s.cells) (side_of s.side) s.journal.items s.history.recorded c.args.cpu (views_of s.cpus) (holder_of s.locks) s.kept
+          (views_of c.take.new.self) (holder_of c.set.new.self) c.args.pa c.requires.cpu (rising-next (world_of s) c.args.cpu c.args.pa c.requires.next)
+          (sym c.holder.ensures ∙ c.in_default.is) c.set.ensures.holders views).turned;
+      waits = ap (λ (v : Views). v.waits) views;
+      does = (refl, ap (λ v. world_with (cells_of s.cells) (side_of s.side) v s.journal.items s.history.recorded) views);
+    }
