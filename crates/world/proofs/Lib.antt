@@ -9,7 +9,7 @@ pub mod Ends
 pub mod Follows
 pub mod Calls
 pub mod Taking
+pub mod Returns
 pub mod Opened
 pub mod Lines
-pub mod Stepped
 pub mod Commits

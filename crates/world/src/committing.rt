@@ -1,44 +1,15 @@
 //! A CPU commits its open call.
 
-ghost use Rattle.std.specs.Prelude.{◌≡◌, ◌<◌, vec_len};
-ghost use Rattle.world.specs.Cpus.{views_of, phase_in};
-ghost use Rattle.world.specs.Stepped.{open_in};
+ghost use Rattle.std.specs.Prelude.{◌≡◌};
 ghost use Rattle.world.specs.Whole.{world_from};
 
 use crate::committed::Committed;
-use crate::cpus::{Cpus, copied};
+use crate::cpus::copied;
 use crate::phase::Phase;
+use crate::telling::copied as copied_reply;
 use crate::turned::{Kind, Turned};
 use crate::world::World;
-use rmi_view::ReplyRef;
-use rmm_spec::{Command, Reply};
 use std::alloc::{AllocError, Global};
-
-impl Phase {
-    // The number and the command of an open call that isn't committed.
-    fn opened(&self) -> Option<(u32, Command)>
-        ensures { result ≡ open_in (phase_in self.now) }
-    {
-        match self {
-            Phase::Deciding {
-                number,
-                command,
-                ..
-            } => Some((*number, copied(command))),
-            _ => None,
-        }
-    }
-}
-
-impl Cpus {
-    // The number and the command of a CPU's open call, where it isn't committed.
-    fn opened(&self, cpu: u8) -> Option<(u32, Command)>
-        requires { cpu < vec_len self.now.list }
-        ensures { result ≡ open_in ((views_of self.now).phase cpu) }
-    {
-        self.list[cpu as usize].phase.opened()
-    }
-}
 
 impl World {
     ghost use Rattle.std.specs.Prelude.{◌≡◌, ◌<◌, IfOk, OnErr};
@@ -58,9 +29,15 @@ impl World {
         ensures err { OnErr result (world_of self.new ≡ world_of self.old) }
         ensures err_waits { OnErr result (waits_of self.new ≡ waits_of self.old) }
     {
-        let Some((number, command)) = self.cpus.opened(cpu) else {
+        let Phase::Deciding {
+            number,
+            command,
+            ..
+        } = self.cpus.phase(cpu)
+        else {
             unreachable!()
         };
+        let (number, command) = (*number, copied(command));
         let Ok(()) = self.journal.reserve(1) else {
             return Err(AllocError);
         };
@@ -73,7 +50,7 @@ impl World {
             cpu,
             number,
             command: copied(&command),
-            reply: reply_copied(&reply),
+            reply: copied_reply(&reply),
         });
         self.cpus.set_waits(cpu, None);
         let phase = Phase::Decided {
@@ -83,19 +60,5 @@ impl World {
         };
         self.cpus.set_phase(cpu, phase);
         Ok(Turned::Did(Kind::Commit))
-    }
-}
-
-// The same reply once more.
-fn reply_copied(reply: &Reply) -> Reply
-    ensures { result ≡ reply.now }
-{
-    match reply {
-        Reply::Ok(words) => {
-            let _few = words.len();
-            ReplyRef::Ok(words.as_slice()).to_reply()
-        }
-        Reply::Err(status, index) => Reply::Err(*status, *index),
-        Reply::Misplaced => Reply::Misplaced,
     }
 }

@@ -5,6 +5,7 @@
 //! The program's scenarios are to depend on it.
 #![tactic(auto)]
 
+mod calling;
 mod cells;
 mod committed;
 mod committing;
@@ -14,6 +15,7 @@ mod locking;
 mod locks;
 mod opening;
 mod phase;
+mod returning;
 mod stepping;
 mod telling;
 mod turned;

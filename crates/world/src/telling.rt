@@ -73,8 +73,8 @@ fn line_for(history: &History, commit: &Committed) -> Line
     }
 }
 
-// The same reply once more.
-fn copied(reply: &Reply) -> Reply
+/// The same reply once more.
+pub(crate) fn copied(reply: &Reply) -> Reply
     ensures { result ≡ reply.now }
 {
     match reply {
