@@ -1,5 +1,5 @@
 -- A CPU that is stopped, or gives up, in the fields of a world.
-use Rattle.std.proofs.Common.{◌≡◌, ℕ, ◌<◌, true, false, [], List, Option, None, refl, sym, ap, ◌∙◌}
+use Rattle.std.proofs.Common.{◌≡◌, ℕ, ◌<◌, true, false, [], List, Option, None, inl, refl, sym, ap, ◌∙◌}
 use Rattle.std.proofs.lemmas.Bool.{false≢true}
 use Rattle.rmm_spec.specs.HistoryText.{History}
 use Rattle.rmm_spec.specs.Cell.{Cell, put}
@@ -51,6 +51,13 @@ module _ (cells : ℕ → Cell) (side : Side) (journal : List Commitment) (histo
       idle-kept (world_with cells side old journal history) (world_with cells side new journal history) cpu turn.GiveUp holder old.waits new.waits kept
       (deciding-false (world_with cells side old journal history) cpu none) (ap (λ v. world_with cells side v journal history) is)
       (ap (λ (v : Views). v.waits) is)
+
+  -- a CPU that has ended is told to go on
+  pub idle-ended : (new : Views) → (IsGoing (old.phase cpu) → ⊥) → new ≡ record old { waits = put old.waits cpu None }
+      → IsTurn (world_with cells side old journal history) cpu turn.Go Idle (world_with cells side new journal history) holder new.waits
+  idle-ended new ended is =
+      idle-kept (world_with cells side old journal history) (world_with cells side new journal history) cpu turn.Go holder old.waits new.waits kept
+      (inl ended) (ap (λ v. world_with cells side v journal history) is) (ap (λ (v : Views). v.waits) is)
 
   pub stopped : (new : Views) → cpu < history.config.cpus → is_going (old.phase cpu) ≡ true
       → new ≡ record old { waits = put old.waits cpu None; phase = put old.phase cpu Stopped }

@@ -4,9 +4,8 @@ ghost use Rattle.std.specs.Prelude.{◌≡◌};
 ghost use Rattle.world.specs.Whole.{world_from};
 
 use crate::committed::Committed;
-use crate::cpus::copied;
+use crate::cpus::{copied, copied_reply};
 use crate::phase::Phase;
-use crate::telling::copied as copied_reply;
 use crate::turned::{Kind, Turned};
 use crate::world::World;
 use std::alloc::{AllocError, Global};

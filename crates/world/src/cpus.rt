@@ -10,8 +10,8 @@ use crate::phase::Phase;
 use arrayvec::ArrayVec;
 use command_core::CpuPlace;
 use granule_state::Pa;
-use rmi_view::CommandRef;
-use rmm_spec::Command;
+use rmi_view::{CommandRef, ReplyRef};
+use rmm_spec::{Command, Reply};
 
 /// One CPU: what it holds in the order in which it took it, and its program, of which it has called the first commands.
 #[derive(Debug, Drop)]
@@ -182,4 +182,15 @@ pub(crate) fn copied(command: &Command) -> Command
 {
     let _few = command.words.len();
     CommandRef::of(command).to_command()
+}
+
+/// The same reply once more.
+pub(crate) fn copied_reply(reply: &Reply) -> Reply
+    ensures { result ≡ reply.now }
+{
+    match reply {
+        Reply::Ok(words) => ReplyRef::Ok(words.as_slice()).to_reply(),
+        Reply::Err(status, index) => Reply::Err(*status, *index),
+        Reply::Misplaced => Reply::Misplaced,
+    }
 }

@@ -19,6 +19,7 @@ mod returning;
 mod stepping;
 mod telling;
 mod turned;
+mod turning;
 mod world;
 
 pub use turned::{Kind, Turned, Will};

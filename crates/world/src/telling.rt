@@ -7,11 +7,11 @@ ghost use Rattle.rmm_spec.specs.Waits.{HasNoCircle, WaitsAt};
 ghost use Rattle.world.specs.World.{world_of, waits_of};
 
 use crate::committed::Committed;
+use crate::cpus::copied_reply;
 use crate::world::World;
 use certificate::Certificate;
 use history::{History, read_back};
-use rmi_view::ReplyRef;
-use rmm_spec::{Line, Reply};
+use rmm_spec::Line;
 use std::alloc::{AllocError, Global};
 use world_laws::{every_run_is_certified, no_wait_cycle};
 
@@ -68,18 +68,7 @@ fn line_for(history: &History, commit: &Committed) -> Line
         None => Line::Unfinished {
             cpu,
             number,
-            reply: copied(&commit.reply),
+            reply: copied_reply(&commit.reply),
         },
-    }
-}
-
-/// The same reply once more.
-pub(crate) fn copied(reply: &Reply) -> Reply
-    ensures { result ≡ reply.now }
-{
-    match reply {
-        Reply::Ok(words) => ReplyRef::Ok(words.as_slice()).to_reply(),
-        Reply::Err(status, index) => Reply::Err(*status, *index),
-        Reply::Misplaced => Reply::Misplaced,
     }
 }

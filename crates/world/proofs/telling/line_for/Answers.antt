@@ -23,4 +23,4 @@ returns-in-None c =
     let commit : Commitment = record { cpu = of.cpu; number = of.number; command = of.command; given = of.reply } in
     let open_call = subst (λ found. MatchOption found (¬ IsFinished events of.cpu of.number) (λ place. (given : Reply) × IsReturned events place of.cpu of.number given))
     c.in-None.is c.in-Some.ensures.some.returned in
-    ap (Unfinished of.cpu of.number) c.copied.ensures ∙ sym (line_for-unfinished events commit open_call) ∙ ap (line_for events) c.commit.view_is
+    ap (Unfinished of.cpu of.number) c.copied_reply.ensures ∙ sym (line_for-unfinished events commit open_call) ∙ ap (line_for events) c.commit.view_is

@@ -110,7 +110,7 @@ invariant_of-self-2 c =
       cpu = c.args.cpu;
       number = c.in-Deciding.number;
       command = c.copied.ensures i;
-      given = c.copied-2.ensures i;
+      given = c.copied_reply.ensures i;
     } ∷ []) in
     let is_open = sym c.phase.ensures ∙ ap phase_in c.in-Deciding.is ∙ (λ i. Deciding c.in-Deciding.number (sym c.copied-command.ensures i) c.in-Deciding.learnt) in
     let step = subst (λ (config : Config). MakesStep config.granules c.args.cpu c.copied-command.result c.in-Ok-step.reply (cells_of s.cells) (cells_of c.step.new.cells)
@@ -137,7 +137,7 @@ returns-clause-turned c =
       cpu = c.args.cpu;
       number = c.in-Deciding.number;
       command = c.copied.ensures i;
-      given = c.copied-2.ensures i;
+      given = c.copied_reply.ensures i;
     } ∷ []) in
     let is_open = sym c.phase.ensures ∙ ap phase_in c.in-Deciding.is ∙ (λ i. Deciding c.in-Deciding.number (sym c.copied-command.ensures i) c.in-Deciding.learnt) in
     let step = subst (λ (config : Config). MakesStep config.granules c.args.cpu c.copied-command.result c.in-Ok-step.reply (cells_of s.cells) (cells_of c.step.new.cells)
