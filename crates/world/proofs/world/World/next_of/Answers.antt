@@ -92,4 +92,4 @@ returns-clause-next c =
     next-planned (world_of s) c.args.cpu c.next_lock-next.result c.config-config.result.granules (place_of c.place.result.now)
     (lent_cells c.lend-lent.result) c.in-Deciding.number c.in-Deciding.command c.in-Deciding.learnt
     (sym c.phase.ensures ∙ ap phase_in c.in-Deciding.is) (ap (λ (x : Config). x.granules) c.config-config.ensures) c.place.ensures
-    (c.lend-lent.ensures.lent ∙ ap (cells_at (cells_of s.cells)) c.taken.ensures.taken) c.next_lock-next.ensures.planned c.next_lock-next.ensures.settled
+    (c.lend-lent.ensures.lent ∙ ap (cells_at (cells_of s.cells)) c.taken.ensures.taken) c.next_lock-next.ensures.exact c.next_lock-next.ensures.planned c.next_lock-next.ensures.settled
