@@ -1,6 +1,6 @@
 //! Histories.
 
-ghost use Rattle.std.specs.Prelude.{◌≡◌, ℕ, ◌+◌, ◌<◌, ◌≤◌, ◌↔◌, [], ◌∷◌, ◌++◌, length, slice_get, Some, IsTrue, IsOk, IfSome, IfNone, OnOk, OnErr};
+ghost use Rattle.std.specs.Prelude.{◌≡◌, ℕ, ◌+◌, ◌<◌, ◌≤◌, ◌↔◌, [], ◌∷◌, ◌++◌, length, slice_get, Some, IsTrue, IsOk, IfOk, IfSome, IfNone, OnOk, OnErr};
 ghost use Rattle.rmm_spec.specs.declared.command.Command.{Command};
 ghost use Rattle.rmm_spec.specs.declared.reply.Reply.{Reply};
 ghost use Rattle.rmm_spec.specs.HistoryText.{IsHistory, CanFollow, cpu_of};
@@ -13,7 +13,7 @@ ghost use Rattle.history.specs.Next.{HasText, Continues};
 
 use crate::entry::{Entry, Stretch, reserve_event, store, words_at};
 use crate::event_ref::EventRef;
-use crate::subhistory::{Subhistory, make_room_at};
+use crate::subhistory::{Subhistory, copies, make_room_at};
 use granule_state::Config;
 use rmi_codec::reply_has_text;
 use rmi_view::{CommandRef, ReplyRef};
@@ -89,6 +89,18 @@ impl History {
             words: Vec::new(alloc),
             subhistories: std::array::from_fn(|_cpu| Subhistory::new(alloc)),
         }
+    }
+
+    /// The same history once more, without a look at each event.
+    pub fn copy(&self, alloc: Global) -> Result<History, AllocError>
+        ensures { IfOk result (λ again. again.recorded ≡ self.now.recorded) }
+    {
+        Ok(History {
+            config: self.config,
+            entries: self.entries.to_vec(alloc)?,
+            words: self.words.to_vec(alloc)?,
+            subhistories: copies(alloc, &self.subhistories)?,
+        })
     }
 
     pub fn config(&self) -> Config

@@ -1,6 +1,6 @@
 //! The events of each CPU.
 
-ghost use Rattle.std.specs.Prelude.{◌≡◌, ℕ, ◌+◌, ◌<◌, ◌≤◌, ◌↔◌, [], ◌∷◌, ◌++◌, length, slice_index, slice_index_or, IsTrue, IsOk, OnOk, MatchOption};
+ghost use Rattle.std.specs.Prelude.{◌≡◌, ℕ, ◌+◌, ◌<◌, ◌≤◌, ◌↔◌, [], ◌∷◌, ◌++◌, length, slice_index, slice_index_or, IsTrue, IsOk, IfOk, OnOk, MatchOption};
 ghost use Rattle.rmm_spec.specs.HistoryText.{rank};
 ghost use Rattle.history.specs.EventRef.{event_seen};
 ghost use Rattle.history.specs.Room.{spare};
@@ -86,4 +86,17 @@ pub fn make_room_at(subhistories: &mut [Subhistory; 8]) -> Result<(), AllocError
         subhistories[cpu].make_room()?;
     }
     Ok(())
+}
+
+/// Subhistories with the same places.
+pub fn copies(alloc: Global, subhistories: &[Subhistory; 8]) -> Result<[Subhistory; 8], AllocError>
+    ensures counted { IfOk result (λ again. length again ≡ 8) }
+    ensures same { IfOk result (λ again. (cpu : ℕ) (other : Subhistory) → cpu < 8
+        → (slice_index_or again cpu other).places.items ≡ (slice_index_or subhistories.now cpu other).places.items) }
+{
+    let mut again = std::array::from_fn(|_cpu| Subhistory::new(alloc));
+    for cpu in 0..again.len() {
+        again[cpu].places = subhistories[cpu].places.to_vec(alloc)?;
+    }
+    Ok(again)
 }

@@ -1,6 +1,6 @@
 //! Histories recorded, written and read.
 
-use crate::{Config, Event, History, HistoryFault, read_back, rewritten, write};
+use crate::{Config, Event, History, HistoryFault, read, read_back, rewritten, write};
 use rmi_codec::{read_command, read_reply};
 use rmm_spec::{Command, FunctionId};
 use std::alloc::Global;
@@ -107,6 +107,16 @@ fn writes_what_is_recorded(rt: HostRuntime) -> Result<(), Fail> {
     let again = read_back(rt.alloc(), &history)?;
     assert_eq!(rt; again.len(), 6);
     assert_eq!(rt; again.event(5), history.event(5));
+    Ok(())
+}
+
+#[test]
+fn copies_each_event(rt: HostRuntime) -> Result<(), Fail> {
+    let history = read(rt.alloc(), TEXT.as_bytes())?;
+    let again = history.copy(rt.alloc())?;
+    assert_eq!(rt; again.len(), 6);
+    assert_eq!(rt; again.event(3), history.event(3));
+    assert_eq!(rt; again.call_of(7, 1), history.call_of(7, 1));
     Ok(())
 }
 

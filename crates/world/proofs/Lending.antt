@@ -1,0 +1,83 @@
+-- One cell more is lent: the others are as they were, and those lent so far are the whole's.
+use Rattle.std.proofs.Common.{◌≡◌, ℕ, zero, suc, ◌+◌, ◌<◌, Bool, true, false, not, ◌==◌, if◌then◌else◌, List, [], ◌∷◌, ◌++◌, take, length, get_or, refl, sym, ap, ◌∙◌, subst, arith, slice_set, eq-eqb, eqb-true}
+use Rattle.std.specs.Prelude.{IsTrue, Contains}
+use Rattle.std.specs.List.{list_any}
+use Rattle.std.proofs.lemmas.Bool.{and_parts, not-true}
+use Rattle.std.proofs.lemmas.List.{get_or-set_same, get_or-set_other, take_more}
+use Rattle.std.proofs.lemmas.List.Elements.{Contains-append_left, Contains-push}
+use Rattle.std.proofs.lemmas.List.Folds.{list_any_at}
+use Rattle.rmm_spec.specs.Cell as whole
+use Rattle.rmm_spec.specs.Cell.{put}
+use Rattle.rmm_spec.proofs.Tests.{both_ways}
+use Rattle.rmm_spec.specs.Local.{HeldCell, granules_held, put_all, Agrees}
+use Rattle.world_laws.proofs.Lists.{put-other}
+use Rattle.world_laws.proofs.Locals.{put_all-agrees}
+use Rattle.world_laws.proofs.Members.{Contains-nil, Contains-other, granules_held-cells_at}
+use Rattle.command_core.specs.Seen.{cell_of, are_distinct}
+use Rattle.command_core.specs.declared.cell.Cell.{Cell}
+use Rattle.command_core.specs.declared.cell.Cell.TheVariants.{Undelegated}
+use Rattle.world.specs.Lent.{cells_at}
+
+-- a granule of a list without doubles isn't among those before it
+distinct-before : (gs : List ℕ) (i : ℕ) → i < length gs → IsTrue (are_distinct gs) → Contains (take i gs) (get_or gs i 0) → ⊥
+distinct-before [] i within distinct has = absurd (omega (arith, within))
+distinct-before (x ∷ gs) zero within distinct has = Contains-nil x has
+distinct-before (x ∷ gs) (suc i) within distinct has =
+    let parts = and_parts (not (list_any (λ other. other == x) gs)) (are_distinct gs) distinct in
+    let inside : i < length gs = omega (arith, within) in
+    distinct-before gs i inside parts.1 (Contains-other x (take i gs) (get_or gs i 0) (λ same.
+    both_ways (list_any_at (λ other. other == x) gs i 0 inside (eq-eqb (get_or gs i 0) x (sym same)))
+    (not-true (list_any (λ other. other == x) gs) parts.0)) has)
+
+-- what isn't among those lent so far is as it was
+pub kept-next : (gs : List ℕ) (i : ℕ) (start now : ℕ → whole.Cell) (cell : whole.Cell) → i < length gs
+    → ((x : ℕ) → (Contains (take i gs) x → ⊥) → now x ≡ start x)
+    → (x : ℕ) → (Contains (take (i + 1) gs) x → ⊥) → put now (get_or gs i 0) cell x ≡ start x
+kept-next gs i start now cell within kept x apart =
+    let more = take_more gs i 0 within in
+    let others : Contains (take i gs) x → ⊥ = λ has. apart (subst (λ xs. Contains xs x) (sym more) (Contains-append_left (take i gs) (get_or gs i 0 ∷ []) x has)) in
+    put-other now (get_or gs i 0) cell x
+    (λ same. apart (subst (λ xs. Contains xs x) (sym more) (subst (Contains (take i gs ++ get_or gs i 0 ∷ [])) (sym same) (Contains-push (take i gs) (get_or gs i 0)))))
+    ∙ kept x others
+
+-- each that is lent so far was the whole's
+pub lent-next : (gs : List ℕ) (cs : List Cell) (i : ℕ) (start now : ℕ → whole.Cell) (c : Cell) → i < length gs → i < length cs
+    → IsTrue (are_distinct gs) → ((x : ℕ) → (Contains (take i gs) x → ⊥) → now x ≡ start x)
+    → ((k : ℕ) → k < i → cell_of (get_or cs k Undelegated) ≡ start (get_or gs k 0)) → cell_of c ≡ now (get_or gs i 0)
+    → (k : ℕ) → k < i + 1 → cell_of (get_or (slice_set cs i c) k Undelegated) ≡ start (get_or gs k 0)
+lent-next gs cs i start now c within room distinct kept lent is k less = by (k == i) refl
+  where
+    by : (b : Bool) → (k == i) ≡ b → cell_of (get_or (slice_set cs i c) k Undelegated) ≡ start (get_or gs k 0)
+    by true same =
+        rw (eqb-true k i same)
+        (ap cell_of (get_or-set_same cs i c Undelegated room) ∙ is ∙ kept (get_or gs i 0) (distinct-before gs i within distinct))
+    by false apart =
+        let differ : k ≡ i → ⊥ = λ same. both_ways (eq-eqb k i same) apart in
+        let below : k < i = omega (arith, less, differ) in
+        ap cell_of (get_or-set_other cs i k c Undelegated differ) ∙ lent k below
+
+-- ---- given back
+
+-- cells that are put in at their own granules are put over the start too
+pub put_all-lent : (held : List HeldCell) (start now : ℕ → whole.Cell) → ((x : ℕ) → (Contains (granules_held held) x → ⊥) → now x ≡ start x)
+    → put_all now held ≡ put_all start held
+put_all-lent [] start now kept = λ i x. kept x (Contains-nil x) i
+put_all-lent (h ∷ held) start now kept =
+    put_all-lent held (put start h.granule h.cell) (put now h.granule h.cell) (λ x apart. by x apart (x == h.granule) refl)
+  where
+    by : (x : ℕ) → (Contains (granules_held held) x → ⊥) → (b : Bool) → (x == h.granule) ≡ b
+        → (if b then h.cell else now x) ≡ (if b then h.cell else start x)
+    by x apart true is = refl
+    by x apart false is =
+        kept x (λ has. apart (Contains-other h.granule (granules_held held) x (λ here. both_ways (eq-eqb x h.granule (sym here)) is) has))
+
+agrees-cells_at : (cells : ℕ → whole.Cell) (gs : List ℕ) → Agrees cells (cells_at cells gs)
+agrees-cells_at cells [] = tt
+agrees-cells_at cells (g ∷ gs) = (refl, agrees-cells_at cells gs)
+
+-- cells that others gave way to are all back once those are put in
+pub put_all-given_back : (gs : List ℕ) (start now : ℕ → whole.Cell) → ((x : ℕ) → (Contains gs x → ⊥) → now x ≡ start x)
+    → put_all now (cells_at start gs) ≡ start
+put_all-given_back gs start now kept =
+    put_all-lent (cells_at start gs) start now (subst (λ held. (x : ℕ) → (Contains held x → ⊥) → now x ≡ start x) (sym (granules_held-cells_at start gs)) kept)
+    ∙ put_all-agrees (cells_at start gs) start (agrees-cells_at start gs)

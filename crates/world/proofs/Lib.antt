@@ -1,0 +1,15 @@
+pub mod Listed
+pub mod Views
+pub mod Pairs
+pub mod Lending
+pub mod Locked
+pub mod Reached
+pub mod Moves
+pub mod Ends
+pub mod Follows
+pub mod Calls
+pub mod Taking
+pub mod Returns
+pub mod Opened
+pub mod Lines
+pub mod Commits

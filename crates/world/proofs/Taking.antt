@@ -1,0 +1,159 @@
+-- A CPU that takes or frees a lock, in the fields of a world.
+use Rattle.std.proofs.Common.{◌≡◌, ℕ, ◌<◌, Bool, true, false, ◌==◌, if◌then◌else◌, List, [], ◌∷◌, ◌++◌, ◌+◌, ◌-◌, length, take, get_or, slice_get, arith, Option, Some, None, refl, sym, ap, ◌∙◌, subst, eqb-true}
+use Rattle.std.specs.Prelude.{Contains}
+use Rattle.std.proofs.lemmas.Bool.{false≢true}
+use Rattle.std.proofs.lemmas.Option.{none-some, same_Some, slice_get_within, get_or_from_slice_get, slice_get-get_or}
+use Rattle.std.proofs.lemmas.List.{length-map, take_all, take_more}
+use Rattle.rmm_spec.specs.declared.command.Command.{Command}
+use Rattle.rmm_spec.specs.HistoryText.{History}
+use Rattle.rmm_spec.specs.Call.{call_of}
+use Rattle.rmm_spec.specs.Cell.{Cell, Rec, put, rec_in}
+use Rattle.rmm_spec.specs.Shape.{Side, CpuPlace}
+use Rattle.rmm_spec.specs.Local.{HeldCell}
+use Rattle.rmm_spec.specs.World.{World, Phase, Between, Deciding, Decided, GivenUp, Stopped, Commitment, MayLearn, held_cells, phase_learnt, without_granule}
+use Rattle.rmm_spec.specs.Waits.{Did, Blocked, IsRising, MayFree}
+use Rattle.rmm_spec.specs.Waits as turn
+use Rattle.world_laws.proofs.Members.{granules_held-cells_at}
+use Rattle.command_core.specs.declared.next.Next.{Next}
+use Rattle.command_core.specs.declared.next.Next.TheVariants as next
+use Rattle.command_core.specs.Seen.{cell_in}
+use Rattle.command_core.specs.Settled.{is_settled}
+use Rattle.command_core.specs.Next as plan
+use Rattle.command_core.specs.Plan.{LearnsOwner, IsPlanned, is_ready}
+use Rattle.world.specs.declared.phase.Phase as own
+use Rattle.world.specs.declared.phase.Phase.TheVariants as phase
+use Rattle.world.specs.Cpus.{Views, phase_in, is_deciding, is_decided}
+use Rattle.world.specs.Lent.{cells_at}
+use Rattle.world.specs.Next.{IsNext}
+use Rattle.world.specs.Whole.{world_with}
+use Rattle.world.specs.Kept.{IsKept, IsTurn}
+use Rattle.world.proofs.Moves.{blocked-kept, take-kept, free-kept}
+
+-- ---- what comes next
+
+-- a phase that is not an open call's is none in the definitions
+pub not_deciding : (p : own.Phase) → ((number : ℕ) (command : Command) (learnt : Option ℕ) → p ≡ phase.Deciding number command learnt → ⊥)
+    → (number : ℕ) (command : Command) (learnt : Option ℕ) → phase_in p ≡ Deciding number command learnt → ⊥
+not_deciding (phase.Between n) none number command learnt is = false≢true (ap is_deciding is)
+not_deciding (phase.Deciding n c l) none number command learnt is = none n c l refl
+not_deciding (phase.Decided n c r) none number command learnt is = false≢true (ap is_deciding is)
+not_deciding phase.GivenUp none number command learnt is = false≢true (ap is_deciding is)
+not_deciding phase.Stopped none number command learnt is = false≢true (ap is_deciding is)
+
+-- what is planned on what the world has comes next in it
+pub next-planned : (w : World) (cpu : ℕ) (n : Next) (granules : ℕ) (place : CpuPlace) (held : List HeldCell) (number : ℕ) (command : Command)
+    (learnt : Option ℕ) → w.phase cpu ≡ Deciding number command learnt → granules ≡ w.config.granules → place ≡ w.place cpu → held ≡ held_cells w cpu
+    → n ≡ plan.next granules (call_of command) place learnt held
+    → IsPlanned granules command place learnt held n → is_settled granules (call_of command) place held ≡ is_ready n → IsNext w cpu n
+next-planned w cpu n granules place held number command learnt deciding has_granules at holds is planned settled = record {
+  deciding = record { number = number; command = command; learnt = learnt; is_deciding = deciding };
+  is_next = is ∙ (λ i. plan.next (has_granules i) (call_of command) (at i) learnt (holds i));
+  planned = subst (λ g. IsPlanned g command (w.place cpu) learnt (held_cells w cpu) n) has_granules
+      (subst (λ p. IsPlanned granules command p learnt (held_cells w cpu) n) at (subst (λ h. IsPlanned granules command place learnt h n) holds planned));
+  settled = sym (λ i. is_settled (has_granules i) (call_of command) (at i) (holds i)) ∙ settled;
+}
+
+pub rising-next : (w : World) (cpu granule : ℕ) → IsNext w cpu (next.Take granule) → IsRising w cpu granule
+rising-next w cpu granule n = record { deciding = n.deciding; rising = n.planned }
+
+-- there is room for one more
+pub room-rising : (w : World) (cpu granule : ℕ) → IsRising w cpu granule → length (w.taken cpu) < 6
+room-rising w cpu granule rising =
+    omega (arith, rising.rising.room, ap length (granules_held-cells_at w.cells (w.taken cpu)), length-map (held_cells w cpu) (λ (h : HeldCell). h.granule))
+
+-- a cell that is found among those held is the world's
+found-cell : (cells : ℕ → Cell) (taken : List ℕ) (granule : ℕ) (cell : Cell) → cell_in granule (cells_at cells taken) ≡ Some cell → cells granule ≡ cell
+found-cell cells [] granule cell is = absurd (none-some cell is)
+found-cell cells (lock ∷ taken) granule cell is = by (lock == granule) refl (found-cell cells taken granule cell) is
+  where
+    by : (b : Bool) → (lock == granule) ≡ b → (cell_in granule (cells_at cells taken) ≡ Some cell → cells granule ≡ cell)
+        → (if b then Some (cells lock) else cell_in granule (cells_at cells taken)) ≡ Some cell → cells granule ≡ cell
+    by true same rest here = ap cells (sym (eqb-true lock granule same)) ∙ same_Some (cells lock) cell here
+    by false apart rest here = rest here
+
+pub held-next : (w : World) (cpu granule : ℕ) (learnt : Option ℕ) → IsNext w cpu (next.Free granule learnt) → Contains (w.taken cpu) granule
+held-next w cpu granule None n = subst (λ taken. Contains taken granule) (granules_held-cells_at w.cells (w.taken cpu)) n.planned
+held-next w cpu granule (Some rd) n = subst (λ taken. Contains taken granule) (granules_held-cells_at w.cells (w.taken cpu)) n.planned.is_held
+
+-- what the plan has a CPU learn may be learnt
+learnt-planned : (w : World) (cpu granule : ℕ) (learnt : Option ℕ) (n : IsNext w cpu (next.Free granule learnt))
+    → MayLearn w (Deciding n.deciding.number n.deciding.command n.deciding.learnt) granule learnt
+learnt-planned w cpu granule None n = tt
+learnt-planned w cpu granule (Some rd) n =
+    let owner : LearnsOwner w.config.granules (call_of n.deciding.command) (w.place cpu) (held_cells w cpu) granule rd = n.planned in record {
+      rec = owner.rec;
+      is_enter = owner.is_enter;
+      is_rec = ap rec_in (found-cell w.cells (w.taken cpu) granule (Rec owner.rec) owner.is_rec);
+      is_owner = owner.is_owner;
+      is_lock = owner.is_lock;
+      is_other = owner.is_other;
+    }
+
+pub learnt-next : (w : World) (cpu granule : ℕ) (learnt : Option ℕ) → IsNext w cpu (next.Free granule learnt) → MayLearn w (w.phase cpu) granule learnt
+learnt-next w cpu granule learnt n =
+    subst (λ p. MayLearn w p granule learnt) (sym n.deciding.is_deciding) (learnt-planned w cpu granule learnt n)
+
+pub free-next : (w : World) (cpu granule : ℕ) (learnt : Option ℕ) → IsNext w cpu (next.Free granule learnt) → MayFree w cpu granule (w.phase cpu)
+free-next w cpu granule learnt n = subst (MayFree w cpu granule) (sym n.deciding.is_deciding) tt
+
+-- ---- after a commit
+
+pub no_last : (taken : List ℕ) → 0 < length taken → slice_get taken (length taken - 1) ≡ None → ⊥
+no_last taken some is =
+    none-some (get_or taken (length taken - 1) 0) (sym is ∙ slice_get-get_or taken (length taken - 1) 0 (omega (arith, some)))
+
+-- what stands before the last
+pub last-of : (taken : List ℕ) (last : ℕ) → slice_get taken (length taken - 1) ≡ Some last → (earlier : List ℕ) × (taken ≡ earlier ++ last ∷ [])
+last-of taken last is =
+    let i = length taken - 1 in
+    let within : i < length taken = slice_get_within taken i last is in (
+      take i taken,
+      sym (take_all (i + 1) taken (omega (arith, within))) ∙ take_more taken i last within
+          ∙ ap (λ x. take i taken ++ x ∷ []) (get_or_from_slice_get taken i last last is),
+    )
+
+pub nothing_learnt-decided : (w : World) (p : Phase) (granule : ℕ) → is_decided p ≡ true → MayLearn w p granule None
+nothing_learnt-decided w (Between number) granule is = absurd (false≢true is)
+nothing_learnt-decided w (Deciding number command learnt) granule is = absurd (false≢true is)
+nothing_learnt-decided w (Decided number command given) granule is = tt
+nothing_learnt-decided w GivenUp granule is = absurd (false≢true is)
+nothing_learnt-decided w Stopped granule is = absurd (false≢true is)
+
+pub free-last : (w : World) (cpu granule : ℕ) (p : Phase) (earlier : List ℕ) → w.taken cpu ≡ earlier ++ granule ∷ [] → MayFree w cpu granule p
+free-last w cpu granule (Between number) earlier is = tt
+free-last w cpu granule (Deciding number command learnt) earlier is = tt
+free-last w cpu granule (Decided number command given) earlier is = record { earlier = earlier; is_last = is }
+free-last w cpu granule GivenUp earlier is = tt
+free-last w cpu granule Stopped earlier is = tt
+
+-- ---- turns
+
+module _ (cells : ℕ → Cell) (side : Side) (journal : List Commitment) (history : History) (cpu : ℕ) (old : Views) (holder : ℕ → Option ℕ)
+    (kept : IsKept (world_with cells side old journal history) holder old.waits) where
+  -- the CPU waits, and nothing else changes
+  pub blocked : (new : Views) (granule other : ℕ) → IsRising (world_with cells side old journal history) cpu granule → holder granule ≡ Some other
+      → new ≡ record old { waits = put old.waits cpu (Some granule) }
+      → IsTurn (world_with cells side old journal history) cpu turn.Go (Blocked granule) (world_with cells side new journal history) holder new.waits
+  blocked new granule other rising held is =
+      blocked-kept (world_with cells side old journal history) (world_with cells side new journal history) cpu granule other holder old.waits new.waits kept
+      rising held (ap (λ v. world_with cells side v journal history) is) (ap (λ (v : Views). v.waits) is)
+
+  pub took : (new : Views) (taken : ℕ → Option ℕ) (granule : ℕ) → cpu < history.config.cpus
+      → IsRising (world_with cells side old journal history) cpu granule → holder granule ≡ None → taken ≡ put holder granule (Some cpu)
+      → new ≡ record old { waits = put old.waits cpu None; taken = put old.taken cpu (old.taken cpu ++ granule ∷ []) }
+      → IsTurn (world_with cells side old journal history) cpu turn.Go (Did turn.Take) (world_with cells side new journal history) taken new.waits
+  took new taken granule within rising free held is =
+      take-kept (world_with cells side old journal history) (world_with cells side new journal history) cpu granule holder old.waits taken new.waits kept
+      within rising free (ap (λ v. world_with cells side v journal history) is) held (ap (λ (v : Views). v.waits) is)
+
+  pub freed : (new : Views) (without : ℕ → Option ℕ) (granule : ℕ) (learnt : Option ℕ) → cpu < history.config.cpus → Contains (old.taken cpu) granule
+      → MayLearn (world_with cells side old journal history) (old.phase cpu) granule learnt
+      → MayFree (world_with cells side old journal history) cpu granule (old.phase cpu) → without ≡ put holder granule None
+      → new ≡ record old {
+        waits = put old.waits cpu None;
+        taken = put old.taken cpu (without_granule granule (old.taken cpu));
+        phase = put old.phase cpu (phase_learnt learnt (old.phase cpu));
+      } → IsTurn (world_with cells side old journal history) cpu turn.Go (Did turn.Free) (world_with cells side new journal history) without new.waits
+  freed new without granule learnt within has may free held is =
+      free-kept (world_with cells side old journal history) (world_with cells side new journal history) cpu granule learnt holder old.waits without new.waits
+      kept within has may free (ap (λ v. world_with cells side v journal history) is) held (ap (λ (v : Views). v.waits) is)

@@ -1,0 +1,62 @@
+use Rattle.std.proofs.Common.{◌≡◌, ℕ, IsTrue, refl, sym, ap, ◌∙◌, subst, vec_len}
+use Rattle.std.specs.Prelude.{Contains}
+use Rattle.std.specs.List.{All}
+use Rattle.rmm_spec.specs.Call.{call_of}
+use Rattle.rmm_spec.specs.Local.{Hold, granules_held, put_all, LocalStep}
+use Rattle.rmm_spec.specs.Lookup.{is_granule}
+use Rattle.command_core.specs.Changed.{hold_of}
+use Rattle.command_core.specs.Seen.{are_distinct, place_of}
+use Rattle.command_core.specs.Settled.{is_settled}
+use Rattle.command_core.specs.Sides.{side_of}
+use Rattle.world.specs.Cpus.{views_of}
+use Rattle.world.specs.Granules.{cells_of}
+use Rattle.world.specs.Lent.{lent_cells, cells_at, granules_held-lent}
+use Rattle.world.proofs.Lending.{put_all-given_back, put_all-lent}
+use Rattle.world.proofs.cpus.Cpus.step.Goals as goal
+
+pub lend-lent-requires-clause-distinct : goal.lend-lent-requires-clause-distinct
+lend-lent-requires-clause-distinct c = subst (λ taken. IsTrue (are_distinct taken)) (sym c.taken.ensures.taken) c.requires.distinct
+
+pub lend-lent-requires-clause-granules : goal.lend-lent-requires-clause-granules
+lend-lent-requires-clause-granules c =
+    subst (All (λ pa. IsTrue (is_granule (vec_len c.args.cells.now.list) pa))) (sym c.taken.ensures.taken) c.requires.granules
+
+pub step_on-replied-requires-clause-settled : goal.step_on-replied-requires-clause-settled
+step_on-replied-requires-clause-settled c =
+    let held = c.lend-lent.ensures.lent ∙ ap (cells_at (cells_of c.args.cells.now)) c.taken.ensures.taken in
+    (λ i. is_settled c.args.config.now.granules (call_of c.args.command.now) (c.place.ensures i) (held i)) ∙ c.requires.settled
+
+pub give_back-requires : goal.give_back-requires
+give_back-requires c =
+    let taken = c.taken.ensures.taken in
+    let same = sym taken ∙ sym c.lend-lent.ensures.granules ∙ sym (granules_held-lent c.lend-lent.result) ∙ sym c.step_on-replied.ensures.same
+    ∙ granules_held-lent c.step_on-replied.new.held in
+    subst (All (λ pa. IsTrue (is_granule (vec_len c.lend-lent.new.cells.list) pa))) same
+    (subst (λ size. All (λ pa. IsTrue (is_granule size pa)) ((views_of c.args.self.now).taken c.args.cpu)) (sym c.lend-lent.ensures.size) c.requires.granules)
+
+pub returns-clause-ok : goal.returns-clause-ok
+returns-clause-ok c =
+    let cells = cells_of c.args.cells.now in
+    let side = side_of c.args.side.now in
+    let taken = c.taken.ensures.taken in
+    let lent = c.step_on-replied.new.held in
+    let held : Hold = hold_of (lent_cells lent) (side_of c.step_on-replied.new.side) (place_of c.step_on-replied.new.place) in
+    let start : hold_of (lent_cells c.lend-lent.result) side (place_of c.place.result.now)
+    ≡ hold_of (cells_at cells ((views_of c.args.self.now).taken c.args.cpu)) side ((views_of c.args.self.now).place c.args.cpu) =
+    λ i. hold_of ((c.lend-lent.ensures.lent ∙ ap (cells_at cells) taken) i) side (c.place.ensures i) in
+    let same = c.step_on-replied.ensures.same ∙ granules_held-lent c.lend-lent.result ∙ c.lend-lent.ensures.granules in
+    let kept : (x : ℕ) → (Contains (granules_held (lent_cells lent)) x → ⊥) → cells_of c.lend-lent.new.cells x ≡ cells x =
+    λ x apart. c.lend-lent.ensures.kept x (λ has. apart (subst (λ locks. Contains locks x) (sym same) has)) in
+    record {
+      held = held;
+      step = subst (λ (h : Hold). LocalStep c.args.config.now.granules c.args.cpu c.args.command.now c.in-Ok.reply h held) start c.in-Ok.ensures.ok;
+      has_cells = c.give_back.ensures.cells ∙ put_all-lent (lent_cells lent) cells (cells_of c.lend-lent.new.cells) kept;
+      has_side = refl;
+      has_views = c.set_place.ensures.views;
+    }
+
+pub returns-in_default-clause-err_cells : goal.returns-in_default-clause-err_cells
+returns-in_default-clause-err_cells c =
+    c.give_back.ensures.cells
+    ∙ ap (put_all (cells_of c.lend-lent.new.cells)) (ap (λ (h : Hold). h.cells) c.in_default.ensures.err ∙ c.lend-lent.ensures.lent)
+    ∙ put_all-given_back c.taken.result.now (cells_of c.args.cells.now) (cells_of c.lend-lent.new.cells) c.lend-lent.ensures.kept

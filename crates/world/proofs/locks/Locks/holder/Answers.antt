@@ -1,0 +1,13 @@
+use Rattle.std.proofs.Common.{None, arith}
+use Rattle.world.specs.Granules.{holder_of}
+use Rattle.world.proofs.Listed.{granule-within, item_at-granule}
+use Rattle.world.proofs.locks.Locks.holder.Goals as goal
+
+pub index-requires : goal.index-requires
+index-requires c = omega (arith, c.place.ensures, granule-within c.args.self.now.holders.len c.args.pa c.requires)
+
+pub returns : goal.returns
+unfolding holder_of
+returns c =
+    let holders = c.args.self.now.holders in
+    item_at-granule holders.items None c.index.result.now holders.len c.args.pa c.place.result holders.ok.0 c.requires c.place.ensures c.index.ensures

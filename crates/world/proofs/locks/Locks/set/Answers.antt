@@ -1,0 +1,13 @@
+use Rattle.std.proofs.Common.{None, arith}
+use Rattle.world.specs.Granules.{holder_of}
+use Rattle.world.proofs.Listed.{granule-within, item_at-set}
+use Rattle.world.proofs.locks.Locks.set.Goals as goal
+
+pub index_mut-requires : goal.index_mut-requires
+index_mut-requires c = omega (arith, c.place.ensures, granule-within c.args.self.now.holders.len c.args.pa c.requires)
+
+pub returns-clause-holders : goal.returns-clause-holders
+unfolding holder_of
+returns-clause-holders c =
+    let holders = c.args.self.now.holders in
+    item_at-set (λ holder. holder) holders.items None c.args.holder holders.len c.args.pa c.place.result holders.ok.0 c.requires c.place.ensures

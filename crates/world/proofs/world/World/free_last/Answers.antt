@@ -1,0 +1,33 @@
+use Rattle.std.proofs.Common.{◌≡◌, ◌<◌, ◌-◌, Some, length, slice_get, List, ℕ, sym, ap, ◌∙◌, subst, arith}
+use Rattle.std.specs.Prelude.{option_copied}
+use Rattle.world_laws.proofs.Members.{Contains-from_slice_get}
+use Rattle.world.specs.Whole.{world_from}
+use Rattle.world.specs.World.{world_of}
+use Rattle.world.proofs.Taking.{no_last, last-of, nothing_learnt-decided, free-last}
+use Rattle.world.proofs.world.World.free_last.Goals as goal
+
+pub taken-requires : goal.taken-requires
+unfolding world_of world_from
+taken-requires c = omega (arith, c.requires.cpu, c.args.self.now.sized.has_cpus)
+
+pub unreachable-requires : goal.unreachable-requires
+unfolding world_of world_from
+unreachable-requires c =
+    no_last c.taken.result.now (subst (λ (xs : List ℕ). 0 < length xs) (sym c.taken.ensures.taken) c.requires.held)
+    (sym c.last.ensures.value ∙ ap option_copied c.in_default.is)
+
+pub free_lock-requires : goal.free_lock-requires
+unfolding world_of world_from
+free_lock-requires c =
+    let w = world_of c.args.self.now in
+    let cpu = c.args.cpu in
+    let last = c.in-Some.last.now in
+    let is : slice_get (w.taken cpu) (length (w.taken cpu) - 1) ≡ Some last =
+    subst (λ (xs : List ℕ). slice_get xs (length xs - 1) ≡ Some last) c.taken.ensures.taken (sym c.in-Some.ensures.value) in
+    let parts = last-of (w.taken cpu) last is in
+    record {
+      cpu = c.requires.cpu;
+      held = Contains-from_slice_get (w.taken cpu) (length (w.taken cpu) - 1) last is;
+      learnt = nothing_learnt-decided w (w.phase cpu) last c.requires.decided;
+      freed = free-last w cpu last (w.phase cpu) parts.0 parts.1;
+    }

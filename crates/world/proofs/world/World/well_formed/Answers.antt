@@ -1,0 +1,34 @@
+use Rattle.std.proofs.Common.{sym, ap, ◌∙◌}
+use Rattle.std.proofs.Math.Logic.{∥∥₁_map, ∥∥₁_elim}
+use Rattle.rmm_spec.specs.World.{opening_world}
+use Rattle.world_laws.proofs.Turned.{moves_of_turns}
+use Rattle.world.specs.Cpus.{views_of}
+use Rattle.world.specs.Kept.{IsReached}
+use Rattle.world.specs.World.{world_of, waits_of}
+use Rattle.world.proofs.world.World.well_formed.Goals as goal
+
+pub returns-clause-certified : goal.returns-clause-certified
+unfolding world_of
+returns-clause-certified c =
+    let s = c.args.self.now in
+    let config = (world_of s).config in
+    ∥∥₁_map s.kept.reached (λ (r : IsReached config (world_of s) (views_of s.cpus).waits).
+    let moves = moves_of_turns (opening_world config r.programs) r.turns (world_of s) r.run in
+    c.every_run_is_certified.ensures.certified config r.programs moves.0 (world_of s) moves.1)
+
+pub returns-clause-acyclic : goal.returns-clause-acyclic
+unfolding world_of
+returns-clause-acyclic c =
+    let s = c.args.self.now in
+    let config = (world_of s).config in
+    λ cpu others chain. ∥∥₁_elim s.kept.reached (λ x y. absurd x) (λ (r : IsReached config (world_of s) (views_of s.cpus).waits).
+    c.no_wait_cycle.ensures.turned config r.programs r.turns (world_of s) r.run cpu others chain)
+
+pub returns-clause-waiting : goal.returns-clause-waiting
+unfolding world_of waits_of
+returns-clause-waiting c =
+    let s = c.args.self.now in
+    let config = (world_of s).config in
+    λ cpu granule other is has. ∥∥₁_map s.kept.reached (λ (r : IsReached config (world_of s) (views_of s.cpus).waits).
+    c.no_wait_cycle.ensures.waiting config r.programs r.turns (world_of s) r.run cpu granule other
+    (sym (ap (λ waits. waits cpu) r.is_waiting) ∙ is) has)

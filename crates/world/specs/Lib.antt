@@ -1,0 +1,10 @@
+pub mod Granules
+pub mod Cpus
+pub mod Lent
+pub mod Told
+pub mod Whole
+pub mod Kept
+pub mod World
+pub mod Next
+pub mod Opening
+pub mod Stepped

@@ -1,0 +1,63 @@
+//! A CPU commits its open call.
+
+ghost use Rattle.std.specs.Prelude.{◌≡◌};
+ghost use Rattle.world.specs.Whole.{world_from};
+
+use crate::committed::Committed;
+use crate::cpus::{copied, copied_reply};
+use crate::phase::Phase;
+use crate::turned::{Kind, Turned};
+use crate::world::World;
+use std::alloc::{AllocError, Global};
+
+impl World {
+    ghost use Rattle.std.specs.Prelude.{◌≡◌, ◌<◌, IfOk, OnErr};
+    ghost use Rattle.rmm_spec.specs.Cell.{put};
+    ghost use Rattle.rmm_spec.specs.Waits.{Turns, awaited};
+    ghost use Rattle.rmm_spec.specs.Waits as waits;
+    ghost use Rattle.world.specs.Stepped.{CanCommit};
+    ghost use Rattle.world.specs.Told.{report_of};
+    ghost use Rattle.world.specs.World.{world_of, waits_of};
+
+    // Commits a CPU's open call, which what it holds settles. Where memory is refused, nothing changes.
+    pub(crate) fn commit(&mut self, alloc: Global, cpu: u8) -> Result<Turned, AllocError>
+        requires cpu { cpu < (world_of self.old).config.cpus }
+        requires can { CanCommit (world_of self.old) cpu }
+        ensures turned { IfOk result (λ turned. Turns (world_of self.old) cpu waits.Go (report_of turned) (world_of self.new)) }
+        ensures waits { IfOk result (λ turned. waits_of self.new ≡ put (waits_of self.old) cpu (awaited (report_of turned))) }
+        ensures err { OnErr result (world_of self.new ≡ world_of self.old) }
+        ensures err_waits { OnErr result (waits_of self.new ≡ waits_of self.old) }
+    {
+        let Phase::Deciding {
+            number,
+            command,
+            ..
+        } = self.cpus.phase(cpu)
+        else {
+            unreachable!()
+        };
+        let (number, command) = (*number, copied(command));
+        let Ok(()) = self.journal.reserve(1) else {
+            return Err(AllocError);
+        };
+        let config = self.history.config();
+        let (cells, side) = (&mut self.cells, &mut self.side);
+        let Ok(reply) = self.cpus.step(alloc, &config, cpu, &command, cells, side) else {
+            return Err(AllocError);
+        };
+        self.journal.push_reserved(Committed {
+            cpu,
+            number,
+            command: copied(&command),
+            reply: copied_reply(&reply),
+        });
+        self.cpus.set_waits(cpu, None);
+        let phase = Phase::Decided {
+            number,
+            command,
+            reply,
+        };
+        self.cpus.set_phase(cpu, phase);
+        Ok(Turned::Did(Kind::Commit))
+    }
+}

@@ -1,0 +1,31 @@
+//! The world of turns: CPUs that carry out their programs over shared granules, one turn at a time, as a value.
+//! It promises that each turn is a step of the definitions, `specs/Waits.antt` of `rmm_spec`, and that a refused growth
+//! changes nothing; so every world that turns lead to is certified, and no CPUs wait in a circle.
+//! Nothing here waits, and a turn's cost grows neither with the run nor with the machine. Addresses are in bytes.
+//! The program's scenarios are to depend on it.
+#![tactic(auto)]
+
+mod calling;
+mod cells;
+mod committed;
+mod committing;
+mod cpus;
+mod lent;
+mod locking;
+mod locks;
+mod opening;
+mod phase;
+mod programs;
+mod returning;
+mod stepping;
+mod telling;
+#[cfg(test)]
+mod tests;
+mod turned;
+mod turning;
+mod world;
+
+pub use programs::can_open;
+pub use turned::{Kind, Turned, Will};
+pub use world::World;
+pub use world_laws::{every_run_is_certified, no_wait_cycle, stuck_behind_stopped};

@@ -1,0 +1,74 @@
+//! What a world tells of its run, and what holds of every world.
+
+ghost use Rattle.std.specs.Prelude.{◌≡◌, ℕ, ◌<◌, length, IfOk, OnErr, Some, Contains};
+ghost use Rattle.rmm_spec.specs.Linearization.{IsKnown};
+ghost use Rattle.rmm_spec.specs.World.{IsCertified, history_of, certificate_of, line_for};
+ghost use Rattle.rmm_spec.specs.Waits.{HasNoCircle, WaitsAt};
+ghost use Rattle.world.specs.World.{world_of, waits_of};
+
+use crate::committed::Committed;
+use crate::cpus::copied_reply;
+use crate::world::World;
+use certificate::Certificate;
+use history::History;
+use rmm_spec::Line;
+use std::alloc::{AllocError, Global};
+use world_laws::{every_run_is_certified, no_wait_cycle};
+
+impl World {
+    /// All calls and returns so far.
+    #[tactic(auto, unfolding(crate::specs::World::world_of, crate::specs::Whole::world_from))]
+    pub fn history(&self, alloc: Global) -> Result<History, AllocError>
+        ensures { IfOk result (λ history. history.recorded ≡ history_of (world_of self.now)) }
+    {
+        self.history.copy(alloc)
+    }
+
+    /// The journal so far: a kept line for a commit whose return is recorded, and an unfinished one with its reply for any other.
+    /// Without commits no memory is taken.
+    #[tactic(auto, unfolding(crate::specs::World::world_of, crate::specs::Whole::world_from))]
+    pub fn certificate(&self, alloc: Global) -> Result<Certificate, AllocError>
+        ensures lines { IfOk result (λ certificate. certificate.lines ≡ certificate_of (world_of self.now)) }
+        ensures refused { OnErr result (0 < length (world_of self.now).journal) }
+    {
+        self.history.well_formed();
+        let mut lines = Certificate::new(alloc);
+        for commit in &self.journal {
+            lines.push(line_for(&self.history, commit))?;
+        }
+        Ok(lines)
+    }
+
+    /// What holds of every value: its journal is a linearization of its history that leads to the cells as they are, no CPUs
+    /// wait in a circle, and a CPU whose last turn was blocked still waits for whoever holds that lock.
+    pub fn well_formed(&self)
+        ensures certified { ∥ IsCertified (world_of self.now) ∥₁ }
+        ensures acyclic { HasNoCircle (world_of self.now) }
+        ensures waiting { (cpu granule other : ℕ) → waits_of self.now cpu ≡ Some granule
+            → Contains ((world_of self.now).taken other) granule → ∥ WaitsAt (world_of self.now) cpu granule other ∥₁ }
+    {
+        every_run_is_certified();
+        no_wait_cycle();
+        let _kept = &self.history;
+    }
+}
+
+// The line of a commit. Its call and its return are looked up by their index.
+fn line_for(history: &History, commit: &Committed) -> Line
+    requires { ¬ ¬ IsKnown history.now.recorded.events commit.now.cpu commit.now.number }
+    ensures { result ≡ line_for history.now.recorded.events commit.now }
+{
+    let cpu = commit.cpu;
+    let number = commit.number;
+    let Some(places) = history.places_of(cpu, number) else {
+        unreachable!()
+    };
+    match places.returned {
+        Some(_) => Line::Keep { cpu, number },
+        None => Line::Unfinished {
+            cpu,
+            number,
+            reply: copied_reply(&commit.reply),
+        },
+    }
+}

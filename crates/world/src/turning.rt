@@ -1,0 +1,88 @@
+//! A CPU's turn.
+
+ghost use Rattle.world.specs.Whole.{world_from};
+
+use crate::cpus::copied_reply;
+use crate::phase::Phase;
+use crate::turned::{Turned, Will};
+use crate::world::World;
+use command_core::Next;
+use std::alloc::{AllocError, Global};
+
+impl World {
+    ghost use Rattle.std.specs.Prelude.{◌≡◌, ◌<◌, IfOk, OnErr};
+    ghost use Rattle.rmm_spec.specs.Cell.{put};
+    ghost use Rattle.rmm_spec.specs.World.{IsDeciding, IsGoing};
+    ghost use Rattle.rmm_spec.specs.Waits.{Turns, awaited};
+    ghost use Rattle.rmm_spec.specs.Waits as waits;
+    ghost use Rattle.world.specs.Told.{will_of, report_of};
+    ghost use Rattle.world.specs.World.{world_of, waits_of};
+
+    /// One turn of a CPU, which does as it is told and reports that. Where memory is refused nothing changed, and turns go on.
+    pub fn turn(&mut self, alloc: Global, cpu: u8, will: Will) -> Result<Turned, AllocError>
+        requires { cpu < (world_of self.old).config.cpus }
+        ensures turned { IfOk result (λ turned. Turns (world_of self.old) cpu (will_of will) (report_of turned) (world_of self.new)) }
+        ensures waits { IfOk result (λ turned. waits_of self.new ≡ put (waits_of self.old) cpu (awaited (report_of turned))) }
+        ensures err { OnErr result (world_of self.new ≡ world_of self.old) }
+        ensures err_waits { OnErr result (waits_of self.new ≡ waits_of self.old) }
+    {
+        match will {
+            Will::Go => self.go(alloc, cpu),
+            Will::GiveUp => Ok(self.give_up(cpu)),
+            Will::Stop => Ok(self.stop(cpu)),
+        }
+    }
+
+    // Does the next step of a CPU.
+    fn go(&mut self, alloc: Global, cpu: u8) -> Result<Turned, AllocError>
+        requires { cpu < (world_of self.old).config.cpus }
+        ensures turned { IfOk result (λ turned. Turns (world_of self.old) cpu waits.Go (report_of turned) (world_of self.new)) }
+        ensures waits { IfOk result (λ turned. waits_of self.new ≡ put (waits_of self.old) cpu (awaited (report_of turned))) }
+        ensures err { OnErr result (world_of self.new ≡ world_of self.old) }
+        ensures err_waits { OnErr result (waits_of self.new ≡ waits_of self.old) }
+    {
+        match self.cpus.phase(cpu) {
+            Phase::Between { number } => {
+                let number = *number;
+                self.call(cpu, number)
+            }
+            Phase::Deciding { .. } => self.go_on(alloc, cpu),
+            Phase::Decided { number, reply, .. } => {
+                if !self.cpus.taken(cpu).is_empty() {
+                    return Ok(self.free_last(cpu));
+                }
+                let number = *number;
+                let reply = copied_reply(reply);
+                self.return_reply(cpu, number, reply)
+            }
+            Phase::GivenUp | Phase::Stopped => Ok(self.rest(cpu)),
+        }
+    }
+
+    // Takes or frees what the plan of an open call says, or commits it.
+    fn go_on(&mut self, alloc: Global, cpu: u8) -> Result<Turned, AllocError>
+        requires cpu { cpu < (world_of self.old).config.cpus }
+        requires deciding { IsDeciding (world_of self.old) cpu }
+        ensures turned { IfOk result (λ turned. Turns (world_of self.old) cpu waits.Go (report_of turned) (world_of self.new)) }
+        ensures waits { IfOk result (λ turned. waits_of self.new ≡ put (waits_of self.old) cpu (awaited (report_of turned))) }
+        ensures err { OnErr result (world_of self.new ≡ world_of self.old) }
+        ensures err_waits { OnErr result (waits_of self.new ≡ waits_of self.old) }
+    {
+        match self.next_of(cpu) {
+            Next::Take(pa) => Ok(self.take(cpu, pa)),
+            Next::Free(pa, learnt) => Ok(self.free(cpu, pa, learnt)),
+            Next::Ready => self.commit(alloc, cpu),
+        }
+    }
+
+    // A CPU that has ended does nothing.
+    fn rest(&mut self, cpu: u8) -> Turned
+        requires cpu { cpu < (world_of self.old).config.cpus }
+        requires ended { IsGoing ((world_of self.old).phase cpu) → ⊥ }
+        ensures turned { Turns (world_of self.old) cpu waits.Go (report_of result) (world_of self.new) }
+        ensures waits { waits_of self.new ≡ put (waits_of self.old) cpu (awaited (report_of result)) }
+    {
+        self.cpus.set_waits(cpu, None);
+        Turned::Idle
+    }
+}

@@ -1,0 +1,91 @@
+//! A world.
+
+ghost use Rattle.std.specs.Prelude.{◌≡◌, ◌<◌, vec_len};
+ghost use Rattle.rmm_spec.specs.Cell.{put};
+ghost use Rattle.rmm_spec.specs.Waits.{Turns, awaited};
+ghost use Rattle.rmm_spec.specs.Waits as waits;
+ghost use Rattle.world.specs.Granules.{holder_of};
+ghost use Rattle.world.specs.Cpus.{views_of};
+ghost use Rattle.world.specs.Kept.{IsKept};
+ghost use Rattle.world.specs.Whole.{world_from, IsSized};
+
+use crate::cells::Cells;
+use crate::committed::Committed;
+use crate::cpus::Cpus;
+use crate::locks::Locks;
+use crate::phase::Phase;
+use crate::turned::{Kind, Turned};
+use command_core::Side;
+use granule_state::{Config, Pa};
+use history::History;
+
+/// A machine's granules under their locks, its CPUs with their programs, and what is recorded of their run.
+#[derive(Debug, Drop)]
+pub struct World {
+    pub(crate) cells: Cells,
+    pub(crate) locks: Locks,
+    pub(crate) side: Side,
+    pub(crate) cpus: Cpus,
+    pub(crate) journal: Vec<Committed>,
+    pub(crate) history: History,
+    ghost sized: { IsSized history.recorded.config (vec_len cells.list) (vec_len locks.holders) (vec_len cpus.list) },
+    ghost kept: { IsKept (world_from cells side cpus journal.items history.recorded) (holder_of locks) (views_of cpus).waits },
+}
+
+impl World {
+    ghost use Rattle.std.specs.Prelude.{◌≡◌, ◌<◌};
+    ghost use Rattle.rmm_spec.specs.Cell.{put};
+    ghost use Rattle.rmm_spec.specs.Waits.{Turns, awaited};
+    ghost use Rattle.rmm_spec.specs.Waits as waits;
+    ghost use Rattle.world.specs.Told.{report_of};
+    ghost use Rattle.world.specs.World.{world_of, waits_of};
+
+    /// The machine's size.
+    #[tactic(auto, unfolding(crate::specs::World::world_of, crate::specs::Whole::world_from))]
+    pub fn config(&self) -> Config
+        ensures { result ≡ (world_of self.now).config }
+    {
+        self.history.config()
+    }
+
+    /// What a CPU waits for: the granule that its last turn reported, where it was blocked.
+    #[tactic(auto, unfolding(crate::specs::World::waits_of))]
+    pub fn waits(&self, cpu: u8) -> Option<Pa>
+        requires { cpu < (world_of self.now).config.cpus }
+        ensures { result ≡ waits_of self.now cpu }
+    {
+        self.cpus.waits(cpu)
+    }
+
+    // Ends a CPU where it stands, with its locks.
+    pub(crate) fn stop(&mut self, cpu: u8) -> Turned
+        requires { cpu < (world_of self.old).config.cpus }
+        ensures turned { Turns (world_of self.old) cpu waits.Stop (report_of result) (world_of self.new) }
+        ensures waits { waits_of self.new ≡ put (waits_of self.old) cpu (awaited (report_of result)) }
+    {
+        let is_going = self.cpus.is_going(cpu);
+        self.cpus.set_waits(cpu, None);
+        if !is_going {
+            return Turned::Idle;
+        }
+        self.cpus.set_phase(cpu, Phase::Stopped);
+        Turned::Did(Kind::Stop)
+    }
+
+    // Gives up an open call that isn't committed, and frees what the CPU holds.
+    pub(crate) fn give_up(&mut self, cpu: u8) -> Turned
+        requires { cpu < (world_of self.old).config.cpus }
+        ensures turned { Turns (world_of self.old) cpu waits.GiveUp (report_of result) (world_of self.new) }
+        ensures waits { waits_of self.new ≡ put (waits_of self.old) cpu (awaited (report_of result)) }
+    {
+        let is_deciding = self.cpus.is_deciding(cpu);
+        self.cpus.set_waits(cpu, None);
+        if !is_deciding {
+            return Turned::Idle;
+        }
+        self.locks.free_all(self.cpus.taken(cpu));
+        self.cpus.clear(cpu);
+        self.cpus.set_phase(cpu, Phase::GivenUp);
+        Turned::Did(Kind::GiveUp)
+    }
+}
