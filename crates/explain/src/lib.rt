@@ -2,7 +2,7 @@
 //! It promises that the verdict which is explained is the one that `Judges` names of the two texts.
 //! The reply that is called specified is the machine's outcome in the state that the lines before the step lead to.
 //! A report is text for people; its first line is the verdict's, and it is appended whole or not at all.
-//! Nothing depends on it yet; the program `rmmexplain` will.
+//! The program `rmmexplain` depends on it.
 #![tactic(auto)]
 
 mod call_text;
@@ -25,3 +25,6 @@ pub use explaining::explain;
 pub use explanation::{BadLine, Cause, Explanation, Refusal, Summary};
 pub use named_call::NamedCall;
 pub use reporting::report;
+
+#[cfg(test)]
+mod tests;
