@@ -38,11 +38,10 @@ pub use change_room::Room;
 pub use cpu_place::CpuPlace;
 pub use deciding::decide;
 pub use held::Held;
-pub use laws::{answers_are_local, settled_commands_are_ready, tested_takes_rise};
-pub use next::Next;
 pub use laws::{
     answers_are_local, applied_decisions_are_local, settled_commands_are_ready, tested_takes_rise,
 };
+pub use next::Next;
 pub use plain_held::PlainHeld;
 pub use planning::next_lock;
 pub use rmm_spec::Change;
