@@ -7,6 +7,7 @@
 
 mod call_text;
 mod cause;
+mod changed;
 mod condition;
 mod condition_text;
 mod earlier;
@@ -15,11 +16,13 @@ mod explanation;
 mod explanation_text;
 mod failing;
 mod named_call;
+mod named_granules;
 mod reply_text;
 mod reporting;
 mod summary_text;
 mod word_fault;
 
+pub use changed::EarlierStep;
 pub use condition::{Condition, EntryKind, EntryRead, WordFault};
 pub use explaining::explain;
 pub use explanation::{BadLine, Cause, Explanation, Refusal, Summary};

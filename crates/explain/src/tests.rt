@@ -11,6 +11,12 @@ const BOTH: &str = "rmh1 4 2\nc 0 0 c4000151 1000\nc 1 0 c4000151 1000\nr 0 0 ok
 
 const IN_TURN: &str = "rmh1 4 2\nc 0 0 c4000151 1000\nr 0 0 ok\nc 1 0 c4000151 2000\nr 1 0 ok\n";
 
+const TWICE: &str = "rmh1 4 2\nc 0 0 c4000151 1000\nr 0 0 ok\nc 0 1 c4000151 2000\nr 0 1 ok\n\
+     c 1 0 c4000151 1000\nr 1 0 ok\n";
+
+const RIPAS: &str = "rmh1 4 1\nc 0 0 c4000151 1000\nr 0 0 ok\nc 0 1 c4000151 2000\nr 0 1 ok\n\
+     c 0 2 c4000158 1000 2000 27 1 1 0\nr 0 2 ok\nc 0 3 c4000168 1000 0 80000000\nr 0 3 ok 20000000\n";
+
 const UNFINISHED: &str = "rmh1 4 2\nc 0 0 c4000151 1000\nc 1 0 c4000152 1000\nr 1 0 ok\n";
 
 fn report_of(alloc: Global, history: &str, certificate: &str) -> Result<String, Fail> {
@@ -37,8 +43,48 @@ fn one_delegated_granule(rt: HostRuntime) -> Result<(), Fail> {
         &rt,
         ONE,
         "k 0 0\n",
-        "yes 1\ncalls in the order: 1\nCPUs: 1\n\
+        "yes 1\ncalls: 1, of them 1 in the order\nCPUs: 1\n\
          granules at the end: 4, of them 3 UNDELEGATED and 1 DELEGATED\n",
+    )
+}
+
+#[test]
+fn unfinished_call_left_out(rt: HostRuntime) -> Result<(), Fail> {
+    expect(
+        &rt,
+        "rmh1 4 2\nc 0 0 c4000151 1000\nc 1 0 c4000151 2000\nr 1 0 ok\n",
+        "k 1 0\n",
+        "yes 1\ncalls: 2, of them 1 in the order\nCPUs: 2\n\
+         granules at the end: 4, of them 3 UNDELEGATED and 1 DELEGATED\n",
+    )
+}
+
+#[test]
+fn delegated_twice(rt: HostRuntime) -> Result<(), Fail> {
+    expect(
+        &rt,
+        TWICE,
+        "k 0 0\nk 0 1\nk 1 0\n",
+        "no 3 reply\nstep 3 names call 0 of CPU 1: GRANULE_DELEGATE g=1000\n    \
+         called on line 6, returned on line 7: ok\n\
+         claimed: ok\nspecified: err 1 0 (RMI_ERROR_INPUT)\n\
+         why: 1000 is DELEGATED, and has to be UNDELEGATED\n\
+         since step 1, which names call 0 of CPU 0: GRANULE_DELEGATE g=1000\n    \
+         called on line 2, returned on line 3: ok\n",
+    )
+}
+
+#[test]
+fn end_that_no_entry_has(rt: HostRuntime) -> Result<(), Fail> {
+    expect(
+        &rt,
+        RIPAS,
+        "k 0 0\nk 0 1\nk 0 2\nk 0 3\n",
+        "no 4 reply\nstep 4 names call 3 of CPU 0: RTT_INIT_RIPAS rd=1000 base=0 top=80000000\n    \
+         called on line 8, returned on line 9: ok 20000000\n\
+         claimed: ok 20000000\n\
+         specified: ok 40000000, or a greater out_top in steps of 40000000 up to 80000000\n\
+         why: every condition of the command holds\n",
     )
 }
 

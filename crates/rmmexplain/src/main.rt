@@ -44,7 +44,7 @@ fn main(rt: HostRuntime) -> ExitCode {
     ExitCode::from(run(&rt))
 }
 
-// The exit status. Where a fault's line can't be written, the status alone reports it.
+// The exit status, at most 3. Where a fault's line can't be written, the status alone reports it.
 fn run<R: Env + Files + Print + Eprint + AllocGlobal>(rt: &R) -> u8 {
     match explain_files(rt) {
         Ok(status) => status,
