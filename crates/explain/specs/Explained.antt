@@ -1,12 +1,13 @@
 -- What an explanation says of two texts.
-use Rattle.std.specs.Prelude.{◌≡◌, ℕ, ◌+◌, ◌<◌, ◌++◌, List, [], take, slice_get, Some}
+use Rattle.std.specs.Prelude.{◌≡◌, ◌⊎◌, ℕ, ◌+◌, ◌-◌, ◌<◌, List, [], ◌∷◌, ◌++◌, length, take, slice_get, Some, IfSome}
+use Rattle.std.specs.List.{filter}
 use Rattle.rmm_spec.specs.declared.line.Line.{Line}
 use Rattle.rmm_spec.specs.declared.verdict.Reason.{Reason}
 use Rattle.rmm_spec.specs.declared.verdict.Reason.TheVariants as reason
 use Rattle.rmm_spec.specs.declared.verdict.Verdict.{Verdict}
 use Rattle.rmm_spec.specs.declared.verdict.Verdict.TheVariants as verdict
 use Rattle.rmm_spec.specs.Call.{call_of}
-use Rattle.rmm_spec.specs.Text.{HasNoNewline}
+use Rattle.rmm_spec.specs.Text.{HasNoNewline, first_lines}
 use Rattle.rmm_spec.specs.HistoryText.{History, IsHistoryText}
 use Rattle.rmm_spec.specs.CertificateText.{IsCertificateText}
 use Rattle.rmm_spec.specs.State.{State}
@@ -14,13 +15,15 @@ use Rattle.rmm_spec.specs.Step.{outcome}
 use Rattle.rmm_spec.specs.Linearization.{ReturnsBefore, IsReplyOf}
 use Rattle.rmm_spec.specs.FirstFault.{Passes}
 use Rattle.spec_machine.specs.Report.{AddsOwners}
+use Rattle.explain.specs.declared.changed.EarlierStep.{EarlierStep}
 use Rattle.explain.specs.declared.explanation.Cause.{Cause}
 use Rattle.explain.specs.declared.explanation.Cause.TheVariants as cause
 use Rattle.explain.specs.declared.explanation.Explanation.{Explanation}
 use Rattle.explain.specs.declared.explanation.Explanation.TheVariants as explanation
 use Rattle.explain.specs.declared.explanation.Refusal.{Refusal}
 use Rattle.explain.specs.declared.explanation.Summary.{Summary}
-use Rattle.explain.specs.Told.{IsTold, NamesAt}
+use Rattle.explain.specs.Failing.{IsFailing}
+use Rattle.explain.specs.Told.{IsTold, NamesAt, is_call}
 
 -- ---- the verdict
 
@@ -40,6 +43,11 @@ verdict_of (explanation.No step cause) = verdict.No step (reason_of cause)
 
 -- ---- what stands behind it
 
+-- the line of an earlier step names the call
+abbrev pub IsEarlier : History → List Line → ℕ → EarlierStep → Type 0
+IsEarlier history lines step earlier =
+    NamesAt lines earlier.step earlier.call.cpu earlier.call.number × IsTold history.events earlier.call × (earlier.step < step)
+
 -- The line claims the reply of the call, and the specified answer is the machine's in the state that the lines before lead to.
 pub record IsRefusal (history : History) (lines : List Line) (step : ℕ) (refusal : Refusal) : Type 0 where
   pub index : ℕ
@@ -50,6 +58,8 @@ pub record IsRefusal (history : History) (lines : List Line) (step : ℕ) (refus
   pub old : State
   pub before : Passes history (take index lines) old
   pub specifies : refusal.specified ≡ outcome old refusal.call.cpu (call_of refusal.call.call.command)
+  pub fails : IsFailing old (call_of refusal.call.call.command) refusal.condition
+  pub changed : IfSome refusal.changed (IsEarlier history lines step)
 
 -- of the line that fails, and of the calls that it is about
 abbrev pub IsCause : Cause → History → List Line → ℕ → Type 0
@@ -67,6 +77,7 @@ IsCause (cause.Missing call) history lines step = IsTold history.events call
 
 -- the machine's CPUs, and the owners in the state to which all lines lead
 pub record IsSummary (history : History) (lines : List Line) (summary : Summary) : Type 0 where
+  pub calls : summary.calls ≡ length (filter is_call history.events)
   pub cpus : summary.cpus ≡ history.config.cpus
   pub last : State
   pub all : Passes history lines last
@@ -80,15 +91,21 @@ pub record Explains (history_bytes certificate_bytes : List ℕ) (Says : History
   pub is_certificate : IsCertificateText certificate_bytes lines
   pub says : Says history lines
 
--- the bytes are a line of the text
-pub record IsLineIn (text bytes : List ℕ) : Type 0 where
-  pub before : List ℕ
+-- the bytes are the first line of the text, without its newline
+pub record IsFirstLine (text bytes : List ℕ) : Type 0 where
   pub after : List ℕ
-  pub is_text : text ≡ before ++ (bytes ++ after)
+  pub is_text : text ≡ bytes ++ after
+  pub ends : (after ≡ []) ⊎ ((more : List ℕ) × (after ≡ 10 ∷ more))
   pub no_newline : HasNoNewline bytes
 
+-- the bytes are that line of the text, counted from 1, or empty where it has fewer
+pub record IsLineIn (text : List ℕ) (line : ℕ) (bytes : List ℕ) : Type 0 where
+  pub rest : List ℕ
+  pub is_text : text ≡ first_lines (line - 1) text ++ rest
+  pub first : IsFirstLine rest bytes
+
 abbrev pub IsExplained : Explanation → List ℕ → List ℕ → Type 0
-IsExplained (explanation.HistoryFault bad) history certificate = IsLineIn history bad.bytes.now
-IsExplained (explanation.CertificateFault bad) history certificate = IsLineIn certificate bad.bytes.now
+IsExplained (explanation.HistoryFault bad) history certificate = IsLineIn history bad.line bad.bytes.now
+IsExplained (explanation.CertificateFault bad) history certificate = IsLineIn certificate bad.line bad.bytes.now
 IsExplained (explanation.Yes summary) history certificate = Explains history certificate (λ h lines. IsSummary h lines summary)
 IsExplained (explanation.No step cause) history certificate = Explains history certificate (λ h lines. IsCause cause h lines step)

@@ -1,7 +1,8 @@
 -- What is told of a call, and of the lines that name it.
-use Rattle.std.specs.Prelude.{◌≡◌, ℕ, ◌+◌, ◌<◌, List, slice_get, Some}
+use Rattle.std.specs.Prelude.{◌≡◌, ℕ, ◌+◌, ◌<◌, Bool, true, false, List, slice_get, Some}
 use Rattle.rmm_spec.specs.declared.command.Command.{Command}
 use Rattle.rmm_spec.specs.declared.event.Event.{Event}
+use Rattle.rmm_spec.specs.declared.event.Event.TheVariants.{Called, Returned}
 use Rattle.rmm_spec.specs.declared.line.Line.{Line}
 use Rattle.rmm_spec.specs.Linearization.{IsCalled, cpu_named, number_named}
 use Rattle.history.specs.Calls.{IsCallOf}
@@ -10,6 +11,11 @@ use Rattle.explain.specs.declared.named_call.NamedCall.{NamedCall}
 -- what is told of the call is what the history records
 abbrev pub IsTold : List Event → NamedCall → Type 0
 IsTold events named = IsCallOf events named.cpu named.number named.call
+
+-- whether an event is a call
+abbrev pub is_call : Event → Bool
+is_call (Called cpu number command) = true
+is_call (Returned cpu number reply) = false
 
 -- the line names the call
 abbrev pub Names : ℕ → ℕ → Line → Type 0

@@ -13,9 +13,10 @@ ghost use Rattle.rmm_spec.specs.HistoryText.{History as Recorded};
 ghost use Rattle.rmm_spec.specs.FirstFault.{FirstFault, Passes};
 ghost use Rattle.spec_machine.specs.View.{state_of};
 
+use crate::changed::{last_change, part_read};
 use crate::earlier::{called_by, line_made_after, line_naming};
 use crate::explanation::{Cause, Refusal};
-use crate::failing::failing_condition;
+use crate::failing::{failing_condition, farthest_end};
 use crate::named_call::named_call;
 use certificate::{Certificate, LineRef};
 use checker::Reason;
@@ -166,11 +167,17 @@ fn refused(
     let call = named_call(history, cpu, number);
     let specified = machine.outcome(cpu, &call.call.command);
     let condition = failing_condition(alloc, machine, cpu, &call.call.command, &specified)?;
+    let changed = match part_read(&condition, &call.call.command) {
+        Some(part) => last_change(alloc, history, certificate, index, part)?,
+        None => None,
+    };
     Ok(Cause::Reply(Refusal {
         call,
         claimed: claimed_by(history, line),
+        farthest: farthest_end(machine, cpu, &specified),
         specified,
         condition,
+        changed,
     }))
 }
 

@@ -1,9 +1,12 @@
 //! Explains the verdict on two texts.
 
-ghost use Rattle.std.specs.Prelude.{◌≡◌, [], IfOk, OnErr};
+ghost use Rattle.std.specs.Prelude.{◌≡◌, ◌++◌, [], length, IfOk, OnErr};
+ghost use Rattle.std.specs.List.{filter};
 ghost use Rattle.history.specs.Faults.{BeginsWith};
-ghost use Rattle.explain.specs.Explained.{IsExplained, IsLineIn, verdict_of};
-ghost use Rattle.rmm_spec.specs.HistoryText.{History};
+ghost use Rattle.explain.specs.Explained.{IsExplained, IsFirstLine, IsLineIn, verdict_of};
+ghost use Rattle.explain.specs.Told.{is_call};
+ghost use Rattle.rmm_spec.specs.HistoryText.{History as Recorded};
+ghost use Rattle.rmm_spec.specs.Text.{first_lines};
 ghost use Rattle.spec_machine.specs.Report.{AddsOwners};
 ghost use Rattle.rmm_spec.specs.Judgement.{Judges};
 ghost use Rattle.spec_machine.specs.View.{state_of};
@@ -12,7 +15,7 @@ use crate::cause::cause_of;
 use crate::explanation::{BadLine, Explanation, Summary};
 use certificate::CertFault;
 use checker::{JudgedOrder, Verdict, judged_order};
-use history::HistoryFault;
+use history::{History, HistoryFault};
 use rmi_codec::next_line;
 use spec_machine::Machine;
 use std::alloc::{AllocError, Global};
@@ -26,7 +29,7 @@ pub fn explain<'a>(
 ) -> Result<Explanation<'a>, AllocError>
     ensures judged { IfOk result (λ e. Judges (verdict_of e) history.now certificate.now) }
     ensures explained { IfOk result (λ e. IsExplained e history.now certificate.now) }
-    ensures refused { OnErr result ((h : History) × BeginsWith history.now h) }
+    ensures refused { OnErr result ((h : Recorded) × BeginsWith history.now h) }
 {
     let recorded = match history::read(alloc, history) {
         Ok(recorded) => recorded,
@@ -44,12 +47,7 @@ pub fn explain<'a>(
     };
     let JudgedOrder { verdict, machine } = judged_order(alloc, &recorded, &claimed)?;
     match verdict {
-        Verdict::Yes(count) => Ok(Explanation::Yes(summary(
-            alloc,
-            count,
-            recorded.config().cpus(),
-            &machine,
-        )?)),
+        Verdict::Yes(count) => Ok(Explanation::Yes(summary(alloc, count, &recorded, &machine)?)),
         Verdict::No { step, reason } => Ok(Explanation::No {
             step,
             cause: cause_of(alloc, &recorded, &claimed, &machine, step, reason)?,
@@ -59,34 +57,73 @@ pub fn explain<'a>(
 }
 
 // What a linearization of so many lines leaves.
-fn summary(alloc: Global, count: u64, cpus: u8, machine: &Machine) -> Result<Summary, AllocError>
+fn summary(
+    alloc: Global,
+    count: u64,
+    history: &History,
+    machine: &Machine,
+) -> Result<Summary, AllocError>
     ensures count { IfOk result (λ told. told.count ≡ count) }
-    ensures cpus { IfOk result (λ told. told.cpus ≡ cpus) }
+    ensures calls { IfOk result (λ told. told.calls ≡ length (filter is_call history.now.recorded.events)) }
+    ensures cpus { IfOk result (λ told. told.cpus ≡ history.now.recorded.config.cpus) }
     ensures owners { IfOk result (λ told. AddsOwners (state_of machine.now) [] told.owners.items) }
 {
     let mut owners = Vec::new(alloc);
     machine.owner_report(&mut owners)?;
     Ok(Summary {
         count,
-        cpus,
+        calls: calls_of(history),
+        cpus: history.config().cpus(),
         owners,
     })
+}
+
+// How many calls are recorded.
+fn calls_of(history: &History) -> u64
+    ensures { result ≡ length (filter is_call history.now.recorded.events) }
+{
+    let mut calls = 0;
+    for place in 0..history.len() {
+        let Some(_call) = history.called_at(place) else {
+            continue;
+        };
+        calls += 1;
+    }
+    calls
 }
 
 // The line of a text, counted from 1, without its newline; the empty line where there are fewer.
 fn bad_line(text: &[u8], line: u64) -> BadLine<'_>
     ensures line { result.line ≡ line }
-    ensures bytes { IsLineIn text.now result.bytes.now }
+    ensures bytes { IsLineIn text.now line result.bytes.now }
+{
+    let rest = behind_lines(text, line.saturating_sub(1));
+    let bytes = first_line(rest);
+    BadLine { line, bytes }
+}
+
+// What stands behind the first lines of a text, which is nothing where there are fewer.
+fn behind_lines(text: &[u8], count: u64) -> &[u8]
+    ensures { text.now ≡ first_lines count text.now ++ result.now }
 {
     let mut rest = text;
-    for _ in 1..line {
+    let mut left = count;
+    while left > 0 {
         match next_line(rest) {
             Some((_, more)) => rest = more,
-            None => break,
+            None => return &[],
         }
+        left -= 1;
     }
-    match next_line(rest) {
-        Some((bytes, _)) => BadLine { line, bytes },
-        None => BadLine { line, bytes: rest },
+    rest
+}
+
+// The first line of a text, without its newline.
+fn first_line(text: &[u8]) -> &[u8]
+    ensures { IsFirstLine text.now result.now }
+{
+    match next_line(text) {
+        Some((line, _)) => line,
+        None => text,
     }
 }

@@ -3,6 +3,7 @@
 ghost use Rattle.std.specs.Prelude.{◌≡◌};
 ghost use Rattle.explain.specs.Explained.{verdict_of, reason_of};
 
+use crate::changed::EarlierStep;
 use crate::condition::Condition;
 use crate::named_call::NamedCall;
 use checker::{Reason, Verdict};
@@ -16,10 +17,12 @@ pub struct BadLine<'a> {
     pub bytes: &'a [u8],
 }
 
-/// What a linearization leaves: how many lines it has, on how many CPUs, and whose each granule is at the end.
+/// What a linearization leaves: how many lines it has of how many calls, on how many CPUs, and whose each granule is at the
+/// end.
 #[derive(Debug, Drop)]
 pub struct Summary {
     pub count: u64,
+    pub calls: u64,
     pub cpus: u8,
     pub owners: Vec<OwnerRow>,
 }
@@ -33,6 +36,10 @@ pub struct Refusal {
     /// What the specification answers there.
     pub specified: Result<Accepted, Reply>,
     pub condition: Condition,
+    /// The last step before that changed what the condition reads.
+    pub changed: Option<EarlierStep>,
+    /// The greatest end that the specification allows, where it leaves the choice of one.
+    pub farthest: Option<u64>,
 }
 
 /// Why a step fails. Steps count the lines of the certificate from 1.

@@ -1,6 +1,7 @@
 //! The lines of a report behind the verdict's.
 
 use crate::call_text::CallText;
+use crate::changed::EarlierStep;
 use crate::explanation::{BadLine, Cause, Explanation, Refusal};
 use crate::named_call::NamedCall;
 use crate::reply_text::{AcceptedText, ReplyText, is_by_realm};
@@ -103,7 +104,10 @@ impl fmt::Display for Refusal {
         write!(f, "{call}claimed: {claimed}\nspecified: ")?;
         match &self.specified {
             Ok(accepted) => {
-                let accepted = AcceptedText(accepted);
+                let accepted = AcceptedText {
+                    accepted,
+                    farthest: self.farthest,
+                };
                 write!(f, "{accepted}\n")?;
             }
             Err(reply) => {
@@ -111,7 +115,11 @@ impl fmt::Display for Refusal {
                 write!(f, "{reply}\n")?;
             }
         }
-        write!(f, "why: {condition}\n")
+        write!(f, "why: {condition}\n")?;
+        match &self.changed {
+            Some(EarlierStep { step, call }) => write!(f, "since step {step}, which names {call}"),
+            None => Ok(()),
+        }
     }
 }
 

@@ -1,15 +1,24 @@
 //! The condition that fails, found in the state before a step. A command's rows are looked at in their order: where it may be
 //! given, its words, the tags of the granules that it names, and then records and tables, of which the status says which kind.
 
+ghost use Rattle.std.specs.Prelude.{IfOk};
+ghost use Rattle.explain.specs.Failing.{IsFailing};
+ghost use Rattle.rmm_spec.specs.Call.{call_of};
+ghost use Rattle.spec_machine.specs.View.{state_of};
+
 use crate::condition::{Condition, EntryKind, EntryRead};
+use crate::named_granules::{Needed, named_granules};
 use crate::reply_text::is_by_realm;
-use crate::word_fault::word_fault;
+use crate::word_fault::{entry_size, word_fault};
 use arrayvec::ArrayVec;
 use granule_state::GRANULE_BYTES;
 use rmi_view::CommandRef;
-use rmm_spec::{Accepted, Call, Command, FunctionId, Reply, Tag};
+use rmm_spec::{Accepted, Call, Command, FunctionId, Reply, Stretch, StretchUse, Tag};
 use spec_machine::{Machine, OwnerRow};
 use std::alloc::{AllocError, Global};
+
+/// How many entries a table has.
+const ENTRIES: u64 = 512;
 
 /// A state in which a CPU gives a command: the machine, and whose each granule is.
 #[derive(Clone, Copy)]
@@ -26,7 +35,9 @@ pub(crate) fn failing_condition(
     cpu: u8,
     command: &Command,
     specified: &Result<Accepted, Reply>,
-) -> Result<Condition, AllocError> {
+) -> Result<Condition, AllocError>
+    ensures { IfOk result (IsFailing (state_of machine.now) (call_of command.now)) }
+{
     let mut owners = Vec::new(alloc);
     machine.owner_report(&mut owners)?;
     let place = Place {
@@ -35,18 +46,44 @@ pub(crate) fn failing_condition(
         cpu,
     };
     let call = command.call();
-    Ok(match specified {
-        Ok(_) => Condition::None,
-        Err(Reply::Err(status, index)) => place.failing_row(&call, *status, *index),
-        Err(_) => place.misplacement(command.function),
-    })
+    let Err(refusal) = specified else {
+        return Ok(Condition::None);
+    };
+    let Reply::Err(status, index) = refusal else {
+        return Ok(place.misplacement(command.function));
+    };
+    Ok(place.failing_row(&call, *status, *index))
+}
+
+/// The greatest end that a command may reach, where its end is left to the monitor: as far as entries of one table can be set.
+pub(crate) fn farthest_end(
+    machine: &Machine,
+    cpu: u8,
+    specified: &Result<Accepted, Reply>,
+) -> Option<u64> {
+    let Ok(Accepted::Reaches(stretch)) = specified else {
+        return None;
+    };
+    let place = Place {
+        machine,
+        owners: &[],
+        cpu,
+    };
+    Some(place.end_of(stretch))
 }
 
 impl Place<'_> {
-    ghost use Rattle.std.specs.Prelude.{◌≤◌, length};
+    ghost use Rattle.std.specs.Prelude.{◌≡◌, ◌≤◌, ◌/◌, ◌%◌, [], length, slice_get, Some, None, IfSome, IfNone};
+    ghost use Rattle.explain.specs.Failing.{IsFailing, IsFound};
+    ghost use Rattle.rmm_spec.specs.declared.call.Call.{Call as Given};
+    ghost use Rattle.rmm_spec.specs.State.{State};
+    ghost use Rattle.spec_machine.specs.Report.{AddsOwners};
+    ghost use Rattle.spec_machine.specs.View.{state_of};
 
     // Why a command isn't given here.
-    fn misplacement(self, function: FunctionId) -> Condition {
+    fn misplacement(self, function: FunctionId) -> Condition
+        ensures { (s : State) (given : Given) → IsFailing s given result }
+    {
         if !is_by_realm(function) && function != FunctionId::Exit {
             Condition::Inside
         } else if self.answer(FunctionId::Exit, &[]).is_none() {
@@ -56,7 +93,10 @@ impl Place<'_> {
         }
     }
 
-    fn failing_row(self, call: &Call, status: u8, index: u8) -> Condition {
+    fn failing_row(self, call: &Call, status: u8, index: u8) -> Condition
+        requires { AddsOwners (state_of self.machine.now) [] self.owners.now }
+        ensures { IsFailing (state_of self.entry.machine.now) call.now result }
+    {
         if let Some(fault) = word_fault(call) {
             return Condition::Word(fault);
         }
@@ -72,70 +112,30 @@ impl Place<'_> {
     }
 
     // The first granule that a command names and that hasn't the tag that it needs.
-    fn wrong_tag(self, call: &Call) -> Option<Condition> {
-        match *call {
-            Call::GranuleDelegate { granule } => self.unless(granule, Tag::Undelegated),
-            Call::GranuleUndelegate { granule } => self.unless(granule, Tag::Delegated),
-            Call::RealmCreate { rd, root, .. } => self
-                .unless(rd, Tag::Delegated)
-                .or(self.unless(root, Tag::Delegated)),
-            Call::RecCreate {
-                rd,
-                rec,
-                aux0,
-                aux1,
-                ..
-            } => self
-                .unless(rd, Tag::Rd)
-                .or(self.unless(rec, Tag::Delegated))
-                .or(self.unless(aux0, Tag::Delegated))
-                .or(self.unless(aux1, Tag::Delegated)),
-            Call::RecDestroy { rec } | Call::RecEnter { rec } => self.unless(rec, Tag::Rec),
-            Call::RttSetRipas { rd, rec, .. } => {
-                self.unless(rd, Tag::Rd).or(self.unless(rec, Tag::Rec))
+    fn wrong_tag(self, call: &Call) -> Option<Condition>
+        requires { AddsOwners (state_of self.machine.now) [] self.owners.now }
+        ensures { IfSome result (IsFailing (state_of self.entry.machine.now) call.now) }
+    {
+        let granules = named_granules(call);
+        for i in 0..granules.len() {
+            let Needed { granule, tag } = granules[i];
+            let found = self.tag(granule);
+            if found != Some(tag) {
+                return Some(Condition::Tag {
+                    granule,
+                    needed: tag,
+                    found,
+                });
             }
-            Call::RttCreate { rd, rtt, .. } => self
-                .unless(rd, Tag::Rd)
-                .or(self.unless(rtt, Tag::Delegated)),
-            Call::DataCreate {
-                rd,
-                granule,
-                source,
-                ..
-            } => self
-                .unless(rd, Tag::Rd)
-                .or(self.unless(granule, Tag::Delegated))
-                .or(self.unless(source, Tag::Undelegated)),
-            Call::DataCreateUnknown { rd, granule, .. } => self
-                .unless(rd, Tag::Rd)
-                .or(self.unless(granule, Tag::Delegated)),
-            Call::DataDestroy { rd, .. }
-            | Call::RealmActivate { rd }
-            | Call::RealmDestroy { rd }
-            | Call::RttDestroy { rd, .. }
-            | Call::RttMapUnprotected { rd, .. }
-            | Call::RttReadEntry { rd, .. }
-            | Call::RttUnmapUnprotected { rd, .. }
-            | Call::RttInitRipas { rd, .. } => self.unless(rd, Tag::Rd),
-            _ => None,
         }
-    }
-
-    fn unless(self, granule: u64, needed: Tag) -> Option<Condition> {
-        let found = self.tag(granule);
-        if found == Some(needed) {
-            None
-        } else {
-            Some(Condition::Tag {
-                granule,
-                needed,
-                found,
-            })
-        }
+        None
     }
 
     // The tag of a granule.
-    fn tag(self, granule: u64) -> Option<Tag> {
+    fn tag(self, granule: u64) -> Option<Tag>
+        requires { AddsOwners (state_of self.machine.now) [] self.owners.now }
+        ensures { IsFound (state_of self.entry.machine.now) granule result }
+    {
         match self.owner(granule) {
             Some(row) => Some(row.tag),
             None => None,
@@ -143,7 +143,10 @@ impl Place<'_> {
     }
 
     // A granule's row, where the address is one's.
-    fn owner(self, granule: u64) -> Option<OwnerRow> {
+    fn owner(self, granule: u64) -> Option<OwnerRow>
+        ensures some { IfSome result (λ row. (granule % 4096 ≡ 0) × (slice_get self.entry.owners.now (granule / 4096) ≡ Some row)) }
+        ensures none { IfNone result (granule % 4096 ≡ 0 → slice_get self.entry.owners.now (granule / 4096) ≡ None) }
+    {
         if granule % GRANULE_BYTES != 0 {
             return None;
         }
@@ -151,7 +154,9 @@ impl Place<'_> {
     }
 
     // ERROR_INPUT behind the words and tags.
-    fn input_row(self, call: &Call) -> Condition {
+    fn input_row(self, call: &Call) -> Condition
+        ensures { (s : State) (given : Given) → IsFailing s given result }
+    {
         match *call {
             Call::RealmCreate { vmid, .. } => Condition::VmidUsed { vmid },
             Call::RecCreate { mpidr, .. } => Condition::NotNextIndex { mpidr },
@@ -175,7 +180,9 @@ impl Place<'_> {
     }
 
     // The walk has to get to a level, and the realm's walks begin below it, or the address is past the realm's space.
-    fn space_row(self, rd: u64, ipa: u64, level: u64, reached: Option<u64>) -> Condition {
+    fn space_row(self, rd: u64, ipa: u64, level: u64, reached: Option<u64>) -> Condition
+        ensures { (s : State) (given : Given) → IsFailing s given result }
+    {
         match reached.and_then(|reached| self.entry(rd, 0, reached)) {
             Some(_) => Condition::PastSpace { ipa },
             None => Condition::StartLevel { level },
@@ -183,7 +190,9 @@ impl Place<'_> {
     }
 
     // ERROR_REALM.
-    fn realm_row(self, call: &Call, index: u8) -> Condition {
+    fn realm_row(self, call: &Call, index: u8) -> Condition
+        ensures { (s : State) (given : Given) → IsFailing s given result }
+    {
         match *call {
             Call::RecEnter { .. } if index == 0 => Condition::RealmNew,
             Call::RecEnter { .. } => Condition::RealmOff,
@@ -208,7 +217,9 @@ impl Place<'_> {
     }
 
     // ERROR_REC.
-    fn rec_row(self, call: &Call) -> Condition {
+    fn rec_row(self, call: &Call) -> Condition
+        ensures { (s : State) (given : Given) → IsFailing s given result }
+    {
         match *call {
             Call::RecEnter { rec } => Condition::RecNotReady { rec },
             Call::RttSetRipas { rd, rec, .. } => {
@@ -225,7 +236,9 @@ impl Place<'_> {
     }
 
     // ERROR_RTT at a level.
-    fn table_row(self, call: &Call, level: u8) -> Condition {
+    fn table_row(self, call: &Call, level: u8) -> Condition
+        ensures { (s : State) (given : Given) → IsFailing s given result }
+    {
         let at = u64::from(level);
         match *call {
             Call::RttCreate {
@@ -278,7 +291,9 @@ impl Place<'_> {
     }
 
     // The walk ends above level 3, or on an entry of another kind.
-    fn page_row(self, rd: u64, ipa: u64, level: u8, needed: EntryKind) -> Condition {
+    fn page_row(self, rd: u64, ipa: u64, level: u8, needed: EntryKind) -> Condition
+        ensures { (s : State) (given : Given) → IsFailing s given result }
+    {
         if level < 3 {
             return Condition::WalkEnds {
                 ipa,
@@ -315,6 +330,34 @@ impl Place<'_> {
         match self.machine.outcome(self.cpu, &command) {
             Ok(Accepted::Done { words, .. }) => Some(words),
             _ => None,
+        }
+    }
+
+    // The end of the entries from the base on that can be set, in one table and up to the top.
+    fn end_of(self, stretch: &Stretch) -> u64 {
+        let size = entry_size(u64::from(stretch.level));
+        let mut end = stretch.base;
+        for _ in 0..ENTRIES {
+            let next = end.saturating_add(size);
+            if next > stretch.top || !self.can_be_set(stretch, end) {
+                break;
+            }
+            end = next;
+            if end / size % ENTRIES == 0 {
+                break;
+            }
+        }
+        end
+    }
+
+    // Whether the entry at an address of a stretch can be set: one that is no table, and before a realm runs is unassigned.
+    fn can_be_set(self, stretch: &Stretch, ipa: u64) -> bool {
+        let Some(entry) = self.entry(stretch.rd, ipa, u64::from(stretch.level)) else {
+            return false;
+        };
+        match stretch.purpose {
+            StretchUse::Init => entry.state == 0,
+            StretchUse::Requested { .. } => entry.state <= 1,
         }
     }
 }

@@ -2,11 +2,12 @@
 //! It promises that the verdict which is explained is the one that `Judges` names of the two texts.
 //! The reply that is called specified is the machine's outcome in the state that the lines before the step lead to.
 //! A report is text for people; its first line is the verdict's, and it is appended whole or not at all.
-//! Nothing depends on it yet; the program `rmmexplain` will.
+//! The program `rmmexplain` depends on it.
 #![tactic(auto)]
 
 mod call_text;
 mod cause;
+mod changed;
 mod condition;
 mod condition_text;
 mod earlier;
@@ -15,13 +16,18 @@ mod explanation;
 mod explanation_text;
 mod failing;
 mod named_call;
+mod named_granules;
 mod reply_text;
 mod reporting;
 mod summary_text;
 mod word_fault;
 
+pub use changed::EarlierStep;
 pub use condition::{Condition, EntryKind, EntryRead, WordFault};
 pub use explaining::explain;
 pub use explanation::{BadLine, Cause, Explanation, Refusal, Summary};
 pub use named_call::NamedCall;
 pub use reporting::report;
+
+#[cfg(test)]
+mod tests;

@@ -48,28 +48,40 @@ fn write_status<W: fmt::Write>(
     }
 }
 
-/// What a command is answered where no row refuses it.
+/// What a command is answered where no row refuses it, with the greatest end where the monitor chooses one.
 #[derive(Clone, Copy)]
-pub(crate) struct AcceptedText<'a>(pub(crate) &'a Accepted);
+pub(crate) struct AcceptedText<'a> {
+    pub(crate) accepted: &'a Accepted,
+    pub(crate) farthest: Option<u64>,
+}
 
 impl fmt::Display for AcceptedText<'_> {
     fn fmt<W: fmt::Write>(&self, f: &mut fmt::Formatter<W>) -> fmt::Result {
-        match self.0 {
+        match self.accepted {
             Accepted::Done { words, .. } => write_ok(f, words.as_slice()),
-            Accepted::Reaches(stretch) => write_reached(f, stretch),
+            Accepted::Reaches(stretch) => {
+                write_reached(f, stretch, self.farthest.unwrap_or(stretch.top))
+            }
         }
     }
 }
 
 // The replies that the free choice allows.
-fn write_reached<W: fmt::Write>(f: &mut fmt::Formatter<W>, stretch: &Stretch) -> fmt::Result {
+fn write_reached<W: fmt::Write>(
+    f: &mut fmt::Formatter<W>,
+    stretch: &Stretch,
+    last: u64,
+) -> fmt::Result {
     let size = entry_size(u64::from(stretch.level));
     let first = stretch.base.saturating_add(size);
-    let top = stretch.top;
-    write!(
-        f,
-        "ok out_top, with out_top from {first:x} in steps of {size:x} up to {top:x} at most, as far as entries of one table can be set"
-    )
+    write!(f, "ok {first:x}")?;
+    if first < last {
+        write!(
+            f,
+            ", or a greater out_top in steps of {size:x} up to {last:x}"
+        )?;
+    }
+    Ok(())
 }
 
 /// Whether a realm gives the command, from inside a REC.

@@ -11,11 +11,12 @@ const ROLES: [Tag; 5] = [Tag::Rd, Tag::Rtt, Tag::Rec, Tag::RecAux, Tag::Data];
 
 impl fmt::Display for Summary {
     fn fmt<W: fmt::Write>(&self, f: &mut fmt::Formatter<W>) -> fmt::Result {
-        let (count, cpus, granules) = (self.count, self.cpus, self.owners.len());
+        let (count, calls, cpus) = (self.count, self.calls, self.cpus);
+        let granules = self.owners.len();
         let rows = self.owners.as_slice();
         let host = count_of(rows, Tag::Undelegated);
         let delegated = count_of(rows, Tag::Delegated);
-        write!(f, "calls in the order: {count}\n")?;
+        write!(f, "calls: {calls}, of them {count} in the order\n")?;
         write!(f, "CPUs: {cpus}\n")?;
         write!(
             f,

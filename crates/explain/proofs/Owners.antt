@@ -1,0 +1,68 @@
+-- The row of a granule in a report of owners.
+use Rattle.std.proofs.Common.{◌≡◌, ℕ, zero, suc, ◌*◌, ◌/◌, ◌%◌, ◌<◌, List, [], ◌∷◌, ◌++◌, length, Option, Some, None, IsTrue, inl, inr, refl, false, sym, ◌∙◌, ap, subst, arith}
+use Rattle.std.specs.List.{slice_get}
+use Rattle.std.proofs.lemmas.Bool.{cases_lt, false_from_ne_true}
+use Rattle.std.proofs.lemmas.List.{length-append}
+use Rattle.std.proofs.lemmas.Option.{none-some, same_Some, slice_get_within}
+use Rattle.checker.proofs.Elements.{slice_get-append_left, slice_get_push}
+use Rattle.rmm_spec.specs.Lookup.{is_granule}
+use Rattle.rmm_spec.specs.State.{State}
+use Rattle.spec_machine.specs.declared.owner_report.OwnerRow.{OwnerRow}
+use Rattle.spec_machine.specs.Report.{AddsOwners, owner_rows}
+use Rattle.spec_machine.proofs.Places.{place_within, place-granule}
+use Rattle.spec_machine.proofs.Rows.{granule_placed}
+
+-- the row of a place
+abbrev pub owner_row : State → (ℕ → Option ℕ) → ℕ → OwnerRow
+owner_row s owner k = record { granule = k * 4096; tag = s.tag (k * 4096); realm = owner (k * 4096) }
+
+pub length-owner_rows : (s : State) (owner : ℕ → Option ℕ) (n : ℕ) → length (owner_rows s owner n) ≡ n
+unfolding owner_rows
+length-owner_rows s owner zero = refl
+length-owner_rows s owner (suc n) =
+    let rows = owner_rows s owner n in
+    omega (arith, length-append rows (owner_row s owner n ∷ []), length-owner_rows s owner n)
+
+-- a report has the row of each place
+pub slice_get-owner_rows : (s : State) (owner : ℕ → Option ℕ) (n k : ℕ) → k < n → slice_get (owner_rows s owner n) k ≡ Some (owner_row s owner k)
+unfolding owner_rows
+slice_get-owner_rows s owner zero k within = absurd (let bad : ⊥ = omega (arith, within) in bad)
+slice_get-owner_rows s owner (suc n) k within = elim (cases_lt k n) [
+  | inl before ↦
+      slice_get-append_left (owner_rows s owner n) (owner_row s owner n ∷ []) k (owner_row s owner k) (slice_get-owner_rows s owner n k before)
+  | inr after ↦
+      let same : n ≡ k = omega (arith, within, after) in
+      let place : length (owner_rows s owner n) ≡ k = length-owner_rows s owner n ∙ same in
+      subst (λ (x : ℕ). slice_get (owner_rows s owner n ++ (owner_row s owner n ∷ [])) x ≡ Some (owner_row s owner k)) place
+      (slice_get_push (owner_rows s owner n) (owner_row s owner n) ∙ ap (λ (x : ℕ). Some (owner_row s owner x)) same)
+]
+
+-- a granule's row has its tag
+pub tag-owner_rows : (s : State) (rows : List OwnerRow) (granule : ℕ) (row : OwnerRow) → AddsOwners s [] rows → granule % 4096 ≡ 0
+    → slice_get rows (granule / 4096) ≡ Some row → IsTrue (is_granule s.granules granule) × (s.tag granule ≡ row.tag)
+tag-owner_rows s rows granule row report aligned is_row =
+    let place = granule / 4096 in
+    let owner = report.0 in
+    let rows_are : rows ≡ owner_rows s owner s.granules = report.2 in
+    let all = length-owner_rows s owner s.granules in
+    let counted : length rows ≡ s.granules = ap (λ (xs : List OwnerRow). length xs) rows_are ∙ all in
+    let within : place < s.granules = omega (arith, slice_get_within rows place row is_row, counted) in
+    let at : place * 4096 ≡ granule = omega (arith, aligned) in
+    let here : Some (owner_row s owner place) ≡ Some row =
+    sym (slice_get-owner_rows s owner s.granules place within) ∙ ap (λ (xs : List OwnerRow). slice_get xs place) (sym rows_are) ∙ is_row in
+    let same : owner_row s owner place ≡ row = same_Some (owner_row s owner place) row here in (
+      subst (λ (g : ℕ). IsTrue (is_granule s.granules g)) at (granule_placed s.granules place within),
+      ap s.tag (sym at) ∙ ap (λ (r : OwnerRow). r.tag) same,
+    )
+
+-- what has no row is no granule
+pub is_granule-no_row : (s : State) (rows : List OwnerRow) (granule : ℕ) → AddsOwners s [] rows
+    → (granule % 4096 ≡ 0 → slice_get rows (granule / 4096) ≡ None) → is_granule s.granules granule ≡ false
+is_granule-no_row s rows granule report none = false_from_ne_true (is_granule s.granules granule) (λ is_true.
+    let place = granule / 4096 in
+    let owner = report.0 in
+    let rows_are : rows ≡ owner_rows s owner s.granules = report.2 in
+    let at : place * 4096 ≡ granule = place-granule s.granules granule is_true in
+    let aligned : granule % 4096 ≡ 0 = omega (arith, at) in
+    let here = slice_get-owner_rows s owner s.granules place (place_within s.granules granule is_true) in
+    none-some (owner_row s owner place) (sym (none aligned) ∙ ap (λ (xs : List OwnerRow). slice_get xs place) rows_are ∙ here))
