@@ -1,5 +1,5 @@
 -- One cell more is lent: the others are as they were, and those lent so far are the whole's.
-use Rattle.std.proofs.Common.{◌≡◌, ℕ, zero, suc, ◌+◌, ◌<◌, Bool, true, false, not, ◌==◌, List, [], ◌∷◌, ◌++◌, take, length, get_or, refl, sym, ap, ◌∙◌, subst, arith, slice_set, eq-eqb, eqb-true}
+use Rattle.std.proofs.Common.{◌≡◌, ℕ, zero, suc, ◌+◌, ◌<◌, Bool, true, false, not, ◌==◌, if◌then◌else◌, List, [], ◌∷◌, ◌++◌, take, length, get_or, refl, sym, ap, ◌∙◌, subst, arith, slice_set, eq-eqb, eqb-true}
 use Rattle.std.specs.Prelude.{IsTrue, Contains}
 use Rattle.std.specs.List.{list_any}
 use Rattle.std.proofs.lemmas.Bool.{and_parts, not-true}
@@ -9,11 +9,14 @@ use Rattle.std.proofs.lemmas.List.Folds.{list_any_at}
 use Rattle.rmm_spec.specs.Cell as whole
 use Rattle.rmm_spec.specs.Cell.{put}
 use Rattle.rmm_spec.proofs.Tests.{both_ways}
+use Rattle.rmm_spec.specs.Local.{HeldCell, granules_held, put_all, Agrees}
 use Rattle.world_laws.proofs.Lists.{put-other}
-use Rattle.world_laws.proofs.Members.{Contains-nil, Contains-other}
+use Rattle.world_laws.proofs.Locals.{put_all-agrees}
+use Rattle.world_laws.proofs.Members.{Contains-nil, Contains-other, granules_held-cells_at}
 use Rattle.command_core.specs.Seen.{cell_of, are_distinct}
 use Rattle.command_core.specs.declared.cell.Cell.{Cell}
 use Rattle.command_core.specs.declared.cell.Cell.TheVariants.{Undelegated}
+use Rattle.world.specs.Lent.{cells_at}
 
 -- a granule of a list without doubles isn't among those before it
 distinct-before : (gs : List ℕ) (i : ℕ) → i < length gs → IsTrue (are_distinct gs) → Contains (take i gs) (get_or gs i 0) → ⊥
@@ -52,3 +55,29 @@ lent-next gs cs i start now c within room distinct kept lent is k less = by (k =
         let differ : k ≡ i → ⊥ = λ same. both_ways (eq-eqb k i same) apart in
         let below : k < i = omega (arith, less, differ) in
         ap cell_of (get_or-set_other cs i k c Undelegated differ) ∙ lent k below
+
+-- ---- given back
+
+-- cells that are put in at their own granules are put over the start too
+pub put_all-lent : (held : List HeldCell) (start now : ℕ → whole.Cell) → ((x : ℕ) → (Contains (granules_held held) x → ⊥) → now x ≡ start x)
+    → put_all now held ≡ put_all start held
+put_all-lent [] start now kept = λ i x. kept x (Contains-nil x) i
+put_all-lent (h ∷ held) start now kept =
+    put_all-lent held (put start h.granule h.cell) (put now h.granule h.cell) (λ x apart. by x apart (x == h.granule) refl)
+  where
+    by : (x : ℕ) → (Contains (granules_held held) x → ⊥) → (b : Bool) → (x == h.granule) ≡ b
+        → (if b then h.cell else now x) ≡ (if b then h.cell else start x)
+    by x apart true is = refl
+    by x apart false is =
+        kept x (λ has. apart (Contains-other h.granule (granules_held held) x (λ here. both_ways (eq-eqb x h.granule (sym here)) is) has))
+
+agrees-cells_at : (cells : ℕ → whole.Cell) (gs : List ℕ) → Agrees cells (cells_at cells gs)
+agrees-cells_at cells [] = tt
+agrees-cells_at cells (g ∷ gs) = (refl, agrees-cells_at cells gs)
+
+-- cells that others gave way to are all back once those are put in
+pub put_all-given_back : (gs : List ℕ) (start now : ℕ → whole.Cell) → ((x : ℕ) → (Contains gs x → ⊥) → now x ≡ start x)
+    → put_all now (cells_at start gs) ≡ start
+put_all-given_back gs start now kept =
+    put_all-lent (cells_at start gs) start now (subst (λ held. (x : ℕ) → (Contains held x → ⊥) → now x ≡ start x) (sym (granules_held-cells_at start gs)) kept)
+    ∙ put_all-agrees (cells_at start gs) start (agrees-cells_at start gs)

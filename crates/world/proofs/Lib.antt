@@ -8,9 +8,8 @@ pub mod Moves
 pub mod Ends
 pub mod Follows
 pub mod Calls
-pub mod Returns
 pub mod Taking
+pub mod Returns
 pub mod Opened
 pub mod Lines
-pub mod Stepped
 pub mod Commits

@@ -18,6 +18,7 @@ use Rattle.command_core.specs.declared.next.Next.{Next}
 use Rattle.command_core.specs.declared.next.Next.TheVariants as next
 use Rattle.command_core.specs.Seen.{cell_in}
 use Rattle.command_core.specs.Settled.{is_settled}
+use Rattle.command_core.specs.Next as plan
 use Rattle.command_core.specs.Plan.{LearnsOwner, IsPlanned, is_ready}
 use Rattle.world.specs.declared.phase.Phase as own
 use Rattle.world.specs.declared.phase.Phase.TheVariants as phase
@@ -42,9 +43,11 @@ not_deciding phase.Stopped none number command learnt is = false≢true (ap is_d
 -- what is planned on what the world has comes next in it
 pub next-planned : (w : World) (cpu : ℕ) (n : Next) (granules : ℕ) (place : CpuPlace) (held : List HeldCell) (number : ℕ) (command : Command)
     (learnt : Option ℕ) → w.phase cpu ≡ Deciding number command learnt → granules ≡ w.config.granules → place ≡ w.place cpu → held ≡ held_cells w cpu
+    → n ≡ plan.next granules (call_of command) place learnt held
     → IsPlanned granules command place learnt held n → is_settled granules (call_of command) place held ≡ is_ready n → IsNext w cpu n
-next-planned w cpu n granules place held number command learnt deciding has_granules at holds planned settled = record {
+next-planned w cpu n granules place held number command learnt deciding has_granules at holds is planned settled = record {
   deciding = record { number = number; command = command; learnt = learnt; is_deciding = deciding };
+  is_next = is ∙ (λ i. plan.next (has_granules i) (call_of command) (at i) learnt (holds i));
   planned = subst (λ g. IsPlanned g command (w.place cpu) learnt (held_cells w cpu) n) has_granules
       (subst (λ p. IsPlanned granules command p learnt (held_cells w cpu) n) at (subst (λ h. IsPlanned granules command place learnt h n) holds planned));
   settled = sym (λ i. is_settled (has_granules i) (call_of command) (at i) (holds i)) ∙ settled;

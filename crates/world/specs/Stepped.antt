@@ -1,21 +1,16 @@
 -- What a commit requires of a world, and the local step that it makes of one CPU's cells.
-use Rattle.std.specs.Prelude.{◌≡◌, ℕ, IsTrue, Option, Some, None}
+use Rattle.std.specs.Prelude.{◌≡◌, ℕ, IsTrue}
 use Rattle.rmm_spec.specs.declared.command.Command.{Command}
 use Rattle.rmm_spec.specs.declared.reply.Reply.{Reply}
 use Rattle.rmm_spec.specs.Call.{call_of}
 use Rattle.rmm_spec.specs.Cell.{Cell, put}
 use Rattle.rmm_spec.specs.Shape.{Side}
 use Rattle.rmm_spec.specs.Local.{Hold, put_all, LocalStep}
-use Rattle.rmm_spec.specs.World.{World, Phase, Deciding, IsDeciding, held_cells}
+use Rattle.rmm_spec.specs.World.{World, IsDeciding, held_cells}
 use Rattle.command_core.specs.Changed.{hold_of}
 use Rattle.command_core.specs.Settled.{is_settled}
 use Rattle.world.specs.Lent.{cells_at}
 use Rattle.world.specs.Cpus.{Views}
-
--- the number and the command of an open call that isn't committed
-abbrev pub open_in : Phase → Option (ℕ × Command)
-open_in (Deciding number command learnt) = Some (number, command)
-open_in _ = None
 
 -- the CPU's open call isn't committed, and what it holds settles it
 pub record CanCommit (w : World) (cpu : ℕ) : Type 0 where

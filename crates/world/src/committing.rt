@@ -1,43 +1,14 @@
 //! A CPU commits its open call.
 
-ghost use Rattle.std.specs.Prelude.{◌≡◌, ◌<◌, vec_len};
-ghost use Rattle.world.specs.Cpus.{views_of, phase_in};
-ghost use Rattle.world.specs.Stepped.{open_in};
+ghost use Rattle.std.specs.Prelude.{◌≡◌};
 ghost use Rattle.world.specs.Whole.{world_from};
 
 use crate::committed::Committed;
-use crate::cpus::{Cpus, copied, copied_reply};
+use crate::cpus::{copied, copied_reply};
 use crate::phase::Phase;
 use crate::turned::{Kind, Turned};
 use crate::world::World;
-use rmm_spec::Command;
 use std::alloc::{AllocError, Global};
-
-impl Phase {
-    // The number and the command of an open call that isn't committed.
-    fn opened(&self) -> Option<(u32, Command)>
-        ensures { result ≡ open_in (phase_in self.now) }
-    {
-        match self {
-            Phase::Deciding {
-                number,
-                command,
-                ..
-            } => Some((*number, copied(command))),
-            _ => None,
-        }
-    }
-}
-
-impl Cpus {
-    // The number and the command of a CPU's open call, where it isn't committed.
-    fn opened(&self, cpu: u8) -> Option<(u32, Command)>
-        requires { cpu < vec_len self.now.list }
-        ensures { result ≡ open_in ((views_of self.now).phase cpu) }
-    {
-        self.list[cpu as usize].phase.opened()
-    }
-}
 
 impl World {
     ghost use Rattle.std.specs.Prelude.{◌≡◌, ◌<◌, IfOk, OnErr};
@@ -57,9 +28,15 @@ impl World {
         ensures err { OnErr result (world_of self.new ≡ world_of self.old) }
         ensures err_waits { OnErr result (waits_of self.new ≡ waits_of self.old) }
     {
-        let Some((number, command)) = self.cpus.opened(cpu) else {
+        let Phase::Deciding {
+            number,
+            command,
+            ..
+        } = self.cpus.phase(cpu)
+        else {
             unreachable!()
         };
+        let (number, command) = (*number, copied(command));
         let Ok(()) = self.journal.reserve(1) else {
             return Err(AllocError);
         };

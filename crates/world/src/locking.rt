@@ -17,7 +17,9 @@ impl World {
     ghost use Rattle.rmm_spec.specs.Waits as waits;
     ghost use Rattle.command_core.specs.declared.next.Next.TheVariants as next;
     ghost use Rattle.world.specs.Cpus.{is_decided};
-    ghost use Rattle.world.specs.Next.{IsNext};
+    ghost use Rattle.world.specs.Next.{IsNext, DoesNext, with_freed};
+    ghost use Rattle.world.specs.declared.turned.Turned.TheVariants as turned;
+    ghost use Rattle.world.specs.declared.turned.Kind.TheVariants as kind;
     ghost use Rattle.world.specs.Told.{report_of};
     ghost use Rattle.world.specs.World.{world_of, waits_of};
 
@@ -50,6 +52,7 @@ impl World {
         requires next { IsNext (world_of self.old) cpu (next.Take pa) }
         ensures turned { Turns (world_of self.old) cpu waits.Go (report_of result) (world_of self.new) }
         ensures waits { waits_of self.new ≡ put (waits_of self.old) cpu (awaited (report_of result)) }
+        ensures does { DoesNext (world_of self.old) cpu (next.Take pa) (report_of result) (world_of self.new) }
     {
         if let Some(_other) = self.locks.holder(pa) {
             self.cpus.set_waits(cpu, Some(pa));
@@ -67,6 +70,7 @@ impl World {
         requires next { IsNext (world_of self.old) cpu (next.Free pa learnt) }
         ensures turned { Turns (world_of self.old) cpu waits.Go (report_of result) (world_of self.new) }
         ensures waits { waits_of self.new ≡ put (waits_of self.old) cpu (awaited (report_of result)) }
+        ensures does { DoesNext (world_of self.old) cpu (next.Free pa learnt) (report_of result) (world_of self.new) }
     {
         self.free_lock(cpu, pa, learnt)
     }
@@ -93,6 +97,8 @@ impl World {
         requires freed { MayFree (world_of self.old) cpu pa ((world_of self.old).phase cpu) }
         ensures turned { Turns (world_of self.old) cpu waits.Go (report_of result) (world_of self.new) }
         ensures waits { waits_of self.new ≡ put (waits_of self.old) cpu (awaited (report_of result)) }
+        ensures free { result ≡ turned.Did kind.Free }
+        ensures freed { world_of self.new ≡ with_freed (world_of self.old) cpu pa learnt }
     {
         self.cpus.set_waits(cpu, None);
         self.cpus.remove(cpu, pa);

@@ -76,10 +76,14 @@ impl Cpus {
         ensures err_side { OnErr result (side_of side.new ≡ side_of side.old) }
         ensures err_views { OnErr result (views_of self.new ≡ views_of self.old) }
     {
-        let at = &mut self.list[cpu as usize];
-        let mut lent = Lent::lend(cells, at.taken.as_slice());
-        let replied = step_on(alloc, config, command, cpu, &mut lent, side, &mut at.place);
+        let mut lent = Lent::lend(cells, self.taken(cpu));
+        let mut place = *self.place(cpu);
+        let replied = step_on(alloc, config, command, cpu, &mut lent, side, &mut place);
         lent.give_back(cells);
-        replied
+        let Ok(reply) = replied else {
+            return Err(AllocError);
+        };
+        self.set_place(cpu, place);
+        Ok(reply)
     }
 }

@@ -1,3 +1,4 @@
+use Rattle.std.proofs.Common.{refl}
 use Rattle.world.specs.World.{world_of}
 use Rattle.world.proofs.Taking.{held-next, learnt-next, free-next}
 use Rattle.world.proofs.world.World.free.Goals as goal
@@ -11,3 +12,6 @@ free_lock-requires c =
       learnt = learnt-next w c.args.cpu c.args.pa c.args.learnt c.requires.next;
       freed = free-next w c.args.cpu c.args.pa c.args.learnt c.requires.next;
     }
+
+pub returns-clause-does : goal.returns-clause-does
+returns-clause-does c = rw c.free_lock.ensures.free (refl, c.free_lock.ensures.freed)

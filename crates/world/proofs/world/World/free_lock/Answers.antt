@@ -1,10 +1,10 @@
-use Rattle.std.proofs.Common.{ap, ◌∙◌, arith, vec_len}
+use Rattle.std.proofs.Common.{refl, ap, ◌∙◌, arith, vec_len}
 use Rattle.rmm_spec.specs.Cell.{put}
 use Rattle.rmm_spec.specs.World.{without_granule, phase_learnt}
 use Rattle.command_core.specs.Sides.{side_of}
 use Rattle.world.specs.Granules.{cells_of, holder_of}
 use Rattle.world.specs.Cpus.{Views, views_of}
-use Rattle.world.specs.Whole.{world_from}
+use Rattle.world.specs.Whole.{world_from, world_with}
 use Rattle.world.specs.World.{world_of, waits_of}
 use Rattle.world.proofs.Locked.{granule-taken}
 use Rattle.world.proofs.Taking.{freed}
@@ -47,19 +47,18 @@ invariant_of-self c =
           c.set.ensures.holders views).kept;
     }
 
-pub returns-clause-turned : goal.returns-clause-turned
-unfolding world_of world_from
-returns-clause-turned c =
+pub returns : goal.returns
+unfolding world_of world_from waits_of
+returns c =
     let s = c.args.self.now in
     let views = c.learn.ensures.views
     ∙ ap (λ (v : Views). record v { phase = put v.phase c.args.cpu (phase_learnt c.args.learnt (v.phase c.args.cpu)) }) (c.remove.ensures.views
     ∙ ap (λ (v : Views). record v { taken = put v.taken c.args.cpu (without_granule c.args.pa (v.taken c.args.cpu)) }) c.set_waits.ensures.views) in
-    (freed (cells_of s.cells) (side_of s.side) s.journal.items s.history.recorded c.args.cpu (views_of s.cpus) (holder_of s.locks) s.kept
-    (views_of c.learn.new.self) (holder_of c.set.new.self) c.args.pa c.args.learnt c.requires.cpu c.requires.held c.requires.learnt c.requires.freed
-    c.set.ensures.holders views).turned
-
-pub returns-clause-waits : goal.returns-clause-waits
-unfolding waits_of
-returns-clause-waits c = ap (λ (v : Views). v.waits) (c.learn.ensures.views
-    ∙ ap (λ (v : Views). record v { phase = put v.phase c.args.cpu (phase_learnt c.args.learnt (v.phase c.args.cpu)) }) (c.remove.ensures.views
-    ∙ ap (λ (v : Views). record v { taken = put v.taken c.args.cpu (without_granule c.args.pa (v.taken c.args.cpu)) }) c.set_waits.ensures.views))
+    record {
+      turned = (freed (cells_of s.cells) (side_of s.side) s.journal.items s.history.recorded c.args.cpu (views_of s.cpus) (holder_of s.locks) s.kept
+          (views_of c.learn.new.self) (holder_of c.set.new.self) c.args.pa c.args.learnt c.requires.cpu c.requires.held c.requires.learnt c.requires.freed
+          c.set.ensures.holders views).turned;
+      waits = ap (λ (v : Views). v.waits) views;
+      free = refl;
+      freed = ap (λ v. world_with (cells_of s.cells) (side_of s.side) v s.journal.items s.history.recorded) views;
+    }

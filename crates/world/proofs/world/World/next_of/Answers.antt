@@ -1,6 +1,7 @@
 use Rattle.std.proofs.Common.{refl, sym, ap, ◌∙◌, subst, arith, vec_len}
 use Rattle.std.specs.Prelude.{IsTrue}
 use Rattle.rmm_spec.specs.HistoryText.{Config}
+use Rattle.rmm_spec.specs.Local.{put_all}
 use Rattle.command_core.specs.Seen.{are_distinct, place_of}
 use Rattle.command_core.specs.Sides.{side_of}
 use Rattle.world.specs.Granules.{cells_of, holder_of}
@@ -10,7 +11,7 @@ use Rattle.world.specs.Lent.{lent_cells, cells_at}
 use Rattle.world.specs.Whole.{world_with, world_from}
 use Rattle.world.specs.World.{world_of, waits_of}
 use Rattle.world.proofs.Locked.{locks-of_size}
-use Rattle.world.proofs.Stepped.{put_back-same}
+use Rattle.world.proofs.Lending.{put_all-given_back}
 use Rattle.world.proofs.Taking.{not_deciding, next-planned}
 use Rattle.world.proofs.world.World.next_of.Goals as goal
 
@@ -60,9 +61,8 @@ pub invariant_of-self : goal.invariant_of-self
 unfolding world_from
 invariant_of-self c =
     let s = c.args.self.now in
-    let back = c.give_back.ensures.cells
-    ∙ put_back-same (cells_of s.cells) (cells_of c.lend-lent.new.cells) c.taken.result.now c.lend-lent.ensures.kept (lent_cells c.lend-lent.result)
-    c.lend-lent.ensures.lent in
+    let back = c.give_back.ensures.cells ∙ ap (put_all (cells_of c.lend-lent.new.cells)) c.lend-lent.ensures.lent
+    ∙ put_all-given_back c.taken.result.now (cells_of s.cells) (cells_of c.lend-lent.new.cells) c.lend-lent.ensures.kept in
     record {
       sized = record {
         has_cells = c.give_back.ensures.size ∙ c.lend-lent.ensures.size ∙ s.sized.has_cells;
@@ -77,9 +77,8 @@ pub returns-clause-world : goal.returns-clause-world
 unfolding world_of world_from
 returns-clause-world c =
     let s = c.args.self.now in
-    let back = c.give_back.ensures.cells
-    ∙ put_back-same (cells_of s.cells) (cells_of c.lend-lent.new.cells) c.taken.result.now c.lend-lent.ensures.kept (lent_cells c.lend-lent.result)
-    c.lend-lent.ensures.lent in
+    let back = c.give_back.ensures.cells ∙ ap (put_all (cells_of c.lend-lent.new.cells)) c.lend-lent.ensures.lent
+    ∙ put_all-given_back c.taken.result.now (cells_of s.cells) (cells_of c.lend-lent.new.cells) c.lend-lent.ensures.kept in
     ap (λ cells. world_with cells (side_of s.side) (views_of s.cpus) s.journal.items s.history.recorded) back
 
 pub returns-clause-waits : goal.returns-clause-waits
@@ -93,4 +92,4 @@ returns-clause-next c =
     next-planned (world_of s) c.args.cpu c.next_lock-next.result c.config-config.result.granules (place_of c.place.result.now)
     (lent_cells c.lend-lent.result) c.in-Deciding.number c.in-Deciding.command c.in-Deciding.learnt
     (sym c.phase.ensures ∙ ap phase_in c.in-Deciding.is) (ap (λ (x : Config). x.granules) c.config-config.ensures) c.place.ensures
-    (c.lend-lent.ensures.lent ∙ ap (cells_at (cells_of s.cells)) c.taken.ensures.taken) c.next_lock-next.ensures.planned c.next_lock-next.ensures.settled
+    (c.lend-lent.ensures.lent ∙ ap (cells_at (cells_of s.cells)) c.taken.ensures.taken) c.next_lock-next.ensures.exact c.next_lock-next.ensures.planned c.next_lock-next.ensures.settled

@@ -1,11 +1,11 @@
-use Rattle.std.proofs.Common.{◌<◌, ◌∷◌, ◌++◌, [], length, sym, ap, ◌∙◌, arith, subst}
+use Rattle.std.proofs.Common.{◌<◌, ◌∷◌, ◌++◌, [], length, refl, sym, ap, ◌∙◌, arith, subst}
 use Rattle.std.specs.Prelude.{IsTrue}
 use Rattle.rmm_spec.specs.Lookup.{is_granule}
 use Rattle.rmm_spec.specs.Cell.{put}
 use Rattle.command_core.specs.Sides.{side_of}
 use Rattle.world.specs.Granules.{cells_of, holder_of}
 use Rattle.world.specs.Cpus.{Views, views_of}
-use Rattle.world.specs.Whole.{world_from}
+use Rattle.world.specs.Whole.{world_from, world_with}
 use Rattle.world.specs.World.{world_of, waits_of}
 use Rattle.world.proofs.Taking.{rising-next, room-rising, blocked, took}
 use Rattle.world.proofs.world.World.take.Goals as goal
@@ -31,17 +31,17 @@ invariant_of-self c =
           (sym c.holder.ensures ∙ c.in-Some.is) c.set_waits.ensures.views).kept;
     }
 
-pub returns-in-Some-clause-turned : goal.returns-in-Some-clause-turned
-unfolding world_of world_from
-returns-in-Some-clause-turned c =
+pub returns-in-Some : goal.returns-in-Some
+unfolding world_of world_from waits_of
+returns-in-Some c =
     let s = c.args.self.now in
-    (blocked (cells_of s.cells) (side_of s.side) s.journal.items s.history.recorded c.args.cpu (views_of s.cpus) (holder_of s.locks) s.kept
-    (views_of c.set_waits.new.self) c.args.pa c.in-Some._other (rising-next (world_of s) c.args.cpu c.args.pa c.requires.next)
-    (sym c.holder.ensures ∙ c.in-Some.is) c.set_waits.ensures.views).turned
-
-pub returns-in-Some-clause-waits : goal.returns-in-Some-clause-waits
-unfolding waits_of
-returns-in-Some-clause-waits c = ap (λ (v : Views). v.waits) c.set_waits.ensures.views
+    record {
+      turned = (blocked (cells_of s.cells) (side_of s.side) s.journal.items s.history.recorded c.args.cpu (views_of s.cpus) (holder_of s.locks) s.kept
+          (views_of c.set_waits.new.self) c.args.pa c.in-Some._other (rising-next (world_of s) c.args.cpu c.args.pa c.requires.next)
+          (sym c.holder.ensures ∙ c.in-Some.is) c.set_waits.ensures.views).turned;
+      waits = ap (λ (v : Views). v.waits) c.set_waits.ensures.views;
+      does = (refl, ap (λ v. world_with (cells_of s.cells) (side_of s.side) v s.journal.items s.history.recorded) c.set_waits.ensures.views);
+    }
 
 pub set_waits-requires-2 : goal.set_waits-requires-2
 unfolding world_of world_from
@@ -80,17 +80,16 @@ invariant_of-self-2 c =
           (sym c.holder.ensures ∙ c.in_default.is) c.set.ensures.holders views).kept;
     }
 
-pub returns-clause-turned : goal.returns-clause-turned
-unfolding world_of world_from
-returns-clause-turned c =
+pub returns : goal.returns
+unfolding world_of world_from waits_of
+returns c =
     let s = c.args.self.now in
     let views = c.take.ensures.views
     ∙ ap (λ (v : Views). record v { taken = put v.taken c.args.cpu (v.taken c.args.cpu ++ c.args.pa ∷ []) }) c.set_waits-2.ensures.views in
-    (took (cells_of s.cells) (side_of s.side) s.journal.items s.history.recorded c.args.cpu (views_of s.cpus) (holder_of s.locks) s.kept
-    (views_of c.take.new.self) (holder_of c.set.new.self) c.args.pa c.requires.cpu (rising-next (world_of s) c.args.cpu c.args.pa c.requires.next)
-    (sym c.holder.ensures ∙ c.in_default.is) c.set.ensures.holders views).turned
-
-pub returns-clause-waits : goal.returns-clause-waits
-unfolding waits_of
-returns-clause-waits c = ap (λ (v : Views). v.waits) (c.take.ensures.views
-    ∙ ap (λ (v : Views). record v { taken = put v.taken c.args.cpu (v.taken c.args.cpu ++ c.args.pa ∷ []) }) c.set_waits-2.ensures.views)
+    record {
+      turned = (took (cells_of s.cells) (side_of s.side) s.journal.items s.history.recorded c.args.cpu (views_of s.cpus) (holder_of s.locks) s.kept
+          (views_of c.take.new.self) (holder_of c.set.new.self) c.args.pa c.requires.cpu (rising-next (world_of s) c.args.cpu c.args.pa c.requires.next)
+          (sym c.holder.ensures ∙ c.in_default.is) c.set.ensures.holders views).turned;
+      waits = ap (λ (v : Views). v.waits) views;
+      does = (refl, ap (λ v. world_with (cells_of s.cells) (side_of s.side) v s.journal.items s.history.recorded) views);
+    }
