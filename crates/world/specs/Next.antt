@@ -37,3 +37,9 @@ DoesNext old cpu (Take granule) (Blocked other) new = (other ≡ granule) × (ne
 DoesNext old cpu (Free granule learnt) (Did kind) new = (kind ≡ turn.Free) × (new ≡ with_freed old cpu granule learnt)
 DoesNext old cpu Ready (Did kind) new = kind ≡ turn.Commit
 DoesNext old cpu _ _ new = ⊥
+
+-- A turn does what comes next.
+pub record DoesPlanned (old : World) (cpu : ℕ) (report : Report) (new : World) : Type 0 where
+  pub next : Next
+  pub is_next : IsNext old cpu next
+  pub does : DoesNext old cpu next report new

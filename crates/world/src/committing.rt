@@ -15,6 +15,8 @@ impl World {
     ghost use Rattle.rmm_spec.specs.Cell.{put};
     ghost use Rattle.rmm_spec.specs.Waits.{Turns, awaited};
     ghost use Rattle.rmm_spec.specs.Waits as waits;
+    ghost use Rattle.command_core.specs.declared.next.Next.TheVariants as next;
+    ghost use Rattle.world.specs.Next.{DoesNext};
     ghost use Rattle.world.specs.Stepped.{CanCommit};
     ghost use Rattle.world.specs.Told.{report_of};
     ghost use Rattle.world.specs.World.{world_of, waits_of};
@@ -25,6 +27,7 @@ impl World {
         requires can { CanCommit (world_of self.old) cpu }
         ensures turned { IfOk result (λ turned. Turns (world_of self.old) cpu waits.Go (report_of turned) (world_of self.new)) }
         ensures waits { IfOk result (λ turned. waits_of self.new ≡ put (waits_of self.old) cpu (awaited (report_of turned))) }
+        ensures does { IfOk result (λ turned. DoesNext (world_of self.old) cpu next.Ready (report_of turned) (world_of self.new)) }
         ensures err { OnErr result (world_of self.new ≡ world_of self.old) }
         ensures err_waits { OnErr result (waits_of self.new ≡ waits_of self.old) }
     {

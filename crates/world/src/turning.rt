@@ -15,6 +15,8 @@ impl World {
     ghost use Rattle.rmm_spec.specs.World.{IsDeciding, IsGoing};
     ghost use Rattle.rmm_spec.specs.Waits.{Turns, awaited};
     ghost use Rattle.rmm_spec.specs.Waits as waits;
+    ghost use Rattle.world.specs.Next.{DoesPlanned};
+    ghost use Rattle.world.specs.declared.turned.Will.TheVariants.{Go};
     ghost use Rattle.world.specs.Told.{will_of, report_of};
     ghost use Rattle.world.specs.World.{world_of, waits_of};
 
@@ -23,6 +25,8 @@ impl World {
         requires { cpu < (world_of self.old).config.cpus }
         ensures turned { IfOk result (λ turned. Turns (world_of self.old) cpu (will_of will) (report_of turned) (world_of self.new)) }
         ensures waits { IfOk result (λ turned. waits_of self.new ≡ put (waits_of self.old) cpu (awaited (report_of turned))) }
+        ensures planned { IfOk result (λ turned. will ≡ Go → IsDeciding (world_of self.old) cpu
+            → DoesPlanned (world_of self.old) cpu (report_of turned) (world_of self.new)) }
         ensures err { OnErr result (world_of self.new ≡ world_of self.old) }
         ensures err_waits { OnErr result (waits_of self.new ≡ waits_of self.old) }
     {
@@ -38,6 +42,7 @@ impl World {
         requires { cpu < (world_of self.old).config.cpus }
         ensures turned { IfOk result (λ turned. Turns (world_of self.old) cpu waits.Go (report_of turned) (world_of self.new)) }
         ensures waits { IfOk result (λ turned. waits_of self.new ≡ put (waits_of self.old) cpu (awaited (report_of turned))) }
+        ensures planned { IfOk result (λ turned. IsDeciding (world_of self.old) cpu → DoesPlanned (world_of self.old) cpu (report_of turned) (world_of self.new)) }
         ensures err { OnErr result (world_of self.new ≡ world_of self.old) }
         ensures err_waits { OnErr result (waits_of self.new ≡ waits_of self.old) }
     {
@@ -65,6 +70,7 @@ impl World {
         requires deciding { IsDeciding (world_of self.old) cpu }
         ensures turned { IfOk result (λ turned. Turns (world_of self.old) cpu waits.Go (report_of turned) (world_of self.new)) }
         ensures waits { IfOk result (λ turned. waits_of self.new ≡ put (waits_of self.old) cpu (awaited (report_of turned))) }
+        ensures planned { IfOk result (λ turned. DoesPlanned (world_of self.old) cpu (report_of turned) (world_of self.new)) }
         ensures err { OnErr result (world_of self.new ≡ world_of self.old) }
         ensures err_waits { OnErr result (waits_of self.new ≡ waits_of self.old) }
     {

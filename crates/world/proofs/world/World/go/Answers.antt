@@ -1,13 +1,28 @@
-use Rattle.std.proofs.Common.{◌≡◌, ◌<◌, ◌⊎◌, inl, inr, true, false, ◌==◌, length, sym, ap, ◌∙◌, subst, arith, eqb-true}
+use Rattle.std.proofs.Common.{◌≡◌, ℕ, ◌<◌, ◌⊎◌, inl, inr, true, false, ◌==◌, length, Result, Ok, Err, sym, ap, ◌∙◌, subst, arith, eqb-true}
+use Rattle.std.specs.Prelude.{IfOk}
+use Rattle.std.proofs.lemmas.Bool.{false≢true}
 use Rattle.std.proofs.lemmas.Bool.Decides.{nat_tests}
 use Rattle.std.proofs.lemmas.List.{nil_from_length}
-use Rattle.rmm_spec.specs.World.{Decided, IsGoing}
+use Rattle.rmm_spec.specs.World.{Decided, IsDeciding, IsGoing}
+use Rattle.rmm_spec.specs.World as spec
 use Rattle.world.specs.declared.phase.Phase.{Phase}
 use Rattle.world.specs.declared.phase.Phase.TheVariants.{GivenUp, Stopped}
-use Rattle.world.specs.Cpus.{phase_in, is_decided}
+use Rattle.world.specs.declared.turned.Turned.{Turned}
+use Rattle.world.specs.Next.{DoesPlanned}
+use Rattle.world.specs.Told.{report_of}
+use Rattle.world.specs.Cpus.{phase_in, is_decided, is_deciding}
 use Rattle.world.specs.Whole.{world_from}
 use Rattle.world.specs.World.{world_of}
 use Rattle.world.proofs.world.World.go.Goals as goal
+
+-- where no call is open and uncommitted, nothing is planned
+no_plan : (old : spec.World) (cpu : ℕ) → is_deciding (old.phase cpu) ≡ false → IsDeciding old cpu → ⊥
+no_plan old cpu none deciding = false≢true (sym none ∙ ap is_deciding deciding.is_deciding)
+
+unplanned : {E : Type 0} (old new : spec.World) (cpu : ℕ) (r : Result Turned E) → is_deciding (old.phase cpu) ≡ false
+    → IfOk r (λ turned. IsDeciding old cpu → DoesPlanned old cpu (report_of turned) new)
+unplanned old new cpu (Ok turned) none = λ deciding. absurd (no_plan old cpu none deciding)
+unplanned old new cpu (Err e) none = tt
 
 -- a CPU that gave up or was stopped has ended
 ended : (p : Phase) → (p ≡ GivenUp) ⊎ (p ≡ Stopped) → IsGoing (phase_in p) → ⊥
@@ -63,3 +78,25 @@ return_reply-requires-clause-none c =
 pub rest-requires-clause-ended : goal.rest-requires-clause-ended
 unfolding world_of world_from
 rest-requires-clause-ended c = λ going. ended c.phase.result.now c.in-GivenUp.is (subst IsGoing (sym c.phase.ensures) going)
+
+pub returns-in-Between-clause-planned : goal.returns-in-Between-clause-planned
+unfolding world_of world_from
+returns-in-Between-clause-planned c =
+    unplanned (world_of c.args.self.now) (world_of c.call.new.self) c.args.cpu c.call.result
+    (ap is_deciding (sym c.phase.ensures ∙ ap phase_in c.in-Between.is))
+
+pub returns-then-not-is_empty-clause-planned : goal.returns-then-not-is_empty-clause-planned
+unfolding world_of world_from
+returns-then-not-is_empty-clause-planned c = λ deciding.
+    absurd (no_plan (world_of c.args.self.now) c.args.cpu (ap is_deciding (sym c.phase.ensures ∙ ap phase_in c.in-Decided.is)) deciding)
+
+pub returns-else-not-is_empty-clause-planned : goal.returns-else-not-is_empty-clause-planned
+unfolding world_of world_from
+returns-else-not-is_empty-clause-planned c =
+    unplanned (world_of c.args.self.now) (world_of c.return_reply.new.self) c.args.cpu c.return_reply.result
+    (ap is_deciding (sym c.phase.ensures ∙ ap phase_in c.in-Decided.is))
+
+pub returns-in-GivenUp-clause-planned : goal.returns-in-GivenUp-clause-planned
+unfolding world_of world_from
+returns-in-GivenUp-clause-planned c = λ deciding.
+    absurd (ended c.phase.result.now c.in-GivenUp.is (subst IsGoing (sym (c.phase.ensures ∙ deciding.is_deciding)) tt))

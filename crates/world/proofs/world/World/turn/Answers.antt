@@ -1,0 +1,29 @@
+use Rattle.std.proofs.Common.{Bool, true, false, sym, ap, ◌∙◌}
+use Rattle.std.proofs.lemmas.Bool.{false≢true}
+use Rattle.std.proofs.lemmas.Result.{IfOk-weaker}
+use Rattle.rmm_spec.specs.World.{IsDeciding}
+use Rattle.world.specs.declared.turned.Will.{Will}
+use Rattle.world.specs.declared.turned.Will.TheVariants.{Go, GiveUp, Stop}
+use Rattle.world.specs.Next.{DoesPlanned}
+use Rattle.world.specs.Told.{report_of}
+use Rattle.world.specs.World.{world_of}
+use Rattle.world.proofs.world.World.turn.Goals as goal
+
+-- whether a CPU is told to do its next step
+abbrev goes : Will → Bool
+goes Go = true
+goes GiveUp = false
+goes Stop = false
+
+pub returns-in-Go-clause-planned : goal.returns-in-Go-clause-planned
+returns-in-Go-clause-planned c =
+    let old = world_of c.args.self.now in
+    let new = world_of c.go.new.self in
+    IfOk-weaker c.go.result (λ turned. IsDeciding old c.args.cpu → DoesPlanned old c.args.cpu (report_of turned) new) _
+    (λ turned planned is. planned) c.go.ensures.planned
+
+pub returns-in-GiveUp-clause-planned : goal.returns-in-GiveUp-clause-planned
+returns-in-GiveUp-clause-planned c = λ is. absurd (false≢true (sym (ap goes c.in-GiveUp.is) ∙ ap goes is))
+
+pub returns-in-Stop-clause-planned : goal.returns-in-Stop-clause-planned
+returns-in-Stop-clause-planned c = λ is. absurd (false≢true (sym (ap goes c.in-Stop.is) ∙ ap goes is))
