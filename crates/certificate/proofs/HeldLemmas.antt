@@ -1,5 +1,5 @@
 -- What one more line leaves of the lines that are held.
-use Rattle.std.proofs.Common.{◌≡◌, ℕ, ◌+◌, ◌<◌, List, [], ◌∷◌, ◌++◌, length, get_or, refl, sym, ap, ◌∙◌, subst, arith, length-append}
+use Rattle.std.proofs.Common.{◌≡◌, ℕ, ◌+◌, ◌<◌, List, [], ◌∷◌, ◌++◌, length, refl, sym, ap, ◌∙◌, subst, arith, length-append}
 use Rattle.std.proofs.lemmas.List.{map_push, get_or_append_left, get_or_push}
 use Rattle.std.specs.List.{AllByRecursion}
 use Rattle.certificate.proofs.GrammarLemmas.{IsCertificate-push}
@@ -8,10 +8,7 @@ use Rattle.certificate.specs.declared.certificate.Claim.{Claim}
 use Rattle.certificate.specs.declared.certificate.Named.{Named}
 use Rattle.certificate.specs.declared.certificate.Named.TheVariants as named
 use Rattle.rmm_spec.specs.CertificateText.{IsLine, IsCertificate}
-use Rattle.rmm_spec.specs.declared.line.Line.{Line}
 use Rattle.rmm_spec.specs.declared.line.Line.TheVariants as line
-use Rattle.rmm_spec.specs.declared.reply.Reply.{Reply}
-use Rattle.rmm_spec.specs.declared.reply.Reply.TheVariants.{Misplaced}
 use Rattle.rmm_spec.proofs.Lines.{each-weaker}
 use Rattle.rmm_spec.proofs.Texts.{AllByRecursion-append}
 

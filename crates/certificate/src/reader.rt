@@ -13,8 +13,12 @@ use crate::line::{CALLS, CPUS};
 use rmi_codec::{Head, Parts, head_from, next_line, reply_from};
 use std::alloc::{AllocError, Global};
 
-// Appends the line that the bytes spell, where they spell one.
-fn take_line(lines: &mut Certificate, bytes: &[u8]) -> Result<bool, AllocError>
+// Appends the line that the bytes spell, where they spell one. The words of a reply are read to the buffer.
+fn take_line(
+    lines: &mut Certificate,
+    words: &mut [u64; 10],
+    bytes: &[u8],
+) -> Result<bool, AllocError>
     requires { length lines.old.lines < MOST_LINES }
     ensures taken { IfOk result (λ done. IsTrue done → HasTaken lines.old.lines lines.new.lines (parts_of bytes.now)) }
     ensures refused { IfOk result (λ done. done ≡ false → IsNoLine (parts_of bytes.now)) }
@@ -37,10 +41,10 @@ fn take_line(lines: &mut Certificate, bytes: &[u8]) -> Result<bool, AllocError>
             Some(_) => return Ok(false),
         },
         b'u' => {
-            let Ok(reply) = reply_from(parts) else {
+            let Ok(reply) = reply_from(words, parts) else {
                 return Ok(false);
             };
-            lines.claim(cpu, number, reply)?;
+            lines.claim(cpu, number, reply.to_reply())?;
         }
         _ => return Ok(false),
     }
@@ -53,6 +57,7 @@ pub fn read(alloc: Global, text: &[u8]) -> Result<Certificate, CertFault>
     ensures fault { IfErr result (IsFaultOf text.now) }
 {
     let mut lines = Certificate::new(alloc);
+    let mut words = [0; 10];
     let mut rest = text;
     while !rest.is_empty() {
         let bad_line = CertFault::BadLine(lines.len() as u64 + 1);
@@ -62,7 +67,7 @@ pub fn read(alloc: Global, text: &[u8]) -> Result<Certificate, CertFault>
         let Some((bytes, later)) = next_line(rest) else {
             return Err(bad_line);
         };
-        if !take_line(&mut lines, bytes)? {
+        if !take_line(&mut lines, &mut words, bytes)? {
             return Err(bad_line);
         }
         rest = later;

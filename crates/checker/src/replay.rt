@@ -89,6 +89,7 @@ impl Replay {
     }
 
     /// Takes the reply that a line claims of the call that was made at the place, where nothing but the machine can refuse it.
+    #[inline(always)]
     fn take_reply(
         &mut self,
         history: &History,
@@ -113,6 +114,7 @@ impl Replay {
     }
 
     /// Commits the call that was made at the place, if the machine gives that reply.
+    #[inline(always)]
     fn commit(
         &mut self,
         cpu: u8,

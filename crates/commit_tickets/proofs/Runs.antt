@@ -1,11 +1,12 @@
 -- Runs, one commit longer.
-use Rattle.std.proofs.Common.{◌≡◌, ℕ, List, [], ◌∷◌, ◌++◌, map, refl, sym, ap, ◌∙◌, subst}
+use Rattle.std.proofs.Common.{◌≡◌, ℕ, List, [], ◌∷◌, ◌++◌, Some, map, refl, sym, ap, ◌∙◌, subst}
 use Rattle.std.proofs.lemmas.List.{map-append}
 use Rattle.rmm_spec.specs.declared.command.Command.{Command}
 use Rattle.rmm_spec.specs.declared.reply.Reply.{Reply}
 use Rattle.rmm_spec.specs.State.{State}
 use Rattle.rmm_spec.specs.Step.{Step}
 use Rattle.rmm_spec.specs.Run.{JournalEntry, IsRun}
+use Rattle.rmm_laws.proofs.Replays.{run-replay}
 use Rattle.commit_tickets.specs.declared.journal.Entry.{Entry}
 use Rattle.commit_tickets.specs.Entries.{entry_of}
 
@@ -28,3 +29,11 @@ IsRun-append old entries new cpu command copied given told last next run step is
     subst (λ (es : List JournalEntry). IsRun old es next) (sym (entries-push entries new entry is_new))
     (IsRun-push old (map entry_of entries) (entry_of entry) last next run
     (subst (λ (p : Command × Reply). Step last cpu p.0 p.1 next) (λ i. (sym is_copied i, sym is_told i)) step))
+
+-- a run has one end: what isn't given there is given at none
+pub refused-at_end : (old : State) (entries : List JournalEntry) (end : State) (cpu : ℕ) (command : Command) (given : Reply) → IsRun old entries end
+    → ((next : State) → Step end cpu command given next → ⊥) → (last next : State) → IsRun old entries last → Step last cpu command given next → ⊥
+refused-at_end old entries end cpu command given run none last next other step =
+    let same : Some end ≡ Some last = sym (run-replay entries old end run) ∙ run-replay entries old last other in
+    let is : last ≡ end = cc in
+    none next (subst (λ (s : State). Step s cpu command given next) is step)

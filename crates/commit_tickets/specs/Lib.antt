@@ -1,2 +1,4 @@
 pub mod Entries
+pub mod Faults
+pub mod Opening
 pub mod View

@@ -1,24 +1,39 @@
--- What contracts see of a journal and a token.
-use Rattle.std.specs.Prelude.{ℕ, zero, suc, Bool, false, List, [], ◌∷◌, ◌++◌}
+-- What contracts see of a journal and of a token.
+use Rattle.std.specs.Prelude.{ℕ, zero, suc, ◌-◌, Bool, false, List, [], ◌∷◌, ◌++◌, Vec, vec_len, vec_capacity}
 use Rattle.rmm_spec.specs.declared.command.Command.{Command}
 use Rattle.rmm_spec.specs.declared.reply.Reply.{Reply}
 use Rattle.rmm_spec.specs.HistoryText.{Config}
+use Rattle.rmm_spec.specs.Local.{HeldCell, Hold}
 use Rattle.rmm_spec.specs.Run.{JournalEntry}
+use Rattle.command_core.specs.declared.cpu_place.CpuPlace.{CpuPlace}
+use Rattle.command_core.specs.declared.cpu_place.CpuPlace.TheVariants.{Outside}
+use Rattle.command_core.specs.declared.side.Side.{Side}
+use Rattle.command_core.specs.Changed.{hold_of}
+use Rattle.command_core.specs.Seen.{place_of}
+use Rattle.command_core.specs.Sides.{side_of}
 use Rattle.commit_tickets.specs.declared.token.Committed.{Committed}
 
--- a machine's size, and all commits in their order
+-- how many more elements a vector has room for
+abbrev pub spare : {X Z : Type 0} → Vec X Z → ℕ
+spare v = vec_capacity v - vec_len v
+
+-- A machine's size, all commits in their order, the side table to which they have led, and for how many more there is room.
 pub record JournalView : Type 0 where
   pub config : Config
   pub entries : List JournalEntry
+  pub side : Side
+  pub room : ℕ
 
--- a CPU's own commits, in their order
+-- A CPU, where it is, its own commits in their order, and for how many more its list has room.
 pub record TokenView : Type 0 where
   pub cpu : ℕ
+  pub place : CpuPlace
   pub is_stopped : Bool
   pub mine : List Committed
+  pub room : ℕ
 
 abbrev pub before_commits : ℕ → TokenView
-before_commits cpu = record { cpu = cpu; is_stopped = false; mine = [] }
+before_commits cpu = record { cpu = cpu; place = Outside; is_stopped = false; mine = []; room = 0 }
 
 -- the tokens of the first so many CPUs
 abbrev pub first_tokens : ℕ → List TokenView
@@ -27,3 +42,7 @@ first_tokens (suc cpu) = first_tokens cpu ++ before_commits cpu ∷ []
 
 abbrev pub entry : ℕ → Command → Reply → JournalEntry
 entry cpu command reply = record { cpu = cpu; command = command; given = reply }
+
+-- what a CPU decides on: the cells that it holds, the journal's side table, and its own place
+abbrev pub hold_with : JournalView → TokenView → List HeldCell → Hold
+hold_with journal token cells = hold_of cells (side_of journal.side) (place_of token.place)

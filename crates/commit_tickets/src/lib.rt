@@ -1,16 +1,24 @@
-//! The journal of all commits, and the token by which a CPU commits.
-//! It promises that the journal is always a run of the specification machine, and its books that run's last state.
-//! A commit adds one entry, at the place that is its ticket, to the journal and to the token's own list, or changes nothing.
-//! What threads share is a journal behind a lock; nothing here waits.
+//! The journal of all commits, and the tokens by which CPUs commit on the cells that they hold.
+//! It promises that the journal is always a run of the specification machine, and its books that run's last state; that a
+//! commit is a local step of what is held with the reply that its one entry has, or changes nothing and has its cause; and
+//! that the journal has as many entries as all tokens list. What threads share is a journal behind a lock; nothing here waits.
 //! The monitor and the run of two threads depend on it.
 #![tactic(auto)]
 
+mod audit;
+mod committing;
 mod copies;
+mod fault;
 mod journal;
+mod opening;
+mod site;
 mod token;
 
+pub use committing::{Done, commit};
+pub use fault::CommitFault;
 pub use journal::{Entry, Journal};
-pub use token::{Committed, CpuToken, Done, commit};
+pub use site::Site;
+pub use token::{Committed, CpuToken};
 
 #[cfg(test)]
 mod tests;

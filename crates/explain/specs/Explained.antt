@@ -1,5 +1,5 @@
 -- What an explanation says of two texts.
-use Rattle.std.specs.Prelude.{◌≡◌, ◌⊎◌, ℕ, ◌+◌, ◌-◌, ◌<◌, List, [], ◌∷◌, ◌++◌, length, take, slice_get, Some, IfSome}
+use Rattle.std.specs.Prelude.{◌≡◌, ◌≢◌, ◌⊎◌, ℕ, ◌+◌, ◌-◌, ◌<◌, List, [], ◌∷◌, ◌++◌, length, take, slice_get, Some, IfSome}
 use Rattle.std.specs.List.{filter}
 use Rattle.rmm_spec.specs.declared.line.Line.{Line}
 use Rattle.rmm_spec.specs.declared.verdict.Reason.{Reason}
@@ -7,8 +7,8 @@ use Rattle.rmm_spec.specs.declared.verdict.Reason.TheVariants as reason
 use Rattle.rmm_spec.specs.declared.verdict.Verdict.{Verdict}
 use Rattle.rmm_spec.specs.declared.verdict.Verdict.TheVariants as verdict
 use Rattle.rmm_spec.specs.Call.{call_of}
-use Rattle.rmm_spec.specs.Text.{HasNoNewline, first_lines}
-use Rattle.rmm_spec.specs.HistoryText.{History, IsHistoryText}
+use Rattle.rmm_spec.specs.Text.{HasNoNewline, first_lines, parts_of}
+use Rattle.rmm_spec.specs.HistoryText.{Config, History, IsHistoryText}
 use Rattle.rmm_spec.specs.CertificateText.{IsCertificateText}
 use Rattle.rmm_spec.specs.State.{State}
 use Rattle.rmm_spec.specs.Step.{outcome}
@@ -20,9 +20,14 @@ use Rattle.explain.specs.declared.explanation.Cause.{Cause}
 use Rattle.explain.specs.declared.explanation.Cause.TheVariants as cause
 use Rattle.explain.specs.declared.explanation.Explanation.{Explanation}
 use Rattle.explain.specs.declared.explanation.Explanation.TheVariants as explanation
+use Rattle.explain.specs.declared.flaw.Flaw.{Flaw}
+use Rattle.explain.specs.declared.flaw.Flaw.TheVariants as flaw
+use Rattle.explain.specs.declared.flaw.Misplaced.{Misplaced}
+use Rattle.explain.specs.declared.flaw.Misplaced.TheVariants as misplaced
+use Rattle.bad_lines.specs.Wrong.{IsCertificateLine, IsEventLine, IsHeader, IsHeaderOf, IsWrong}
 use Rattle.explain.specs.declared.explanation.Refusal.{Refusal}
 use Rattle.explain.specs.declared.explanation.Summary.{Summary}
-use Rattle.explain.specs.Failing.{IsFailing}
+use Rattle.explain.specs.Failing.{IsFailing, IsStatusFor}
 use Rattle.explain.specs.Told.{IsTold, NamesAt, is_call}
 
 -- ---- the verdict
@@ -59,6 +64,7 @@ pub record IsRefusal (history : History) (lines : List Line) (step : ℕ) (refus
   pub before : Passes history (take index lines) old
   pub specifies : refusal.specified ≡ outcome old refusal.call.cpu (call_of refusal.call.call.command)
   pub fails : IsFailing old (call_of refusal.call.call.command) refusal.condition
+  pub status : IsStatusFor refusal.condition refusal.specified
   pub changed : IfSome refusal.changed (IsEarlier history lines step)
 
 -- of the line that fails, and of the calls that it is about
@@ -104,8 +110,38 @@ pub record IsLineIn (text : List ℕ) (line : ℕ) (bytes : List ℕ) : Type 0 w
   pub is_text : text ≡ first_lines (line - 1) text ++ rest
   pub first : IsFirstLine rest bytes
 
+-- ---- a bad line
+
+-- why a line of its kind can't stand in its place
+abbrev pub IsMisplaced : Misplaced → List ℕ → ℕ → Type 0
+IsMisplaced misplaced.Unended text line = (rest : List ℕ) × (text ≡ first_lines (line - 1) text ++ rest) × HasNoNewline rest
+IsMisplaced misplaced.Full text line = 1000000 < line
+IsMisplaced misplaced.OutOfTurn text line = (cut more : List ℕ) × (text ≡ first_lines (line - 1) text ++ (cut ++ 10 ∷ more))
+
+-- of a line with these parts, which is to be of a kind: the part that is wrong in it, or that it is of the kind and misplaced
+abbrev pub IsFlawOf : (List (List ℕ) → Type 0) → Flaw → List ℕ → ℕ → List (List ℕ) → Type 0
+IsFlawOf IsOfKind (flaw.Part wrong) text line parts = IsWrong IsOfKind parts wrong
+IsFlawOf IsOfKind (flaw.Place place) text line parts = IsOfKind parts × IsMisplaced place text line
+
+-- this is said of the text's first line
+abbrev pub IsOnFirstLine : List ℕ → (List ℕ → Type 0) → Type 0
+IsOnFirstLine text Says = (first : List ℕ) × IsFirstLine text first × Says first
+
+-- of a history's line: the first is to be a header, and a later one an event on the machine that the first tells of
+abbrev pub IsHistoryFlaw : Flaw → List ℕ → ℕ → List (List ℕ) → Type 0
+IsHistoryFlaw told text line parts =
+    (line ≡ 1 → IsFlawOf IsHeader told text line parts)
+    × (line ≢ 1 → IsOnFirstLine text (λ header. (config : Config) → IsHeaderOf (parts_of header) config → IsFlawOf (IsEventLine config.cpus) told text line parts))
+
+abbrev pub IsCertificateFlaw : Flaw → List ℕ → ℕ → List (List ℕ) → Type 0
+IsCertificateFlaw told text line parts = IsFlawOf IsCertificateLine told text line parts
+
+-- ---- both texts
+
 abbrev pub IsExplained : Explanation → List ℕ → List ℕ → Type 0
-IsExplained (explanation.HistoryFault bad) history certificate = IsLineIn history bad.line bad.bytes.now
-IsExplained (explanation.CertificateFault bad) history certificate = IsLineIn certificate bad.line bad.bytes.now
+IsExplained (explanation.HistoryFault bad) history certificate =
+    IsLineIn history bad.line bad.bytes.now × IsHistoryFlaw bad.flaw history bad.line (parts_of bad.bytes.now)
+IsExplained (explanation.CertificateFault bad) history certificate =
+    IsLineIn certificate bad.line bad.bytes.now × IsCertificateFlaw bad.flaw certificate bad.line (parts_of bad.bytes.now)
 IsExplained (explanation.Yes summary) history certificate = Explains history certificate (λ h lines. IsSummary h lines summary)
 IsExplained (explanation.No step cause) history certificate = Explains history certificate (λ h lines. IsCause cause h lines step)

@@ -1,3 +1,4 @@
 pub mod Told
 pub mod Failing
 pub mod Explained
+pub mod Run

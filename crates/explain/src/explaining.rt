@@ -1,9 +1,10 @@
 //! Explains the verdict on two texts.
 
-ghost use Rattle.std.specs.Prelude.{◌≡◌, ◌++◌, [], length, IfOk, OnErr};
+ghost use Rattle.std.specs.Prelude.{◌≡◌, ◌++◌, [], length, IfOk, IfSome, OnErr};
 ghost use Rattle.std.specs.List.{filter};
 ghost use Rattle.history.specs.Faults.{BeginsWith};
 ghost use Rattle.explain.specs.Explained.{IsExplained, IsFirstLine, IsLineIn, verdict_of};
+ghost use Rattle.explain.specs.Run.{IsRunOf};
 ghost use Rattle.explain.specs.Told.{is_call};
 ghost use Rattle.rmm_spec.specs.HistoryText.{History as Recorded};
 ghost use Rattle.rmm_spec.specs.Text.{first_lines};
@@ -12,7 +13,9 @@ ghost use Rattle.rmm_spec.specs.Judgement.{Judges};
 ghost use Rattle.spec_machine.specs.View.{state_of};
 
 use crate::cause::cause_of;
-use crate::explanation::{BadLine, Explanation, Summary};
+use crate::explained_run::{ExplainedRun, with_run, without_run};
+use crate::explanation::{Explanation, Summary};
+use crate::flaw::{bad_certificate_line, bad_history_line};
 use certificate::CertFault;
 use checker::{JudgedOrder, Verdict, judged_order};
 use history::{History, HistoryFault};
@@ -20,38 +23,42 @@ use rmi_codec::next_line;
 use spec_machine::Machine;
 use std::alloc::{AllocError, Global};
 
-/// Explains the verdict on a history's text and a certificate's. Memory is refused only behind a header, as `checker::check`
-/// refuses it.
-pub fn explain<'a>(
+/// Explains the verdict on a history's text and a certificate's, and keeps what was read of them. Memory is refused only
+/// behind a header, as `checker::check` refuses it.
+pub fn explain_run<'a>(
     alloc: Global,
     history: &'a [u8],
     certificate: &'a [u8],
-) -> Result<Explanation<'a>, AllocError>
-    ensures judged { IfOk result (λ e. Judges (verdict_of e) history.now certificate.now) }
-    ensures explained { IfOk result (λ e. IsExplained e history.now certificate.now) }
+) -> Result<ExplainedRun<'a>, AllocError>
+    ensures judged { IfOk result (λ told. Judges (verdict_of told.explanation) history.now certificate.now) }
+    ensures explained { IfOk result (λ told. IsExplained told.explanation history.now certificate.now) }
+    ensures run { IfOk result (λ told. IfSome told.run (IsRunOf history.now certificate.now)) }
     ensures refused { OnErr result ((h : Recorded) × BeginsWith history.now h) }
 {
     let recorded = match history::read(alloc, history) {
         Ok(recorded) => recorded,
         Err(HistoryFault::BadLine(line)) => {
-            return Ok(Explanation::HistoryFault(bad_line(history, line)));
+            return Ok(without_run(Explanation::HistoryFault(bad_history_line(history, line))));
         }
         Err(HistoryFault::NoMemory) => return Err(AllocError),
     };
     let claimed = match certificate::read(alloc, certificate) {
         Ok(claimed) => claimed,
         Err(CertFault::BadLine(line)) => {
-            return Ok(Explanation::CertificateFault(bad_line(certificate, line)));
+            return Ok(without_run(Explanation::CertificateFault(bad_certificate_line(certificate, line))));
         }
         Err(CertFault::NoMemory) => return Err(AllocError),
     };
     let JudgedOrder { verdict, machine } = judged_order(alloc, &recorded, &claimed)?;
     match verdict {
-        Verdict::Yes(count) => Ok(Explanation::Yes(summary(alloc, count, &recorded, &machine)?)),
-        Verdict::No { step, reason } => Ok(Explanation::No {
-            step,
-            cause: cause_of(alloc, &recorded, &claimed, &machine, step, reason)?,
-        }),
+        Verdict::Yes(count) => {
+            let left = summary(alloc, count, &recorded, &machine)?;
+            Ok(with_run(Explanation::Yes(left), recorded, claimed))
+        }
+        Verdict::No { step, reason } => {
+            let cause = cause_of(alloc, &recorded, &claimed, &machine, step, reason)?;
+            Ok(with_run(Explanation::No { step, cause }, recorded, claimed))
+        }
         Verdict::HistoryFault(_) | Verdict::CertificateFault(_) => unreachable!(),
     }
 }
@@ -92,18 +99,15 @@ fn calls_of(history: &History) -> u64
     calls
 }
 
-// The line of a text, counted from 1, without its newline; the empty line where there are fewer.
-fn bad_line(text: &[u8], line: u64) -> BadLine<'_>
-    ensures line { result.line ≡ line }
-    ensures bytes { IsLineIn text.now line result.bytes.now }
+/// The line of a text, counted from 1, without its newline; the empty line where there are fewer.
+pub(crate) fn line_of(text: &[u8], line: u64) -> &[u8]
+    ensures { IsLineIn text.now line result.now }
 {
-    let rest = behind_lines(text, line.saturating_sub(1));
-    let bytes = first_line(rest);
-    BadLine { line, bytes }
+    first_line(behind_lines(text, line.saturating_sub(1)))
 }
 
-// What stands behind the first lines of a text, which is nothing where there are fewer.
-fn behind_lines(text: &[u8], count: u64) -> &[u8]
+/// What stands behind the first lines of a text, which is nothing where there are fewer.
+pub(crate) fn behind_lines(text: &[u8], count: u64) -> &[u8]
     ensures { text.now ≡ first_lines count text.now ++ result.now }
 {
     let mut rest = text;
@@ -118,8 +122,8 @@ fn behind_lines(text: &[u8], count: u64) -> &[u8]
     rest
 }
 
-// The first line of a text, without its newline.
-fn first_line(text: &[u8]) -> &[u8]
+/// The first line of a text, without its newline.
+pub(crate) fn first_line(text: &[u8]) -> &[u8]
     ensures { IsFirstLine text.now result.now }
 {
     match next_line(text) {

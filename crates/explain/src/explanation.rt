@@ -5,16 +5,18 @@ ghost use Rattle.explain.specs.Explained.{verdict_of, reason_of};
 
 use crate::changed::EarlierStep;
 use crate::condition::Condition;
+use crate::flaw::Flaw;
 use crate::named_call::NamedCall;
 use checker::{Reason, Verdict};
 use rmm_spec::{Accepted, Reply};
 use spec_machine::OwnerRow;
 
-/// A line that isn't in its grammar, counted from 1, and its bytes without a newline.
+/// A line that isn't in its grammar, counted from 1, its bytes without a newline, and why it isn't.
 #[derive(Clone, Copy, Debug, PartialEq, Eq)]
 pub struct BadLine<'a> {
     pub line: u64,
     pub bytes: &'a [u8],
+    pub flaw: Flaw<'a>,
 }
 
 /// What a linearization leaves: how many lines it has of how many calls, on how many CPUs, and whose each granule is at the

@@ -5,6 +5,7 @@ use crate::changed::EarlierStep;
 use crate::explanation::{BadLine, Cause, Explanation, Refusal};
 use crate::named_call::NamedCall;
 use crate::reply_text::{AcceptedText, ReplyText, is_by_realm};
+use bad_lines::Shown;
 use std::fmt;
 
 impl fmt::Display for Explanation<'_> {
@@ -125,21 +126,7 @@ impl fmt::Display for Refusal {
 
 impl fmt::Display for BadLine<'_> {
     fn fmt<W: fmt::Write>(&self, f: &mut fmt::Formatter<W>) -> fmt::Result {
-        let line = self.line;
-        write!(f, "line {line}: ")?;
-        for byte in self.bytes.iter().take(MOST_SHOWN) {
-            match *byte {
-                b' '..=b'~' => f.write_char(char::from(*byte))?,
-                byte => write!(f, "\\x{byte:02x}")?,
-            }
-        }
-        f.write_str(if self.bytes.len() > MOST_SHOWN {
-            " ..\n"
-        } else {
-            "\n"
-        })
+        let (line, bytes, flaw) = (self.line, Shown(self.bytes), self.flaw);
+        write!(f, "line {line}: {bytes}\n{flaw}")
     }
 }
-
-/// How many bytes of a bad line are shown.
-const MOST_SHOWN: usize = 200;

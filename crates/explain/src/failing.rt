@@ -2,7 +2,7 @@
 //! given, its words, the tags of the granules that it names, and then records and tables, of which the status says which kind.
 
 ghost use Rattle.std.specs.Prelude.{IfOk};
-ghost use Rattle.explain.specs.Failing.{IsFailing};
+ghost use Rattle.explain.specs.Failing.{IsFailing, IsStatusFor};
 ghost use Rattle.rmm_spec.specs.Call.{call_of};
 ghost use Rattle.spec_machine.specs.View.{state_of};
 
@@ -36,7 +36,8 @@ pub(crate) fn failing_condition(
     command: &Command,
     specified: &Result<Accepted, Reply>,
 ) -> Result<Condition, AllocError>
-    ensures { IfOk result (IsFailing (state_of machine.now) (call_of command.now)) }
+    ensures fails { IfOk result (IsFailing (state_of machine.now) (call_of command.now)) }
+    ensures status { IfOk result (λ condition. IsStatusFor condition specified.now) }
 {
     let mut owners = Vec::new(alloc);
     machine.owner_report(&mut owners)?;
@@ -73,8 +74,8 @@ pub(crate) fn farthest_end(
 }
 
 impl Place<'_> {
-    ghost use Rattle.std.specs.Prelude.{◌≡◌, ◌≤◌, ◌/◌, ◌%◌, [], length, slice_get, Some, None, IfSome, IfNone};
-    ghost use Rattle.explain.specs.Failing.{IsFailing, IsFound};
+    ghost use Rattle.std.specs.Prelude.{◌≡◌, ℕ, ◌≤◌, ◌/◌, ◌%◌, [], length, slice_get, Some, None, IfSome, IfNone};
+    ghost use Rattle.explain.specs.Failing.{IsFailing, IsFound, IsStatusOf};
     ghost use Rattle.rmm_spec.specs.declared.call.Call.{Call as Given};
     ghost use Rattle.rmm_spec.specs.State.{State};
     ghost use Rattle.spec_machine.specs.Report.{AddsOwners};
@@ -82,7 +83,8 @@ impl Place<'_> {
 
     // Why a command isn't given here.
     fn misplacement(self, function: FunctionId) -> Condition
-        ensures { (s : State) (given : Given) → IsFailing s given result }
+        ensures fails { (s : State) (given : Given) → IsFailing s given result }
+        ensures status { (status index : ℕ) → IsStatusOf result status index }
     {
         if !is_by_realm(function) && function != FunctionId::Exit {
             Condition::Inside
@@ -95,7 +97,8 @@ impl Place<'_> {
 
     fn failing_row(self, call: &Call, status: u8, index: u8) -> Condition
         requires { AddsOwners (state_of self.machine.now) [] self.owners.now }
-        ensures { IsFailing (state_of self.entry.machine.now) call.now result }
+        ensures fails { IsFailing (state_of self.entry.machine.now) call.now result }
+        ensures status { IsStatusOf result status index }
     {
         if let Some(fault) = word_fault(call) {
             return Condition::Word(fault);
@@ -114,7 +117,8 @@ impl Place<'_> {
     // The first granule that a command names and that hasn't the tag that it needs.
     fn wrong_tag(self, call: &Call) -> Option<Condition>
         requires { AddsOwners (state_of self.machine.now) [] self.owners.now }
-        ensures { IfSome result (IsFailing (state_of self.entry.machine.now) call.now) }
+        ensures fails { IfSome result (IsFailing (state_of self.entry.machine.now) call.now) }
+        ensures status { IfSome result (λ condition. (status index : ℕ) → IsStatusOf condition status index) }
     {
         let granules = named_granules(call);
         for i in 0..granules.len() {
@@ -155,7 +159,8 @@ impl Place<'_> {
 
     // ERROR_INPUT behind the words and tags.
     fn input_row(self, call: &Call) -> Condition
-        ensures { (s : State) (given : Given) → IsFailing s given result }
+        ensures fails { (s : State) (given : Given) → IsFailing s given result }
+        ensures status { (index : ℕ) → IsStatusOf result 1 index }
     {
         match *call {
             Call::RealmCreate { vmid, .. } => Condition::VmidUsed { vmid },
@@ -181,7 +186,8 @@ impl Place<'_> {
 
     // The walk has to get to a level, and the realm's walks begin below it, or the address is past the realm's space.
     fn space_row(self, rd: u64, ipa: u64, level: u64, reached: Option<u64>) -> Condition
-        ensures { (s : State) (given : Given) → IsFailing s given result }
+        ensures fails { (s : State) (given : Given) → IsFailing s given result }
+        ensures status { (index : ℕ) → IsStatusOf result 1 index }
     {
         match reached.and_then(|reached| self.entry(rd, 0, reached)) {
             Some(_) => Condition::PastSpace { ipa },
@@ -191,7 +197,8 @@ impl Place<'_> {
 
     // ERROR_REALM.
     fn realm_row(self, call: &Call, index: u8) -> Condition
-        ensures { (s : State) (given : Given) → IsFailing s given result }
+        ensures fails { (s : State) (given : Given) → IsFailing s given result }
+        ensures status { IsStatusOf result 2 index }
     {
         match *call {
             Call::RecEnter { .. } if index == 0 => Condition::RealmNew,
@@ -218,7 +225,8 @@ impl Place<'_> {
 
     // ERROR_REC.
     fn rec_row(self, call: &Call) -> Condition
-        ensures { (s : State) (given : Given) → IsFailing s given result }
+        ensures fails { (s : State) (given : Given) → IsFailing s given result }
+        ensures status { (index : ℕ) → IsStatusOf result 3 index }
     {
         match *call {
             Call::RecEnter { rec } => Condition::RecNotReady { rec },
@@ -237,7 +245,8 @@ impl Place<'_> {
 
     // ERROR_RTT at a level.
     fn table_row(self, call: &Call, level: u8) -> Condition
-        ensures { (s : State) (given : Given) → IsFailing s given result }
+        ensures fails { (s : State) (given : Given) → IsFailing s given result }
+        ensures status { (status : ℕ) → IsStatusOf result status level }
     {
         let at = u64::from(level);
         match *call {
@@ -292,7 +301,8 @@ impl Place<'_> {
 
     // The walk ends above level 3, or on an entry of another kind.
     fn page_row(self, rd: u64, ipa: u64, level: u8, needed: EntryKind) -> Condition
-        ensures { (s : State) (given : Given) → IsFailing s given result }
+        ensures fails { (s : State) (given : Given) → IsFailing s given result }
+        ensures status { (status : ℕ) → IsStatusOf result status level }
     {
         if level < 3 {
             return Condition::WalkEnds {

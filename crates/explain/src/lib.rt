@@ -11,10 +11,12 @@ mod changed;
 mod condition;
 mod condition_text;
 mod earlier;
+mod explained_run;
 mod explaining;
 mod explanation;
 mod explanation_text;
 mod failing;
+mod flaw;
 mod named_call;
 mod named_granules;
 mod reply_text;
@@ -24,8 +26,10 @@ mod word_fault;
 
 pub use changed::EarlierStep;
 pub use condition::{Condition, EntryKind, EntryRead, WordFault};
-pub use explaining::explain;
+pub use explained_run::{ExplainedRun, Run, explain};
+pub use explaining::explain_run;
 pub use explanation::{BadLine, Cause, Explanation, Refusal, Summary};
+pub use flaw::{Flaw, Misplaced};
 pub use named_call::NamedCall;
 pub use reporting::report;
 

@@ -175,17 +175,36 @@ fn unfinished_call_dropped(rt: HostRuntime) -> Result<(), Fail> {
 }
 
 #[test]
-fn bad_lines(rt: HostRuntime) -> Result<(), Fail> {
+fn part_of_a_bad_line(rt: HostRuntime) -> Result<(), Fail> {
     expect(
         &rt,
         "rmh1 4 1\nc 0 0 c4000151 01000\n",
         "",
-        "fault history 2\nthe history's line 2: c 0 0 c4000151 01000\n",
+        "fault history 2\nthe history's line 2: c 0 0 c4000151 01000\nwrong: part 5, \"01000\"\n\
+         there could stand: a word of 64 bits in lower-case hex, without leading zeros\n",
     )?;
     expect(
         &rt,
         ONE,
         "k\t0",
-        "fault certificate 1\nthe certificate's line 1: k\\x090\n",
+        "fault certificate 1\nthe certificate's line 1: k\\x090\nwrong: part 1, \"k\\x090\"\n\
+         there could stand: k for a call that returned, or u for one that didn't\n",
+    )
+}
+
+#[test]
+fn line_out_of_its_place(rt: HostRuntime) -> Result<(), Fail> {
+    expect(
+        &rt,
+        "rmh1 4 1\nc 0 0 c4000151 1000\nc 0 1 c4000151 2000\n",
+        "",
+        "fault history 3\nthe history's line 3: c 0 1 c4000151 2000\nwrong: the event isn't its CPU's next\n\
+         there could stand: where a CPU has a call open, that call's return, and else its next call, numbered from 0 on\n",
+    )?;
+    expect(
+        &rt,
+        "rmh1 4 1",
+        "",
+        "fault history 1\nthe history's line 1: rmh1 4 1\nwrong: no newline ends the line\n",
     )
 }

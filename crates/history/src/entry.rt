@@ -60,6 +60,7 @@ pub fn reserve_event(entries: &mut Vec<Entry>, words: &mut Vec<u64>) -> Result<(
 }
 
 /// Stores an event at the end. It takes no memory where there is room, and where memory is refused nothing is stored.
+#[inline(always)]
 pub fn store(
     entries: &mut Vec<Entry>,
     words: &mut Vec<u64>,
@@ -80,6 +81,7 @@ pub fn store(
 }
 
 /// Enters the words of an event behind all others, and gives its entry.
+#[inline(always)]
 fn enter(words: &mut Vec<u64>, event: EventRef<'_>) -> Result<Entry, AllocError>
     requires words { length words.old.items < 2 ^ 32 }
     requires few { HasFewWords (event_seen event) }
@@ -125,6 +127,7 @@ fn enter(words: &mut Vec<u64>, event: EventRef<'_>) -> Result<Entry, AllocError>
 }
 
 /// Appends the words of one event, and returns where they stand.
+#[inline(always)]
 fn append(words: &mut Vec<u64>, more: &[u64]) -> Result<Stretch, AllocError>
     requires words { length words.old.items < 2 ^ 32 }
     requires few { length more.now ≤ 10 }

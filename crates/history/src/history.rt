@@ -274,6 +274,7 @@ impl History {
     }
 
     /// Records an event at the end, as `push` does.
+    #[inline(always)]
     pub(crate) fn append(&mut self, event: EventRef<'_>) -> Result<(), AllocError>
         requires follows { CanFollow self.old.recorded (event_seen event) }
         requires line { length self.old.recorded.events + 1 < MOST_LINES }

@@ -12,7 +12,6 @@ use crate::fault::HistoryFault;
 use crate::history::{History, MOST_LINES};
 use crate::line::header_from;
 use rmi_codec::{Head, Parts, command_from, head_from, next_line, reply_from};
-use rmi_view::{CommandRef, ReplyRef};
 use std::alloc::{AllocError, Global};
 
 /// Reads a history. A line that would be its 1,000,001st is bad, and so is the first of a text without any.
@@ -23,8 +22,9 @@ pub fn read(alloc: Global, text: &[u8]) -> Result<History, HistoryFault>
     let Some((mut history, mut rest)) = read_header(alloc, text) else {
         return Err(HistoryFault::BadLine(1));
     };
+    let mut words = [0; 10];
     while !rest.is_empty() {
-        rest = read_event(&mut history, rest)?;
+        rest = read_event(&mut history, &mut words, rest)?;
     }
     history.well_formed();
     Ok(history)
@@ -45,8 +45,12 @@ fn read_header(alloc: Global, text: &[u8]) -> Option<(History, &[u8])>
     Some((history, rest))
 }
 
-/// Reads the line after those that are read, and gives the text after it.
-fn read_event<'a>(history: &mut History, rest: &'a [u8]) -> Result<&'a [u8], HistoryFault>
+/// Reads the line after those that are read, and gives the text after it. Its words are read to the buffer.
+fn read_event<'a>(
+    history: &mut History,
+    words: &mut [u64; 10],
+    rest: &'a [u8],
+) -> Result<&'a [u8], HistoryFault>
     requires { 0 < length rest.now }
     ensures read { IfOk result (λ more. history_text history.old.recorded ++ rest.now ≡ history_text history.new.recorded ++ more.now) }
     ensures shorter { IfOk result (λ more. length more.now < length rest.now) }
@@ -60,14 +64,18 @@ fn read_event<'a>(history: &mut History, rest: &'a [u8]) -> Result<&'a [u8], His
     let Some((line, more)) = next_line(rest) else {
         return Err(bad_line);
     };
-    if !record_line(history, line)? {
+    if !record_line(history, words, line)? {
         return Err(bad_line);
     }
     Ok(more)
 }
 
 /// Records the event that a line spells, where one is spelled that can be next.
-fn record_line(history: &mut History, line: &[u8]) -> Result<bool, AllocError>
+fn record_line(
+    history: &mut History,
+    words: &mut [u64; 10],
+    line: &[u8],
+) -> Result<bool, AllocError>
     requires room { length history.old.recorded.events + 1 < MOST_LINES }
     ensures recorded { IfOk result (λ done. IsTrue done → HasRecorded history.old.recorded history.new.recorded (parts_of line.now)) }
     ensures refused { IfOk result (λ done. done ≡ false → ¬ HasNext history.old.recorded (parts_of line.now)) }
@@ -87,10 +95,9 @@ fn record_line(history: &mut History, line: &[u8]) -> Result<bool, AllocError>
     };
     match letter {
         b'c' => {
-            let Ok(command) = command_from(parts) else {
+            let Ok(command) = command_from(words, parts) else {
                 return Ok(false);
             };
-            let command = CommandRef::of(&command);
             record(
                 history,
                 EventRef::Called {
@@ -101,10 +108,9 @@ fn record_line(history: &mut History, line: &[u8]) -> Result<bool, AllocError>
             )
         }
         b'r' => {
-            let Ok(reply) = reply_from(parts) else {
+            let Ok(reply) = reply_from(words, parts) else {
                 return Ok(false);
             };
-            let reply = ReplyRef::of(&reply);
             record(history, EventRef::Returned { cpu, number, reply })
         }
         _ => Ok(false),
@@ -112,6 +118,7 @@ fn record_line(history: &mut History, line: &[u8]) -> Result<bool, AllocError>
 }
 
 /// Records an event, where it is its CPU's next.
+#[inline(always)]
 fn record(history: &mut History, event: EventRef<'_>) -> Result<bool, AllocError>
     requires is_event { IsEvent history.old.recorded.config.cpus (event_seen event) }
     requires room { length history.old.recorded.events + 1 < MOST_LINES }
@@ -131,6 +138,7 @@ fn record(history: &mut History, event: EventRef<'_>) -> Result<bool, AllocError
 mod tests {
     use super::*;
     use granule_state::Config;
+    use rmi_view::ReplyRef;
     use rmm_spec::{FunctionId, Reply};
     use std::test::Fail;
 

@@ -5,3 +5,4 @@ pub mod PartLaws
 pub mod PrefixLaws
 pub mod WriteLaws
 mod FunctionLaws
+pub mod ResultLaws

@@ -1,5 +1,5 @@
 -- The number that the first part of a line spells, read without knowing before where the part ends.
-use Rattle.std.proofs.Common.{◌≡◌, ◌⊎◌, Bool, if◌then◌else◌, ◌≢◌, ℕ, zero, suc, ◌+◌, ◌*◌, ◌<◌, ◌≤◌, true, false, ◌==◌, List, [], ◌∷◌, ◌++◌, length, map, get_or, take, drop, inl, inr, refl, sym, ap, ◌∙◌, arith, lit<}
+use Rattle.std.proofs.Common.{◌≡◌, ◌⊎◌, Bool, if◌then◌else◌, ◌≢◌, ℕ, zero, suc, ◌+◌, ◌*◌, ◌<◌, ◌≤◌, true, false, ◌==◌, List, [], ◌∷◌, ◌++◌, length, map, get_or, take, drop, codes, inl, inr, refl, sym, ap, ◌∙◌, arith, lit<}
 use Rattle.std.specs.List.{All, AllByRecursion}
 use Rattle.std.specs.Int.Digits.{digits_of}
 use Rattle.std.proofs.Math.Seq.{drop-cons}
@@ -9,7 +9,7 @@ use Rattle.std.proofs.lemmas.List.{get_or-take, get_or_at, length-append, length
 use Rattle.std.proofs.lemmas.List.Elements.{All-weaker, All-from_recursion}
 use Rattle.std.proofs.lemmas.List.Splits.{slice_split_none, slice_split_at, length-slice_split}
 use Rattle.rmm_spec.specs.Text.{glyph, numeral, line_text, parts_of}
-use Rattle.rmm_spec.proofs.Texts.{IsPlain, glyph-IsPlain, map-glyph-plain, parts_of-line_text, numeral_some, numeral-zero, numeral-IsPart}
+use Rattle.rmm_spec.proofs.Texts.{IsPlain, IsPart-from_test, glyph-IsPlain, map-glyph-plain, parts_of-line_text, numeral_some, numeral-zero, numeral-IsPart}
 use Rattle.rmi_codec.specs.Spaced.{parts_behind}
 use Rattle.rmi_codec.proofs.NumberLaws.{SpellsSoFar, SpellsSoFar-none, SpellsSoFar-first, SpellsSoFar-more, le_from_SpellsSoFar, no_numeral-at_byte, no_numeral-leading_zero}
 use Rattle.rmi_codec.proofs.PartLaws.{line_text-from_parts, parts_behind-end, parts_behind-space}
@@ -180,3 +180,32 @@ pub no_parts_behind : (base : ℕ) (line : List ℕ) (end number n : ℕ) → 2 
 no_parts_behind base line end number n big goes_on read e =
     let both = sym (parts_of-numeral base line n big e) ∙ read ∙ ap (λ rest. numeral base number ∷ rest) (parts_behind-space line end goes_on) in
     omega (arith, ap length both, length-slice_split (λ byte. byte == 32) (drop 1 (drop end line)))
+
+-- ---- the form `ok`
+
+ok_front : (line : List ℕ) → 2 ≤ length line → get_or line 0 0 ≡ 111 → get_or line 1 0 ≡ 107 → take 2 line ≡ codes "ok"
+ok_front [] two o k = absurd (omega arith)
+ok_front (first ∷ []) two o k = absurd (omega arith)
+ok_front (first ∷ second ∷ rest) two o k = λ i. o i ∷ k i ∷ []
+
+-- a line that begins with the two letters and ends there, or goes on with a space
+pub ok_read : (line : List ℕ) → 2 ≤ length line → get_or line 0 0 ≡ 111 → get_or line 1 0 ≡ 107 → (2 < length line → get_or line 2 0 ≡ 32) → parts_of line ≡ codes "ok" ∷ parts_behind 2 line
+ok_read line two o k ended = cut_at line (codes "ok") 2 (IsPart-from_test 111 (107 ∷ []) refl).plain (ok_front line two o k) two ended _ refl
+
+-- and no other line has the form as its first part
+ok_alone : (line : List ℕ) (rest : List (List ℕ)) → parts_of line ≡ codes "ok" ∷ rest → (2 ≤ length line) × (get_or line 0 0 ≡ 111) × (get_or line 1 0 ≡ 107) × (2 < length line → get_or line 2 0 ≡ 32)
+ok_alone line rest e =
+    let is = IsFirstPart-from_parts line (codes "ok") rest e in
+    (is.inside, IsFirstPart-byte line (codes "ok") 0 is (omega arith), IsFirstPart-byte line (codes "ok") 1 is (omega arith), is.end)
+
+pub ok_short : (line : List ℕ) → length line < 2 → (rest : List (List ℕ)) → parts_of line ≢ codes "ok" ∷ rest
+ok_short line short rest e = omega (arith, short, (ok_alone line rest e).0)
+
+pub ok_first : (line : List ℕ) → get_or line 0 0 ≢ 111 → (rest : List (List ℕ)) → parts_of line ≢ codes "ok" ∷ rest
+ok_first line other rest e = other (ok_alone line rest e).1
+
+pub ok_second : (line : List ℕ) → get_or line 1 0 ≢ 107 → (rest : List (List ℕ)) → parts_of line ≢ codes "ok" ∷ rest
+ok_second line other rest e = other (ok_alone line rest e).2
+
+pub ok_end : (line : List ℕ) → 2 < length line → get_or line 2 0 ≢ 32 → (rest : List (List ℕ)) → parts_of line ≢ codes "ok" ∷ rest
+ok_end line past other rest e = other ((ok_alone line rest e).3 past)

@@ -1,11 +1,12 @@
 //! Commands.
 
-ghost use Rattle.std.specs.Prelude.{◌≡◌, ◌≢◌, ℕ, List, ◌∷◌, ◌++◌, length, take, Ok, IfOk, IfErr, OnOk, OnErr, ◌≤◌, ◌<◌, ◌+◌, vec_len, vec_capacity};
+ghost use Rattle.std.specs.Prelude.{◌≡◌, ◌≢◌, ℕ, List, ◌∷◌, ◌++◌, length, take, Ok, IsOkAnd, IfOk, IfErr, OnOk, OnErr, ◌≤◌, ◌<◌, ◌+◌, vec_len, vec_capacity};
 ghost use Rattle.rmm_spec.specs.declared.command.Command.{Command};
 ghost use Rattle.rmm_spec.specs.declared.function_id.FunctionId.{FunctionId};
 ghost use Rattle.rmm_spec.specs.Function.{number_of};
 ghost use Rattle.rmm_spec.specs.CommandText.{IsCommand, command_parts, command_text};
 ghost use Rattle.rmm_spec.specs.Text.{fixed_hex, parts_of};
+ghost use Rattle.rmi_view.specs.Seen.{command_seen};
 ghost use Rattle.rmi_codec.specs.Faults.{IsCommandFault};
 ghost use Rattle.rmi_codec.specs.Beginning.{IsBeginning};
 
@@ -15,25 +16,29 @@ use crate::function::words_of;
 use crate::parts::Parts;
 use crate::whole::all_or_nothing;
 use crate::word::{push_words, read_words};
-use arrayvec::ArrayVec;
+use rmi_view::CommandRef;
 use rmm_spec::Command;
 use std::alloc::AllocError;
 
-/// Reads the command that the parts spell, all of them.
-pub fn command_from(mut parts: Parts<'_>) -> Result<Command, CodecFault>
-    ensures found { IfOk result (λ c. IsCommand c × (parts.entry ≡ command_parts c)) }
-    ensures only { (c : Command) → IsCommand c → parts.entry ≡ command_parts c → result ≡ Ok c }
+/// Reads the command that the parts spell, all of them. Its words lie in the buffer, over those of the line before.
+#[inline(always)]
+pub fn command_from<'w>(
+    words: &'w mut [u64; 10],
+    mut parts: Parts<'_>,
+) -> Result<CommandRef<'w>, CodecFault>
+    ensures found { IfOk result (λ seen. IsCommand (command_seen seen) × (parts.entry ≡ command_parts (command_seen seen))) }
+    ensures only { (c : Command) → IsCommand c → parts.entry ≡ command_parts c → IsOkAnd result (λ seen. command_seen seen ≡ c) }
+    ensures few { IfOk result (λ seen. length seen.words.now ≤ 10) }
     ensures fault { IfErr result (λ e. IsCommandFault e parts.entry) }
 {
     let Some(function) = parts.next_function() else {
         return Err(number_fault(parts));
     };
-    let mut words = ArrayVec::new();
-    read_words(&mut words, parts, CodecFault::WordCount)?;
+    let words = read_words(words, parts, CodecFault::WordCount)?;
     if words.len() != words_of(function) {
         return Err(CodecFault::WordCount);
     }
-    Ok(Command { function, words })
+    Ok(CommandRef { function, words })
 }
 
 // Why the first part is no function's number, where it is none.
@@ -55,7 +60,11 @@ pub fn read_command(text: &str) -> Result<Command, CodecFault>
     ensures only { (c : Command) → IsCommand c → text.now ≡ command_text c → result ≡ Ok c }
     ensures fault { IfErr result (λ e. IsCommandFault e (parts_of text.now)) }
 {
-    command_from(Parts::of(text.as_bytes()))
+    let mut words = [0; 10];
+    match command_from(&mut words, Parts::of(text.as_bytes())) {
+        Ok(command) => Ok(command.to_command()),
+        Err(fault) => Err(fault),
+    }
 }
 
 /// Appends a command's text. Where memory is refused, a beginning of it may have been appended.

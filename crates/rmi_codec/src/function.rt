@@ -50,9 +50,9 @@ fn function_spelled(bytes: u64) -> Option<FunctionId>
     Some(function)
 }
 
-// How many words a function takes.
+/// How many words a function takes.
 #[tactic(auto, unfolding(rmm_spec::specs::Function::word_count))]
-pub(crate) fn words_of(function: FunctionId) -> usize
+pub fn words_of(function: FunctionId) -> usize
     ensures { result ≡ word_count function }
 {
     match function {

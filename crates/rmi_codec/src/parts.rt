@@ -1,6 +1,6 @@
 //! A line, cut at its spaces.
 
-ghost use Rattle.std.specs.Prelude.{◌≡◌, ◌≢◌, ◌==◌, ◌↔◌, ℕ, ◌<◌, ◌≤◌, ◌^◌, [], ◌∷◌, List, length, drop, IsTrue, IfSome, IfNone, position, ◌+◌};
+ghost use Rattle.std.specs.Prelude.{◌≡◌, ◌≢◌, ◌==◌, ◌↔◌, ℕ, ◌<◌, ◌≤◌, ◌^◌, [], ◌∷◌, List, length, drop, codes, IsTrue, IsFalse, IfSome, IfNone, position, ◌+◌};
 ghost use Rattle.rmm_spec.specs.declared.function_id.FunctionId.{FunctionId};
 ghost use Rattle.rmm_spec.specs.Function.{number_of};
 ghost use Rattle.rmm_spec.specs.Text.{fixed_hex, numeral, parts_of};
@@ -8,6 +8,7 @@ ghost use Rattle.rmi_codec.specs.Spaced.{parts_behind};
 
 use crate::function::function_prefix;
 use crate::numeral::{is_end, numeral_prefix};
+use crate::reply::ok_prefix;
 use rmm_spec::FunctionId;
 use std::marker::Model;
 
@@ -111,7 +112,7 @@ impl<'a> Parts<'a> {
 
     /// Takes the next part off, where it is the number of a function. Else nothing is taken.
     #[inline(always)]
-    pub(crate) fn next_function(&mut self) -> Option<FunctionId>
+    pub fn next_function(&mut self) -> Option<FunctionId>
         ensures found { IfSome result (λ f. self.old ≡ fixed_hex 8 (number_of f) ∷ self.new) }
         ensures none { IfNone result ((f : FunctionId) (rest : List (List ℕ)) → self.old ≢ fixed_hex 8 (number_of f) ∷ rest) }
         ensures kept { IfNone result (self.new ≡ self.old) }
@@ -123,6 +124,24 @@ impl<'a> Parts<'a> {
         let function = function_prefix(rest)?;
         *self = behind(self.line, self.at, 8);
         Some(function)
+    }
+
+    /// Takes the next part off, where it is `ok`. Else nothing is taken.
+    #[inline(always)]
+    pub(crate) fn next_ok(&mut self) -> bool
+        ensures found { IsTrue result → self.old ≡ codes "ok" ∷ self.new }
+        ensures none { IsFalse result → (rest : List (List ℕ)) → self.old ≢ codes "ok" ∷ rest }
+        ensures kept { IsFalse result → self.new ≡ self.old }
+    {
+        if self.at > self.line.len() {
+            return false;
+        }
+        let rest = self.line.split_at(self.at).1;
+        if !ok_prefix(rest) {
+            return false;
+        }
+        *self = behind(self.line, self.at, 2);
+        true
     }
 
     /// Whether no part is left.

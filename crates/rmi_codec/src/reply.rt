@@ -1,19 +1,22 @@
 //! Replies.
 
-ghost use Rattle.std.specs.Prelude.{◌≡◌, ◌<◌, ◌++◌, [], ◌∷◌, ℕ, List, map, length, take, Ok, Some, codes, IsOk, IfOk, IfErr, IfSome, OnOk, OnErr, ◌≤◌, ◌+◌, vec_len, vec_capacity};
+ghost use Rattle.std.specs.Prelude.{◌≡◌, ◌≢◌, ◌<◌, ◌++◌, [], ◌∷◌, ℕ, List, map, length, take, Ok, Some, codes, IsTrue, IsFalse, IsOk, IsOkAnd, IfOk, IfErr, IfSome, OnOk, OnErr, ◌≤◌, ◌+◌, vec_len, vec_capacity};
 ghost use Rattle.rmm_spec.specs.declared.reply.Reply.{Reply};
 ghost use Rattle.rmm_spec.specs.CommandText.{IsReply, reply_parts, reply_text};
 ghost use Rattle.rmm_spec.specs.Text.{decimal, parts_of};
+ghost use Rattle.rmi_view.specs.Seen.{HasFewWords, reply_seen};
 ghost use Rattle.rmi_codec.specs.Faults.{IsReplyFault, IsSmallFault, IsEndFault};
 ghost use Rattle.rmi_codec.specs.Beginning.{IsBeginning};
+ghost use Rattle.rmi_codec.specs.Spaced.{parts_behind};
 
 use crate::decimal::next_decimal;
 use crate::fault::{CodecFault, part_fault};
 use crate::head::push_numbers;
+use crate::numeral::is_end;
 use crate::parts::Parts;
 use crate::whole::all_or_nothing;
 use crate::word::{push_words, read_words};
-use arrayvec::ArrayVec;
+use rmi_view::ReplyRef;
 use rmm_spec::Reply;
 use std::alloc::AllocError;
 
@@ -43,50 +46,90 @@ fn finish(mut parts: Parts<'_>) -> Result<(), CodecFault>
 }
 
 // Reads what stands behind `ok`.
-fn ok_from(parts: Parts<'_>) -> Result<Reply, CodecFault>
-    ensures found { IfOk result (λ r. IsReply r × (codes "ok" ∷ parts.entry ≡ reply_parts r)) }
-    ensures only { (r : Reply) → IsReply r → codes "ok" ∷ parts.entry ≡ reply_parts r → result ≡ Ok r }
+#[inline(always)]
+fn ok_from<'w>(words: &'w mut [u64; 10], parts: Parts<'_>) -> Result<ReplyRef<'w>, CodecFault>
+    ensures found { IfOk result (λ seen. IsReply (reply_seen seen) × (codes "ok" ∷ parts.entry ≡ reply_parts (reply_seen seen))) }
+    ensures only { (r : Reply) → IsReply r → codes "ok" ∷ parts.entry ≡ reply_parts r → IsOkAnd result (λ seen. reply_seen seen ≡ r) }
+    ensures few { IfOk result (λ seen. HasFewWords (reply_seen seen)) }
     ensures fault { IfErr result (λ e. IsReplyFault e (codes "ok" ∷ parts.entry)) }
 {
-    let mut words = ArrayVec::new();
-    read_words(&mut words, parts, CodecFault::BadForm)?;
-    Ok(Reply::Ok(words))
+    let words = read_words(words, parts, CodecFault::BadForm)?;
+    Ok(ReplyRef::Ok(words))
 }
 
 // Reads what stands behind `err`.
-fn err_from(mut parts: Parts<'_>) -> Result<Reply, CodecFault>
-    ensures found { IfOk result (λ r. IsReply r × (codes "err" ∷ parts.entry ≡ reply_parts r)) }
-    ensures only { (r : Reply) → IsReply r → codes "err" ∷ parts.entry ≡ reply_parts r → result ≡ Ok r }
+fn err_from<'w>(mut parts: Parts<'_>) -> Result<ReplyRef<'w>, CodecFault>
+    ensures found { IfOk result (λ seen. IsReply (reply_seen seen) × (codes "err" ∷ parts.entry ≡ reply_parts (reply_seen seen))) }
+    ensures only { (r : Reply) → IsReply r → codes "err" ∷ parts.entry ≡ reply_parts r → IsOkAnd result (λ seen. reply_seen seen ≡ r) }
+    ensures few { IfOk result (λ seen. HasFewWords (reply_seen seen)) }
     ensures fault { IfErr result (λ e. IsReplyFault e (codes "err" ∷ parts.entry)) }
 {
     let status = take_small(&mut parts)?;
     let index = take_small(&mut parts)?;
     finish(parts)?;
-    Ok(Reply::Err(status, index))
+    Ok(ReplyRef::Err(status, index))
 }
 
 // Reads what stands behind `misplaced`: nothing.
-fn misplaced_from(parts: Parts<'_>) -> Result<Reply, CodecFault>
-    ensures found { IfOk result (λ r. IsReply r × (codes "misplaced" ∷ parts.entry ≡ reply_parts r)) }
-    ensures only { (r : Reply) → IsReply r → codes "misplaced" ∷ parts.entry ≡ reply_parts r → result ≡ Ok r }
+fn misplaced_from<'w>(parts: Parts<'_>) -> Result<ReplyRef<'w>, CodecFault>
+    ensures found { IfOk result (λ seen. IsReply (reply_seen seen) × (codes "misplaced" ∷ parts.entry ≡ reply_parts (reply_seen seen))) }
+    ensures only { (r : Reply) → IsReply r → codes "misplaced" ∷ parts.entry ≡ reply_parts r → IsOkAnd result (λ seen. reply_seen seen ≡ r) }
+    ensures few { IfOk result (λ seen. HasFewWords (reply_seen seen)) }
     ensures fault { IfErr result (λ e. IsReplyFault e (codes "misplaced" ∷ parts.entry)) }
 {
     finish(parts)?;
-    Ok(Reply::Misplaced)
+    Ok(ReplyRef::Misplaced)
 }
 
-/// Reads the reply that the parts spell, all of them.
-pub fn reply_from(mut parts: Parts<'_>) -> Result<Reply, CodecFault>
-    ensures found { IfOk result (λ r. IsReply r × (parts.entry ≡ reply_parts r)) }
-    ensures only { (r : Reply) → IsReply r → parts.entry ≡ reply_parts r → result ≡ Ok r }
+// Whether the first part of a line is `ok`.
+#[inline(always)]
+#[tactic(auto, using(std::proofs::lemmas::Grind::common_steps, crate::proofs::PrefixLaws::ok_read, crate::proofs::PrefixLaws::ok_short, crate::proofs::PrefixLaws::ok_first, crate::proofs::PrefixLaws::ok_second, crate::proofs::PrefixLaws::ok_end))]
+pub(crate) fn ok_prefix(line: &[u8]) -> bool
+    ensures found { IsTrue result → parts_of line.now ≡ codes "ok" ∷ parts_behind 2 line.now }
+    ensures inside { IsTrue result → 2 ≤ length line.now }
+    ensures none { IsFalse result → (rest : List (List ℕ)) → parts_of line.now ≢ codes "ok" ∷ rest }
+{
+    if line.len() < 2 {
+        return false;
+    }
+    if line[0] != b'o' {
+        return false;
+    }
+    if line[1] != b'k' {
+        return false;
+    }
+    is_end(line, 2)
+}
+
+/// Reads the reply that the parts spell, all of them. Its words lie in the buffer, over those of the line before.
+#[inline(always)]
+pub fn reply_from<'w>(
+    words: &'w mut [u64; 10],
+    mut parts: Parts<'_>,
+) -> Result<ReplyRef<'w>, CodecFault>
+    ensures found { IfOk result (λ seen. IsReply (reply_seen seen) × (parts.entry ≡ reply_parts (reply_seen seen))) }
+    ensures only { (r : Reply) → IsReply r → parts.entry ≡ reply_parts r → IsOkAnd result (λ seen. reply_seen seen ≡ r) }
+    ensures few { IfOk result (λ seen. HasFewWords (reply_seen seen)) }
+    ensures fault { IfErr result (λ e. IsReplyFault e parts.entry) }
+{
+    if parts.next_ok() {
+        return ok_from(words, parts);
+    }
+    other_from(parts)
+}
+
+// Reads a reply in another form than `ok`.
+#[inline(never)]
+fn other_from<'w>(mut parts: Parts<'_>) -> Result<ReplyRef<'w>, CodecFault>
+    requires { (rest : List (List ℕ)) → parts ≢ codes "ok" ∷ rest }
+    ensures found { IfOk result (λ seen. IsReply (reply_seen seen) × (parts.entry ≡ reply_parts (reply_seen seen))) }
+    ensures only { (r : Reply) → IsReply r → parts.entry ≡ reply_parts r → IsOkAnd result (λ seen. reply_seen seen ≡ r) }
+    ensures few { IfOk result (λ seen. HasFewWords (reply_seen seen)) }
     ensures fault { IfErr result (λ e. IsReplyFault e parts.entry) }
 {
     let Some(form) = parts.next_part() else {
         return Err(CodecFault::BadForm);
     };
-    if form == b"ok".as_slice() {
-        return ok_from(parts);
-    }
     if form == b"err".as_slice() {
         return err_from(parts);
     }
@@ -105,7 +148,11 @@ pub fn read_reply(text: &str) -> Result<Reply, CodecFault>
     ensures only { (r : Reply) → IsReply r → text.now ≡ reply_text r → result ≡ Ok r }
     ensures fault { IfErr result (λ e. IsReplyFault e (parts_of text.now)) }
 {
-    reply_from(Parts::of(text.as_bytes()))
+    let mut words = [0; 10];
+    match reply_from(&mut words, Parts::of(text.as_bytes())) {
+        Ok(reply) => Ok(reply.to_reply()),
+        Err(fault) => Err(fault),
+    }
 }
 
 // Appends a refusal.

@@ -1,6 +1,6 @@
 //! Words: numbers of 64 bits in lower-case hex.
 
-ghost use Rattle.std.specs.Prelude.{◌≡◌, ◌≢◌, ℕ, ◌<◌, ◌≤◌, ◌^◌, [], ◌∷◌, ◌++◌, List, length, map, take, Ok, Some, IsOk, IfOk, IfErr, IfSome, IfNone, OnOk, OnErr, ◌+◌, vec_len, vec_capacity};
+ghost use Rattle.std.specs.Prelude.{◌≡◌, ◌≢◌, ℕ, ◌<◌, ◌≤◌, ◌^◌, ◌∷◌, ◌++◌, List, length, map, take, Ok, Some, IsOk, IfOk, IfErr, IfSome, IfNone, OnOk, OnErr, ◌+◌, vec_len, vec_capacity};
 ghost use Rattle.rmm_spec.specs.CommandText.{AreWords};
 ghost use Rattle.rmm_spec.specs.Text.{word};
 ghost use Rattle.rmi_codec.specs.Faults.{IsWordsFault};
@@ -10,13 +10,12 @@ ghost use Rattle.rmi_codec.specs.Beginning.{IsBeginning};
 use crate::fault::{CodecFault, part_fault};
 use crate::numeral::push_numeral;
 use crate::parts::Parts;
-use arrayvec::ArrayVec;
 use std::alloc::AllocError;
 
-// Takes the next part off, where it is a word. Else nothing is taken.
+/// Takes the next part off, where it is a word: 64 bits in lower-case hex without leading zeros. Else nothing is taken.
 #[inline(always)]
 #[tactic(auto, unfolding(rmm_spec::specs::Text::word))]
-fn next_word(parts: &mut Parts<'_>) -> Option<u64>
+pub fn next_word(parts: &mut Parts<'_>) -> Option<u64>
     ensures found { IfSome result (λ w. parts.old ≡ word w ∷ parts.new) }
     ensures none { IfNone result ((w : ℕ) (rest : List (List ℕ)) → w < 2 ^ 64 → parts.old ≢ word w ∷ rest) }
     ensures kept { IfNone result (parts.new ≡ parts.old) }
@@ -52,27 +51,30 @@ pub(crate) fn push_words(out: &mut Vec<u8>, words: &[u64]) -> Result<(), AllocEr
     Ok(())
 }
 
-// Reads words to the end of a line, at most ten, into a place without any. With more the fault is `excess`.
-pub(crate) fn read_words(
-    words: &mut ArrayVec<u64, 10>,
+// Reads words to the end of a line, at most ten, into a buffer that may hold any others. With more the fault is `excess`.
+#[inline(always)]
+#[tactic(auto, using(std::proofs::lemmas::Grind::common_steps))]
+pub(crate) fn read_words<'w>(
+    words: &'w mut [u64; 10],
     mut parts: Parts<'_>,
     excess: CodecFault,
-) -> Result<(), CodecFault>
-    requires { words.old.items ≡ [] }
-    ensures found { OnOk result (parts.entry ≡ map word words.new.items) }
-    ensures words { OnOk result (AreWords words.new.items) }
-    ensures count { OnOk result (length words.new.items ≤ 10) }
+) -> Result<&'w [u64], CodecFault>
+    ensures found { IfOk result (λ read. parts.entry ≡ map word read.now) }
+    ensures words { IfOk result (λ read. AreWords read.now) }
+    ensures count { IfOk result (λ read. length read.now ≤ 10) }
     ensures only { (ws : List ℕ) → AreWords ws → length ws ≤ 10 → parts.entry ≡ map word ws → IsOk result }
     ensures fault { IfErr result (λ e. IsWordsFault excess e parts.entry) }
 {
+    let mut count: usize = 0;
     while !parts.is_over() {
         let Some(word) = next_word(&mut parts) else {
             return Err(part_fault(&mut parts));
         };
-        if words.is_full() {
+        if count == words.len() {
             return Err(excess);
         }
-        words.push(word);
+        words[count] = word;
+        count += 1;
     }
-    Ok(())
+    Ok(&words[..count])
 }

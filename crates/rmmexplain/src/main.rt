@@ -1,23 +1,35 @@
 //! `rmmexplain HISTORY CERT`: prints the verdict on two files and what stands behind it. The status is `rmmcheck`'s.
+//! `rmmexplain --html FILE HISTORY CERT` writes that to a file, as one page with a picture, and prints nothing.
 #![tactic(auto)]
 
-use explain::{explain, report};
+mod words;
+
+use crate::words::{Words, words_given};
+use explain::{explain, explain_run, report};
+use explain_page::append_page;
 use judging::ends_with;
+use std::alloc::AllocError;
 use std::io::{ErrorKind, Write};
 use std::process::ExitCode;
 use std::rt::{Env, Files};
-use std::{env, fmt, fs, io};
+use std::{fmt, fs, io};
 
 /// Why nothing, or not all, was printed.
 #[derive(Debug, Drop)]
 enum Fault {
-    /// The words aren't two paths.
+    /// The words aren't two paths, with `--html FILE` before them or not.
     Arguments,
     /// A file can't be opened, or not be read to its end.
     CannotRead(String),
-    /// Standard output didn't take the whole report.
+    /// Standard output, or the page's file, didn't take the whole report.
     CannotWrite,
     NoMemory,
+}
+
+impl From<AllocError> for Fault {
+    fn from(_refused: AllocError) -> Fault {
+        Fault::NoMemory
+    }
 }
 
 impl Fault {
@@ -57,31 +69,46 @@ fn run<R: Env + Files + Print + Eprint + AllocGlobal>(rt: &R) -> u8 {
 }
 
 fn explain_files<R: Env + Files + Print + AllocGlobal>(rt: &R) -> Result<u8, Fault> {
-    let (history, certificate) = paths(rt)?;
+    let Words {
+        page,
+        history,
+        certificate,
+    } = words_given(rt)?;
     let history = bytes_of(rt, history)?;
     let certificate = bytes_of(rt, certificate)?;
-    let Ok(explanation) = explain(rt.alloc(), history.as_slice(), certificate.as_slice()) else {
-        return Err(Fault::NoMemory);
-    };
-    let mut text = Vec::new(rt.alloc());
-    if report(rt.alloc(), &explanation, &mut text).is_err() {
-        return Err(Fault::NoMemory);
+    match page {
+        Some(path) => write_page(rt, path, history.as_slice(), certificate.as_slice()),
+        None => print_report(rt, history.as_slice(), certificate.as_slice()),
     }
+}
+
+fn print_report<R: Print + AllocGlobal>(
+    rt: &R,
+    history: &[u8],
+    certificate: &[u8],
+) -> Result<u8, Fault> {
+    let explanation = explain(rt.alloc(), history, certificate)?;
+    let mut text = Vec::new(rt.alloc());
+    report(rt.alloc(), &explanation, &mut text)?;
     match io::writer(rt).write_all(text.as_slice()) {
         Ok(()) => Ok(ends_with(Ok(explanation.verdict())).status),
         Err(_) => Err(Fault::CannotWrite),
     }
 }
 
-// The two words behind the program's name.
-fn paths<R: Env + AllocGlobal>(rt: &R) -> Result<(String, String), Fault> {
-    let Ok(mut words) = env::args(rt) else {
-        return Err(Fault::Arguments);
-    };
-    let _name = words.next();
-    match (words.next(), words.next(), words.next()) {
-        (Some(history), Some(certificate), None) => Ok((history, certificate)),
-        _ => Err(Fault::Arguments),
+// The page is whole before its file is opened.
+fn write_page<R: Files + AllocGlobal>(
+    rt: &R,
+    path: String,
+    history: &[u8],
+    certificate: &[u8],
+) -> Result<u8, Fault> {
+    let told = explain_run(rt.alloc(), history, certificate)?;
+    let mut page = Vec::new(rt.alloc());
+    append_page(rt.alloc(), &told, &mut page)?;
+    match fs::write(rt, path.as_str(), page.as_slice()) {
+        Ok(()) => Ok(ends_with(Ok(told.explanation.verdict())).status),
+        Err(_) => Err(Fault::CannotWrite),
     }
 }
 

@@ -1,34 +1,15 @@
 -- What a machine keeps goes with each kind of change.
-use Rattle.std.proofs.Common.{◌≡◌, ℕ, ◌+◌, ◌-◌, ◌*◌, ◌/◌, ◌<◌, ◌==◌, false, Option, Some, None, List, IsTrue, refl, sym, ◌∙◌, ap, subst, arith, slice_index_or, slice_set, replicate, zero, suc, zero-add}
-use Rattle.std.proofs.lemmas.List.{length-set, length-replicate, get_or_default}
-use Rattle.rmm_spec.specs.declared.change.Change.TheVariants.{RealmMade, RealmDestroyed, RecMade, RecDestroyed}
-use Rattle.rmm_spec.specs.declared.change.RealmChange.{RealmChange}
+use Rattle.spec_machine.proofs.Common.{◌≡◌, ℕ, zero, suc, ◌+◌, ◌-◌, ◌*◌, ◌<◌, false, List, length, replicate, IfSome, IsTrue, ◌==◌, slice_index_or, slice_set, Some, None, Option, AreRunning, CanApply, CanChangeRealm, CanChangeRec, CanDestroyRealm, CanDestroyRec, CanMakeRealm, CanMakeRec, Change, Config, Delegated, IsKept, IsPlaced, IsSound, Machine, Rd, RealmChange, RealmDestroyed, RealmMade, RealmRecord, Rec, RecChange, RecDestroyed, RecMade, RecRecord, State, ap, arith, changed, changed_sound, count_below, count_below-same, cpu_before, granule_from_tag, has_tag, has_vmid, is_granule, is_owned_by, kept_at, length-replicate, length-set, new_realm, new_rec, none_of, opening, put, realm_at, realm_there, realm_updated, rec_at, rec_count, rec_there, rec_updated, refl, runs_on, stored, subst, sym, with_realm_change, with_rec_change, with_running, ◌∙◌}
 use Rattle.rmm_spec.specs.declared.change.RealmUpdate.TheVariants.{RecCounted}
-use Rattle.rmm_spec.specs.declared.change.RecChange.{RecChange}
-use Rattle.rmm_spec.specs.declared.tag.Tag.TheVariants.{Delegated, Rd, Rec}
-use Rattle.rmm_spec.specs.HistoryText.{Config}
-use Rattle.rmm_spec.specs.Applicable.{CanMakeRealm, CanDestroyRealm, CanMakeRec, CanDestroyRec, CanChangeRealm, CanChangeRec}
-use Rattle.rmm_spec.specs.Change.{changed, new_realm, new_rec, realm_updated, rec_updated, with_realm_change, with_rec_change}
-use Rattle.rmm_spec.specs.State.{State, opening}
-use Rattle.rmm_spec.specs.Lookup.{is_granule, has_vmid, is_owned_by, runs_on, realm_at, rec_at}
-use Rattle.rmm_spec.specs.Sound.{IsSound}
-use Rattle.rmm_spec.proofs.TagLaws.{granule_from_tag}
-use Rattle.rmm_sound.proofs.Cases.{none_of}
-use Rattle.rmm_sound.proofs.Changes.{changed_sound}
 use Rattle.rmm_sound.proofs.Opening.{opening_sound}
 use Rattle.rmm_sound.proofs.Records.{updated_like}
-use Rattle.rmm_sound.proofs.Searches.{realm_there, rec_there}
 use Rattle.rmm_sound.proofs.Tags.{has_tag-other}
 use Rattle.rmm_laws.proofs.Keeps.{rec_updated-like}
-use Rattle.rmm_spec.specs.Shape.{count_below}
-use Rattle.spec_machine.specs.Kept.{IsKept, rec_count}
-use Rattle.spec_machine.specs.Running.{AreRunning}
-use Rattle.flat_tables.proofs.Counts.{count_below-same}
 use Rattle.spec_machine.proofs.Lookups.{is_vmid_used-kept}
-use Rattle.spec_machine.proofs.Named.{named-nowhere, same-changed, named-same, named-added, named-removed}
-use Rattle.spec_machine.proofs.Places.{place_within, get_or-replicate_all}
+use Rattle.spec_machine.proofs.Named.{named-added, named-nowhere, named-removed, named-same, same-changed}
+use Rattle.spec_machine.proofs.Places.{kept_at-replicate}
 use Rattle.spec_machine.proofs.RecCounts.{rec_counted, rec_uncounted}
-use Rattle.spec_machine.proofs.RunningRecs.{idle-nowhere}
+use Rattle.spec_machine.proofs.RunningRecs.{idle-nowhere, rec_change-running}
 
 -- ---- the opening
 
@@ -43,37 +24,20 @@ kept-opening config n size = record {
   vmid_places = length-replicate {A = Option ℕ} 256 None;
   named = named-nowhere 256;
   count_places = length-replicate n 0 ∙ size;
-  counted = λ rd granule. get_or-replicate_all n (rd / 4096) 0 _ refl ∙ sym (no_recs config.granules);
+  counted = λ rd granule. kept_at-replicate config.granules n rd 0 _ refl ∙ sym (no_recs config.granules);
 }
 
 pub running-opening : (config : Config) → AreRunning (opening config) (replicate 256 None)
 unfolding opening
 running-opening config = named-nowhere 256
 
--- ---- changes that leave RECs and VMIDs as they are
-
-pub record KeepsIndexes (s t : State) : Type 0 where
-  pub granules : t.granules ≡ s.granules
-  pub owned : (rd g : ℕ) → is_owned_by rd (t.rec g) ≡ is_owned_by rd (s.rec g)
-  pub vmids : (vmid g : ℕ) → has_vmid vmid (t.realm g) ≡ has_vmid vmid (s.realm g)
+-- ---- changes of records alone
 
 -- the records of a realm and of a REC, and no others, are changed so
 pub record HasRecords (s t : State) (realm : Option RealmChange) (rec : Option RecChange) : Type 0 where
   pub size : t.granules ≡ s.granules
   pub realms : t.realm ≡ (with_realm_change s realm).realm
   pub recs : t.rec ≡ (with_rec_change s rec).rec
-
-pub kept_like : (s t : State) (vmids : List (Option ℕ)) (counts : List ℕ) → IsKept s vmids counts → IsSound t → KeepsIndexes s t → IsKept t vmids counts
-unfolding rec_count
-kept_like s t vmids counts kept sound same = record {
-  sound = sound;
-  vmid_places = kept.vmid_places;
-  named = λ vmid g. kept.named vmid g ∙ sym (same.vmids vmid g);
-  count_places = kept.count_places ∙ sym same.granules;
-  counted = λ rd granule. kept.counted rd (subst (λ n. IsTrue (is_granule n rd)) same.granules granule)
-      ∙ sym (ap (λ n. count_below n (λ k. is_owned_by rd (t.rec (k * 4096)))) same.granules
-      ∙ count_below-same s.granules (λ k. is_owned_by rd (t.rec (k * 4096))) (λ k. is_owned_by rd (s.rec (k * 4096))) (λ k below. same.owned rd (k * 4096)));
-}
 
 -- a realm's record that is updated keeps its VMID
 realm_change-vmids : (s : State) (change : Option RealmChange) → IsSound s → CanChangeRealm s change
@@ -92,100 +56,116 @@ rec_change-owned s (Some change) sound can rd g =
     same-changed (is_owned_by rd) s.rec change.rec g (Some (rec_updated change.update (rec_at s change.rec))) (g == change.rec) refl
     (ap (is_owned_by rd) like.1 ∙ ap (λ o. o == rd) like.2 ∙ sym (ap (is_owned_by rd) (rec_there s change.rec sound can.0)))
 
--- records, tags and entries that are changed keep both
-pub records-indexes : (s t : State) (realm : Option RealmChange) (rec : Option RecChange) → IsSound s → CanChangeRealm s realm → CanChangeRec s rec
-    → HasRecords s t realm rec → KeepsIndexes s t
-records-indexes s t realm rec sound can_realm can_rec has = record {
-  granules = has.size;
-  owned = λ rd g. ap (λ m. is_owned_by rd (m g)) has.recs ∙ rec_change-owned s rec sound can_rec rd g;
-  vmids = λ vmid g. ap (λ m. has_vmid vmid (m g)) has.realms ∙ realm_change-vmids s realm sound can_realm vmid g;
-}
+-- VMIDs and counts stay, and who runs goes with the REC's update
+pub records-kept : (m : Machine) (change : Change) (realm : Option RealmChange) (rec : Option RecChange) → let s = stored m.store in let t = changed s change in
+    CanApply s change → CanChangeRealm s realm → CanChangeRec s rec → IfSome rec (λ c. IsPlaced c.update) → HasRecords s t realm rec
+    → IsKept t m.vmids.items m.rec_counts.items × AreRunning t (with_running (cpu_before s rec) rec m.running.recs.items)
+unfolding rec_count
+records-kept m change realm rec can can_realm can_rec placed has =
+    let s = stored m.store in
+    let t = changed s change in
+    let sound = m.kept.sound in (
+      record {
+        sound = changed_sound s change sound can;
+        vmid_places = m.kept.vmid_places;
+        named = λ vmid g. m.kept.named vmid g
+            ∙ sym (ap (λ (realms : ℕ → Option RealmRecord). has_vmid vmid (realms g)) has.realms ∙ realm_change-vmids s realm sound can_realm vmid g);
+        count_places = m.kept.count_places ∙ sym has.size;
+        counted = subst
+            (λ n. (rd : ℕ) → IsTrue (is_granule n rd) → kept_at n m.rec_counts.items 0 rd ≡ count_below n (λ k. is_owned_by rd (t.rec (k * 4096)))) (sym has.size)
+            (λ rd granule. m.kept.counted rd granule
+            ∙ count_below-same s.granules (λ k. is_owned_by rd (s.rec (k * 4096))) (λ k. is_owned_by rd (t.rec (k * 4096)))
+            (λ k below. sym (ap (λ (recs : ℕ → Option RecRecord). is_owned_by rd (recs (k * 4096))) has.recs ∙ rec_change-owned s rec sound can_rec rd (k * 4096))));
+      },
+      rec_change-running m t rec can_rec placed has.recs,
+    )
 
 -- ---- realms
 
-pub realm_made-kept : (s : State) (vmids : List (Option ℕ)) (counts : List ℕ) (rd root width level vmid algo : ℕ) → IsKept s vmids counts
-    → vmid < 256 → CanMakeRealm s rd root width level vmid algo
-    → IsKept (changed s (RealmMade rd root width level vmid algo)) (slice_set vmids vmid (Some rd)) counts
+pub realm_made-kept : (m : Machine) (rd root width level vmid algo : ℕ) → let s = stored m.store in vmid < 256
+    → CanMakeRealm s rd root width level vmid algo
+    → IsKept (changed s (RealmMade rd root width level vmid algo)) (slice_set m.vmids.items vmid (Some rd)) m.rec_counts.items
 unfolding changed rec_count
-realm_made-kept s vmids counts rd root width level vmid algo kept small can =
-    let none : s.realm rd ≡ None = none_of (s.realm rd) (kept.sound.realms.tagged rd ∙ has_tag-other s rd Delegated Rd can.rd_tag refl) in
-    let free : slice_index_or vmids vmid None ≡ None =
-    none_of (slice_index_or vmids vmid None) (sym (is_vmid_used-kept s vmids counts vmid kept) ∙ can.unused) in
+realm_made-kept m rd root width level vmid algo small can =
+    let s = stored m.store in
+    let none : s.realm rd ≡ None = none_of (s.realm rd) (m.kept.sound.realms.tagged rd ∙ has_tag-other s rd Delegated Rd can.rd_tag refl) in
+    let free : slice_index_or m.vmids.items vmid None ≡ None =
+    none_of (slice_index_or m.vmids.items vmid None) (sym (is_vmid_used-kept m vmid) ∙ can.unused) in
     record {
-      sound = changed_sound s (RealmMade rd root width level vmid algo) kept.sound can;
-      vmid_places = length-set vmids vmid (Some rd) ∙ kept.vmid_places;
-      named = named-added has_vmid s.realm vmids rd vmid (Some (new_realm root width level vmid algo)) kept.named (omega (arith, kept.vmid_places)) free
-          (λ n. ap (has_vmid n) none) (λ n. refl);
-      count_places = kept.count_places;
-      counted = kept.counted;
+      sound = changed_sound s (RealmMade rd root width level vmid algo) m.kept.sound can;
+      vmid_places = length-set m.vmids.items vmid (Some rd) ∙ m.kept.vmid_places;
+      named = named-added has_vmid s.realm m.vmids.items rd vmid (Some (new_realm root width level vmid algo)) m.kept.named
+          (omega (arith, small, m.kept.vmid_places)) free (λ n. ap (has_vmid n) none) (λ n. refl);
+      count_places = m.kept.count_places;
+      counted = m.kept.counted;
     }
 
-pub realm_destroyed-kept : (s : State) (vmids : List (Option ℕ)) (counts : List ℕ) (rd root vmid : ℕ) → IsKept s vmids counts
-    → vmid ≡ (realm_at s rd).vmid → CanDestroyRealm s rd root
-    → IsKept (changed s (RealmDestroyed rd root)) (slice_set vmids vmid None) counts
+pub realm_destroyed-kept : (m : Machine) (rd root vmid : ℕ) → let s = stored m.store in vmid ≡ (realm_at s rd).vmid → CanDestroyRealm s rd root
+    → IsKept (changed s (RealmDestroyed rd root)) (slice_set m.vmids.items vmid None) m.rec_counts.items
 unfolding changed rec_count
-realm_destroyed-kept s vmids counts rd root vmid kept is can = record {
-  sound = changed_sound s (RealmDestroyed rd root) kept.sound can;
-  vmid_places = length-set vmids vmid None ∙ kept.vmid_places;
-  named = named-removed has_vmid s.realm vmids rd vmid None kept.named
-      (λ n. ap (has_vmid n) (realm_there s rd kept.sound can.rd_tag) ∙ ap (λ v. v == n) (sym is)) (λ n. refl);
-  count_places = kept.count_places;
-  counted = kept.counted;
-}
+realm_destroyed-kept m rd root vmid is can =
+    let s = stored m.store in
+    record {
+      sound = changed_sound s (RealmDestroyed rd root) m.kept.sound can;
+      vmid_places = length-set m.vmids.items vmid None ∙ m.kept.vmid_places;
+      named = named-removed has_vmid s.realm m.vmids.items rd vmid None m.kept.named
+          (λ n. ap (has_vmid n) (realm_there s rd m.kept.sound can.rd_tag) ∙ ap (λ v. v == n) (sym is)) (λ n. refl);
+      count_places = m.kept.count_places;
+      counted = m.kept.counted;
+    }
 
 -- ---- RECs
 
-pub rec_made-kept : (s : State) (vmids : List (Option ℕ)) (counts : List ℕ) (rd rec mpidr flags aux0 aux1 : ℕ) → IsKept s vmids counts
-    → CanMakeRec s rd rec mpidr flags aux0 aux1
-    → IsKept (changed s (RecMade rd rec mpidr flags aux0 aux1)) vmids (slice_set counts (rd / 4096) (slice_index_or counts (rd / 4096) 0 + 1))
+-- where a REC is made there was none
+none_made : (s : State) (rec : ℕ) → IsSound s → IsTrue (has_tag s rec Delegated) → s.rec rec ≡ None
+none_made s rec sound tag = none_of (s.rec rec) (sound.recs.tagged rec ∙ has_tag-other s rec Delegated Rec tag refl)
+
+pub rec_made-kept : (m : Machine) (rd rec mpidr flags aux0 aux1 : ℕ) (counts : List ℕ) → let s = stored m.store in CanMakeRec s rd rec mpidr flags aux0 aux1
+    → length counts ≡ length m.rec_counts.items → kept_at s.granules counts 0 ≡ put (kept_at s.granules m.rec_counts.items 0) rd (rec_count s rd + 1)
+    → IsKept (changed s (RecMade rd rec mpidr flags aux0 aux1)) m.vmids.items counts
 unfolding changed rec_count
-rec_made-kept s vmids counts rd rec mpidr flags aux0 aux1 kept can =
-    let none : s.rec rec ≡ None = none_of (s.rec rec) (kept.sound.recs.tagged rec ∙ has_tag-other s rec Delegated Rec can.rec_tag refl) in
-    let counted = rec_counted s.granules s.rec counts rec (new_rec rd mpidr flags aux0 aux1) kept.counted kept.count_places
-    (granule_from_tag s rec Delegated can.rec_tag) (granule_from_tag s rd Rd can.rd_tag) none in
+rec_made-kept m rd rec mpidr flags aux0 aux1 counts can places written =
+    let s = stored m.store in
     record {
-      sound = changed_sound s (RecMade rd rec mpidr flags aux0 aux1) kept.sound can;
-      vmid_places = kept.vmid_places;
-      named = named-same has_vmid s.realm vmids rd (Some (realm_updated (RecCounted mpidr flags) (realm_at s rd))) kept.named
+      sound = changed_sound s (RecMade rd rec mpidr flags aux0 aux1) m.kept.sound can;
+      vmid_places = m.kept.vmid_places;
+      named = named-same has_vmid s.realm m.vmids.items rd (Some (realm_updated (RecCounted mpidr flags) (realm_at s rd))) m.kept.named
           (λ vmid. ap (λ v. v == vmid) (updated_like (RecCounted mpidr flags) (realm_at s rd)).vmid
-          ∙ sym (ap (has_vmid vmid) (realm_there s rd kept.sound can.rd_tag)));
-      count_places = length-set counts (rd / 4096) (slice_index_or counts (rd / 4096) 0 + 1) ∙ kept.count_places;
-      counted = counted;
+          ∙ sym (ap (has_vmid vmid) (realm_there s rd m.kept.sound can.rd_tag)));
+      count_places = places ∙ m.kept.count_places;
+      counted = rec_counted s.granules s.rec (kept_at s.granules m.rec_counts.items 0) (kept_at s.granules counts 0) rec (new_rec rd mpidr flags aux0 aux1)
+          m.kept.counted (granule_from_tag s rec Delegated can.rec_tag) (none_made s rec m.kept.sound can.rec_tag) written;
     }
 
-pub rec_destroyed-kept : (s : State) (vmids : List (Option ℕ)) (counts : List ℕ) (rec aux0 aux1 owner : ℕ) → IsKept s vmids counts
-    → owner ≡ (rec_at s rec).owner → CanDestroyRec s rec aux0 aux1
-    → IsKept (changed s (RecDestroyed rec aux0 aux1)) vmids (slice_set counts (owner / 4096) (slice_index_or counts (owner / 4096) 0 - 1))
+pub rec_destroyed-kept : (m : Machine) (rec aux0 aux1 : ℕ) (counts : List ℕ) → let s = stored m.store in let rd = (rec_at s rec).owner in
+    CanDestroyRec s rec aux0 aux1 → length counts ≡ length m.rec_counts.items
+    → kept_at s.granules counts 0 ≡ put (kept_at s.granules m.rec_counts.items 0) rd (rec_count s rd - 1)
+    → IsKept (changed s (RecDestroyed rec aux0 aux1)) m.vmids.items counts
 unfolding changed rec_count
-rec_destroyed-kept s vmids counts rec aux0 aux1 owner kept is can =
-    let there : s.rec rec ≡ Some (rec_at s rec) = rec_there s rec kept.sound can.rec_tag in
+rec_destroyed-kept m rec aux0 aux1 counts can places written =
+    let s = stored m.store in
     record {
-      sound = changed_sound s (RecDestroyed rec aux0 aux1) kept.sound can;
-      vmid_places = kept.vmid_places;
-      named = kept.named;
-      count_places = length-set counts (owner / 4096) (slice_index_or counts (owner / 4096) 0 - 1) ∙ kept.count_places;
-      counted = rw is (rec_uncounted s.granules s.rec counts rec (rec_at s rec) kept.counted kept.count_places
-          (granule_from_tag s rec Rec can.rec_tag) (granule_from_tag s (rec_at s rec).owner Rd (kept.sound.recs.owned rec (rec_at s rec) there)) there);
+      sound = changed_sound s (RecDestroyed rec aux0 aux1) m.kept.sound can;
+      vmid_places = m.kept.vmid_places;
+      named = m.kept.named;
+      count_places = places ∙ m.kept.count_places;
+      counted = rec_uncounted s.granules s.rec (kept_at s.granules m.rec_counts.items 0) (kept_at s.granules counts 0) rec (rec_at s rec)
+          m.kept.counted (granule_from_tag s rec Rec can.rec_tag) (rec_there s rec m.kept.sound can.rec_tag) written;
     }
 
 -- RECs that don't run come and go
-pub rec_made-running : (s : State) (recs : List (Option ℕ)) (rd rec mpidr flags aux0 aux1 : ℕ) → IsSound s → AreRunning s recs
-    → CanMakeRec s rd rec mpidr flags aux0 aux1 → AreRunning (changed s (RecMade rd rec mpidr flags aux0 aux1)) recs
+pub rec_made-running : (m : Machine) (rd rec mpidr flags aux0 aux1 : ℕ) → let s = stored m.store in CanMakeRec s rd rec mpidr flags aux0 aux1
+    → AreRunning (changed s (RecMade rd rec mpidr flags aux0 aux1)) m.running.recs.items
 unfolding changed
-rec_made-running s recs rd rec mpidr flags aux0 aux1 sound running can =
-    let none : s.rec rec ≡ None = none_of (s.rec rec) (sound.recs.tagged rec ∙ has_tag-other s rec Delegated Rec can.rec_tag refl) in
-    named-same runs_on s.rec recs rec (Some (new_rec rd mpidr flags aux0 aux1)) running (λ n. sym (ap (runs_on n) none))
+rec_made-running m rd rec mpidr flags aux0 aux1 can =
+    let s = stored m.store in
+    named-same runs_on s.rec m.running.recs.items rec (Some (new_rec rd mpidr flags aux0 aux1)) m.inside
+    (λ n. sym (ap (runs_on n) (none_made s rec m.kept.sound can.rec_tag)))
 
-pub rec_destroyed-running : (s : State) (recs : List (Option ℕ)) (rec aux0 aux1 : ℕ) → IsSound s → AreRunning s recs
-    → CanDestroyRec s rec aux0 aux1 → AreRunning (changed s (RecDestroyed rec aux0 aux1)) recs
+pub rec_destroyed-running : (m : Machine) (rec aux0 aux1 : ℕ) → let s = stored m.store in CanDestroyRec s rec aux0 aux1
+    → AreRunning (changed s (RecDestroyed rec aux0 aux1)) m.running.recs.items
 unfolding changed
-rec_destroyed-running s recs rec aux0 aux1 sound running can =
-    named-same runs_on s.rec recs rec None running
-    (λ n. sym (ap (runs_on n) (rec_there s rec sound can.rec_tag) ∙ idle-nowhere (rec_at s rec).cpu can.ready n))
-
--- the count that is read of a realm's RECs
-pub count-read : (s : State) (vmids : List (Option ℕ)) (counts : List ℕ) (rd place read : ℕ) → IsKept s vmids counts → IsTrue (is_granule s.granules rd)
-    → place ≡ rd / 4096 → read ≡ slice_index_or counts place read → read ≡ slice_index_or counts (rd / 4096) 0
-count-read s vmids counts rd place read kept granule is_place is_read =
-    is_read ∙ get_or_default counts place read 0 (omega (arith, kept.count_places, is_place, place_within s.granules rd granule))
-    ∙ ap (λ i. slice_index_or counts i 0) is_place
+rec_destroyed-running m rec aux0 aux1 can =
+    let s = stored m.store in
+    named-same runs_on s.rec m.running.recs.items rec None m.inside
+    (λ n. sym (ap (runs_on n) (rec_there s rec m.kept.sound can.rec_tag) ∙ idle-nowhere (rec_at s rec).cpu can.ready n))

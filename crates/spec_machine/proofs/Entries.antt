@@ -1,29 +1,11 @@
 -- What a change of tables and entries requires of what a store keeps.
-use Rattle.std.proofs.Common.{◌≡◌, ℕ, suc, ◌-◌, ◌/◌, ◌≤◌, true, false, Option, Some, None, is_some, inl, inr, IsTrue, IfSome, refl, sym, ◌∙◌, ap, subst, arith}
-use Rattle.rmm_spec.specs.declared.change.EntryChange.{EntryChange}
-use Rattle.rmm_spec.specs.declared.change.EntryChange.TheVariants.{Replaced, RipasSet}
-use Rattle.rmm_spec.specs.declared.change.RealmChange.{RealmChange}
-use Rattle.rmm_spec.specs.declared.change.RecChange.{RecChange}
-use Rattle.rmm_spec.specs.declared.change.RecUpdate.{RecUpdate}
-use Rattle.rmm_spec.specs.declared.change.RecUpdate.TheVariants.{Entered, Exited, RipasRequested, HostCalled, TurnedOff, SystemTurnedOff, RequestMoved}
-use Rattle.rmm_spec.specs.declared.change.TagChange.{TagChange}
+use Rattle.spec_machine.proofs.Common.{◌≡◌, ℕ, suc, ◌-◌, ◌/◌, ◌≤◌, true, false, is_some, IfSome, IsTrue, Some, None, Option, CanChangeEntries, CanChangeRealm, CanChangeRec, CanDestroyRealm, CanDestroyRec, CanDestroyTable, CanUpdateRec, CanWrite, Data, Delegated, EntryChange, IsRealmThere, IsRecThere, IsSound, Rd, RealmChange, Rec, RecAux, RecChange, RecRecord, RecUpdate, Replaced, RequestMoved, RipasSet, Rtt, State, Store, TagChange, ap, arith, granule_from_tag, has_tag, inl, inr, is_granule, realm_at, realm_there, rec_at, rec_there, refl, spot_itself, stored, subst, sym, with_entry_change, with_realm_change, with_rec_change, with_tag_change, ◌∙◌}
 use Rattle.rmm_spec.specs.declared.entry.Entry.{Entry}
-use Rattle.rmm_spec.specs.declared.tag.Tag.TheVariants.{Delegated, Rd, Rec, RecAux, Rtt, Data}
-use Rattle.rmm_spec.specs.Applicable.{CanDestroyRealm, CanDestroyRec, CanDestroyTable, CanUpdateRec, CanChangeRealm, CanChangeRec, CanChangeEntries}
-use Rattle.rmm_spec.specs.Change.{with_tag_change, with_realm_change, with_rec_change, with_entry_change}
-use Rattle.rmm_spec.specs.State.{State, RecRecord}
-use Rattle.rmm_spec.specs.Lookup.{is_granule, has_tag, realm_at, rec_at}
-use Rattle.rmm_spec.specs.Sound.{IsSound}
 use Rattle.rmm_spec.specs.Update.{is_same_entry}
-use Rattle.rmm_spec.proofs.TagLaws.{granule_from_tag}
-use Rattle.rmm_sound.proofs.Cases.{spot_itself}
-use Rattle.rmm_sound.proofs.Searches.{realm_there, rec_there}
-use Rattle.rmm_laws.proofs.Facts.{unlinked-root, entry-page}
+use Rattle.rmm_laws.proofs.Facts.{entry-page, unlinked-root}
 use Rattle.realm_desc.specs.Updates.{IsRecUpdate}
-use Rattle.spec_machine.specs.declared.store.Store.{Store}
-use Rattle.spec_machine.specs.Stored.{stored, CanWrite, IsRealmThere, IsRecThere}
-use Rattle.spec_machine.proofs.Places.{granule_tagged}
 use Rattle.spec_machine.proofs.Changes.{HasRecords}
+use Rattle.spec_machine.proofs.Places.{granule_tagged}
 
 -- ---- realms and RECs that are taken out
 
@@ -56,9 +38,6 @@ aux0_tagged s rec aux0 aux1 sound can = rw can.is_aux0 (sound.recs.aux0 rec (rec
 pub aux1_tagged : (s : State) (rec aux0 aux1 : ℕ) → IsSound s → CanDestroyRec s rec aux0 aux1 → IsTrue (has_tag s aux1 RecAux)
 aux1_tagged s rec aux0 aux1 sound can = rw can.is_aux1 (sound.recs.aux1 rec (rec_at s rec) (rec_there s rec sound can.rec_tag))
 
-pub owner_tagged : (s : State) (rec : ℕ) → IsSound s → IsTrue (has_tag s rec Rec) → IsTrue (has_tag s (rec_at s rec).owner Rd)
-owner_tagged s rec sound tagged = sound.recs.owned rec (rec_at s rec) (rec_there s rec sound tagged)
-
 -- ---- tables
 
 -- a table that is taken out stands below another
@@ -84,12 +63,7 @@ realm-there s (Some change) sound can = record {
 -- what a REC's record must be for a change is what its update requires
 rec_update : (s : State) (rec : RecRecord) (update : RecUpdate) → CanUpdateRec s rec update → IsRecUpdate rec update
 rec_update s rec (RequestMoved base) can = can.1
-rec_update s rec (Entered cpu) can = tt
-rec_update s rec Exited can = tt
-rec_update s rec (RipasRequested base top ripas) can = tt
-rec_update s rec (HostCalled imm) can = tt
-rec_update s rec TurnedOff can = tt
-rec_update s rec SystemTurnedOff can = tt
+rec_update s rec _ can = tt
 
 pub rec-there : (s : State) (change : Option RecChange) → IsSound s → CanChangeRec s change → IfSome change (IsRecThere s)
 rec-there s None sound can = tt
@@ -103,15 +77,15 @@ rec-there s (Some change) sound can = record {
 pub realm-there-tag : (s : State) (page : Option TagChange) (change : Option RealmChange) → IfSome change (IsRealmThere s)
     → IfSome change (IsRealmThere (with_tag_change s page))
 unfolding realm_at
-realm-there-tag s page None there = tt
-realm-there-tag s None (Some change) there = there
+realm-there-tag s None change there = there
+realm-there-tag s (Some tag) None there = tt
 realm-there-tag s (Some tag) (Some change) there = record { granule = there.granule; there = there.there; update = there.update }
 
 pub rec-there-realm : (s : State) (page : Option TagChange) (realm : Option RealmChange) (change : Option RecChange) → IfSome change (IsRecThere s)
     → IfSome change (IsRecThere (with_realm_change (with_tag_change s page) realm))
 unfolding rec_at
+rec-there-realm s None None change there = there
 rec-there-realm s page realm None there = tt
-rec-there-realm s None None (Some change) there = there
 rec-there-realm s None (Some other) (Some change) there = record { granule = there.granule; there = there.there; update = there.update }
 rec-there-realm s (Some tag) None (Some change) there = record { granule = there.granule; there = there.there; update = there.update }
 rec-there-realm s (Some tag) (Some other) (Some change) there = record { granule = there.granule; there = there.there; update = there.update }

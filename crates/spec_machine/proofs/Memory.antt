@@ -1,30 +1,13 @@
 -- Which commands make a change that takes memory, and how deep a stretch lies.
-use Rattle.std.proofs.Common.{◌≡◌, ◌≤◌, ℕ, ◌==◌, Bool, false, ◌||◌, ◌/◌, List, [], ◌∷◌, IsTrue, is_some, refl, sym, ◌∙◌, ap}
-use Rattle.std.specs.Prelude.{Ok}
-use Rattle.rmm_spec.specs.declared.accepted.Accepted.TheVariants.{Reaches}
-use Rattle.rmm_spec.specs.declared.accepted.Stretch.{Stretch}
+use Rattle.spec_machine.proofs.Common.{◌≡◌, ℕ, ◌/◌, ◌≤◌, Bool, false, ◌||◌, List, [], ◌∷◌, is_some, IsTrue, ◌==◌, Ok, CanApply, Change, Claim, IsSound, Reaches, RealmMade, State, Stretch, TableMade, ap, both_ways, claims_opened, done, makes_table, opened, outcome, reached_applies, reached_change, refl, stretch_change, sym, tag_number, takes_memory, ◌∙◌}
 use Rattle.rmm_spec.specs.declared.accepted.StretchUse.{StretchUse}
 use Rattle.rmm_spec.specs.declared.accepted.StretchUse.TheVariants.{Init, Requested}
-use Rattle.rmm_spec.specs.declared.change.Change.{Change}
-use Rattle.rmm_spec.specs.declared.change.Change.TheVariants.{RealmMade, TableMade}
 use Rattle.rmm_spec.specs.declared.command.Command.{Command}
 use Rattle.rmm_spec.specs.declared.function_id.FunctionId.{FunctionId}
 use Rattle.rmm_spec.specs.declared.function_id.FunctionId.TheVariants.{RealmCreate, RttCreate}
-use Rattle.rmm_spec.specs.Applicable.{CanApply}
 use Rattle.rmm_spec.specs.Call.{call_from, call_of}
-use Rattle.rmm_spec.specs.Lookup.{tag_number}
-use Rattle.rmm_spec.specs.Ownership.{Claim, claims_opened}
-use Rattle.rmm_spec.specs.Rows.{done}
-use Rattle.rmm_spec.specs.Sound.{IsSound}
-use Rattle.rmm_spec.specs.State.{State}
-use Rattle.rmm_spec.specs.Step.{outcome}
-use Rattle.rmm_spec.specs.Step.Ripas.{reached_change, stretch_change}
-use Rattle.rmm_spec.proofs.Tests.{both_ways}
-use Rattle.rmm_laws.proofs.ChangeWords.{opened}
-use Rattle.rmm_laws.proofs.CommandFacts.{outcome-tells}
 use Rattle.rmm_sound.proofs.Entries.{value_there}
-use Rattle.rmm_sound.proofs.Runs.{reached_applies}
-use Rattle.spec_machine.specs.Memory.{takes_memory, makes_table}
+use Rattle.rmm_laws.proofs.CommandFacts.{outcome-tells}
 
 -- ---- memory
 

@@ -1,12 +1,7 @@
 -- What has a number is found by the number's place.
-use Rattle.std.proofs.Common.{◌≡◌, ◌≢◌, ℕ, zero, suc, ◌*◌, ◌/◌, ◌<◌, ◌==◌, Bool, true, false, if◌then◌else◌, Option, Some, None, is_some, List, length, IsTrue, refl, sym, ◌∙◌, ap, arith, nat_lt, slice_index_or, slice_set, replicate}
-use Rattle.std.proofs.lemmas.Bool.{eqb-true, eqb-false, eq-eqb, ne_eqb, ltb-true, ltb-false}
-use Rattle.std.proofs.lemmas.List.{get_or-set_same, get_or-set_other, get_or_past}
-use Rattle.rmm_spec.specs.Lookup.{is_granule, any_below}
-use Rattle.rmm_spec.proofs.Tests.{both_ways}
-use Rattle.spec_machine.specs.Kept.{names, AreNamed}
+use Rattle.spec_machine.proofs.Common.{◌≡◌, ℕ, zero, suc, ◌*◌, ◌/◌, ◌<◌, Bool, true, false, List, length, replicate, is_some, if◌then◌else◌, IsTrue, nat_lt, ◌==◌, slice_index_or, slice_set, Some, None, Option, AreNamed, any_below, ap, arith, both_ways, eq-eqb, eqb-false, eqb-true, get_or-set_other, get_or-set_same, get_or_past, is_granule, length-set, ltb-false, ltb-true, names, ne_eqb, put, refl, sym, ◌∙◌}
 use Rattle.flat_tables.proofs.EntryReads.{any_below-found}
-use Rattle.spec_machine.proofs.Places.{place_within, place-granule, get_or-replicate_all}
+use Rattle.spec_machine.proofs.Places.{get_or-replicate_all, place-granule, place_within}
 
 -- none is found where none passes
 any_below-none : (n : ℕ) (passes : ℕ → Bool) → ((k : ℕ) → k < n → passes k ≡ false) → any_below n passes ≡ false
@@ -36,75 +31,58 @@ same-changed test kept a g item false apart alike = rw apart refl
 
 -- what has the numbers of what it replaces is found as that was
 pub named-same : {A : Type 0} (has : ℕ → A → Bool) (kept : ℕ → A) (places : List (Option ℕ)) (a : ℕ) (item : A) → AreNamed has kept places
-    → ((n : ℕ) → has n item ≡ has n (kept a)) → AreNamed has (λ g. if g == a then item else kept g) places
+    → ((n : ℕ) → has n item ≡ has n (kept a)) → AreNamed has (put kept a item) places
 named-same has kept places a item named same = λ n g. named n g ∙ sym (same-changed (has n) kept a g item (g == a) refl (same n))
 
--- what is had nowhere is had where it is put
-named-at : {A : Type 0} (has : A → Bool) (kept : ℕ → A) (a g : ℕ) (item : A) (here : Bool) → (g == a) ≡ here → has item ≡ true
-    → has (kept g) ≡ false → (g == a) ≡ has (if g == a then item else kept g)
-named-at has kept a g item true same put gone = rw same (sym put)
-named-at has kept a g item false apart put gone = rw apart (sym gone)
+-- numbers that differ one way differ the other
+pub eqb_sym-false : (x y : ℕ) → (x == y) ≡ false → (y == x) ≡ false
+eqb_sym-false x y apart = ne_eqb y x (λ same. eqb-false x y apart (sym same))
 
--- a number that nothing had is had at one address, and the others are as they were
-named-added_by : {A : Type 0} (has : ℕ → A → Bool) (kept : ℕ → A) (places : List (Option ℕ)) (a key : ℕ) (item : A) (n g : ℕ) (b : Bool)
-    → AreNamed has kept places → key < length places → slice_index_or places key None ≡ None
-    → ((n : ℕ) → has n (kept a) ≡ false) → ((n : ℕ) → has n item ≡ (key == n)) → (n == key) ≡ b
-    → names g (slice_index_or (slice_set places key (Some a)) n None) ≡ has n (if g == a then item else kept g)
-named-added_by has kept places a key item n g true named within free nothing put same =
-    let is : n ≡ key = eqb-true n key same in
-    let written : slice_index_or (slice_set places key (Some a)) n None ≡ Some a =
-    ap (λ i. slice_index_or (slice_set places key (Some a)) i None) is ∙ get_or-set_same places key (Some a) None within in
-    ap (names g) written
-    ∙ named-at (has n) kept a g item (g == a) refl (put n ∙ eq-eqb key n (sym is))
-    (sym (named n g) ∙ ap (λ i. names g (slice_index_or places i None)) is ∙ ap (names g) free)
-named-added_by has kept places a key item n g false named within free nothing put other =
-    let elsewhere : n ≢ key = eqb-false n key other in
-    ap (names g) (get_or-set_other places key n (Some a) None elsewhere) ∙ named n g
-    ∙ sym (same-changed (has n) kept a g item (g == a) refl (put n ∙ ne_eqb key n (λ same. elsewhere (sym same)) ∙ sym (nothing n)))
+-- One number's place is replaced with the item at one address: other numbers aren't touched, and other addresses neither had
+-- the number nor get it.
+named-set : {A : Type 0} (has : ℕ → A → Bool) (kept : ℕ → A) (places : List (Option ℕ)) (a key : ℕ) (item : A) (to : Option ℕ)
+    → AreNamed has kept places → ((n : ℕ) → (n == key) ≡ false → has n item ≡ has n (kept a)) → names a to ≡ has key item
+    → ((g : ℕ) → (g == a) ≡ false → names g (slice_index_or places key None) ≡ names g to)
+    → slice_index_or (slice_set places key to) key None ≡ to → AreNamed has (put kept a item) (slice_set places key to)
+named-set has kept places a key item to named others here away written = λ n g. by_number n g (n == key) refl
+  where
+    by_address : (g : ℕ) (b : Bool) → (g == a) ≡ b → names g to ≡ has key (if b then item else kept g)
+    by_address g true same = rw (eqb-true g a same) here
+    by_address g false apart = sym (away g apart) ∙ named key g
 
+    by_number : (n g : ℕ) (b : Bool) → (n == key) ≡ b → names g (slice_index_or (slice_set places key to) n None) ≡ has n (put kept a item g)
+    by_number n g true same = rw (eqb-true n key same) (ap (names g) written ∙ by_address g (g == a) refl)
+    by_number n g false apart =
+        ap (names g) (get_or-set_other places key n to None (eqb-false n key apart)) ∙ named n g
+        ∙ sym (same-changed (has n) kept a g item (g == a) refl (others n apart))
+
+-- a number that nothing had is had at one address
 pub named-added : {A : Type 0} (has : ℕ → A → Bool) (kept : ℕ → A) (places : List (Option ℕ)) (a key : ℕ) (item : A)
     → AreNamed has kept places → key < length places → slice_index_or places key None ≡ None
     → ((n : ℕ) → has n (kept a) ≡ false) → ((n : ℕ) → has n item ≡ (key == n))
-    → AreNamed has (λ g. if g == a then item else kept g) (slice_set places key (Some a))
-named-added has kept places a key item named within free nothing put =
-    λ n g. named-added_by has kept places a key item n g (n == key) named within free nothing put refl
+    → AreNamed has (put kept a item) (slice_set places key (Some a))
+named-added has kept places a key item named within free nothing is =
+    named-set has kept places a key item (Some a) named
+    (λ n apart. is n ∙ eqb_sym-false n key apart ∙ sym (nothing n))
+    (eq-eqb a a refl ∙ sym (is key ∙ eq-eqb key key refl))
+    (λ g apart. ap (names g) free ∙ sym apart)
+    (get_or-set_same places key (Some a) None within)
 
-named_of : (named : Option ℕ) (g : ℕ) → names g named ≡ true → named ≡ Some g
-named_of None g is = both_ways is refl
-named_of (Some other) g is = ap (λ n. Some n) (sym (eqb-true g other is))
-
--- a number that is had has a place
-named-within : (places : List (Option ℕ)) (n g : ℕ) (b : Bool) → nat_lt n (length places) ≡ b → names g (slice_index_or places n None) ≡ true → n < length places
-named-within places n g true below had = ltb-true n (length places) below
-named-within places n g false past had =
-    both_ways had (ap (names g) (get_or_past places n None (omega (arith, ltb-false n (length places) past))))
-
--- what was had there alone is had nowhere
-gone-at : {A : Type 0} (has : A → Bool) (kept : ℕ → A) (a g : ℕ) (item : A) (here : Bool) → (g == a) ≡ here → has item ≡ false
-    → (g == a) ≡ has (kept g) → false ≡ has (if g == a then item else kept g)
-gone-at has kept a g item true same put was = rw same (sym put)
-gone-at has kept a g item false apart put was = rw apart (sym apart ∙ was)
-
--- a number is had no longer at its address, and the others are as they were
-named-removed_by : {A : Type 0} (has : ℕ → A → Bool) (kept : ℕ → A) (places : List (Option ℕ)) (a key : ℕ) (item : A) (n g : ℕ) (b : Bool)
-    → AreNamed has kept places → ((n : ℕ) → has n (kept a) ≡ (key == n)) → ((n : ℕ) → has n item ≡ false) → (n == key) ≡ b
-    → names g (slice_index_or (slice_set places key None) n None) ≡ has n (if g == a then item else kept g)
-named-removed_by has kept places a key item n g true named there gone same =
-    let is : n ≡ key = eqb-true n key same in
-    let within : key < length places =
-    named-within places key a (nat_lt key (length places)) refl (named key a ∙ there key ∙ eq-eqb key key refl) in
-    let out : slice_index_or (slice_set places key None) n None ≡ None =
-    ap (λ i. slice_index_or (slice_set places key None) i None) is ∙ get_or-set_same places key None None within in
-    let was : slice_index_or places n None ≡ Some a =
-    named_of (slice_index_or places n None) a (named n a ∙ there n ∙ eq-eqb key n (sym is)) in
-    ap (names g) out ∙ gone-at (has n) kept a g item (g == a) refl (gone n) (sym (ap (names g) was) ∙ named n g)
-named-removed_by has kept places a key item n g false named there gone other =
-    let elsewhere : n ≢ key = eqb-false n key other in
-    ap (names g) (get_or-set_other places key n None None elsewhere) ∙ named n g
-    ∙ sym (same-changed (has n) kept a g item (g == a) refl (gone n ∙ sym (there n ∙ ne_eqb key n (λ same. elsewhere (sym same)))))
-
+-- a number is had no longer at its address
 pub named-removed : {A : Type 0} (has : ℕ → A → Bool) (kept : ℕ → A) (places : List (Option ℕ)) (a key : ℕ) (item : A)
     → AreNamed has kept places → ((n : ℕ) → has n (kept a) ≡ (key == n)) → ((n : ℕ) → has n item ≡ false)
-    → AreNamed has (λ g. if g == a then item else kept g) (slice_set places key None)
+    → AreNamed has (put kept a item) (slice_set places key None)
 named-removed has kept places a key item named there gone =
-    λ n g. named-removed_by has kept places a key item n g (n == key) named there gone refl
+    named-set has kept places a key item None named
+    (λ n apart. gone n ∙ sym (there n ∙ eqb_sym-false n key apart))
+    (sym (gone key))
+    (λ g apart. ap (names g) (named_of (slice_index_or places key None) (named key a ∙ there key ∙ eq-eqb key key refl)) ∙ apart)
+    (unset (nat_lt key (length places)) refl)
+  where
+    named_of : (found : Option ℕ) → names a found ≡ true → found ≡ Some a
+    named_of None is = both_ways is refl
+    named_of (Some other) is = ap (λ n. Some n) (sym (eqb-true a other is))
+
+    unset : (b : Bool) → nat_lt key (length places) ≡ b → slice_index_or (slice_set places key None) key None ≡ None
+    unset true below = get_or-set_same places key None None (ltb-true key (length places) below)
+    unset false past = get_or_past (slice_set places key None) key None (omega (arith, ltb-false key (length places) past, length-set places key None))

@@ -1,36 +1,12 @@
 -- The list of owners is as the ties are, kept by each change that opens and closes claims as ties come and go.
-use Rattle.std.proofs.Common.{◌≡◌, ℕ, ◌/◌, ◌==◌, Bool, true, false, ◌⊎◌, if◌then◌else◌, List, [], ◌∷◌, length, Option, Some, None, IsTrue, refl, sym, ◌∙◌, ap, subst, inl, inr, replicate, ◌↔◌}
-use Rattle.std.proofs.lemmas.Bool.{cases_eq, eq-eqb, ne_eqb}
-use Rattle.std.proofs.lemmas.List.{length-set, length-replicate}
+use Rattle.spec_machine.proofs.Common.{◌≡◌, ℕ, ◌/◌, Bool, true, false, ◌⊎◌, ◌↔◌, List, [], ◌∷◌, length, replicate, if◌then◌else◌, IsTrue, ◌==◌, Some, None, Option, CanApply, CanDestroyRealm, CanDestroyRec, Change, Claim, Config, Data, Delegated, EntriesChanged, EntryChange, IsOwnerOf, IsSound, IsTied, Machine, RealmChange, RealmDestroyed, RecChange, RecDestroyed, Replaced, RipasSet, State, Tag, TagChange, Undelegated, ap, changed, changed_sound, claim, closed, eqb-false, eqb-true, granule_from_tag, inl, inr, is_granule, kept_at, length-replicate, length-set, opened, opening, page_closed, page_opened, refl, stored, subst, subst₂, sym, tag-has_tag, ◌∙◌}
 use Rattle.std.specs.List.{AllByRecursion}
-use Rattle.rmm_spec.specs.declared.change.Change.{Change}
-use Rattle.rmm_spec.specs.declared.change.Change.TheVariants.{RealmDestroyed, RecDestroyed, EntriesChanged}
-use Rattle.rmm_spec.specs.declared.change.EntryChange.{EntryChange}
-use Rattle.rmm_spec.specs.declared.change.EntryChange.TheVariants.{Replaced, RipasSet}
-use Rattle.rmm_spec.specs.declared.change.RealmChange.{RealmChange}
-use Rattle.rmm_spec.specs.declared.change.RecChange.{RecChange}
-use Rattle.rmm_spec.specs.declared.change.TagChange.{TagChange}
-use Rattle.rmm_spec.specs.declared.tag.Tag.{Tag}
-use Rattle.rmm_spec.specs.declared.tag.Tag.TheVariants.{Undelegated, Delegated, Rd, Rec, RecAux, Data, Rtt}
-use Rattle.rmm_spec.specs.HistoryText.{Config}
-use Rattle.rmm_spec.specs.Applicable.{CanApply, CanDestroyRealm, CanDestroyRec}
-use Rattle.rmm_spec.specs.Change.{changed}
-use Rattle.rmm_spec.specs.Lookup.{is_granule, rec_at}
-use Rattle.rmm_spec.specs.Ownership.{Claim, claim, IsTied}
-use Rattle.rmm_spec.specs.Sound.{IsSound}
-use Rattle.rmm_spec.specs.State.{State, opening}
-use Rattle.rmm_spec.proofs.TagLaws.{tag-has_tag, granule_from_tag}
-use Rattle.rmm_spec.proofs.Tests.{both_ways}
-use Rattle.rmm_sound.proofs.Changes.{changed_sound}
-use Rattle.rmm_laws.proofs.ChangeAccounts.{roots_at, recs_at, change-accounts}
-use Rattle.rmm_laws.proofs.ChangeWords.{page_opened, page_closed, opened, closed}
+use Rattle.rmm_laws.proofs.ChangeAccounts.{change-accounts, recs_at, roots_at}
 use Rattle.rmm_laws.proofs.Claims.{AreElsewhere, elsewhere-among}
-use Rattle.rmm_laws.proofs.Owners.{IsKept, Accounts}
-use Rattle.rmm_laws.proofs.Ties.{IsUnused, tied-tag, tied-once}
-use Rattle.spec_machine.specs.Owners.{is_unowned, IsOwner, AreOwners, with_owner, page_owner, with_page_owner}
-use Rattle.spec_machine.specs.Report.{IsOwnerOf}
-use Rattle.spec_machine.specs.Stored.{kept_at}
-use Rattle.spec_machine.proofs.Places.{kept_at-set, kept_at-replicate}
+use Rattle.rmm_laws.proofs.Owners.{Accounts, IsKept}
+use Rattle.rmm_laws.proofs.Ties.{IsUnused, tied-once, tied-tag, tied-used}
+use Rattle.spec_machine.specs.Owners.{AreOwners, IsOwner, page_owner, with_owner, with_page_owner}
+use Rattle.spec_machine.proofs.Places.{kept_at-replicate, kept_at-set}
 
 -- ---- owners are written
 
@@ -50,44 +26,27 @@ with_owner-read : (granules granule other : ℕ) (owner : Option ℕ) (owners : 
 with_owner-read granules granule other owner owners placed is =
     ap (λ (f : ℕ → Option ℕ). f other) (kept_at-set granules owners None owner granule (granule / 4096) placed is refl)
 
--- a granule has the owner of a claim on it, or none of the claims is on it
-owners-read : (P : Claim → Type 0) (owner : Claim → Option ℕ) (granules granule : ℕ) (cs : List Claim) (owners : List (Option ℕ)) → length owners ≡ granules
-    → ((c : Claim) → P c → IsTrue (is_granule granules c.granule)) → AllByRecursion P cs
-    → (AreElsewhere granule cs × (kept_at granules (with_owners owner cs owners) None granule ≡ kept_at granules owners None granule))
-    ⊎ ((c : Claim) × (c.granule ≡ granule) × P c × (kept_at granules (with_owners owner cs owners) None granule ≡ owner c))
-owners-read P owner granules granule [] owners placed within all = inl (tt, refl)
-owners-read P owner granules granule (c ∷ cs) owners placed within (p, all) =
-    let read = with_owner-read granules c.granule granule (owner c) owners placed (within c p) in
-    let placed_too = length-set owners (c.granule / 4096) (owner c) ∙ placed in
-    elim (owners-read P owner granules granule cs (with_owner c.granule (owner c) owners) placed_too within all) [
-      | inl others ↦ elim (cases_eq c.granule granule) [
-        | inl here ↦ inr (c, here, p, others.1 ∙ read ∙ rw (eq-eqb granule c.granule (sym here)) refl)
-        | inr away ↦ inl ((away, others.0), others.1 ∙ read ∙ rw (ne_eqb granule c.granule (λ same. away (sym same))) refl)
-      ]
-      | inr found ↦ inr found
-    ]
+-- A granule's owner is right once each claim's owner is, where it was right for a granule that no claim is on.
+owners-written : (new : State) (P : Claim → Type 0) (owner : Claim → Option ℕ) (granules granule : ℕ) (cs : List Claim) (owners : List (Option ℕ))
+    → length owners ≡ granules → ((c : Claim) → P c → IsTrue (is_granule granules c.granule) × IsOwner new c.granule (owner c)) → AllByRecursion P cs
+    → (AreElsewhere granule cs → IsOwner new granule (kept_at granules owners None granule))
+    → IsOwner new granule (kept_at granules (with_owners owner cs owners) None granule)
+owners-written new P owner granules granule [] owners placed each all rest = rest tt
+owners-written new P owner granules granule (c ∷ cs) owners placed each (p, all) rest =
+    owners-written new P owner granules granule cs (with_owner c.granule (owner c) owners) (length-set owners (c.granule / 4096) (owner c) ∙ placed) each all
+    (λ others. subst (IsOwner new granule) (sym (with_owner-read granules c.granule granule (owner c) owners placed (each c p).0))
+    (by_granule (granule == c.granule) refl others))
+  where
+    by_granule : (b : Bool) → (granule == c.granule) ≡ b → AreElsewhere granule cs → IsOwner new granule (if b then owner c else kept_at granules owners None granule)
+    by_granule true same others = subst (λ g. IsOwner new g (owner c)) (sym (eqb-true granule c.granule same)) (each c p).1
+    by_granule false apart others = rest ((λ same. eqb-false granule c.granule apart (sym same)), others)
 
 -- ---- one change
 
--- a tag that no realm's granule has
-unused-unowned : (tag : Tag) → IsUnused tag → IsTrue (is_unowned tag)
-unused-unowned tag (inl is) = rw is refl
-unused-unowned tag (inr is) = rw is refl
-
-unowned-unused : (tag : Tag) → IsTrue (is_unowned tag) → IsUnused tag
-unowned-unused Undelegated is = inl refl
-unowned-unused Delegated is = inr refl
-unowned-unused Rd is = both_ways is refl
-unowned-unused Rec is = both_ways is refl
-unowned-unused RecAux is = both_ways is refl
-unowned-unused Data is = both_ways is refl
-unowned-unused Rtt is = both_ways is refl
-
 -- what is tied has an owner
-tied-owner : (s : State) (c : Claim) (granule : ℕ) → IsSound s → c.granule ≡ granule → IsKept s c → IsOwner s granule (Some c.realm)
-tied-owner s c granule sound here tied =
-    let tag = tag-has_tag s c.granule c.role (tied-tag s c.role c.granule c.realm sound tied) in
-    subst (λ g. IsTied (s.tag g) s g c.realm) here (subst (λ t. IsTied t s c.granule c.realm) (sym tag) tied)
+tied-owner : (s : State) (c : Claim) → IsSound s → IsKept s c → IsOwner s c.granule (Some c.realm)
+tied-owner s c sound tied =
+    subst (λ t. IsTied t s c.granule c.realm) (sym (tag-has_tag s c.granule c.role (tied-tag s c.role c.granule c.realm sound tied))) tied
 
 module _ (old new : State) (opens closes : List Claim) (sound : IsSound old) (new_sound : IsSound new) (a : Accounts old new opens closes)
     (same : new.granules ≡ old.granules) (owners : List (Option ℕ)) (o : AreOwners old owners) where
@@ -97,35 +56,26 @@ module _ (old new : State) (opens closes : List Claim) (sound : IsSound old) (ne
 
   -- where nothing is opened and nothing closed an owner stays
   stays-owner : (granule : ℕ) (owner : Option ℕ) → AreElsewhere granule opens → AreElsewhere granule closes → IsOwner old granule owner → IsOwner new granule owner
-  stays-owner granule None opened closed unowned =
-      unused-unowned (new.tag granule) (a.unused granule (unowned-unused (old.tag granule) unowned) opened)
+  stays-owner granule None opened closed unowned = a.unused granule unowned opened
   stays-owner granule (Some realm) opened closed tied = elim (a.kept (claim granule (old.tag granule) realm) tied) [
-    | inl still ↦ tied-owner new (claim granule (old.tag granule) realm) granule new_sound refl still
+    | inl still ↦ tied-owner new (claim granule (old.tag granule) realm) new_sound still
     | inr among ↦ absurd (elsewhere-among (claim granule (old.tag granule) realm) closes closed among)
   ]
+
+  -- what waits for use is a granule
+  waits-granule : (granule : ℕ) (b : Bool) → is_granule old.granules granule ≡ b → old.tag granule ≡ Delegated → b ≡ true
+  waits-granule granule true within is = refl
+  waits-granule granule false out is = absurd (let bad : Undelegated ≡ Delegated = sym (sound.outside granule out) ∙ is in cc)
 
   -- each granule's owner is as its ties are
   each-owner : (granule : ℕ) → IsOwner new granule (kept_at old.granules (with_owners (λ c. Some c.realm) opens taken) None granule)
   each-owner granule =
-      let waits = λ (c : Claim) (p : (old.tag c.granule ≡ Delegated) × IsKept new c). tagged c.granule p.0 in
-      let was = λ (c : Claim) (p : IsKept old c × IsUnused (new.tag c.granule)). granule_from_tag old c.granule c.role (tied-tag old c.role c.granule c.realm sound p.0) in
-      let placed = with_owners-length (λ c. None) closes owners ∙ o.places in
-      elim (owners-read (λ (c : Claim). (old.tag c.granule ≡ Delegated) × IsKept new c) (λ c. Some c.realm) old.granules granule opens taken placed waits a.opened) [
-        | inl others ↦ elim (owners-read (λ (c : Claim). IsKept old c × IsUnused (new.tag c.granule)) (λ c. None) old.granules granule closes owners o.places was a.closed) [
-          | inl rest ↦ subst (IsOwner new granule) (sym (others.1 ∙ rest.1))
-              (stays-owner granule (kept_at old.granules owners None granule) others.0 rest.0 (o.each granule))
-          | inr gone ↦ subst (IsOwner new granule) (sym (others.1 ∙ gone.3))
-              (unused-unowned (new.tag granule) (subst (λ g. IsUnused (new.tag g)) gone.1 gone.2.1))
-        ]
-        | inr found ↦ subst (IsOwner new granule) (sym found.3) (tied-owner new found.0 granule new_sound found.1 found.2.1)
-      ]
-    where
-      tagged : (granule : ℕ) → old.tag granule ≡ Delegated → IsTrue (is_granule old.granules granule)
-      tagged granule is = by_test (is_granule old.granules granule) refl
-        where
-          by_test : (b : Bool) → is_granule old.granules granule ≡ b → b ≡ true
-          by_test true within = refl
-          by_test false out = absurd (let bad : Undelegated ≡ Delegated = sym (sound.outside granule out) ∙ is in cc)
+      owners-written new (λ c. (old.tag c.granule ≡ Delegated) × IsKept new c) (λ c. Some c.realm) old.granules granule opens taken
+      (with_owners-length (λ c. None) closes owners ∙ o.places)
+      (λ c p. (waits-granule c.granule (is_granule old.granules c.granule) refl p.0, tied-owner new c new_sound p.1)) a.opened
+      (λ opened. owners-written new (λ c. IsKept old c × IsUnused (new.tag c.granule)) (λ c. None) old.granules granule closes owners o.places
+      (λ c p. (granule_from_tag old c.granule c.role (tied-tag old c.role c.granule c.realm sound p.0), p.1)) a.closed
+      (λ closed. stays-owner granule (kept_at old.granules owners None granule) opened closed (o.each granule)))
 
   pub accounted-owners : AreOwners new (with_owners (λ c. Some c.realm) opens taken)
   accounted-owners = record {
@@ -136,29 +86,29 @@ module _ (old new : State) (opens closes : List Claim) (sound : IsSound old) (ne
 -- ---- each kind
 
 -- owners after a change: what it closes is taken, and what it opens is given
-pub changed_owners : (s : State) (change : Change) (owners : List (Option ℕ)) → IsSound s → CanApply s change → (changed s change).granules ≡ s.granules → AreOwners s owners
-    → AreOwners (changed s change) (with_owners (λ c. Some c.realm) (opened change) (with_owners (λ c. None) (closed (roots_at s) (recs_at s) change) owners))
-changed_owners s change owners sound can same o =
-    accounted-owners s (changed s change) (opened change) (closed (roots_at s) (recs_at s) change) sound (changed_sound s change sound can)
-    (change-accounts s change sound can) same owners o
+pub changed_owners : (m : Machine) (change : Change) → let s = stored m.store in CanApply s change → (changed s change).granules ≡ s.granules
+    → AreOwners (changed s change)
+    (with_owners (λ c. Some c.realm) (opened change) (with_owners (λ c. None) (closed (roots_at s) (recs_at s) change) m.owners.realms.items))
+changed_owners m change can same =
+    let s = stored m.store in
+    accounted-owners s (changed s change) (opened change) (closed (roots_at s) (recs_at s) change) m.kept.sound (changed_sound s change m.kept.sound can)
+    (change-accounts s change m.kept.sound can) same m.owners.realms.items m.owned
 
 -- a realm's RD and its root are taken
-pub realm_destroyed-owners : (s : State) (rd root : ℕ) (owners : List (Option ℕ)) → IsSound s → CanDestroyRealm s rd root → AreOwners s owners
-    → AreOwners (changed s (RealmDestroyed rd root)) (with_owner root None (with_owner rd None owners))
+pub realm_destroyed-owners : (m : Machine) (rd root : ℕ) → let s = stored m.store in CanDestroyRealm s rd root
+    → AreOwners (changed s (RealmDestroyed rd root)) (with_owner root None (with_owner rd None m.owners.realms.items))
 unfolding changed
-realm_destroyed-owners s rd root owners sound can o =
-    subst (λ r. AreOwners (changed s (RealmDestroyed rd root)) (with_owner r None (with_owner rd None owners))) (sym can.is_root)
-    (changed_owners s (RealmDestroyed rd root) owners sound can refl o)
+realm_destroyed-owners m rd root can =
+    subst (λ r. AreOwners (changed (stored m.store) (RealmDestroyed rd root)) (with_owner r None (with_owner rd None m.owners.realms.items)))
+    (sym can.is_root) (changed_owners m (RealmDestroyed rd root) can refl)
 
 -- a REC's granules are taken
-pub rec_destroyed-owners : (s : State) (rec aux0 aux1 : ℕ) (owners : List (Option ℕ)) → IsSound s → CanDestroyRec s rec aux0 aux1 → AreOwners s owners
-    → AreOwners (changed s (RecDestroyed rec aux0 aux1)) (with_owner aux1 None (with_owner aux0 None (with_owner rec None owners)))
+pub rec_destroyed-owners : (m : Machine) (rec aux0 aux1 : ℕ) → let s = stored m.store in CanDestroyRec s rec aux0 aux1
+    → AreOwners (changed s (RecDestroyed rec aux0 aux1)) (with_owner aux1 None (with_owner aux0 None (with_owner rec None m.owners.realms.items)))
 unfolding changed
-rec_destroyed-owners s rec aux0 aux1 owners sound can o =
-    let new = changed s (RecDestroyed rec aux0 aux1) in
-    subst (λ y. AreOwners new (with_owner y None (with_owner aux0 None (with_owner rec None owners)))) (sym can.is_aux1)
-    (subst (λ x. AreOwners new (with_owner (rec_at s rec).aux1 None (with_owner x None (with_owner rec None owners)))) (sym can.is_aux0)
-    (changed_owners s (RecDestroyed rec aux0 aux1) owners sound can refl o))
+rec_destroyed-owners m rec aux0 aux1 can =
+    subst₂ (λ x y. AreOwners (changed (stored m.store) (RecDestroyed rec aux0 aux1)) (with_owner y None (with_owner x None (with_owner rec None m.owners.realms.items))))
+    (sym can.is_aux0) (sym can.is_aux1) (changed_owners m (RecDestroyed rec aux0 aux1) can refl)
 
 -- a page is given where its tag is data, and else taken
 page-written : (rd granule : ℕ) (tag : Tag) (owners : List (Option ℕ)) → (tag ≡ Data) ⊎ (tag ≡ Delegated)
@@ -167,19 +117,16 @@ page-written : (rd granule : ℕ) (tag : Tag) (owners : List (Option ℕ)) → (
 page-written rd granule tag owners (inl is) = rw is refl
 page-written rd granule tag owners (inr is) = rw is refl
 
-pub entries_changed-owners : (s : State) (rd level : ℕ) (entries : EntryChange) (page : Option TagChange) (realm : Option RealmChange) (rec : Option RecChange)
-    (owners : List (Option ℕ)) → IsSound s → CanApply s (EntriesChanged rd level entries page realm rec)
-    → (changed s (EntriesChanged rd level entries page realm rec)).granules ≡ s.granules → AreOwners s owners
-    → AreOwners (changed s (EntriesChanged rd level entries page realm rec)) (with_page_owner rd page owners)
-entries_changed-owners s rd level entries None realm rec owners sound can same o =
-    changed_owners s (EntriesChanged rd level entries None realm rec) owners sound can same o
-entries_changed-owners s rd level (RipasSet first last ripas) (Some page) realm rec owners sound can same o =
-    absurd (let bad : Some page ≡ None = can.1.1 in cc)
-entries_changed-owners s rd level (Replaced number entry) (Some page) realm rec owners sound can same o =
+pub entries_changed-owners : (m : Machine) (rd level : ℕ) (entries : EntryChange) (page : Option TagChange) (realm : Option RealmChange) (rec : Option RecChange)
+    → let s = stored m.store in let t = changed s (EntriesChanged rd level entries page realm rec) in CanApply s (EntriesChanged rd level entries page realm rec)
+    → t.granules ≡ s.granules → AreOwners t (with_page_owner rd page m.owners.realms.items)
+entries_changed-owners m rd level entries None realm rec can same = changed_owners m (EntriesChanged rd level entries None realm rec) can same
+entries_changed-owners m rd level (RipasSet first last ripas) (Some page) realm rec can same = absurd (let bad : Some page ≡ None = can.1.1 in cc)
+entries_changed-owners m rd level (Replaced number entry) (Some page) realm rec can same =
     let change = EntriesChanged rd level (Replaced number entry) (Some page) realm rec in
-    subst (AreOwners (changed s change))
-    (page-written rd page.granule page.tag owners (elim can.1.1 [ inl given ↦ inl given.1 | inr taken ↦ inr taken.0 ]))
-    (changed_owners s change owners sound can same o)
+    subst (AreOwners (changed (stored m.store) change))
+    (page-written rd page.granule page.tag m.owners.realms.items (elim can.1.1 [ inl given ↦ inl given.1 | inr taken ↦ inr taken.0 ]))
+    (changed_owners m change can same)
 
 -- ---- the opening
 
@@ -187,7 +134,7 @@ pub owners-opening : (config : Config) (n : ℕ) → n ≡ config.granules → A
 unfolding opening
 owners-opening config n size = record {
   places = length-replicate {A = Option ℕ} n None ∙ size;
-  each = λ granule. rw (kept_at-replicate {A = Option ℕ} config.granules n granule None (is_granule config.granules granule) refl) refl;
+  each = λ granule. rw (kept_at-replicate {A = Option ℕ} config.granules n granule None (is_granule config.granules granule) refl) (inl refl);
 }
 
 -- ---- what owners tell
@@ -197,21 +144,13 @@ owner-tied : (s : State) (granule realm : ℕ) (found : Option ℕ) → IsSound 
     → (found ≡ Some realm) ↔ IsTied (s.tag granule) s granule realm
 owner-tied s granule realm None sound unowned = (
   λ same. absurd (let bad : None ≡ Some realm = same in cc),
-  λ tied. absurd (no_tie (s.tag granule) unowned tied),
+  λ tied. absurd (tied-used s (s.tag granule) granule realm sound tied unowned),
 )
-  where
-    no_tie : (tag : Tag) → IsTrue (is_unowned tag) → IsTied tag s granule realm → ⊥
-    no_tie Undelegated is tied = tied
-    no_tie Delegated is tied = tied
-    no_tie Rd is tied = both_ways is refl
-    no_tie Rec is tied = both_ways is refl
-    no_tie RecAux is tied = both_ways is refl
-    no_tie Data is tied = both_ways is refl
-    no_tie Rtt is tied = both_ways is refl
 owner-tied s granule realm (Some other) sound tied = (
   λ same. subst (IsTied (s.tag granule) s granule) (let both : Some other ≡ Some realm = same in cc) tied,
   λ tied_too. ap Some (tied-once s (s.tag granule) granule other realm sound tied tied_too),
 )
 
-pub owners-tied : (s : State) (owners : List (Option ℕ)) → IsSound s → AreOwners s owners → IsOwnerOf s (kept_at s.granules owners None)
-owners-tied s owners sound o granule realm = owner-tied s granule realm (kept_at s.granules owners None granule) sound (o.each granule)
+pub owners-tied : (m : Machine) → let s = stored m.store in IsOwnerOf s (kept_at s.granules m.owners.realms.items None)
+owners-tied m granule realm =
+    owner-tied (stored m.store) granule realm (kept_at (stored m.store).granules m.owners.realms.items None granule) m.kept.sound (m.owned.each granule)

@@ -1,17 +1,7 @@
 -- Granules have places, and a list with an item for each granule is a map from addresses.
-use Rattle.std.proofs.Common.{◌≡◌, ℕ, ◌*◌, ◌/◌, ◌%◌, ◌<◌, ◌==◌, nat_lt, Bool, true, false, if◌then◌else◌, ◌≢◌, List, length, IsTrue, refl, sym, ◌∙◌, ap, arith, slice_index_or, slice_set, replicate}
-use Rattle.std.proofs.lemmas.Bool.{and_parts, eqb-true, eq-eqb, ltb-true, ltb-false, false_from_ne_true}
-use Rattle.std.proofs.lemmas.List.{get_or-replicate, get_or_past, get_or_default, get_or-set_same, get_or-set_other, length-replicate}
+use Rattle.spec_machine.proofs.Common.{◌≡◌, ℕ, ◌*◌, ◌/◌, ◌%◌, ◌<◌, Bool, true, false, ◌≢◌, List, length, replicate, if◌then◌else◌, IsTrue, nat_lt, ◌==◌, slice_index_or, slice_set, State, Store, Tag, Undelegated, and_parts, ap, arith, both_ways, eq-eqb, eqb-true, false_from_ne_true, get_or-replicate, get_or-set_other, get_or-set_same, get_or_default, get_or_past, granule_from_tag, granules_of, has_tag, is_granule, kept_at, length-replicate, ltb-false, ltb-true, put, refl, sameb-tag_number, stored, sym, tag_number, ◌∙◌}
 use denote.Enum.Bare.{sameb}
 use Rattle.rmm_spec.specs.contracts.tag.Tag.{the_type}
-use Rattle.rmm_spec.specs.declared.tag.Tag.{Tag}
-use Rattle.rmm_spec.specs.declared.tag.Tag.TheVariants.{Undelegated}
-use Rattle.rmm_spec.specs.State.{State}
-use Rattle.rmm_spec.specs.Lookup.{tag_number, is_granule, has_tag}
-use Rattle.rmm_spec.proofs.Tests.{both_ways}
-use Rattle.rmm_spec.proofs.TagLaws.{sameb-tag_number, granule_from_tag}
-use Rattle.spec_machine.specs.declared.store.Store.{Store}
-use Rattle.spec_machine.specs.Stored.{kept_at, stored}
 
 -- ---- granules and their places
 
@@ -24,7 +14,7 @@ place_within granules address granule =
 
 -- what has a tag is a granule
 pub granule_tagged : (store : Store) (address : ℕ) (tag : Tag) → IsTrue (has_tag (stored store) address tag) → IsTrue (is_granule store.config.granules address)
-unfolding stored
+unfolding stored granules_of
 granule_tagged store address tag has = granule_from_tag (stored store) address tag has
 
 -- a granule is at its place
@@ -47,12 +37,6 @@ pub kept_at-granule : {A : Type 0} → (granules address place : ℕ) (items : L
 kept_at-granule granules address place items default read placed granule at is_read =
     let found : read ≡ slice_index_or items (address / 4096) read = is_read ∙ ap (λ i. slice_index_or items i read) at in
     rw granule (found ∙ get_or_default items (address / 4096) read default (omega (arith, placed, place_within granules address granule)))
-
--- what is no granule has nothing kept for it
-pub kept_at-none : {A : Type 0} → (granules address : ℕ) (items : List A) (default : A) → (IsTrue (is_granule granules address) → ⊥)
-    → kept_at granules items default address ≡ default
-kept_at-none granules address items default none =
-    rw (false_from_ne_true (is_granule granules address) none) refl
 
 -- equal items are read everywhere
 pub get_or-replicate_all : {A : Type 0} → (n i : ℕ) (item : A) (b : Bool) → nat_lt i n ≡ b → slice_index_or (replicate n item) i item ≡ item
@@ -81,10 +65,6 @@ kept_at-set_cases granules items default item address other false true placed fi
     both_ways (rw (← eqb-true other address same) at first) second
 kept_at-set_cases granules items default item address other false false placed first second apart = rw second refl
 
--- a map with one place changed
-abbrev pub put : {A : Type 0} → (ℕ → A) → ℕ → A → ℕ → A
-put kept address item other = if other == address then item else kept other
-
 pub kept_at-set : {A : Type 0} → (granules : ℕ) (items : List A) (default item : A) (address place : ℕ)
     → length items ≡ granules → IsTrue (is_granule granules address) → place ≡ address / 4096
     → kept_at granules (slice_set items place item) default ≡ put (kept_at granules items default) address item
@@ -96,7 +76,7 @@ kept_at-set granules items default item address place placed granule at = rw at 
 -- a granule has the tag that is kept for it
 pub has_tag-kept : (store : Store) (address place : ℕ) (kept tag : Tag) → IsTrue (is_granule store.config.granules address) → place ≡ address / 4096
     → kept ≡ slice_index_or store.tags.items place kept → sameb the_type kept tag ≡ has_tag (stored store) address tag
-unfolding stored has_tag
+unfolding stored granules_of has_tag
 has_tag-kept store address place kept tag granule at read =
     sameb-tag_number kept tag
     ∙ ap (λ t. tag_number t == tag_number tag)

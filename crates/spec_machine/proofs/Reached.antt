@@ -1,17 +1,8 @@
 -- An end that the test refuses is none that the definitions allow.
-use Rattle.std.proofs.Common.{◌≡◌, ℕ, true, false, [], ◌∷◌, sym, ◌∙◌, ap, slice_index}
-use Rattle.std.specs.Prelude.{Ok}
-use Rattle.rmm_spec.specs.declared.accepted.Accepted.TheVariants.{Reaches}
-use Rattle.rmm_spec.specs.declared.accepted.Stretch.{Stretch}
+use Rattle.spec_machine.proofs.Common.{◌≡◌, ℕ, true, false, [], ◌∷◌, Ok, CarriesOut, Reaches, State, Stretch, both_ways, is_reached, ok, reached-is_reached, sym, ◌∙◌}
 use Rattle.rmm_spec.specs.declared.reply.Reply.{Reply}
-use Rattle.rmm_spec.specs.declared.reply.Reply.TheVariants as reply
-use Rattle.rmm_spec.specs.Rows.{ok}
-use Rattle.rmm_spec.specs.Step.{CarriesOut}
-use Rattle.rmm_spec.specs.State.{State}
-use Rattle.rmm_spec.specs.Step.Ripas.{is_reached}
-use Rattle.rmm_spec.proofs.Tests.{both_ways}
-use Rattle.rmm_laws.proofs.Replays.{reached-is_reached}
 use Rattle.rmm_laws.proofs.StepLaws.{word_of}
+use Rattle.rmm_spec.specs.declared.reply.Reply.TheVariants as reply
 
 -- no reply reaches it
 pub no_reach : (s : State) (stretch : Stretch) (top : ℕ) (given : Reply) → given ≡ ok (top ∷ []) → is_reached s stretch top ≡ false

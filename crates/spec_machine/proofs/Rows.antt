@@ -1,11 +1,6 @@
 -- A report has a row for each granule.
-use Rattle.std.proofs.Common.{◌≡◌, ℕ, suc, ◌+◌, ◌*◌, ◌%◌, ◌<◌, ◌==◌, nat_lt, List, [], ◌∷◌, ◌++◌, length, Option, IsTrue, ◌∙◌, ap, subst, arith, append_assoc, slice_index_or}
-use Rattle.std.proofs.lemmas.Bool.{and_from, eq-eqb, lt-ltb}
-use Rattle.rmm_spec.specs.Lookup.{is_granule}
-use Rattle.rmm_spec.specs.State.{State}
+use Rattle.spec_machine.proofs.Common.{◌≡◌, ℕ, suc, ◌+◌, ◌*◌, ◌%◌, ◌<◌, List, [], ◌∷◌, ◌++◌, length, IsTrue, nat_lt, ◌==◌, slice_index_or, Option, State, and_from, ap, append_assoc, arith, eq-eqb, is_granule, kept_at, lt-ltb, owner_rows, subst, ◌∙◌}
 use Rattle.spec_machine.specs.declared.owner_report.OwnerRow.{OwnerRow}
-use Rattle.spec_machine.specs.Report.{owner_rows}
-use Rattle.spec_machine.specs.Stored.{kept_at}
 use Rattle.spec_machine.proofs.Places.{kept_at-granule}
 
 -- the granule of a place

@@ -1,9 +1,10 @@
 -- What a machine keeps true: of its state, and of what it finds VMIDs and RECs by.
-use Rattle.std.specs.Prelude.{◌≡◌, ℕ, zero, suc, ◌+◌, ◌*◌, ◌/◌, Bool, false, ◌==◌, if◌then◌else◌, IsTrue, List, length, Option, Some, None, slice_index_or}
+use Rattle.std.specs.Prelude.{◌≡◌, ℕ, zero, suc, ◌+◌, ◌*◌, Bool, false, ◌==◌, IsTrue, List, length, Option, Some, None, slice_index_or}
 use Rattle.rmm_spec.specs.State.{State}
 use Rattle.rmm_spec.specs.Lookup.{is_granule, has_vmid, is_owned_by}
 use Rattle.rmm_spec.specs.Shape.{count_below}
 use Rattle.rmm_spec.specs.Sound.{IsSound}
+use Rattle.spec_machine.specs.Stored.{kept_at}
 
 -- whether it is that number that is there
 abbrev pub names : ℕ → Option ℕ → Bool
@@ -25,4 +26,4 @@ pub record IsKept (s : State) (vmids : List (Option ℕ)) (counts : List ℕ) : 
   pub vmid_places : length vmids ≡ 256
   pub named : AreNamed has_vmid s.realm vmids
   pub count_places : length counts ≡ s.granules
-  pub counted : (rd : ℕ) → IsTrue (is_granule s.granules rd) → slice_index_or counts (rd / 4096) 0 ≡ rec_count s rd
+  pub counted : (rd : ℕ) → IsTrue (is_granule s.granules rd) → kept_at s.granules counts 0 rd ≡ rec_count s rd

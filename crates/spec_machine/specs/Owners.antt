@@ -1,5 +1,5 @@
 -- Which realm each granule belongs to, as the state's ties say, and how that list changes.
-use Rattle.std.specs.Prelude.{◌≡◌, ℕ, ◌/◌, Bool, true, false, IsTrue, List, length, Option, Some, None, slice_set}
+use Rattle.std.specs.Prelude.{◌≡◌, ◌⊎◌, ℕ, ◌/◌, List, length, Option, Some, None, slice_set}
 use Rattle.rmm_spec.specs.declared.change.TagChange.{TagChange}
 use Rattle.rmm_spec.specs.declared.tag.Tag.{Tag}
 use Rattle.rmm_spec.specs.declared.tag.Tag.TheVariants.{Undelegated, Delegated, Data}
@@ -7,15 +7,9 @@ use Rattle.rmm_spec.specs.Ownership.{IsTied}
 use Rattle.rmm_spec.specs.State.{State}
 use Rattle.spec_machine.specs.Stored.{kept_at}
 
--- whether a granule with that tag belongs to no realm
-abbrev pub is_unowned : Tag → Bool
-is_unowned Undelegated = true
-is_unowned Delegated = true
-is_unowned _ = false
-
 -- the granule belongs to that realm, or to none
 abbrev pub IsOwner : State → ℕ → Option ℕ → Type 0
-IsOwner s granule None = IsTrue (is_unowned (s.tag granule))
+IsOwner s granule None = (s.tag granule ≡ Undelegated) ⊎ (s.tag granule ≡ Delegated)
 IsOwner s granule (Some realm) = IsTied (s.tag granule) s granule realm
 
 -- each granule's place has the realm that the granule belongs to

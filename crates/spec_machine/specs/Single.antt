@@ -102,7 +102,8 @@ tied-single s Rtt granule realm sound = table_tie-single s granule realm sound
 tied-single s Data granule realm sound = page_tie-single s granule realm sound
 
 owner_of-single : (s : State) (granule : ℕ) (owner : Option ℕ) → IsSound s → IsProp (IsOwner s granule owner)
-owner_of-single s granule None sound = hlevel props
+owner_of-single s granule None sound =
+    either-single (hlevel props) (hlevel props) (λ free lent. let bad : Undelegated ≡ Delegated = sym free ∙ lent in cc)
 owner_of-single s granule (Some realm) sound = tied-single s (s.tag granule) granule realm sound
 
 pub owners-single : (s : State) (owners : List (Option ℕ)) → IsSound s → IsProp (AreOwners s owners)

@@ -4,8 +4,8 @@ ghost use Rattle.std.specs.Prelude.{◌≡◌, IsTrue};
 ghost use Rattle.rmm_spec.specs.Change.{new_realm};
 ghost use Rattle.rmm_spec.specs.Step.Words.{is_space};
 
+use crate::by_granule::set_kept;
 use crate::machine::Machine;
-use crate::store::place;
 use granule_state::Pa;
 use realm_desc::{HashAlgorithm, Realm, Rec, Space};
 use rmm_spec::{RealmChange, RecChange, Tag};
@@ -44,7 +44,7 @@ impl Machine {
         self.store.put_root(rd, level, root)?;
         self.store.set_tag(rd, Tag::Rd);
         self.store.set_tag(root, Tag::Rtt);
-        self.store.put_realm(rd, realm);
+        self.store.set_realm(rd, Some(realm));
         self.vmids[usize::from(vmid)] = Some(Pa::new(rd));
         self.owners.give(rd, rd);
         self.owners.give(root, rd);
@@ -88,12 +88,13 @@ impl Machine {
         let mut realm = self.realm_at(rd);
         realm.count_rec(mpidr, flags);
         let made = Rec::new(Pa::new(rd), mpidr, flags, Pa::new(aux0), Pa::new(aux1));
+        let count = self.rec_count(rd);
+        set_kept(&mut self.rec_counts, rd, count + 1);
         self.store.set_tag(rec, Tag::Rec);
         self.store.set_tag(aux0, Tag::RecAux);
         self.store.set_tag(aux1, Tag::RecAux);
-        self.store.put_realm(rd, realm);
-        self.store.put_rec(rec, made);
-        self.rec_counts[place(rd)] += 1;
+        self.store.set_realm(rd, Some(realm));
+        self.store.set_rec(rec, Some(made));
         self.owners.give(rec, rd);
         self.owners.give(aux0, rd);
         self.owners.give(aux1, rd);
@@ -104,11 +105,12 @@ impl Machine {
         ensures { state_of self.new ≡ changed (state_of self.old) (change.RecDestroyed rec aux0 aux1) }
     {
         let owner = self.owner_of(rec);
+        let count = self.rec_count(owner);
+        set_kept(&mut self.rec_counts, owner, count - 1);
         self.store.set_tag(rec, Tag::Delegated);
         self.store.set_tag(aux0, Tag::Delegated);
         self.store.set_tag(aux1, Tag::Delegated);
-        self.store.take_rec(rec);
-        self.rec_counts[place(owner)] -= 1;
+        self.store.set_rec(rec, None);
         self.owners.take(rec);
         self.owners.take(aux0);
         self.owners.take(aux1);

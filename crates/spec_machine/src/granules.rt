@@ -2,18 +2,19 @@
 
 ghost use Rattle.std.specs.Prelude.{◌≡◌};
 
+use crate::by_granule::kept;
 use crate::machine::Machine;
-use crate::store::place;
 use granule_state::Pa;
 use realm_desc::{Realm, Rec};
 use rmm_spec::{RecChange, Stretch, Tag, Walked};
 
 impl Machine {
-    ghost use Rattle.std.specs.Prelude.{◌≡◌, ◌^◌, ◌<◌, ◌≤◌, is_some, IfSome, IsTrue};
+    ghost use Rattle.std.specs.Prelude.{◌≡◌, ◌^◌, ◌<◌, ◌≤◌, is_some, IfSome, IsTrue, vec_len};
     ghost use Rattle.rmm_spec.specs.Lookup.{has_tag, has_rec, is_inside, rec_inside, is_vmid_used, realm_at, rec_at};
     ghost use Rattle.rmm_spec.specs.Step.Ripas.{is_reached};
     ghost use Rattle.rmm_spec.specs.Walk.{walk, is_in_use, has_link};
     ghost use Rattle.rmm_spec.specs.Applicable.{CanChangeRec};
+    ghost use Rattle.spec_machine.specs.Kept.{rec_count};
     ghost use Rattle.spec_machine.specs.Running.{cpu_before};
     ghost use Rattle.spec_machine.specs.View.{state_of};
 
@@ -78,7 +79,8 @@ impl Machine {
     /// The realm of the REC, by the address of its descriptor.
     pub(crate) fn owner_of(&self, address: u64) -> u64
         requires { IsTrue (has_tag (state_of self.now) address Tag.Rec) }
-        ensures { result ≡ (rec_at (state_of self.now) address).owner }
+        ensures is { result ≡ (rec_at (state_of self.now) address).owner }
+        ensures realm { IsTrue (has_tag (state_of self.now) result Tag.Rd) }
     {
         owner(&self.rec_at(address))
     }
@@ -108,7 +110,16 @@ impl Machine {
         requires { IsTrue (has_tag (state_of self.now) rd Tag.Rd) }
         ensures { result ≡ has_rec (state_of self.now) rd }
     {
-        self.rec_counts[place(rd)] > 0
+        self.rec_count(rd) > 0
+    }
+
+    /// How many RECs belong to the realm.
+    pub(crate) fn rec_count(&self, rd: u64) -> usize
+        requires { IsTrue (has_tag (state_of self.now) rd Tag.Rd) }
+        ensures counted { result ≡ rec_count (state_of self.now) rd }
+        ensures few { result ≤ vec_len self.now.rec_counts }
+    {
+        kept(&self.store.config, &self.rec_counts, 0, rd)
     }
 
     /// Where the walk for an address up to a level ends.

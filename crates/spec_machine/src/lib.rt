@@ -5,6 +5,7 @@
 //! The checker of histories depends on it.
 #![tactic(auto)]
 
+mod by_granule;
 mod change;
 mod changed_records;
 mod changed_tables;

@@ -19,7 +19,7 @@ impl Machine {
     ghost use Rattle.spec_machine.specs.Report.{AddsOwners};
 
     /// Adds a row for each granule, in the order of addresses. Refused memory, it adds none.
-    #[tactic(auto, unfolding(crate::specs::View::state_of, crate::specs::Stored::stored))]
+    #[tactic(auto, unfolding(crate::specs::View::state_of, crate::specs::Stored::stored, crate::specs::Stored::granules_of))]
     pub fn owner_report(&self, rows: &mut Vec<OwnerRow>) -> Result<(), AllocError>
         ensures ok { OnOk result (AddsOwners (state_of self.now) rows.old.items rows.new.items) }
         ensures err { OnErr result (rows.new.items ≡ rows.old.items) }

@@ -1,6 +1,6 @@
 //! Which realm each granule belongs to.
 
-use crate::store::place;
+use crate::by_granule::place;
 use granule_state::Pa;
 use rmm_spec::{Tag, TagChange};
 use std::alloc::{AllocError, Global};

@@ -1,9 +1,10 @@
 //! What is kept of each granule, and the tables of all realms: a flat state, read and changed one thing at a time.
 
-ghost use Rattle.std.specs.Prelude.{◌≡◌, ◌/◌, vec_len};
+ghost use Rattle.std.specs.Prelude.{◌≡◌, vec_len};
 
+use crate::by_granule::{kept, place, set_kept};
 use flat_tables::Tables;
-use granule_state::{Config, GRANULE_BYTES, granule_at};
+use granule_state::{Config, granule_at};
 use realm_desc::{Realm, Rec};
 use rmm_spec::Tag;
 use std::alloc::{AllocError, Global};
@@ -26,8 +27,8 @@ impl Store {
     ghost use Rattle.std.specs.Option.{SomeIff};
     ghost use Rattle.rmm_spec.specs.Lookup.{has_tag, is_granule};
     ghost use Rattle.rmm_spec.specs.State.{opening};
-    ghost use Rattle.rmm_spec.specs.Update.{with_tag, with_realm, with_rec, without_rec};
-    ghost use Rattle.spec_machine.specs.Stored.{stored};
+    ghost use Rattle.rmm_spec.specs.Update.{with_tag};
+    ghost use Rattle.spec_machine.specs.Stored.{stored, put};
 
     /// A store of that size in which every granule is the host's.
     pub(crate) fn new(alloc: Global, config: Config) -> Result<Store, AllocError>
@@ -57,23 +58,19 @@ impl Store {
     }
 
     /// The realm whose descriptor is at the address.
+    #[tactic(auto, unfolding(crate::specs::Stored::stored, crate::specs::Stored::granules_of))]
     pub(crate) fn realm(&self, rd: u64) -> Option<Realm>
         ensures { result ≡ (stored self.now).realm rd }
     {
-        match self.place_of(rd) {
-            Some(place) => self.realms[place],
-            None => None,
-        }
+        kept(&self.config, &self.realms, None, rd)
     }
 
     /// The REC whose granule is at the address.
+    #[tactic(auto, unfolding(crate::specs::Stored::stored, crate::specs::Stored::granules_of))]
     pub(crate) fn rec(&self, address: u64) -> Option<Rec>
         ensures { result ≡ (stored self.now).rec address }
     {
-        match self.place_of(address) {
-            Some(place) => self.recs[place],
-            None => None,
-        }
+        kept(&self.config, &self.recs, None, address)
     }
 
     /// Gives a granule another tag.
@@ -82,34 +79,25 @@ impl Store {
         ensures size { self.new.config ≡ self.old.config }
         ensures state { stored self.new ≡ with_tag (stored self.old) granule tag }
     {
-        self.tags[place(granule)] = tag;
+        set_kept(&mut self.tags, granule, tag);
     }
 
-    /// Puts a realm's record in, or replaces it.
-    pub(crate) fn put_realm(&mut self, rd: u64, realm: Realm)
+    /// Puts a realm's record in, replaces it or takes it out.
+    pub(crate) fn set_realm(&mut self, rd: u64, realm: Option<Realm>)
         requires { IsTrue (is_granule self.old.config.granules rd) }
         ensures size { self.new.config ≡ self.old.config }
-        ensures state { stored self.new ≡ with_realm (stored self.old) rd realm }
+        ensures state { stored self.new ≡ record (stored self.old) { realm = put (stored self.old).realm rd realm } }
     {
-        self.realms[place(rd)] = Some(realm);
+        set_kept(&mut self.realms, rd, realm);
     }
 
-    /// Puts a REC's record in, or replaces it.
-    pub(crate) fn put_rec(&mut self, address: u64, rec: Rec)
+    /// Puts a REC's record in, replaces it or takes it out.
+    pub(crate) fn set_rec(&mut self, address: u64, rec: Option<Rec>)
         requires { IsTrue (is_granule self.old.config.granules address) }
         ensures size { self.new.config ≡ self.old.config }
-        ensures state { stored self.new ≡ with_rec (stored self.old) address rec }
+        ensures state { stored self.new ≡ record (stored self.old) { rec = put (stored self.old).rec address rec } }
     {
-        self.recs[place(address)] = Some(rec);
-    }
-
-    /// Takes a REC's record out.
-    pub(crate) fn take_rec(&mut self, address: u64)
-        requires { IsTrue (is_granule self.old.config.granules address) }
-        ensures size { self.new.config ≡ self.old.config }
-        ensures state { stored self.new ≡ without_rec (stored self.old) address }
-    {
-        self.recs[place(address)] = None;
+        set_kept(&mut self.recs, address, rec);
     }
 
     // The place of the granule at the address, where one is.
@@ -119,11 +107,4 @@ impl Store {
         let granule = granule_at(&self.config, address)?;
         Some(place(granule.address()))
     }
-}
-
-/// Where what is kept of a granule stands.
-pub(crate) fn place(address: u64) -> usize
-    ensures { result ≡ address / 4096 }
-{
-    (address / GRANULE_BYTES) as usize
 }

@@ -49,7 +49,7 @@ impl Store {
                 unreachable!()
             };
             realm.update(update);
-            self.put_realm(rd, realm);
+            self.set_realm(rd, Some(realm));
         }
     }
 
@@ -64,7 +64,7 @@ impl Store {
                 unreachable!()
             };
             record.update(update);
-            self.put_rec(rec, record);
+            self.set_rec(rec, Some(record));
         }
     }
 

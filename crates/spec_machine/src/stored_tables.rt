@@ -1,9 +1,10 @@
 //! The tables of a store: walks and searches through them, and their changes.
 
-use crate::store::{Store, place};
+use crate::store::Store;
 use rmm_spec::{Entry, Ripas, Stretch, Walked};
 use std::alloc::AllocError;
 
+#[tactic(auto, unfolding(crate::specs::Stored::stored))]
 impl Store {
     ghost use Rattle.std.specs.Prelude.{◌≡◌, ℕ, ◌+◌, ◌-◌, ◌*◌, ◌/◌, ◌^◌, ◌<◌, ◌≤◌, false, IsTrue, None, OnOk, OnErr, IsSome};
     ghost use Rattle.rmm_spec.specs.Lookup.{is_granule};
@@ -90,7 +91,7 @@ impl Store {
         ensures state { stored self.new ≡ without_realm (stored self.old) rd }
     {
         self.tables.take_realm(rd, level);
-        self.realms[place(rd)] = None;
+        self.set_realm(rd, None);
     }
 
     /// Changes a leaf.

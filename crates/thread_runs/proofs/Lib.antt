@@ -1,2 +1,3 @@
+pub mod HeldGranules
 pub mod OneCalls
 pub mod Runs

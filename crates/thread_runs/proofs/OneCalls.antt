@@ -48,6 +48,14 @@ returned pass given = record pass {
 abbrev pub stopped : CpuView → CpuView
 stopped pass = record pass { is_stopped = true }
 
+-- with its call open
+pub served_open : (queue : TableId) (cpus cpu granule : ℕ) (command : Command) (before opened : CpuView)
+    → before ≡ before_calls queue cpus cpu → command ≡ delegate granule → opened ≡ called before command → HasServed queue cpu granule opened
+served_open queue cpus cpu granule command before opened is_before is_command is_open =
+    let start : CpuView = called (before_calls queue cpus cpu) (delegate granule) in
+    let has : HasServed queue cpu granule start = record { same_queue = refl; same_cpu = refl; one_call = (Misplaced, (Returned cpu 0 Misplaced ∷ [], refl)) } in
+    subst (HasServed queue cpu granule) (sym (is_open ∙ (λ i. called (is_before i) (is_command i)))) has
+
 -- at the end of its call
 pub served_end : {T E : Type 0} (queue : TableId) (cpus cpu granule : ℕ) (command : Command) (given : Reply) (outcome : Result T E) (before opened new : CpuView)
     → before ≡ before_calls queue cpus cpu → command ≡ delegate granule → opened ≡ called before command

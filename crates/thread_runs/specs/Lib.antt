@@ -1,2 +1,3 @@
+pub mod Locked
 pub mod OneCall
 pub mod Printed

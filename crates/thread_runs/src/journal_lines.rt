@@ -1,15 +1,15 @@
 //! The journal of a run as a certificate.
 
 use certificate::{Certificate, Line, is_line};
-use commit_tickets::{Entry, Journal};
+use commit_tickets::{Entry, Journal, Site};
 use history::History;
 use std::alloc::{AllocError, Global};
 
 /// The journal's entries as lines, where each CPU has one call. What is no line of a certificate is left out, and `check`
 /// finds it missing.
-pub fn certificate_of(
+pub fn certificate_of<S: Site>(
     alloc: Global,
-    journal: Journal,
+    journal: Journal<S>,
     history: &History,
 ) -> Result<Certificate, AllocError> {
     let mut certificate = Certificate::new(alloc);

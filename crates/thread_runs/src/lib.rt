@@ -8,8 +8,10 @@
 mod cpu;
 mod fault;
 mod journal_lines;
+mod locking;
 mod printed;
 mod run;
+mod shared;
 
 pub use checker::Verdict;
 pub use fault::RunFault;

@@ -5,11 +5,10 @@ pub mod Lending
 pub mod Locked
 pub mod Reached
 pub mod Moves
-pub mod Ends
+pub mod Phases
 pub mod Follows
 pub mod Calls
 pub mod Taking
-pub mod Returns
 pub mod Opened
 pub mod Lines
 pub mod Commits

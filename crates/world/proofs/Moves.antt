@@ -1,32 +1,49 @@
 -- Each move is a turn, after which the world keeps what it kept.
-use Rattle.std.proofs.Common.{◌≡◌, ℕ, ◌+◌, ◌<◌, ◌≤◌, Bool, true, false, ◌==◌, if◌then◌else◌, List, [], ◌∷◌, ◌++◌, length, Option, Some, None, refl, sym, ap, ◌∙◌, subst, arith, eq-eqb}
+use Rattle.std.proofs.Common.{◌≡◌, ℕ, ◌+◌, ◌<◌, Bool, true, false, ◌==◌, if◌then◌else◌, List, [], ◌∷◌, ◌++◌, drop, slice_get, Option, Some, None, IsTrue, refl, sym, ap, ◌∙◌, subst, arith, eq-eqb}
 use Rattle.std.specs.Prelude.{Contains}
 use Rattle.std.specs.List.{list_all}
 use Rattle.std.proofs.lemmas.Bool.{and_parts}
 use Rattle.rmm_spec.specs.declared.command.Command.{Command}
 use Rattle.rmm_spec.specs.declared.event.Event.TheVariants.{Called, Returned}
 use Rattle.rmm_spec.specs.declared.reply.Reply.{Reply}
+use Rattle.rmm_spec.specs.HistoryText.{Config, History}
 use Rattle.rmm_spec.specs.Lookup.{is_cpu}
-use Rattle.rmm_spec.specs.Cell.{put}
-use Rattle.rmm_spec.specs.Local.{Hold, put_all, LocalStep}
-use Rattle.rmm_spec.specs.World.{World, Phase, Between, Deciding, Decided, GivenUp, Stopped, Happens, IsDeciding, IsGoing, MayLearn, phase_learnt, without_granule}
+use Rattle.rmm_spec.specs.Cell.{Cell, put}
+use Rattle.rmm_spec.specs.Shape.{Side}
+use Rattle.rmm_spec.specs.Local.{put_all}
+use Rattle.rmm_spec.specs.World.{Phase, Between, Deciding, Decided, GivenUp, Stopped, Commitment, Move, mover, Happens, IsDeciding, MayLearn, phase_learnt, without_granule}
 use Rattle.rmm_spec.specs.World as move
-use Rattle.rmm_spec.specs.Waits.{Will, Report, Did, Blocked, Idle, Turns, IsIdle, IsBlocked, IsRising, MayFree, awaited}
+use Rattle.rmm_spec.specs.Waits.{Will, Report, Did, Blocked, Idle, Turns, IsIdle, IsRising, IsWilled, MayFree, awaited, kind_of}
 use Rattle.rmm_spec.specs.Waits as turn
 use Rattle.rmm_spec.proofs.Tests.{both_ways}
 use Rattle.world_laws.proofs.Lists.{put_elim}
-use Rattle.world.specs.Kept.{AreLocks, IsFit, AreFit, IsReached, IsKept, IsTurn, serves, freed_all}
+use Rattle.command_core.specs.Sides.{side_of}
+use Rattle.command_core.specs.declared.side.Side as own_side
+use Rattle.world.specs.declared.cells.Cells.{Cells}
+use Rattle.world.specs.declared.cpus.Cpus.{Cpus}
+use Rattle.world.specs.declared.locks.Locks.{Locks}
+use Rattle.world.specs.declared.world.World as own
+use Rattle.world.specs.Cpus.{Views, views_of, is_going, is_deciding}
+use Rattle.world.specs.Granules.{cells_of, holder_of}
+use Rattle.world.specs.Kept.{AreLocks, IsFit, AreFit, IsReached, IsTurn, serves, serves_phase, calls_made, freed_all}
+use Rattle.world.specs.Stepped.{MakesStep}
+use Rattle.world.specs.Whole.{world_with, world_from}
+use Rattle.world.specs.World.{world_of}
+use Rattle.world.proofs.Calls.{first-and_others}
+use Rattle.world.proofs.Phases.{going-true, deciding-true}
 use Rattle.world.proofs.Locked.{AreLocks-taken, AreLocks-freed, AreLocks-cleared, taken-contains, contains-taken, held_by}
 use Rattle.world.proofs.Reached.{IsReached-turned}
 
 -- ---- what stays fit
 
+-- one CPU is in another phase
 AreFit-phase : (phase : ℕ → Phase) (program : ℕ → List Command) (cpu : ℕ) (p : Phase) → IsFit p (program cpu) → AreFit phase program
     → AreFit (put phase cpu p) program
 AreFit-phase phase program cpu p here fit = record {
   each = λ other. put_elim (λ q. IsFit q (program other)) phase cpu p other (λ same. subst (λ c. IsFit p (program c)) (sym same) here) (λ apart. fit.each other);
 }
 
+-- and has called a command of its program
 AreFit-both : (phase : ℕ → Phase) (program : ℕ → List Command) (cpu : ℕ) (p : Phase) (rest : List Command) → IsFit p rest → AreFit phase program
     → AreFit (put phase cpu p) (put program cpu rest)
 AreFit-both phase program cpu p rest here fit = record { each = λ other. by other (other == cpu) }
@@ -36,178 +53,11 @@ AreFit-both phase program cpu p rest here fit = record { each = λ other. by oth
     by other false = fit.each other
 
 -- a CPU that ends is fit
-ended-fit : (phase : ℕ → Phase) (program : ℕ → List Command) (cpu : ℕ) → AreFit phase program → 0 + length (program cpu) ≤ 499999
-ended-fit phase program cpu fit = omega (arith, (fit.each cpu).numbered)
-
--- ---- turns
-
-turn-kept : (old new : World) (cpu : ℕ) (will : Will) (report : Report) (holder waits new_holder new_waits : ℕ → Option ℕ) → IsKept old holder waits
-    → Turns old cpu will report new → new.config ≡ old.config → new_waits ≡ put waits cpu (awaited report)
-    → AreLocks new.config.granules new.taken new_holder → AreFit new.phase new.program → IsTurn old cpu will report new new_holder new_waits
-turn-kept old new cpu will report holder waits new_holder new_waits kept turned config waiting locked fit = record {
-  turned = turned;
-  kept = record {
-    locked = locked;
-    fit = fit;
-    reached = subst (λ c. ∥ IsReached c new new_waits ∥₁) (sym config)
-        (subst (λ w. ∥ IsReached old.config new w ∥₁) (sym waiting) (IsReached-turned old.config old waits cpu will report new turned kept.reached));
-  };
-}
-
--- nothing to do
-pub idle-kept : (old new : World) (cpu : ℕ) (will : Will) (holder waits new_waits : ℕ → Option ℕ) → IsKept old holder waits → IsIdle old cpu will
-    → new ≡ old → new_waits ≡ put waits cpu None → IsTurn old cpu will Idle new holder new_waits
-idle-kept old new cpu will holder waits new_waits kept idle is waiting =
-    subst (λ w. IsTurn old cpu will Idle w holder new_waits) (sym is)
-    (turn-kept old old cpu will Idle holder waits holder new_waits kept (idle, refl) refl waiting kept.locked kept.fit)
-
--- another CPU holds the lock that comes next
-pub blocked-kept : (old new : World) (cpu granule other : ℕ) (holder waits new_waits : ℕ → Option ℕ) → IsKept old holder waits
-    → IsRising old cpu granule → holder granule ≡ Some other → new ≡ old → new_waits ≡ put waits cpu (Some granule)
-    → IsTurn old cpu turn.Go (Blocked granule) new holder new_waits
-blocked-kept old new cpu granule other holder waits new_waits kept rising held is waiting =
-    let is_held = taken-contains (old.taken other) granule (kept.locked.held other granule ∙ ap (is_cpu other) held ∙ eq-eqb other other refl) in
-    subst (λ w. IsTurn old cpu turn.Go (Blocked granule) w holder new_waits) (sym is)
-    (turn-kept old old cpu turn.Go (Blocked granule) holder waits holder new_waits kept
-    (record { other = other; waits = record { rising = rising; is_held = is_held } }, refl) refl waiting kept.locked kept.fit)
-
-pub stop-kept : (old new : World) (cpu : ℕ) (holder waits new_waits : ℕ → Option ℕ) → IsKept old holder waits → cpu < old.config.cpus
-    → IsGoing (old.phase cpu) → new ≡ record old { phase = put old.phase cpu Stopped } → new_waits ≡ put waits cpu None
-    → IsTurn old cpu turn.Stop (Did turn.Stop) new holder new_waits
-stop-kept old new cpu holder waits new_waits kept within going is waiting =
-    let next : World = record old { phase = put old.phase cpu Stopped } in
-    subst (λ w. IsTurn old cpu turn.Stop (Did turn.Stop) w holder new_waits) (sym is)
-    (turn-kept old next cpu turn.Stop (Did turn.Stop) holder waits holder new_waits kept (record {
-      move = move.Stop cpu;
-      is_kind = refl;
-      is_mover = refl;
-      is_willed = tt;
-      happens = record { is_cpu = within; moves = record { is_going = going; is_new = refl } };
-    }) refl waiting kept.locked
-    (AreFit-phase old.phase old.program cpu Stopped
-    (record { served = (kept.fit.each cpu).served; open_served = refl; numbered = ended-fit old.phase old.program cpu kept.fit }) kept.fit))
-
-pub give_up-kept : (old new : World) (cpu : ℕ) (holder waits new_holder new_waits : ℕ → Option ℕ) → IsKept old holder waits → cpu < old.config.cpus
-    → IsDeciding old cpu → new ≡ record old { taken = put old.taken cpu []; phase = put old.phase cpu GivenUp }
-    → new_holder ≡ freed_all (old.taken cpu) holder → new_waits ≡ put waits cpu None
-    → IsTurn old cpu turn.GiveUp (Did turn.GiveUp) new new_holder new_waits
-give_up-kept old new cpu holder waits new_holder new_waits kept within deciding is freed waiting =
-    let next : World = record old { taken = put old.taken cpu []; phase = put old.phase cpu GivenUp } in
-    subst (λ w. IsTurn old cpu turn.GiveUp (Did turn.GiveUp) w new_holder new_waits) (sym is)
-    (turn-kept old next cpu turn.GiveUp (Did turn.GiveUp) holder waits new_holder new_waits kept (record {
-      move = move.GiveUp cpu;
-      is_kind = refl;
-      is_mover = refl;
-      is_willed = tt;
-      happens = record { is_cpu = within; moves = record { deciding = deciding; is_new = refl } };
-    }) refl waiting
-    (subst (AreLocks old.config.granules (put old.taken cpu [])) (sym freed) (AreLocks-cleared old.config.granules old.taken holder cpu kept.locked))
-    (AreFit-phase old.phase old.program cpu GivenUp
-    (record { served = (kept.fit.each cpu).served; open_served = refl; numbered = ended-fit old.phase old.program cpu kept.fit }) kept.fit))
-
-pub call-kept : (old new : World) (cpu number : ℕ) (command : Command) (rest : List Command) (holder waits new_waits : ℕ → Option ℕ)
-    → IsKept old holder waits → cpu < old.config.cpus → old.phase cpu ≡ Between number → old.program cpu ≡ command ∷ rest
-    → new ≡ record old {
-      phase = put old.phase cpu (Deciding number command None);
-      program = put old.program cpu rest;
-      events = old.events ++ Called cpu number command ∷ [];
-    } → new_waits ≡ put waits cpu None → IsTurn old cpu turn.Go (Did turn.Call) new holder new_waits
-call-kept old new cpu number command rest holder waits new_waits kept within between first is waiting =
-    let next : World = record old {
-      phase = put old.phase cpu (Deciding number command None);
-      program = put old.program cpu rest;
-      events = old.events ++ Called cpu number command ∷ [];
-    } in
-    let was : IsFit (Between number) (command ∷ rest) = subst (λ p. IsFit p (command ∷ rest)) between (subst (IsFit (old.phase cpu)) first (kept.fit.each cpu)) in
-    let parts = and_parts (serves command) (list_all serves rest) was.served in
-    subst (λ w. IsTurn old cpu turn.Go (Did turn.Call) w holder new_waits) (sym is)
-    (turn-kept old next cpu turn.Go (Did turn.Call) holder waits holder new_waits kept (record {
-      move = move.Call cpu;
-      is_kind = refl;
-      is_mover = refl;
-      is_willed = tt;
-      happens = record {
-        is_cpu = within;
-        moves = record { number = number; command = command; rest = rest; is_between = between; is_next = first; is_new = refl };
-      };
-    }) refl waiting kept.locked
-    (AreFit-both old.phase old.program cpu (Deciding number command None) rest
-    (record { served = parts.1; open_served = parts.0; numbered = omega (arith, was.numbered) }) kept.fit))
-
-pub return-kept : (old new : World) (cpu number : ℕ) (command : Command) (given : Reply) (holder waits new_waits : ℕ → Option ℕ)
-    → IsKept old holder waits → cpu < old.config.cpus → old.phase cpu ≡ Decided number command given → old.taken cpu ≡ []
-    → new ≡ record old {
-      phase = put old.phase cpu (Between (number + 1));
-      events = old.events ++ Returned cpu number given ∷ [];
-    } → new_waits ≡ put waits cpu None → IsTurn old cpu turn.Go (Did turn.Return) new holder new_waits
-return-kept old new cpu number command given holder waits new_waits kept within decided none is waiting =
-    let next : World = record old {
-      phase = put old.phase cpu (Between (number + 1));
-      events = old.events ++ Returned cpu number given ∷ [];
-    } in
-    let was : IsFit (Decided number command given) (old.program cpu) = subst (λ p. IsFit p (old.program cpu)) decided (kept.fit.each cpu) in
-    subst (λ w. IsTurn old cpu turn.Go (Did turn.Return) w holder new_waits) (sym is)
-    (turn-kept old next cpu turn.Go (Did turn.Return) holder waits holder new_waits kept (record {
-      move = move.Return cpu;
-      is_kind = refl;
-      is_mover = refl;
-      is_willed = tt;
-      happens = record {
-        is_cpu = within;
-        moves = record { number = number; command = command; given = given; is_decided = decided; holds_none = none; is_new = refl };
-      };
-    }) refl waiting kept.locked
-    (AreFit-phase old.phase old.program cpu (Between (number + 1))
-    (record { served = was.served; open_served = refl; numbered = was.numbered }) kept.fit))
-
-pub take-kept : (old new : World) (cpu granule : ℕ) (holder waits new_holder new_waits : ℕ → Option ℕ) → IsKept old holder waits → cpu < old.config.cpus
-    → IsRising old cpu granule → holder granule ≡ None
-    → new ≡ record old { taken = put old.taken cpu (old.taken cpu ++ granule ∷ []) } → new_holder ≡ put holder granule (Some cpu)
-    → new_waits ≡ put waits cpu None → IsTurn old cpu turn.Go (Did turn.Take) new new_holder new_waits
-take-kept old new cpu granule holder waits new_holder new_waits kept within rising free is held waiting =
-    let next : World = record old { taken = put old.taken cpu (old.taken cpu ++ granule ∷ []) } in
-    let is_free : (other : ℕ) → Contains (old.taken other) granule → ⊥ =
-    λ other has. both_ways (contains-taken (old.taken other) granule has) (kept.locked.held other granule ∙ ap (is_cpu other) free) in
-    subst (λ w. IsTurn old cpu turn.Go (Did turn.Take) w new_holder new_waits) (sym is)
-    (turn-kept old next cpu turn.Go (Did turn.Take) holder waits new_holder new_waits kept (record {
-      move = move.Take cpu granule;
-      is_kind = refl;
-      is_mover = refl;
-      is_willed = rising;
-      happens = record { is_cpu = within; moves = record { deciding = rising.deciding; is_lock = rising.rising.is_lock; is_free = is_free; is_new = refl } };
-    }) refl waiting
-    (subst (AreLocks old.config.granules next.taken) (sym held)
-    (AreLocks-taken old.config.granules old.taken holder cpu granule rising.rising.is_lock free kept.locked)) kept.fit)
-
-pub commit-kept : (old new : World) (cpu : ℕ) (given : Reply) (held : Hold) (holder waits new_waits : ℕ → Option ℕ) → IsKept old holder waits
-    → cpu < old.config.cpus → (deciding : IsDeciding old cpu) → LocalStep old.config.granules cpu deciding.command given (move.hold_of old cpu) held
-    → new ≡ record old {
-      cells = put_all old.cells held.cells;
-      side = held.side;
-      place = put old.place cpu held.place;
-      phase = put old.phase cpu (Decided deciding.number deciding.command given);
-      journal = old.journal ++ record { cpu = cpu; number = deciding.number; command = deciding.command; given = given } ∷ [];
-    } → new_waits ≡ put waits cpu None → IsTurn old cpu turn.Go (Did turn.Commit) new holder new_waits
-commit-kept old new cpu given held holder waits new_waits kept within deciding step is waiting =
-    let next : World = record old {
-      cells = put_all old.cells held.cells;
-      side = held.side;
-      place = put old.place cpu held.place;
-      phase = put old.phase cpu (Decided deciding.number deciding.command given);
-      journal = old.journal ++ record { cpu = cpu; number = deciding.number; command = deciding.command; given = given } ∷ [];
-    } in
-    let was : IsFit (Deciding deciding.number deciding.command deciding.learnt) (old.program cpu) =
-    subst (λ p. IsFit p (old.program cpu)) deciding.is_deciding (kept.fit.each cpu) in
-    subst (λ w. IsTurn old cpu turn.Go (Did turn.Commit) w holder new_waits) (sym is)
-    (turn-kept old next cpu turn.Go (Did turn.Commit) holder waits holder new_waits kept (record {
-      move = move.Commit cpu given held;
-      is_kind = refl;
-      is_mover = refl;
-      is_willed = tt;
-      happens = record { is_cpu = within; moves = record { deciding = deciding; step = step; is_new = refl } };
-    }) refl waiting kept.locked
-    (AreFit-phase old.phase old.program cpu (Decided deciding.number deciding.command given)
-    (record { served = was.served; open_served = refl; numbered = was.numbered }) kept.fit))
+ended-fit : (phase : ℕ → Phase) (program : ℕ → List Command) (cpu : ℕ) (p : Phase) → IsTrue (serves_phase p) → calls_made p ≡ 0 → AreFit phase program
+    → AreFit (put phase cpu p) program
+ended-fit phase program cpu p open_served none fit =
+    let was = fit.each cpu in
+    AreFit-phase phase program cpu p (record { served = was.served; open_served = open_served; numbered = omega (arith, was.numbered, none) }) fit
 
 -- what is learnt leaves a CPU fit
 learnt-fit : (learnt : Option ℕ) (p : Phase) (program : List Command) → IsFit p program → IsFit (phase_learnt learnt p) program
@@ -217,26 +67,271 @@ learnt-fit learnt (Decided number command given) program fit = fit
 learnt-fit learnt GivenUp program fit = fit
 learnt-fit learnt Stopped program fit = fit
 
-pub free-kept : (old new : World) (cpu granule : ℕ) (learnt : Option ℕ) (holder waits new_holder new_waits : ℕ → Option ℕ) → IsKept old holder waits
-    → cpu < old.config.cpus → Contains (old.taken cpu) granule → MayLearn old (old.phase cpu) granule learnt → MayFree old cpu granule (old.phase cpu)
-    → new ≡ record old {
-      taken = put old.taken cpu (without_granule granule (old.taken cpu));
-      phase = put old.phase cpu (phase_learnt learnt (old.phase cpu));
-    } → new_holder ≡ put holder granule None → new_waits ≡ put waits cpu None → IsTurn old cpu turn.Go (Did turn.Free) new new_holder new_waits
-free-kept old new cpu granule learnt holder waits new_holder new_waits kept within has may free is held waiting =
-    let next : World = record old {
-      taken = put old.taken cpu (without_granule granule (old.taken cpu));
-      phase = put old.phase cpu (phase_learnt learnt (old.phase cpu));
-    } in
-    let mine : holder granule ≡ Some cpu = held_by cpu (holder granule) (sym (kept.locked.held cpu granule) ∙ contains-taken (old.taken cpu) granule has) in
-    subst (λ w. IsTurn old cpu turn.Go (Did turn.Free) w new_holder new_waits) (sym is)
-    (turn-kept old next cpu turn.Go (Did turn.Free) holder waits new_holder new_waits kept (record {
-      move = move.Free cpu granule learnt;
-      is_kind = refl;
-      is_mover = refl;
-      is_willed = free;
-      happens = record { is_cpu = within; moves = record { is_held = has; may_learn = may; is_new = refl } };
-    }) refl waiting
-    (subst (AreLocks old.config.granules next.taken) (sym held) (AreLocks-freed old.config.granules old.taken holder cpu granule mine kept.locked))
-    (AreFit-phase old.phase old.program cpu (phase_learnt learnt (old.phase cpu))
-    (learnt-fit learnt (old.phase cpu) (old.program cpu) (kept.fit.each cpu)) kept.fit))
+-- ---- a world's fields
+
+-- what a world's fields stand for
+pub record Fields : Type 0 where
+  pub cells : ℕ → Cell
+  pub side : Side
+  pub views : Views
+  pub journal : List Commitment
+  pub history : History
+  pub holder : ℕ → Option ℕ
+
+-- a world's own cells, side table and journal, with other views, records and holders
+abbrev pub with_views : own.World → Views → History → (ℕ → Option ℕ) → Fields
+with_views s views history holder = record {
+  cells = cells_of s.cells;
+  side = side_of s.side;
+  views = views;
+  journal = s.journal.items;
+  history = history;
+  holder = holder;
+}
+
+-- a turn of a world, after which its fields stand for these
+abbrev pub IsTurnTo : own.World → ℕ → Will → Report → Fields → Type 0
+IsTurnTo s cpu will report f =
+    IsTurn (world_of s) cpu will report (world_with f.cells f.side f.views f.journal f.history) f.holder f.views.waits
+
+-- what the calls left is what the turn makes
+pub made : (s : own.World) (cpu : ℕ) (will : Will) (report : Report) (cpus : Cpus) (recorded : History) (locks : Locks) (views : Views)
+    (history : History) (holder : ℕ → Option ℕ) → views_of cpus ≡ views → recorded ≡ history → holder_of locks ≡ holder
+    → IsTurnTo s cpu will report (with_views s views history holder)
+    → IsTurnTo s cpu will report (with_views s (views_of cpus) recorded (holder_of locks))
+made s cpu will report cpus recorded locks views history holder is more held turn =
+    subst (IsTurnTo s cpu will report) (sym (λ i. with_views s (is i) (more i) (held i))) turn
+
+-- a turn after which locks and phases fit keeps all
+turn-kept : (s : own.World) (cpu : ℕ) (will : Will) (report : Report) (f : Fields) → f.history.config ≡ s.history.recorded.config
+    → f.views.waits ≡ put (views_of s.cpus).waits cpu (awaited report)
+    → Turns (world_of s) cpu will report (world_with f.cells f.side f.views f.journal f.history)
+    → AreLocks f.history.config.granules f.views.taken f.holder → AreFit f.views.phase f.views.program → IsTurnTo s cpu will report f
+unfolding world_of world_from
+turn-kept s cpu will report f config waiting turned locked fit =
+    let w = world_with f.cells f.side f.views f.journal f.history in
+    record {
+      turned = turned;
+      kept = record {
+        locked = locked;
+        fit = fit;
+        reached = subst (λ c. ∥ IsReached c w f.views.waits ∥₁) (sym config)
+            (subst (λ waits. ∥ IsReached s.history.recorded.config w waits ∥₁) (sym waiting)
+            (IsReached-turned s.history.recorded.config (world_of s) (views_of s.cpus).waits cpu will report w turned s.kept.reached));
+      };
+    }
+
+-- and so does one that makes a move
+move-kept : (s : own.World) (cpu : ℕ) (will : Will) (m : Move) (f : Fields) → f.history.config ≡ s.history.recorded.config
+    → f.views.waits ≡ put (views_of s.cpus).waits cpu None → mover m ≡ cpu → IsWilled (world_of s) will m
+    → Happens (world_of s) m (world_with f.cells f.side f.views f.journal f.history)
+    → AreLocks f.history.config.granules f.views.taken f.holder → AreFit f.views.phase f.views.program → IsTurnTo s cpu will (Did (kind_of m)) f
+move-kept s cpu will m f config waiting is_mover willed happens =
+    turn-kept s cpu will (Did (kind_of m)) f config waiting
+    (record { move = m; is_kind = refl; is_mover = is_mover; is_willed = willed; happens = happens })
+
+-- ---- turns without a move
+
+-- nothing to do
+pub idle : (s : own.World) (cpu : ℕ) (will : Will) (cpus : Cpus) → IsIdle (world_of s) cpu will
+    → views_of cpus ≡ record (views_of s.cpus) { waits = put (views_of s.cpus).waits cpu None }
+    → IsTurnTo s cpu will Idle (with_views s (views_of cpus) s.history.recorded (holder_of s.locks))
+unfolding world_of world_from
+idle s cpu will cpus nothing is =
+    let old = views_of s.cpus in
+    made s cpu will Idle cpus s.history.recorded s.locks _ _ _ is refl refl
+    (turn-kept s cpu will Idle (with_views s (record old { waits = put old.waits cpu None }) s.history.recorded (holder_of s.locks)) refl refl
+    (nothing, refl) s.kept.locked s.kept.fit)
+
+-- another CPU holds the lock that comes next
+pub blocked : (s : own.World) (cpu granule other : ℕ) (cpus : Cpus) → IsRising (world_of s) cpu granule → holder_of s.locks granule ≡ Some other
+    → views_of cpus ≡ record (views_of s.cpus) { waits = put (views_of s.cpus).waits cpu (Some granule) }
+    → IsTurnTo s cpu turn.Go (Blocked granule) (with_views s (views_of cpus) s.history.recorded (holder_of s.locks))
+unfolding world_of world_from
+blocked s cpu granule other cpus rising held is =
+    let old = views_of s.cpus in
+    let is_held = taken-contains (old.taken other) granule (s.kept.locked.held other granule ∙ ap (is_cpu other) held ∙ eq-eqb other other refl) in
+    made s cpu turn.Go (Blocked granule) cpus s.history.recorded s.locks _ _ _ is refl refl
+    (turn-kept s cpu turn.Go (Blocked granule) (with_views s (record old { waits = put old.waits cpu (Some granule) }) s.history.recorded (holder_of s.locks))
+    refl refl (record { other = other; waits = record { rising = rising; is_held = is_held } }, refl) s.kept.locked s.kept.fit)
+
+-- ---- moves
+
+module _ (s : own.World) (cpu : ℕ) (within : cpu < s.history.recorded.config.cpus) where
+  -- the CPU ends where it stands
+  pub stopped : (cpus : Cpus) → is_going ((views_of s.cpus).phase cpu) ≡ true
+      → views_of cpus ≡ record (views_of s.cpus) { waits = put (views_of s.cpus).waits cpu None; phase = put (views_of s.cpus).phase cpu Stopped }
+      → IsTurnTo s cpu turn.Stop (Did turn.Stop) (with_views s (views_of cpus) s.history.recorded (holder_of s.locks))
+  unfolding world_of world_from
+  stopped cpus going is =
+      let old = views_of s.cpus in
+      let new : Views = record old { waits = put old.waits cpu None; phase = put old.phase cpu Stopped } in
+      made s cpu turn.Stop (Did turn.Stop) cpus s.history.recorded s.locks _ _ _ is refl refl
+      (move-kept s cpu turn.Stop (move.Stop cpu) (with_views s new s.history.recorded (holder_of s.locks)) refl refl refl tt
+      (record { is_cpu = within; moves = record { is_going = going-true (old.phase cpu) going; is_new = refl } })
+      s.kept.locked (ended-fit old.phase old.program cpu Stopped refl refl s.kept.fit))
+
+  -- it frees all that it holds, and ends
+  pub gave_up : (cpus : Cpus) (locks : Locks) → is_deciding ((views_of s.cpus).phase cpu) ≡ true
+      → holder_of locks ≡ freed_all ((views_of s.cpus).taken cpu) (holder_of s.locks)
+      → views_of cpus ≡ record (views_of s.cpus) {
+        waits = put (views_of s.cpus).waits cpu None;
+        taken = put (views_of s.cpus).taken cpu [];
+        phase = put (views_of s.cpus).phase cpu GivenUp;
+      } → IsTurnTo s cpu turn.GiveUp (Did turn.GiveUp) (with_views s (views_of cpus) s.history.recorded (holder_of locks))
+  unfolding world_of world_from
+  gave_up cpus locks deciding freed is =
+      let old = views_of s.cpus in
+      let new : Views = record old { waits = put old.waits cpu None; taken = put old.taken cpu []; phase = put old.phase cpu GivenUp } in
+      made s cpu turn.GiveUp (Did turn.GiveUp) cpus s.history.recorded locks _ _ _ is refl freed
+      (move-kept s cpu turn.GiveUp (move.GiveUp cpu) (with_views s new s.history.recorded (freed_all (old.taken cpu) (holder_of s.locks))) refl refl refl tt
+      (record { is_cpu = within; moves = record { deciding = deciding-true (world_of s) cpu (old.phase cpu) refl deciding; is_new = refl } })
+      (AreLocks-cleared s.history.recorded.config.granules old.taken (holder_of s.locks) cpu s.kept.locked)
+      (ended-fit old.phase old.program cpu GivenUp refl refl s.kept.fit))
+
+  -- it takes a lock that nobody holds
+  pub took : (cpus : Cpus) (locks : Locks) (granule : ℕ) → IsRising (world_of s) cpu granule → holder_of s.locks granule ≡ None
+      → holder_of locks ≡ put (holder_of s.locks) granule (Some cpu)
+      → views_of cpus ≡ record (views_of s.cpus) {
+        waits = put (views_of s.cpus).waits cpu None;
+        taken = put (views_of s.cpus).taken cpu ((views_of s.cpus).taken cpu ++ granule ∷ []);
+      } → IsTurnTo s cpu turn.Go (Did turn.Take) (with_views s (views_of cpus) s.history.recorded (holder_of locks))
+  unfolding world_of world_from
+  took cpus locks granule rising free held is =
+      let old = views_of s.cpus in
+      let new : Views = record old { waits = put old.waits cpu None; taken = put old.taken cpu (old.taken cpu ++ granule ∷ []) } in
+      let is_free : (other : ℕ) → Contains (old.taken other) granule → ⊥ =
+      λ other has. both_ways (contains-taken (old.taken other) granule has) (s.kept.locked.held other granule ∙ ap (is_cpu other) free) in
+      made s cpu turn.Go (Did turn.Take) cpus s.history.recorded locks _ _ _ is refl held
+      (move-kept s cpu turn.Go (move.Take cpu granule) (with_views s new s.history.recorded (put (holder_of s.locks) granule (Some cpu))) refl refl refl rising
+      (record {
+        is_cpu = within;
+        moves = record { deciding = rising.deciding; is_lock = rising.rising.is_lock; is_free = is_free; is_new = refl };
+      })
+      (AreLocks-taken s.history.recorded.config.granules old.taken (holder_of s.locks) cpu granule rising.rising.is_lock free s.kept.locked) s.kept.fit)
+
+  -- it frees a lock that it holds
+  pub freed : (cpus : Cpus) (locks : Locks) (granule : ℕ) (learnt : Option ℕ) → Contains ((views_of s.cpus).taken cpu) granule
+      → MayLearn (world_of s) ((views_of s.cpus).phase cpu) granule learnt → MayFree (world_of s) cpu granule ((views_of s.cpus).phase cpu)
+      → holder_of locks ≡ put (holder_of s.locks) granule None
+      → views_of cpus ≡ record (views_of s.cpus) {
+        waits = put (views_of s.cpus).waits cpu None;
+        taken = put (views_of s.cpus).taken cpu (without_granule granule ((views_of s.cpus).taken cpu));
+        phase = put (views_of s.cpus).phase cpu (phase_learnt learnt ((views_of s.cpus).phase cpu));
+      } → IsTurnTo s cpu turn.Go (Did turn.Free) (with_views s (views_of cpus) s.history.recorded (holder_of locks))
+  unfolding world_of world_from
+  freed cpus locks granule learnt has may free held is =
+      let old = views_of s.cpus in
+      let new : Views = record old {
+        waits = put old.waits cpu None;
+        taken = put old.taken cpu (without_granule granule (old.taken cpu));
+        phase = put old.phase cpu (phase_learnt learnt (old.phase cpu));
+      } in
+      let mine : holder_of s.locks granule ≡ Some cpu =
+      held_by cpu (holder_of s.locks granule) (sym (s.kept.locked.held cpu granule) ∙ contains-taken (old.taken cpu) granule has) in
+      made s cpu turn.Go (Did turn.Free) cpus s.history.recorded locks _ _ _ is refl held
+      (move-kept s cpu turn.Go (move.Free cpu granule learnt) (with_views s new s.history.recorded (put (holder_of s.locks) granule None)) refl refl refl free
+      (record { is_cpu = within; moves = record { is_held = has; may_learn = may; is_new = refl } })
+      (AreLocks-freed s.history.recorded.config.granules old.taken (holder_of s.locks) cpu granule mine s.kept.locked)
+      (AreFit-phase old.phase old.program cpu (phase_learnt learnt (old.phase cpu))
+      (learnt-fit learnt (old.phase cpu) (old.program cpu) (s.kept.fit.each cpu)) s.kept.fit))
+
+  -- what a call makes of a world's fields
+  abbrev pub with_call : ℕ → Command → Fields
+  with_call number command = with_views s (record (views_of s.cpus) {
+    waits = put (views_of s.cpus).waits cpu None;
+    phase = put (views_of s.cpus).phase cpu (Deciding number command None);
+    program = put (views_of s.cpus).program cpu (drop 1 ((views_of s.cpus).program cpu));
+  }) (record s.history.recorded { events = s.history.recorded.events ++ Called cpu number command ∷ [] }) (holder_of s.locks)
+
+  -- its next command is called
+  pub called : (number : ℕ) (command : Command) → (views_of s.cpus).phase cpu ≡ Between number
+      → slice_get ((views_of s.cpus).program cpu) 0 ≡ Some command → IsTurnTo s cpu turn.Go (Did turn.Call) (with_call number command)
+  unfolding world_of world_from
+  called number command between first =
+      let old = views_of s.cpus in
+      let rest = drop 1 (old.program cpu) in
+      let next : old.program cpu ≡ command ∷ rest = first-and_others (old.program cpu) command first in
+      let was : IsFit (Between number) (command ∷ rest) =
+      subst (λ p. IsFit p (command ∷ rest)) between (subst (IsFit (old.phase cpu)) next (s.kept.fit.each cpu)) in
+      let parts = and_parts (serves command) (list_all serves rest) was.served in
+      move-kept s cpu turn.Go (move.Call cpu) (with_call number command) refl refl refl tt
+      (record {
+        is_cpu = within;
+        moves = record { number = number; command = command; rest = rest; is_between = between; is_next = next; is_new = refl };
+      })
+      s.kept.locked (AreFit-both old.phase old.program cpu (Deciding number command None) rest
+      (record { served = parts.1; open_served = parts.0; numbered = omega (arith, was.numbered) }) s.kept.fit)
+
+  -- what a return makes of a world's fields
+  abbrev pub with_return : ℕ → Reply → Fields
+  with_return number given = with_views s (record (views_of s.cpus) {
+    waits = put (views_of s.cpus).waits cpu None;
+    phase = put (views_of s.cpus).phase cpu (Between (number + 1));
+  }) (record s.history.recorded { events = s.history.recorded.events ++ Returned cpu number given ∷ [] }) (holder_of s.locks)
+
+  -- its reply is returned
+  pub returned : (number : ℕ) (command : Command) (given : Reply) → (views_of s.cpus).phase cpu ≡ Decided number command given
+      → (views_of s.cpus).taken cpu ≡ [] → IsTurnTo s cpu turn.Go (Did turn.Return) (with_return number given)
+  unfolding world_of world_from
+  returned number command given decided none =
+      let old = views_of s.cpus in
+      let was : IsFit (Decided number command given) (old.program cpu) = subst (λ p. IsFit p (old.program cpu)) decided (s.kept.fit.each cpu) in
+      move-kept s cpu turn.Go (move.Return cpu) (with_return number given) refl refl refl tt
+      (record {
+        is_cpu = within;
+        moves = record { number = number; command = command; given = given; is_decided = decided; holds_none = none; is_new = refl };
+      })
+      s.kept.locked (AreFit-phase old.phase old.program cpu (Between (number + 1))
+      (record { served = was.served; open_served = refl; numbered = was.numbered }) s.kept.fit)
+
+  -- its open call is committed, with the command and the reply as they were copied
+  pub committed : (cells : Cells) (side : own_side.Side) (mid cpus : Cpus) (reserved entries : List Commitment) (config : Config) (number : ℕ)
+      (opened command again : Command) (learnt : Option ℕ) (given told : Reply) → config ≡ s.history.recorded.config
+      → (views_of s.cpus).phase cpu ≡ Deciding number opened learnt → command ≡ opened
+      → MakesStep config.granules cpu command given (cells_of s.cells) (cells_of cells) (side_of s.side) (side_of side) (views_of s.cpus) (views_of mid)
+      → views_of cpus ≡ record (views_of mid) { waits = put (views_of mid).waits cpu None; phase = put (views_of mid).phase cpu (Decided number command given) }
+      → reserved ≡ s.journal.items → again ≡ command → told ≡ given
+      → entries ≡ reserved ++ record { cpu = cpu; number = number; command = again; given = told } ∷ []
+      → IsTurnTo s cpu turn.Go (Did turn.Commit) (record {
+        cells = cells_of cells;
+        side = side_of side;
+        views = views_of cpus;
+        journal = entries;
+        history = s.history.recorded;
+        holder = holder_of s.locks;
+      })
+  unfolding world_of world_from
+  committed cells side mid cpus reserved entries config number opened command again learnt given told same_config was_open same made_step is kept_journal same_again same_told pushed =
+      let old = views_of s.cpus in
+      let is_open = was_open ∙ (λ i. Deciding number (sym same i) learnt) in
+      let step = subst (λ (c : Config). MakesStep c.granules cpu command given (cells_of s.cells) (cells_of cells) (side_of s.side) (side_of side) old (views_of mid))
+      same_config made_step in
+      let more = pushed ∙ (λ i. kept_journal i ++ record { cpu = cpu; number = number; command = same_again i; given = same_told i } ∷ []) in
+      let f : Fields = record {
+        cells = put_all (cells_of s.cells) step.held.cells;
+        side = step.held.side;
+        views = record old {
+          waits = put old.waits cpu None;
+          phase = put old.phase cpu (Decided number command given);
+          place = put old.place cpu step.held.place;
+        };
+        journal = s.journal.items ++ record { cpu = cpu; number = number; command = command; given = given } ∷ [];
+        history = s.history.recorded;
+        holder = holder_of s.locks;
+      } in
+      let views = is ∙ ap (λ (v : Views). record v { waits = put v.waits cpu None; phase = put v.phase cpu (Decided number command given) }) step.has_views in
+      let was : IsFit (Deciding number command learnt) (old.program cpu) = subst (λ p. IsFit p (old.program cpu)) is_open (s.kept.fit.each cpu) in
+      let deciding : IsDeciding (world_of s) cpu = record { number = number; command = command; learnt = learnt; is_deciding = is_open } in
+      subst (IsTurnTo s cpu turn.Go (Did turn.Commit)) (sym (λ i. record {
+        cells = step.has_cells i;
+        side = step.has_side i;
+        views = views i;
+        journal = more i;
+        history = s.history.recorded;
+        holder = holder_of s.locks;
+      }))
+      (move-kept s cpu turn.Go (move.Commit cpu given step.held) f refl refl refl tt
+      (record { is_cpu = within; moves = record { deciding = deciding; step = step.step; is_new = refl } })
+      s.kept.locked (AreFit-phase old.phase old.program cpu (Decided number command given)
+      (record { served = was.served; open_served = refl; numbered = was.numbered }) s.kept.fit))

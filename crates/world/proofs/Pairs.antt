@@ -7,7 +7,6 @@ use Rattle.std.proofs.lemmas.Bool.Decides.{nat_tests}
 use Rattle.std.proofs.lemmas.List.Quantifiers.{position-Some}
 use Rattle.std.proofs.lemmas.List.Sums.{fails_before_first}
 use Rattle.rmm_spec.specs.Cell as whole
-use Rattle.rmm_spec.specs.Cell.{put}
 use Rattle.world_laws.specs.Replaced.{replaced_cells, held_at}
 use Rattle.command_core.specs.Seen.{cell_of, cell_in, are_distinct}
 use Rattle.command_core.specs.declared.cell.Cell.{Cell}

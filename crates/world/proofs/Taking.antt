@@ -1,18 +1,17 @@
--- A CPU that takes or frees a lock, in the fields of a world.
-use Rattle.std.proofs.Common.{◌≡◌, ℕ, ◌<◌, Bool, true, false, ◌==◌, if◌then◌else◌, List, [], ◌∷◌, ◌++◌, ◌+◌, ◌-◌, length, take, get_or, slice_get, arith, Option, Some, None, refl, sym, ap, ◌∙◌, subst, eqb-true}
+-- What comes next for a CPU: the lock that it takes or frees.
+use Rattle.std.proofs.Common.{◌≡◌, ℕ, ◌<◌, Bool, true, false, ◌==◌, if◌then◌else◌, List, [], ◌∷◌, ◌++◌, ◌+◌, ◌-◌, length, vec_len, IsTrue, take, get_or, slice_get, arith, Option, Some, None, refl, sym, ap, ◌∙◌, subst, eqb-true}
 use Rattle.std.specs.Prelude.{Contains}
 use Rattle.std.proofs.lemmas.Bool.{false≢true}
 use Rattle.std.proofs.lemmas.Option.{none-some, same_Some, slice_get_within, get_or_from_slice_get, slice_get-get_or}
 use Rattle.std.proofs.lemmas.List.{length-map, take_all, take_more}
 use Rattle.rmm_spec.specs.declared.command.Command.{Command}
-use Rattle.rmm_spec.specs.HistoryText.{History}
 use Rattle.rmm_spec.specs.Call.{call_of}
-use Rattle.rmm_spec.specs.Cell.{Cell, Rec, put, rec_in}
-use Rattle.rmm_spec.specs.Shape.{Side, CpuPlace}
+use Rattle.rmm_spec.specs.Lookup.{is_granule}
+use Rattle.rmm_spec.specs.Cell.{Cell, Rec, rec_in}
+use Rattle.rmm_spec.specs.Shape.{CpuPlace}
 use Rattle.rmm_spec.specs.Local.{HeldCell}
-use Rattle.rmm_spec.specs.World.{World, Phase, Between, Deciding, Decided, GivenUp, Stopped, Commitment, MayLearn, held_cells, phase_learnt, without_granule}
-use Rattle.rmm_spec.specs.Waits.{Did, Blocked, IsRising, MayFree}
-use Rattle.rmm_spec.specs.Waits as turn
+use Rattle.rmm_spec.specs.World.{World, Phase, Between, Deciding, Decided, GivenUp, Stopped, MayLearn, held_cells}
+use Rattle.rmm_spec.specs.Waits.{IsRising, MayFree}
 use Rattle.world_laws.proofs.Members.{granules_held-cells_at}
 use Rattle.command_core.specs.declared.next.Next.{Next}
 use Rattle.command_core.specs.declared.next.Next.TheVariants as next
@@ -21,13 +20,13 @@ use Rattle.command_core.specs.Settled.{is_settled}
 use Rattle.command_core.specs.Next as plan
 use Rattle.command_core.specs.Plan.{LearnsOwner, IsPlanned, is_ready}
 use Rattle.world.specs.declared.phase.Phase as own
+use Rattle.world.specs.declared.world.World as world
 use Rattle.world.specs.declared.phase.Phase.TheVariants as phase
-use Rattle.world.specs.Cpus.{Views, phase_in, is_deciding, is_decided}
+use Rattle.world.specs.Cpus.{phase_in, is_deciding, is_decided}
 use Rattle.world.specs.Lent.{cells_at}
 use Rattle.world.specs.Next.{IsNext}
-use Rattle.world.specs.Whole.{world_with}
-use Rattle.world.specs.Kept.{IsKept, IsTurn}
-use Rattle.world.proofs.Moves.{blocked-kept, take-kept, free-kept}
+use Rattle.world.specs.Whole.{world_from}
+use Rattle.world.specs.World.{world_of}
 
 -- ---- what comes next
 
@@ -55,6 +54,11 @@ next-planned w cpu n granules place held number command learnt deciding has_gran
 
 pub rising-next : (w : World) (cpu granule : ℕ) → IsNext w cpu (next.Take granule) → IsRising w cpu granule
 rising-next w cpu granule n = record { deciding = n.deciding; rising = n.planned }
+
+-- its lock has a place
+pub lock-next : (s : world.World) (cpu granule : ℕ) → IsNext (world_of s) cpu (next.Take granule) → IsTrue (is_granule (vec_len s.locks.holders) granule)
+unfolding world_of world_from
+lock-next s cpu granule n = subst (λ size. IsTrue (is_granule size granule)) (sym s.has_locks) (rising-next (world_of s) cpu granule n).rising.is_lock
 
 -- there is room for one more
 pub room-rising : (w : World) (cpu granule : ℕ) → IsRising w cpu granule → length (w.taken cpu) < 6
@@ -125,35 +129,3 @@ free-last w cpu granule (Deciding number command learnt) earlier is = tt
 free-last w cpu granule (Decided number command given) earlier is = record { earlier = earlier; is_last = is }
 free-last w cpu granule GivenUp earlier is = tt
 free-last w cpu granule Stopped earlier is = tt
-
--- ---- turns
-
-module _ (cells : ℕ → Cell) (side : Side) (journal : List Commitment) (history : History) (cpu : ℕ) (old : Views) (holder : ℕ → Option ℕ)
-    (kept : IsKept (world_with cells side old journal history) holder old.waits) where
-  -- the CPU waits, and nothing else changes
-  pub blocked : (new : Views) (granule other : ℕ) → IsRising (world_with cells side old journal history) cpu granule → holder granule ≡ Some other
-      → new ≡ record old { waits = put old.waits cpu (Some granule) }
-      → IsTurn (world_with cells side old journal history) cpu turn.Go (Blocked granule) (world_with cells side new journal history) holder new.waits
-  blocked new granule other rising held is =
-      blocked-kept (world_with cells side old journal history) (world_with cells side new journal history) cpu granule other holder old.waits new.waits kept
-      rising held (ap (λ v. world_with cells side v journal history) is) (ap (λ (v : Views). v.waits) is)
-
-  pub took : (new : Views) (taken : ℕ → Option ℕ) (granule : ℕ) → cpu < history.config.cpus
-      → IsRising (world_with cells side old journal history) cpu granule → holder granule ≡ None → taken ≡ put holder granule (Some cpu)
-      → new ≡ record old { waits = put old.waits cpu None; taken = put old.taken cpu (old.taken cpu ++ granule ∷ []) }
-      → IsTurn (world_with cells side old journal history) cpu turn.Go (Did turn.Take) (world_with cells side new journal history) taken new.waits
-  took new taken granule within rising free held is =
-      take-kept (world_with cells side old journal history) (world_with cells side new journal history) cpu granule holder old.waits taken new.waits kept
-      within rising free (ap (λ v. world_with cells side v journal history) is) held (ap (λ (v : Views). v.waits) is)
-
-  pub freed : (new : Views) (without : ℕ → Option ℕ) (granule : ℕ) (learnt : Option ℕ) → cpu < history.config.cpus → Contains (old.taken cpu) granule
-      → MayLearn (world_with cells side old journal history) (old.phase cpu) granule learnt
-      → MayFree (world_with cells side old journal history) cpu granule (old.phase cpu) → without ≡ put holder granule None
-      → new ≡ record old {
-        waits = put old.waits cpu None;
-        taken = put old.taken cpu (without_granule granule (old.taken cpu));
-        phase = put old.phase cpu (phase_learnt learnt (old.phase cpu));
-      } → IsTurn (world_with cells side old journal history) cpu turn.Go (Did turn.Free) (world_with cells side new journal history) without new.waits
-  freed new without granule learnt within has may free held is =
-      free-kept (world_with cells side old journal history) (world_with cells side new journal history) cpu granule learnt holder old.waits without new.waits
-      kept within has may free (ap (λ v. world_with cells side v journal history) is) held (ap (λ (v : Views). v.waits) is)

@@ -8,3 +8,4 @@ pub mod World
 pub mod Next
 pub mod Opening
 pub mod Stepped
+pub mod Recorded

@@ -1,6 +1,6 @@
 -- The world that a world's fields stand for.
-use Rattle.std.specs.Prelude.{◌≡◌, ℕ, List}
-use Rattle.rmm_spec.specs.HistoryText.{Config, History}
+use Rattle.std.specs.Prelude.{ℕ, List}
+use Rattle.rmm_spec.specs.HistoryText.{History}
 use Rattle.rmm_spec.specs.Shape as shape
 use Rattle.rmm_spec.specs.Cell.{Cell}
 use Rattle.rmm_spec.specs.World.{World, Commitment}
@@ -27,9 +27,3 @@ world_with cells side views journal history = record {
 
 unfoldable pub world_from : Cells → Side → Cpus → List Commitment → History → World
 world_from cells side cpus journal history = world_with (cells_of cells) (side_of side) (views_of cpus) journal history
-
--- a cell and a lock for each granule, and all CPUs
-pub record IsSized (config : Config) (cells locks cpus : ℕ) : Type 0 where
-  pub has_cells : cells ≡ config.granules
-  pub has_locks : locks ≡ config.granules
-  pub has_cpus : cpus ≡ config.cpus

@@ -10,6 +10,7 @@ use crate::turned::{Kind, Turned};
 use crate::world::World;
 use std::alloc::{AllocError, Global};
 
+#[tactic(auto, unfolding(crate::specs::World::world_of, crate::specs::World::waits_of, crate::specs::Whole::world_from))]
 impl World {
     ghost use Rattle.std.specs.Prelude.{◌≡◌, ◌<◌, IfOk, OnErr};
     ghost use Rattle.rmm_spec.specs.Cell.{put};
@@ -18,6 +19,7 @@ impl World {
     ghost use Rattle.command_core.specs.declared.next.Next.TheVariants as next;
     ghost use Rattle.world.specs.Next.{DoesNext};
     ghost use Rattle.world.specs.Stepped.{CanCommit};
+    ghost use Rattle.world.specs.Recorded.{Records, IsShort, event_room, commit_room};
     ghost use Rattle.world.specs.Told.{report_of};
     ghost use Rattle.world.specs.World.{world_of, waits_of};
 
@@ -30,6 +32,8 @@ impl World {
         ensures does { IfOk result (λ turned. DoesNext (world_of self.old) cpu next.Ready (report_of turned) (world_of self.new)) }
         ensures err { OnErr result (world_of self.new ≡ world_of self.old) }
         ensures err_waits { OnErr result (waits_of self.new ≡ waits_of self.old) }
+        ensures only_recorded { OnErr result (Records (world_of self.old) cpu) }
+        ensures only_short { OnErr result (IsShort (event_room self.old) (commit_room self.old) (world_of self.old) cpu) }
     {
         let Phase::Deciding {
             number,
@@ -54,13 +58,12 @@ impl World {
             command: copied(&command),
             reply: copied_reply(&reply),
         });
-        self.cpus.set_waits(cpu, None);
         let phase = Phase::Decided {
             number,
             command,
             reply,
         };
-        self.cpus.set_phase(cpu, phase);
+        self.cpus.come_to(cpu, phase);
         Ok(Turned::Did(Kind::Commit))
     }
 }

@@ -1,8 +1,8 @@
 //! The CPUs of a machine.
 
-ghost use Rattle.std.specs.Prelude.{◌≡◌, ◌<◌, ◌≤◌, ◌++◌, ◌∷◌, [], length, vec_len, drop, slice_get, IsSome};
+ghost use Rattle.std.specs.Prelude.{◌≡◌, ◌<◌, ◌≤◌, ◌++◌, ◌∷◌, [], length, vec_len, drop, slice_get, IsSome, None};
 ghost use Rattle.rmm_spec.specs.Cell.{put};
-ghost use Rattle.rmm_spec.specs.World.{without_granule, phase_learnt};
+ghost use Rattle.rmm_spec.specs.World.{GivenUp, without_granule, phase_learnt};
 ghost use Rattle.command_core.specs.Seen.{place_of};
 ghost use Rattle.world.specs.Cpus.{views_of, phase_in, is_going, is_deciding};
 
@@ -32,13 +32,18 @@ pub(crate) struct Cpus {
 
 #[tactic(auto, unfolding(crate::specs::Cpus::views_of))]
 impl Cpus {
-    /// A CPU's phase is another.
-    pub(crate) fn set_phase(&mut self, cpu: u8, phase: Phase)
+    /// A CPU comes to another phase, and waits for nothing.
+    pub(crate) fn come_to(&mut self, cpu: u8, phase: Phase)
         requires { cpu < vec_len self.old.list }
         ensures size { vec_len self.new.list ≡ vec_len self.old.list }
-        ensures views { views_of self.new ≡ record (views_of self.old) { phase = put (views_of self.old).phase cpu (phase_in phase) } }
+        ensures views { views_of self.new ≡ record (views_of self.old) {
+          waits = put (views_of self.old).waits cpu None;
+          phase = put (views_of self.old).phase cpu (phase_in phase);
+        } }
     {
-        self.list[cpu as usize].phase = phase;
+        let cpu = &mut self.list[cpu as usize];
+        cpu.phase = phase;
+        cpu.waits = None;
     }
 
     /// A CPU has taken a granule's lock.
@@ -46,27 +51,46 @@ impl Cpus {
         requires cpu { cpu < vec_len self.old.list }
         requires room { length ((views_of self.old).taken cpu) < 6 }
         ensures size { vec_len self.new.list ≡ vec_len self.old.list }
-        ensures views { views_of self.new ≡ record (views_of self.old) { taken = put (views_of self.old).taken cpu ((views_of self.old).taken cpu ++ pa ∷ []) } }
+        ensures views { views_of self.new ≡ record (views_of self.old) {
+          waits = put (views_of self.old).waits cpu None;
+          taken = put (views_of self.old).taken cpu ((views_of self.old).taken cpu ++ pa ∷ []);
+        } }
     {
-        self.list[cpu as usize].taken.push(pa);
+        let cpu = &mut self.list[cpu as usize];
+        cpu.taken.push(pa);
+        cpu.waits = None;
     }
 
-    /// A CPU has freed a granule's lock.
-    pub(crate) fn remove(&mut self, cpu: u8, pa: Pa)
+    /// A CPU has freed a granule's lock, and has learnt something, or nothing, as it did.
+    pub(crate) fn free(&mut self, cpu: u8, pa: Pa, learnt: Option<Pa>)
         requires { cpu < vec_len self.old.list }
         ensures size { vec_len self.new.list ≡ vec_len self.old.list }
-        ensures views { views_of self.new ≡ record (views_of self.old) { taken = put (views_of self.old).taken cpu (without_granule pa ((views_of self.old).taken cpu)) } }
+        ensures views { views_of self.new ≡ record (views_of self.old) {
+          waits = put (views_of self.old).waits cpu None;
+          taken = put (views_of self.old).taken cpu (without_granule pa ((views_of self.old).taken cpu));
+          phase = put (views_of self.old).phase cpu (phase_learnt learnt ((views_of self.old).phase cpu));
+        } }
     {
-        self.list[cpu as usize].taken.retain(|other| *other != pa);
+        let cpu = &mut self.list[cpu as usize];
+        cpu.taken.retain(|other| *other != pa);
+        cpu.phase.learn(learnt);
+        cpu.waits = None;
     }
 
-    /// A CPU holds no lock any more.
-    pub(crate) fn clear(&mut self, cpu: u8)
+    /// A CPU has given up, and holds no lock any more.
+    pub(crate) fn give_up(&mut self, cpu: u8)
         requires { cpu < vec_len self.old.list }
         ensures size { vec_len self.new.list ≡ vec_len self.old.list }
-        ensures views { views_of self.new ≡ record (views_of self.old) { taken = put (views_of self.old).taken cpu [] } }
+        ensures views { views_of self.new ≡ record (views_of self.old) {
+          waits = put (views_of self.old).waits cpu None;
+          taken = put (views_of self.old).taken cpu [];
+          phase = put (views_of self.old).phase cpu GivenUp;
+        } }
     {
-        self.list[cpu as usize].taken.clear();
+        let cpu = &mut self.list[cpu as usize];
+        cpu.taken.clear();
+        cpu.phase = Phase::GivenUp;
+        cpu.waits = None;
     }
 
     /// A CPU is elsewhere.
@@ -102,15 +126,6 @@ impl Cpus {
         ensures { result ≡ (views_of self.now).waits cpu }
     {
         self.list[cpu as usize].waits
-    }
-
-    /// A CPU has learnt something, or nothing, as it freed a lock.
-    pub(crate) fn learn(&mut self, cpu: u8, learnt: Option<Pa>)
-        requires { cpu < vec_len self.old.list }
-        ensures size { vec_len self.new.list ≡ vec_len self.old.list }
-        ensures views { views_of self.new ≡ record (views_of self.old) { phase = put (views_of self.old).phase cpu (phase_learnt learnt ((views_of self.old).phase cpu)) } }
-    {
-        self.list[cpu as usize].phase.learn(learnt);
     }
 
     /// How far a CPU has come.
@@ -166,6 +181,7 @@ impl Cpus {
         requires left { IsSome (slice_get ((views_of self.old).program cpu) 0) }
         ensures size { vec_len self.new.list ≡ vec_len self.old.list }
         ensures views { views_of self.new ≡ record (views_of self.old) {
+          waits = put (views_of self.old).waits cpu None;
           phase = put (views_of self.old).phase cpu (phase_in phase);
           program = put (views_of self.old).program cpu (drop 1 ((views_of self.old).program cpu));
         } }
@@ -173,6 +189,7 @@ impl Cpus {
         let cpu = &mut self.list[cpu as usize];
         cpu.called += 1;
         cpu.phase = phase;
+        cpu.waits = None;
     }
 }
 

@@ -9,6 +9,7 @@ use crate::world::World;
 use command_core::{Next, next_lock};
 use granule_state::Pa;
 
+#[tactic(auto, unfolding(crate::specs::World::world_of, crate::specs::World::waits_of, crate::specs::Whole::world_from))]
 impl World {
     ghost use Rattle.std.specs.Prelude.{◌≡◌, ◌<◌, true, length, Contains};
     ghost use Rattle.rmm_spec.specs.Cell.{put};
@@ -20,6 +21,7 @@ impl World {
     ghost use Rattle.world.specs.Next.{IsNext, DoesNext, with_freed};
     ghost use Rattle.world.specs.declared.turned.Turned.TheVariants as turned;
     ghost use Rattle.world.specs.declared.turned.Kind.TheVariants as kind;
+    ghost use Rattle.world.specs.Recorded.{event_room, commit_room};
     ghost use Rattle.world.specs.Told.{report_of};
     ghost use Rattle.world.specs.World.{world_of, waits_of};
 
@@ -29,6 +31,8 @@ impl World {
         requires deciding { IsDeciding (world_of self.old) cpu }
         ensures world { world_of self.new ≡ world_of self.old }
         ensures waits { waits_of self.new ≡ waits_of self.old }
+        ensures events { event_room self.new ≡ event_room self.old }
+        ensures commits { commit_room self.new ≡ commit_room self.old }
         ensures next { IsNext (world_of self.old) cpu result }
     {
         let config = self.history.config();
@@ -58,7 +62,6 @@ impl World {
             self.cpus.set_waits(cpu, Some(pa));
             return Turned::Blocked(pa);
         }
-        self.cpus.set_waits(cpu, None);
         self.cpus.take(cpu, pa);
         self.locks.set(pa, Some(cpu));
         Turned::Did(Kind::Take)
@@ -100,9 +103,7 @@ impl World {
         ensures free { result ≡ turned.Did kind.Free }
         ensures freed { world_of self.new ≡ with_freed (world_of self.old) cpu pa learnt }
     {
-        self.cpus.set_waits(cpu, None);
-        self.cpus.remove(cpu, pa);
-        self.cpus.learn(cpu, learnt);
+        self.cpus.free(cpu, pa, learnt);
         self.locks.set(pa, None);
         Turned::Did(Kind::Free)
     }

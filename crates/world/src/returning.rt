@@ -10,6 +10,7 @@ use rmi_view::ReplyRef;
 use rmm_spec::Reply;
 use std::alloc::AllocError;
 
+#[tactic(auto, unfolding(crate::specs::World::world_of, crate::specs::World::waits_of, crate::specs::Whole::world_from))]
 impl World {
     ghost use Rattle.std.specs.Prelude.{◌≡◌, ◌<◌, [], IfOk, OnErr};
     ghost use Rattle.rmm_spec.specs.declared.command.Command.{Command};
@@ -17,6 +18,7 @@ impl World {
     ghost use Rattle.rmm_spec.specs.Cell.{put};
     ghost use Rattle.rmm_spec.specs.Waits.{Turns, awaited};
     ghost use Rattle.rmm_spec.specs.Waits as waits;
+    ghost use Rattle.world.specs.Recorded.{Records, IsShort, event_room, commit_room};
     ghost use Rattle.world.specs.Told.{report_of};
     ghost use Rattle.world.specs.World.{world_of, waits_of};
 
@@ -34,15 +36,16 @@ impl World {
         ensures waits { IfOk result (λ turned. waits_of self.new ≡ put (waits_of self.old) cpu (awaited (report_of turned))) }
         ensures err { OnErr result (world_of self.new ≡ world_of self.old) }
         ensures err_waits { OnErr result (waits_of self.new ≡ waits_of self.old) }
+        ensures only_recorded { OnErr result (Records (world_of self.old) cpu) }
+        ensures only_short { OnErr result (IsShort (event_room self.old) (commit_room self.old) (world_of self.old) cpu) }
     {
         self.history.well_formed();
         let event = Event::Returned { cpu, number, reply };
         let Ok(()) = self.history.push(event) else {
             return Err(AllocError);
         };
-        self.cpus.set_waits(cpu, None);
         let number = number + 1;
-        self.cpus.set_phase(cpu, Phase::Between { number });
+        self.cpus.come_to(cpu, Phase::Between { number });
         Ok(Turned::Did(Kind::Return))
     }
 }

@@ -13,6 +13,7 @@ ghost use Rattle.command_core.specs.Sides.{side_of};
 ghost use Rattle.world.specs.Cpus.{views_of};
 ghost use Rattle.world.specs.Granules.{cells_of};
 ghost use Rattle.world.specs.Lent.{cells_at};
+ghost use Rattle.world.specs.Recorded.{MakesTable};
 ghost use Rattle.world.specs.Stepped.{MakesStep};
 
 use crate::cells::Cells;
@@ -40,6 +41,7 @@ fn step_on<H: Held>(
         (hold_of (H.cells held.old) (side_of side.old) (place_of place.old)) (hold_of (H.cells held.new) (side_of side.new) (place_of place.new))) }
     ensures err { OnErr result (hold_of (H.cells held.new) (side_of side.new) (place_of place.new)
         ≡ hold_of (H.cells held.old) (side_of side.old) (place_of place.old)) }
+    ensures only { OnErr result (MakesTable config.now.granules cpu command.now (hold_of (H.cells held.old) (side_of side.old) (place_of place.old))) }
 {
     applied_decisions_are_local();
     let (reply, change) = decide(config, command, cpu, place, held, side);
@@ -75,6 +77,8 @@ impl Cpus {
         ensures err_cells { OnErr result (cells_of cells.new ≡ cells_of cells.old) }
         ensures err_side { OnErr result (side_of side.new ≡ side_of side.old) }
         ensures err_views { OnErr result (views_of self.new ≡ views_of self.old) }
+        ensures only { OnErr result (MakesTable config.now.granules cpu command.now
+            (hold_of (cells_at (cells_of cells.old) ((views_of self.old).taken cpu)) (side_of side.old) ((views_of self.old).place cpu))) }
     {
         let mut lent = Lent::lend(cells, self.taken(cpu));
         let mut place = *self.place(cpu);

@@ -9,6 +9,7 @@ use crate::world::World;
 use command_core::Next;
 use std::alloc::{AllocError, Global};
 
+#[tactic(auto, unfolding(crate::specs::World::world_of, crate::specs::World::waits_of, crate::specs::Whole::world_from))]
 impl World {
     ghost use Rattle.std.specs.Prelude.{◌≡◌, ◌<◌, IfOk, OnErr};
     ghost use Rattle.rmm_spec.specs.Cell.{put};
@@ -17,10 +18,12 @@ impl World {
     ghost use Rattle.rmm_spec.specs.Waits as waits;
     ghost use Rattle.world.specs.Next.{DoesPlanned};
     ghost use Rattle.world.specs.declared.turned.Will.TheVariants.{Go};
+    ghost use Rattle.world.specs.Recorded.{Records, IsShort, event_room, commit_room};
     ghost use Rattle.world.specs.Told.{will_of, report_of};
     ghost use Rattle.world.specs.World.{world_of, waits_of};
 
     /// One turn of a CPU, which does as it is told and reports that. Where memory is refused nothing changed, and turns go on.
+    /// A commit that makes a table takes memory for it; any other step that records something does only where no room is left.
     pub fn turn(&mut self, alloc: Global, cpu: u8, will: Will) -> Result<Turned, AllocError>
         requires { cpu < (world_of self.old).config.cpus }
         ensures turned { IfOk result (λ turned. Turns (world_of self.old) cpu (will_of will) (report_of turned) (world_of self.new)) }
@@ -29,6 +32,9 @@ impl World {
             → DoesPlanned (world_of self.old) cpu (report_of turned) (world_of self.new)) }
         ensures err { OnErr result (world_of self.new ≡ world_of self.old) }
         ensures err_waits { OnErr result (waits_of self.new ≡ waits_of self.old) }
+        ensures only_go { OnErr result (will ≡ Go) }
+        ensures only_recorded { OnErr result (Records (world_of self.old) cpu) }
+        ensures only_short { OnErr result (IsShort (event_room self.old) (commit_room self.old) (world_of self.old) cpu) }
     {
         match will {
             Will::Go => self.go(alloc, cpu),
@@ -45,6 +51,8 @@ impl World {
         ensures planned { IfOk result (λ turned. IsDeciding (world_of self.old) cpu → DoesPlanned (world_of self.old) cpu (report_of turned) (world_of self.new)) }
         ensures err { OnErr result (world_of self.new ≡ world_of self.old) }
         ensures err_waits { OnErr result (waits_of self.new ≡ waits_of self.old) }
+        ensures only_recorded { OnErr result (Records (world_of self.old) cpu) }
+        ensures only_short { OnErr result (IsShort (event_room self.old) (commit_room self.old) (world_of self.old) cpu) }
     {
         match self.cpus.phase(cpu) {
             Phase::Between { number } => {
@@ -73,6 +81,8 @@ impl World {
         ensures planned { IfOk result (λ turned. DoesPlanned (world_of self.old) cpu (report_of turned) (world_of self.new)) }
         ensures err { OnErr result (world_of self.new ≡ world_of self.old) }
         ensures err_waits { OnErr result (waits_of self.new ≡ waits_of self.old) }
+        ensures only_recorded { OnErr result (Records (world_of self.old) cpu) }
+        ensures only_short { OnErr result (IsShort (event_room self.old) (commit_room self.old) (world_of self.old) cpu) }
     {
         match self.next_of(cpu) {
             Next::Take(pa) => Ok(self.take(cpu, pa)),

@@ -7,7 +7,7 @@ ghost use Rattle.rmm_spec.specs.Waits as waits;
 ghost use Rattle.world.specs.Granules.{holder_of};
 ghost use Rattle.world.specs.Cpus.{views_of};
 ghost use Rattle.world.specs.Kept.{IsKept};
-ghost use Rattle.world.specs.Whole.{world_from, IsSized};
+ghost use Rattle.world.specs.Whole.{world_from};
 
 use crate::cells::Cells;
 use crate::committed::Committed;
@@ -28,10 +28,13 @@ pub struct World {
     pub(crate) cpus: Cpus,
     pub(crate) journal: Vec<Committed>,
     pub(crate) history: History,
-    ghost sized: { IsSized history.recorded.config (vec_len cells.list) (vec_len locks.holders) (vec_len cpus.list) },
+    ghost has_cells: { vec_len cells.list ≡ history.recorded.config.granules },
+    ghost has_locks: { vec_len locks.holders ≡ history.recorded.config.granules },
+    ghost has_cpus: { vec_len cpus.list ≡ history.recorded.config.cpus },
     ghost kept: { IsKept (world_from cells side cpus journal.items history.recorded) (holder_of locks) (views_of cpus).waits },
 }
 
+#[tactic(auto, unfolding(crate::specs::World::world_of, crate::specs::World::waits_of, crate::specs::Whole::world_from))]
 impl World {
     ghost use Rattle.std.specs.Prelude.{◌≡◌, ◌<◌};
     ghost use Rattle.rmm_spec.specs.Cell.{put};
@@ -41,7 +44,6 @@ impl World {
     ghost use Rattle.world.specs.World.{world_of, waits_of};
 
     /// The machine's size.
-    #[tactic(auto, unfolding(crate::specs::World::world_of, crate::specs::Whole::world_from))]
     pub fn config(&self) -> Config
         ensures { result ≡ (world_of self.now).config }
     {
@@ -49,7 +51,6 @@ impl World {
     }
 
     /// What a CPU waits for: the granule that its last turn reported, where it was blocked.
-    #[tactic(auto, unfolding(crate::specs::World::waits_of))]
     pub fn waits(&self, cpu: u8) -> Option<Pa>
         requires { cpu < (world_of self.now).config.cpus }
         ensures { result ≡ waits_of self.now cpu }
@@ -63,12 +64,11 @@ impl World {
         ensures turned { Turns (world_of self.old) cpu waits.Stop (report_of result) (world_of self.new) }
         ensures waits { waits_of self.new ≡ put (waits_of self.old) cpu (awaited (report_of result)) }
     {
-        let is_going = self.cpus.is_going(cpu);
-        self.cpus.set_waits(cpu, None);
-        if !is_going {
+        if !self.cpus.is_going(cpu) {
+            self.cpus.set_waits(cpu, None);
             return Turned::Idle;
         }
-        self.cpus.set_phase(cpu, Phase::Stopped);
+        self.cpus.come_to(cpu, Phase::Stopped);
         Turned::Did(Kind::Stop)
     }
 
@@ -78,14 +78,12 @@ impl World {
         ensures turned { Turns (world_of self.old) cpu waits.GiveUp (report_of result) (world_of self.new) }
         ensures waits { waits_of self.new ≡ put (waits_of self.old) cpu (awaited (report_of result)) }
     {
-        let is_deciding = self.cpus.is_deciding(cpu);
-        self.cpus.set_waits(cpu, None);
-        if !is_deciding {
+        if !self.cpus.is_deciding(cpu) {
+            self.cpus.set_waits(cpu, None);
             return Turned::Idle;
         }
         self.locks.free_all(self.cpus.taken(cpu));
-        self.cpus.clear(cpu);
-        self.cpus.set_phase(cpu, Phase::GivenUp);
+        self.cpus.give_up(cpu);
         Turned::Did(Kind::GiveUp)
     }
 }

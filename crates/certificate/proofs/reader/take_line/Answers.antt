@@ -1,5 +1,7 @@
 use Rattle.std.proofs.Common.{rules, sym, ◌∙◌}
 use Rattle.std.proofs.lemmas.Result.{err_from_is_err_and}
+use Rattle.rmi_codec.proofs.ResultLaws.{IsOkAnd-not_Ok}
+use Rattle.rmi_view.specs.Seen.{reply_seen}
 use Rattle.certificate.proofs.SpellingLemmas.{IsNoLine-head, IsNoLine-letter, IsNoLine-keep, IsNoLine-unfinished, IsLineOf-keep, IsLineOf-unfinished}
 use Rattle.certificate.proofs.reader.take_line.Goals as goal
 
@@ -14,7 +16,7 @@ pub returns-in_default-reply_from-clause-refused : goal.returns-in_default-reply
 returns-in_default-reply_from-clause-refused c = λ _.
     let cut = rw c.in-117.is at (sym c.of-parts.ensures ∙ c.in-Some.ensures.found) in
     IsNoLine-unfinished _ _ _ c.head_from.new.parts cut
-    (λ reply is_reply is_text. c.in_default-reply_from.not-Ok reply (c.reply_from.ensures.only reply is_reply is_text))
+    (λ reply is_reply is_text. IsOkAnd-not_Ok c.reply_from.result _ (c.reply_from.ensures.only reply is_reply is_text) c.in_default-reply_from.not-Ok)
 
 pub returns-in-Some-next_part-clause-refused : goal.returns-in-Some-next_part-clause-refused
 returns-in-Some-next_part-clause-refused c = λ _.
@@ -31,7 +33,7 @@ pub returns-in_err-claim-in-117-clause-no_memory : goal.returns-in_err-claim-in-
 returns-in_err-claim-in-117-clause-no_memory c =
     let cut = rw c.in-117.is at (sym c.of-parts.ensures ∙ c.in-Some.ensures.found) in
     let p = err_from_is_err_and c.from_residual-in_err-claim-in-117.result c.from_residual-in_err-claim-in-117.ensures.1 in
-    rw p.1 (_, IsLineOf-unfinished _ _ _ c.head_from.new.parts c.in-Ok.reply cut c.in-Ok.ensures.found.1 c.in-Some.ensures.cpu c.in-Some.ensures.number c.in-Ok.ensures.found.0)
+    rw p.1 (_, IsLineOf-unfinished _ _ _ c.head_from.new.parts (reply_seen c.in-Ok.reply) cut c.in-Ok.ensures.found.1 c.in-Some.ensures.cpu c.in-Some.ensures.number c.in-Ok.ensures.found.0)
 
 pub returns-in_ok-keep-in-None-clause-taken : goal.returns-in_ok-keep-in-None-clause-taken
 returns-in_ok-keep-in-None-clause-taken c = λ _.
@@ -47,6 +49,6 @@ returns-in_ok-claim-in-117-clause-taken c = λ _.
     let cut = rw c.in-117.is at (sym c.of-parts.ensures ∙ c.in-Some.ensures.found) in
     record {
       line = _;
-      is_line = IsLineOf-unfinished _ _ _ c.head_from.new.parts c.in-Ok.reply cut c.in-Ok.ensures.found.1 c.in-Some.ensures.cpu c.in-Some.ensures.number c.in-Ok.ensures.found.0;
-      taken = c.in_ok-claim-in-117.ensures.ok;
+      is_line = IsLineOf-unfinished _ _ _ c.head_from.new.parts (reply_seen c.in-Ok.reply) cut c.in-Ok.ensures.found.1 c.in-Some.ensures.cpu c.in-Some.ensures.number c.in-Ok.ensures.found.0;
+      taken = rw c.to_reply.ensures at c.in_ok-claim-in-117.ensures.ok;
     }

@@ -1,4 +1,4 @@
-use Rattle.std.proofs.Common.{◌≡◌, arith, refl, sym, ◌∙◌}
+use Rattle.std.proofs.Common.{arith, refl, sym, ◌∙◌}
 use Rattle.rmi_codec.proofs.FunctionLaws.{function_read, function_alone}
 use Rattle.rmi_codec.proofs.function.function_prefix.Goals as goal
 

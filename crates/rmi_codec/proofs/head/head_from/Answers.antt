@@ -1,4 +1,3 @@
-use Rattle.std.proofs.Common.{◌∷◌, []}
 use Rattle.rmi_codec.proofs.HeadLaws.{HasNoHead-letter, HasNoHead-cpu, HasNoHead-number}
 use Rattle.rmi_codec.proofs.head.head_from.Goals as goal
 

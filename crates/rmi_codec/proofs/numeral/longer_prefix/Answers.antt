@@ -1,4 +1,4 @@
-use Rattle.std.proofs.Common.{◌≡◌, arith, ◌∙◌}
+use Rattle.std.proofs.Common.{arith, ◌∙◌}
 use Rattle.rmm_spec.proofs.Texts.{glyph-IsPlain}
 use Rattle.rmi_codec.proofs.NumberLaws.{SpellsSoFar-first, SpellsSoFar-more}
 use Rattle.rmi_codec.proofs.PrefixLaws.{digits_read, no_numeral-at_other, no_numeral-below}

@@ -1,4 +1,4 @@
-use Rattle.std.proofs.Common.{◌≡◌, arith, sym, ◌∙◌, ap}
+use Rattle.std.proofs.Common.{arith, sym, ◌∙◌, ap}
 use Rattle.std.proofs.lemmas.Bool.Decides.{nat_tests}
 use Rattle.rmi_codec.proofs.PrefixLaws.{one_digit_read, no_numeral-at_end, no_numeral-at_first, no_numeral-below_first, no_numeral-behind_zero}
 use Rattle.rmm_spec.specs.Text.{glyph}

@@ -1,4 +1,4 @@
-use Rattle.std.proofs.Common.{Ok, ap, arith}
+use Rattle.std.proofs.Common.{Ok, ap}
 use Rattle.rmi_codec.proofs.FaultLaws.{IsSmallFault-from_part}
 use Rattle.rmi_codec.proofs.PartLaws.{same_first}
 use Rattle.rmi_codec.proofs.reply.take_small.Goals as goal

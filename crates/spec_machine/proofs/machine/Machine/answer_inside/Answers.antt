@@ -1,10 +1,5 @@
-use Rattle.std.proofs.Common.{◌≡◌, IfSome, Some, sym, ◌∙◌, ap, subst}
-use Rattle.rmm_spec.specs.Lookup.{rec_inside}
+use Rattle.spec_machine.proofs.Common.{◌≡◌, IfSome, Some, IsHeld, IsRipasRead, answer_at, ap, rec_inside, rec_there, state_of, subst, sym, ◌∙◌}
 use Rattle.rmm_sound.proofs.Applies.{inside_running}
-use Rattle.rmm_sound.proofs.Searches.{rec_there}
-use Rattle.rec_steps.specs.Answers.{answer_at, IsRipasRead}
-use Rattle.rec_steps.specs.Held.{IsHeld}
-use Rattle.spec_machine.specs.View.{state_of}
 use Rattle.spec_machine.proofs.Lookups.{held_at}
 use Rattle.spec_machine.proofs.machine.Machine.answer_inside.Goals as goal
 

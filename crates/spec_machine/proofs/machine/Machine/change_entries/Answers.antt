@@ -1,13 +1,7 @@
-use Rattle.std.proofs.Common.{◌≡◌, length, arith}
-use Rattle.rmm_spec.specs.declared.change.Change.TheVariants.{EntriesChanged}
-use Rattle.rmm_spec.specs.Change.{changed, with_tag_change, with_realm_change, with_rec_change}
-use Rattle.spec_machine.specs.Stored.{stored}
-use Rattle.spec_machine.specs.View.{state_of}
-use Rattle.rmm_sound.proofs.Changes.{changed_sound}
-use Rattle.spec_machine.proofs.Changes.{kept_like, records-indexes}
-use Rattle.spec_machine.proofs.Entries.{page-granule, realm-there, rec-there, records-changed, entries-records, writable}
+use Rattle.spec_machine.proofs.Common.{EntriesChanged, changed, state_of, stored, with_realm_change, with_rec_change, with_tag_change}
+use Rattle.spec_machine.proofs.Changes.{records-kept}
+use Rattle.spec_machine.proofs.Entries.{entries-records, page-granule, realm-there, rec-there, records-changed, writable}
 use Rattle.spec_machine.proofs.Ownership.{entries_changed-owners}
-use Rattle.spec_machine.proofs.RunningRecs.{rec_change-running}
 use Rattle.spec_machine.proofs.machine.Machine.change_entries.Goals as goal
 
 pub change_records-requires-clause-page : goal.change_records-requires-clause-page
@@ -36,15 +30,8 @@ unfolding state_of changed
 invariant_of-self c =
     let a = c.args in
     let m = a.self.now in
-    let s = stored m.store in
     let change = EntriesChanged a.rd a.level a.entries a.page a.realm a.rec in
-    let has = entries-records s _ a.rd a.level a.entries a.realm a.rec (records-changed s a.page a.realm a.rec).0 in
-    let places : length m.running.recs.items ≡ 256 = omega (arith, m.running.places, m.running.recs.ok.0) in
-    let same = records-indexes s (changed s change) a.realm a.rec m.kept.sound c.requires.2 c.requires.3 has in
+    let has = entries-records (stored m.store) _ a.rd a.level a.entries a.realm a.rec (records-changed (stored m.store) a.page a.realm a.rec).0 in
+    let kept = records-kept m change a.realm a.rec c.requires c.requires.2 c.requires.3 c.change.ensures.placed has in
     rw (c.change_entries.ensures, c.change_records.ensures.state, c.change_page.ensures, c.change.ensures.recs, c.cpu_before-before.ensures)
-    (record {
-      kept = kept_like s (changed s change) m.vmids.items m.rec_counts.items m.kept
-          (changed_sound s change m.kept.sound c.requires) same;
-      inside = rec_change-running s (changed s change) a.rec m.running.recs.items m.kept.sound m.inside places c.requires.3 c.change.ensures.placed has.recs;
-      owned = entries_changed-owners s a.rd a.level a.entries a.page a.realm a.rec m.owners.realms.items m.kept.sound c.requires same.granules m.owned;
-    })
+    (record { kept = kept.0; inside = kept.1; owned = entries_changed-owners m a.rd a.level a.entries a.page a.realm a.rec c.requires has.size })

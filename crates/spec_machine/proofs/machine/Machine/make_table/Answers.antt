@@ -1,10 +1,5 @@
-use Rattle.std.proofs.Common.{refl}
-use Rattle.rmm_spec.specs.declared.change.Change.TheVariants.{TableMade}
-use Rattle.rmm_spec.specs.Change.{changed}
-use Rattle.spec_machine.specs.Stored.{stored}
-use Rattle.spec_machine.specs.View.{state_of}
-use Rattle.rmm_sound.proofs.Changes.{changed_sound}
-use Rattle.spec_machine.proofs.Changes.{kept_like}
+use Rattle.spec_machine.proofs.Common.{None, TableMade, changed, refl, state_of}
+use Rattle.spec_machine.proofs.Changes.{records-kept}
 use Rattle.spec_machine.proofs.Ownership.{changed_owners}
 use Rattle.spec_machine.proofs.machine.Machine.make_table.Goals as goal
 
@@ -13,11 +8,6 @@ unfolding state_of changed
 invariant_of-self-2 c =
     let a = c.args in
     let m = a.self.now in
-    rw (c.set_tag.ensures.state, c.in_ok-put_table.ensures.ok, c.give.ensures)
-    (record {
-      kept = kept_like (stored m.store) _ m.vmids.items m.rec_counts.items m.kept
-          (changed_sound (stored m.store) (TableMade a.rd a.level a.number a.rtt a.entry) m.kept.sound c.requires)
-          (record { granules = refl; owned = λ rd g. refl; vmids = λ vmid g. refl });
-      inside = m.inside;
-      owned = changed_owners (stored m.store) (TableMade a.rd a.level a.number a.rtt a.entry) m.owners.realms.items m.kept.sound c.requires refl m.owned;
-    })
+    let change = TableMade a.rd a.level a.number a.rtt a.entry in
+    let kept = records-kept m change None None c.requires tt tt tt (record { size = refl; realms = refl; recs = refl }) in
+    rw (c.set_tag.ensures.state, c.in_ok-put_table.ensures.ok, c.give.ensures) (record { kept = kept.0; inside = kept.1; owned = changed_owners m change c.requires refl })

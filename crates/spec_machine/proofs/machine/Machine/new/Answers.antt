@@ -1,4 +1,4 @@
-use Rattle.std.proofs.Common.{◌≡◌, None, rules, replicate}
+use Rattle.spec_machine.proofs.Common.{◌≡◌, replicate, None, rules}
 use Rattle.spec_machine.proofs.Changes.{kept-opening, running-opening}
 use Rattle.spec_machine.proofs.Ownership.{owners-opening}
 use Rattle.spec_machine.proofs.machine.Machine.new.Goals as goal

@@ -1,8 +1,5 @@
-use Rattle.std.proofs.Common.{sym}
-use Rattle.rmi_view.specs.Seen.{command_seen}
-use Rattle.spec_machine.specs.View.{state_of}
+use Rattle.spec_machine.proofs.Common.{command_seen, done_applies, reached_applies, state_of, sym}
 use Rattle.spec_machine.proofs.Memory.{done_makes, stretch_level}
-use Rattle.rmm_sound.proofs.Runs.{done_applies, reached_applies}
 use Rattle.spec_machine.proofs.machine.Machine.offer_any.Goals as goal
 
 pub apply-requires : goal.apply-requires

@@ -1,9 +1,4 @@
-use Rattle.std.proofs.Common.{◌≡◌, ◌++◌, None, ◌∙◌, ap, sym, arith}
-use Rattle.std.proofs.lemmas.List.{append-nil}
-use Rattle.rmm_spec.specs.declared.tag.Tag.TheVariants.{Undelegated}
-use Rattle.spec_machine.specs.Report.{owner_rows}
-use Rattle.spec_machine.specs.Stored.{stored, kept_at}
-use Rattle.spec_machine.specs.View.{state_of}
+use Rattle.spec_machine.proofs.Common.{◌≡◌, ◌++◌, None, Undelegated, ap, append-nil, arith, granules_of, kept_at, owner_rows, state_of, stored, sym, ◌∙◌}
 use Rattle.spec_machine.proofs.Ownership.{owners-tied}
 use Rattle.spec_machine.proofs.Rows.{kept_at-place, owner_rows-push}
 use Rattle.spec_machine.proofs.machine.Machine.owner_report.Goals as goal
@@ -22,13 +17,13 @@ pub index-requires : goal.index-requires
 index-requires c = omega (arith, c.loop-place-test.true, c.granules-granules.ensures.count, c.args.self.now.store.tags_placed)
 
 pub index-requires-in-loop-place : goal.index-requires-in-loop-place
-unfolding stored
+unfolding stored granules_of
 index-requires-in-loop-place c =
     let m = c.args.self.now in
     omega (arith, c.loop-place-test.true, c.granules-granules.ensures.count, m.owned.places, m.owners.realms.ok.0)
 
 pub loop-place-preserved : goal.loop-place-preserved
-unfolding stored
+unfolding stored granules_of
 loop-place-preserved c =
     let m = c.args.self.now in
     let n = m.store.config.granules in
@@ -45,13 +40,13 @@ loop-place-preserved c =
     }
 
 pub returns-clause-ok : goal.returns-clause-ok
-unfolding state_of stored
+unfolding state_of stored granules_of
 returns-clause-ok c =
     let m = c.args.self.now in
     let n = m.store.config.granules in
     let owner = kept_at n m.owners.realms.items None in
     let all : c.loop-place.place ≡ n = omega (arith, c.loop-place-test.false, c.loop-place.auto.place-end, c.granules-granules.ensures.count) in (
       owner,
-      owners-tied (stored m.store) m.owners.realms.items m.kept.sound m.owned,
+      owners-tied m,
       c.loop-place.invariant.rows ∙ ap (λ k. c.args.rows.now.items ++ owner_rows (stored m.store) owner k) all,
     )

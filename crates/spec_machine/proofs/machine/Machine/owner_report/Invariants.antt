@@ -1,7 +1,5 @@
 -- A row stands for each granule so far, and there is room for the others.
-use Rattle.std.proofs.Common.{◌≡◌, ◌≤◌, ◌+◌, ◌++◌, None, vec_len, vec_capacity}
-use Rattle.spec_machine.specs.Report.{owner_rows}
-use Rattle.spec_machine.specs.Stored.{stored, kept_at}
+use Rattle.spec_machine.proofs.Common.{◌≡◌, ◌+◌, ◌≤◌, ◌++◌, None, vec_len, vec_capacity, kept_at, owner_rows, stored}
 use Rattle.spec_machine.proofs.machine.Machine.owner_report.Given as goal
 
 abbrev pub invariant-loop-place : goal.invariant-loop-place

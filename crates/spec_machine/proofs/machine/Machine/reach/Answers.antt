@@ -1,11 +1,4 @@
-use Rattle.rmi_view.specs.Seen.{reply_seen}
-use Rattle.std.proofs.Common.{IsTrue, sym, ◌∙◌, ap}
-use Rattle.rmm_spec.specs.declared.change.Change.{Change}
-use Rattle.rmm_spec.specs.Change.{changed}
-use Rattle.rmm_spec.proofs.Tests.{both_ways}
-use Rattle.rmm_laws.proofs.Replays.{is_reached-reached}
-use Rattle.spec_machine.specs.Memory.{takes_memory}
-use Rattle.spec_machine.specs.View.{state_of}
+use Rattle.spec_machine.proofs.Common.{IsTrue, Change, ap, both_ways, changed, is_reached-reached, reply_seen, state_of, sym, takes_memory, ◌∙◌}
 use Rattle.spec_machine.proofs.Memory.{reached_takes_none}
 use Rattle.spec_machine.proofs.Reached.{no_reach}
 use Rattle.spec_machine.proofs.machine.Machine.reach.Goals as goal

@@ -1,6 +1,4 @@
-use Rattle.std.proofs.Common.{sym, ◌∙◌, ap}
-use Rattle.rec_steps.specs.Answers.{answer_at}
-use Rattle.spec_machine.specs.View.{state_of}
+use Rattle.spec_machine.proofs.Common.{answer_at, ap, state_of, sym, ◌∙◌}
 use Rattle.spec_machine.proofs.Lookups.{held_at}
 use Rattle.spec_machine.proofs.machine.Machine.rec_enter.Goals as goal
 

@@ -1,7 +1,6 @@
-use Rattle.std.proofs.Common.{ap, arith}
+use Rattle.spec_machine.proofs.Common.{ap, arith, stored}
 use Rattle.rmm_spec.specs.declared.walked.Walked.{Walked}
 use Rattle.rmm_spec.proofs.WalkLaws.{reach-le}
-use Rattle.spec_machine.specs.Stored.{stored}
 use Rattle.spec_machine.proofs.machine.Machine.walk.Goals as goal
 
 pub returns-clause-within : goal.returns-clause-within

@@ -1,4 +1,4 @@
-use Rattle.std.proofs.Common.{rules}
+use Rattle.spec_machine.proofs.Common.{rules}
 use Rattle.spec_machine.proofs.running.Running.new.Goals as goal
 
 pub returns : goal.returns

@@ -1,7 +1,6 @@
-use Rattle.std.proofs.Common.{IfSome, subst}
-use Rattle.spec_machine.specs.Stored.{stored, IsRealmThere}
+use Rattle.spec_machine.proofs.Common.{IfSome, IsRealmThere, granules_of, stored, subst}
 use Rattle.spec_machine.proofs.store.Store.change_realm.Goals as goal
 
-pub put_realm-requires : goal.put_realm-requires
-unfolding stored
-put_realm-requires c = (subst (λ change. IfSome change (IsRealmThere (stored c.args.self.now))) c.in-Some.is c.requires).granule
+pub set_realm-requires : goal.set_realm-requires
+unfolding stored granules_of
+set_realm-requires c = (subst (λ change. IfSome change (IsRealmThere (stored c.args.self.now))) c.in-Some.is c.requires).granule

@@ -1,7 +1,6 @@
-use Rattle.std.proofs.Common.{IfSome, subst}
-use Rattle.spec_machine.specs.Stored.{stored, IsRecThere}
+use Rattle.spec_machine.proofs.Common.{IfSome, IsRecThere, granules_of, stored, subst}
 use Rattle.spec_machine.proofs.store.Store.change_rec.Goals as goal
 
-pub put_rec-requires : goal.put_rec-requires
-unfolding stored
-put_rec-requires c = (subst (λ change. IfSome change (IsRecThere (stored c.args.self.now))) c.in-Some.is c.requires).granule
+pub set_rec-requires : goal.set_rec-requires
+unfolding stored granules_of
+set_rec-requires c = (subst (λ change. IfSome change (IsRecThere (stored c.args.self.now))) c.in-Some.is c.requires).granule

@@ -1,4 +1,4 @@
-use Rattle.spec_machine.specs.Stored.{stored}
+use Rattle.spec_machine.proofs.Common.{stored}
 use Rattle.spec_machine.proofs.Entries.{realm-there-tag, rec-there-realm}
 use Rattle.spec_machine.proofs.store.Store.change_records.Goals as goal
 

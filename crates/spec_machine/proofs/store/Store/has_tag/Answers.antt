@@ -1,6 +1,5 @@
-use Rattle.std.proofs.Common.{arith}
-use Rattle.spec_machine.specs.Stored.{stored}
-use Rattle.spec_machine.proofs.Places.{place_within, has_tag-kept, has_tag-none}
+use Rattle.spec_machine.proofs.Common.{arith, granules_of, stored}
+use Rattle.spec_machine.proofs.Places.{has_tag-kept, has_tag-none, place_within}
 use Rattle.spec_machine.proofs.store.Store.has_tag.Goals as goal
 
 pub index-requires : goal.index-requires
@@ -13,5 +12,5 @@ returns-in-Some c = rw c.eq.ensures
     (has_tag-kept c.args.self.now c.args.address c.in-Some.place c.index.result.now c.args.tag c.in-Some.ensures.0 c.in-Some.ensures.1 c.index.ensures)
 
 pub returns-in-None : goal.returns-in-None
-unfolding stored
+unfolding stored granules_of
 returns-in-None c = has_tag-none (stored c.args.self.now) c.args.address c.args.tag c.in-None.ensures

@@ -1,13 +1,9 @@
-use Rattle.std.proofs.Common.{◌≡◌, None, rules, replicate, refl}
-use Rattle.rmm_spec.specs.declared.tag.Tag.TheVariants.{Undelegated}
-use Rattle.rmm_spec.specs.State.{opening}
-use Rattle.rmm_spec.specs.Lookup.{is_granule}
-use Rattle.spec_machine.specs.Stored.{stored}
+use Rattle.spec_machine.proofs.Common.{◌≡◌, replicate, None, Undelegated, granules_of, is_granule, opening, refl, rules, stored}
 use Rattle.spec_machine.proofs.Places.{kept_at-replicate}
 use Rattle.spec_machine.proofs.store.Store.new.Goals as goal
 
 pub returns : goal.returns
-unfolding stored opening
+unfolding stored granules_of opening
 returns c =
     let n = c.granules-granules.result in
     let g = c.args.config.granules in

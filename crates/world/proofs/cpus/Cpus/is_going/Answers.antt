@@ -1,15 +1,12 @@
 use Rattle.std.proofs.Common.{sym, ap, ◌∙◌}
-use Rattle.std.proofs.lemmas.Option.{slice_get_read}
 use Rattle.rmm_spec.specs.World as world
 use Rattle.world.specs.Cpus.{views_of, phase_in, is_going}
 use Rattle.world.specs.declared.cpus.Cpu.{Cpu}
-use Rattle.world.proofs.Listed.{of_each-read}
+use Rattle.world.proofs.Views.{told_there}
 use Rattle.world.proofs.cpus.Cpus.is_going.Goals as goal
 
 pub returns : goal.returns
 unfolding views_of
 returns c =
-    let list = c.args.self.now.list in
-    let old = c.index.result.now in
-    let is = slice_get_read list.items list.len c.args.cpu old list.ok.0 c.requires c.index.ensures in
-    c.is_going.ensures ∙ sym (ap is_going (of_each-read (λ (cpu : Cpu). phase_in cpu.phase) (world.Between 0) list.items c.args.cpu old is))
+    c.is_going.ensures
+    ∙ sym (ap is_going (told_there (λ (cpu : Cpu). phase_in cpu.phase) (world.Between 0) c.args.self.now c.args.cpu c.index.result.now c.requires c.index.ensures))

@@ -1,11 +1,25 @@
-use Rattle.std.proofs.lemmas.Option.{slice_get_read}
-use Rattle.world.specs.Cpus.{views_of}
-use Rattle.world.proofs.Views.{views-called}
+use Rattle.std.proofs.Common.{[], None, sym, ap, ◌∙◌, drop}
+use Rattle.std.proofs.lemmas.List.{drop-drop}
+use Rattle.rmm_spec.specs.Cell.{put}
+use Rattle.world.specs.Cpus.{Views, views_of, phase_in}
+use Rattle.world.specs.declared.cpus.Cpu.{Cpu}
+use Rattle.world.proofs.Views.{told_there, views-changed, with_cpu}
 use Rattle.world.proofs.cpus.Cpus.open_call.Goals as goal
 
 pub returns-clause-views : goal.returns-clause-views
 unfolding views_of
 returns-clause-views c =
-    let list = c.args.self.now.list in
-    views-called list.items c.args.cpu c.index_mut-cpu.result.now c.args.phase
-    (slice_get_read list.items list.len c.args.cpu c.index_mut-cpu.result.now list.ok.0 c.requires.cpu c.index_mut-cpu.ensures.value)
+    let cpu = c.args.cpu in
+    let v = views_of c.args.self.now in
+    let old = c.index_mut-cpu.result.now in
+    let value = c.index_mut-cpu.ensures.value in
+    let read = told_there (λ (cpu : Cpu). drop cpu.called cpu.program.items) [] c.args.self.now cpu old c.requires.cpu value in
+    views-changed c.args.self.now cpu old _ (λ (w : Views). record w {
+      waits = put v.waits cpu None;
+      phase = put v.phase cpu (phase_in c.args.phase);
+      program = put v.program cpu (drop 1 (v.program cpu));
+    }) c.requires.cpu value (ap (λ commands. record (with_cpu c.args.self.now.list.items cpu old) {
+      waits = put v.waits cpu None;
+      phase = put v.phase cpu (phase_in c.args.phase);
+      program = put v.program cpu commands;
+    }) (sym (drop-drop 1 old.called old.program.items) ∙ ap (drop 1) (sym read)))

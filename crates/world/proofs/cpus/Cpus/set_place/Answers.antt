@@ -1,11 +1,12 @@
-use Rattle.std.proofs.lemmas.Option.{slice_get_read}
-use Rattle.world.specs.Cpus.{views_of}
-use Rattle.world.proofs.Views.{views-place}
+use Rattle.std.proofs.Common.{refl}
+use Rattle.command_core.specs.Seen.{place_of}
+use Rattle.rmm_spec.specs.Cell.{put}
+use Rattle.world.specs.Cpus.{Views, views_of}
+use Rattle.world.proofs.Views.{views-changed}
 use Rattle.world.proofs.cpus.Cpus.set_place.Goals as goal
 
 pub returns-clause-views : goal.returns-clause-views
 unfolding views_of
 returns-clause-views c =
-    let list = c.args.self.now.list in
-    views-place list.items c.args.cpu c.index_mut.result.now c.args.place
-    (slice_get_read list.items list.len c.args.cpu c.index_mut.result.now list.ok.0 c.requires c.index_mut.ensures.value)
+    views-changed c.args.self.now c.args.cpu c.index_mut.result.now _
+    (λ (w : Views). record w { place = put (views_of c.args.self.now).place c.args.cpu (place_of c.args.place) }) c.requires c.index_mut.ensures.value refl

@@ -10,6 +10,7 @@ use Rattle.command_core.specs.Settled.{is_settled}
 use Rattle.command_core.specs.Sides.{side_of}
 use Rattle.world.specs.Cpus.{views_of}
 use Rattle.world.specs.Granules.{cells_of}
+use Rattle.world.specs.Recorded.{MakesTable}
 use Rattle.world.specs.Lent.{lent_cells, cells_at, granules_held-lent}
 use Rattle.world.proofs.Lending.{put_all-given_back, put_all-lent}
 use Rattle.world.proofs.cpus.Cpus.step.Goals as goal
@@ -60,3 +61,12 @@ returns-in_default-clause-err_cells c =
     c.give_back.ensures.cells
     ∙ ap (put_all (cells_of c.lend-lent.new.cells)) (ap (λ (h : Hold). h.cells) c.in_default.ensures.err ∙ c.lend-lent.ensures.lent)
     ∙ put_all-given_back c.taken.result.now (cells_of c.args.cells.now) (cells_of c.lend-lent.new.cells) c.lend-lent.ensures.kept
+
+pub returns-in_default-clause-only : goal.returns-in_default-clause-only
+returns-in_default-clause-only c =
+    let cells = cells_of c.args.cells.now in
+    let side = side_of c.args.side.now in
+    let start : hold_of (lent_cells c.lend-lent.result) side (place_of c.place.result.now)
+    ≡ hold_of (cells_at cells ((views_of c.args.self.now).taken c.args.cpu)) side ((views_of c.args.self.now).place c.args.cpu) =
+    λ i. hold_of ((c.lend-lent.ensures.lent ∙ ap (cells_at cells) c.taken.ensures.taken) i) side (c.place.ensures i) in
+    subst (λ (h : Hold). MakesTable c.args.config.now.granules c.args.cpu c.args.command.now h) start c.in_default.ensures.only

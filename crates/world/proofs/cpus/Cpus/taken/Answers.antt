@@ -1,14 +1,10 @@
 use Rattle.std.proofs.Common.{[], sym, ◌∙◌}
-use Rattle.std.proofs.lemmas.Option.{slice_get_read}
 use Rattle.world.specs.Cpus.{views_of}
 use Rattle.world.specs.declared.cpus.Cpu.{Cpu}
-use Rattle.world.proofs.Listed.{of_each-read}
+use Rattle.world.proofs.Views.{told_there}
 use Rattle.world.proofs.cpus.Cpus.taken.Goals as goal
 
 pub returns-clause-taken : goal.returns-clause-taken
 unfolding views_of
 returns-clause-taken c =
-    let list = c.args.self.now.list in
-    let old = c.index.result.now in
-    let is = slice_get_read list.items list.len c.args.cpu old list.ok.0 c.requires c.index.ensures in
-    c.deref.ensures.0 ∙ sym (of_each-read (λ (cpu : Cpu). cpu.taken.items) [] list.items c.args.cpu old is)
+    c.deref.ensures.0 ∙ sym (told_there (λ (cpu : Cpu). cpu.taken.items) [] c.args.self.now c.args.cpu c.index.result.now c.requires c.index.ensures)

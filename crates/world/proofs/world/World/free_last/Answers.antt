@@ -1,14 +1,10 @@
-use Rattle.std.proofs.Common.{◌≡◌, ◌<◌, ◌-◌, Some, length, slice_get, List, ℕ, sym, ap, ◌∙◌, subst, arith}
+use Rattle.std.proofs.Common.{◌≡◌, ◌<◌, ◌-◌, Some, length, slice_get, List, ℕ, sym, ap, ◌∙◌, subst}
 use Rattle.std.specs.Prelude.{option_copied}
 use Rattle.world_laws.proofs.Members.{Contains-from_slice_get}
 use Rattle.world.specs.Whole.{world_from}
 use Rattle.world.specs.World.{world_of}
 use Rattle.world.proofs.Taking.{no_last, last-of, nothing_learnt-decided, free-last}
 use Rattle.world.proofs.world.World.free_last.Goals as goal
-
-pub taken-requires : goal.taken-requires
-unfolding world_of world_from
-taken-requires c = omega (arith, c.requires.cpu, c.args.self.now.sized.has_cpus)
 
 pub unreachable-requires : goal.unreachable-requires
 unfolding world_of world_from

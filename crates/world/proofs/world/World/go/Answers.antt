@@ -1,6 +1,5 @@
 use Rattle.std.proofs.Common.{◌≡◌, ℕ, ◌<◌, ◌⊎◌, inl, inr, true, false, ◌==◌, length, Result, Ok, Err, sym, ap, ◌∙◌, subst, arith, eqb-true}
 use Rattle.std.specs.Prelude.{IfOk}
-use Rattle.std.proofs.lemmas.Bool.{false≢true}
 use Rattle.std.proofs.lemmas.Bool.Decides.{nat_tests}
 use Rattle.std.proofs.lemmas.List.{nil_from_length}
 use Rattle.rmm_spec.specs.World.{Decided, IsDeciding, IsGoing}
@@ -13,25 +12,19 @@ use Rattle.world.specs.Told.{report_of}
 use Rattle.world.specs.Cpus.{phase_in, is_decided, is_deciding}
 use Rattle.world.specs.Whole.{world_from}
 use Rattle.world.specs.World.{world_of}
+use Rattle.world.proofs.Phases.{deciding-false}
 use Rattle.world.proofs.world.World.go.Goals as goal
 
 -- where no call is open and uncommitted, nothing is planned
-no_plan : (old : spec.World) (cpu : ℕ) → is_deciding (old.phase cpu) ≡ false → IsDeciding old cpu → ⊥
-no_plan old cpu none deciding = false≢true (sym none ∙ ap is_deciding deciding.is_deciding)
-
 unplanned : {E : Type 0} (old new : spec.World) (cpu : ℕ) (r : Result Turned E) → is_deciding (old.phase cpu) ≡ false
     → IfOk r (λ turned. IsDeciding old cpu → DoesPlanned old cpu (report_of turned) new)
-unplanned old new cpu (Ok turned) none = λ deciding. absurd (no_plan old cpu none deciding)
+unplanned old new cpu (Ok turned) none = λ deciding. absurd (deciding-false old cpu none deciding)
 unplanned old new cpu (Err e) none = tt
 
 -- a CPU that gave up or was stopped has ended
 ended : (p : Phase) → (p ≡ GivenUp) ⊎ (p ≡ Stopped) → IsGoing (phase_in p) → ⊥
 ended p (inl is) going = subst (λ q. IsGoing (phase_in q)) is going
 ended p (inr is) going = subst (λ q. IsGoing (phase_in q)) is going
-
-pub phase-requires : goal.phase-requires
-unfolding world_of world_from
-phase-requires c = omega (arith, c.requires, c.args.self.now.sized.has_cpus)
 
 pub call-requires-clause-between : goal.call-requires-clause-between
 unfolding world_of world_from
@@ -46,10 +39,6 @@ go_on-requires-clause-deciding c =
       learnt = c.in-Deciding.learnt;
       is_deciding = sym c.phase.ensures ∙ ap phase_in c.in-Deciding.is;
     }
-
-pub taken-requires : goal.taken-requires
-unfolding world_of world_from
-taken-requires c = omega (arith, c.requires, c.args.self.now.sized.has_cpus)
 
 pub free_last-requires-clause-decided : goal.free_last-requires-clause-decided
 unfolding world_of world_from
@@ -88,7 +77,7 @@ returns-in-Between-clause-planned c =
 pub returns-then-not-is_empty-clause-planned : goal.returns-then-not-is_empty-clause-planned
 unfolding world_of world_from
 returns-then-not-is_empty-clause-planned c = λ deciding.
-    absurd (no_plan (world_of c.args.self.now) c.args.cpu (ap is_deciding (sym c.phase.ensures ∙ ap phase_in c.in-Decided.is)) deciding)
+    absurd (deciding-false (world_of c.args.self.now) c.args.cpu (ap is_deciding (sym c.phase.ensures ∙ ap phase_in c.in-Decided.is)) deciding)
 
 pub returns-else-not-is_empty-clause-planned : goal.returns-else-not-is_empty-clause-planned
 unfolding world_of world_from

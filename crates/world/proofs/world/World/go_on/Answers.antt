@@ -1,6 +1,8 @@
 use Rattle.std.proofs.Common.{sym, subst}
 use Rattle.command_core.specs.declared.next.Next.TheVariants.{Ready}
 use Rattle.world.specs.Next.{IsNext}
+use Rattle.std.specs.Prelude.{OnErr}
+use Rattle.world.specs.Recorded.{Records, IsShort, event_room, commit_room}
 use Rattle.world.specs.Stepped.{CanCommit}
 use Rattle.world.specs.World.{world_of}
 use Rattle.world.proofs.world.World.go_on.Goals as goal
@@ -11,3 +13,15 @@ commit-requires-clause-can c =
     let ready : IsNext old c.args.cpu Ready = subst (IsNext old c.args.cpu) c.in-Ready.is c.next_of.ensures.next in
     let can : CanCommit old c.args.cpu = record { deciding = ready.deciding; settled = ready.settled } in
     subst (λ w. CanCommit w c.args.cpu) (sym c.next_of.ensures.world) can
+
+pub returns-in-Ready-clause-only_recorded : goal.returns-in-Ready-clause-only_recorded
+returns-in-Ready-clause-only_recorded c =
+    subst (λ w. OnErr c.commit.result (Records w c.args.cpu)) c.next_of.ensures.world c.commit.ensures.only_recorded
+
+pub returns-in-Ready-clause-only_short : goal.returns-in-Ready-clause-only_short
+returns-in-Ready-clause-only_short c =
+    let mid = c.next_of.new.self in
+    let s = c.args.self.now in
+    subst (λ w. OnErr c.commit.result (IsShort (event_room s) (commit_room s) w c.args.cpu)) c.next_of.ensures.world
+    (subst (λ room. OnErr c.commit.result (IsShort (event_room s) room (world_of mid) c.args.cpu)) c.next_of.ensures.commits
+    (subst (λ room. OnErr c.commit.result (IsShort room (commit_room mid) (world_of mid) c.args.cpu)) c.next_of.ensures.events c.commit.ensures.only_short))

@@ -1,4 +1,4 @@
-use Rattle.std.proofs.Common.{refl, sym, ap, ◌∙◌, subst, arith, vec_len}
+use Rattle.std.proofs.Common.{refl, sym, ap, ◌∙◌, subst, vec_len}
 use Rattle.std.specs.Prelude.{IsTrue}
 use Rattle.rmm_spec.specs.HistoryText.{Config}
 use Rattle.rmm_spec.specs.Local.{put_all}
@@ -8,16 +8,13 @@ use Rattle.world.specs.Granules.{cells_of, holder_of}
 use Rattle.world.specs.Cpus.{views_of, phase_in}
 use Rattle.world.specs.Kept.{IsKept, serves_phase}
 use Rattle.world.specs.Lent.{lent_cells, cells_at}
+use Rattle.world.specs.Recorded.{event_room, commit_room}
 use Rattle.world.specs.Whole.{world_with, world_from}
-use Rattle.world.specs.World.{world_of, waits_of}
+use Rattle.world.specs.World.{world_of}
 use Rattle.world.proofs.Locked.{locks-of_size}
 use Rattle.world.proofs.Lending.{put_all-given_back}
 use Rattle.world.proofs.Taking.{not_deciding, next-planned}
 use Rattle.world.proofs.world.World.next_of.Goals as goal
-
-pub taken-requires : goal.taken-requires
-unfolding world_of world_from
-taken-requires c = omega (arith, c.requires.cpu, c.args.self.now.sized.has_cpus)
 
 pub lend-lent-requires-clause-distinct : goal.lend-lent-requires-clause-distinct
 unfolding world_from
@@ -28,20 +25,12 @@ pub lend-lent-requires-clause-granules : goal.lend-lent-requires-clause-granules
 unfolding world_from
 lend-lent-requires-clause-granules c =
     let s = c.args.self.now in
-    locks-of_size (vec_len s.cells.list) s.history.recorded.config.granules c.taken.result.now ((views_of s.cpus).taken c.args.cpu) s.sized.has_cells
+    locks-of_size (vec_len s.cells.list) s.history.recorded.config.granules c.taken.result.now ((views_of s.cpus).taken c.args.cpu) s.has_cells
     c.taken.ensures.taken (s.kept.locked.within c.args.cpu)
-
-pub phase-requires : goal.phase-requires
-unfolding world_of world_from
-phase-requires c = omega (arith, c.requires.cpu, c.args.self.now.sized.has_cpus)
 
 pub unreachable-requires : goal.unreachable-requires
 unfolding world_of world_from
 unreachable-requires c = not_deciding c.phase.result.now c.in_default.not-Deciding _ _ _ (c.phase.ensures ∙ c.requires.deciding.is_deciding)
-
-pub place-requires : goal.place-requires
-unfolding world_of world_from
-place-requires c = omega (arith, c.requires.cpu, c.args.self.now.sized.has_cpus)
 
 pub next_lock-next-requires : goal.next_lock-next-requires
 unfolding world_from
@@ -54,24 +43,17 @@ unfolding world_from
 give_back-requires c =
     let s = c.args.self.now in
     locks-of_size (vec_len c.lend-lent.new.cells.list) s.history.recorded.config.granules c.lend-lent.result.granules.items
-    ((views_of s.cpus).taken c.args.cpu) (c.lend-lent.ensures.size ∙ s.sized.has_cells) (c.lend-lent.ensures.granules ∙ c.taken.ensures.taken)
+    ((views_of s.cpus).taken c.args.cpu) (c.lend-lent.ensures.size ∙ s.has_cells) (c.lend-lent.ensures.granules ∙ c.taken.ensures.taken)
     (s.kept.locked.within c.args.cpu)
 
-pub invariant_of-self : goal.invariant_of-self
+pub invariant_of-self-clause-kept : goal.invariant_of-self-clause-kept
 unfolding world_from
-invariant_of-self c =
+invariant_of-self-clause-kept c =
     let s = c.args.self.now in
     let back = c.give_back.ensures.cells ∙ ap (put_all (cells_of c.lend-lent.new.cells)) c.lend-lent.ensures.lent
     ∙ put_all-given_back c.taken.result.now (cells_of s.cells) (cells_of c.lend-lent.new.cells) c.lend-lent.ensures.kept in
-    record {
-      sized = record {
-        has_cells = c.give_back.ensures.size ∙ c.lend-lent.ensures.size ∙ s.sized.has_cells;
-        has_locks = s.sized.has_locks;
-        has_cpus = s.sized.has_cpus;
-      };
-      kept = subst (λ cells. IsKept (world_with cells (side_of s.side) (views_of s.cpus) s.journal.items s.history.recorded) (holder_of s.locks)
-          (views_of s.cpus).waits) (sym back) s.kept;
-    }
+    subst (λ cells. IsKept (world_with cells (side_of s.side) (views_of s.cpus) s.journal.items s.history.recorded) (holder_of s.locks)
+    (views_of s.cpus).waits) (sym back) s.kept
 
 pub returns-clause-world : goal.returns-clause-world
 unfolding world_of world_from
@@ -81,10 +63,6 @@ returns-clause-world c =
     ∙ put_all-given_back c.taken.result.now (cells_of s.cells) (cells_of c.lend-lent.new.cells) c.lend-lent.ensures.kept in
     ap (λ cells. world_with cells (side_of s.side) (views_of s.cpus) s.journal.items s.history.recorded) back
 
-pub returns-clause-waits : goal.returns-clause-waits
-unfolding waits_of
-returns-clause-waits c = refl
-
 pub returns-clause-next : goal.returns-clause-next
 unfolding world_of world_from
 returns-clause-next c =
@@ -93,3 +71,11 @@ returns-clause-next c =
     (lent_cells c.lend-lent.result) c.in-Deciding.number c.in-Deciding.command c.in-Deciding.learnt
     (sym c.phase.ensures ∙ ap phase_in c.in-Deciding.is) (ap (λ (x : Config). x.granules) c.config-config.ensures) c.place.ensures
     (c.lend-lent.ensures.lent ∙ ap (cells_at (cells_of s.cells)) c.taken.ensures.taken) c.next_lock-next.ensures.exact c.next_lock-next.ensures.planned c.next_lock-next.ensures.settled
+
+pub returns-clause-events : goal.returns-clause-events
+unfolding event_room
+returns-clause-events c = refl
+
+pub returns-clause-commits : goal.returns-clause-commits
+unfolding commit_room
+returns-clause-commits c = refl

@@ -1,4 +1,5 @@
-use Rattle.std.proofs.Common.{Bool, true, false, sym, ap, ◌∙◌}
+use Rattle.std.proofs.Common.{Result, Ok, Err, Bool, true, false, sym, ap, ◌∙◌}
+use Rattle.std.specs.Prelude.{OnErr}
 use Rattle.std.proofs.lemmas.Bool.{false≢true}
 use Rattle.std.proofs.lemmas.Result.{IfOk-weaker}
 use Rattle.rmm_spec.specs.World.{IsDeciding}
@@ -27,3 +28,11 @@ returns-in-GiveUp-clause-planned c = λ is. absurd (false≢true (sym (ap goes c
 
 pub returns-in-Stop-clause-planned : goal.returns-in-Stop-clause-planned
 returns-in-Stop-clause-planned c = λ is. absurd (false≢true (sym (ap goes c.in-Stop.is) ∙ ap goes is))
+
+-- what holds whatever is returned holds of an error
+of_error : {T E P : Type 0} (r : Result T E) → P → OnErr r P
+of_error (Ok value) holds = tt
+of_error (Err e) holds = holds
+
+pub returns-in-Go-clause-only_go : goal.returns-in-Go-clause-only_go
+returns-in-Go-clause-only_go c = of_error c.go.result c.in-Go.is

@@ -1,0 +1,3 @@
+pub mod PlainParts
+pub mod GoingOn
+pub mod Grammars

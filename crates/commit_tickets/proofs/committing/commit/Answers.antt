@@ -1,0 +1,20 @@
+use Rattle.std.proofs.Common.{List, [], ◌∷◌, ◌++◌, ap, ◌∙◌, arith}
+use Rattle.granule_lock.specs.HeldCells.{hold_cells}
+use Rattle.spec_machine.specs.View.{state_of}
+use Rattle.commit_tickets.specs.declared.journal.Entry.{Entry}
+use Rattle.commit_tickets.proofs.Disagreements.{refused-disagree}
+use Rattle.commit_tickets.proofs.Runs.{IsRun-append}
+use Rattle.commit_tickets.proofs.committing.commit.Goals as goal
+
+pub returns-then-not-branch-clause-cause : goal.returns-then-not-branch-clause-cause
+returns-then-not-branch-clause-cause g c =
+    refused-disagree g.S.Site.granules c.args.command.now _ c.args.journal.now _ c.args.token.now (hold_cells c.args.hold.now) c.decide-reply.result.0
+    c.decide-reply.result.1 (state_of c.journal.inside.books) c.journal.view_is c.token.view_is c.journal.invariant.1 c.decide-reply.ensures.decides
+    c.journal.invariant.0 (c.in_ok-offer.ensures.only c.if-not-branch.true)
+
+pub invariant_of-journal-2 : goal.invariant_of-journal-2
+invariant_of-journal-2 g c =
+    let entry : Entry = record { cpu = c.token.inside.cpu; command = c.copy_of_command.result; reply = c.copy_of_reply.result } in
+    let run = IsRun-append _ _ _ _ _ _ _ _ _ _ c.journal.invariant.0 (c.in_ok-offer.ensures.step c.if-not-branch.false) c.copy_of_command.ensures
+    c.copy_of_reply.ensures (c.push_reserved.ensures.items ∙ ap (λ (es : List Entry). es ++ entry ∷ []) c.reserve.ensures.items) in
+    (run, c.journal.invariant.1, omega (arith, c.push_reserved.ensures.len, c.reserve.ensures.len, c.add.ensures.total, c.journal.invariant.2))

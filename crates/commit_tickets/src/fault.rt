@@ -1,0 +1,24 @@
+//! Why a commit is refused.
+
+ghost use Rattle.std.specs.Prelude.{◌≡◌};
+ghost use Rattle.commit_tickets.specs.declared.fault.CommitFault.TheVariants.{NoMemory};
+
+use std::alloc::AllocError;
+use thiserror::Error;
+
+/// Why nothing was committed. After either fault the journal, the token and what is held are as before.
+#[derive(Clone, Copy, Debug, PartialEq, Eq, Error)]
+pub enum CommitFault {
+    #[error("no memory")]
+    NoMemory,
+    #[error("the books don't give the reply that the held cells give")]
+    Disagrees,
+}
+
+impl From<AllocError> for CommitFault {
+    ghost from_gives = { λ _ fault. fault ≡ NoMemory };
+
+    fn from(_error: AllocError) -> CommitFault {
+        CommitFault::NoMemory
+    }
+}

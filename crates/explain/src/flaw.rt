@@ -1,0 +1,122 @@
+//! What is wrong with a bad line.
+
+ghost use Rattle.std.specs.Prelude.{◌≡◌, ◌≢◌};
+ghost use Rattle.explain.specs.Explained.{IsCertificateFlaw, IsFlawOf, IsHistoryFlaw, IsLineIn, IsMisplaced, IsOnFirstLine};
+ghost use Rattle.bad_lines.specs.Wrong.{IsEventLine, IsHeader, IsHeaderOf};
+ghost use Rattle.rmm_spec.specs.HistoryText.{Config};
+ghost use Rattle.rmm_spec.specs.Text.{parts_of};
+
+use crate::explaining::{behind_lines, first_line, line_of};
+use crate::explanation::BadLine;
+use bad_lines::{WrongPart, wrong_in_certificate_line, wrong_in_event, wrong_in_header};
+use rmi_codec::next_line;
+use std::fmt;
+
+/// How many lines a text may have.
+const MOST_LINES: u64 = 1_000_000;
+
+/// Why a line is bad.
+#[derive(Clone, Copy, Debug, PartialEq, Eq)]
+pub enum Flaw<'a> {
+    /// The first part with which it is no line of its kind.
+    Part(WrongPart<'a>),
+    /// It is a line of its kind, and can't stand in its place.
+    Place(Misplaced),
+}
+
+/// Why a line can't stand in its place.
+#[derive(Clone, Copy, Debug, PartialEq, Eq)]
+pub enum Misplaced {
+    /// No newline ends it.
+    Unended,
+    /// As many lines stand before it as a text may have.
+    Full,
+    /// Its event isn't the next that its CPU can have.
+    OutOfTurn,
+}
+
+/// A history's bad line, counted from 1.
+pub(crate) fn bad_history_line(text: &[u8], line: u64) -> BadLine<'_>
+    ensures line { result.line ≡ line }
+    ensures bytes { IsLineIn text.now line result.bytes.now }
+    ensures flaw { IsHistoryFlaw result.flaw text.now line (parts_of result.bytes.now) }
+{
+    let bytes = line_of(text, line);
+    let flaw = if line == 1 {
+        header_flaw(text, line, bytes)
+    } else {
+        event_flaw(text, line, bytes)
+    };
+    BadLine { line, bytes, flaw }
+}
+
+/// A certificate's bad line, counted from 1.
+pub(crate) fn bad_certificate_line(text: &[u8], line: u64) -> BadLine<'_>
+    ensures line { result.line ≡ line }
+    ensures bytes { IsLineIn text.now line result.bytes.now }
+    ensures flaw { IsCertificateFlaw result.flaw text.now line (parts_of result.bytes.now) }
+{
+    let bytes = line_of(text, line);
+    let flaw = match wrong_in_certificate_line(bytes) {
+        Some(wrong) => Flaw::Part(wrong),
+        None => Flaw::Place(why_misplaced(text, line)),
+    };
+    BadLine { line, bytes, flaw }
+}
+
+// Why the first line of a history is bad.
+fn header_flaw<'a>(text: &[u8], line: u64, bytes: &'a [u8]) -> Flaw<'a>
+    ensures { IsFlawOf IsHeader result text.now line (parts_of bytes.now) }
+{
+    match wrong_in_header(bytes) {
+        Some(wrong) => Flaw::Part(wrong),
+        None => Flaw::Place(why_misplaced(text, line)),
+    }
+}
+
+// Why a later one is.
+fn event_flaw<'a>(text: &[u8], line: u64, bytes: &'a [u8]) -> Flaw<'a>
+    ensures { IsOnFirstLine text.now (λ header. (config : Config) → IsHeaderOf (parts_of header) config
+        → IsFlawOf (IsEventLine config.cpus) result text.now line (parts_of bytes.now)) }
+{
+    let header = first_line(text);
+    match wrong_in_event(bytes, header) {
+        Some(wrong) => Flaw::Part(wrong),
+        None => Flaw::Place(why_misplaced(text, line)),
+    }
+}
+
+// Why a line of its kind is bad.
+fn why_misplaced(text: &[u8], line: u64) -> Misplaced
+    ensures { IsMisplaced result text.now line }
+{
+    if line > MOST_LINES {
+        return Misplaced::Full;
+    }
+    match next_line(behind_lines(text, line.saturating_sub(1))) {
+        Some(_) => Misplaced::OutOfTurn,
+        None => Misplaced::Unended,
+    }
+}
+
+impl fmt::Display for Flaw<'_> {
+    fn fmt<W: fmt::Write>(&self, f: &mut fmt::Formatter<W>) -> fmt::Result {
+        match self {
+            Flaw::Part(wrong) => write!(f, "{wrong}"),
+            Flaw::Place(place) => write!(f, "{place}"),
+        }
+    }
+}
+
+impl fmt::Display for Misplaced {
+    fn fmt<W: fmt::Write>(&self, f: &mut fmt::Formatter<W>) -> fmt::Result {
+        f.write_str(match self {
+            Misplaced::Unended => "wrong: no newline ends the line\n",
+            Misplaced::Full => "wrong: 1000000 lines stand before it, and there may be no more\n",
+            Misplaced::OutOfTurn => {
+                "wrong: the event isn't its CPU's next\n\
+                 there could stand: where a CPU has a call open, that call's return, and else its next call, numbered from 0 on\n"
+            }
+        })
+    }
+}

@@ -1,0 +1,139 @@
+//! The steps of an order: marks on the bars, joined by a line, and a table of them.
+
+use crate::bars::{BELOW, text_of};
+use crate::calls::places_of;
+use crate::focus::{Focus, Role};
+use crate::marks::Mark;
+use crate::scale::{BAR, Scale, lane_top};
+use crate::shapes::{close_words, disc, open_words};
+use crate::window::Window;
+use history::{History, Places};
+use markup::Page;
+use std::alloc::{AllocError, Global};
+
+/// The width of an event from which on every number stands above its bar. Else those of odd steps stand below, so that fewer
+/// overlap.
+const WIDE: u64 = 24;
+
+/// Where a mark is.
+#[derive(Clone, Copy)]
+struct Spot {
+    mark: Mark,
+    x: u64,
+    y: u64,
+}
+
+/// Draws the marks and the line that joins them.
+pub(crate) fn write_marks(
+    alloc: Global,
+    page: &mut Page,
+    history: &History,
+    focus: &Focus,
+    window: Window,
+    marks: &[Mark],
+) -> Result<(), AllocError> {
+    let spots = spots_of(alloc, history, window, marks)?;
+    let is_wide = Scale::of(window).column() >= WIDE;
+    write_path(page, spots.as_slice())?;
+    for spot in &spots {
+        write_mark(page, focus, *spot, is_wide)?;
+    }
+    Ok(())
+}
+
+// Each mark is on its call's bar, and behind the mark of the step before it where its bar goes on so far.
+fn spots_of(
+    alloc: Global,
+    history: &History,
+    window: Window,
+    marks: &[Mark],
+) -> Result<Vec<Spot>, AllocError> {
+    let scale = Scale::of(window);
+    let mut spots = Vec::new(alloc);
+    let mut behind = 0;
+    for mark in marks {
+        let Some(places) = places_of(history, mark.call) else {
+            continue;
+        };
+        let x = mark_x(scale, window, places, behind);
+        let y = lane_top(window, mark.call.cpu) + BELOW + BAR / 2;
+        spots.push(Spot { mark: *mark, x, y })?;
+        behind = x;
+    }
+    Ok(spots)
+}
+
+fn mark_x(scale: Scale, window: Window, places: Places, behind: u64) -> u64 {
+    let end = match places.returned {
+        Some(returned) => returned as usize,
+        None => window.end,
+    };
+    let least = scale.x(places.called as usize) + scale.column() / 2;
+    let most = scale.x(end) + scale.column() / 2;
+    behind.saturating_add(4).max(least).min(most)
+}
+
+fn write_path(page: &mut Page, spots: &[Spot]) -> Result<(), AllocError> {
+    page.say(b"<polyline class=\"order\" points=\"")?;
+    for spot in spots {
+        page.number(spot.x)?;
+        page.say(b",")?;
+        page.number(spot.y)?;
+        page.say(b" ")?;
+    }
+    page.say(b"\"/>\n")
+}
+
+fn write_mark(page: &mut Page, focus: &Focus, spot: Spot, is_wide: bool) -> Result<(), AllocError> {
+    let Spot { mark, x, y } = spot;
+    let role = focus.role(mark.call);
+    let fails = role == Role::Failing && mark.step == focus.last_step;
+    let (class, radius): (&[u8], u64) = if fails {
+        (b"mark failing", 6)
+    } else {
+        (b"mark", 4)
+    };
+    disc(page, class, (x, y), radius)?;
+    let class: &[u8] = if fails { b"step failing" } else { b"step" };
+    let is_above = is_wide || role != Role::Plain || mark.step % 2 == 0;
+    let words_y = if is_above {
+        y.saturating_sub(14)
+    } else {
+        y.saturating_add(22)
+    };
+    open_words(page, class, x, words_y)?;
+    page.number(mark.step)?;
+    close_words(page)
+}
+
+/// Writes the table of the steps that a picture shows.
+pub(crate) fn write_table(
+    alloc: Global,
+    page: &mut Page,
+    history: &History,
+    focus: &Focus,
+    marks: &[Mark],
+) -> Result<(), AllocError> {
+    page.say(b"<details>\n<summary>The steps of the picture as a table</summary>\n<table>\n")?;
+    page.say(
+        b"<thead><tr><th scope=\"col\">Step</th><th scope=\"col\">Call</th></tr></thead>\n<tbody>\n",
+    )?;
+    for mark in marks {
+        let text = text_of(alloc, history, mark.call)?;
+        page.say(row_of(focus.role(mark.call)))?;
+        page.number(mark.step)?;
+        page.say(b"</th><td><pre>")?;
+        page.text(text.as_bytes())?;
+        page.say(b"</pre></td></tr>\n")?;
+    }
+    page.say(b"</tbody>\n</table>\n</details>\n")
+}
+
+// The beginning of a row.
+fn row_of(role: Role) -> &'static [u8] {
+    match role {
+        Role::Plain => b"<tr><th scope=\"row\">",
+        Role::Failing => b"<tr class=\"failing\"><th scope=\"row\">",
+        Role::Cause => b"<tr class=\"cause\"><th scope=\"row\">",
+    }
+}

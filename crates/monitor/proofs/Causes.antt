@@ -1,0 +1,42 @@
+-- The cause of a fault, found in a journal that is a run.
+use Rattle.std.proofs.Common.{◌≡◌, ℕ, List, sym, ◌∙◌, subst}
+use Rattle.std.specs.Prelude.{Result, Ok, Err, IfErr, IsTrue}
+use Rattle.rmm_spec.specs.declared.command.Command.{Command}
+use Rattle.rmm_spec.specs.Call.{call_of}
+use Rattle.rmm_spec.specs.HistoryText.{Config}
+use Rattle.rmm_spec.specs.Local.{HeldCell}
+use Rattle.rmm_spec.specs.Run.{IsRun}
+use Rattle.rmm_spec.specs.State.{State, opening}
+use Rattle.command_core.specs.Seen.{place_of}
+use Rattle.command_core.specs.Settled.{is_settled}
+use Rattle.commit_tickets.specs.declared.committing.Done.{Done}
+use Rattle.commit_tickets.specs.declared.fault.CommitFault.{CommitFault}
+use Rattle.commit_tickets.specs.Faults.{HasCause}
+use Rattle.commit_tickets.specs.View.{JournalView, TokenView}
+use Rattle.monitor.specs.Causes.{HadCause}
+use Rattle.monitor.specs.Locked.{AreGranules}
+
+-- a machine opens in the same state with as many granules
+same-opening : (config : Config) (granules : ℕ) (p : State → Type 0) → config.granules ≡ granules → p (opening config)
+    → p (opening (record config { granules = granules }))
+same-opening config granules p same = subst (λ g. p (opening (record config { granules = g }))) same
+
+-- a fault of a commit had its cause
+pub fault-had_cause : (config : Config) (command : Command) (token : TokenView) (journal : JournalView) (last : State) (cells : List HeldCell)
+    (size : ℕ) (result : Result Done CommitFault) → config.granules ≡ size → journal.config.granules ≡ size
+    → IsRun (opening journal.config) journal.entries last → AreGranules config.granules cells
+    → IsTrue (is_settled config.granules (call_of command) (place_of token.place) cells)
+    → IfErr result (λ fault. HasCause fault size command journal token cells) → IfErr result (λ fault. HadCause config fault command token)
+unfolding opening
+fault-had_cause config command token journal last cells size (Ok done) is_size is_journal run granules settled cause = tt
+fault-had_cause config command token journal last cells size (Err fault) is_size is_journal run granules settled cause =
+    let same : journal.config.granules ≡ config.granules = is_journal ∙ sym is_size in record {
+      journal = journal;
+      last = last;
+      cells = cells;
+      same_size = same;
+      run = same-opening journal.config config.granules (λ (first : State). IsRun first journal.entries last) same run;
+      granules = granules;
+      settled = settled;
+      cause = subst (λ n. HasCause fault n command journal token cells) (sym is_size) cause;
+    }

@@ -1,0 +1,116 @@
+-- The tokens and passes of all CPUs: as they are made, and with those of one CPU changed.
+use Rattle.std.proofs.Common.{◌≡◌, ℕ, zero, suc, ◌+◌, ◌<◌, false, List, [], ◌∷◌, ◌++◌, length, set, Some, refl, sym, ap, ◌∙◌, subst, arith, ◌⊎◌, inl, inr, ⊎_elim}
+use Rattle.std.specs.Prelude.{Result, Ok, Err, slice_get}
+use Rattle.std.proofs.lemmas.List.{length_push, length-set}
+use Rattle.std.proofs.lemmas.Option.{none-some, same_Some, slice_get_within}
+use Rattle.world_laws.proofs.Lists.{slice_get-append, slice_get-push, slice_get-push_cases}
+use Rattle.rmm_spec.specs.declared.command.Command.{Command}
+use Rattle.commit_tickets.specs.declared.committing.Done.{Done}
+use Rattle.commit_tickets.specs.View.{TokenView, before_commits, first_tokens}
+use Rattle.event_queue.specs.View.{CpuView, before_calls}
+use Rattle.monitor.specs.View.{MonitorView}
+use Rattle.monitor.specs.declared.refused.Refused.{Refused}
+use Rattle.monitor.specs.declared.refused.Refused.TheVariants.{Full, NoMemory, Unrecorded, Stopped, Disagrees}
+use Rattle.monitor.specs.Executed.{ArePaired, Leaves}
+use Rattle.monitor.specs.Cpus.{ArePairs, AreCpus}
+
+-- ---- as they are made
+
+length-first_tokens : (cpus : ℕ) → length (first_tokens cpus) ≡ cpus
+length-first_tokens zero = refl
+length-first_tokens (suc cpu) = omega (arith, length_push (first_tokens cpu) (before_commits cpu), length-first_tokens cpu)
+
+first_tokens-at : (cpus cpu : ℕ) (token : TokenView) → slice_get (first_tokens cpus) cpu ≡ Some token → token ≡ before_commits cpu
+first_tokens-at zero cpu token at = absurd (none-some token at)
+first_tokens-at (suc last) cpu token at =
+    ⊎_elim (λ (earlier : slice_get (first_tokens last) cpu ≡ Some token). first_tokens-at last cpu token earlier)
+    (λ (here : (cpu ≡ length (first_tokens last)) × (before_commits last ≡ token)).
+    sym here.1 ∙ ap before_commits (sym (here.0 ∙ length-first_tokens last)))
+    (slice_get-push_cases (first_tokens last) (before_commits last) cpu token at)
+
+paired-first : (monitor : MonitorView) (cpu : ℕ) → ArePaired monitor (before_commits cpu) (before_calls monitor.queue monitor.config.cpus cpu)
+paired-first monitor cpu = record {
+  same_queue = refl;
+  same_cpus = refl;
+  same_cpu = refl;
+  closed = λ _. refl;
+  running = λ _. refl;
+  few = omega arith;
+}
+
+pub cpus-first : (monitor : MonitorView) (tokens : List TokenView) (passes : List CpuView) → tokens ≡ first_tokens monitor.config.cpus
+    → length passes ≡ monitor.config.cpus
+    → ((cpu : ℕ) → cpu < monitor.config.cpus → slice_get passes cpu ≡ Some (before_calls monitor.queue monitor.config.cpus cpu))
+    → AreCpus monitor tokens passes
+cpus-first monitor tokens passes are count each =
+    let token_at : (cpu : ℕ) (token : TokenView) → slice_get tokens cpu ≡ Some token → token ≡ before_commits cpu = λ cpu token at.
+    first_tokens-at monitor.config.cpus cpu token (ap (λ (ts : List TokenView). slice_get ts cpu) (sym are) ∙ at) in
+    let token_count = ap length are ∙ length-first_tokens monitor.config.cpus in record {
+      count = token_count;
+      numbered = λ cpu token at. ap (λ (t : TokenView). t.cpu) (token_at cpu token at);
+      pairs = record {
+        same_count = count ∙ sym token_count;
+        each = λ cpu token pass at pass_at.
+            let within : cpu < monitor.config.cpus = omega (arith, slice_get_within passes cpu pass pass_at, count) in
+            let pass_is : before_calls monitor.queue monitor.config.cpus cpu ≡ pass = same_Some _ pass (sym (each cpu within) ∙ pass_at) in
+            subst (λ t. ArePaired monitor t pass) (sym (token_at cpu token at))
+            (subst (λ p. ArePaired monitor (before_commits cpu) p) pass_is (paired-first monitor cpu));
+      };
+    }
+
+-- ---- with one changed
+
+-- a token stays its CPU's
+pub cpu-left : (command : Command) (token new : TokenView) (pass new_pass : CpuView) (answer : Result Done Refused)
+    → Leaves command token pass answer new new_pass → new.cpu ≡ token.cpu
+cpu-left command token new pass new_pass (Ok done) left = ap (λ (t : TokenView). t.cpu) left.0
+cpu-left command token new pass new_pass (Err (Unrecorded done)) left = ap (λ (t : TokenView). t.cpu) left.0
+cpu-left command token new pass new_pass (Err NoMemory) left = ap (λ (t : TokenView). t.cpu) left.0
+cpu-left command token new pass new_pass (Err Disagrees) left = ap (λ (t : TokenView). t.cpu) left.0
+cpu-left command token new pass new_pass (Err Full) left = ap (λ (t : TokenView). t.cpu) left.0
+cpu-left command token new pass new_pass (Err Stopped) left = ap (λ (t : TokenView). t.cpu) left.0
+
+set_cases : {X : Type 0} (xs : List X) (i k : ℕ) (x y : X) → slice_get (set xs i x) k ≡ Some y
+    → ((k ≡ i) × (y ≡ x)) ⊎ ((k ≡ i → ⊥) × (slice_get xs k ≡ Some y))
+set_cases [] i k x y at = absurd (none-some y at)
+set_cases (first ∷ xs) zero zero x y at = inl (refl, sym (same_Some x y at))
+set_cases (first ∷ xs) zero (suc k) x y at = inr (λ same. omega (arith, same), at)
+set_cases (first ∷ xs) (suc i) zero x y at = inr (λ same. omega (arith, same), at)
+set_cases (first ∷ xs) (suc i) (suc k) x y at =
+    ⊎_elim (λ (here : (k ≡ i) × (y ≡ x)). inl (ap suc here.0, here.1))
+    (λ (there : (k ≡ i → ⊥) × (slice_get xs k ≡ Some y)). inr (λ same. there.0 (omega (arith, same)), there.1))
+    (set_cases xs i k x y at)
+
+module _ (monitor : MonitorView) (tokens : List TokenView) (passes : List CpuView) (cpu : ℕ) (token : TokenView) (pass : CpuView)
+    (old : AreCpus monitor tokens passes) (same_cpu : token.cpu ≡ cpu) (pair : ArePaired monitor token pass) where
+  paired-both : (k : ℕ) (t : TokenView) (p : CpuView) → ((k ≡ cpu) × (t ≡ token)) ⊎ ((k ≡ cpu → ⊥) × (slice_get tokens k ≡ Some t))
+      → ((k ≡ cpu) × (p ≡ pass)) ⊎ ((k ≡ cpu → ⊥) × (slice_get passes k ≡ Some p)) → ArePaired monitor t p
+  paired-both k t p (inl here) (inl pass_here) = subst (λ x. ArePaired monitor x p) (sym here.1) (subst (λ x. ArePaired monitor token x) (sym pass_here.1) pair)
+  paired-both k t p (inl here) (inr pass_there) = absurd (pass_there.0 here.0)
+  paired-both k t p (inr there) (inl pass_here) = absurd (there.0 pass_here.0)
+  paired-both k t p (inr there) (inr pass_there) = old.pairs.each k t p there.1 pass_there.1
+
+  pub cpus-set : AreCpus monitor (set tokens cpu token) (set passes cpu pass)
+  cpus-set = record {
+    pairs = record {
+      same_count = length-set passes cpu pass ∙ old.pairs.same_count ∙ sym (length-set tokens cpu token);
+      each = λ k t p at pass_at. paired-both k t p (set_cases tokens cpu k token t at) (set_cases passes cpu k pass p pass_at);
+    };
+    count = length-set tokens cpu token ∙ old.count;
+    numbered = λ k t at. ⊎_elim (λ (here : (k ≡ cpu) × (t ≡ token)). ap (λ (x : TokenView). x.cpu) here.1 ∙ same_cpu ∙ sym here.0)
+        (λ (there : (k ≡ cpu → ⊥) × (slice_get tokens k ≡ Some t)). old.numbered k t there.1) (set_cases tokens cpu k token t at);
+  }
+
+-- ---- without the last
+
+pub pairs-popped : (monitor : MonitorView) (tokens : List TokenView) (passes : List CpuView) (token : TokenView) (pass : CpuView)
+    → ArePairs monitor (tokens ++ token ∷ []) (passes ++ pass ∷ []) → ArePaired monitor token pass × ArePairs monitor tokens passes
+pairs-popped monitor tokens passes token pass old =
+    let same : length passes ≡ length tokens = omega (arith, old.same_count, length_push tokens token, length_push passes pass) in (
+      old.each (length tokens) token pass (slice_get-push tokens token)
+          (subst (λ k. slice_get (passes ++ pass ∷ []) k ≡ Some pass) same (slice_get-push passes pass)),
+      record {
+        same_count = same;
+        each = λ k t p at pass_at. old.each k t p (slice_get-append tokens (token ∷ []) k t at) (slice_get-append passes (pass ∷ []) k p pass_at);
+      },
+    )

@@ -1,0 +1,3 @@
+pub mod HeldGranules
+pub mod CpuLists
+pub mod Causes

@@ -1,0 +1,10 @@
+use Rattle.std.proofs.Common.{ℕ, ◌-◌, List, length, ap, ◌∙◌}
+use Rattle.std.specs.Prelude.{slice_get}
+use Rattle.granule_lock.specs.HeldCells.{hold_cells}
+use Rattle.monitor.proofs.HeldGranules.{last-held}
+use Rattle.monitor.proofs.locking.last_held.Goals as goal
+
+pub returns-clause-some : goal.returns-clause-some
+returns-clause-some c =
+    last-held (hold_cells c.args.hold.now) c.copied.result
+    (c.copied.ensures ∙ c.last.ensures.value ∙ ap (λ (xs : List ℕ). slice_get xs (length xs - 1)) c.held.ensures)

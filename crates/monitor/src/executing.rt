@@ -1,0 +1,140 @@
+//! A CPU executes a command.
+
+ghost use Rattle.std.specs.Prelude.{◌≡◌, ◌≤◌, ◌↔◌, true, false, [], IsTrue, IfOk, IfErr, OnErr, Err};
+ghost use Rattle.rmm_spec.specs.Call.{call_of};
+ghost use Rattle.rmm_spec.specs.CommandText.{IsCommand};
+ghost use Rattle.command_core.specs.Seen.{place_of};
+ghost use Rattle.command_core.specs.Served.{is_served};
+ghost use Rattle.command_core.specs.Settled.{is_settled};
+ghost use Rattle.granule_lock.specs.HeldCells.{hold_cells};
+ghost use Rattle.monitor.specs.Causes.{HadCause, FaultHadCause};
+ghost use Rattle.monitor.specs.Executed.{ArePaired, Leaves, FullAtSomeMoment, HasCommitted, returned, unreturned};
+ghost use Rattle.monitor.specs.Locked.{AreGranules};
+ghost use Rattle.monitor.specs.declared.refused.Refused.TheVariants as refused;
+
+use crate::gate::Gate;
+use crate::locking::{free_all, lock_for};
+use crate::monitor::Monitor;
+use crate::refused::Refused;
+use commit_tickets::{CommitFault, CpuToken, Done, Site, commit};
+use event_queue::CpuPass;
+use granule_lock::Hold;
+use rmi_view::{CommandRef, ReplyRef};
+use rmm_spec::Command;
+use std::alloc::Global;
+use std::sync::Wait;
+
+impl<S: Site> Monitor<S> {
+    /// Executes a served command by the token and the pass of its CPU: records the call, locks the command's granules, passes
+    /// the gate, commits under the journal's lock, frees the granules and records the return. Whatever is answered, no granule
+    /// stays locked. The pass tells whether its next number is still one of a history.
+    pub fn execute<R: Wait, G: Gate>(
+        &self,
+        rt: &R,
+        alloc: Global,
+        token: &mut CpuToken<S>,
+        pass: &mut CpuPass,
+        gate: &G,
+        command: Command,
+    ) -> Result<Done, Refused>
+        requires pair { ArePaired self.now token.old pass.old }
+        requires served { IsTrue (is_served (call_of command)) }
+        requires command { IsCommand command }
+        requires number { pass.old.stand.next ≤ 999999 }
+        ensures leaves { Leaves command token.old pass.old result token.new pass.new }
+        ensures pair { ArePaired self.now token.new pass.new }
+        ensures stopped { (result ≡ Err refused.Stopped) ↔ IsTrue token.old.is_stopped }
+        ensures full { FullAtSomeMoment self.now.capacity pass.new result }
+        ensures cause { FaultHadCause self.now.config command token.old result }
+    {
+        if token.is_stopped() {
+            return Err(Refused::Stopped);
+        }
+        let recorded = CommandRef::of(&command).to_command();
+        if self.recorder.call(rt, pass, recorded).is_err() {
+            return Err(Refused::Full);
+        }
+        let mut hold = Hold::new();
+        match self.commit_locked(rt, alloc, token, &mut hold, gate, &command) {
+            Ok(done) => self.record_return(rt, token, pass, done),
+            Err(fault) => {
+                token.stop();
+                Err(Refused::for_fault(fault))
+            }
+        }
+    }
+
+    // Commits a command on its granules, which are locked for that alone, whatever comes of it.
+    fn commit_locked<R: Wait, G: Gate>(
+        &self,
+        rt: &R,
+        alloc: Global,
+        token: &mut CpuToken<S>,
+        hold: &mut Hold,
+        gate: &G,
+        command: &Command,
+    ) -> Result<Done, CommitFault>
+        requires served { IsTrue (is_served (call_of command.now)) }
+        requires unlocked { hold_cells hold.old ≡ [] }
+        ensures unlocked { hold_cells hold.new ≡ [] }
+        ensures done { IfOk result (λ done. HasCommitted token.old command.now done token.new) }
+        ensures fault { OnErr result (token.new ≡ record token.old { room = token.new.room }) }
+        ensures cause { IfErr result (λ fault. HadCause self.now.config fault command.now token.old) }
+    {
+        let place = token.place();
+        lock_for(rt, &self.granules, &self.config, &place, command, hold);
+        gate.pass(token.cpu(), command);
+        let done = self.commit_held(rt, alloc, token, hold, command);
+        free_all(rt, &self.granules, hold);
+        done
+    }
+
+    // Commits a command on what is held, under the journal's lock. That the journal is then a run of this machine is what its
+    // size and its books show.
+    fn commit_held<R: Wait>(
+        &self,
+        rt: &R,
+        alloc: Global,
+        token: &mut CpuToken<S>,
+        hold: &mut Hold,
+        command: &Command,
+    ) -> Result<Done, CommitFault>
+        requires served { IsTrue (is_served (call_of command.now)) }
+        requires granules { AreGranules self.now.config.granules (hold_cells hold.old) }
+        requires settled { IsTrue (is_settled self.now.config.granules (call_of command.now) (place_of token.old.place) (hold_cells hold.old)) }
+        ensures granules { AreGranules self.now.config.granules (hold_cells hold.new) }
+        ensures done { IfOk result (λ done. HasCommitted token.old command.now done token.new) }
+        ensures fault { OnErr result (token.new ≡ record token.old { room = token.new.room }) }
+        ensures cause { IfErr result (λ fault. HadCause self.now.config fault command.now token.old) }
+    {
+        let mut locked = self.journal.lock(rt);
+        let journal = &mut *locked;
+        let _size = journal.config();
+        let _books = journal.books();
+        commit(alloc, journal, token, hold, command)
+    }
+
+    // Records the return of what was done. Where the queue is full, the CPU is stopped.
+    fn record_return<R: Wait>(
+        &self,
+        rt: &R,
+        token: &mut CpuToken<S>,
+        pass: &mut CpuPass,
+        done: Done,
+    ) -> Result<Done, Refused>
+        requires queue { pass.old.queue ≡ self.now.queue }
+        requires open { IsTrue pass.old.stand.is_open }
+        requires running { pass.old.is_stopped ≡ false }
+        ensures told { IfOk result (λ told. (told ≡ done) × (token.new ≡ token.old) × (pass.new ≡ returned pass.old done.reply)) }
+        ensures full { OnErr result ((result ≡ Err (refused.Unrecorded done)) × (token.new ≡ record token.old { is_stopped = true })
+            × (pass.new ≡ unreturned pass.old)) }
+        ensures moment { FullAtSomeMoment self.now.capacity pass.new result }
+    {
+        let reply = ReplyRef::of(&done.reply).to_reply();
+        if self.recorder.returned(rt, pass, reply).is_ok() {
+            return Ok(done);
+        }
+        token.stop();
+        Err(Refused::Unrecorded(done))
+    }
+}

@@ -1,0 +1,84 @@
+//! A CPU takes and frees granules.
+
+ghost use Rattle.std.specs.Prelude.{◌≡◌, [], false, IsTrue, IfSome, IfNone};
+ghost use Rattle.rmm_spec.specs.Call.{call_of};
+ghost use Rattle.command_core.specs.Seen.{place_of, is_held};
+ghost use Rattle.command_core.specs.Served.{is_served};
+ghost use Rattle.command_core.specs.Settled.{is_settled};
+ghost use Rattle.granule_lock.specs.HeldCells.{hold_cells};
+ghost use Rattle.monitor.specs.Locked.{AreGranules};
+
+use command_core::{CpuPlace, Held, Next, next_lock};
+use granule_lock::{Granules, Hold};
+use granule_state::{Config, Pa};
+use rmm_spec::Command;
+use std::sync::Wait;
+
+/// Takes and frees granules as the plan of a served command says, from a hold of none until what is held settles it.
+pub fn lock_for<R: Wait>(
+    rt: &R,
+    granules: &Granules,
+    config: &Config,
+    place: &CpuPlace,
+    command: &Command,
+    hold: &mut Hold,
+)
+    requires size { granules.now.granules ≡ config.now.granules }
+    requires served { IsTrue (is_served (call_of command.now)) }
+    requires none { hold_cells hold.old ≡ [] }
+    ensures settled { IsTrue (is_settled config.now.granules (call_of command.now) (place_of place.now) (hold_cells hold.new)) }
+    ensures granules { AreGranules granules.now.granules (hold_cells hold.new) }
+{
+    let mut learnt = None;
+    for _step in rt.forever() {
+        if !goes_on(rt, granules, config, place, command, hold, &mut learnt) {
+            return;
+        }
+    }
+    unreachable!()
+}
+
+// Takes or frees what the plan says next, and returns whether there was such a step.
+fn goes_on<R: Wait>(
+    rt: &R,
+    granules: &Granules,
+    config: &Config,
+    place: &CpuPlace,
+    command: &Command,
+    hold: &mut Hold,
+    learnt: &mut Option<Pa>,
+) -> bool
+    requires size { granules.now.granules ≡ config.now.granules }
+    requires served { IsTrue (is_served (call_of command.now)) }
+    requires granules { AreGranules granules.now.granules (hold_cells hold.old) }
+    ensures settled { result ≡ false → IsTrue (is_settled config.now.granules (call_of command.now) (place_of place.now) (hold_cells hold.new)) }
+    ensures granules { AreGranules granules.now.granules (hold_cells hold.new) }
+{
+    match next_lock(config, command, place, *learnt, hold) {
+        Next::Take(pa) => granules.take(rt, hold, pa),
+        Next::Free(pa, owner) => {
+            granules.give(rt, hold, pa);
+            *learnt = owner;
+        }
+        Next::Ready => return false,
+    }
+    true
+}
+
+/// Frees all that is held, what was taken last first.
+pub fn free_all<R: Wait>(rt: &R, granules: &Granules, hold: &mut Hold)
+    requires { AreGranules granules.now.granules (hold_cells hold.old) }
+    ensures { hold_cells hold.new ≡ [] }
+{
+    while let Some(last) = last_held(hold) {
+        granules.give(rt, hold, last);
+    }
+}
+
+// The granule that was taken last, if any is held.
+fn last_held(hold: &Hold) -> Option<Pa>
+    ensures some { IfSome result (λ last. IsTrue (is_held last (hold_cells hold.now))) }
+    ensures none { IfNone result (hold_cells hold.now ≡ []) }
+{
+    hold.held().last().copied()
+}

@@ -1,0 +1,187 @@
+//! Two CPUs on threads of their own, one of which a gate holds up.
+
+ghost use Rattle.std.specs.Prelude.{◌≡◌, IsTrue, IfOk, IfSome};
+ghost use Rattle.rmm_spec.specs.Call.{call_of};
+ghost use Rattle.rmm_spec.specs.CommandText.{IsCommand};
+ghost use Rattle.command_core.specs.Served.{is_served};
+ghost use Rattle.monitor.specs.Cpus.{ArePairs};
+ghost use Rattle.monitor.specs.Executed.{ArePaired};
+
+use crate::tests::{Answer, ok};
+use crate::{CpuPass, CpuToken, Gate, Monitor, Site};
+use command_core::served;
+use granule_state::Config;
+use rmi_codec::read_command;
+use rmm_spec::Command;
+use std::alloc::Global;
+use std::marker::Brand;
+use std::sync::Wait;
+use std::sync::atomic::{AtomicBool, Ordering};
+use std::sync::ledger::Blank;
+use std::test::Fail;
+use std::thread;
+use std::thread::Threads;
+
+/// How often a thread looks at most.
+const LOOKS: u64 = 1_000_000_000;
+
+/// Looks again and again, until the flag is set or it has looked often enough. Returns whether it was set.
+fn wait_for(flag: &AtomicBool) -> bool {
+    for _look in 0..LOOKS {
+        if flag.load(Ordering::SeqCst) {
+            return true;
+        }
+        thread::yield_now();
+    }
+    false
+}
+
+/// A gate that holds CPU 0 up until it is opened. It notes who came.
+#[derive(Drop)]
+struct Turnstile {
+    first_came: AtomicBool,
+    second_came: AtomicBool,
+    is_open: AtomicBool,
+    ran_out: AtomicBool,
+}
+
+impl Turnstile {
+    fn new() -> Turnstile {
+        Turnstile {
+            first_came: AtomicBool::new(false),
+            second_came: AtomicBool::new(false),
+            is_open: AtomicBool::new(false),
+            ran_out: AtomicBool::new(false),
+        }
+    }
+}
+
+impl Gate for Turnstile {
+    fn pass(&self, cpu: u8, _command: &Command) {
+        if cpu != 0 {
+            self.second_came.store(true, Ordering::SeqCst);
+            return;
+        }
+        self.first_came.store(true, Ordering::SeqCst);
+        if !wait_for(&self.is_open) {
+            self.ran_out.store(true, Ordering::SeqCst);
+        }
+    }
+}
+
+/// The command of a text, if it is a served one's.
+fn served_command(text: &str) -> Option<Command>
+    ensures command { IfSome result (λ command. IsCommand command) }
+    ensures served { IfSome result (λ command. IsTrue (is_served (call_of command))) }
+{
+    let command = read_command(text).ok()?;
+    if !served(&command) {
+        return None;
+    }
+    Some(command)
+}
+
+/// A CPU's token and pass.
+#[derive(Drop)]
+struct Cpu<S: Site> {
+    token: CpuToken<S>,
+    pass: CpuPass,
+}
+
+impl<S: Site> Cpu<S> {
+    /// What the CPU is answered to the command of a text, or nothing where the text isn't a served command's.
+    fn ask<R: Wait>(
+        mut self,
+        rt: &R,
+        alloc: Global,
+        monitor: &Monitor<S>,
+        gate: &Turnstile,
+        text: &str,
+    ) -> Option<Answer>
+        requires { ArePaired monitor.now self.token self.pass }
+    {
+        let command = served_command(text)?;
+        if self.pass.next_number() > 999_999 {
+            return None;
+        }
+        Some(monitor.execute(rt, alloc, &mut self.token, &mut self.pass, gate, command))
+    }
+
+    /// The same once CPU 0 is held up.
+    fn ask_second<R: Wait>(
+        self,
+        rt: &R,
+        alloc: Global,
+        monitor: &Monitor<S>,
+        gate: &Turnstile,
+        text: &str,
+        answered: &AtomicBool,
+    ) -> Option<Answer>
+        requires { ArePaired monitor.now self.token self.pass }
+    {
+        if !wait_for(&gate.first_came) {
+            return None;
+        }
+        let answer = self.ask(rt, alloc, monitor, gate, text);
+        answered.store(true, Ordering::SeqCst);
+        answer
+    }
+}
+
+/// The CPU of the last token and the last pass.
+fn last_cpu<S: Site>(
+    monitor: &Monitor<S>,
+    tokens: &mut Vec<CpuToken<S>>,
+    passes: &mut Vec<CpuPass>,
+) -> Result<Cpu<S>, Fail>
+    requires { ArePairs monitor.now tokens.old.items passes.old.items }
+    ensures { IfOk result (λ cpu. ArePaired monitor.now cpu.token cpu.pass × ArePairs monitor.now tokens.new.items passes.new.items) }
+{
+    let token = tokens.pop().ok_or("a token")?;
+    let pass = passes.pop().ok_or("a pass")?;
+    Ok(Cpu { token, pass })
+}
+
+/// CPU 0 delegates a granule and is held up until CPU 1 has been answered, which delegates another. Returns both answers,
+/// and whether CPU 0 gave up waiting.
+fn delegate_apart<S: Site + Send + Sync, R: Threads + Wait + Sync>(
+    rt: &R,
+    alloc: Global,
+    blank: Blank,
+    config: Config,
+) -> Result<(Option<Answer>, Option<Answer>, bool), Fail>
+    requires name { blank.name ≡ S.name }
+    requires parts { blank.parts ≡ S.parts }
+    requires one_each { blank.parts ≡ config.cpus }
+    requires granules { config.granules ≡ S.granules }
+{
+    let (monitor, mut tokens, mut passes, _scribe) = Monitor::<S>::new(alloc, blank, config, 16)?;
+    let second = last_cpu(&monitor, &mut tokens, &mut passes)?;
+    let first = last_cpu(&monitor, &mut tokens, &mut passes)?;
+    let gate = Turnstile::new();
+    let (first, second) = thread::join(
+        rt,
+        || -> Option<Answer>
+            requires { ArePaired monitor first.token first.pass }
+        { first.ask(rt, alloc, &monitor, &gate, "c4000151 1000") },
+        || -> Option<Answer>
+            requires { ArePaired monitor second.token second.pass }
+        { second.ask_second(rt, alloc, &monitor, &gate, "c4000151 2000", &gate.is_open) },
+    );
+    Ok((first, second, gate.ran_out.load(Ordering::SeqCst)))
+}
+
+#[test]
+fn two_commands_under_way(rt: HostRuntime) -> Result<(), Fail> {
+    let config = Config::new(4, 2).ok_or("a machine of this size")?;
+    let (first, second, ran_out) = delegate_apart::<Brand, _>(
+        &rt,
+        rt.alloc(),
+        Blank::new(2),
+        config,
+    )?;
+    let replies = (first.ok_or("CPU 0")??.reply, second.ok_or("CPU 1")??.reply);
+    assert_eq!(rt; replies, (ok(), ok()));
+    assert!(rt; !ran_out);
+    Ok(())
+}
