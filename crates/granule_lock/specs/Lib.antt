@@ -1,2 +1,3 @@
 pub mod HeldCells
 pub mod HoldLaws
+pub mod Locked

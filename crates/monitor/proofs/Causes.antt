@@ -14,7 +14,7 @@ use Rattle.commit_tickets.specs.declared.fault.CommitFault.{CommitFault}
 use Rattle.commit_tickets.specs.Faults.{HasCause}
 use Rattle.commit_tickets.specs.View.{JournalView, TokenView}
 use Rattle.monitor.specs.Causes.{HadCause}
-use Rattle.monitor.specs.Locked.{AreGranules}
+use Rattle.granule_lock.specs.Locked.{AreGranules}
 
 -- a machine opens in the same state with as many granules
 same-opening : (config : Config) (granules : ℕ) (p : State → Type 0) → config.granules ≡ granules → p (opening config)

@@ -13,7 +13,7 @@ use Rattle.commit_tickets.specs.declared.fault.CommitFault.{CommitFault}
 use Rattle.commit_tickets.specs.declared.fault.CommitFault.TheVariants as commit
 use Rattle.commit_tickets.specs.Faults.{HasCause}
 use Rattle.commit_tickets.specs.View.{JournalView, TokenView}
-use Rattle.monitor.specs.Locked.{AreGranules}
+use Rattle.granule_lock.specs.Locked.{AreGranules}
 use Rattle.monitor.specs.declared.refused.Refused.{Refused}
 use Rattle.monitor.specs.declared.refused.Refused.TheVariants.{Full, NoMemory, Unrecorded, Stopped, Disagrees}
 

@@ -9,16 +9,15 @@ ghost use Rattle.command_core.specs.Settled.{is_settled};
 ghost use Rattle.granule_lock.specs.HeldCells.{hold_cells};
 ghost use Rattle.monitor.specs.Causes.{HadCause, FaultHadCause};
 ghost use Rattle.monitor.specs.Executed.{ArePaired, Leaves, FullAtSomeMoment, HasCommitted, returned, unreturned};
-ghost use Rattle.monitor.specs.Locked.{AreGranules};
+ghost use Rattle.granule_lock.specs.Locked.{AreGranules};
 ghost use Rattle.monitor.specs.declared.refused.Refused.TheVariants as refused;
 
 use crate::gate::Gate;
-use crate::locking::{free_all, lock_for};
 use crate::monitor::Monitor;
 use crate::refused::Refused;
 use commit_tickets::{CommitFault, CpuToken, Done, Site, commit};
 use event_queue::CpuPass;
-use granule_lock::Hold;
+use granule_lock::{Hold, free_all, lock_for};
 use rmi_view::{CommandRef, ReplyRef};
 use rmm_spec::Command;
 use std::alloc::Global;

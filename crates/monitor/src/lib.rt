@@ -7,7 +7,6 @@
 
 mod executing;
 mod gate;
-mod locking;
 mod monitor;
 mod refused;
 

@@ -1,3 +1,2 @@
-pub mod HeldGranules
 pub mod OneCalls
 pub mod Runs

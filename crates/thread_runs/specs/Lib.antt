@@ -1,3 +1,2 @@
-pub mod Locked
 pub mod OneCall
 pub mod Printed

@@ -8,7 +8,6 @@
 mod cpu;
 mod fault;
 mod journal_lines;
-mod locking;
 mod printed;
 mod run;
 mod shared;

@@ -4,10 +4,9 @@ ghost use Rattle.std.specs.Prelude.{◌≡◌, IsTrue};
 ghost use Rattle.rmm_spec.specs.Call.{call_of};
 ghost use Rattle.command_core.specs.Served.{is_served};
 
-use crate::locking::{free_all, lock_for};
 use commit_tickets::{CommitFault, CpuToken, Done, Journal, Site, commit};
 use event_queue::Recorder;
-use granule_lock::{Granules, Hold};
+use granule_lock::{Granules, Hold, free_all, lock_for};
 use granule_state::Config;
 use rmm_spec::Command;
 use std::alloc::Global;

@@ -2,8 +2,8 @@ use Rattle.rmm_spec.specs.Call.{call_of}
 use Rattle.rmm_spec.specs.Locks.{needs}
 use Rattle.command_core.specs.Seen.{place_of}
 use Rattle.granule_lock.specs.HeldCells.{hold_cells}
-use Rattle.monitor.proofs.HeldGranules.{granules-without, is_held-contained, is_held-new, held-freed}
-use Rattle.monitor.proofs.locking.goes_on.Goals as goal
+use Rattle.granule_lock.proofs.HeldGranules.{granules-without, is_held-contained, is_held-new, held-freed}
+use Rattle.granule_lock.proofs.locking.goes_on.Goals as goal
 
 pub take-requires-clause-new : goal.take-requires-clause-new
 take-requires-clause-new g c = is_held-new (hold_cells c.args.hold.now) c.in-Take.pa c.in-Take.ensures.planned.is_new

@@ -1,6 +1,6 @@
 use Rattle.granule_lock.specs.HeldCells.{hold_cells}
-use Rattle.thread_runs.specs.Locked.{AreGranules}
-use Rattle.thread_runs.proofs.locking.lock_for.Given as goal
+use Rattle.granule_lock.specs.Locked.{AreGranules}
+use Rattle.granule_lock.proofs.locking.lock_for.Given as goal
 
 abbrev pub invariant-loop-step : goal.invariant-loop-step
 invariant-loop-step g l = AreGranules l.granules.granules (hold_cells l.hold)

@@ -1,8 +1,8 @@
 use Rattle.std.proofs.Common.{ℕ, ◌-◌, List, length, ap, ◌∙◌}
 use Rattle.std.specs.Prelude.{slice_get}
 use Rattle.granule_lock.specs.HeldCells.{hold_cells}
-use Rattle.monitor.proofs.HeldGranules.{last-held}
-use Rattle.monitor.proofs.locking.last_held.Goals as goal
+use Rattle.granule_lock.proofs.HeldGranules.{last-held}
+use Rattle.granule_lock.proofs.locking.last_held.Goals as goal
 
 pub returns-clause-some : goal.returns-clause-some
 returns-clause-some c =

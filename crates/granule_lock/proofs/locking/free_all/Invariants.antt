@@ -1,7 +1,7 @@
 use Rattle.std.proofs.Common.{length}
 use Rattle.granule_lock.specs.HeldCells.{hold_cells}
-use Rattle.thread_runs.specs.Locked.{AreGranules}
-use Rattle.thread_runs.proofs.locking.free_all.Given as goal
+use Rattle.granule_lock.specs.Locked.{AreGranules}
+use Rattle.granule_lock.proofs.locking.free_all.Given as goal
 
 abbrev pub invariant-loop-last : goal.invariant-loop-last
 invariant-loop-last g l = AreGranules l.granules.granules (hold_cells l.hold)

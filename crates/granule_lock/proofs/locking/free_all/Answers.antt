@@ -1,7 +1,7 @@
 use Rattle.std.proofs.Common.{length, arith, ap}
 use Rattle.granule_lock.specs.HeldCells.{hold_cells}
-use Rattle.thread_runs.proofs.HeldGranules.{granule-held, granules-without, length-without}
-use Rattle.thread_runs.proofs.locking.free_all.Goals as goal
+use Rattle.granule_lock.proofs.HeldGranules.{granule-held, granules-without, length-without}
+use Rattle.granule_lock.proofs.locking.free_all.Goals as goal
 
 pub give-requires-clause-granule : goal.give-requires-clause-granule
 give-requires-clause-granule g c =

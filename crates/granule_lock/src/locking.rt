@@ -6,10 +6,11 @@ ghost use Rattle.command_core.specs.Seen.{place_of, is_held};
 ghost use Rattle.command_core.specs.Served.{is_served};
 ghost use Rattle.command_core.specs.Settled.{is_settled};
 ghost use Rattle.granule_lock.specs.HeldCells.{hold_cells};
-ghost use Rattle.monitor.specs.Locked.{AreGranules};
+ghost use Rattle.granule_lock.specs.Locked.{AreGranules};
 
+use crate::granules::Granules;
+use crate::hold::Hold;
 use command_core::{CpuPlace, Held, Next, next_lock};
-use granule_lock::{Granules, Hold};
 use granule_state::{Config, Pa};
 use rmm_spec::Command;
 use std::sync::Wait;

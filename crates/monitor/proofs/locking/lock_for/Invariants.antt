@@ -1,6 +1,0 @@
-use Rattle.granule_lock.specs.HeldCells.{hold_cells}
-use Rattle.monitor.specs.Locked.{AreGranules}
-use Rattle.monitor.proofs.locking.lock_for.Given as goal
-
-abbrev pub invariant-loop-step : goal.invariant-loop-step
-invariant-loop-step g l = AreGranules l.granules.granules (hold_cells l.hold)
