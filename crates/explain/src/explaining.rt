@@ -45,7 +45,10 @@ pub fn explain_run<'a>(
     let claimed = match certificate::read(alloc, certificate) {
         Ok(claimed) => claimed,
         Err(CertFault::BadLine(line)) => {
-            return Ok(without_run(Explanation::CertificateFault(bad_certificate_line(certificate, line))));
+            return Ok(without_run(Explanation::CertificateFault(bad_certificate_line(
+                certificate,
+                line,
+            ))));
         }
         Err(CertFault::NoMemory) => return Err(AllocError),
     };
