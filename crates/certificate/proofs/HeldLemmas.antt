@@ -44,15 +44,6 @@ lines_of-claim names claims cpu claim each =
     ∙ ap (λ ls. ls ++ line_of (claims ++ claim ∷ []) (named.Unfinished cpu (length claims)) ∷ []) (lines_of-push_claim names claims claim each)
     ∙ ap (λ (c : Claim). lines_of names claims ++ line.Unfinished cpu c.number c.reply ∷ []) (get_or_push claims claim no_claim (length claims) refl)
 
-pub IsHeld-keep : (names : List Named) (claims : List Claim) (cpu number : ℕ) → IsHeld names claims → IsLine (line.Keep cpu number)
-    → length (lines_of names claims) < 1000000 → IsHeld (names ++ named.Keep cpu number ∷ []) claims
-IsHeld-keep names claims cpu number held is_line room = record {
-  is_certificate = subst IsCertificate (sym (lines_of-keep names claims cpu number))
-      (IsCertificate-push (lines_of names claims) (line.Keep cpu number) held.is_certificate is_line room);
-  each_claim = AllByRecursion-append (HasClaim (length claims)) names (named.Keep cpu number ∷ []) held.each_claim (tt, tt);
-  few_claims = omega (arith, held.few_claims, length-append names (named.Keep cpu number ∷ []));
-}
-
 pub IsHeld-claim : (names : List Named) (claims : List Claim) (cpu : ℕ) (claim : Claim) → IsHeld names claims
     → IsLine (line.Unfinished cpu claim.number claim.reply) → length (lines_of names claims) < 1000000
     → IsHeld (names ++ named.Unfinished cpu (length claims) ∷ []) (claims ++ claim ∷ [])

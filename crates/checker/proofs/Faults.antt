@@ -20,26 +20,6 @@ use Rattle.checker.proofs.Elements.{take-next_at}
 use Rattle.checker.proofs.Calls.{HasOnePlaces, same_command, same_reply}
 use Rattle.checker.specs.Progress.{Progress, AreNamedBelow}
 
--- the call returned below the greatest place of a line's call
-pub IsTooLate-from_latest : (history : History) (lines : List Line) (named : List Bool) (latest : ℕ) (old : State) (line : Line) (returned : ℕ) (given : Reply)
-    → Progress history lines named latest old → IsReturned history.events returned (cpu_named line) (number_named line) given
-    → returned < latest → IsTooLate history.events lines line
-IsTooLate-from_latest history lines named latest old line returned given progress is_returned below =
-    let is = progress.reached (omega (arith, below)) in (
-      is.0,
-      is.1,
-      is.3,
-      record {
-        returned = returned;
-        given = given;
-        is_returned = is_returned;
-        called = latest;
-        command = is.2;
-        is_called = is.4;
-        before = below;
-      },
-    )
-
 -- the call returned at that place or above it
 pub not-IsTooLate-from_latest : (history : History) → HasOnePlaces history.events → (lines : List Line) (named : List Bool) (latest : ℕ) (old : State) (line : Line) (returned : ℕ) (given : Reply)
     → Progress history lines named latest old → IsReturned history.events returned (cpu_named line) (number_named line) given

@@ -35,16 +35,6 @@ pub called_within : (history : History) (named : List Bool) (called cpu number :
 called_within history named called cpu number command counted is_called =
     omega (arith, counted, slice_get_within history.events called (Called cpu number command) is_called)
 
--- the flag of the line's call is set: the line is a second one
-pub FailsBy-set : (history : History) (before : List Line) (named : List Bool) (latest : ℕ) (old : State)
-    → Progress history before named latest old → (line : Line) (called : ℕ) (command : Command) (flag : Bool)
-    → IsCalled history.events called (cpu_named line) (number_named line) command → flag ≡ get_or named called flag → flag ≡ true
-    → FailsBy reason.Repeated history.events before old line
-FailsBy-set history before named latest old progress line called command flag is_called is_read is_set =
-    let within = called_within history named called (cpu_named line) (number_named line) command progress.counted is_called in
-    let set_there = get_or_from_slice_get named called flag false (slice_get_read named (length named) called flag refl within is_read) ∙ is_set in
-    ((called, command, is_called), progress.flagged called (cpu_named line) (number_named line) command is_called set_there)
-
 -- a line whose call is found, unnamed, of its kind and in time, with the reply that it claims
 pub record IsReady (history : History) (before : List Line) (named : List Bool) (line : Line) (called : ℕ) (command : Command) (given : Reply) : Type 0 where
   pub is_called : IsCalled history.events called (cpu_named line) (number_named line) command

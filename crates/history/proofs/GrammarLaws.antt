@@ -206,15 +206,6 @@ BeginsWith-next history rest front more is_history rest_is next = record {
   is_text = history_text-push history next.event rest front more rest_is (record { is_event = next.can_follow.is_event; spelled = sym next.spelled });
 }
 
--- a fault at the line after a history is one of the text
-pub IsFaultOf-after : (history : History) (text whole : List ℕ) (fault : HistoryFault) → text ≡ whole → IsFaultAfter history whole fault → IsFaultOf text fault
-IsFaultOf-after history text whole (BadLine line) is bad = subst (λ t. IsBadLine InHistories t line) (sym is) bad
-IsFaultOf-after history text whole NoMemory is next = (
-  record history { events = history.events ++ next.0 ∷ [] },
-  omega (arith, length_push history.events next.0),
-  record { more = next.1.more; is_history = next.1.is_history; is_text = is ∙ next.1.is_text },
-)
-
 pub IsFaultOfRewriting-read : (text : List ℕ) (fault : HistoryFault) → IsFaultOf text fault → IsFaultOfRewriting text fault
 IsFaultOfRewriting-read text (BadLine line) bad = bad
 IsFaultOfRewriting-read text NoMemory begun = (begun.0, begun.2)

@@ -148,15 +148,6 @@ has_subhistory config events subhistories event indexed can_follow =
     let limits = history.config in
     omega (arith, cpu_below config.cpus event can_follow.is_event, limits.most_cpus)
 
--- the index of no events
-pub IsIndexed-nil : (config : Config) (subhistories : List Subhistory) → IsConfig config → length subhistories ≡ 8
-    → ((cpu : ℕ) (other : Subhistory) → cpu < 8 → (get_or subhistories cpu other).places.items ≡ []) → IsIndexed config [] subhistories
-IsIndexed-nil config subhistories is_config counted each = record {
-  is_history = record { config = is_config; events = tt; records = λ cpu. refl; lines = omega arith };
-  counted = counted;
-  each = λ cpu other within. IsSubhistory-nil cpu (get_or subhistories cpu other) (each cpu other within);
-}
-
 -- the index with subhistories that have the same places
 pub IsIndexed-same : (config : Config) (events : List Event) (old new : List Subhistory) → length new ≡ 8
     → ((cpu : ℕ) (other : Subhistory) → cpu < 8 → (get_or new cpu other).places.items ≡ (get_or old cpu other).places.items)
@@ -210,14 +201,6 @@ IsIndexed-push config events subhistories event other new indexed can_follow roo
     (indexed.each cpu another below))
 
 -- ---- look-ups
-
--- no call of a CPU that isn't there is known
-pub unknown_cpu : (config : Config) (events : List Event) (cpu : ℕ) → IsHistory (record { config = config; events = events }) → config.cpus ≤ cpu
-    → (number : ℕ) → IsKnown events cpu number → ⊥
-unknown_cpu config events cpu is_history past number known =
-    let made : (cpu < config.cpus) × IsCommand known.1 =
-    call_is_event (record { config = config; events = events }) known.0 cpu number known.1 is_history known.2 in
-    omega (arith, made.0)
 
 -- a call past the places isn't known, and one whose return is past them is pending
 pub unknown_past : (events : List Event) (cpu number : ℕ) (subhistory : Subhistory) → IsSubhistory events cpu subhistory → IsRecord (subhistory_of cpu events)
