@@ -31,11 +31,6 @@ HasClaim-more : (count : ℕ) (name : Named) → HasClaim count name → HasClai
 HasClaim-more count (named.Keep cpu number) has = tt
 HasClaim-more count (named.Unfinished cpu index) has = let below : index < count = has in omega arith
 
--- the lines after a kept one
-pub lines_of-keep : (names : List Named) (claims : List Claim) (cpu number : ℕ)
-    → lines_of (names ++ named.Keep cpu number ∷ []) claims ≡ lines_of names claims ++ line.Keep cpu number ∷ []
-lines_of-keep names claims cpu number = map_push (line_of claims) names (named.Keep cpu number)
-
 -- the lines after an unfinished one
 pub lines_of-claim : (names : List Named) (claims : List Claim) (cpu : ℕ) (claim : Claim) → AllByRecursion (HasClaim (length claims)) names
     → lines_of (names ++ named.Unfinished cpu (length claims) ∷ []) (claims ++ claim ∷ []) ≡ lines_of names claims ++ line.Unfinished cpu claim.number claim.reply ∷ []

@@ -117,13 +117,6 @@ IsSubhistory-enters events event cpu old new same ranked entered had = record {
       (record { event = event; is_event = slice_get-push events event; of_cpu = same; is_ranked = ranked }));
 }
 
--- a subhistory without places
-IsSubhistory-nil : (cpu : ℕ) (subhistory : Subhistory) → subhistory.places.items ≡ [] → IsSubhistory [] cpu subhistory
-IsSubhistory-nil cpu subhistory none = record {
-  counted = ap length none;
-  each = λ n within. absurd (omega (arith, within, ap length none));
-}
-
 -- the subhistory's test says whether the record goes on
 pub continues_iff : (cpus : ℕ) (events : List Event) (event : Event) (subhistory : Subhistory) (answer : Bool) → cpu_of event < cpus
     → IsRecord (subhistory_of (cpu_of event) events) → IsSubhistory events (cpu_of event) subhistory → IsTrue answer ↔ (rank event ≡ length subhistory.places.items)
