@@ -1,10 +1,8 @@
 //! Events of running CPUs, on their way through a bounded queue into a history.
-//! It promises that each CPU's events, drained and queued, are its pass's own list, under every schedule of the threads.
-//! A refused push found the queue full. What a drain takes from the queue stands in the history, in order, and memory is refused
-//! to it only where the history had no room. Once all passes are back the rest is drained, and each CPU's part of the history
-//! is its pass's whole list.
-//! Calls here may wait for other threads, and what they promise holds where they return.
-//! The monitor and the run of two threads depend on it.
+//! It promises that each CPU's events, drained and queued, are its pass's own list, under every schedule of the threads, and
+//! that once all passes are back its part of the history is that whole list. A refused push found the queue full; what a drain
+//! takes stands in the history, in order, and memory is refused to it only where the history had no room.
+//! Calls here may wait for other threads and promise where they return. The monitor and the run of two threads depend on it.
 #![tactic(auto)]
 
 mod book;
