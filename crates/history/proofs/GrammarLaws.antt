@@ -14,7 +14,7 @@ use Rattle.rmm_spec.proofs.Lines.{AreOneLineEach, IsLineGrammar, IsBadLine-line,
 use Rattle.rmm_spec.proofs.Texts.{config_parts-are_parts, config_parts-injective, event_parts-are_parts, event_parts-some, event_parts-injective}
 use Rattle.rmm_spec.proofs.Records.{CanFollow-from_push, IsHistory-push}
 use Rattle.rmm_spec.proofs.HistoryGrammar.{not-IsBadLine-history}
-use Rattle.history.specs.Faults.{BeginsWith, IsFaultOf, IsFaultAfter, IsFaultOfRewriting}
+use Rattle.history.specs.Faults.{BeginsWith, IsFaultOf, IsFaultOfRewriting}
 use Rattle.history.specs.declared.fault.HistoryFault.{HistoryFault}
 use Rattle.history.specs.declared.fault.HistoryFault.TheVariants.{BadLine, NoMemory}
 use Rattle.history.specs.Next.{Continues, HasNext}

@@ -8,10 +8,9 @@ use Rattle.rmm_spec.specs.declared.command.Command.{Command}
 use Rattle.rmm_spec.specs.declared.event.Event.{Event}
 use Rattle.rmm_spec.specs.declared.event.Event.TheVariants.{Called, Returned}
 use Rattle.rmm_spec.specs.declared.reply.Reply.{Reply}
-use Rattle.rmm_spec.specs.CommandText.{IsCommand}
-use Rattle.rmm_spec.specs.HistoryText.{Config, IsConfig, IsHistory, IsEvent, CanFollow, Stand, start, stand_after, stand_from, subhistory_of, cpu_of, IsRecord, rank}
+use Rattle.rmm_spec.specs.HistoryText.{Config, IsHistory, IsEvent, CanFollow, Stand, start, stand_after, stand_from, subhistory_of, cpu_of, IsRecord, rank}
 use Rattle.rmm_spec.specs.Linearization.{IsCalled, IsReturned, IsKnown, IsFinished}
-use Rattle.rmm_spec.proofs.Places.{open_count, stand_of_record, rank-slice_get, length-stand_from, below-IsKnown, below-IsFinished, call_is_event}
+use Rattle.rmm_spec.proofs.Places.{open_count, stand_of_record, rank-slice_get, length-stand_from, below-IsKnown, below-IsFinished}
 use Rattle.rmm_spec.proofs.Records.{subhistory_of-push_same, subhistory_of-push_other, stand_from-push_at, IsHistory-push}
 use Rattle.history.specs.declared.subhistory.Subhistory.{Subhistory}
 use Rattle.history.specs.Calls.{ArePlacesOf}

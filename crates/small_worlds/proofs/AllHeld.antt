@@ -1,5 +1,5 @@
 -- What the machine accepts of a whole is a local step for a CPU that holds all granules.
-use Rattle.std.proofs.Common.{◌≡◌, ℕ, zero, suc, ◌+◌, ◌*◌, ◌/◌, ◌<◌, Bool, true, false, ◌&&◌, ◌==◌, if◌then◌else◌, IsTrue, List, [], ◌∷◌, ◌++◌, Ok, ◌⊎◌, inl, inr, refl, sym, ap, ◌∙◌, subst, arith, eqb-true, eq-eqb}
+use Rattle.std.proofs.Common.{◌≡◌, ℕ, zero, suc, ◌*◌, ◌/◌, ◌<◌, Bool, true, false, ◌==◌, List, [], ◌∷◌, ◌++◌, Ok, ◌⊎◌, inl, inr, refl, sym, ap, ◌∙◌, subst, arith, eqb-true}
 use Rattle.std.specs.Prelude.{Contains}
 use Rattle.rmm_spec.specs.declared.change.Change.{Change}
 use Rattle.rmm_spec.specs.declared.command.Command.{Command}
@@ -7,10 +7,10 @@ use Rattle.rmm_spec.specs.Call.{call_of}
 use Rattle.rmm_spec.specs.Lookup.{is_granule}
 use Rattle.rmm_spec.specs.Rows.{ok, done}
 use Rattle.rmm_spec.specs.Step.{Step, outcome}
-use Rattle.rmm_spec.specs.Cell.{Cell, Undelegated, put}
+use Rattle.rmm_spec.specs.Cell.{Cell, put}
 use Rattle.rmm_spec.specs.Flat.{flat_state}
-use Rattle.rmm_spec.specs.Shape.{Side, CpuPlace, Outside, IsWellShaped}
-use Rattle.rmm_spec.specs.Local.{HeldCell, put_all, LocalStep}
+use Rattle.rmm_spec.specs.Shape.{CpuPlace, Outside, IsWellShaped}
+use Rattle.rmm_spec.specs.Local.{put_all, LocalStep}
 use Rattle.world_laws.specs.Replaced.{held_at}
 use Rattle.world_laws.proofs.Lists.{keys_apart, slice_get-append}
 use Rattle.world_laws.proofs.Locals.{agrees-at}

@@ -1,10 +1,10 @@
 -- Small wholes are made by commands, so they are well shaped.
-use Rattle.std.proofs.Common.{◌≡◌, ℕ, List, [], ◌∷◌, Bool, true, false, if◌then◌else◌, ◌==◌, Some, None, Ok, refl, ap, subst}
+use Rattle.std.proofs.Common.{◌≡◌, ℕ, List, [], ◌∷◌, Bool, true, false, if◌then◌else◌, ◌==◌, Some, None, Ok, refl, subst}
 use Rattle.rmm_spec.specs.declared.change.Change.{Change}
 use Rattle.rmm_spec.specs.declared.change.Change.TheVariants.{Retagged, RealmMade, RecMade, TableMade, EntriesChanged}
 use Rattle.rmm_spec.specs.declared.change.EntryChange.TheVariants.{Replaced}
 use Rattle.rmm_spec.specs.declared.command.Command.{Command}
-use Rattle.rmm_spec.specs.declared.entry.Entry.TheVariants.{Unassigned, Assigned, Table, UnassignedNs}
+use Rattle.rmm_spec.specs.declared.entry.Entry.TheVariants.{Unassigned, Assigned}
 use Rattle.rmm_spec.specs.declared.function_id.FunctionId.{FunctionId}
 use Rattle.rmm_spec.specs.declared.function_id.FunctionId.TheVariants as function
 use Rattle.rmm_spec.specs.declared.tag.Ripas.TheVariants.{Empty}

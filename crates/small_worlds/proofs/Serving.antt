@@ -1,8 +1,8 @@
 -- A CPU that nobody disturbs takes some granules, commits, frees them and returns.
-use Rattle.std.proofs.Common.{◌≡◌, ℕ, ◌+◌, ◌<◌, Bool, true, false, ◌&&◌, ◌||◌, ◌==◌, if◌then◌else◌, IsTrue, List, [], ◌∷◌, ◌++◌, map, None, refl, sym, ap, ◌∙◌, subst, append_assoc, eqb-true, eq-eqb}
+use Rattle.std.proofs.Common.{◌≡◌, ℕ, ◌+◌, ◌<◌, Bool, true, false, ◌&&◌, ◌==◌, if◌then◌else◌, List, [], ◌∷◌, ◌++◌, map, None, refl, sym, ap, ◌∙◌, subst, append_assoc, eq-eqb}
 use Rattle.std.specs.Prelude.{Contains, not}
 use Rattle.std.specs.List.{list_any}
-use Rattle.std.proofs.lemmas.Bool.{false≢true, and_parts, or_parts, not-true}
+use Rattle.std.proofs.lemmas.Bool.{and_parts, or_parts, not-true}
 use Rattle.std.proofs.lemmas.List.{append-nil}
 use Rattle.rmm_spec.specs.declared.command.Command.{Command}
 use Rattle.rmm_spec.specs.declared.event.Event.TheVariants.{Returned}
@@ -15,7 +15,7 @@ use Rattle.rmm_spec.specs.World as move
 use Rattle.world_laws.proofs.Lists.{put_elim, keys_apart}
 use Rattle.world_laws.proofs.Members.{Contains-nil, Contains-other, Contains-tail, Contains-head, cells_at}
 use Rattle.shape_laws.proofs.Cells.{put-same, put-here}
-use Rattle.small_worlds.specs.SmallWorlds.{GoesBy, HappenBy, freeing, served_by}
+use Rattle.small_worlds.specs.SmallWorlds.{HappenBy, freeing, served_by}
 
 -- ---- maps and lists
 

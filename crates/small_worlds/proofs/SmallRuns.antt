@@ -1,23 +1,21 @@
 -- What two CPUs do on a few granules, move by move.
 use Rattle.std.proofs.Common.{◌≡◌, ℕ, ◌<◌, Bool, true, false, ◌==◌, if◌then◌else◌, IsTrue, List, [], ◌∷◌, ◌++◌, map, None, inl, refl, sym, ap, ◌∙◌, subst, arith, eq-eqb}
 use Rattle.std.specs.Prelude.{Contains}
-use Rattle.std.proofs.lemmas.Bool.{false≢true}
 use Rattle.rmm_spec.specs.declared.command.Command.{Command}
 use Rattle.rmm_spec.specs.declared.event.Event.TheVariants.{Called, Returned}
 use Rattle.rmm_spec.specs.declared.line.Line.TheVariants.{Keep, Unfinished}
 use Rattle.rmm_spec.specs.declared.call.Call.TheVariants.{GranuleDelegate}
-use Rattle.rmm_spec.specs.declared.reply.Reply.{Reply}
 use Rattle.rmm_spec.specs.declared.tag.Tag.TheVariants as tag
 use Rattle.rmm_spec.specs.Call.{ByHost, call_of, call_from, class_of}
 use Rattle.rmm_spec.specs.Lookup.{is_granule}
 use Rattle.rmm_spec.specs.Rows.{Needed, ok, input_error}
 use Rattle.rmm_spec.specs.Step.Named.{needed, named}
-use Rattle.rmm_spec.specs.Cell.{Cell, Undelegated, Delegated, put, tag_of}
+use Rattle.rmm_spec.specs.Cell.{Undelegated, Delegated, put, tag_of}
 use Rattle.rmm_spec.specs.Shape.{Outside}
-use Rattle.rmm_spec.specs.Local.{HeldCell, Hold, LocalStep}
+use Rattle.rmm_spec.specs.Local.{HeldCell, LocalStep}
 use Rattle.rmm_spec.specs.World.{World, Phase, Between, Deciding, Decided, GivenUp, Stopped, IsGoing, opening_world, hold_of, held_cells, Happens, HappenAll, certificate_of}
 use Rattle.rmm_spec.specs.World as move
-use Rattle.rmm_spec.specs.Locks.{needs, needs_outside, IsRisingTake}
+use Rattle.rmm_spec.specs.Locks.{needs, IsRisingTake}
 use Rattle.rmm_spec.specs.Waits.{IsRising, WaitsAt}
 use Rattle.world_laws.specs.Replaced.{held_at}
 use Rattle.world_laws.proofs.Members.{Contains-nil, Contains-head, cells_at, each_of_one, each_of_two}

@@ -1,6 +1,5 @@
 -- Two takes of cells that are written out: one in the order of addresses, and one against it.
-use Rattle.std.proofs.Common.{◌≡◌, ℕ, ◌<◌, false, ◌==◌, IsTrue, [], ◌∷◌, inl, refl, sym, ◌∙◌, arith, ⊎_elim}
-use Rattle.std.specs.Prelude.{Contains}
+use Rattle.std.proofs.Common.{◌≡◌, ◌<◌, false, IsTrue, [], ◌∷◌, inl, refl, sym, ◌∙◌, arith, ⊎_elim}
 use Rattle.std.proofs.lemmas.Bool.{false≢true}
 use Rattle.rmm_spec.specs.declared.tag.Tag.TheVariants as tag
 use Rattle.rmm_spec.specs.Call.{call_of, call_from}

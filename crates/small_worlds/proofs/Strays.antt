@@ -1,5 +1,5 @@
 -- Two RECs are made, and two CPUs come to wait for each other's auxiliary granules.
-use Rattle.std.proofs.Common.{◌≡◌, ℕ, zero, suc, ◌+◌, ◌<◌, ◌≤◌, Bool, true, false, ◌||◌, ◌==◌, if◌then◌else◌, IsTrue, List, [], ◌∷◌, ◌++◌, map, None, Ok, inr, refl, sym, ap, ◌∙◌, subst, arith, eq-eqb}
+use Rattle.std.proofs.Common.{◌≡◌, ℕ, ◌+◌, ◌<◌, ◌≤◌, Bool, true, false, ◌==◌, if◌then◌else◌, IsTrue, List, [], ◌∷◌, ◌++◌, map, None, Ok, inr, refl, sym, ◌∙◌, subst, arith, eq-eqb}
 use Rattle.std.specs.Prelude.{Contains}
 use Rattle.std.proofs.lemmas.Bool.{or_left}
 use Rattle.rmm_spec.specs.declared.call.Call.TheVariants.{RecDestroy}
@@ -18,10 +18,10 @@ use Rattle.rmm_spec.specs.Step.Realm.{realm_create}
 use Rattle.rmm_spec.specs.Step.Rec.{rec_create}
 use Rattle.rmm_spec.specs.Step.Words.{words_of}
 use Rattle.rmm_spec.specs.Step.Named.{needed, named}
-use Rattle.rmm_spec.specs.Cell.{Cell, Rec, RecAux, put, tag_of, is_data}
+use Rattle.rmm_spec.specs.Cell.{Rec, RecAux, put, tag_of, is_data}
 use Rattle.rmm_spec.specs.Flat.{flat_state}
 use Rattle.rmm_spec.specs.Shape.{CpuPlace, Outside}
-use Rattle.rmm_spec.specs.Local.{HeldCell, Hold}
+use Rattle.rmm_spec.specs.Local.{HeldCell}
 use Rattle.rmm_spec.specs.World.{World, Phase, Between, Deciding, Decided, Commitment, opening_world, HappenAll}
 use Rattle.rmm_spec.specs.World as move
 use Rattle.rmm_spec.specs.Locks.{names_part, depth}
@@ -33,7 +33,7 @@ use Rattle.shape_laws.proofs.Accepted.{done-keeps_shape}
 use Rattle.shape_laws.proofs.Cells.{put-same}
 use Rattle.small_worlds.specs.SmallWorlds.{HappenBy, WaitForEachOther, IsUnguardedTake, IsUnguarded, served_by}
 use Rattle.small_worlds.specs.Strays.{Accepted, granules_below, hold_all, all_accepted, untouched, nine_granules, two_recs_made, destroys, each_destroys, strays_taken}
-use Rattle.small_worlds.proofs.Serving.{HappenAll-from_by, HappenBy-append, MayTakeAll, after, can_take, serve}
+use Rattle.small_worlds.proofs.Serving.{HappenAll-from_by, HappenBy-append, MayTakeAll, can_take, serve}
 use Rattle.small_worlds.proofs.AllHeld.{accepted-is_local, put_all-every}
 use Rattle.small_worlds.proofs.SmallRuns.{anything, called, happens-call, took, happens-take}
 

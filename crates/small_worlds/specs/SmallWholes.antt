@@ -1,5 +1,5 @@
 -- Small wholes of eight granules, written out: one realm; with tables down to a page; with a REC; and two realms.
-use Rattle.std.specs.Prelude.{ℕ, true, List, [], ◌∷◌, ◌++◌, map, replicate, Some, None}
+use Rattle.std.specs.Prelude.{ℕ, List, [], ◌∷◌, ◌++◌, map, replicate, Some, None}
 use Rattle.rmm_spec.specs.declared.entry.Entry.{Entry}
 use Rattle.rmm_spec.specs.declared.entry.Entry.TheVariants.{Unassigned, Assigned, Table, UnassignedNs}
 use Rattle.rmm_spec.specs.declared.function_id.FunctionId.TheVariants as function

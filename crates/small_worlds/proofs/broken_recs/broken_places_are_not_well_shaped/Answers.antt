@@ -1,10 +1,8 @@
-use Rattle.std.proofs.Common.{◌≡◌, ℕ, ◌^◌, ◌≤◌, None, Some, refl, sym, ap, ◌∙◌, arith}
-use Rattle.std.proofs.lemmas.Bool.{false≢true}
+use Rattle.std.proofs.Common.{◌≡◌, ℕ, Some, refl, ap, ◌∙◌, arith}
 use Rattle.std.proofs.lemmas.Option.{none-some, same_Some}
-use Rattle.rmm_spec.specs.declared.tag.Ripas.TheVariants.{Ram}
-use Rattle.rmm_spec.specs.State.{RecRecord, HostCall, RipasChange}
+use Rattle.rmm_spec.specs.State.{RecRecord}
 use Rattle.rmm_spec.specs.Shape.{Outside, Inside}
-use Rattle.small_worlds.specs.SmallWholes.{the_rec, owner_record, asking}
+use Rattle.small_worlds.specs.SmallWholes.{the_rec}
 use Rattle.small_worlds.proofs.broken_recs.broken_places_are_not_well_shaped.Goals as goal
 
 pub returns-clause-nowhere : goal.returns-clause-nowhere

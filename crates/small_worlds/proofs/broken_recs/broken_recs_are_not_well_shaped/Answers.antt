@@ -1,9 +1,7 @@
-use Rattle.std.proofs.Common.{◌≡◌, ℕ, ◌^◌, ◌≤◌, None, Some, refl, sym, ap, ◌∙◌, arith}
+use Rattle.std.proofs.Common.{◌≡◌, ℕ, ◌^◌, ◌≤◌, Some, refl, sym, arith}
 use Rattle.std.proofs.lemmas.Bool.{false≢true}
-use Rattle.std.proofs.lemmas.Option.{none-some, same_Some}
 use Rattle.rmm_spec.specs.declared.tag.Ripas.TheVariants.{Ram}
-use Rattle.rmm_spec.specs.State.{RecRecord, HostCall, RipasChange}
-use Rattle.rmm_spec.specs.Shape.{Outside, Inside}
+use Rattle.rmm_spec.specs.State.{HostCall, RipasChange}
 use Rattle.small_worlds.specs.SmallWholes.{the_rec, owner_record, asking}
 use Rattle.small_worlds.proofs.broken_recs.broken_recs_are_not_well_shaped.Goals as goal
 

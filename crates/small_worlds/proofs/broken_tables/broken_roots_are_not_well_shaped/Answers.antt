@@ -1,13 +1,10 @@
-use Rattle.std.proofs.Common.{◌≡◌, ℕ, ◌*◌, ◌+◌, ◌^◌, ◌<◌, ◌≤◌, [], ◌∷◌, Some, slice_get, refl, sym, ap, ◌∙◌, subst, arith}
-use Rattle.std.proofs.lemmas.Bool.{false≢true}
+use Rattle.std.proofs.Common.{◌≡◌, ℕ, refl, ap, ◌∙◌, arith}
 use Rattle.std.proofs.lemmas.Option.{none-some, same_Some}
-use Rattle.rmm_spec.specs.declared.entry.Entry.TheVariants.{Unassigned, Assigned, Table, UnassignedNs, AssignedNs}
+use Rattle.rmm_spec.specs.declared.entry.Entry.TheVariants.{Unassigned}
 use Rattle.rmm_spec.specs.declared.tag.Ripas.TheVariants.{Empty}
-use Rattle.rmm_spec.specs.State.{RealmRecord}
-use Rattle.rmm_spec.specs.Walk.{entry_size, table_size, table_number, full}
+use Rattle.rmm_spec.specs.Walk.{table_size, table_number}
 use Rattle.rmm_spec.specs.Table.{TableRecord, place_number}
-use Rattle.rmm_spec.specs.Cell.{tables_of}
-use Rattle.small_worlds.specs.SmallWholes.{one_realm, new_record, new_root, realm_with_root, table_at, root_entries, beginning, upper_beginning, linked_root, linked_middle, upper_half, bare_table, high_table, table_behind, root_then, two_entries, second_root}
+use Rattle.small_worlds.specs.SmallWholes.{new_record, linked_middle, table_behind, second_root}
 use Rattle.small_worlds.proofs.broken_tables.broken_roots_are_not_well_shaped.Goals as goal
 
 pub returns-clause-rootless : goal.returns-clause-rootless
