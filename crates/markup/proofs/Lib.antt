@@ -1,2 +1,3 @@
 mod Lengths
+mod Pieces
 mod Plain

@@ -11,5 +11,5 @@ mod page;
 #[cfg(test)]
 mod tests;
 
-pub use laws::escaped_plain;
-pub use page::Page;
+pub use laws::{decimal_plain, escaped_plain};
+pub use page::{Markup, Page};
