@@ -11,6 +11,7 @@ mod focus;
 mod head;
 mod lanes;
 mod marks;
+mod own;
 mod page;
 mod picture;
 mod scale;

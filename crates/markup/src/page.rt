@@ -82,9 +82,15 @@ impl<M: Markup> Page<M> {
 
     /// What was written.
     pub fn as_bytes(&self) -> &[u8]
-        ensures bytes { result.now ≡ self.now.bytes }
-        ensures written { IsWritten M.text self.now.bytes }
+        ensures { result.now ≡ self.now.bytes }
     {
         self.bytes.as_slice()
+    }
+
+    /// Law: what was written consists of pieces.
+    pub fn consists_of_pieces(&self)
+        ensures { IsWritten M.text self.now.bytes }
+    {
+        let _bytes = &self.bytes;
     }
 }
