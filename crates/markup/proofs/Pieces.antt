@@ -19,7 +19,7 @@ module _ {M : Type 0} {text : M → List ℕ} {old new : List ℕ} where
   }
 
   -- the same, where the text is appended or nothing is
-  pub IsWritten-extend : (piece : Piece M) {bytes : List ℕ} (is_ok : Bool) → bytes ≡ piece_text text piece
-      → new ≡ (if is_ok then old ++ bytes else old) → IsWritten text old → IsWritten text new
-  IsWritten-extend piece true is extended = IsWritten-append piece (extended ∙ ap (λ bytes. old ++ bytes) is)
-  IsWritten-extend piece false is extended = IsWritten-same extended
+  pub IsWritten-extend : (piece : Piece M) (bytes : List ℕ) (is_ok : Bool) → new ≡ (if is_ok then old ++ bytes else old)
+      → bytes ≡ piece_text text piece → IsWritten text old → IsWritten text new
+  IsWritten-extend piece bytes true extended is = IsWritten-append piece (extended ∙ ap (λ more. old ++ more) is)
+  IsWritten-extend piece bytes false extended is = IsWritten-same extended

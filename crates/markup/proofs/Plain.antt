@@ -1,12 +1,10 @@
 -- What escaped texts and decimals don't hold.
-use Rattle.std.proofs.Common.{◌≡◌, ◌<◌, ℕ, refl, ap, ◌∙◌, List, [], ◌∷◌, Bool, true, false, arith}
-use Rattle.std.proofs.lemmas.Bool.{ne_eqb}
+use Rattle.std.proofs.Common.{◌≡◌, ◌+◌, ◌/◌, ◌%◌, ℕ, zero, suc, refl, ap, ◌∙◌, List, [], ◌∷◌, Bool, true, false, nat_lt, arith}
+use Rattle.std.proofs.lemmas.Bool.{ne_eqb, ltb-true}
 use Rattle.std.proofs.lemmas.List.Folds.{list_all-append}
-use Rattle.std.proofs.lemmas.Str.Parse.{digit_from_value}
-use Rattle.std.specs.Char.{digit_value}
 use Rattle.std.specs.Prelude.{◌==◌, if◌then◌else◌, ◌&&◌, codes}
 use Rattle.std.specs.List.{flat_map, list_all}
-use Rattle.std.specs.Str.Parse.{AllDigits}
+use Rattle.std.specs.Fmt.{digits_onto}
 use Rattle.markup.specs.Escaped.{is_plain, escaped_byte}
 
 -- for any answers of the tests on a byte
@@ -27,11 +25,19 @@ flat_map-escaped_byte (byte ∷ bytes) =
     list_all-append is_plain (escaped_byte byte) (flat_map escaped_byte bytes)
     ∙ ap (λ b. b && list_all is_plain (flat_map escaped_byte bytes)) first ∙ flat_map-escaped_byte bytes
 
-plain_digit : (c : ℕ) → digit_value c < 10 → is_plain c ≡ true
-plain_digit c digit =
-    let range = digit_from_value c digit in
-    rw (ne_eqb c 60 (λ e. omega (arith, range)), ne_eqb c 62 (λ e. omega (arith, range)), ne_eqb c 34 (λ e. omega (arith, range)), ne_eqb c 39 (λ e. omega (arith, range))) refl
+plain_glyph : (d : ℕ) (is_below : Bool) → nat_lt d 10 ≡ is_below → is_plain (if is_below then 48 + d else 87 + d) ≡ true
+plain_glyph d true e =
+    let below = ltb-true d 10 e in
+    rw (ne_eqb (48 + d) 60 (λ e. omega (arith, below)), ne_eqb (48 + d) 62 (λ e. omega (arith, below)), ne_eqb (48 + d) 34 (λ e. omega arith), ne_eqb (48 + d) 39 (λ e. omega arith)) refl
+plain_glyph d false e =
+    rw (ne_eqb (87 + d) 60 (λ e. omega arith), ne_eqb (87 + d) 62 (λ e. omega arith), ne_eqb (87 + d) 34 (λ e. omega arith), ne_eqb (87 + d) 39 (λ e. omega arith)) refl
 
-pub plain_digits : (digits : List ℕ) → AllDigits 10 digits → list_all is_plain digits ≡ true
-plain_digits [] all = refl
-plain_digits (c ∷ digits) all = ap (λ b. b && list_all is_plain digits) (plain_digit c all.0) ∙ plain_digits digits all.1
+either_plain : (b : Bool) (xs ys : List ℕ) → list_all is_plain xs ≡ true → list_all is_plain ys ≡ true → list_all is_plain (if b then xs else ys) ≡ true
+either_plain true xs ys first second = first
+either_plain false xs ys first second = second
+
+pub plain_digits : (k n : ℕ) (behind : List ℕ) → list_all is_plain behind ≡ true → list_all is_plain (digits_onto k 10 false n behind) ≡ true
+plain_digits zero n behind plain = plain
+plain_digits (suc k) n behind plain =
+    let more = ap (λ b. b && list_all is_plain behind) (plain_glyph (n % 10) (nat_lt (n % 10) 10) refl) ∙ plain in
+    either_plain (n / 10 == 0) _ _ more (plain_digits k (n / 10) _ more)

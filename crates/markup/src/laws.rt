@@ -1,6 +1,6 @@
 //! Laws of what a page has beside a program's own markup.
 
-ghost use Rattle.std.specs.Prelude.{◌≡◌, decimal, true};
+ghost use Rattle.std.specs.Prelude.{◌≡◌, ℕ, decimal, true};
 ghost use Rattle.std.specs.List.{list_all};
 ghost use Rattle.markup.specs.Escaped.{escaped, is_plain};
 
@@ -12,8 +12,7 @@ pub fn escaped_plain(bytes: &[u8])
 }
 
 /// Law: a number in decimals has no angle bracket and no quote.
-pub fn decimal_plain(number: u64)
-    ensures { list_all is_plain (decimal number) ≡ true }
+pub fn decimal_plain()
+    ensures { (number : ℕ) → list_all is_plain (decimal number) ≡ true }
 {
-    let _number = number;
 }
