@@ -8,10 +8,10 @@ use Rattle.explain_page.specs.Own.{own_text}
 use Rattle.explain_page.specs.Page.{AppendsPage, report_pieces}
 
 -- the pieces of the front, and behind them those of the report
-pub AppendsPage-written : {verdict : Verdict} {old new page front text : List ℕ} (lines : List ℕ) → IsWritten own_text front
+pub AppendsPage-written : {verdict : Verdict} {old new front text : List ℕ} (lines page : List ℕ) → IsWritten own_text front
     → text ≡ verdict_line verdict ++ lines → page ≡ front ++ texts own_text (report_pieces text) → new ≡ old ++ page → AppendsPage verdict old new
 unfolding texts
-AppendsPage-written {old = old} {text = text} lines written told whole appended = record {
+AppendsPage-written {old = old} {text = text} lines page written told whole appended = record {
   front = written.pieces;
   lines = lines;
   appended = appended ∙ ap (λ bytes. old ++ bytes) (whole ∙ ap (λ bytes. bytes ++ texts own_text (report_pieces text)) written.written

@@ -1,5 +1,5 @@
 -- What a page consists of.
-use Rattle.std.specs.Prelude.{◌≡◌, ℕ, List, decimal}
+use Rattle.std.specs.Prelude.{◌≡◌, ℕ, List, Bool, true, false, decimal}
 use Rattle.std.specs.List.{flat_map}
 use Rattle.markup.specs.Escaped.{escaped}
 
@@ -8,6 +8,11 @@ pub data Piece (M : Type 0) : Type 0 where
   Own : M → Piece M
   Number : ℕ → Piece M
   Text : List ℕ → Piece M
+
+abbrev pub is_own : {M : Type 0} → Piece M → Bool
+is_own (Own piece) = true
+is_own (Number number) = false
+is_own (Text bytes) = false
 
 module _ {M : Type 0} (text : M → List ℕ) where
   -- an own piece stands as it is, a number in decimals, and a text in its escaped form

@@ -1,4 +1,4 @@
-use Rattle.std.proofs.Common.{ap, ◌∙◌, ◌++◌}
+use Rattle.std.proofs.Common.{rules, ap, ◌∙◌, ◌++◌}
 use Rattle.rmm_spec.specs.VerdictText.{verdict_line}
 use Rattle.explain.specs.Explained.{verdict_of}
 use Rattle.explain_page.proofs.Appended.{AppendsPage-written}
@@ -8,6 +8,6 @@ pub returns-clause-ok : goal.returns-clause-ok
 returns-clause-ok c =
     let lines = c.in_ok-report.ensures.ok.0 in
     let line = verdict_line (verdict_of c.args.told.now.explanation) in
-    AppendsPage-written lines c.in_ok-write_front.ensures
+    AppendsPage-written lines c.as_bytes.result.now c.in_ok-write_front.ensures
     (c.as_slice.ensures.value ∙ c.in_ok-report.ensures.ok.1 ∙ ap (λ bytes. bytes ++ (line ++ lines)) c.new-text.ensures.items)
-    (c.as_bytes.ensures ∙ c.in_ok-write_report.ensures) c.in_ok-extend_from_slice.ensures.items
+    (c.as_bytes.ensures ∙ c.in_ok-write_report.ensures) (search rules)
