@@ -12,11 +12,10 @@ mod words;
 pub(crate) use attribute::Attribute;
 pub(crate) use class::Class;
 pub(crate) use frame::Frame;
+use markup::Markup;
 pub(crate) use table::Table;
 pub(crate) use tag::Tag;
 pub(crate) use words::Words;
-
-use markup::Markup;
 
 /// A page of such pieces.
 pub(crate) type Page = markup::Page<Own>;

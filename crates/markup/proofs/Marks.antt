@@ -4,7 +4,7 @@ use Rattle.std.proofs.lemmas.List.Elements.{filter-append}
 use Rattle.std.specs.Prelude.{decimal}
 use Rattle.std.specs.List.{filter, list_all}
 use Rattle.markup.specs.Escaped.{escaped, is_plain, marks_up}
-use Rattle.markup.specs.Pieces.{Piece, Own, Number, Text, is_own, piece_text, texts}
+use Rattle.markup.specs.Pieces.{Piece, Own, Number, Text, is_own, texts}
 use Rattle.markup.proofs.Plain.{plain_decimal, plain_escaped, filter_plain}
 
 -- a plain text in front changes nothing

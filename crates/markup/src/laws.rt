@@ -17,5 +17,4 @@ pub fn escaped_plain(bytes: &[u8])
 /// Law: the angle brackets and quotes of a page are those of its own pieces, in their order.
 pub fn own_pieces_mark_up<M: Markup>()
     ensures { (pieces : List (Piece M)) → filter marks_up (texts M.text pieces) ≡ filter marks_up (texts M.text (filter is_own pieces)) }
-{
-}
+{}

@@ -90,8 +90,7 @@ text{font:11px ui-monospace,monospace;fill:#111}\n\
 .key.cause{border:2px dashed #8a5300;background:radial-gradient(#8a5300 1px,#fff1d6 1.5px) 0 0/6px 6px}\n\
 .key.failing,.key.cause{text-shadow:0 0 3px #fff,0 0 3px #fff,0 0 3px #fff}\n";
 
-const NO_PICTURE: &[u8] =
-    b"<p>There is no picture: one of the texts isn't in its grammar.</p>\n";
+const NO_PICTURE: &[u8] = b"<p>There is no picture: one of the texts isn't in its grammar.</p>\n";
 
 const FIGURE: &[u8] =
     b"<figure>\n<div class=\"scroll\" tabindex=\"0\">\n<svg xmlns=\"http://www.w3.org/2000/svg\" role=\"img\" \

@@ -33,6 +33,5 @@ impl Table {
     }
 }
 
-const START: &[u8] =
-    b"<details>\n<summary>The steps of the picture as a table</summary>\n<table>\n\
+const START: &[u8] = b"<details>\n<summary>The steps of the picture as a table</summary>\n<table>\n\
 <thead><tr><th scope=\"col\">Step</th><th scope=\"col\">Call</th></tr></thead>\n<tbody>\n";
