@@ -29,6 +29,7 @@ pub plain_escaped : (bytes : List ℕ) → list_all is_plain (escaped bytes) ≡
 unfolding escaped
 plain_escaped = flat_map-escaped_byte
 
+-- the glyph of a digit, for either answer of the test on its size
 plain_glyph : (d : ℕ) (is_below : Bool) → nat_lt d 10 ≡ is_below → is_plain (if is_below then 48 + d else 87 + d) ≡ true
 plain_glyph d true e =
     let below = ltb-true d 10 e in
@@ -36,10 +37,12 @@ plain_glyph d true e =
 plain_glyph d false e =
     rw (ne_eqb (87 + d) 60 (λ e. omega arith), ne_eqb (87 + d) 62 (λ e. omega arith), ne_eqb (87 + d) 34 (λ e. omega arith), ne_eqb (87 + d) 39 (λ e. omega arith)) refl
 
+-- a choice of two plain texts
 either_plain : (b : Bool) (xs ys : List ℕ) → list_all is_plain xs ≡ true → list_all is_plain ys ≡ true → list_all is_plain (if b then xs else ys) ≡ true
 either_plain true xs ys first second = first
 either_plain false xs ys first second = second
 
+-- the last k digits of a number, in front of a plain text
 plain_digits : (k n : ℕ) (behind : List ℕ) → list_all is_plain behind ≡ true → list_all is_plain (digits_onto k 10 false n behind) ≡ true
 plain_digits zero n behind plain = plain
 plain_digits (suc k) n behind plain =
@@ -50,6 +53,7 @@ pub plain_decimal : (number : ℕ) → list_all is_plain (decimal number) ≡ tr
 unfolding digits
 plain_decimal number = plain_digits 64 number [] refl
 
+-- a byte in front of a plain text, for either answer of the test on it
 filter_cons : (x : ℕ) (xs : List ℕ) (b : Bool) → b && list_all is_plain xs ≡ true → (list_all is_plain xs ≡ true → filter marks_up xs ≡ [])
     → (if not b then x ∷ filter marks_up xs else filter marks_up xs) ≡ []
 filter_cons x xs true all rest = rest all
