@@ -2,12 +2,12 @@
 
 use crate::calls::{CallId, calls_in, places_of};
 use crate::focus::{Focus, Role};
+use crate::own::{Class, Own, Page, Tag};
 use crate::scale::{BAR, Scale, lane_top};
 use crate::shapes::{Area, close_words, open_words, rectangle};
 use crate::window::Window;
 use explain::NamedCall;
 use history::{History, Places};
-use markup::Page;
 use std::alloc::{AllocError, Global};
 
 /// How far below its lane's top a bar is.
@@ -63,11 +63,11 @@ fn write_bar(
     area: Area,
 ) -> Result<(), AllocError> {
     let text = text_of(alloc, history, call)?;
-    page.say(b"<g><title>")?;
+    page.say(Own::Tag(Tag::Group))?;
     page.text(text.as_bytes())?;
-    page.say(b"</title>")?;
+    page.say(Own::Tag(Tag::GroupTitled))?;
     rectangle(page, class_of(role), area)?;
-    page.say(b"</g>\n")
+    page.say(Own::Tag(Tag::GroupEnd))
 }
 
 /// Writes the command of a call that stands out under its bar, where the window has it. At the right of a picture it ends with
@@ -89,19 +89,19 @@ pub(crate) fn write_name(
     let text = text_of(alloc, history, call)?;
     let y = area.y.saturating_add(32);
     if area.x < RIGHT_PART {
-        open_words(page, b"name", area.x, y)?;
+        open_words(page, Class::Name, area.x, y)?;
     } else {
-        open_words(page, b"name end", area.x.saturating_add(area.width), y)?;
+        open_words(page, Class::NameAtEnd, area.x.saturating_add(area.width), y)?;
     }
     page.text(command_in(text.as_str()).as_bytes())?;
     close_words(page)
 }
 
-fn class_of(role: Role) -> &'static [u8] {
+fn class_of(role: Role) -> Class {
     match role {
-        Role::Plain => b"bar",
-        Role::Failing => b"bar failing",
-        Role::Cause => b"bar cause",
+        Role::Plain => Class::Bar,
+        Role::Failing => Class::FailingBar,
+        Role::Cause => Class::CauseBar,
     }
 }
 

@@ -1,9 +1,9 @@
 //! The lanes of the CPUs, and the lines of the history under them.
 
+use crate::own::{Class, Own, Page, Words};
 use crate::scale::{LANE, LEFT, Scale, lane_top};
 use crate::shapes::{Area, close_words, open_words, rectangle};
 use crate::window::{Window, line_of};
-use markup::Page;
 use std::alloc::AllocError;
 
 /// How many events are between two numbers of lines.
@@ -11,7 +11,11 @@ const BETWEEN: usize = 10;
 
 /// Draws a CPU's lane with its name on both sides.
 pub(crate) fn write_lane(page: &mut Page, window: Window, cpu: u8) -> Result<(), AllocError> {
-    let class: &[u8] = if cpu % 2 == 0 { b"lane" } else { b"lane odd" };
+    let class = if cpu % 2 == 0 {
+        Class::Lane
+    } else {
+        Class::OddLane
+    };
     let top = lane_top(window, cpu);
     let right = Scale::of(window).right();
     let area = Area {
@@ -26,8 +30,8 @@ pub(crate) fn write_lane(page: &mut Page, window: Window, cpu: u8) -> Result<(),
 }
 
 fn write_cpu(page: &mut Page, x: u64, y: u64, cpu: u8) -> Result<(), AllocError> {
-    open_words(page, b"cpu", x, y)?;
-    page.say(b"CPU ")?;
+    open_words(page, Class::Cpu, x, y)?;
+    page.say(Own::Words(Words::Cpu))?;
     page.number(u64::from(cpu))?;
     close_words(page)
 }
@@ -36,8 +40,8 @@ fn write_cpu(page: &mut Page, x: u64, y: u64, cpu: u8) -> Result<(), AllocError>
 pub(crate) fn write_lines(page: &mut Page, window: Window, cpus: u8) -> Result<(), AllocError> {
     let scale = Scale::of(window);
     let y = lane_top(window, cpus) + 16;
-    open_words(page, b"small", 6, y)?;
-    page.say(b"line")?;
+    open_words(page, Class::Small, 6, y)?;
+    page.say(Own::Words(Words::Line))?;
     close_words(page)?;
     let step = if window.len() <= 2 * BETWEEN {
         1
@@ -46,7 +50,7 @@ pub(crate) fn write_lines(page: &mut Page, window: Window, cpus: u8) -> Result<(
     };
     for place in window.first..window.end {
         if place % step == 0 {
-            open_words(page, b"small", scale.x(place).max(LEFT), y)?;
+            open_words(page, Class::Small, scale.x(place).max(LEFT), y)?;
             page.number(line_of(place))?;
             close_words(page)?;
         }

@@ -4,11 +4,11 @@ use crate::bars::{BELOW, text_of};
 use crate::calls::places_of;
 use crate::focus::{Focus, Role};
 use crate::marks::Mark;
+use crate::own::{Class, Own, Page, Table, Tag};
 use crate::scale::{BAR, Scale, lane_top};
 use crate::shapes::{close_words, disc, open_words};
 use crate::window::Window;
 use history::{History, Places};
-use markup::Page;
 use std::alloc::{AllocError, Global};
 
 /// The width of an event from which on every number stands above its bar. Else those of odd steps stand below, so that fewer
@@ -74,27 +74,32 @@ fn mark_x(scale: Scale, window: Window, places: Places, behind: u64) -> u64 {
 }
 
 fn write_path(page: &mut Page, spots: &[Spot]) -> Result<(), AllocError> {
-    page.say(b"<polyline class=\"order\" points=\"")?;
+    page.say(Own::Tag(Tag::Line))?;
     for spot in spots {
         page.number(spot.x)?;
-        page.say(b",")?;
+        page.say(Own::Tag(Tag::Comma))?;
         page.number(spot.y)?;
-        page.say(b" ")?;
+        page.say(Own::Tag(Tag::Space))?;
     }
-    page.say(b"\"/>\n")
+    page.say(Own::Tag(Tag::Quote))?;
+    page.say(Own::Tag(Tag::Close))
 }
 
 fn write_mark(page: &mut Page, focus: &Focus, spot: Spot, is_wide: bool) -> Result<(), AllocError> {
     let Spot { mark, x, y } = spot;
     let role = focus.role(mark.call);
     let fails = role == Role::Failing && mark.step == focus.last_step;
-    let (class, radius): (&[u8], u64) = if fails {
-        (b"mark failing", 6)
+    let (class, radius) = if fails {
+        (Class::FailingMark, 6)
     } else {
-        (b"mark", 4)
+        (Class::Mark, 4)
     };
     disc(page, class, (x, y), radius)?;
-    let class: &[u8] = if fails { b"step failing" } else { b"step" };
+    let class = if fails {
+        Class::FailingStep
+    } else {
+        Class::Step
+    };
     let is_above = is_wide || role != Role::Plain || mark.step % 2 == 0;
     let words_y = if is_above {
         y.saturating_sub(14)
@@ -114,26 +119,23 @@ pub(crate) fn write_table(
     focus: &Focus,
     marks: &[Mark],
 ) -> Result<(), AllocError> {
-    page.say(b"<details>\n<summary>The steps of the picture as a table</summary>\n<table>\n")?;
-    page.say(
-        b"<thead><tr><th scope=\"col\">Step</th><th scope=\"col\">Call</th></tr></thead>\n<tbody>\n",
-    )?;
+    page.say(Own::Table(Table::Start))?;
     for mark in marks {
         let text = text_of(alloc, history, mark.call)?;
-        page.say(row_of(focus.role(mark.call)))?;
+        page.say(Own::Table(row_of(focus.role(mark.call))))?;
         page.number(mark.step)?;
-        page.say(b"</th><td><pre>")?;
+        page.say(Own::Table(Table::Call))?;
         page.text(text.as_bytes())?;
-        page.say(b"</pre></td></tr>\n")?;
+        page.say(Own::Table(Table::RowEnd))?;
     }
-    page.say(b"</tbody>\n</table>\n</details>\n")
+    page.say(Own::Table(Table::End))
 }
 
 // The beginning of a row.
-fn row_of(role: Role) -> &'static [u8] {
+fn row_of(role: Role) -> Table {
     match role {
-        Role::Plain => b"<tr><th scope=\"row\">",
-        Role::Failing => b"<tr class=\"failing\"><th scope=\"row\">",
-        Role::Cause => b"<tr class=\"cause\"><th scope=\"row\">",
+        Role::Plain => Table::Row,
+        Role::Failing => Table::FailingRow,
+        Role::Cause => Table::CauseRow,
     }
 }

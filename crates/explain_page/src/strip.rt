@@ -2,11 +2,11 @@
 
 use crate::calls::{CallId, places_of};
 use crate::focus::Focus;
+use crate::own::{Class, Own, Page, Words};
 use crate::scale::{LEFT, Scale};
 use crate::shapes::{Area, close_words, open_words, rectangle};
 use crate::window::Window;
 use history::History;
-use markup::Page;
 use std::alloc::AllocError;
 
 /// Draws the strip, and under it which lines the picture shows.
@@ -20,20 +20,20 @@ pub(crate) fn write_strip(
     let count = history.len() as u64;
     let from = share(wide, window.first as u64, count);
     let to = share(wide, window.end as u64, count);
-    rectangle(page, b"strip", stretch(0, wide))?;
+    rectangle(page, Class::Strip, stretch(0, wide))?;
     rectangle(
         page,
-        b"shown",
+        Class::Shown,
         stretch(from, to.saturating_sub(from).max(3)),
     )?;
-    write_tick(page, history, b"tick cause", focus.cause, wide)?;
-    write_tick(page, history, b"tick failing", focus.failing, wide)?;
-    open_words(page, b"small", LEFT, 50)?;
-    page.say(b"shown: lines ")?;
+    write_tick(page, history, Class::CauseTick, focus.cause, wide)?;
+    write_tick(page, history, Class::FailingTick, focus.failing, wide)?;
+    open_words(page, Class::Small, LEFT, 50)?;
+    page.say(Own::Words(Words::ShownLines))?;
     page.number(window.first_line())?;
-    page.say(b" to ")?;
+    page.say(Own::Words(Words::To))?;
     page.number(window.last_line())?;
-    page.say(b" of ")?;
+    page.say(Own::Words(Words::Of))?;
     page.number(count.saturating_add(1))?;
     close_words(page)
 }
@@ -41,7 +41,7 @@ pub(crate) fn write_strip(
 fn write_tick(
     page: &mut Page,
     history: &History,
-    class: &[u8],
+    class: Class,
     call: Option<CallId>,
     wide: u64,
 ) -> Result<(), AllocError> {

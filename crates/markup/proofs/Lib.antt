@@ -1,2 +1,4 @@
 mod Lengths
+mod Marks
+mod Pieces
 mod Plain

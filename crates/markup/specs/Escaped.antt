@@ -18,3 +18,7 @@ escaped bytes = flat_map escaped_byte bytes
 -- a byte that neither opens or closes a tag nor ends an attribute's value
 abbrev pub is_plain : ℕ → Bool
 is_plain byte = not (byte == 60) && not (byte == 62) && not (byte == 34) && not (byte == 39)
+
+-- a byte that does so
+abbrev pub marks_up : ℕ → Bool
+marks_up byte = not (is_plain byte)

@@ -1,1 +1,2 @@
 pub mod Escaped
+pub mod Pieces

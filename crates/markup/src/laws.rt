@@ -1,8 +1,11 @@
-//! A law of escaped texts.
+//! Laws of escaped texts and of pages.
 
-ghost use Rattle.std.specs.Prelude.{◌≡◌, true};
-ghost use Rattle.std.specs.List.{list_all};
-ghost use Rattle.markup.specs.Escaped.{escaped, is_plain};
+ghost use Rattle.std.specs.Prelude.{◌≡◌, List, true};
+ghost use Rattle.std.specs.List.{filter, list_all};
+ghost use Rattle.markup.specs.Escaped.{escaped, is_plain, marks_up};
+ghost use Rattle.markup.specs.Pieces.{Piece, is_own, texts};
+
+use crate::page::Markup;
 
 /// Law: an escaped text has no angle bracket and no quote.
 pub fn escaped_plain(bytes: &[u8])
@@ -10,3 +13,8 @@ pub fn escaped_plain(bytes: &[u8])
 {
     let _bytes = bytes;
 }
+
+/// Law: the angle brackets and quotes of a page are those of its own pieces, in their order.
+pub fn own_pieces_mark_up<M: Markup>()
+    ensures { (pieces : List (Piece M)) → filter marks_up (texts M.text pieces) ≡ filter marks_up (texts M.text (filter is_own pieces)) }
+{}

@@ -1,6 +1,6 @@
-//! HTML that grows piece by piece: markup of a program's own as it is, and texts from elsewhere escaped.
-//! It promises that a text is appended as its escaped form and nothing else, whatever its bytes are.
-//! An escaped text has no angle bracket and no quote, so it neither opens or closes a tag nor ends an attribute's value.
+//! HTML that grows piece by piece: markup of a program's own as it is, numbers in decimals, and texts from elsewhere escaped.
+//! It promises that a page consists of such pieces and nothing else, whatever the texts' bytes are.
+//! Its angle brackets and quotes are those of the program's own pieces, so no text opens or closes a tag or ends an attribute's value.
 //! Where memory is refused, nothing is appended.
 //! Pages of reports depend on it.
 #![tactic(auto)]
@@ -11,5 +11,5 @@ mod page;
 #[cfg(test)]
 mod tests;
 
-pub use laws::escaped_plain;
-pub use page::Page;
+pub use laws::{escaped_plain, own_pieces_mark_up};
+pub use page::{Markup, Page};

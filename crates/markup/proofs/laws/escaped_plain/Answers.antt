@@ -1,7 +1,5 @@
-use Rattle.markup.specs.Escaped.{escaped}
-use Rattle.markup.proofs.Plain.{flat_map-escaped_byte}
+use Rattle.markup.proofs.Plain.{plain_escaped}
 use Rattle.markup.proofs.laws.escaped_plain.Goals as goal
 
 pub returns : goal.returns
-unfolding escaped
-returns c = flat_map-escaped_byte c.args.bytes.now
+returns c = plain_escaped c.args.bytes.now

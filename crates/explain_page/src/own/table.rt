@@ -1,0 +1,37 @@
+//! The table of a picture's steps.
+
+ghost use Rattle.std.specs.Prelude.{◌≡◌};
+ghost use Rattle.explain_page.specs.Own.{table_text};
+
+/// A part of the table.
+#[derive(Clone, Copy, Debug, PartialEq, Eq)]
+pub(crate) enum Table {
+    Start,
+    /// The beginning of a row, up to the step's number.
+    Row,
+    FailingRow,
+    CauseRow,
+    /// Between a step's number and its call.
+    Call,
+    RowEnd,
+    End,
+}
+
+impl Table {
+    pub(crate) fn text(self) -> &'static [u8]
+        ensures { result.now ≡ table_text self }
+    {
+        match self {
+            Table::Start => START,
+            Table::Row => b"<tr><th scope=\"row\">",
+            Table::FailingRow => b"<tr class=\"failing\"><th scope=\"row\">",
+            Table::CauseRow => b"<tr class=\"cause\"><th scope=\"row\">",
+            Table::Call => b"</th><td><pre>",
+            Table::RowEnd => b"</pre></td></tr>\n",
+            Table::End => b"</tbody>\n</table>\n</details>\n",
+        }
+    }
+}
+
+const START: &[u8] = b"<details>\n<summary>The steps of the picture as a table</summary>\n<table>\n\
+<thead><tr><th scope=\"col\">Step</th><th scope=\"col\">Call</th></tr></thead>\n<tbody>\n";
