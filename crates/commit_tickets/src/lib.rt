@@ -10,13 +10,17 @@ mod committing;
 mod copies;
 mod fault;
 mod journal;
+mod listing;
+mod numbers;
 mod opening;
+mod same;
 mod site;
 mod token;
 
 pub use committing::{Done, commit};
 pub use fault::CommitFault;
 pub use journal::{Entry, Journal};
+pub use numbers::Numbers;
 pub use site::Site;
 pub use token::{Committed, CpuToken};
 
