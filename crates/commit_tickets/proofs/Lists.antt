@@ -1,10 +1,10 @@
 -- The journal gone through beside what the tokens list.
-use Rattle.std.proofs.Common.{◌≡◌, ℕ, zero, suc, ◌+◌, ◌<◌, ◌≤◌, List, [], ◌∷◌, length, drop, Some, None, slice_get, refl, sym, ap, ◌∙◌, subst, arith, ⊎_elim}
+use Rattle.std.proofs.Common.{◌≡◌, ℕ, zero, suc, ◌+◌, ◌<◌, ◌≤◌, List, [], ◌∷◌, length, get_or, drop, Some, None, slice_get, refl, sym, ap, ◌∙◌, subst, arith, ⊎_elim}
 use Rattle.std.specs.Prelude.{◌↔◌}
 use Rattle.std.specs.List.{AllByRecursion}
 use Rattle.std.proofs.lemmas.Bool.{eq-eqb, ne_eqb, cases_eq, cases_lt}
 use Rattle.std.proofs.lemmas.List.{length-drop, drop_all}
-use Rattle.std.proofs.lemmas.Option.{none-some, same_Some, slice_get_past}
+use Rattle.std.proofs.lemmas.Option.{none-some, same_Some, slice_get_past, slice_get_read}
 use Rattle.rmm_spec.specs.Cell.{put}
 use Rattle.rmm_spec.specs.Run.{JournalEntry}
 use Rattle.commit_tickets.specs.declared.token.Committed.{Committed}
@@ -58,12 +58,6 @@ mine_of-unknown (first ∷ tokens) (suc cpu) none = mine_of-unknown tokens cpu n
 mine_of-none : (tokens : List TokenView) (cpu : ℕ) → length tokens ≤ cpu → mine_of tokens cpu ≡ []
 mine_of-none tokens cpu past = mine_of-unknown tokens cpu (slice_get_past tokens cpu past)
 
--- what a CPU's token lists at a place
-pub listed_at : (tokens : List TokenView) (cpu : ℕ) (token : TokenView) (place number : ℕ) → slice_get tokens cpu ≡ Some token → place ≡ number
-    → slice_get token.mine place ≡ slice_get (mine_of tokens cpu) number
-listed_at tokens cpu token place number at same =
-    ap (λ mine. slice_get mine place) (sym (mine_of-some tokens cpu token at)) ∙ ap (slice_get (mine_of tokens cpu)) same
-
 -- ---- from a ticket on
 
 -- The tokens list the entries just where they list those from the ticket on behind the commits of lower numbers.
@@ -93,7 +87,7 @@ module _ (tokens : List TokenView) (entries : List JournalEntry) (ticket : ℕ) 
   from_ticket = drop-at entries ticket entry at
 
   -- where the tokens list the entries, the next one is listed by its number
-  pub listed-next : AreListed tokens entries → slice_get (mine_of tokens entry.cpu) (number entry.cpu) ≡ Some (commit_at ticket entry)
+  listed-next : AreListed tokens entries → slice_get (mine_of tokens entry.cpu) (number entry.cpu) ≡ Some (commit_at ticket entry)
   listed-next listed =
       let mine = mine_of tokens entry.cpu in
       let rest : commit_at ticket entry ∷ listed_from (suc ticket) entry.cpu (drop (suc ticket) entries) ≡ drop (number entry.cpu) mine =
@@ -102,8 +96,8 @@ module _ (tokens : List TokenView) (entries : List JournalEntry) (ticket : ℕ) 
       sym (slice_get-drop mine (number entry.cpu)) ∙ ap (λ xs. slice_get xs 0) (sym rest)
 
   -- which is never so where its CPU has no token
-  pub unknown-cpu : length tokens ≤ entry.cpu → AreListed tokens entries → ⊥
-  unknown-cpu past listed =
+  pub unlisted-cpu : length tokens ≤ entry.cpu → AreListed tokens entries → ⊥
+  unlisted-cpu past listed =
       none-some (commit_at ticket entry)
       (ap (λ mine. slice_get mine (number entry.cpu)) (sym (mine_of-none tokens entry.cpu past)) ∙ listed-next listed)
 
@@ -130,7 +124,7 @@ module _ (tokens : List TokenView) (entries : List JournalEntry) (ticket : ℕ) 
       (λ all. sym is ∙ (remain.same cpu).0 all, λ rest. (remain.same cpu).1 (is ∙ rest))
 
   -- an entry that is listed by its number is counted
-  pub Remain-next : (next : ℕ → ℕ) → next ≡ put number entry.cpu (number entry.cpu + 1)
+  Remain-next : (next : ℕ → ℕ) → next ≡ put number entry.cpu (number entry.cpu + 1)
       → slice_get (mine_of tokens entry.cpu) (number entry.cpu) ≡ Some (commit_at ticket entry) → Remain tokens entries (ticket + 1) next
   Remain-next next is_next listed = let later : suc ticket ≡ ticket + 1 = omega arith in subst (λ t. Remain tokens entries t next) later (record {
     same = λ cpu. ⊎_elim
@@ -140,6 +134,22 @@ module _ (tokens : List TokenView) (entries : List JournalEntry) (ticket : ℕ) 
         (λ (own : cpu ≡ entry.cpu). rw (is_next, eq-eqb cpu entry.cpu own) (omega (arith, remain.few entry.cpu)))
         (λ (other : cpu ≡ entry.cpu → ⊥). rw (is_next, ne_eqb cpu entry.cpu other) (omega (arith, remain.few cpu))) (cases_eq cpu entry.cpu);
   })
+
+  -- the same, where its CPU's token is read at an index, and its list at a place
+  module _ (token : TokenView) (index place : ℕ) (is_index : index ≡ entry.cpu) (within : index < length tokens)
+      (read : token ≡ get_or tokens index token) (is_place : place ≡ number entry.cpu) where
+    listed_by_token : slice_get token.mine place ≡ slice_get (mine_of tokens entry.cpu) (number entry.cpu)
+    listed_by_token =
+        let found : slice_get tokens entry.cpu ≡ Some token = slice_get_read tokens (length tokens) entry.cpu token refl (omega (arith, within, is_index))
+        (read ∙ ap (λ k. get_or tokens k token) is_index) in
+        ap (λ mine. slice_get mine place) (sym (mine_of-some tokens entry.cpu token found)) ∙ ap (slice_get (mine_of tokens entry.cpu)) is_place
+
+    pub listed-by_token : AreListed tokens entries → slice_get token.mine place ≡ Some (commit_at ticket entry)
+    listed-by_token listed = listed_by_token ∙ listed-next listed
+
+    pub Remain-by_token : (next : ℕ → ℕ) → next ≡ put number entry.cpu (number entry.cpu + 1) → slice_get token.mine place ≡ Some (commit_at ticket entry)
+        → Remain tokens entries (ticket + 1) next
+    Remain-by_token next is_next listed = Remain-next next is_next (sym listed_by_token ∙ listed)
 
 -- at the end the tokens list the entries just where no list goes on
 pub listed-end : (tokens : List TokenView) (entries : List JournalEntry) (ticket : ℕ) (number : ℕ → ℕ) → Remain tokens entries ticket number
