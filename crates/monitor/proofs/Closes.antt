@@ -1,6 +1,7 @@
 -- A run that is closed, or whose tokens and journal disagree.
-use Rattle.std.proofs.Common.{◌≡◌, Bool, true, false, List, sym, ap, ◌∙◌, subst}
+use Rattle.std.proofs.Common.{◌≡◌, Bool, true, false, List, length, ap, ◌∙◌, subst}
 use Rattle.std.specs.Prelude.{◌↔◌}
+use Rattle.std.specs.List.{sum_by}
 use Rattle.std.proofs.lemmas.Bool.{iff_false}
 use Rattle.rmm_spec.specs.declared.event.Event.{Event}
 use Rattle.rmm_spec.specs.declared.line.Line.{Line}
@@ -15,11 +16,12 @@ use Rattle.monitor.proofs.Causes.{same-run}
 module _ (config : Config) (journal : JournalView) (last : State) (same : journal.config.granules ≡ config.granules)
     (run : IsRun (opening journal.config) journal.entries last) (tokens compared : List TokenView) (are : compared ≡ tokens) (answer : Bool)
     (tells : (answer ≡ true) ↔ AreListed compared journal.entries) where
-  pub disagree : answer ≡ false → Disagree config tokens
-  disagree refused = record {
+  pub disagree : length journal.entries ≡ sum_by (λ (token : TokenView). length token.mine) tokens → answer ≡ false → Disagree config tokens
+  disagree counted refused = record {
     entries = journal.entries;
     last = last;
     run = same-run config journal.config journal.entries last same run;
+    counted = counted;
     unlisted = subst (λ ts. ¬ AreListed ts journal.entries) are (iff_false tells refused);
   }
 

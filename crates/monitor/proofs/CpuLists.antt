@@ -1,7 +1,7 @@
 -- The tokens and passes of all CPUs: as they are made, and with those of one CPU changed.
-use Rattle.std.proofs.Common.{◌≡◌, ℕ, zero, suc, ◌+◌, ◌<◌, ◌≤◌, false, List, [], ◌∷◌, ◌++◌, length, set, Some, refl, sym, ap, ◌∙◌, subst, arith, ◌⊎◌, inl, inr, ⊎_elim}
+use Rattle.std.proofs.Common.{◌≡◌, ℕ, zero, suc, ◌<◌, ◌≤◌, List, [], ◌∷◌, ◌++◌, length, set, take, drop, Some, refl, sym, ap, ◌∙◌, subst, arith, ◌⊎◌, inl, inr, ⊎_elim}
 use Rattle.std.specs.Prelude.{Result, Ok, Err, slice_get}
-use Rattle.std.proofs.lemmas.List.{length_push, length-set}
+use Rattle.std.proofs.lemmas.List.{length_push, length-set, take_at}
 use Rattle.std.specs.List.{sum_by}
 use Rattle.std.proofs.lemmas.List.Sums.{sum_by-cons}
 use Rattle.std.proofs.lemmas.Option.{none-some, same_Some, slice_get_within}
@@ -132,6 +132,15 @@ module _ (monitor : MonitorView) (tokens : List TokenView) (passes : List CpuVie
     numbered = λ k t at. ⊎_elim (λ (here : (k ≡ cpu) × (t ≡ token)). ap (λ (x : TokenView). x.cpu) here.1 ∙ same_cpu ∙ sym here.0)
         (λ (there : (k ≡ cpu → ⊥) × (slice_get tokens k ≡ Some t)). old.numbered k t there.1) (set_cases tokens cpu k token t at);
   }
+
+-- lent as slices and given back
+pub cpus-refilled : (monitor : MonitorView) (tokens old_tokens : List TokenView) (passes old_passes : List CpuView) (token_count pass_count : ℕ)
+    → AreCpus monitor tokens passes → token_count ≡ monitor.config.cpus → pass_count ≡ monitor.config.cpus
+    → AreCpus monitor (take token_count (tokens ++ drop (length tokens) old_tokens)) (take pass_count (passes ++ drop (length passes) old_passes))
+cpus-refilled monitor tokens old_tokens passes old_passes token_count pass_count cpus all_tokens all_passes =
+    let same_tokens = take_at tokens (drop (length tokens) old_tokens) token_count (cpus.count ∙ sym all_tokens) in
+    let same_passes = take_at passes (drop (length passes) old_passes) pass_count (cpus.pairs.same_count ∙ cpus.count ∙ sym all_passes) in
+    subst (λ (p : List TokenView × List CpuView). AreCpus monitor p.0 p.1) (λ i. (sym same_tokens i, sym same_passes i)) cpus
 
 -- ---- without the last
 

@@ -1,5 +1,6 @@
 -- What is left of a run at its close.
-use Rattle.std.specs.Prelude.{◌≡◌, List, map}
+use Rattle.std.specs.Prelude.{◌≡◌, List, length, map}
+use Rattle.std.specs.List.{sum_by}
 use Rattle.rmm_spec.specs.declared.event.Event.{Event}
 use Rattle.rmm_spec.specs.declared.line.Line.{Line}
 use Rattle.rmm_spec.specs.HistoryText.{Config}
@@ -21,9 +22,10 @@ pub record IsJournal (config : Config) (tokens : List TokenView) (events : List 
   pub listed : AreListed tokens entries
   pub written : lines ≡ lines_for events entries
 
--- some journal that is a run of this machine isn't what the tokens list
+-- Some journal that is a run of this machine, with as many entries as the tokens list together, isn't what they list.
 pub record Disagree (config : Config) (tokens : List TokenView) : Type 0 where
   pub entries : List JournalEntry
   pub last : State
   pub run : IsRun (opening config) entries last
+  pub counted : length entries ≡ sum_by (λ (token : TokenView). length token.mine) tokens
   pub unlisted : ¬ AreListed tokens entries

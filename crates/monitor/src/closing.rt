@@ -48,13 +48,14 @@ impl<S: Site> Monitor<S> {
         let (mut scribe, mut passes, mut history) = (scribe, passes, history);
         recorder.drain_rest(rt, &mut scribe, passes.as_mut_slice(), &mut history)?;
         let mut tokens = tokens;
+        let tokens = tokens.as_mut_slice();
         let mut journal = journal.into_inner();
+        journal.audit(tokens);
         let _size = journal.config();
         let _books = journal.books();
-        if !journal.is_listed_by(tokens.as_slice()) {
+        if !journal.is_listed_by(tokens) {
             return Err(CloseFault::Disagrees);
         }
-        journal.audit(tokens.as_mut_slice());
         let certificate = certificate_of(alloc, journal.into_entries(), &history)?;
         Ok((history, certificate))
     }

@@ -103,25 +103,10 @@ fn fill_queue<S: Site, R: Wait>(
 {
     let (monitor, mut tokens, mut passes, scribe) = Monitor::<S>::new(alloc, blank, config, 1)?;
     let _cpus = config.cpus();
+    let (held, recorded) = (tokens.as_mut_slice(), passes.as_mut_slice());
     let answers = [
-        ask(
-            rt,
-            alloc,
-            &monitor,
-            &mut tokens,
-            &mut passes,
-            0,
-            "c4000151 1000",
-        )?,
-        ask(
-            rt,
-            alloc,
-            &monitor,
-            &mut tokens,
-            &mut passes,
-            0,
-            "c4000151 1000",
-        )?,
+        ask(rt, alloc, &monitor, held, recorded, 0, "c4000151 1000")?,
+        ask(rt, alloc, &monitor, held, recorded, 0, "c4000151 1000")?,
     ];
     let history = History::new(alloc, config);
     let texts = closed_texts(rt, alloc, monitor, tokens, passes, scribe, history)?;
@@ -166,37 +151,14 @@ fn delegate_by_two<S: Site, R: Wait>(
     let (monitor, mut tokens, mut passes, mut scribe) = Monitor::<S>::new(
         alloc, blank, config, 16,
     )?;
-    let first = ask(
-        rt,
-        alloc,
-        &monitor,
-        &mut tokens,
-        &mut passes,
-        0,
-        "c4000151 1000",
-    )?;
+    let (held, recorded) = (tokens.as_mut_slice(), passes.as_mut_slice());
     let mut history = History::new(alloc, config);
+    let first = ask(rt, alloc, &monitor, held, recorded, 0, "c4000151 1000")?;
     monitor.drain(rt, &mut scribe, &mut history)?;
     let answers = [
         first,
-        ask(
-            rt,
-            alloc,
-            &monitor,
-            &mut tokens,
-            &mut passes,
-            1,
-            "c4000151 1000",
-        )?,
-        ask(
-            rt,
-            alloc,
-            &monitor,
-            &mut tokens,
-            &mut passes,
-            0,
-            "c4000152 1000",
-        )?,
+        ask(rt, alloc, &monitor, held, recorded, 1, "c4000151 1000")?,
+        ask(rt, alloc, &monitor, held, recorded, 0, "c4000152 1000")?,
     ];
     let texts = closed_texts(rt, alloc, monitor, tokens, passes, scribe, history)?;
     Ok((answers, texts))
