@@ -4,16 +4,17 @@ ghost use Rattle.std.specs.Prelude.{◌≡◌, IsTrue, IfOk, IfSome};
 ghost use Rattle.rmm_spec.specs.Call.{call_of};
 ghost use Rattle.rmm_spec.specs.CommandText.{IsCommand};
 ghost use Rattle.command_core.specs.Served.{is_served};
+ghost use Rattle.event_queue.specs.View.{CanDrain};
 ghost use Rattle.monitor.specs.Cpus.{ArePairs};
 ghost use Rattle.monitor.specs.Executed.{ArePaired};
 
 use crate::tests::{Answer, ok};
-use crate::{CpuPass, CpuToken, Gate, Monitor, Site};
+use crate::{CpuPass, CpuToken, Gate, History, Monitor, ScribePass, Site};
 use command_core::served;
 use granule_state::Config;
 use rmi_codec::read_command;
-use rmm_spec::Command;
-use std::alloc::Global;
+use rmm_spec::{Command, Reply};
+use std::alloc::{AllocError, Global};
 use std::marker::Brand;
 use std::sync::Wait;
 use std::sync::atomic::{AtomicBool, Ordering};
@@ -24,6 +25,9 @@ use std::thread::Threads;
 
 /// How often a thread looks at most.
 const LOOKS: u64 = 1_000_000_000;
+
+/// How often a thread looks at what has to stay as it is.
+const STEADY_LOOKS: u64 = 1_000_000;
 
 /// Looks again and again, until the flag is set or it has looked often enough. Returns whether it was set.
 fn wait_for(flag: &AtomicBool) -> bool {
@@ -142,6 +146,31 @@ fn last_cpu<S: Site>(
     Ok(Cpu { token, pass })
 }
 
+/// Both CPUs on threads of their own: CPU 0 delegates granule 1000, and CPU 1 is asked once CPU 0 is held up.
+fn ask_both<S: Site + Send + Sync, R: Threads + Wait + Sync>(
+    rt: &R,
+    alloc: Global,
+    monitor: &Monitor<S>,
+    gate: &Turnstile,
+    first: Cpu<S>,
+    second: Cpu<S>,
+    text: &str,
+    answered: &AtomicBool,
+) -> (Option<Answer>, Option<Answer>)
+    requires first { ArePaired monitor.now first.token first.pass }
+    requires second { ArePaired monitor.now second.token second.pass }
+{
+    thread::join(
+        rt,
+        || -> Option<Answer>
+            requires { ArePaired monitor.now first.token first.pass }
+        { first.ask(rt, alloc, monitor, gate, "c4000151 1000") },
+        || -> Option<Answer>
+            requires { ArePaired monitor.now second.token second.pass }
+        { second.ask_second(rt, alloc, monitor, gate, text, answered) },
+    )
+}
+
 /// CPU 0 delegates a granule and is held up until CPU 1 has been answered, which delegates another. Returns both answers,
 /// and whether CPU 0 gave up waiting.
 fn delegate_apart<S: Site + Send + Sync, R: Threads + Wait + Sync>(
@@ -159,14 +188,15 @@ fn delegate_apart<S: Site + Send + Sync, R: Threads + Wait + Sync>(
     let second = last_cpu(&monitor, &mut tokens, &mut passes)?;
     let first = last_cpu(&monitor, &mut tokens, &mut passes)?;
     let gate = Turnstile::new();
-    let (first, second) = thread::join(
+    let (first, second) = ask_both(
         rt,
-        || -> Option<Answer>
-            requires { ArePaired monitor first.token first.pass }
-        { first.ask(rt, alloc, &monitor, &gate, "c4000151 1000") },
-        || -> Option<Answer>
-            requires { ArePaired monitor second.token second.pass }
-        { second.ask_second(rt, alloc, &monitor, &gate, "c4000151 2000", &gate.is_open) },
+        alloc,
+        &monitor,
+        &gate,
+        first,
+        second,
+        "c4000151 2000",
+        &gate.is_open,
     );
     Ok((first, second, gate.ran_out.load(Ordering::SeqCst)))
 }
@@ -183,5 +213,111 @@ fn two_commands_under_way(rt: HostRuntime) -> Result<(), Fail> {
     let replies = (first.ok_or("CPU 0")??.reply, second.ok_or("CPU 1")??.reply);
     assert_eq!(rt; replies, (ok(), ok()));
     assert!(rt; !ran_out);
+    Ok(())
+}
+
+/// Drains again and again, until CPU 1's call is in the history or it has drained often enough. Returns whether the call is.
+fn drain_second<S: Site, R: Wait>(
+    rt: &R,
+    monitor: &Monitor<S>,
+    mut scribe: ScribePass,
+    mut history: History,
+) -> Result<bool, AllocError>
+    requires { CanDrain monitor.now.queue scribe history.recorded }
+{
+    for _look in 0..LOOKS {
+        monitor.drain(rt, &mut scribe, &mut history)?;
+        if history.call_of(1, 0).is_some() {
+            return Ok(true);
+        }
+        thread::yield_now();
+    }
+    Ok(false)
+}
+
+/// Whether CPU 1 has neither passed the gate nor been answered at any of many looks.
+fn stays_out(gate: &Turnstile, answered: &AtomicBool) -> bool {
+    for look in 0..STEADY_LOOKS {
+        if gate.second_came.load(Ordering::SeqCst) || answered.load(Ordering::SeqCst) {
+            return false;
+        }
+        if look % 1000 == 0 {
+            thread::yield_now();
+        }
+    }
+    true
+}
+
+/// Opens the gate after CPU 1 has called and was looked at. Returns whether it called and stayed out.
+fn open_late<S: Site, R: Wait>(
+    rt: &R,
+    monitor: &Monitor<S>,
+    scribe: ScribePass,
+    history: History,
+    gate: &Turnstile,
+    answered: &AtomicBool,
+) -> Result<bool, AllocError>
+    requires { CanDrain monitor.now.queue scribe history.recorded }
+{
+    let has_called = drain_second(rt, monitor, scribe, history);
+    let is_out = stays_out(gate, answered);
+    gate.is_open.store(true, Ordering::SeqCst);
+    Ok(has_called? && is_out)
+}
+
+/// CPU 0 delegates a granule and is held up with the granule locked, while CPU 1 calls to delegate the same one. Returns both
+/// answers, and whether CPU 1 stayed out until CPU 0 could go on.
+fn delegate_same<S: Site + Send + Sync, R: Threads + Wait + Sync>(
+    rt: &R,
+    alloc: Global,
+    blank: Blank,
+    config: Config,
+) -> Result<(Option<Answer>, Option<Answer>, bool), Fail>
+    requires name { blank.name ≡ S.name }
+    requires parts { blank.parts ≡ S.parts }
+    requires one_each { blank.parts ≡ config.cpus }
+    requires granules { config.granules ≡ S.granules }
+{
+    let (monitor, mut tokens, mut passes, scribe) = Monitor::<S>::new(alloc, blank, config, 16)?;
+    let second = last_cpu(&monitor, &mut tokens, &mut passes)?;
+    let first = last_cpu(&monitor, &mut tokens, &mut passes)?;
+    let history = History::new(alloc, config);
+    let (gate, answered) = (Turnstile::new(), AtomicBool::new(false));
+    let ((first, second), stayed_out) = thread::join(
+        rt,
+        || -> (Option<Answer>, Option<Answer>)
+            requires { ArePaired monitor first.token first.pass × ArePaired monitor second.token second.pass }
+        {
+            ask_both(
+                rt,
+                alloc,
+                &monitor,
+                &gate,
+                first,
+                second,
+                "c4000151 1000",
+                &answered,
+            )
+        },
+        || -> Result<bool, AllocError>
+            requires { CanDrain monitor.queue scribe history.recorded }
+        { open_late(rt, &monitor, scribe, history, &gate, &answered) },
+    );
+    let ran_out = gate.ran_out.load(Ordering::SeqCst);
+    Ok((first, second, stayed_out? && !ran_out))
+}
+
+#[test]
+fn holder_keeps_others_out(rt: HostRuntime) -> Result<(), Fail> {
+    let config = Config::new(4, 2).ok_or("a machine of this size")?;
+    let (first, second, stayed_out) = delegate_same::<Brand, _>(
+        &rt,
+        rt.alloc(),
+        Blank::new(2),
+        config,
+    )?;
+    let replies = (first.ok_or("CPU 0")??.reply, second.ok_or("CPU 1")??.reply);
+    assert_eq!(rt; replies, (ok(), Reply::Err(1, 0)));
+    assert!(rt; stayed_out);
     Ok(())
 }
