@@ -1,3 +1,4 @@
 pub mod Steps
 pub mod Stands
 pub mod Passes
+pub mod Wholes

@@ -1,12 +1,13 @@
 -- Where a CPU stands after its next event.
-use Rattle.std.proofs.Common.{◌≡◌, ℕ, ◌+◌, ◌-◌, ◌≤◌, Bool, true, false, eqb, if◌then◌else◌, List, [], ◌∷◌, ◌++◌, Option, Some, None, refl, arith, sym, ap, ◌∙◌, subst, eq-eqb}
+use Rattle.std.proofs.Common.{◌≡◌, ℕ, ◌+◌, ◌-◌, ◌*◌, ◌≤◌, Bool, true, false, eqb, if◌then◌else◌, List, [], ◌∷◌, ◌++◌, length, Option, Some, None, refl, arith, sym, ap, ◌∙◌, subst, eq-eqb}
 use Rattle.std.specs.Prelude.{is_some, not, ◌&&◌}
+use mir.Val.{bool_byte}
 use Rattle.rmm_spec.specs.declared.command.Command.{Command}
 use Rattle.rmm_spec.specs.declared.reply.Reply.{Reply}
 use Rattle.rmm_spec.specs.declared.event.Event.{Event}
 use Rattle.rmm_spec.specs.declared.event.Event.TheVariants.{Called, Returned}
 use Rattle.rmm_spec.specs.HistoryText.{Stand, start, stand_from, IsRecord}
-use Rattle.rmm_spec.proofs.Places.{length-stand_from}
+use Rattle.rmm_spec.proofs.Places.{length-stand_from, open_count}
 use Rattle.rmm_spec.proofs.Records.{stand_from-push_at}
 use Rattle.event_queue.specs.declared.book.Page.{Page}
 use Rattle.event_queue.specs.Pages.{IsSeated}
@@ -40,6 +41,18 @@ stand-returned events cpu next is_open given leads opened =
     stand_from-push_at events (Returned cpu (next - 1) given) (record { next = next; is_open = is_open }) leads
     ∙ ap (λ b. if b && eqb (next - 1 + 1) next then Some (record { next = next; is_open = false }) else None) opened
     ∙ ap (λ b. if b then Some (record { next = next; is_open = false }) else None) (eq-eqb (next - 1 + 1) next same)
+
+-- an open call as a number
+open_byte : (is_open : Bool) → bool_byte is_open ≡ open_count is_open
+open_byte true = refl
+open_byte false = refl
+
+-- how many events lead to where a CPU stands
+pub count_from_stand : (events : List Event) (stand : Stand) (next opened : ℕ) (is_open : Bool) → stand_from start events ≡ Some stand
+    → next ≡ stand.next → opened ≡ bool_byte is_open → is_open ≡ stand.is_open → 2 * next ≡ length events + opened
+count_from_stand events stand next opened is_open leads is_next is_opened is_stand =
+    let same = is_opened ∙ open_byte is_open ∙ ap open_count is_stand in
+    omega (arith, length-stand_from start events stand leads, same)
 
 -- ---- the page of a CPU
 

@@ -1,7 +1,8 @@
 //! Events of running CPUs, on their way through a bounded queue into a history.
 //! It promises that each CPU's events, drained and queued, are its pass's own list, under every schedule of the threads.
 //! A refused push found the queue full. What a drain takes from the queue stands in the history, in order, and memory is refused
-//! to it only where the history had no room.
+//! to it only where the history had no room. Once all passes are back the rest is drained, and each CPU's part of the history
+//! is its pass's whole list.
 //! Calls here may wait for other threads, and what they promise holds where they return.
 //! The monitor and the run of two threads depend on it.
 #![tactic(auto)]
@@ -10,12 +11,14 @@ mod book;
 mod cpu_pass;
 mod full;
 mod recorder;
+mod rest;
 mod scribe_pass;
 
 pub use cpu_pass::CpuPass;
 pub use full::Full;
 pub use history::{Command, Event, History, Reply};
 pub use recorder::Recorder;
+pub use rest::fit_a_history;
 pub use scribe_pass::ScribePass;
 
 #[cfg(test)]

@@ -96,7 +96,8 @@ impl Recorder {
 
     /// Moves events from the queue to the end of the history, and returns how many. It takes at most as many as the queue
     /// may hold, and stops where the queue is empty or the history's text has no room for another line. Where memory is
-    /// refused, what was taken stands in the history, and was all that it had room for in memory.
+    /// refused, what was taken stands in the history, and was all that it had room for in memory. No more of that room is
+    /// used up than what was taken.
     pub fn drain<R: Wait>(
         &self,
         rt: &R,
@@ -107,6 +108,7 @@ impl Recorder {
         ensures taken { (taken : List Event) × (scribe.new ≡ record scribe.old { events = scribe.old.events ++ taken })
             × (length taken ≤ self.now.capacity) × IfOk result (λ count. count ≡ length taken)
             × OnErr result (history.old.room ≤ length taken) }
+        ensures left { history.old.room + length scribe.old.events ≤ history.new.room + length scribe.new.events }
         ensures history { history.new.recorded ≡ record history.old.recorded { events = scribe.new.events } }
     {
         let capacity = self.queue.capacity();
@@ -141,7 +143,7 @@ impl Recorder {
         ensures stays { IfOk result (λ moved. moved ≡ false → scribe.new ≡ scribe.old) }
         ensures err { OnErr result (scribe.new ≡ scribe.old) }
         ensures succeeds { 1 ≤ history.old.room → IsOk result }
-        ensures left { history.old.room ≤ history.new.room + 1 }
+        ensures left { history.old.room + length scribe.old.events ≤ history.new.room + length scribe.new.events }
         ensures history { history.new.recorded ≡ record history.old.recorded { events = scribe.new.events } }
     {
         if !history.has_room() {

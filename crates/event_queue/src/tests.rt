@@ -4,7 +4,7 @@ ghost use Rattle.std.specs.Prelude.{◌≡◌, [], length, IfOk};
 ghost use Rattle.std.specs.List.{AllWithin};
 ghost use Rattle.event_queue.specs.View.{CanDrain, before_calls};
 
-use crate::{CpuPass, Full, Recorder, ScribePass};
+use crate::{CpuPass, Full, Recorder, ScribePass, fit_a_history};
 use granule_state::Config;
 use history::{Command, History, Reply, write};
 use rmi_codec::{read_command, read_reply};
@@ -62,6 +62,24 @@ fn refused_return_stops_its_pass(rt: HostRuntime) -> Result<(), Fail> {
     assert_eq!(rt; recorder.drain(&rt, &mut scribe, &mut history), Ok(1));
     let text = text_of(rt.alloc(), &history)?;
     let wanted = b"rmh1 4 2\nc 0 0 c4000151 1000\nc 1 0 c4000151 2000\nr 1 0 ok\n";
+    assert_eq!(rt; text.as_slice(), wanted.as_slice());
+    Ok(())
+}
+
+#[test]
+fn rest_makes_each_list_whole(rt: HostRuntime) -> Result<(), Fail> {
+    let mut history = empty(rt.alloc(), 4, 2)?;
+    let (recorder, mut first, mut second, mut scribe) = of_two_cpus(rt.alloc())?;
+    recorder.call(&rt, &mut first, read_command("c4000151 1000")?)?;
+    recorder.call(&rt, &mut second, read_command("c4000151 2000")?)?;
+    assert_eq!(rt; recorder.drain(&rt, &mut scribe, &mut history), Ok(2));
+    recorder.returned(&rt, &mut second, read_reply("ok")?)?;
+    recorder.returned(&rt, &mut first, read_reply("ok")?)?;
+    let mut passes = [first, second];
+    assert!(rt; fit_a_history(&passes));
+    recorder.drain_rest(&rt, &mut scribe, &mut passes, &mut history)?;
+    let text = text_of(rt.alloc(), &history)?;
+    let wanted = b"rmh1 4 2\nc 0 0 c4000151 1000\nc 1 0 c4000151 2000\nr 1 0 ok\nr 0 0 ok\n";
     assert_eq!(rt; text.as_slice(), wanted.as_slice());
     Ok(())
 }

@@ -1,0 +1,109 @@
+//! The rest of what the CPUs recorded, once their passes are back.
+
+ghost use Rattle.std.specs.Prelude.{◌≡◌, ◌<◌, ◌≤◌, ◌^◌, ◌↔◌, IsTrue, IfSome, IfNone, OnOk, OnErr, List, ◌++◌, length};
+ghost use Rattle.rmm_spec.specs.declared.event.Event.{Event};
+ghost use Rattle.event_queue.specs.View.{CanDrain, AreSeats, AreBegun, AreWhole, count_recorded};
+
+use crate::cpu_pass::CpuPass;
+use crate::recorder::Recorder;
+use crate::scribe_pass::ScribePass;
+use history::{History, MOST_LINES};
+use std::alloc::AllocError;
+use std::sync::Wait;
+
+impl Recorder {
+    /// Drains until the history has each CPU's whole list. All passes are here, so nobody records meanwhile, and it tries again
+    /// as long as an event is missing. Where memory is refused, what was taken stands in the history, and was all that it had
+    /// room for in memory.
+    pub fn drain_rest<R: Wait>(
+        &self,
+        rt: &R,
+        scribe: &mut ScribePass,
+        passes: &mut [CpuPass],
+        history: &mut History,
+    ) -> Result<(), AllocError>
+        requires can { CanDrain self.now.queue scribe.old history.old.recorded }
+        requires count { length passes.old ≡ scribe.old.cpus }
+        requires passes { AreSeats self.now.queue passes.old }
+        requires room { count_recorded passes.old < MOST_LINES }
+        ensures whole { OnOk result (AreWhole passes.old history.new.recorded.events) }
+        ensures taken { (rest : List Event) × (scribe.new ≡ record scribe.old { events = scribe.old.events ++ rest })
+            × OnErr result (history.old.room ≤ length rest) }
+        ensures history { history.new.recorded ≡ record history.old.recorded { events = scribe.new.events } }
+        ensures passes { passes.new ≡ passes.old }
+    {
+        let Some(count) = count_recorded(passes) else {
+            unreachable!()
+        };
+        self.drain_to(rt, scribe, history, count)?;
+        history.well_formed();
+        self.compare_all(scribe, passes);
+        Ok(())
+    }
+
+    /// Drains again and again until the history has so many events.
+    fn drain_to<R: Wait>(
+        &self,
+        rt: &R,
+        scribe: &mut ScribePass,
+        history: &mut History,
+        count: usize,
+    ) -> Result<(), AllocError>
+        requires { CanDrain self.now.queue scribe.old history.old.recorded }
+        ensures reached { OnOk result (count ≤ length history.new.recorded.events) }
+        ensures taken { (rest : List Event) × (scribe.new ≡ record scribe.old { events = scribe.old.events ++ rest })
+            × OnErr result (history.old.room ≤ length rest) }
+        ensures history { history.new.recorded ≡ record history.old.recorded { events = scribe.new.events } }
+    {
+        for _look in rt.forever() {
+            if count <= history.len() {
+                return Ok(());
+            }
+            self.drain(rt, scribe, history)?;
+        }
+        unreachable!()
+    }
+
+    /// Compares what was drained with each CPU's own list.
+    fn compare_all(&self, scribe: &mut ScribePass, passes: &mut [CpuPass])
+        requires scribe { scribe.old.queue ≡ self.now.queue }
+        requires passes { AreSeats self.now.queue passes.old }
+        ensures begun { AreBegun passes.old scribe.old.events }
+        ensures same { (scribe.new ≡ scribe.old) × (passes.new ≡ passes.old) }
+    {
+        for pass in passes.iter_mut() {
+            self.drained_in_order(scribe, pass);
+        }
+    }
+}
+
+/// Whether a history has room for all that the passes recorded.
+pub fn fit_a_history(passes: &[CpuPass]) -> bool
+    ensures { IsTrue result ↔ (count_recorded passes.now < MOST_LINES) }
+{
+    count_recorded(passes).is_some()
+}
+
+/// How many events the passes recorded together, where a history has room for so many.
+fn count_recorded(passes: &[CpuPass]) -> Option<usize>
+    ensures some { IfSome result (λ count. (count ≡ count_recorded passes.now) × (count < MOST_LINES)) }
+    ensures none { IfNone result (MOST_LINES ≤ count_recorded passes.now) }
+{
+    let mut count = 0;
+    for pass in passes {
+        count += recorded_by(pass);
+        if count >= MOST_LINES {
+            return None;
+        }
+    }
+    Some(count)
+}
+
+/// How many events a CPU recorded.
+fn recorded_by(pass: &CpuPass) -> usize
+    ensures count { result ≡ length pass.now.events }
+    ensures most { result < 2 ^ 33 }
+{
+    pass.well_formed();
+    2 * pass.next_number() as usize - usize::from(pass.is_open())
+}
