@@ -1,7 +1,8 @@
-//! Runs a monitor on threads, at random and by the clock. `bench_monitor runs FIRST COUNT COMMANDS` judges a random run of eight CPUs,
-//! each of which executes so many commands, for so many seeds; `bench_monitor stops FIRST COUNT COMMANDS` judges the same runs
-//! with one CPU stopped in the middle; `all` does both. `bench_monitor time GRANULES LOCK CPUS ROUNDS` times fixed programs
-//! over granules that are each CPU's own or shared, executed by the monitor's locks or behind one, so that a script can compare.
+//! Runs a monitor on threads, at random and by the clock. `bench_monitor runs FIRST COUNT COMMANDS` judges random runs of so many
+//! seeds, in each of which eight CPUs execute so many commands each, and `stops` judges the same runs with one CPU stopped in the
+//! middle; `all` does both, and `replies` counts the replies of the first. `bench_monitor time GRANULES LOCKS CPUS ROUNDS` times
+//! fixed programs over granules that are each CPU's `own` or `shared`, with the monitor's `many` locks or `one` around each command,
+//! so that a script can compare.
 //! It prints counts and times, which no proof speaks of, and ends with status 1 where a judgement isn't `yes`.
 //! It depends on `monitor` and `checker`, and nothing depends on it.
 #![tactic(auto)]
@@ -16,13 +17,15 @@ mod runs;
 mod timed;
 
 use anyhow::{Context, Result, bail};
-use runs::{Batch, judge_runs};
+use runs::{Batch, count_replies, judge_runs};
 use std::env;
 use timed::{Kind, time_rounds};
 
 fn main(rt: HostRuntime) -> Result<()> {
     let mut arguments = env::args(&rt)?.skip(1);
-    let kind = arguments.next().context("runs, stops, all or time?")?;
+    let kind = arguments
+        .next()
+        .context("runs, stops, all, replies or time?")?;
     if kind.as_str() == "time" {
         let kind = Kind {
             is_shared: is_second(arguments.next(), "own", "shared")?,
@@ -44,7 +47,8 @@ fn main(rt: HostRuntime) -> Result<()> {
             judge_runs(&rt, rt.alloc(), batch, false)?;
             judge_runs(&rt, rt.alloc(), batch, true)
         }
-        _ => bail!("runs, stops, all or time?"),
+        "replies" => count_replies(&rt, rt.alloc(), batch),
+        _ => bail!("runs, stops, all, replies or time?"),
     }
 }
 

@@ -5,9 +5,11 @@ use crate::recorded::recorded;
 use anyhow::{Context, Result, bail};
 use checker::{Verdict, check};
 use granule_state::Config;
+use monitor::{Certificate, History};
 use rand::RngExt;
 use rand_core::SeedableRng;
 use rand_xoshiro::Xoshiro256PlusPlus;
+use rmi_view::ReplyRef;
 use std::alloc::Global;
 use std::marker::Brand;
 use std::sync::Wait;
@@ -36,7 +38,8 @@ pub(crate) fn judge_runs<R: Print + Threads + Wait + Sync>(
     } = batch;
     let mut yes: u64 = 0;
     for seed in first..first.saturating_add(count) {
-        match verdict(rt, alloc, seed, commands, with_stop)? {
+        let (history, certificate) = run_of(rt, alloc, seed, commands, with_stop)?;
+        match verdict(alloc, &history, &certificate)? {
             Verdict::Yes(_) => yes = yes.wrapping_add(1),
             verdict => println!(rt; "seed {seed}: {verdict:?}")?,
         }
@@ -53,14 +56,36 @@ pub(crate) fn judge_runs<R: Print + Threads + Wait + Sync>(
     Ok(())
 }
 
-// The verdict on the two texts of a run.
-fn verdict<R: Threads + Wait + Sync>(
+/// Prints how many replies the runs have, and how many of those are `ok`. Both depend on the schedule.
+pub(crate) fn count_replies<R: Print + Threads + Wait + Sync>(
+    rt: &R,
+    alloc: Global,
+    batch: Batch,
+) -> Result<()> {
+    let Batch {
+        first,
+        count,
+        commands,
+    } = batch;
+    let (mut all, mut ok): (u64, u64) = (0, 0);
+    for seed in first..first.saturating_add(count) {
+        let (history, _certificate) = run_of(rt, alloc, seed, commands, false)?;
+        let (replies, accepted) = replies_of(&history);
+        all = all.wrapping_add(replies);
+        ok = ok.wrapping_add(accepted);
+    }
+    println!(rt; "{ok} of {all} replies are ok")?;
+    Ok(())
+}
+
+// A run of eight CPUs whose queue has room, or mostly doesn't.
+fn run_of<R: Threads + Wait + Sync>(
     rt: &R,
     alloc: Global,
     seed: u64,
     commands: u64,
     with_stop: bool,
-) -> Result<Verdict> {
+) -> Result<(History, Certificate)> {
     let mut random = Xoshiro256PlusPlus::seed_from_u64(seed);
     let config = Config::new(GRANULES, CPUS).context("no such machine")?;
     let capacity = if random.random_range(0..4) == 0 {
@@ -70,17 +95,26 @@ fn verdict<R: Threads + Wait + Sync>(
     };
     let jobs = drawn_jobs(alloc, commands, with_stop, &mut random)?;
     let blank = Blank::new(u64::from(config.cpus()));
-    let (history, certificate) = recorded::<Brand, R>(
-        rt,
-        alloc,
-        blank,
-        config,
-        capacity,
-        jobs.as_slice(),
-    )?;
+    recorded::<Brand, R>(rt, alloc, blank, config, capacity, jobs.as_slice())
+}
+
+// The verdict on the two texts of a run.
+fn verdict(alloc: Global, history: &History, certificate: &Certificate) -> Result<Verdict> {
     let mut events = Vec::new(alloc);
-    history::write(&history, &mut events)?;
+    history::write(history, &mut events)?;
     let mut lines = Vec::new(alloc);
-    certificate::write(&certificate, &mut lines)?;
+    certificate::write(certificate, &mut lines)?;
     Ok(check(alloc, events.as_slice(), lines.as_slice())?)
+}
+
+// How many replies there are, and how many of them are `ok`.
+fn replies_of(history: &History) -> (u64, u64) {
+    let (mut all, mut ok): (u64, u64) = (0, 0);
+    for place in 0..history.len() {
+        if let Some(reply) = history.reply_at(place) {
+            all = all.wrapping_add(1);
+            ok = ok.wrapping_add(u64::from(matches!(reply, ReplyRef::Ok(_))));
+        }
+    }
+    (all, ok)
 }

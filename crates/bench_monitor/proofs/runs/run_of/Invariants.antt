@@ -1,4 +1,4 @@
-use Rattle.bench_monitor.proofs.runs.verdict.Given as goal
+use Rattle.bench_monitor.proofs.runs.run_of.Given as goal
 
 abbrev pub ghosts-recorded-S-Site : goal.ghosts-recorded-S-Site
 ghosts-recorded-S-Site g a = record { granules = a.config.granules }
