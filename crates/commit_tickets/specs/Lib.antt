@@ -1,4 +1,5 @@
 pub mod Entries
 pub mod Faults
+pub mod Listed
 pub mod Opening
 pub mod View

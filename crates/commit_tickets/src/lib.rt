@@ -1,8 +1,8 @@
-//! The journal of all commits, and the tokens by which CPUs commit on the cells that they hold.
+//! The journal of all commits, and the tokens by which CPUs commit on the cells that they hold; nothing here waits.
 //! It promises that the journal is always a run of the specification machine, and its books that run's last state; that a
-//! commit is a local step of what is held with the reply that its one entry has, or changes nothing and has its cause; and
-//! that the journal has as many entries as all tokens list. What threads share is a journal behind a lock; nothing here waits.
-//! The monitor and the run of two threads depend on it.
+//! commit is a local step of what is held with the reply that its one entry has, or changes nothing and has its cause; that
+//! the journal has as many entries as all tokens list; and that `is_listed_by` tells whether they are the same, CPU by CPU.
+//! The monitor and the runs of threads keep one such journal behind a lock.
 #![tactic(auto)]
 
 mod audit;
@@ -10,13 +10,17 @@ mod committing;
 mod copies;
 mod fault;
 mod journal;
+mod listing;
+mod numbers;
 mod opening;
+mod same;
 mod site;
 mod token;
 
 pub use committing::{Done, commit};
 pub use fault::CommitFault;
 pub use journal::{Entry, Journal};
+pub use numbers::Numbers;
 pub use site::Site;
 pub use token::{Committed, CpuToken};
 

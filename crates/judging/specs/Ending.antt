@@ -18,6 +18,7 @@ status_of (Err (fault.CannotRead path)) = 3
 status_of (Err fault.CannotWrite) = 3
 status_of (Err fault.NoMemory) = 3
 status_of (Err fault.NoThread) = 3
+status_of (Err fault.Disagrees) = 3
 
 -- without its newline
 abbrev pub fault_line : Fault → List ℕ
@@ -26,6 +27,7 @@ fault_line (fault.CannotRead path) = codes "rmmcheck: cannot read " ++ path.now
 fault_line fault.CannotWrite = codes "rmmcheck: cannot write"
 fault_line fault.NoMemory = codes "rmmcheck: no memory"
 fault_line fault.NoThread = codes "rmmcheck: cannot start a thread"
+fault_line fault.Disagrees = codes "rmmcheck: disagrees"
 
 -- a verdict's line goes to standard output, and a fault's to standard error
 abbrev pub error_line : Result Verdict Fault → Option (List ℕ)

@@ -24,7 +24,8 @@ pub fn ends_with<'a>(outcome: Result<Verdict, Fault<'a>>) -> Ending<'a>
         Ok(Verdict::No { .. }) => 1,
         Ok(Verdict::HistoryFault(_) | Verdict::CertificateFault(_)) => 2,
         Err(Fault::Arguments) => 2,
-        Err(Fault::CannotRead(_) | Fault::CannotWrite | Fault::NoMemory | Fault::NoThread) => 3,
+        Err(Fault::CannotRead(_) | Fault::CannotWrite) => 3,
+        Err(Fault::NoMemory | Fault::NoThread | Fault::Disagrees) => 3,
     };
     Ending {
         status,

@@ -20,6 +20,8 @@ pub enum Fault<'a> {
     NoMemory,
     /// A thread can't be started.
     NoThread,
+    /// A CPU's list of commits isn't what the journal has of it.
+    Disagrees,
 }
 
 /// The two paths of a `check`, as they were given.
@@ -53,6 +55,7 @@ impl fmt::Display for Fault<'_> {
             Fault::CannotWrite => f.write_str("rmmcheck: cannot write"),
             Fault::NoMemory => f.write_str("rmmcheck: no memory"),
             Fault::NoThread => f.write_str("rmmcheck: cannot start a thread"),
+            Fault::Disagrees => f.write_str("rmmcheck: disagrees"),
         }
     }
 }

@@ -5,7 +5,7 @@ use Rattle.rmm_spec.specs.declared.command.Command.{Command}
 use Rattle.rmm_spec.specs.Call.{call_of}
 use Rattle.rmm_spec.specs.HistoryText.{Config}
 use Rattle.rmm_spec.specs.Local.{HeldCell}
-use Rattle.rmm_spec.specs.Run.{IsRun}
+use Rattle.rmm_spec.specs.Run.{JournalEntry, IsRun}
 use Rattle.rmm_spec.specs.State.{State, opening}
 use Rattle.command_core.specs.Seen.{place_of}
 use Rattle.command_core.specs.Settled.{is_settled}
@@ -16,10 +16,12 @@ use Rattle.commit_tickets.specs.View.{JournalView, TokenView}
 use Rattle.monitor.specs.Causes.{HadCause}
 use Rattle.granule_lock.specs.Locked.{AreGranules}
 
--- a machine opens in the same state with as many granules
-same-opening : (config : Config) (granules : ℕ) (p : State → Type 0) → config.granules ≡ granules → p (opening config)
-    → p (opening (record config { granules = granules }))
-same-opening config granules p same = subst (λ g. p (opening (record config { granules = g }))) same
+-- a run of a machine is one of each machine with as many granules
+pub same-run : (config other : Config) (entries : List JournalEntry) (last : State) → other.granules ≡ config.granules
+    → IsRun (opening other) entries last → IsRun (opening config) entries last
+unfolding opening
+same-run config other entries last same run =
+    subst (λ granules. IsRun (opening (record config { granules = granules })) entries last) same run
 
 -- a fault of a commit had its cause
 pub fault-had_cause : (config : Config) (command : Command) (token : TokenView) (journal : JournalView) (last : State) (cells : List HeldCell)
@@ -27,7 +29,6 @@ pub fault-had_cause : (config : Config) (command : Command) (token : TokenView) 
     → IsRun (opening journal.config) journal.entries last → AreGranules config.granules cells
     → IsTrue (is_settled config.granules (call_of command) (place_of token.place) cells)
     → IfErr result (λ fault. HasCause fault size command journal token cells) → IfErr result (λ fault. HadCause config fault command token)
-unfolding opening
 fault-had_cause config command token journal last cells size (Ok done) is_size is_journal run granules settled cause = tt
 fault-had_cause config command token journal last cells size (Err fault) is_size is_journal run granules settled cause =
     let same : journal.config.granules ≡ config.granules = is_journal ∙ sym is_size in record {
@@ -35,7 +36,7 @@ fault-had_cause config command token journal last cells size (Err fault) is_size
       last = last;
       cells = cells;
       same_size = same;
-      run = same-opening journal.config config.granules (λ (first : State). IsRun first journal.entries last) same run;
+      run = same-run config journal.config journal.entries last same run;
       granules = granules;
       settled = settled;
       cause = subst (λ n. HasCause fault n command journal token cells) (sym is_size) cause;

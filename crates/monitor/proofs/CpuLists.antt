@@ -1,13 +1,15 @@
 -- The tokens and passes of all CPUs: as they are made, and with those of one CPU changed.
-use Rattle.std.proofs.Common.{◌≡◌, ℕ, zero, suc, ◌+◌, ◌<◌, false, List, [], ◌∷◌, ◌++◌, length, set, Some, refl, sym, ap, ◌∙◌, subst, arith, ◌⊎◌, inl, inr, ⊎_elim}
+use Rattle.std.proofs.Common.{◌≡◌, ℕ, zero, suc, ◌<◌, ◌≤◌, List, [], ◌∷◌, ◌++◌, length, set, take, drop, Some, refl, sym, ap, ◌∙◌, subst, arith, ◌⊎◌, inl, inr, ⊎_elim}
 use Rattle.std.specs.Prelude.{Result, Ok, Err, slice_get}
-use Rattle.std.proofs.lemmas.List.{length_push, length-set}
+use Rattle.std.proofs.lemmas.List.{length_push, length-set, take_at}
+use Rattle.std.specs.List.{sum_by}
+use Rattle.std.proofs.lemmas.List.Sums.{sum_by-cons}
 use Rattle.std.proofs.lemmas.Option.{none-some, same_Some, slice_get_within}
 use Rattle.world_laws.proofs.Lists.{slice_get-append, slice_get-push, slice_get-push_cases}
 use Rattle.rmm_spec.specs.declared.command.Command.{Command}
 use Rattle.commit_tickets.specs.declared.committing.Done.{Done}
 use Rattle.commit_tickets.specs.View.{TokenView, before_commits, first_tokens}
-use Rattle.event_queue.specs.View.{CpuView, before_calls}
+use Rattle.event_queue.specs.View.{CpuView, AreSeats, before_calls, count_recorded}
 use Rattle.monitor.specs.View.{MonitorView}
 use Rattle.monitor.specs.declared.refused.Refused.{Refused}
 use Rattle.monitor.specs.declared.refused.Refused.TheVariants.{Full, NoMemory, Unrecorded, Stopped, Disagrees}
@@ -58,6 +60,36 @@ cpus-first monitor tokens passes are count each =
       };
     }
 
+-- ---- at the close
+
+is_there : {X : Type 0} (xs : List X) (place : ℕ) → place < length xs → (x : X) × (slice_get xs place ≡ Some x)
+is_there [] place within = absurd (omega (arith, within))
+is_there (x ∷ xs) zero within = (x, refl)
+is_there (x ∷ xs) (suc place) within = is_there xs place (omega (arith, within))
+
+-- each pass is of the monitor's queue, and of the CPU of its place
+pub cpus-seats : (monitor : MonitorView) (tokens : List TokenView) (passes : List CpuView) → AreCpus monitor tokens passes
+    → AreSeats monitor.queue passes
+cpus-seats monitor tokens passes cpus cpu pass at =
+    let token = is_there tokens cpu (omega (arith, slice_get_within passes cpu pass at, cpus.pairs.same_count)) in
+    let pair = cpus.pairs.each cpu token.0 pass token.1 at in
+    (pair.same_queue, pair.same_cpu ∙ cpus.numbered cpu token.0 token.1)
+
+-- the tokens together list no more commits than the passes have events
+pub commits-le : (tokens : List TokenView) (passes : List CpuView) → length passes ≡ length tokens
+    → ((k : ℕ) (t : TokenView) (p : CpuView) → slice_get tokens k ≡ Some t → slice_get passes k ≡ Some p → length t.mine ≤ length p.events)
+    → sum_by (λ (t : TokenView). length t.mine) tokens ≤ count_recorded passes
+commits-le [] passes same few = omega arith
+commits-le (t ∷ tokens) [] same few = absurd (omega (arith, same))
+commits-le (t ∷ tokens) (p ∷ passes) same few =
+    omega (
+      arith,
+      sum_by-cons (λ (x : TokenView). length x.mine) t tokens,
+      sum_by-cons (λ (x : CpuView). length x.events) p passes,
+      few 0 t p refl refl,
+      commits-le tokens passes (omega (arith, same)) (λ k. few (suc k)),
+    )
+
 -- ---- with one changed
 
 -- a token stays its CPU's
@@ -100,6 +132,15 @@ module _ (monitor : MonitorView) (tokens : List TokenView) (passes : List CpuVie
     numbered = λ k t at. ⊎_elim (λ (here : (k ≡ cpu) × (t ≡ token)). ap (λ (x : TokenView). x.cpu) here.1 ∙ same_cpu ∙ sym here.0)
         (λ (there : (k ≡ cpu → ⊥) × (slice_get tokens k ≡ Some t)). old.numbered k t there.1) (set_cases tokens cpu k token t at);
   }
+
+-- lent as slices and given back
+pub cpus-refilled : (monitor : MonitorView) (tokens old_tokens : List TokenView) (passes old_passes : List CpuView) (token_count pass_count : ℕ)
+    → AreCpus monitor tokens passes → token_count ≡ monitor.config.cpus → pass_count ≡ monitor.config.cpus
+    → AreCpus monitor (take token_count (tokens ++ drop (length tokens) old_tokens)) (take pass_count (passes ++ drop (length passes) old_passes))
+cpus-refilled monitor tokens old_tokens passes old_passes token_count pass_count cpus all_tokens all_passes =
+    let same_tokens = take_at tokens (drop (length tokens) old_tokens) token_count (cpus.count ∙ sym all_tokens) in
+    let same_passes = take_at passes (drop (length passes) old_passes) pass_count (cpus.pairs.same_count ∙ cpus.count ∙ sym all_passes) in
+    subst (λ (p : List TokenView × List CpuView). AreCpus monitor p.0 p.1) (λ i. (sym same_tokens i, sym same_passes i)) cpus
 
 -- ---- without the last
 

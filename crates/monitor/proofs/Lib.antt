@@ -1,2 +1,4 @@
 pub mod CpuLists
 pub mod Causes
+pub mod Closes
+pub mod Written

@@ -2,3 +2,4 @@ pub mod View
 pub mod Executed
 pub mod Causes
 pub mod Cpus
+pub mod Closed

@@ -1,17 +1,22 @@
 //! The monitor on running threads: what a CPU's thread calls for a command, and what a scribe makes of the run.
 //! It promises what each answer of `execute` leaves of the CPU's token and pass, and that no granule stays locked after it;
-//! that a commit refused has its cause in some run and some held cells; and that a drain appends what it took.
-//! Calls here may wait for other threads, and what they promise holds where they return.
-//! The program's runs on threads are to depend on it.
+//! that a refused commit has its cause; that a drain appends what it took; and that a close gives each CPU's whole list as
+//! history and the journal, which the tokens list, as certificate. Calls may wait, and promise where they return.
+//! `thread_runs` and `bench_monitor` run their threads through it.
 #![tactic(auto)]
 
+mod close_fault;
+mod closing;
 mod executing;
 mod gate;
+mod journal_lines;
 mod monitor;
 mod refused;
 
+pub use certificate::Certificate;
+pub use close_fault::CloseFault;
 pub use commit_tickets::{CpuToken, Done, Site};
-pub use event_queue::{CpuPass, History, ScribePass};
+pub use event_queue::{CpuPass, History, ScribePass, fit_a_history};
 pub use gate::{Gate, Open};
 pub use monitor::Monitor;
 pub use refused::Refused;

@@ -33,7 +33,7 @@ impl<S: Site> Model for Monitor<S> {
 
     ghost view = { λ m. record { config = m.config; queue = m.recorder.queue; capacity = m.recorder.capacity } };
 
-    ghost invariant = { λ m. (m.granules.granules ≡ m.config.granules) × (m.config.granules ≡ S.granules) };
+    ghost invariant = { λ m. (m.granules.granules ≡ m.config.granules) × (m.config.granules ≡ S.granules) × (m.config.cpus ≡ S.parts) };
 }
 
 impl<S: Site> Monitor<S> {

@@ -4,13 +4,14 @@ ghost use Rattle.std.specs.Prelude.{◌≡◌, ◌<◌, [], IsTrue, IfOk};
 ghost use Rattle.rmm_spec.specs.Call.{call_of};
 ghost use Rattle.rmm_spec.specs.CommandText.{IsCommand};
 ghost use Rattle.command_core.specs.Served.{is_served};
+ghost use Rattle.event_queue.specs.View.{CanDrain};
 ghost use Rattle.monitor.specs.Cpus.{AreCpus};
 
-use crate::{CpuPass, CpuToken, Done, Monitor, Open, Refused, ScribePass, Site};
+use crate::{CpuPass, CpuToken, Done, Monitor, Open, Refused, ScribePass, Site, fit_a_history};
 use arrayvec::ArrayVec;
 use command_core::served;
 use granule_state::Config;
-use history::{History, write};
+use history::History;
 use rmi_codec::read_command;
 use rmm_spec::{Command, Reply};
 use std::alloc::Global;
@@ -63,31 +64,38 @@ fn ask<S: Site, R: Wait>(
     Ok(monitor.execute(rt, alloc, token, pass, &Open, command))
 }
 
-/// The text of what the scribe drains into an empty history.
-fn drained_text<S: Site, R: Wait>(
+/// The texts of the history and of the certificate of a closed run.
+fn closed_texts<S: Site, R: Wait>(
     rt: &R,
     alloc: Global,
-    monitor: &Monitor<S>,
-    mut scribe: ScribePass,
-) -> Result<Vec<u8>, Fail>
-    requires queue { scribe.queue ≡ monitor.now.queue }
-    requires cpus { scribe.cpus ≡ monitor.now.config.cpus }
-    requires none { scribe.events ≡ [] }
+    monitor: Monitor<S>,
+    tokens: Vec<CpuToken<S>>,
+    passes: Vec<CpuPass>,
+    scribe: ScribePass,
+    history: History,
+) -> Result<(Vec<u8>, Vec<u8>), Fail>
+    requires cpus { AreCpus monitor tokens.items passes.items }
+    requires drain { CanDrain monitor.queue scribe history.recorded }
+    requires config { history.recorded.config ≡ monitor.config }
 {
-    let mut history = History::new(alloc, monitor.config());
-    monitor.drain(rt, &mut scribe, &mut history)?;
-    let mut text = Vec::new(alloc);
-    write(&history, &mut text)?;
-    Ok(text)
+    if !fit_a_history(&passes) {
+        return Err("a history with room for the rest".into());
+    }
+    let (recorded, order) = monitor.close(rt, alloc, tokens, passes, scribe, history)?;
+    let mut history = Vec::new(alloc);
+    history::write(&recorded, &mut history)?;
+    let mut certificate = Vec::new(alloc);
+    certificate::write(&order, &mut certificate)?;
+    Ok((history, certificate))
 }
 
-/// One CPU delegates a granule and calls once more, with room for one event.
+/// One CPU delegates a granule and calls once more, with room for one event, and nobody drains before the close.
 fn fill_queue<S: Site, R: Wait>(
     rt: &R,
     alloc: Global,
     blank: Blank,
     config: Config,
-) -> Result<([Answer; 2], Vec<u8>), Fail>
+) -> Result<([Answer; 2], (Vec<u8>, Vec<u8>)), Fail>
     requires name { blank.name ≡ S.name }
     requires parts { blank.parts ≡ S.parts }
     requires one_each { blank.parts ≡ config.cpus }
@@ -95,18 +103,25 @@ fn fill_queue<S: Site, R: Wait>(
 {
     let (monitor, mut tokens, mut passes, scribe) = Monitor::<S>::new(alloc, blank, config, 1)?;
     let _cpus = config.cpus();
-    let (tokens, passes) = (tokens.as_mut_slice(), passes.as_mut_slice());
+    let (held, recorded) = (tokens.as_mut_slice(), passes.as_mut_slice());
     let answers = [
-        ask(rt, alloc, &monitor, tokens, passes, 0, "c4000151 1000")?,
-        ask(rt, alloc, &monitor, tokens, passes, 0, "c4000151 1000")?,
+        ask(rt, alloc, &monitor, held, recorded, 0, "c4000151 1000")?,
+        ask(rt, alloc, &monitor, held, recorded, 0, "c4000151 1000")?,
     ];
-    Ok((answers, drained_text(rt, alloc, &monitor, scribe)?))
+    let history = History::new(alloc, config);
+    let texts = closed_texts(rt, alloc, monitor, tokens, passes, scribe, history)?;
+    Ok((answers, texts))
 }
 
 #[test]
 fn full_queue_stops_token(rt: HostRuntime) -> Result<(), Fail> {
     let config = Config::new(4, 1).ok_or("a machine of this size")?;
-    let (answers, history) = fill_queue::<Brand, _>(&rt, rt.alloc(), Blank::new(1), config)?;
+    let (answers, (history, certificate)) = fill_queue::<Brand, _>(
+        &rt,
+        rt.alloc(),
+        Blank::new(1),
+        config,
+    )?;
     let wanted = [
         Err(Refused::Unrecorded(done(0, ok()))),
         Err(Refused::Stopped),
@@ -116,36 +131,48 @@ fn full_queue_stops_token(rt: HostRuntime) -> Result<(), Fail> {
         history.as_slice(),
         b"rmh1 4 1\nc 0 0 c4000151 1000\n".as_slice()
     );
+    assert_eq!(rt; certificate.as_slice(), b"u 0 0 ok\n".as_slice());
     Ok(())
 }
 
-/// Two CPUs delegate one granule, and the first takes it back.
+/// Two CPUs delegate one granule, and the first takes it back. What the first command recorded is drained at once, and the rest at the close.
 fn delegate_by_two<S: Site, R: Wait>(
     rt: &R,
     alloc: Global,
     blank: Blank,
     config: Config,
-) -> Result<([Answer; 3], Vec<u8>), Fail>
+) -> Result<([Answer; 3], (Vec<u8>, Vec<u8>)), Fail>
     requires name { blank.name ≡ S.name }
     requires parts { blank.parts ≡ S.parts }
     requires one_each { blank.parts ≡ config.cpus }
     requires granules { config.granules ≡ S.granules }
     requires two { config.cpus ≡ 2 }
 {
-    let (monitor, mut tokens, mut passes, scribe) = Monitor::<S>::new(alloc, blank, config, 16)?;
-    let (tokens, passes) = (tokens.as_mut_slice(), passes.as_mut_slice());
+    let (monitor, mut tokens, mut passes, mut scribe) = Monitor::<S>::new(
+        alloc, blank, config, 16,
+    )?;
+    let (held, recorded) = (tokens.as_mut_slice(), passes.as_mut_slice());
+    let mut history = History::new(alloc, config);
+    let first = ask(rt, alloc, &monitor, held, recorded, 0, "c4000151 1000")?;
+    monitor.drain(rt, &mut scribe, &mut history)?;
     let answers = [
-        ask(rt, alloc, &monitor, tokens, passes, 0, "c4000151 1000")?,
-        ask(rt, alloc, &monitor, tokens, passes, 1, "c4000151 1000")?,
-        ask(rt, alloc, &monitor, tokens, passes, 0, "c4000152 1000")?,
+        first,
+        ask(rt, alloc, &monitor, held, recorded, 1, "c4000151 1000")?,
+        ask(rt, alloc, &monitor, held, recorded, 0, "c4000152 1000")?,
     ];
-    Ok((answers, drained_text(rt, alloc, &monitor, scribe)?))
+    let texts = closed_texts(rt, alloc, monitor, tokens, passes, scribe, history)?;
+    Ok((answers, texts))
 }
 
 #[test]
 fn three_tickets(rt: HostRuntime) -> Result<(), Fail> {
     let config = Config::new(4, 2).ok_or("a machine of this size")?;
-    let (answers, history) = delegate_by_two::<Brand, _>(&rt, rt.alloc(), Blank::new(2), config)?;
+    let (answers, (history, certificate)) = delegate_by_two::<Brand, _>(
+        &rt,
+        rt.alloc(),
+        Blank::new(2),
+        config,
+    )?;
     let wanted = [
         Ok(done(0, ok())),
         Ok(done(1, Reply::Err(1, 0))),
@@ -155,5 +182,6 @@ fn three_tickets(rt: HostRuntime) -> Result<(), Fail> {
     let text =
         b"rmh1 4 2\nc 0 0 c4000151 1000\nr 0 0 ok\nc 1 0 c4000151 1000\nr 1 0 err 1 0\nc 0 1 c4000152 1000\nr 0 1 ok\n";
     assert_eq!(rt; history.as_slice(), text.as_slice());
+    assert_eq!(rt; certificate.as_slice(), b"k 0 0\nk 1 0\nk 0 1\n".as_slice());
     Ok(())
 }

@@ -30,6 +30,7 @@ unread_fault _ = fault.Arguments
 abbrev pub run_fault : RunFault → Fault
 run_fault of_run.NoMemory = fault.NoMemory
 run_fault of_run.Thread = fault.NoThread
+run_fault of_run.Disagrees = fault.Disagrees
 
 -- a check of the files at these paths ends so: the judgement has a fault, an open one being a read of its file
 abbrev pub EndsCheck : Paths → Fault → Type 0
@@ -40,10 +41,11 @@ abbrev pub EndsThreads : Fault → Type 0
 EndsThreads ended = (ended ≡ fault.CannotWrite) ⊎ ((fault : RunFault) × (ended ≡ run_fault fault))
 
 -- The words are the cause of this fault: `Arguments` only where clap finds a fault in them, a path only where they name it, a
--- thread only where they ask for threads, and standard output only where they ask for something.
+-- thread or a disagreement only where they ask for threads, and standard output only where they ask for something.
 abbrev pub HasCause : List Text → Fault → Type 0
 HasCause words fault.Arguments = fault_of rmmcheck_command words ≢ []
 HasCause words (fault.CannotRead path) = (paths : Paths) × Asks words (request.Check paths) × ((path ≡ paths.history) ⊎ (path ≡ paths.certificate))
 HasCause words fault.CannotWrite = (asked : Request) × Asks words asked
 HasCause words fault.NoMemory = Unit {0}
 HasCause words fault.NoThread = Asks words request.Threads
+HasCause words fault.Disagrees = Asks words request.Threads

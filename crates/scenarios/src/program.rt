@@ -88,6 +88,7 @@ fn fault_of_run(fault: RunFault) -> Fault<'static>
     match fault {
         RunFault::NoMemory => Fault::NoMemory,
         RunFault::Thread => Fault::NoThread,
+        RunFault::Disagrees => Fault::Disagrees,
     }
 }
 

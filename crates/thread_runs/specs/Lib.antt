@@ -1,2 +1,3 @@
+pub mod Broken
 pub mod OneCall
 pub mod Printed

@@ -4,13 +4,10 @@ ghost use Rattle.std.specs.Prelude.{◌≡◌, IfOk, IsTrue};
 ghost use Rattle.rmm_spec.specs.Call.{call_of};
 ghost use Rattle.rmm_spec.specs.CommandText.{IsCommand};
 ghost use Rattle.command_core.specs.Served.{is_served};
-ghost use Rattle.event_queue.specs.View.{before_calls};
-ghost use Rattle.thread_runs.specs.OneCall.{delegate, HasServed};
+ghost use Rattle.thread_runs.specs.OneCall.{delegate, CanServe, HasServed};
 
-use crate::shared::Shared;
 use arrayvec::ArrayVec;
-use commit_tickets::{CommitFault, CpuToken, Site};
-use event_queue::CpuPass;
+use monitor::{CpuPass, CpuToken, Monitor, Open, Refused, Site};
 use rmm_spec::{Command, FunctionId};
 use std::alloc::{AllocError, Global};
 use std::sync::Wait;
@@ -18,40 +15,26 @@ use std::sync::Wait;
 /// A CPU before its one call, which delegates a granule.
 #[derive(Drop)]
 pub struct Cpu<S: Site> {
-    pub pass: CpuPass,
     pub token: CpuToken<S>,
+    pub pass: CpuPass,
     pub granule: u64,
 }
 
 impl<S: Site> Cpu<S> {
-    /// Records the call, takes the granules that its plan asks for, commits under the journal's lock, gives the granules back,
-    /// and records the return. Where the queue is full, or the books disagree, or memory for the commit is refused, that is the
-    /// last that the CPU does, and it holds no granule.
+    /// Executes the CPU's one command. Where the queue is full or the books disagree, that is the last that the CPU does.
     pub fn serve<R: Wait>(
-        self,
+        mut self,
         rt: &R,
         alloc: Global,
-        shared: &Shared<S>,
-    ) -> Result<CpuPass, AllocError>
-        requires { self.pass ≡ before_calls shared.now.recorder.queue self.pass.cpus self.pass.cpu }
-        ensures { IfOk result (HasServed shared.now.recorder.queue self.pass.cpu self.granule) }
+        monitor: &Monitor<S>,
+    ) -> Result<Cpu<S>, AllocError>
+        requires { CanServe monitor.now self.token self.pass }
+        ensures served { IfOk result (λ cpu. HasServed monitor.now self.token.cpu self.granule cpu.token cpu.pass) }
     {
-        let Cpu {
-            mut pass,
-            mut token,
-            granule,
-        } = self;
-        let recorder = &shared.recorder;
-        if recorder.call(rt, &mut pass, delegate(granule)).is_err() {
-            return Ok(pass);
-        }
-        match shared.commit(rt, alloc, &mut token, &delegate(granule)) {
-            Ok(done) => {
-                let _ = recorder.returned(rt, &mut pass, done.reply);
-                Ok(pass)
-            }
-            Err(CommitFault::Disagrees) => Ok(pass),
-            Err(CommitFault::NoMemory) => Err(AllocError),
+        let (token, pass) = (&mut self.token, &mut self.pass);
+        match monitor.execute(rt, alloc, token, pass, &Open, delegate(self.granule)) {
+            Err(Refused::NoMemory) => Err(AllocError),
+            _ => Ok(self),
         }
     }
 }

@@ -1,8 +1,11 @@
 //! Why a run broke off.
 
 ghost use Rattle.std.specs.Prelude.{◌≡◌};
+ghost use Rattle.monitor.specs.declared.close_fault.CloseFault.{CloseFault};
 ghost use Rattle.thread_runs.specs.declared.fault.RunFault.TheVariants.{NoMemory, Thread};
+ghost use Rattle.thread_runs.specs.Broken.{fault_of_close};
 
+use monitor::CloseFault;
 use std::alloc::AllocError;
 use std::thread::SpawnError;
 use thiserror::Error;
@@ -14,6 +17,9 @@ pub enum RunFault {
     NoMemory,
     #[error("a thread can't be started")]
     Thread,
+    /// The journal's entries of some CPU aren't its token's list.
+    #[error("the journal and a CPU's list disagree")]
+    Disagrees,
 }
 
 impl From<AllocError> for RunFault {
@@ -29,5 +35,16 @@ impl<F: Drop> From<SpawnError<F>> for RunFault {
 
     fn from(_refused: SpawnError<F>) -> RunFault {
         RunFault::Thread
+    }
+}
+
+impl From<CloseFault> for RunFault {
+    ghost from_gives = { λ refused fault. fault ≡ fault_of_close refused };
+
+    fn from(refused: CloseFault) -> RunFault {
+        match refused {
+            CloseFault::NoMemory => RunFault::NoMemory,
+            CloseFault::Disagrees => RunFault::Disagrees,
+        }
     }
 }

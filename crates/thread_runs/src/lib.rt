@@ -7,10 +7,9 @@
 
 mod cpu;
 mod fault;
-mod journal_lines;
 mod printed;
 mod run;
-mod shared;
+mod serving;
 
 pub use checker::Verdict;
 pub use fault::RunFault;

@@ -11,3 +11,4 @@ pub mod Placed
 pub mod Locals
 pub mod Refusals
 pub mod Retagged
+pub mod LineOf

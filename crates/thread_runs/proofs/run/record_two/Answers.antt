@@ -1,50 +1,39 @@
-use Rattle.std.proofs.Common.{◌≡◌, ℕ, [], length, arith, ap, ◌∙◌, subst}
-use mathlib.Core.List.{IsPrefix}
-use Rattle.rmm_spec.specs.HistoryText.{Config, History, subhistory_of}
-use Rattle.commit_tickets.specs.View.{first_tokens}
-use Rattle.event_queue.specs.View.{ScribeView, before_calls}
-use Rattle.thread_runs.specs.OneCall.{HasServed}
-use Rattle.thread_runs.proofs.Runs.{two_are, own_before, run_of_two}
+use Rattle.std.proofs.Common.{◌≡◌, ℕ, ◌<◌, List, [], ◌∷◌, Some, sym, ap, ◌∙◌, subst}
+use Rattle.std.specs.Prelude.{slice_get}
+use Rattle.rmm_spec.specs.HistoryText.{Config, History}
+use Rattle.commit_tickets.specs.View.{TokenView}
+use Rattle.event_queue.specs.View.{CpuView, AreWhole, before_calls, count_recorded}
+use Rattle.monitor.specs.Cpus.{AreCpus}
+use Rattle.thread_runs.proofs.Runs.{served_as, cpus_of_two, room_of_two, run_of_two}
 use Rattle.thread_runs.proofs.run.record_two.Goals as goal
 
-pub last_cpu-second-requires-clause-token : goal.last_cpu-second-requires-clause-token
-last_cpu-second-requires-clause-token g c =
-    omega (arith, ap length (c.in_ok-journal.ensures.tokens ∙ ap (λ (config : Config). first_tokens config.cpus) c.config_of_two-config.ensures))
+pub two_cpus-first-requires-clause-before : goal.two_cpus-first-requires-clause-before
+two_cpus-first-requires-clause-before g c =
+    subst (λ n. (cpu : ℕ) → cpu < n → slice_get c.in_ok-monitor.passes.items cpu ≡ Some (before_calls c.in_ok-monitor.monitor.queue n cpu))
+    (ap (λ (x : Config). x.cpus) c.config_of_two-config.ensures) c.in_ok-monitor.ensures.passes
 
-pub last_cpu-first-requires-clause-token : goal.last_cpu-first-requires-clause-token
-last_cpu-first-requires-clause-token g c =
-    omega (
-      arith,
-      c.last_cpu-second.ensures.token,
-      ap length (c.in_ok-journal.ensures.tokens ∙ ap (λ (config : Config). first_tokens config.cpus) c.config_of_two-config.ensures),
-    )
+pub close-requires-clause-cpus : goal.close-requires-clause-cpus
+close-requires-clause-cpus g c =
+    let monitor = c.in_ok-monitor.monitor in
+    let first = served_as monitor _ 0 _ 0x1000 _ _ c.two_cpus-first.ensures.numbers.0 c.two_cpus-first.ensures.granules.0 c.in_ok-served.ensures.first in
+    let second = served_as monitor _ 1 _ 0x2000 _ _ c.two_cpus-first.ensures.numbers.1 c.two_cpus-first.ensures.granules.1 c.in_ok-served.ensures.second in
+    let two = ap (λ (x : Config). x.cpus) (c.in_ok-monitor.ensures.config ∙ c.config_of_two-config.ensures) in
+    subst (λ (ts : List TokenView). AreCpus monitor ts c.in_ok-passes.passes.items) (sym c.in_ok-tokens.ensures)
+    (subst (λ (ps : List CpuView). AreCpus monitor (c.in_ok-served.served.first.token ∷ c.in_ok-served.served.second.token ∷ []) ps) (sym c.in_ok-passes.ensures) (cpus_of_two monitor 0x1000 0x2000 _ _ _ _ two first second))
 
-pub serve_both-requires-clause-first : goal.serve_both-requires-clause-first
-serve_both-requires-clause-first g c κs within =
-    own_before c.in_ok-recorder.recorder.queue 2 0 _
-    (two_are (before_calls c.in_ok-recorder.recorder.queue 2) _ _ _ _ _ c.in_ok-recorder.ensures.count c.in_ok-recorder.ensures.passes
-    c.last_cpu-second.ensures.pass c.last_cpu-first.ensures.pass).0
-
-pub serve_both-requires-clause-second : goal.serve_both-requires-clause-second
-serve_both-requires-clause-second g c κs within =
-    own_before c.in_ok-recorder.recorder.queue 2 1 _
-    (two_are (before_calls c.in_ok-recorder.recorder.queue 2) _ _ _ _ _ c.in_ok-recorder.ensures.count c.in_ok-recorder.ensures.passes
-    c.last_cpu-second.ensures.pass c.last_cpu-first.ensures.pass).1
+pub close-requires-clause-room : goal.close-requires-clause-room
+close-requires-clause-room g c =
+    let monitor = c.in_ok-monitor.monitor in
+    let first = served_as monitor _ 0 _ 0x1000 _ _ c.two_cpus-first.ensures.numbers.0 c.two_cpus-first.ensures.granules.0 c.in_ok-served.ensures.first in
+    let second = served_as monitor _ 1 _ 0x2000 _ _ c.two_cpus-first.ensures.numbers.1 c.two_cpus-first.ensures.granules.1 c.in_ok-served.ensures.second in
+    subst (λ (ps : List CpuView). count_recorded ps < 1000000) (sym c.in_ok-passes.ensures) (room_of_two monitor _ _ _ _ first second)
 
 pub returns : goal.returns
 returns g c =
-    let queue = c.in_ok-recorder.recorder.queue in
-    let are = two_are (before_calls queue 2) _ _ _ _ _ c.in_ok-recorder.ensures.count c.in_ok-recorder.ensures.passes
-    c.last_cpu-second.ensures.pass c.last_cpu-first.ensures.pass in
-    let first : HasServed queue 0 0x1000 c.in_ok-first.first =
-    subst (λ (p : ℕ × ℕ). HasServed queue p.0 p.1 c.in_ok-first.first) (λ i. ((are.0 i).cpu, c.last_cpu-first.ensures.granule i)) c.in_ok-first.ensures.first in
-    let second : HasServed queue 1 0x2000 c.in_ok-first.second =
-    subst (λ (p : ℕ × ℕ). HasServed queue p.0 p.1 c.in_ok-first.second) (λ i. ((are.1 i).cpu, c.last_cpu-second.ensures.granule i)) c.in_ok-first.ensures.second in
-    let drained = c.drain.new.scribe.events in
-    let before : c.new-history.result.recorded ≡ record { config = record { granules = 4; cpus = 2 }; events = [] } =
-    c.new-history.ensures ∙ (λ i. record { config = c.config_of_two-config.ensures i; events = [] }) in
-    run_of_two queue c.in_ok-first.first c.in_ok-first.second drained c.drain.new.history.recorded
-    (c.in_ok-drain.ensures.history ∙ (λ i. let h : History = record (before i) { events = drained } in h)) first second
-    c.drained_in_order.ensures.beginning
-    (subst (λ (s : ScribeView). IsPrefix (subhistory_of c.in_ok-first.second.cpu s.events) c.in_ok-first.second.events) c.drained_in_order.ensures.same.0
-    c.drained_in_order-2.ensures.beginning)
+    let monitor = c.in_ok-monitor.monitor in
+    let first = served_as monitor _ 0 _ 0x1000 _ _ c.two_cpus-first.ensures.numbers.0 c.two_cpus-first.ensures.granules.0 c.in_ok-served.ensures.first in
+    let second = served_as monitor _ 1 _ 0x2000 _ _ c.two_cpus-first.ensures.numbers.1 c.two_cpus-first.ensures.granules.1 c.in_ok-served.ensures.second in
+    let config = ap (λ (h : History). h.config) c.in_ok-close.ensures.history.1 ∙ c.in_ok-served.ensures.config
+    ∙ ap (λ (h : History). h.config) c.new-history.ensures ∙ c.config_of_two-config.ensures in
+    let whole = subst (λ (ps : List CpuView). AreWhole ps c.in_ok-close.field-0.0.recorded.events) c.in_ok-passes.ensures c.in_ok-close.ensures.whole in
+    run_of_two monitor _ _ _ _ c.in_ok-close.field-0.0.recorded config whole first second

@@ -4,7 +4,7 @@ use Rattle.rmm_spec.specs.declared.reply.Reply.{Reply}
 use Rattle.rmm_spec.specs.declared.line.Line.TheVariants.{Unfinished}
 use Rattle.rmm_spec.specs.Linearization.{IsReturned, IsFinished}
 use Rattle.rmm_spec.specs.World.{Commitment, line_for}
-use Rattle.world.proofs.Lines.{line_for-returned, line_for-unfinished}
+use Rattle.world_laws.proofs.LineOf.{line_for-returned, line_for-unfinished}
 use Rattle.world.proofs.telling.line_for.Goals as goal
 
 pub returns-in-Some-returned : goal.returns-in-Some-returned

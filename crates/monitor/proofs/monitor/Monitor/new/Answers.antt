@@ -1,4 +1,4 @@
-use Rattle.std.proofs.Common.{◌≡◌, ℕ, ◌<◌, Some, arith, ◌∙◌, subst}
+use Rattle.std.proofs.Common.{◌≡◌, Some, arith, ◌∙◌, subst}
 use Rattle.std.specs.Prelude.{slice_get}
 use Rattle.event_queue.specs.View.{before_calls}
 use Rattle.monitor.specs.View.{MonitorView}

@@ -1,0 +1,68 @@
+//! The journal compared with what its CPUs' tokens list.
+
+ghost use Rattle.std.specs.Prelude.{◌≡◌, ℕ, ◌≤◌, ◌↔◌, IsTrue, Some, length, slice_get};
+ghost use Rattle.commit_tickets.specs.Entries.{entry_of};
+ghost use Rattle.commit_tickets.specs.Listed.{AreListed, commit_at, mine_of, numbers_of};
+
+use crate::journal::{Entry, Journal};
+use crate::numbers::Numbers;
+use crate::same::{is_same_command, is_same_reply};
+use crate::site::Site;
+use crate::token::{Committed, CpuToken};
+
+impl<S: Site> Journal<S> {
+    /// Whether each CPU's token lists what the journal has of that CPU: each commit once, at its ticket and in order. The
+    /// token at place k is taken for CPU k's.
+    pub fn is_listed_by(&self, tokens: &[CpuToken<S>]) -> bool
+        requires { length tokens.now ≤ 8 }
+        ensures { IsTrue result ↔ AreListed tokens.now self.now.entries }
+    {
+        let mut numbers = Numbers::new();
+        for ticket in 0..self.len() {
+            let entry = self.entry(ticket);
+            let Some(token) = tokens.get(usize::from(entry.cpu)) else {
+                return false;
+            };
+            if !token.lists(numbers.count(entry.cpu), ticket, entry) {
+                return false;
+            }
+        }
+        list_no_more(tokens, &numbers)
+    }
+}
+
+impl<S: Site> CpuToken<S> {
+    // Whether the commit of a number is the entry of a ticket.
+    fn lists(&self, number: usize, ticket: usize, entry: &Entry) -> bool
+        ensures { IsTrue result ↔ (slice_get self.now.mine number ≡ Some (commit_at ticket (entry_of entry.now))) }
+    {
+        match self.mine.get(number) {
+            Some(mine) => mine.is_entry(ticket, entry),
+            None => false,
+        }
+    }
+}
+
+impl Committed {
+    // Whether it is the entry of a ticket.
+    fn is_entry(&self, ticket: usize, entry: &Entry) -> bool
+        ensures { IsTrue result ↔ (self.now ≡ commit_at ticket (entry_of entry.now)) }
+    {
+        self.ticket == ticket
+            && is_same_command(&self.command, &entry.command)
+            && is_same_reply(&self.reply, &entry.reply)
+    }
+}
+
+// Whether no token lists more than its CPU's number of commits.
+fn list_no_more<S: Site>(tokens: &[CpuToken<S>], numbers: &Numbers) -> bool
+    requires { length tokens.now ≤ 8 }
+    ensures { IsTrue result ↔ ((cpu : ℕ) → length (mine_of tokens.now cpu) ≤ numbers_of numbers.now cpu) }
+{
+    for (cpu, token) in tokens.iter().enumerate() {
+        if token.mine.len() > numbers.of(cpu) {
+            return false;
+        }
+    }
+    true
+}

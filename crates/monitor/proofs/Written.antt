@@ -1,0 +1,49 @@
+-- The journal, written as a certificate entry by entry.
+use Rattle.std.proofs.Common.{◌≡◌, ℕ, ◌+◌, ◌≤◌, true, List, [], ◌∷◌, ◌++◌, length, map, Option, Some, None, refl, sym, ap, ◌∙◌, arith, append_assoc, ⊎_elim}
+use Rattle.std.specs.Prelude.{◌↔◌, MatchOption, is_some}
+use Rattle.std.proofs.lemmas.Bool.{false≢true, eq-eqb, ne_eqb, cases_eq}
+use Rattle.std.proofs.lemmas.List.{length_push}
+use Rattle.rmm_spec.specs.declared.event.Event.{Event}
+use Rattle.rmm_spec.specs.declared.line.Line.{Line}
+use Rattle.rmm_spec.specs.Cell.{put}
+use Rattle.rmm_spec.specs.declared.reply.Reply.{Reply}
+use Rattle.rmm_spec.specs.Linearization.{IsReturned, IsFinished}
+use Rattle.rmm_spec.specs.Run.{JournalEntry}
+use Rattle.rmm_spec.specs.World.{Commitment, line_for}
+use Rattle.commit_tickets.specs.Listed.{numbered_from}
+
+-- a call is finished where the place of its return is found
+pub finished_found : (events : List Event) (cpu number : ℕ) (found : Option ℕ)
+    → MatchOption found (¬ IsFinished events cpu number) (λ place. (given : Reply) × IsReturned events place cpu number given)
+    → (is_some found ≡ true) ↔ IsFinished events cpu number
+finished_found events cpu number None none = (λ is. absurd (false≢true is), λ finished. absurd (none finished))
+finished_found events cpu number (Some place) returned = (λ _. (place, returned.0, returned.1), λ _. refl)
+
+-- ---- all lines
+
+-- the lines of the entries, where each CPU's next has this number
+abbrev lines_from : List Event → (ℕ → ℕ) → List JournalEntry → List Line
+lines_from events number entries = map (line_for events) (numbered_from number entries)
+
+-- an entry as its CPU's commit of this number
+abbrev pub commitment : JournalEntry → ℕ → Commitment
+commitment entry number = record { cpu = entry.cpu; number = number; command = entry.command; given = entry.given }
+
+-- one line more is written, and one entry less is left
+pub written-next : (events : List Event) (entries rest : List JournalEntry) (entry : JournalEntry) (number next : ℕ → ℕ) (lines new all : List Line)
+    (line : Line) → entries ≡ entry ∷ rest → next ≡ put number entry.cpu (number entry.cpu + 1)
+    → line ≡ line_for events (commitment entry (number entry.cpu)) → new ≡ lines ++ line ∷ []
+    → lines ++ lines_from events number entries ≡ all → new ++ lines_from events next rest ≡ all
+written-next events entries rest entry number next lines new all line are is_next is_line is_new written =
+    ap (λ ls. ls ++ lines_from events next rest) is_new ∙ append_assoc lines (line ∷ []) (lines_from events next rest)
+    ∙ ap (λ (n : ℕ → ℕ). lines ++ line ∷ lines_from events n rest) is_next
+    ∙ ap (λ (l : Line). lines ++ l ∷ lines_from events (put number entry.cpu (number entry.cpu + 1)) rest) is_line
+    ∙ ap (λ es. lines ++ lines_from events number es) (sym are) ∙ written
+
+-- no number is higher than the count of the lines
+pub numbers-next : (number next : ℕ → ℕ) (cpu : ℕ) (lines new : List Line) (line : Line) → next ≡ put number cpu (number cpu + 1)
+    → new ≡ lines ++ line ∷ [] → ((k : ℕ) → number k ≤ length lines) → (k : ℕ) → next k ≤ length new
+numbers-next number next cpu lines new line is_next is_new few k =
+    let longer = ap length is_new ∙ length_push lines line in
+    ⊎_elim (λ (own : k ≡ cpu). rw (is_next, eq-eqb k cpu own) (omega (arith, longer, few cpu)))
+    (λ (other : k ≡ cpu → ⊥). rw (is_next, ne_eqb k cpu other) (omega (arith, longer, few k))) (cases_eq k cpu)

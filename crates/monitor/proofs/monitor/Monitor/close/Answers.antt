@@ -1,0 +1,63 @@
+use Rattle.std.proofs.Common.{◌<◌, ◌≤◌, length, map, slice_get, sym, ap, ◌∙◌, subst, arith}
+use Rattle.std.specs.List.{AllByRecursion, sum_by}
+use Rattle.std.proofs.lemmas.List.{length-map}
+use Rattle.rmm_spec.specs.HistoryText.{Config}
+use Rattle.rmm_spec.specs.Run.{JournalEntry}
+use Rattle.commit_tickets.specs.Entries.{entry_of}
+use Rattle.commit_tickets.specs.View.{JournalView, TokenView}
+use Rattle.commit_tickets.proofs.Lists.{listed-below}
+use Rattle.monitor.specs.View.{MonitorView}
+use Rattle.monitor.proofs.Closes.{disagree, listed, closed}
+use Rattle.monitor.proofs.CpuLists.{cpus-seats, commits-le}
+use Rattle.monitor.proofs.monitor.Monitor.close.Goals as goal
+
+pub drain_rest-requires-clause-passes : goal.drain_rest-requires-clause-passes
+drain_rest-requires-clause-passes g c cpu pass at =
+    let seat = cpus-seats c.args.self c.args.tokens.items c.args.passes.items c.requires.cpus cpu pass
+    (ap (λ ps. slice_get ps cpu) (sym c.as_mut_slice.ensures.value) ∙ at) in
+    (seat.0 ∙ sym (ap (λ (m : MonitorView). m.queue) c.self.view_is), seat.1)
+
+pub returns-then-not-is_listed_by-clause-cause : goal.returns-then-not-is_listed_by-clause-cause
+returns-then-not-is_listed_by-clause-cause g c disagrees =
+    let granules = sym (ap (λ (x : Config). x.granules) c.config-size.ensures.config) ∙ c.config-size.ensures.granules
+    ∙ sym c.self.invariant.1 ∙ ap (λ (m : MonitorView). m.config.granules) c.self.view_is in
+    let counted = ap (λ (j : JournalView). length j.entries) c.audit.ensures.journal ∙ c.audit.ensures.counted
+    ∙ ap (sum_by (λ (token : TokenView). length token.mine)) c.as_mut_slice-tokens.ensures.value in
+    disagree c.args.self.config c.audit.new.self _ granules c.books-books.ensures c.args.tokens.items c.audit.new.tokens
+    (c.audit.ensures.tokens ∙ c.as_mut_slice-tokens.ensures.value) c.is_listed_by.result c.is_listed_by.ensures counted c.if-not-is_listed_by.true
+
+pub certificate_of-requires-clause-few : goal.certificate_of-requires-clause-few
+certificate_of-requires-clause-few g c =
+    omega (
+      arith,
+      length-map c.into_entries.result.items entry_of,
+      ap length c.into_entries.ensures,
+      ap (λ (j : JournalView). length j.entries) c.audit.ensures.journal,
+      c.audit.ensures.counted,
+      ap (sum_by (λ (token : TokenView). length token.mine)) c.as_mut_slice-tokens.ensures.value,
+      commits-le c.args.tokens.items c.args.passes.items c.requires.cpus.pairs.same_count
+          (λ k token pass at pass_at. (c.requires.cpus.pairs.each k token pass at pass_at).few),
+      c.requires.room,
+    )
+
+pub certificate_of-requires-clause-cpus : goal.certificate_of-requires-clause-cpus
+certificate_of-requires-clause-cpus g c =
+    let granules = sym (ap (λ (x : Config). x.granules) c.config-size.ensures.config) ∙ c.config-size.ensures.granules
+    ∙ sym c.self.invariant.1 ∙ ap (λ (m : MonitorView). m.config.granules) c.self.view_is in
+    let most : length c.args.tokens.items ≤ 8 = omega (arith, c.requires.cpus.count, c.cpus-cpus.ensures.limits.most_cpus, ap (λ (m : MonitorView). m.config.cpus) c.self.view_is) in
+    subst (AllByRecursion (λ (entry : JournalEntry). entry.cpu < 8)) (sym c.into_entries.ensures)
+    (listed-below c.args.tokens.items c.audit.new.self.entries 8 most
+    (listed c.args.self.config c.audit.new.self _ granules c.books-books.ensures c.args.tokens.items c.audit.new.tokens
+    (c.audit.ensures.tokens ∙ c.as_mut_slice-tokens.ensures.value) c.is_listed_by.result c.is_listed_by.ensures c.if-not-is_listed_by.false))
+
+pub returns-clause-whole : goal.returns-clause-whole
+returns-clause-whole g c cpu pass at =
+    c.in_ok-drain_rest.ensures.whole cpu pass (ap (λ ps. slice_get ps cpu) c.as_mut_slice.ensures.value ∙ at)
+
+pub returns-clause-certificate : goal.returns-clause-certificate
+returns-clause-certificate g c =
+    let granules = sym (ap (λ (x : Config). x.granules) c.config-size.ensures.config) ∙ c.config-size.ensures.granules
+    ∙ sym c.self.invariant.1 ∙ ap (λ (m : MonitorView). m.config.granules) c.self.view_is in
+    closed c.args.self.config c.audit.new.self _ granules c.books-books.ensures c.args.tokens.items c.audit.new.tokens
+    (c.audit.ensures.tokens ∙ c.as_mut_slice-tokens.ensures.value) c.is_listed_by.result c.is_listed_by.ensures c.drain_rest.new.history.recorded.events
+    (map entry_of c.into_entries.result.items) _ c.if-not-is_listed_by.false c.into_entries.ensures c.in_ok-certificate.ensures

@@ -1,0 +1,31 @@
+-- What is left of a run at its close.
+use Rattle.std.specs.Prelude.{◌≡◌, List, length, map}
+use Rattle.std.specs.List.{sum_by}
+use Rattle.rmm_spec.specs.declared.event.Event.{Event}
+use Rattle.rmm_spec.specs.declared.line.Line.{Line}
+use Rattle.rmm_spec.specs.HistoryText.{Config}
+use Rattle.rmm_spec.specs.Run.{JournalEntry, IsRun}
+use Rattle.rmm_spec.specs.State.{State, opening}
+use Rattle.rmm_spec.specs.World.{line_for}
+use Rattle.commit_tickets.specs.Listed.{AreListed, numbered}
+use Rattle.commit_tickets.specs.View.{TokenView}
+
+-- the journal written as a certificate of these events
+abbrev pub lines_for : List Event → List JournalEntry → List Line
+lines_for events entries = map (line_for events) (numbered entries)
+
+-- The lines are a journal, written as a certificate, that is a run of this machine and that the tokens list.
+pub record IsJournal (config : Config) (tokens : List TokenView) (events : List Event) (lines : List Line) : Type 0 where
+  pub entries : List JournalEntry
+  pub last : State
+  pub run : IsRun (opening config) entries last
+  pub listed : AreListed tokens entries
+  pub written : lines ≡ lines_for events entries
+
+-- Some journal that is a run of this machine, with as many entries as the tokens list together, isn't what they list.
+pub record Disagree (config : Config) (tokens : List TokenView) : Type 0 where
+  pub entries : List JournalEntry
+  pub last : State
+  pub run : IsRun (opening config) entries last
+  pub counted : length entries ≡ sum_by (λ (token : TokenView). length token.mine) tokens
+  pub unlisted : ¬ AreListed tokens entries

@@ -1,0 +1,62 @@
+//! The close of a run.
+
+ghost use Rattle.std.specs.Prelude.{◌≡◌, ◌<◌, ◌++◌, List, IfOk, IfErr};
+ghost use Rattle.rmm_spec.specs.declared.event.Event.{Event};
+ghost use Rattle.event_queue.specs.View.{AreWhole, CanDrain, count_recorded};
+ghost use Rattle.monitor.specs.Closed.{Disagree, IsJournal};
+ghost use Rattle.monitor.specs.Cpus.{AreCpus};
+ghost use Rattle.monitor.specs.declared.close_fault.CloseFault.TheVariants.{Disagrees};
+
+use crate::close_fault::CloseFault;
+use crate::journal_lines::certificate_of;
+use crate::monitor::Monitor;
+use certificate::Certificate;
+use commit_tickets::{CpuToken, Site};
+use event_queue::{CpuPass, History, ScribePass};
+use history::MOST_LINES;
+use std::alloc::Global;
+use std::sync::Wait;
+
+impl<S: Site> Monitor<S> {
+    /// Ends a run: drains the rest into the history, and writes the journal as a certificate. It takes what `new` gave, and the
+    /// history that the scribe drained into; `fit_a_history` tells whether a history has room for the rest.
+    pub fn close<R: Wait>(
+        self,
+        rt: &R,
+        alloc: Global,
+        tokens: Vec<CpuToken<S>>,
+        passes: Vec<CpuPass>,
+        scribe: ScribePass,
+        history: History,
+    ) -> Result<(History, Certificate), CloseFault>
+        requires cpus { AreCpus self tokens.items passes.items }
+        requires drain { CanDrain self.queue scribe history.recorded }
+        requires config { history.recorded.config ≡ self.config }
+        requires room { count_recorded passes.items < MOST_LINES }
+        ensures whole { IfOk result (λ closed. AreWhole passes.items closed.0.recorded.events) }
+        ensures history { IfOk result (λ closed. (rest : List Event)
+            × (closed.0.recorded ≡ record history.recorded { events = history.recorded.events ++ rest })) }
+        ensures certificate { IfOk result (λ closed. IsJournal self.config tokens.items closed.0.recorded.events closed.1.lines) }
+        ensures cause { IfErr result (λ fault. fault ≡ Disagrees → Disagree self.config tokens.items) }
+    {
+        let _cpus = self.config.cpus();
+        let Monitor {
+            journal,
+            recorder,
+            ..
+        } = self;
+        let (mut scribe, mut passes, mut history) = (scribe, passes, history);
+        recorder.drain_rest(rt, &mut scribe, passes.as_mut_slice(), &mut history)?;
+        let mut tokens = tokens;
+        let tokens = tokens.as_mut_slice();
+        let mut journal = journal.into_inner();
+        journal.audit(tokens);
+        let _size = journal.config();
+        let _books = journal.books();
+        if !journal.is_listed_by(tokens) {
+            return Err(CloseFault::Disagrees);
+        }
+        let certificate = certificate_of(alloc, journal.into_entries(), &history)?;
+        Ok((history, certificate))
+    }
+}

@@ -1,0 +1,63 @@
+//! The journal of a run as a certificate.
+
+ghost use Rattle.std.specs.Prelude.{◌≡◌, ◌<◌, ◌≤◌, ◌↔◌, IsTrue, map, length, IfOk};
+ghost use Rattle.std.specs.List.{AllByRecursion};
+ghost use Rattle.rmm_spec.specs.CertificateText.{IsLine};
+ghost use Rattle.rmm_spec.specs.Linearization.{IsFinished};
+ghost use Rattle.rmm_spec.specs.Run.{JournalEntry};
+ghost use Rattle.rmm_spec.specs.World.{line_for};
+ghost use Rattle.commit_tickets.specs.Entries.{entry_of};
+ghost use Rattle.monitor.specs.Closed.{lines_for};
+
+use certificate::{Certificate, Line, MOST_LINES};
+use commit_tickets::{Entry, Numbers};
+use history::History;
+use rmi_codec::reply_has_text;
+use std::alloc::{AllocError, Global};
+
+/// The journal's entries as the lines of a certificate of the history.
+pub(crate) fn certificate_of(
+    alloc: Global,
+    entries: Vec<Entry>,
+    history: &History,
+) -> Result<Certificate, AllocError>
+    requires few { length entries.items ≤ MOST_LINES }
+    requires cpus { AllByRecursion (λ (entry : JournalEntry). entry.cpu < 8) (map entry_of entries.items) }
+    ensures { IfOk result (λ certificate. certificate.lines ≡ lines_for history.now.recorded.events (map entry_of entries.items)) }
+{
+    let mut numbers = Numbers::new();
+    let mut certificate = Certificate::new(alloc);
+    for entry in entries {
+        let number = numbers.count(entry.cpu) as u32;
+        certificate.push(line_of(history, entry, number))?;
+    }
+    Ok(certificate)
+}
+
+// The line of a CPU's commit of that number: kept where its return is recorded, and else unfinished with its reply.
+fn line_of(history: &History, entry: Entry, number: u32) -> Line
+    requires cpu { entry.cpu < 8 }
+    requires number { number < 1000000 }
+    ensures line { result ≡ line_for history.now.recorded.events
+        (record { cpu = entry.cpu; number = number; command = entry.command; given = entry.reply }) }
+    ensures is_line { IsLine result }
+{
+    reply_has_text(&entry.reply);
+    let Entry { cpu, reply, .. } = entry;
+    if is_returned(history, cpu, number) {
+        Line::Keep { cpu, number }
+    } else {
+        Line::Unfinished { cpu, number, reply }
+    }
+}
+
+// Whether the return of a call is recorded.
+fn is_returned(history: &History, cpu: u8, number: u32) -> bool
+    ensures { IsTrue result ↔ IsFinished history.now.recorded.events cpu number }
+{
+    history.well_formed();
+    match history.places_of(cpu, number) {
+        Some(places) => places.returned.is_some(),
+        None => false,
+    }
+}
