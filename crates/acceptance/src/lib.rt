@@ -7,32 +7,8 @@
 #![tactic(auto)]
 
 #[cfg(test)]
-mod devices;
+mod by_crate;
 #[cfg(test)]
-mod inside_refusals;
-#[cfg(test)]
-mod limits;
-#[cfg(test)]
-mod measured;
+mod judged;
 #[cfg(test)]
 mod program;
-#[cfg(test)]
-mod realms;
-#[cfg(test)]
-mod rec_life;
-#[cfg(test)]
-mod refusals;
-#[cfg(test)]
-mod round_trips;
-#[cfg(test)]
-mod rows;
-#[cfg(test)]
-mod runtime;
-#[cfg(test)]
-mod script;
-#[cfg(test)]
-mod table;
-#[cfg(test)]
-mod tables;
-#[cfg(test)]
-mod tops;

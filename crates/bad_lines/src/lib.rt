@@ -15,6 +15,3 @@ pub use lines::{wrong_in_certificate_line, wrong_in_event, wrong_in_header};
 pub use shown::Shown;
 pub use wanted::{Role, Wanted};
 pub use wrong_part::WrongPart;
-
-#[cfg(test)]
-mod tests;

@@ -10,8 +10,6 @@ mod fault;
 mod laws;
 mod line;
 mod reader;
-#[cfg(test)]
-mod tests;
 mod writing;
 
 pub use certificate::{Certificate, LineRef, MOST_LINES};

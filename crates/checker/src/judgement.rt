@@ -37,19 +37,3 @@ pub fn check(alloc: Global, history: &[u8], certificate: &[u8]) -> Result<Verdic
     };
     Ok(judged_order(alloc, &history, &certificate)?.verdict)
 }
-
-#[cfg(test)]
-mod tests {
-    use super::*;
-    use crate::report::verdict_text;
-
-    #[test]
-    fn one_delegated_granule(rt: HostRuntime) {
-        let history = b"rmh1 4 1\nc 0 0 c4000151 1000\nr 0 0 ok\n";
-        let verdict = check(rt.alloc(), history, b"k 0 0\n").expect(&rt, "memory");
-        assert_eq!(rt; verdict, Verdict::Yes(1));
-        let mut line = Vec::new(rt.alloc());
-        verdict_text(&verdict, &mut line).expect(&rt, "memory");
-        assert_eq!(rt; line.as_slice(), b"yes 1\n".as_slice());
-    }
-}

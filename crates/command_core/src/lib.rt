@@ -11,8 +11,6 @@ mod cell;
 mod change_room;
 mod cpu_place;
 mod deciding;
-#[cfg(test)]
-mod deciding_tests;
 mod held;
 mod host_answers;
 mod laws;
@@ -20,8 +18,6 @@ mod name_list;
 mod names;
 mod next;
 mod plain_held;
-#[cfg(test)]
-mod plan_tests;
 mod planning;
 mod put_cells;
 mod realm_answers;
@@ -31,8 +27,6 @@ mod serving;
 mod settling;
 mod side;
 mod taking;
-#[cfg(test)]
-mod tests;
 
 pub use applying::apply;
 pub use cell::Cell;

@@ -23,6 +23,3 @@ pub use journal::{Entry, Journal};
 pub use numbers::Numbers;
 pub use site::Site;
 pub use token::{Committed, CpuToken};
-
-#[cfg(test)]
-mod tests;

@@ -18,6 +18,3 @@ pub use history::{Command, Event, History, Reply};
 pub use recorder::Recorder;
 pub use rest::fit_a_history;
 pub use scribe_pass::ScribePass;
-
-#[cfg(test)]
-mod tests;

@@ -32,6 +32,3 @@ pub use explanation::{BadLine, Cause, Explanation, Refusal, Summary};
 pub use flaw::{Flaw, Misplaced};
 pub use named_call::NamedCall;
 pub use reporting::report;
-
-#[cfg(test)]
-mod tests;

@@ -18,8 +18,6 @@ mod scale;
 mod shapes;
 mod steps;
 mod strip;
-#[cfg(test)]
-mod tests;
 mod window;
 
 pub use page::append_page;

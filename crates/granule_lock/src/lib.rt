@@ -13,6 +13,3 @@ mod locking;
 pub use granules::Granules;
 pub use hold::Hold;
 pub use locking::{free_all, lock_for};
-
-#[cfg(test)]
-mod tests;

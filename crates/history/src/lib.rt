@@ -13,8 +13,6 @@ mod laws;
 mod line;
 mod reading;
 mod subhistory;
-#[cfg(test)]
-mod tests;
 mod writing;
 
 pub use fault::HistoryFault;

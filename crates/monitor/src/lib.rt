@@ -20,8 +20,3 @@ pub use event_queue::{CpuPass, History, ScribePass, fit_a_history};
 pub use gate::{Gate, Open};
 pub use monitor::Monitor;
 pub use refused::Refused;
-
-#[cfg(test)]
-mod tests;
-#[cfg(test)]
-mod thread_tests;

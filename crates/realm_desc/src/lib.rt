@@ -18,8 +18,6 @@ mod rec_running;
 mod rec_update;
 mod ripas_request;
 mod space;
-#[cfg(test)]
-mod tests;
 
 pub use hash_algorithm::HashAlgorithm;
 pub use pending_exit::PendingExit;

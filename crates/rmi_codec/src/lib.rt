@@ -17,8 +17,6 @@ mod numeral;
 mod parts;
 mod reply;
 mod spelled;
-#[cfg(test)]
-mod tests;
 mod whole;
 mod word;
 

@@ -27,8 +27,6 @@ mod store;
 mod stored_changes;
 mod stored_tables;
 mod table;
-#[cfg(test)]
-mod tests;
 mod unprotected;
 
 pub use machine::Machine;

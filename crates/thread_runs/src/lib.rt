@@ -14,6 +14,3 @@ mod serving;
 pub use checker::Verdict;
 pub use fault::RunFault;
 pub use run::two_threads;
-
-#[cfg(test)]
-mod tests;

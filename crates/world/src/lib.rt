@@ -19,8 +19,6 @@ mod programs;
 mod returning;
 mod stepping;
 mod telling;
-#[cfg(test)]
-mod tests;
 mod turned;
 mod turning;
 mod world;

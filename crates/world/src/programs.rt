@@ -49,37 +49,3 @@ fn have_texts(commands: &[Command]) -> bool
 {
     commands.iter().all(|command| has_text(command))
 }
-
-#[cfg(test)]
-mod tests {
-    use super::*;
-    use crate::world::World;
-    use rmi_codec::read_command;
-    use std::alloc::Global;
-    use std::test::Fail;
-
-    fn program(alloc: Global, commands: &[&str]) -> Result<Vec<Command>, Fail> {
-        let mut program = Vec::new(alloc);
-        for command in commands {
-            program.push(read_command(command)?)?;
-        }
-        Ok(program)
-    }
-
-    #[test]
-    fn opens_a_program_a_cpu(rt: HostRuntime) -> Result<(), Fail> {
-        let config = Config::new(4, 2).ok_or("no such machine")?;
-        let mut programs = Vec::new(rt.alloc());
-        programs.push(program(rt.alloc(), &["c4000151 1000", "c4000152 1000"])?)?;
-        assert!(rt; !can_open(&config, &programs));
-        programs.push(Vec::new(rt.alloc()))?;
-        if !can_open(&config, &programs) {
-            return Err(Fail::from("the programs can't be opened"));
-        }
-        let world = World::new(rt.alloc(), &config, programs)?;
-        assert!(rt; world.history(rt.alloc())?.is_empty());
-        assert!(rt; world.certificate(rt.alloc())?.is_empty());
-        assert_eq!(rt; world.waits(0), None);
-        Ok(())
-    }
-}
