@@ -6,11 +6,10 @@ use Rattle.std.proofs.lemmas.List.{get_or-set_other}
 use Rattle.rmm_spec.proofs.Tests.{both_ways}
 use Rattle.std.specs.Option.{option_and_then}
 use Rattle.rmm_spec.specs.declared.entry.Entry.{Entry}
-use Rattle.rmm_spec.specs.State.{State}
 use Rattle.rmm_spec.specs.Update.{is_same_entry}
 use Rattle.flat_tables.specs.declared.kept_table.KeptTable.{KeptTable}
 use Rattle.flat_tables.specs.declared.spot.Spot.{Spot}
-use Rattle.flat_tables.specs.Flat.{found_at, leaf_in, granule_of, table_found, leaf_found, with_found, IsReplaced}
+use Rattle.flat_tables.specs.Flat.{found_at, leaf_in, granule_of, table_found, leaf_found, IsReplaced}
 use Rattle.flat_tables.specs.Links.{is_same_spot, spot, Kept}
 use Rattle.flat_tables.proofs.Spots.{is_same_spot-spot, is_same_entry-parts, is_same_entry-entry}
 
@@ -41,11 +40,6 @@ replaced old new rd level number kept put = record {
       ap (option_and_then (leaf_in (n % 512))) (found_at-put old new rd level number kept put other l (n / 512))
       ∙ chosen-after (option_and_then (leaf_in (n % 512))) (is_same_entry rd level number other l (n / 512)) kept (found_at old other l (n / 512));
 }
-
--- where the same entries are kept the flat maps are the same
-pub unchanged : (s : State) (old new : Kept) → new ≡ old → with_found s new ≡ with_found s old
-unfolding table_found leaf_found
-unchanged s old new same = rw same refl
 
 -- a table that isn't kept has no granule and no leaf
 pub table_found-absent : (tables : Kept) (rd level number : ℕ) → found_at tables rd level number ≡ None → table_found tables rd level number ≡ None
