@@ -6,7 +6,7 @@ use std::fmt;
 const MOST_SHOWN: usize = 200;
 
 /// Bytes of a text that may hold anything: printable ASCII as it is, any other byte by its hex number, and only so many.
-#[derive(Clone, Copy, Debug)]
+#[derive(Clone, Copy)]
 pub struct Shown<'a>(pub &'a [u8]);
 
 impl fmt::Display for Shown<'_> {

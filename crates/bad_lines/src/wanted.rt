@@ -8,7 +8,7 @@ ghost use Rattle.bad_lines.specs.declared.wanted.Wanted.TheVariants as wanted;
 use rmi_codec::{Parts, decimal_from, next_word, words_of};
 
 /// What a line says by its letter.
-#[derive(Clone, Copy, Debug, PartialEq, Eq)]
+#[derive(Clone, Copy)]
 pub enum Role {
     Call,
     Return,
@@ -17,7 +17,7 @@ pub enum Role {
 }
 
 /// What a line's next part has to be.
-#[derive(Clone, Copy, Debug, PartialEq, Eq)]
+#[derive(Clone, Copy)]
 pub enum Wanted {
     /// The name of the format.
     Format,

@@ -9,7 +9,7 @@ use crate::wanted::Wanted;
 use rmi_codec::Parts;
 
 /// A part that can't stand where it stands.
-#[derive(Clone, Copy, Debug, PartialEq, Eq)]
+#[derive(Clone, Copy)]
 pub struct WrongPart<'a> {
     /// How many parts stand before it.
     pub index: usize,

@@ -10,7 +10,7 @@ use rmm_spec::{Command, FunctionId};
 pub(crate) const SPAN: u64 = 5;
 
 /// A realm with one REC, which is entered and left twice, and its end. Its granules are delegated before, and undelegated after.
-#[derive(Clone, Copy, Debug)]
+#[derive(Clone, Copy)]
 pub(crate) struct Life {
     place: u64,
     step: u8,

@@ -3,7 +3,7 @@
 use crate::random::{CPUS, GRANULES, drawn_jobs};
 use crate::recorded::recorded;
 use anyhow::{Context, Result, bail};
-use checker::{Verdict, check};
+use checker::{Verdict, check, verdict_text};
 use granule_state::Config;
 use monitor::{Certificate, History};
 use rand::RngExt;
@@ -17,7 +17,7 @@ use std::sync::ledger::Blank;
 use std::thread::Threads;
 
 /// Which runs are judged: so many seeds from the first on, each with so many commands a CPU.
-#[derive(Clone, Copy, Debug)]
+#[derive(Clone, Copy)]
 pub(crate) struct Batch {
     pub(crate) first: u64,
     pub(crate) count: u64,
@@ -41,7 +41,7 @@ pub(crate) fn judge_runs<R: Print + Threads + Wait + Sync>(
         let (history, certificate) = run_of(rt, alloc, seed, commands, with_stop)?;
         match verdict(alloc, &history, &certificate)? {
             Verdict::Yes(_) => yes = yes.wrapping_add(1),
-            verdict => println!(rt; "seed {seed}: {verdict:?}")?,
+            verdict => print_verdict(rt, alloc, seed, &verdict)?,
         }
     }
     let kind = if with_stop {
@@ -96,6 +96,14 @@ fn run_of<R: Threads + Wait + Sync>(
     let jobs = drawn_jobs(alloc, commands, with_stop, &mut random)?;
     let blank = Blank::new(u64::from(config.cpus()));
     recorded::<Brand, R>(rt, alloc, blank, config, capacity, jobs.as_slice())
+}
+
+fn print_verdict(rt: &impl Print, alloc: Global, seed: u64, verdict: &Verdict) -> Result<()> {
+    let mut line = Vec::new(alloc);
+    verdict_text(verdict, &mut line)?;
+    let line = String::from_utf8(line)?;
+    print!(rt; "seed {seed}: {line}")?;
+    Ok(())
 }
 
 // The verdict on the two texts of a run.

@@ -23,7 +23,7 @@ const CAPACITY: usize = 65536;
 const COMMANDS: u32 = 8000;
 
 /// What is timed: whether the CPUs share their granules, and whether one lock is held around each command.
-#[derive(Clone, Copy, Debug)]
+#[derive(Clone, Copy)]
 pub(crate) struct Kind {
     pub(crate) is_shared: bool,
     pub(crate) is_locked: bool,

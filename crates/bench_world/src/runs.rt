@@ -6,7 +6,7 @@ use crate::drawing::Sharing;
 use crate::schedule::Schedule;
 use crate::turning::{finish, opened, turned};
 use anyhow::{Context, Result, bail};
-use checker::{Verdict, check};
+use checker::{Verdict, check, verdict_text};
 use granule_state::Config;
 use history::History;
 use rmi_view::ReplyRef;
@@ -23,7 +23,7 @@ const COMMANDS: u64 = 24;
 const TURNS: u64 = 16;
 
 /// What came out of some runs.
-#[derive(Clone, Copy, Debug, Default)]
+#[derive(Clone, Copy, Default)]
 struct Counts {
     judgements: u64,
     yes: u64,
@@ -91,8 +91,16 @@ fn judge(
     counts.judgements = counts.judgements.wrapping_add(1);
     match verdict(alloc, world)? {
         Verdict::Yes(_) => counts.yes = counts.yes.wrapping_add(1),
-        verdict => println!(rt; "seed {seed}: {verdict:?}")?,
+        verdict => print_verdict(rt, alloc, seed, &verdict)?,
     }
+    Ok(())
+}
+
+fn print_verdict(rt: &impl Print, alloc: Global, seed: u64, verdict: &Verdict) -> Result<()> {
+    let mut line = Vec::new(alloc);
+    verdict_text(verdict, &mut line)?;
+    let line = String::from_utf8(line)?;
+    print!(rt; "seed {seed}: {line}")?;
     Ok(())
 }
 

@@ -11,7 +11,7 @@ use std::marker::Model;
 pub const MOST_LINES: usize = 1_000_000;
 
 /// A line in eight bytes. What an unfinished one claims has an index among the claims.
-#[derive(Clone, Copy, Debug)]
+#[derive(Clone, Copy)]
 enum Named {
     Keep { cpu: u8, number: u32 },
     Unfinished { cpu: u8, index: u32 },
@@ -20,14 +20,14 @@ enum Named {
 const _: () = prove!(size_of::<Named>() == 8);
 
 /// The number of an unfinished call, and the reply that it is claimed to have had.
-#[derive(Debug, Drop)]
+#[derive(Drop)]
 struct Claim {
     number: u32,
     reply: Reply,
 }
 
 /// The lines that a certificate claims, the first to take effect first.
-#[derive(Debug, Drop)]
+#[derive(Drop)]
 pub struct Certificate {
     names: Vec<Named>,
     claims: Vec<Claim>,
@@ -49,7 +49,7 @@ impl Model for Certificate {
 }
 
 /// One line of a certificate, as it is read from there.
-#[derive(Clone, Copy, Debug, PartialEq, Eq)]
+#[derive(Clone, Copy)]
 pub enum LineRef<'a> {
     /// A finished call, which gave the reply that the history records.
     Keep {

@@ -7,7 +7,7 @@ use std::alloc::AllocError;
 use thiserror::Error;
 
 /// Why a text isn't read as a certificate.
-#[derive(Clone, Copy, Debug, PartialEq, Eq, Error)]
+#[derive(Clone, Copy, Debug, Error)]
 pub enum CertFault {
     /// The first line with which the text is no beginning of a certificate, counted from 1.
     #[error("line {0} is bad")]

@@ -14,7 +14,7 @@ use spec_machine::Machine;
 use std::alloc::{AllocError, Global};
 
 /// A verdict on an order, and the machine as the lines before the first fault leave it, or all lines where there is none.
-#[derive(Debug, Drop)]
+#[derive(Drop)]
 pub struct JudgedOrder {
     pub verdict: Verdict,
     pub machine: Machine,

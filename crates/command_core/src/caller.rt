@@ -7,7 +7,7 @@ ghost use Rattle.command_core.specs.Callers.{class_from};
 use rmm_spec::Call;
 
 /// A realm's host, a realm from inside a REC, or a REC that leaves to its host.
-#[derive(Clone, Copy, Debug, PartialEq, Eq)]
+#[derive(Clone, Copy)]
 pub(crate) enum Caller {
     Host,
     Realm,

@@ -5,7 +5,7 @@ use rmm_spec::Tag;
 use rtt_table::Table;
 
 /// A granule's state with what lies in it (DEN0137, granule state), so that the two agree.
-#[derive(Debug, Default, Drop)]
+#[derive(Default, Drop)]
 pub enum Cell {
     #[default]
     Undelegated,

@@ -3,7 +3,7 @@
 use rtt_table::Table;
 
 /// What a change puts in that takes memory: the root of a realm that is made.
-#[derive(Debug, Drop)]
+#[derive(Drop)]
 pub struct Room {
     pub(crate) root: Option<Table>,
 }

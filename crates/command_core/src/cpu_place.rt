@@ -3,7 +3,7 @@
 use granule_state::Pa;
 
 /// In the host's world, or inside a REC of the realm at rd.
-#[derive(Clone, Copy, Debug, PartialEq, Eq)]
+#[derive(Clone, Copy)]
 pub enum CpuPlace {
     Outside,
     Inside { rec: Pa, rd: Pa },

@@ -6,7 +6,7 @@ use rmm_spec::Tag;
 use std::marker::Model;
 
 /// A granule, by its address, and the tag that is needed there.
-#[derive(Clone, Copy, Debug, PartialEq, Eq)]
+#[derive(Clone, Copy)]
 pub(crate) struct Name {
     pub granule: u64,
     pub tag: Tag,
@@ -23,7 +23,7 @@ impl Model for Name {
 }
 
 /// Up to four names: the first ones of a list.
-#[derive(Clone, Copy, Debug, PartialEq, Eq)]
+#[derive(Clone, Copy)]
 pub(crate) struct Names {
     pub list: [Name; 4],
     pub count: usize,

@@ -3,7 +3,7 @@
 use granule_state::Pa;
 
 /// What a CPU does next for a command that it hasn't committed.
-#[derive(Clone, Copy, Debug, PartialEq, Eq)]
+#[derive(Clone, Copy)]
 pub enum Next {
     /// It takes the lock of a granule.
     Take(Pa),

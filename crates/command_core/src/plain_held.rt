@@ -11,14 +11,14 @@ use std::alloc::{AllocError, Global};
 use std::mem::replace;
 
 /// One cell with its granule.
-#[derive(Debug, Drop)]
+#[derive(Drop)]
 struct Entry {
     granule: Pa,
     cell: Cell,
 }
 
 /// Up to six cells in a list, in the order in which they were taken.
-#[derive(Debug, Drop)]
+#[derive(Drop)]
 pub struct PlainHeld {
     granules: Vec<Pa>,
     entries: Vec<Entry>,

@@ -13,7 +13,7 @@ const VMIDS: usize = 256;
 const GRANULES: usize = 4096;
 
 /// The realm that has each VMID, and how many RECs belong to each realm, for a machine of any size.
-#[derive(Debug, Drop)]
+#[derive(Drop)]
 pub struct Side {
     // at each VMID the descriptor of the realm that has it
     vmids: Vec<Option<Pa>>,

@@ -23,7 +23,7 @@ use rmm_spec::{Command, Reply};
 use std::alloc::Global;
 
 /// What a commit answers: the place of its entry in the journal, and the reply that stands there.
-#[derive(Debug, Drop, PartialEq, Eq)]
+#[derive(Debug, Drop)]
 pub struct Done {
     pub ticket: usize,
     pub reply: Reply,

@@ -15,7 +15,7 @@ use std::marker::Model;
 use std::sync::ledger::Book;
 
 /// A commit: a CPU's command, and what it was answered.
-#[derive(Debug, Drop, PartialEq, Eq)]
+#[derive(Drop)]
 pub struct Entry {
     pub cpu: u8,
     pub command: Command,

@@ -5,7 +5,7 @@ ghost use Rattle.rmm_spec.specs.Cell.{put};
 ghost use Rattle.commit_tickets.specs.Listed.{numbers_of};
 
 /// The number of each CPU's next commit, while the journal is gone through.
-#[derive(Debug, Drop)]
+#[derive(Drop)]
 pub struct Numbers {
     next: [usize; 8],
 }

@@ -10,7 +10,7 @@ use std::marker::Model;
 use std::sync::ledger::Share;
 
 /// A commit of one CPU, and its place in the journal.
-#[derive(Debug, Drop, PartialEq, Eq)]
+#[derive(Drop)]
 pub struct Committed {
     pub ticket: usize,
     pub command: Command,

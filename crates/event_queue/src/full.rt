@@ -3,6 +3,6 @@
 use thiserror::Error;
 
 /// The queue was full at some moment of the call.
-#[derive(Clone, Copy, Debug, PartialEq, Eq, Error)]
+#[derive(Clone, Copy, Debug, Error)]
 #[error("the queue is full")]
 pub struct Full;

@@ -17,14 +17,14 @@ use spec_machine::Machine;
 use std::alloc::{AllocError, Global};
 
 /// A step before the one that fails, with the call that its line names.
-#[derive(Debug, Drop)]
+#[derive(Drop)]
 pub struct EarlierStep {
     pub step: u64,
     pub call: NamedCall,
 }
 
 /// A part of the state that a condition reads.
-#[derive(Clone, Copy, Debug, PartialEq, Eq)]
+#[derive(Clone, Copy)]
 pub(crate) enum Part {
     Tag { granule: u64 },
     Vmid { vmid: u64 },

@@ -4,7 +4,7 @@
 use rmm_spec::Tag;
 
 /// What RTT_READ_ENTRY reports of an entry.
-#[derive(Clone, Copy, Debug, PartialEq, Eq)]
+#[derive(Clone, Copy)]
 pub struct EntryRead {
     pub level: u64,
     pub state: u64,
@@ -13,7 +13,7 @@ pub struct EntryRead {
 }
 
 /// A condition that fails, with what it reads.
-#[derive(Clone, Copy, Debug, PartialEq, Eq)]
+#[derive(Clone, Copy)]
 pub enum Condition {
     /// Every condition holds.
     None,
@@ -110,7 +110,7 @@ pub enum Condition {
 }
 
 /// What an entry has to be.
-#[derive(Clone, Copy, Debug, PartialEq, Eq)]
+#[derive(Clone, Copy)]
 pub enum EntryKind {
     Unassigned,
     UnassignedRam,
@@ -120,7 +120,7 @@ pub enum EntryKind {
 }
 
 /// What is wrong with a word.
-#[derive(Clone, Copy, Debug, PartialEq, Eq)]
+#[derive(Clone, Copy)]
 pub enum WordFault {
     SameGranule,
     Space { width: u64, level: u64 },

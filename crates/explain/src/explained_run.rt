@@ -13,14 +13,14 @@ use history::History;
 use std::alloc::{AllocError, Global};
 
 /// What two texts stand for.
-#[derive(Debug, Drop)]
+#[derive(Drop)]
 pub struct Run {
     pub history: History,
     pub certificate: Certificate,
 }
 
 /// An explanation, and the run where both texts stand for one.
-#[derive(Debug, Drop)]
+#[derive(Drop)]
 pub struct ExplainedRun<'a> {
     pub explanation: Explanation<'a>,
     pub run: Option<Run>,

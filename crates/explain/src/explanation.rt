@@ -12,7 +12,7 @@ use rmm_spec::{Accepted, Reply};
 use spec_machine::OwnerRow;
 
 /// A line that isn't in its grammar, counted from 1, its bytes without a newline, and why it isn't.
-#[derive(Clone, Copy, Debug, PartialEq, Eq)]
+#[derive(Clone, Copy)]
 pub struct BadLine<'a> {
     pub line: u64,
     pub bytes: &'a [u8],
@@ -21,7 +21,7 @@ pub struct BadLine<'a> {
 
 /// What a linearization leaves: how many lines it has of how many calls, on how many CPUs, and whose each granule is at the
 /// end.
-#[derive(Debug, Drop)]
+#[derive(Drop)]
 pub struct Summary {
     pub count: u64,
     pub calls: u64,
@@ -30,7 +30,7 @@ pub struct Summary {
 }
 
 /// A reply that the specification doesn't give after the lines before.
-#[derive(Debug, Drop)]
+#[derive(Drop)]
 pub struct Refusal {
     pub call: NamedCall,
     /// The reply that the line claims: the recorded one, or an unfinished line's own.
@@ -45,7 +45,7 @@ pub struct Refusal {
 }
 
 /// Why a step fails. Steps count the lines of the certificate from 1.
-#[derive(Debug, Drop)]
+#[derive(Drop)]
 pub enum Cause {
     /// The history has no such call.
     Unknown {
@@ -74,7 +74,7 @@ pub enum Cause {
 }
 
 /// A verdict with what stands behind it.
-#[derive(Debug, Drop)]
+#[derive(Drop)]
 pub enum Explanation<'a> {
     /// The history isn't in its grammar.
     HistoryFault(BadLine<'a>),

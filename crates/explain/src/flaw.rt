@@ -16,7 +16,7 @@ use std::fmt;
 const MOST_LINES: u64 = 1_000_000;
 
 /// Why a line is bad.
-#[derive(Clone, Copy, Debug, PartialEq, Eq)]
+#[derive(Clone, Copy)]
 pub enum Flaw<'a> {
     /// The first part with which it is no line of its kind.
     Part(WrongPart<'a>),
@@ -25,7 +25,7 @@ pub enum Flaw<'a> {
 }
 
 /// Why a line can't stand in its place.
-#[derive(Clone, Copy, Debug, PartialEq, Eq)]
+#[derive(Clone, Copy)]
 pub enum Misplaced {
     /// No newline ends it.
     Unended,

@@ -7,7 +7,7 @@ ghost use Rattle.rmm_spec.specs.Linearization.{IsKnown};
 use history::{Call, History};
 
 /// A call by its CPU and number, with what the history tells of it: its lines, its command and its answer.
-#[derive(Debug, Drop, PartialEq, Eq)]
+#[derive(Drop)]
 pub struct NamedCall {
     pub cpu: u8,
     pub number: u32,

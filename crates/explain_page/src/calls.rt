@@ -4,7 +4,7 @@ use crate::window::Window;
 use history::{History, MOST_LINES, Places};
 
 /// A call by its CPU and number.
-#[derive(Clone, Copy, Debug, PartialEq, Eq)]
+#[derive(Clone, Copy, PartialEq)]
 pub(crate) struct CallId {
     pub(crate) cpu: u8,
     pub(crate) number: u32,
@@ -15,7 +15,7 @@ pub(crate) fn places_of(history: &History, call: CallId) -> Option<Places> {
 }
 
 /// Calls of one CPU by their numbers: from the first one on, and before the end.
-#[derive(Clone, Copy, Debug, PartialEq, Eq)]
+#[derive(Clone, Copy)]
 pub(crate) struct Calls {
     pub(crate) first: u32,
     pub(crate) end: u32,
@@ -28,7 +28,7 @@ impl Calls {
 }
 
 /// A call's beginning or its end.
-#[derive(Clone, Copy, Debug, PartialEq, Eq)]
+#[derive(Clone, Copy)]
 enum Edge {
     Called,
     Returned,

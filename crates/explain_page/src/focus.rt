@@ -4,7 +4,7 @@ use crate::calls::CallId;
 use explain::{Cause, Explanation, NamedCall, Refusal};
 
 /// How a call is drawn.
-#[derive(Clone, Copy, Debug, PartialEq, Eq)]
+#[derive(Clone, Copy)]
 pub(crate) enum Role {
     Plain,
     /// The call of the step that fails.
@@ -14,7 +14,7 @@ pub(crate) enum Role {
 }
 
 /// The steps that are drawn, and the calls that stand out.
-#[derive(Clone, Copy, Debug, PartialEq, Eq)]
+#[derive(Clone, Copy)]
 pub(crate) struct Focus {
     /// The failing step, or the last one where none fails.
     pub(crate) last_step: u64,

@@ -9,7 +9,7 @@ use history::History;
 use std::alloc::{AllocError, Global};
 
 /// A step, counted from 1, and the call that its line names.
-#[derive(Clone, Copy, Debug, PartialEq, Eq)]
+#[derive(Clone, Copy)]
 pub(crate) struct Mark {
     pub(crate) step: u64,
     pub(crate) call: CallId,

@@ -21,7 +21,7 @@ pub(crate) use words::Words;
 pub(crate) type Page = markup::Page<Own>;
 
 /// A piece of markup.
-#[derive(Clone, Copy, Debug, PartialEq, Eq)]
+#[derive(Clone, Copy)]
 pub(crate) enum Own {
     Frame(Frame),
     Tag(Tag),

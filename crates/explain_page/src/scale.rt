@@ -27,7 +27,7 @@ const LEAST: u64 = 10;
 const MOST: u64 = 120;
 
 /// How many pixels an event takes, and which events are shown.
-#[derive(Clone, Copy, Debug, PartialEq, Eq)]
+#[derive(Clone, Copy)]
 pub(crate) struct Scale {
     window: Window,
     column: u64,

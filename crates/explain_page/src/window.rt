@@ -13,7 +13,7 @@ pub(crate) const MOST_SHOWN: usize = 100;
 const BEFORE: usize = 65;
 
 /// Events by their places: from the first one on, and before the end.
-#[derive(Clone, Copy, Debug, PartialEq, Eq)]
+#[derive(Clone, Copy)]
 pub(crate) struct Window {
     pub(crate) first: usize,
     pub(crate) end: usize,

@@ -11,7 +11,7 @@ use std::alloc::{AllocError, Global};
 pub const ENTRIES: usize = 512;
 
 /// A table's granule, and at each of its 512 places the leaf there. None stands where a table is linked below.
-#[derive(Debug, Drop)]
+#[derive(Drop)]
 pub struct KeptTable {
     pub granule: u64,
     pub leaves: Vec<Option<Entry>>,

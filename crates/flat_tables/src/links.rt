@@ -7,7 +7,7 @@ use std::alloc::{AllocError, Global};
 use std::collections::HashMap;
 
 /// Counts of tables, each at a realm, the tables' level and the number of the table above them. Where none is, nothing is kept.
-#[derive(Debug, Drop)]
+#[derive(Drop)]
 pub(crate) struct Links {
     counts: HashMap<Spot, usize>,
 }

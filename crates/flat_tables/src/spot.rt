@@ -1,7 +1,7 @@
 //! Where a table or an entry is kept.
 
 /// A realm by the address of its descriptor, a level, and the number of a table or an entry at that level.
-#[derive(Clone, Copy, Debug, Drop, PartialEq, Eq, Hash)]
+#[derive(Clone, Copy, Drop, PartialEq, Eq, Hash)]
 pub struct Spot {
     pub rd: u64,
     pub level: u8,

@@ -12,7 +12,7 @@ use std::alloc::{AllocError, Global};
 use std::collections::HashMap;
 
 /// The tables of all realms, with their leaves.
-#[derive(Debug, Drop)]
+#[derive(Drop)]
 pub struct Tables {
     pub(crate) alloc: Global,
     kept: HashMap<Spot, KeptTable>,

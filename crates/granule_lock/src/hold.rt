@@ -9,7 +9,7 @@ use granule_state::Pa;
 use std::mem::replace;
 
 /// Up to six cells with their granules, in the order in which they were taken. Only a take adds one.
-#[derive(Debug, Drop)]
+#[derive(Drop)]
 pub struct Hold {
     granules: ArrayVec<Pa, 6>,
     cells: ArrayVec<Cell, 6>,

@@ -12,7 +12,7 @@ use std::marker::Model;
 pub const GRANULE_BYTES: u64 = 4096;
 
 /// How many granules and CPUs a machine has, within the limits of both.
-#[derive(Clone, Copy, Debug, PartialEq, Eq)]
+#[derive(Clone, Copy)]
 pub struct Config {
     granules: u64,
     cpus: u8,

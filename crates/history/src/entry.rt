@@ -11,14 +11,14 @@ use rmm_spec::FunctionId;
 use std::alloc::AllocError;
 
 /// Where the words of an event stand.
-#[derive(Clone, Copy, Debug)]
+#[derive(Clone, Copy)]
 pub struct Stretch {
     pub first: u32,
     pub count: u8,
 }
 
 /// An event without its words, which stand among the words of all events.
-#[derive(Clone, Copy, Debug)]
+#[derive(Clone, Copy)]
 pub enum Entry {
     Called {
         cpu: u8,

@@ -28,7 +28,7 @@ pub(crate) const MOST_EVENTS: usize = 999_999;
 pub const MOST_LINES: usize = MOST_EVENTS + 1;
 
 /// Where a call of a history was made, and where it returned. Places count the events from 0.
-#[derive(Clone, Copy, Debug, PartialEq, Eq)]
+#[derive(Clone, Copy)]
 pub struct Places {
     pub called: u32,
     /// Nothing where the call hasn't returned.
@@ -36,7 +36,7 @@ pub struct Places {
 }
 
 /// A call of a history, with the line of the text on which it was made. The header is line 1.
-#[derive(Debug, Drop, PartialEq, Eq)]
+#[derive(Drop)]
 pub struct Call {
     pub called: u32,
     pub command: Command,
@@ -45,14 +45,14 @@ pub struct Call {
 }
 
 /// What a call was answered, and on which line.
-#[derive(Debug, Drop, PartialEq, Eq)]
+#[derive(Drop)]
 pub struct Answer {
     pub returned: u32,
     pub reply: Reply,
 }
 
 /// A machine's size and its events. A call is found by its CPU and number in constant time.
-#[derive(Debug, Drop)]
+#[derive(Drop)]
 pub struct History {
     config: Config,
     entries: Vec<Entry>,

@@ -10,7 +10,7 @@ use crate::event_ref::EventRef;
 use std::alloc::{AllocError, Global};
 
 /// The places of a CPU's events. Calls and returns take turns, so that call n stands at 2n and its return behind it.
-#[derive(Debug, Drop)]
+#[derive(Drop)]
 pub struct Subhistory {
     pub places: Vec<u32>,
 }

@@ -7,7 +7,7 @@ use crate::fault::Fault;
 use checker::Verdict;
 
 /// The program's exit status, and the fault whose line stands on standard error, where there is one.
-#[derive(Clone, Copy, Debug, PartialEq, Eq)]
+#[derive(Clone, Copy)]
 pub struct Ending<'a> {
     pub status: u8,
     pub fault: Option<Fault<'a>>,

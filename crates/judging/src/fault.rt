@@ -8,7 +8,7 @@ use std::error::Error;
 use std::fmt;
 
 /// What ended the program. Its `Display` is its line on standard error.
-#[derive(Clone, Copy, Debug, PartialEq, Eq)]
+#[derive(Clone, Copy, Debug)]
 pub enum Fault<'a> {
     /// The words are no `check HISTORY CERT`.
     Arguments,
@@ -25,7 +25,7 @@ pub enum Fault<'a> {
 }
 
 /// The two paths of a `check`, as they were given.
-#[derive(Clone, Copy, Debug, PartialEq, Eq)]
+#[derive(Clone, Copy)]
 pub struct Paths<'a> {
     pub history: &'a str,
     pub certificate: &'a str,

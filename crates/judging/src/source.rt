@@ -8,7 +8,7 @@ ghost use Rattle.judging.specs.Source.{Grows, read_failures};
 use thiserror::Error;
 
 /// Why no more bytes came.
-#[derive(Clone, Copy, Debug, PartialEq, Eq, Error)]
+#[derive(Clone, Copy, Debug, Error)]
 pub enum ReadError {
     #[error("the device failed")]
     Device,

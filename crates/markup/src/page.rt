@@ -18,7 +18,7 @@ pub trait Markup {
 }
 
 /// The HTML that was written so far: pieces of markup of the program's own, numbers, and escaped texts.
-#[derive(Debug, Drop)]
+#[derive(Drop)]
 pub struct Page<M: Markup> {
     bytes: Vec<u8>,
     own: PhantomData<M>,

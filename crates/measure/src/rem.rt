@@ -7,7 +7,7 @@ use sha2::{Digest, Sha256};
 use std::marker::Model;
 
 /// A realm extensible measurement, 32 bytes.
-#[derive(Clone, Copy, Debug, PartialEq, Eq)]
+#[derive(Clone, Copy)]
 pub struct Rem {
     bytes: [u8; 32],
 }

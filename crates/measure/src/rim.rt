@@ -9,7 +9,7 @@ use sha2::{Digest, Sha256};
 use std::marker::Model;
 
 /// A realm initial measurement, 32 bytes.
-#[derive(Clone, Copy, Debug, PartialEq, Eq)]
+#[derive(Clone, Copy)]
 pub struct Rim {
     bytes: [u8; 32],
 }

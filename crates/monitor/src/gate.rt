@@ -9,7 +9,7 @@ pub trait Gate {
 }
 
 /// A gate that holds nobody up.
-#[derive(Clone, Copy, Debug)]
+#[derive(Clone, Copy)]
 pub struct Open;
 
 impl Gate for Open {

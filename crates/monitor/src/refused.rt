@@ -4,7 +4,7 @@ use commit_tickets::{CommitFault, Done};
 use thiserror::Error;
 
 /// Why a command wasn't executed to its end. After each of them but the first the CPU executes nothing more.
-#[derive(Debug, Drop, PartialEq, Eq, Error)]
+#[derive(Debug, Drop, Error)]
 pub enum Refused {
     /// The queue was full at the call: nothing was recorded, nothing ran, and the same command may be executed again.
     #[error("the queue was full at the call")]

@@ -1,7 +1,7 @@
 //! The hashes that a realm can be measured with.
 
 /// The hash of a realm's measurements (DEN0137, RmiHashAlgorithm).
-#[derive(Clone, Copy, Debug, PartialEq, Eq)]
+#[derive(Clone, Copy)]
 pub enum HashAlgorithm {
     Sha256,
 }

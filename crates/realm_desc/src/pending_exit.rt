@@ -1,7 +1,7 @@
 //! Why a REC waits to leave to its host.
 
 /// What a REC asked for before it leaves (DEN0137, REC exit).
-#[derive(Clone, Copy, Debug, PartialEq, Eq)]
+#[derive(Clone, Copy)]
 pub enum PendingExit {
     /// The power call of this number.
     Psci(u32),

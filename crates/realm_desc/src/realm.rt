@@ -19,7 +19,7 @@ const RECS: u64 = 8;
 
 /// A realm, as its descriptor says (DEN0137, RD).
 #[tactic(auto, unfolding(crate::specs::View::realm_record, crate::specs::View::realm_fields))]
-#[derive(Clone, Copy, Debug, PartialEq, Eq)]
+#[derive(Clone, Copy)]
 pub struct Realm {
     pub state: RealmState,
     pub space: Space,

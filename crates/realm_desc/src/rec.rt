@@ -11,7 +11,7 @@ use std::marker::Model;
 
 /// A REC, as its granule and its two auxiliary granules keep it (DEN0137, REC).
 #[tactic(auto, unfolding(crate::specs::View::rec_record, crate::specs::View::rec_fields))]
-#[derive(Clone, Copy, Debug, PartialEq, Eq)]
+#[derive(Clone, Copy)]
 pub struct Rec {
     /// The realm that it belongs to, by the address of its descriptor.
     pub owner: Pa,

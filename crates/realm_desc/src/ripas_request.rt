@@ -4,7 +4,7 @@ use rmm_spec::Ripas;
 use std::marker::Model;
 
 /// That the stretch from `base` up to but not `top` gets this RIPAS (DEN0137, RSI_IPA_STATE_SET).
-#[derive(Clone, Copy, Debug, PartialEq, Eq)]
+#[derive(Clone, Copy)]
 pub struct RipasRequest {
     pub base: u64,
     pub top: u64,

@@ -1,7 +1,7 @@
 //! The address spaces that a realm can have.
 
 /// An address space, by its width and the level of its root (DEN0137, realm parameters).
-#[derive(Clone, Copy, Debug, PartialEq, Eq)]
+#[derive(Clone, Copy)]
 pub enum Space {
     /// 39 bits, walked from level 1 on.
     Bits39,

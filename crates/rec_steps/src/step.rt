@@ -6,7 +6,7 @@ use realm_desc::{Realm, Rec};
 use rmm_spec::{Accepted, Change, RealmChange, RealmUpdate, RecChange, RecUpdate, Reply};
 
 /// The words of the reply, and what becomes of the two records. Where they lie doesn't matter for either.
-#[derive(Debug, Drop, PartialEq, Eq)]
+#[derive(Drop)]
 pub struct RecStep {
     pub words: ArrayVec<u64, 10>,
     pub realm: Option<RealmUpdate>,

@@ -6,7 +6,7 @@ use crate::parts::Parts;
 use thiserror::Error;
 
 /// Why a text isn't a command or a reply. Where several apply, which one is reported is left open.
-#[derive(Clone, Copy, Debug, PartialEq, Eq, Error)]
+#[derive(Clone, Copy, Debug, Error)]
 pub enum CodecFault {
     /// The number is that of no function.
     #[error("no such function")]

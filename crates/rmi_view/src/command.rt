@@ -4,7 +4,7 @@ use crate::words::owned;
 use rmm_spec::{Call, Command, FunctionId};
 
 /// A command whose words lie elsewhere.
-#[derive(Clone, Copy, Debug)]
+#[derive(Clone, Copy)]
 pub struct CommandRef<'a> {
     pub function: FunctionId,
     pub words: &'a [u64],

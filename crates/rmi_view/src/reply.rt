@@ -4,7 +4,7 @@ use crate::words::owned;
 use rmm_spec::Reply;
 
 /// A reply whose words lie elsewhere.
-#[derive(Clone, Copy, Debug)]
+#[derive(Clone, Copy)]
 pub enum ReplyRef<'a> {
     /// The command was carried out, and gives these words.
     Ok(&'a [u64]),

@@ -5,7 +5,7 @@ use crate::tag::Ripas;
 use arrayvec::ArrayVec;
 
 /// Why the RIPAS of a stretch is set.
-#[derive(Clone, Copy, Debug, PartialEq, Eq)]
+#[derive(Clone, Copy)]
 pub enum StretchUse {
     /// A realm that was not activated yet is told what is memory.
     Init,
@@ -15,7 +15,7 @@ pub enum StretchUse {
 
 /// A stretch of protected memory that begins at base, in one table of the level, and ends by top. How far one command
 /// gets is the monitor's choice.
-#[derive(Clone, Copy, Debug, PartialEq, Eq)]
+#[derive(Clone, Copy)]
 pub struct Stretch {
     pub rd: u64,
     pub base: u64,
@@ -25,7 +25,7 @@ pub struct Stretch {
 }
 
 /// What is done where each row of a command holds.
-#[derive(Debug, Drop, PartialEq, Eq)]
+#[derive(Drop)]
 pub enum Accepted {
     /// The reply has these words, and this is changed.
     Done {

@@ -4,7 +4,7 @@ use crate::function_id::FunctionId;
 
 /// A command as its function and words mean it. Functions are named as in DEN0137; which words there are is this profile's
 /// selection. Addresses and sizes are in bytes; a word that the caller left out is zero.
-#[derive(Clone, Copy, Debug, PartialEq, Eq)]
+#[derive(Clone, Copy)]
 pub enum Call {
     GranuleDelegate {
         granule: u64,

@@ -4,7 +4,7 @@ use crate::entry::Entry;
 use crate::tag::{Ripas, Tag};
 
 /// What becomes of a realm's record.
-#[derive(Clone, Copy, Debug, PartialEq, Eq)]
+#[derive(Clone, Copy)]
 pub enum RealmUpdate {
     /// It may run, and can't be built any further.
     Activated,
@@ -35,7 +35,7 @@ pub enum RealmUpdate {
 }
 
 /// What becomes of a REC's record.
-#[derive(Clone, Copy, Debug, PartialEq, Eq)]
+#[derive(Clone, Copy)]
 pub enum RecUpdate {
     /// It runs on the CPU, and what it asked for is done with.
     Entered { cpu: u8 },
@@ -54,28 +54,28 @@ pub enum RecUpdate {
 }
 
 /// A realm's record, by the address of its descriptor, with what becomes of it.
-#[derive(Clone, Copy, Debug, PartialEq, Eq)]
+#[derive(Clone, Copy)]
 pub struct RealmChange {
     pub rd: u64,
     pub update: RealmUpdate,
 }
 
 /// A REC's record, by its address, with what becomes of it.
-#[derive(Clone, Copy, Debug, PartialEq, Eq)]
+#[derive(Clone, Copy)]
 pub struct RecChange {
     pub rec: u64,
     pub update: RecUpdate,
 }
 
 /// A granule that gets another tag.
-#[derive(Clone, Copy, Debug, PartialEq, Eq)]
+#[derive(Clone, Copy)]
 pub struct TagChange {
     pub granule: u64,
     pub tag: Tag,
 }
 
 /// What becomes of entries of one table that are no links, by the number of each at its level.
-#[derive(Clone, Copy, Debug, PartialEq, Eq)]
+#[derive(Clone, Copy)]
 pub enum EntryChange {
     /// One is replaced.
     Replaced { number: u64, entry: Entry },
@@ -84,7 +84,7 @@ pub enum EntryChange {
 }
 
 /// What an accepted command changes: one of ten kinds.
-#[derive(Clone, Copy, Debug, PartialEq, Eq)]
+#[derive(Clone, Copy)]
 pub enum Change {
     /// Nothing changes.
     Unchanged,

@@ -4,7 +4,7 @@ use crate::tag::Ripas;
 
 /// One entry of a translation table (DEN0137, RTT entry): in the protected half one of the first two,
 /// in the unprotected half one of the last two, and in either a link to the table of the next level.
-#[derive(Clone, Copy, Debug, PartialEq, Eq)]
+#[derive(Clone, Copy, PartialEq)]
 pub enum Entry {
     /// No granule, and what the realm was told of the stretch.
     Unassigned(Ripas),

@@ -4,7 +4,7 @@ use crate::command::Command;
 use crate::reply::Reply;
 
 /// A call or a return. `number` counts the calls of its CPU from 0.
-#[derive(Debug, Drop, PartialEq, Eq)]
+#[derive(Drop)]
 pub enum Event {
     Called {
         cpu: u8,

@@ -2,7 +2,7 @@
 
 /// The function of a command: an RMI command, a realm call (RSI or PSCI), or the exit of a REC to the host.
 /// Arm's function identifiers; `Exit` is this project's own.
-#[derive(Clone, Copy, Debug, PartialEq, Eq)]
+#[derive(Clone, Copy, PartialEq)]
 pub enum FunctionId {
     GranuleDelegate,
     GranuleUndelegate,

@@ -3,7 +3,7 @@
 use crate::reply::Reply;
 
 /// One step of the claimed order: the call `number` of a CPU committed here.
-#[derive(Debug, Drop, PartialEq, Eq)]
+#[derive(Drop)]
 pub enum Line {
     /// A finished call, which gave the reply that the history records.
     Keep { cpu: u8, number: u32 },

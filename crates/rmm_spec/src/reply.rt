@@ -3,7 +3,7 @@
 use arrayvec::ArrayVec;
 
 /// The answer to a command.
-#[derive(Debug, Drop, PartialEq, Eq)]
+#[derive(Debug, Drop, PartialEq)]
 pub enum Reply {
     /// The command was carried out, and gives these words.
     Ok(ArrayVec<u64, 10>),

@@ -1,7 +1,7 @@
 //! The plain states of granules, of realms and of the memory that a realm sees.
 
 /// What the monitor keeps a granule as (DEN0137, granule state and its delegated sub-states).
-#[derive(Clone, Copy, Debug, PartialEq, Eq)]
+#[derive(Clone, Copy, PartialEq)]
 pub enum Tag {
     Undelegated,
     Delegated,
@@ -13,7 +13,7 @@ pub enum Tag {
 }
 
 /// How far a realm has come in its life (DEN0137, realm state).
-#[derive(Clone, Copy, Debug, PartialEq, Eq)]
+#[derive(Clone, Copy)]
 pub enum RealmState {
     New,
     Active,
@@ -21,7 +21,7 @@ pub enum RealmState {
 }
 
 /// What a realm was told of a page of its address space (DEN0137, RIPAS).
-#[derive(Clone, Copy, Debug, PartialEq, Eq)]
+#[derive(Clone, Copy, PartialEq)]
 pub enum Ripas {
     Empty,
     Ram,

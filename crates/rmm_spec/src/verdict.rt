@@ -1,7 +1,7 @@
 //! What a checker answers.
 
 /// Why a line of a certificate fails, or which finished call has none.
-#[derive(Clone, Copy, Debug, PartialEq, Eq)]
+#[derive(Clone, Copy)]
 pub enum Reason {
     /// The history has no such call.
     Unknown,
@@ -18,7 +18,7 @@ pub enum Reason {
 }
 
 /// The judgement of a history and a certificate. Lines and steps count from 1.
-#[derive(Clone, Copy, Debug, PartialEq, Eq)]
+#[derive(Clone, Copy)]
 pub enum Verdict {
     /// The history isn't in its grammar: its bad line.
     HistoryFault(u64),

@@ -6,7 +6,7 @@ use std::env;
 use std::rt::Env;
 
 /// The paths that are named.
-#[derive(Debug, Drop)]
+#[derive(Drop)]
 pub(crate) struct Words {
     /// Where a page is written, if one is asked for.
     pub(crate) page: Option<String>,

@@ -28,7 +28,7 @@ pub fn index_of(level: u8, ipa: Ipa) -> usize
 }
 
 /// A translation table on the heap.
-#[derive(Debug, Drop)]
+#[derive(Drop)]
 pub struct Table {
     place: Place,
     entries: Vec<Entry>,

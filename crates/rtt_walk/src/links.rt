@@ -13,7 +13,7 @@ use rmm_spec::Entry;
 use rtt_table::index_of;
 
 /// Where a walk ended: the granule of a table, its level, and its entry for the address.
-#[derive(Clone, Copy, Debug, PartialEq, Eq)]
+#[derive(Clone, Copy)]
 pub struct Reached {
     pub pa: Pa,
     pub level: u8,

@@ -12,7 +12,7 @@ use std::alloc::{AllocError, Global};
 use std::marker::Model;
 
 /// A table or none for each granule.
-#[derive(Debug, Drop)]
+#[derive(Drop)]
 pub struct PlainCells {
     tables: Vec<Option<Table>>,
 }

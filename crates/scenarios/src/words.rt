@@ -11,7 +11,7 @@ use judging::{Fault, Paths};
 use std::alloc::{AllocError, Global};
 
 /// Why the words gave no paths.
-#[derive(Clone, Copy, Debug, PartialEq, Eq, thiserror::Error)]
+#[derive(Clone, Copy, Debug, thiserror::Error)]
 pub enum WordsFault {
     #[error("the words are no `check HISTORY CERT`, and no `threads`")]
     Arguments,
@@ -31,7 +31,7 @@ impl From<WordsFault> for Fault<'_> {
 }
 
 /// What the words ask for.
-#[derive(Clone, Copy, Debug, PartialEq, Eq)]
+#[derive(Clone, Copy)]
 pub enum Request<'a> {
     /// `check HISTORY CERT`.
     Check(Paths<'a>),

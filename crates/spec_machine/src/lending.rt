@@ -15,7 +15,7 @@ use rmi_view::{CommandRef, ReplyRef};
 use rmm_spec::{FunctionId, Tag};
 
 /// A granule that a command gives a tag, where it has the tag that the command asks for.
-#[derive(Clone, Copy, Debug)]
+#[derive(Clone, Copy)]
 pub(crate) struct Lending {
     pub(crate) granule: u64,
     pub(crate) from: Tag,

@@ -20,7 +20,7 @@ use std::alloc::{AllocError, Global};
 const VMIDS: usize = 256;
 
 /// A state of the specification machine, with what finds VMIDs, RECs and running RECs in it.
-#[derive(Debug, Drop)]
+#[derive(Drop)]
 pub struct Machine {
     pub(crate) store: Store,
     // at each VMID the descriptor of the realm that has it

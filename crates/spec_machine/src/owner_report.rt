@@ -6,7 +6,7 @@ use rmm_spec::Tag;
 use std::alloc::AllocError;
 
 /// A granule's tag, and the realm that it belongs to, where it belongs to one.
-#[derive(Clone, Copy, Debug, PartialEq, Eq)]
+#[derive(Clone, Copy)]
 pub struct OwnerRow {
     pub granule: Pa,
     pub tag: Tag,

@@ -6,7 +6,7 @@ use rmm_spec::{Tag, TagChange};
 use std::alloc::{AllocError, Global};
 
 /// At each granule's place the descriptor of the realm that the granule belongs to, where it belongs to one.
-#[derive(Debug, Drop)]
+#[derive(Drop)]
 pub(crate) struct Owners {
     pub(crate) realms: Vec<Option<Pa>>,
 }

@@ -10,7 +10,7 @@ use std::alloc::{AllocError, Global};
 const CPUS: usize = 256;
 
 /// At each CPU the address of the REC that runs on it, where one does.
-#[derive(Debug, Drop)]
+#[derive(Drop)]
 pub(crate) struct Running {
     pub(crate) recs: Vec<Option<Pa>>,
     ghost places: { vec_len recs ≡ 256 },

@@ -10,7 +10,7 @@ use rmm_spec::Tag;
 use std::alloc::{AllocError, Global};
 
 /// Tags, realms and RECs in lists with a place for each granule, and the tables.
-#[derive(Debug, Drop)]
+#[derive(Drop)]
 pub(crate) struct Store {
     pub(crate) config: Config,
     pub(crate) tags: Vec<Tag>,

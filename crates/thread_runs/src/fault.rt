@@ -11,7 +11,7 @@ use std::thread::SpawnError;
 use thiserror::Error;
 
 /// Why a run on threads printed nothing.
-#[derive(Clone, Copy, Debug, PartialEq, Eq, Error)]
+#[derive(Clone, Copy, Debug, Error)]
 pub enum RunFault {
     #[error("no memory")]
     NoMemory,

@@ -13,7 +13,7 @@ use std::alloc::{AllocError, Global};
 use std::mem::replace;
 
 /// A cell for each granule, in the order of their addresses.
-#[derive(Debug, Drop)]
+#[derive(Drop)]
 pub(crate) struct Cells {
     pub(crate) list: Vec<Cell>,
 }

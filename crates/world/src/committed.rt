@@ -4,7 +4,7 @@ use rmm_spec::{Command, Reply};
 use std::marker::Model;
 
 /// One commit: whose call it was, its number, what was called and what the reply is.
-#[derive(Debug, Drop)]
+#[derive(Drop)]
 pub(crate) struct Committed {
     pub(crate) cpu: u8,
     pub(crate) number: u32,

@@ -14,7 +14,7 @@ use rmi_view::{CommandRef, ReplyRef};
 use rmm_spec::{Command, Reply};
 
 /// One CPU: what it holds in the order in which it took it, and its program, of which it has called the first commands.
-#[derive(Debug, Drop)]
+#[derive(Drop)]
 pub(crate) struct Cpu {
     pub(crate) taken: ArrayVec<Pa, 6>,
     pub(crate) place: CpuPlace,
@@ -25,7 +25,7 @@ pub(crate) struct Cpu {
 }
 
 /// All CPUs, by their numbers.
-#[derive(Debug, Drop)]
+#[derive(Drop)]
 pub(crate) struct Cpus {
     pub(crate) list: Vec<Cpu>,
 }

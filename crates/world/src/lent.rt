@@ -14,7 +14,7 @@ use granule_state::Pa;
 use std::mem::replace;
 
 /// Up to six cells, taken out of a machine's and put back after the turn. Lending takes no memory.
-#[derive(Debug, Drop)]
+#[derive(Drop)]
 pub(crate) struct Lent {
     granules: ArrayVec<Pa, 6>,
     cells: [Cell; 6],

@@ -12,7 +12,7 @@ use granule_state::{Config, Pa};
 use std::alloc::{AllocError, Global};
 
 /// The CPU that holds the lock of each granule, in the order of their addresses.
-#[derive(Debug, Drop)]
+#[derive(Drop)]
 pub(crate) struct Locks {
     pub(crate) holders: Vec<Option<u8>>,
 }

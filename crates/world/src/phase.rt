@@ -4,7 +4,7 @@ use granule_state::Pa;
 use rmm_spec::{Command, Reply};
 
 /// How far a CPU has come with its calls, which it numbers from 0.
-#[derive(Debug, Drop)]
+#[derive(Drop)]
 pub(crate) enum Phase {
     /// No call is open, and the next has this number.
     Between {

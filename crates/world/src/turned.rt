@@ -3,7 +3,7 @@
 use granule_state::Pa;
 
 /// What a CPU is told.
-#[derive(Clone, Copy, Debug, PartialEq, Eq)]
+#[derive(Clone, Copy)]
 pub enum Will {
     /// To do its next step.
     Go,
@@ -14,7 +14,7 @@ pub enum Will {
 }
 
 /// The seven kinds of step.
-#[derive(Clone, Copy, Debug, PartialEq, Eq)]
+#[derive(Clone, Copy)]
 pub enum Kind {
     Call,
     Take,
@@ -26,7 +26,7 @@ pub enum Kind {
 }
 
 /// What a turn reports.
-#[derive(Clone, Copy, Debug, PartialEq, Eq)]
+#[derive(Clone, Copy)]
 pub enum Turned {
     /// The step that was made.
     Did(Kind),

@@ -20,7 +20,7 @@ use granule_state::{Config, Pa};
 use history::History;
 
 /// A machine's granules under their locks, its CPUs with their programs, and what is recorded of their run.
-#[derive(Debug, Drop)]
+#[derive(Drop)]
 pub struct World {
     pub(crate) cells: Cells,
     pub(crate) locks: Locks,

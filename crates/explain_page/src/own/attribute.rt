@@ -4,7 +4,7 @@ ghost use Rattle.std.specs.Prelude.{◌≡◌};
 ghost use Rattle.explain_page.specs.Own.{attribute_text};
 
 /// An attribute's name, with the space before it and the first quote.
-#[derive(Clone, Copy, Debug, PartialEq, Eq)]
+#[derive(Clone, Copy)]
 pub(crate) enum Attribute {
     X,
     Y,

@@ -4,7 +4,7 @@ ghost use Rattle.std.specs.Prelude.{◌≡◌};
 ghost use Rattle.explain_page.specs.Own.{tag_text};
 
 /// A tag, or a part of one.
-#[derive(Clone, Copy, Debug, PartialEq, Eq)]
+#[derive(Clone, Copy)]
 pub(crate) enum Tag {
     /// A rectangle, up to its class. So are the disc and the words.
     Rectangle,
