@@ -10,47 +10,44 @@ pub(crate) struct CallText(pub(crate) Call);
 impl fmt::Display for CallText {
     fn fmt<W: fmt::Write>(&self, f: &mut fmt::Formatter<W>) -> fmt::Result {
         match self.0 {
-            Call::GranuleDelegate { granule } => write!(f, "GRANULE_DELEGATE g={granule:x}"),
-            Call::GranuleUndelegate { granule } => write!(f, "GRANULE_UNDELEGATE g={granule:x}"),
-            Call::RealmActivate { rd } => write!(f, "REALM_ACTIVATE rd={rd:x}"),
-            Call::RealmDestroy { rd } => write!(f, "REALM_DESTROY rd={rd:x}"),
-            Call::RecDestroy { rec } => write!(f, "REC_DESTROY rec={rec:x}"),
-            Call::RecEnter { rec } => write!(f, "REC_ENTER rec={rec:x}"),
+            Call::GranuleDelegate { granule } => write_call(f, "GRANULE_DELEGATE g", &[granule]),
+            Call::GranuleUndelegate { granule } => write_call(
+                f,
+                "GRANULE_UNDELEGATE g",
+                &[granule],
+            ),
+            Call::RealmActivate { rd } => write_call(f, "REALM_ACTIVATE rd", &[rd]),
+            Call::RealmDestroy { rd } => write_call(f, "REALM_DESTROY rd", &[rd]),
+            Call::RecDestroy { rec } => write_call(f, "REC_DESTROY rec", &[rec]),
+            Call::RecEnter { rec } => write_call(f, "REC_ENTER rec", &[rec]),
             Call::DataCreateUnknown { rd, granule, ipa } => {
-                write!(
-                    f,
-                    "DATA_CREATE_UNKNOWN rd={rd:x} data={granule:x} ipa={ipa:x}"
-                )
+                write_call(f, "DATA_CREATE_UNKNOWN rd data ipa", &[rd, granule, ipa])
             }
-            Call::DataDestroy { rd, ipa } => write!(f, "DATA_DESTROY rd={rd:x} ipa={ipa:x}"),
+            Call::DataDestroy { rd, ipa } => write_call(f, "DATA_DESTROY rd ipa", &[rd, ipa]),
             Call::RttCreate {
                 rd,
                 rtt,
                 ipa,
                 level,
-            } => write!(
-                f,
-                "RTT_CREATE rd={rd:x} rtt={rtt:x} ipa={ipa:x} level={level:x}"
-            ),
+            } => write_call(f, "RTT_CREATE rd rtt ipa level", &[rd, rtt, ipa, level]),
             Call::RttDestroy { rd, ipa, level } => {
-                write!(f, "RTT_DESTROY rd={rd:x} ipa={ipa:x} level={level:x}")
+                write_call(f, "RTT_DESTROY rd ipa level", &[rd, ipa, level])
             }
             Call::RttReadEntry { rd, ipa, level } => {
-                write!(f, "RTT_READ_ENTRY rd={rd:x} ipa={ipa:x} level={level:x}")
+                write_call(f, "RTT_READ_ENTRY rd ipa level", &[rd, ipa, level])
             }
             Call::RttMapUnprotected { rd, ipa, page } => {
-                write!(f, "RTT_MAP_UNPROTECTED rd={rd:x} ipa={ipa:x} pa={page:x}")
+                write_call(f, "RTT_MAP_UNPROTECTED rd ipa pa", &[rd, ipa, page])
             }
             Call::RttUnmapUnprotected { rd, ipa } => {
-                write!(f, "RTT_UNMAP_UNPROTECTED rd={rd:x} ipa={ipa:x}")
+                write_call(f, "RTT_UNMAP_UNPROTECTED rd ipa", &[rd, ipa])
             }
             Call::RttInitRipas { rd, base, top } => {
-                write!(f, "RTT_INIT_RIPAS rd={rd:x} base={base:x} top={top:x}")
+                write_call(f, "RTT_INIT_RIPAS rd base top", &[rd, base, top])
             }
-            Call::RttSetRipas { rd, rec, base, top } => write!(
-                f,
-                "RTT_SET_RIPAS rd={rd:x} rec={rec:x} base={base:x} top={top:x}"
-            ),
+            Call::RttSetRipas { rd, rec, base, top } => {
+                write_call(f, "RTT_SET_RIPAS rd rec base top", &[rd, rec, base, top])
+            }
             call => write_longer(f, call),
         }
     }
@@ -66,9 +63,10 @@ fn write_longer<W: fmt::Write>(f: &mut fmt::Formatter<W>, call: Call) -> fmt::Re
             level,
             vmid,
             algo,
-        } => write!(
+        } => write_call(
             f,
-            "REALM_CREATE rd={rd:x} root={root:x} width={width:x} level={level:x} vmid={vmid:x} algo={algo:x}"
+            "REALM_CREATE rd root width level vmid algo",
+            &[rd, root, width, level, vmid, algo],
         ),
         Call::RecCreate {
             rd,
@@ -77,9 +75,10 @@ fn write_longer<W: fmt::Write>(f: &mut fmt::Formatter<W>, call: Call) -> fmt::Re
             flags,
             aux0,
             aux1,
-        } => write!(
+        } => write_call(
             f,
-            "REC_CREATE rd={rd:x} rec={rec:x} mpidr={mpidr:x} flags={flags:x} aux0={aux0:x} aux1={aux1:x}"
+            "REC_CREATE rd rec mpidr flags aux0 aux1",
+            &[rd, rec, mpidr, flags, aux0, aux1],
         ),
         Call::DataCreate {
             rd,
@@ -89,35 +88,49 @@ fn write_longer<W: fmt::Write>(f: &mut fmt::Formatter<W>, call: Call) -> fmt::Re
             flags,
             digest,
         } => {
-            write!(
+            write_call(
                 f,
-                "DATA_CREATE rd={rd:x} data={granule:x} ipa={ipa:x} src={source:x} flags={flags:x} digest="
+                "DATA_CREATE rd data ipa src flags",
+                &[rd, granule, ipa, source, flags],
             )?;
-            write_words(f, &digest)
+            write_words(f, " digest=", &digest)
         }
-        Call::MeasurementRead { index } => write!(f, "MEASUREMENT_READ i={index:x}"),
+        Call::MeasurementRead { index } => write_call(f, "MEASUREMENT_READ i", &[index]),
         Call::MeasurementExtend {
             index,
             size,
             values,
         } => {
-            write!(f, "MEASUREMENT_EXTEND i={index:x} size={size:x} values=")?;
-            write_words(f, &values)
+            write_call(f, "MEASUREMENT_EXTEND i size", &[index, size])?;
+            write_words(f, " values=", &values)
         }
         Call::RealmConfig => f.write_str("REALM_CONFIG"),
         Call::IpaStateSet { base, top, ripas } => {
-            write!(f, "IPA_STATE_SET base={base:x} top={top:x} ripas={ripas:x}")
+            write_call(f, "IPA_STATE_SET base top ripas", &[base, top, ripas])
         }
-        Call::IpaStateGet { ipa } => write!(f, "IPA_STATE_GET ipa={ipa:x}"),
-        Call::HostCall { imm } => write!(f, "HOST_CALL imm={imm:x}"),
+        Call::IpaStateGet { ipa } => write_call(f, "IPA_STATE_GET ipa", &[ipa]),
+        Call::HostCall { imm } => write_call(f, "HOST_CALL imm", &[imm]),
         Call::CpuOff => f.write_str("CPU_OFF"),
         Call::SystemOff => f.write_str("SYSTEM_OFF"),
         _ => f.write_str("Exit"),
     }
 }
 
-// Words with a comma between each two.
-fn write_words<W: fmt::Write>(f: &mut fmt::Formatter<W>, words: &[u64]) -> fmt::Result {
+// A command's name, and behind each of its words' names the word.
+fn write_call<W: fmt::Write>(f: &mut fmt::Formatter<W>, names: &str, words: &[u64]) -> fmt::Result {
+    let mut names = names.split(' ');
+    if let Some(command) = names.next() {
+        f.write_str(command)?;
+    }
+    for (name, word) in names.zip(words) {
+        write!(f, " {name}={word:x}")?;
+    }
+    Ok(())
+}
+
+// Words behind their name, with a comma between each two.
+fn write_words<W: fmt::Write>(f: &mut fmt::Formatter<W>, name: &str, words: &[u64]) -> fmt::Result {
+    f.write_str(name)?;
     let mut is_first = true;
     for word in words {
         if !is_first {
