@@ -2,10 +2,6 @@
 use Rattle.std.specs.Prelude.{◌≡◌, ◌≢◌, ◌⊎◌, ℕ, ◌+◌, ◌-◌, ◌<◌, List, [], ◌∷◌, ◌++◌, length, take, slice_get, Some, IfSome}
 use Rattle.std.specs.List.{filter}
 use Rattle.rmm_spec.specs.declared.line.Line.{Line}
-use Rattle.rmm_spec.specs.declared.verdict.Reason.{Reason}
-use Rattle.rmm_spec.specs.declared.verdict.Reason.TheVariants as reason
-use Rattle.rmm_spec.specs.declared.verdict.Verdict.{Verdict}
-use Rattle.rmm_spec.specs.declared.verdict.Verdict.TheVariants as verdict
 use Rattle.rmm_spec.specs.Call.{call_of}
 use Rattle.rmm_spec.specs.Text.{HasNoNewline, first_lines, parts_of}
 use Rattle.rmm_spec.specs.HistoryText.{Config, History, IsHistoryText}
@@ -15,36 +11,21 @@ use Rattle.rmm_spec.specs.Step.{outcome}
 use Rattle.rmm_spec.specs.Linearization.{ReturnsBefore, IsReplyOf}
 use Rattle.rmm_spec.specs.FirstFault.{Passes}
 use Rattle.spec_machine.specs.Report.{AddsOwners}
-use Rattle.explain.specs.declared.changed.EarlierStep.{EarlierStep}
-use Rattle.explain.specs.declared.explanation.Cause.{Cause}
-use Rattle.explain.specs.declared.explanation.Cause.TheVariants as cause
-use Rattle.explain.specs.declared.explanation.Explanation.{Explanation}
-use Rattle.explain.specs.declared.explanation.Explanation.TheVariants as explanation
-use Rattle.explain.specs.declared.flaw.Flaw.{Flaw}
-use Rattle.explain.specs.declared.flaw.Flaw.TheVariants as flaw
-use Rattle.explain.specs.declared.flaw.Misplaced.{Misplaced}
-use Rattle.explain.specs.declared.flaw.Misplaced.TheVariants as misplaced
+use Rattle.told.specs.declared.named_call.EarlierStep.{EarlierStep}
+use Rattle.told.specs.declared.explanation.Cause.{Cause}
+use Rattle.told.specs.declared.explanation.Cause.TheVariants as cause
+use Rattle.told.specs.declared.explanation.Explanation.{Explanation}
+use Rattle.told.specs.declared.explanation.Explanation.TheVariants as explanation
+use Rattle.told.specs.declared.flaw.Flaw.{Flaw}
+use Rattle.told.specs.declared.flaw.Flaw.TheVariants as flaw
+use Rattle.told.specs.declared.flaw.Misplaced.{Misplaced}
+use Rattle.told.specs.declared.flaw.Misplaced.TheVariants as misplaced
 use Rattle.bad_lines.specs.Wrong.{IsCertificateLine, IsEventLine, IsHeader, IsHeaderOf, IsWrong}
-use Rattle.explain.specs.declared.explanation.Refusal.{Refusal}
-use Rattle.explain.specs.declared.explanation.Summary.{Summary}
+use Rattle.told.specs.declared.explanation.Refusal.{Refusal}
+use Rattle.told.specs.declared.explanation.Summary.{Summary}
 use Rattle.explain.specs.Failing.{IsFailing, IsStatusFor}
 use Rattle.explain.specs.Told.{IsTold, NamesAt, is_call}
-
--- ---- the verdict
-
-abbrev pub reason_of : Cause → Reason
-reason_of (cause.Unknown cpu number) = reason.Unknown
-reason_of (cause.Repeated call earlier) = reason.Repeated
-reason_of (cause.Kind call) = reason.Kind
-reason_of (cause.Order call earlier other) = reason.Order
-reason_of (cause.Reply refusal) = reason.Reply
-reason_of (cause.Missing call) = reason.Missing call.cpu call.number
-
-abbrev pub verdict_of : Explanation → Verdict
-verdict_of (explanation.HistoryFault bad) = verdict.HistoryFault bad.line
-verdict_of (explanation.CertificateFault bad) = verdict.CertificateFault bad.line
-verdict_of (explanation.Yes summary) = verdict.Yes summary.count
-verdict_of (explanation.No step cause) = verdict.No step (reason_of cause)
+pub use Rattle.told.specs.Verdict.{reason_of, verdict_of}
 
 -- ---- what stands behind it
 

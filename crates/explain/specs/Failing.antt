@@ -9,8 +9,8 @@ use Rattle.rmm_spec.specs.Lookup.{is_granule}
 use Rattle.rmm_spec.specs.Rows as rows
 use Rattle.rmm_spec.specs.State.{State}
 use Rattle.rmm_spec.specs.Step.Named.{named, needed}
-use Rattle.explain.specs.declared.condition.Condition.{Condition}
-use Rattle.explain.specs.declared.condition.Condition.TheVariants as condition
+use Rattle.told.specs.declared.condition.Condition.{Condition}
+use Rattle.told.specs.declared.condition.Condition.TheVariants as condition
 use Rattle.explain.specs.declared.named_granules.Needed.{Needed}
 
 -- a granule that a command names, as its rows name it

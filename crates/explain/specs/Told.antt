@@ -6,7 +6,7 @@ use Rattle.rmm_spec.specs.declared.event.Event.TheVariants.{Called, Returned}
 use Rattle.rmm_spec.specs.declared.line.Line.{Line}
 use Rattle.rmm_spec.specs.Linearization.{IsCalled, cpu_named, number_named}
 use Rattle.history.specs.Calls.{IsCallOf}
-use Rattle.explain.specs.declared.named_call.NamedCall.{NamedCall}
+use Rattle.told.specs.declared.named_call.NamedCall.{NamedCall}
 
 -- what is told of the call is what the history records
 abbrev pub IsTold : List Event → NamedCall → Type 0

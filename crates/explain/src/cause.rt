@@ -15,7 +15,6 @@ ghost use Rattle.spec_machine.specs.View.{state_of};
 
 use crate::changed::{last_change, part_read};
 use crate::earlier::{called_by, line_made_after, line_naming};
-use crate::explanation::{Cause, Refusal};
 use crate::failing::{failing_condition, farthest_end};
 use crate::named_call::named_call;
 use certificate::{Certificate, LineRef};
@@ -25,6 +24,7 @@ use rmi_view::ReplyRef;
 use rmm_spec::Reply;
 use spec_machine::Machine;
 use std::alloc::{AllocError, Global};
+use told::{Cause, Refusal};
 
 /// Why the step fails, with the calls that it is about. The machine is as the lines before the step leave it.
 pub(crate) fn cause_of(

@@ -3,10 +3,7 @@
 ghost use Rattle.std.specs.Prelude.{◌+◌, ◌<◌, ◌≤◌, length, IfOk, IfSome};
 ghost use Rattle.explain.specs.Explained.{IsEarlier};
 
-use crate::condition::Condition;
 use crate::earlier::called_by;
-use crate::named_call::NamedCall;
-use crate::word_fault::entry_size;
 use certificate::{Certificate, LineRef};
 use history::History;
 use rmi_view::{CommandRef, ReplyRef};
@@ -15,13 +12,7 @@ use rmm_spec::{
 };
 use spec_machine::Machine;
 use std::alloc::{AllocError, Global};
-
-/// A step before the one that fails, with the call that its line names.
-#[derive(Drop)]
-pub struct EarlierStep {
-    pub step: u64,
-    pub call: NamedCall,
-}
+use told::{Condition, EarlierStep, NamedCall, entry_size};
 
 /// A part of the state that a condition reads.
 #[derive(Clone, Copy)]

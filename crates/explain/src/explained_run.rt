@@ -7,10 +7,10 @@ ghost use Rattle.rmm_spec.specs.HistoryText.{History as Recorded};
 ghost use Rattle.rmm_spec.specs.Judgement.{Judges};
 
 use crate::explaining::explain_run;
-use crate::explanation::Explanation;
 use certificate::Certificate;
 use history::History;
 use std::alloc::{AllocError, Global};
+use told::Explanation;
 
 /// What two texts stand for.
 #[derive(Drop)]

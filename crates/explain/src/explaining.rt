@@ -14,7 +14,6 @@ ghost use Rattle.spec_machine.specs.View.{state_of};
 
 use crate::cause::cause_of;
 use crate::explained_run::{ExplainedRun, with_run, without_run};
-use crate::explanation::{Explanation, Summary};
 use crate::flaw::{bad_certificate_line, bad_history_line};
 use certificate::CertFault;
 use checker::{JudgedOrder, Verdict, judged_order};
@@ -22,6 +21,7 @@ use history::{History, HistoryFault};
 use rmi_codec::next_line;
 use spec_machine::Machine;
 use std::alloc::{AllocError, Global};
+use told::{Explanation, Summary};
 
 /// Explains the verdict on a history's text and a certificate's, and keeps what was read of them. Memory is refused only
 /// behind a header, as `checker::check` refuses it.

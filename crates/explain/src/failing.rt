@@ -6,16 +6,15 @@ ghost use Rattle.explain.specs.Failing.{IsFailing, IsStatusFor};
 ghost use Rattle.rmm_spec.specs.Call.{call_of};
 ghost use Rattle.spec_machine.specs.View.{state_of};
 
-use crate::condition::{Condition, EntryKind, EntryRead};
 use crate::named_granules::{Needed, named_granules};
-use crate::reply_text::is_by_realm;
-use crate::word_fault::{entry_size, word_fault};
+use crate::word_fault::word_fault;
 use arrayvec::ArrayVec;
 use granule_state::GRANULE_BYTES;
 use rmi_view::CommandRef;
 use rmm_spec::{Accepted, Call, Command, FunctionId, Reply, Stretch, StretchUse, Tag};
 use spec_machine::{Machine, OwnerRow};
 use std::alloc::{AllocError, Global};
+use told::{Condition, EntryKind, EntryRead, entry_size, is_by_realm};
 
 /// How many entries a table has.
 const ENTRIES: u64 = 512;

@@ -7,33 +7,12 @@ ghost use Rattle.rmm_spec.specs.HistoryText.{Config};
 ghost use Rattle.rmm_spec.specs.Text.{parts_of};
 
 use crate::explaining::{behind_lines, first_line, line_of};
-use crate::explanation::BadLine;
-use bad_lines::{WrongPart, wrong_in_certificate_line, wrong_in_event, wrong_in_header};
+use bad_lines::{wrong_in_certificate_line, wrong_in_event, wrong_in_header};
 use rmi_codec::next_line;
-use std::fmt;
+use told::{BadLine, Flaw, Misplaced};
 
 /// How many lines a text may have.
 const MOST_LINES: u64 = 1_000_000;
-
-/// Why a line is bad.
-#[derive(Clone, Copy)]
-pub enum Flaw<'a> {
-    /// The first part with which it is no line of its kind.
-    Part(WrongPart<'a>),
-    /// It is a line of its kind, and can't stand in its place.
-    Place(Misplaced),
-}
-
-/// Why a line can't stand in its place.
-#[derive(Clone, Copy)]
-pub enum Misplaced {
-    /// No newline ends it.
-    Unended,
-    /// As many lines stand before it as a text may have.
-    Full,
-    /// Its event isn't the next that its CPU can have.
-    OutOfTurn,
-}
 
 /// A history's bad line, counted from 1.
 pub(crate) fn bad_history_line(text: &[u8], line: u64) -> BadLine<'_>
@@ -96,27 +75,5 @@ fn why_misplaced(text: &[u8], line: u64) -> Misplaced
     match next_line(behind_lines(text, line.saturating_sub(1))) {
         Some(_) => Misplaced::OutOfTurn,
         None => Misplaced::Unended,
-    }
-}
-
-impl fmt::Display for Flaw<'_> {
-    fn fmt<W: fmt::Write>(&self, f: &mut fmt::Formatter<W>) -> fmt::Result {
-        match self {
-            Flaw::Part(wrong) => write!(f, "{wrong}"),
-            Flaw::Place(place) => write!(f, "{place}"),
-        }
-    }
-}
-
-impl fmt::Display for Misplaced {
-    fn fmt<W: fmt::Write>(&self, f: &mut fmt::Formatter<W>) -> fmt::Result {
-        f.write_str(match self {
-            Misplaced::Unended => "wrong: no newline ends the line\n",
-            Misplaced::Full => "wrong: 1000000 lines stand before it, and there may be no more\n",
-            Misplaced::OutOfTurn => {
-                "wrong: the event isn't its CPU's next\n\
-                 there could stand: where a CPU has a call open, that call's return, and else its next call, numbered from 0 on\n"
-            }
-        })
     }
 }

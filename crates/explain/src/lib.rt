@@ -5,30 +5,22 @@
 //! The program `rmmexplain` depends on it.
 #![tactic(auto)]
 
-mod call_text;
 mod cause;
 mod changed;
-mod condition;
-mod condition_text;
 mod earlier;
 mod explained_run;
 mod explaining;
-mod explanation;
-mod explanation_text;
 mod failing;
 mod flaw;
 mod named_call;
 mod named_granules;
-mod reply_text;
 mod reporting;
-mod summary_text;
 mod word_fault;
 
-pub use changed::EarlierStep;
-pub use condition::{Condition, EntryKind, EntryRead, WordFault};
 pub use explained_run::{ExplainedRun, Run, explain};
 pub use explaining::explain_run;
-pub use explanation::{BadLine, Cause, Explanation, Refusal, Summary};
-pub use flaw::{Flaw, Misplaced};
-pub use named_call::NamedCall;
 pub use reporting::report;
+pub use told::{
+    BadLine, Cause, Condition, EarlierStep, EntryKind, EntryRead, Explanation, Flaw, Misplaced,
+    NamedCall, Refusal, Summary, WordFault,
+};

@@ -4,15 +4,8 @@ ghost use Rattle.std.specs.Prelude.{◌≡◌};
 ghost use Rattle.explain.specs.Told.{IsTold};
 ghost use Rattle.rmm_spec.specs.Linearization.{IsKnown};
 
-use history::{Call, History};
-
-/// A call by its CPU and number, with what the history tells of it: its lines, its command and its answer.
-#[derive(Drop)]
-pub struct NamedCall {
-    pub cpu: u8,
-    pub number: u32,
-    pub call: Call,
-}
+use history::History;
+use told::NamedCall;
 
 /// The call of that number of a CPU.
 pub(crate) fn named_call(history: &History, cpu: u8, number: u32) -> NamedCall

@@ -4,9 +4,9 @@ ghost use Rattle.std.specs.Prelude.{◌≡◌, ℕ, ◌++◌, List, OnOk, OnErr}
 ghost use Rattle.explain.specs.Explained.{verdict_of};
 ghost use Rattle.rmm_spec.specs.VerdictText.{verdict_line};
 
-use crate::explanation::Explanation;
 use checker::verdict_text;
 use std::alloc::{AllocError, Global};
+use told::Explanation;
 
 /// Appends a report: the verdict's line, and behind it lines for people. Nothing is appended where memory is refused.
 pub fn report(

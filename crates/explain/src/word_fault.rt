@@ -1,9 +1,7 @@
 //! What a command's words must say by themselves.
 
-ghost use Rattle.std.specs.Prelude.{◌<◌};
-
-use crate::condition::WordFault;
 use rmm_spec::Call;
+use told::{WordFault, entry_size};
 
 /// The first word that isn't what it has to be, where there is one.
 pub(crate) fn word_fault(call: &Call) -> Option<WordFault> {
@@ -88,16 +86,4 @@ fn stretch_fault(base: u64, top: u64) -> Option<WordFault> {
     page_fault(base)
         .or(page_fault(top))
         .or(unless(base < top, WordFault::EmptyStretch { base, top }))
-}
-
-/// How many bytes an entry of the level covers; past level 3 as much as there.
-pub(crate) fn entry_size(level: u64) -> u64
-    ensures { 0 < result }
-{
-    match level {
-        0 => 1 << 39,
-        1 => 1 << 30,
-        2 => 1 << 21,
-        _ => 1 << 12,
-    }
 }

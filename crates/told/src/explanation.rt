@@ -1,14 +1,12 @@
 //! What is told of a verdict.
 
 ghost use Rattle.std.specs.Prelude.{◌≡◌};
-ghost use Rattle.explain.specs.Explained.{verdict_of, reason_of};
+ghost use Rattle.told.specs.Verdict.{verdict_of, reason_of};
 
-use crate::changed::EarlierStep;
 use crate::condition::Condition;
 use crate::flaw::Flaw;
-use crate::named_call::NamedCall;
-use checker::{Reason, Verdict};
-use rmm_spec::{Accepted, Reply};
+use crate::named_call::{EarlierStep, NamedCall};
+use rmm_spec::{Accepted, Reason, Reply, Verdict};
 use spec_machine::OwnerRow;
 
 /// A line that isn't in its grammar, counted from 1, its bytes without a newline, and why it isn't.

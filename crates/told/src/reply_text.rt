@@ -1,6 +1,6 @@
 //! Replies, as the texts have them, with Arm's names of statuses.
 
-use crate::word_fault::entry_size;
+use crate::levels::entry_size;
 use rmm_spec::{Accepted, FunctionId, Reply, Stretch};
 use std::fmt;
 
@@ -85,7 +85,7 @@ fn write_reached<W: fmt::Write>(
 }
 
 /// Whether a realm gives the command, from inside a REC.
-pub(crate) fn is_by_realm(function: FunctionId) -> bool {
+pub fn is_by_realm(function: FunctionId) -> bool {
     matches!(
         function,
         FunctionId::MeasurementRead

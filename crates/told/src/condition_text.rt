@@ -17,25 +17,27 @@ impl fmt::Display for Condition {
                 needed,
                 found,
             } => write_tag(f, granule, needed, found),
-            Condition::VmidUsed { vmid } => write!(f, "a realm has VMID {vmid:x}"),
-            Condition::RealmNotNew { rd } => write!(f, "the realm at {rd:x} isn't NEW"),
+            Condition::VmidUsed { vmid } => write_about(f, "a realm has VMID ", vmid, ""),
+            Condition::RealmNotNew { rd } => write_about(f, "the realm at ", rd, " isn't NEW"),
             Condition::RealmNew => f.write_str("the REC's realm is NEW"),
             Condition::RealmOff => f.write_str("the REC's realm is SYSTEM_OFF"),
             Condition::RealmHasRec { rd, rec } => {
                 write!(f, "{rec:x} is a REC of the realm at {rd:x}")
             }
             Condition::RootHasTable { rd } => {
-                write!(f, "an entry of the root of the realm at {rd:x} is TABLE")
+                write_about(f, "an entry of the root of the realm at ", rd, " is TABLE")
             }
             Condition::NotNextIndex { mpidr } => {
-                write!(
+                write_about(
                     f,
-                    "{mpidr:x} isn't the realm's next REC index, or isn't below 8"
+                    "",
+                    mpidr,
+                    " isn't the realm's next REC index, or isn't below 8",
                 )
             }
-            Condition::RecRuns { rec } => write!(f, "the REC at {rec:x} runs"),
+            Condition::RecRuns { rec } => write_about(f, "the REC at ", rec, " runs"),
             Condition::RecNotReady { rec } => {
-                write!(f, "the REC at {rec:x} runs, or isn't runnable")
+                write_about(f, "the REC at ", rec, " runs, or isn't runnable")
             }
             Condition::RecOfOtherRealm { rec, rd } => {
                 write!(f, "the REC at {rec:x} isn't of the realm at {rd:x}")
@@ -43,6 +45,16 @@ impl fmt::Display for Condition {
             row => write_table_row(f, row),
         }
     }
+}
+
+// A text around one word.
+fn write_about<W: fmt::Write>(
+    f: &mut fmt::Formatter<W>,
+    before: &str,
+    word: u64,
+    after: &str,
+) -> fmt::Result {
+    write!(f, "{before}{word:x}{after}")
 }
 
 // The conditions over requests, addresses and tables.
@@ -53,25 +65,36 @@ fn write_table_row<W: fmt::Write>(f: &mut fmt::Formatter<W>, row: Condition) -> 
             "{base:x} isn't the base of the REC's request, or {top:x} is no page above it up to the request's top"
         ),
         Condition::StartLevel { level } => {
-            write!(f, "the realm's tables begin too low for level {level:x}")
+            write_about(f, "the realm's tables begin too low for level ", level, "")
         }
-        Condition::PastSpace { ipa } => write!(f, "{ipa:x} is past the realm's address space"),
+        Condition::PastSpace { ipa } => write_about(
+            f,
+            "",
+            ipa,
+            " is past the realm's address space",
+        ),
         Condition::NotProtected { ipa } => {
-            write!(
+            write_about(
                 f,
-                "{ipa:x} isn't in the protected half of the realm's address space"
+                "",
+                ipa,
+                " isn't in the protected half of the realm's address space",
             )
         }
         Condition::TopNotProtected { top } => {
-            write!(
+            write_about(
                 f,
-                "{top:x} is past the protected half of the realm's address space"
+                "",
+                top,
+                " is past the protected half of the realm's address space",
             )
         }
         Condition::NotUnprotected { ipa } => {
-            write!(
+            write_about(
                 f,
-                "{ipa:x} isn't in the unprotected half of the realm's address space"
+                "",
+                ipa,
+                " isn't in the unprotected half of the realm's address space",
             )
         }
         Condition::WalkEnds { ipa, level, needed } => {
@@ -141,8 +164,8 @@ impl fmt::Display for EntryRead {
         let address = self.address;
         match self.state {
             0 => f.write_str("unassigned")?,
-            1 => write!(f, "assigned to {address:x}")?,
-            _ => write!(f, "TABLE at {address:x}")?,
+            1 => write_about(f, "assigned to ", address, "")?,
+            _ => write_about(f, "TABLE at ", address, "")?,
         }
         match self.ripas {
             0 => Ok(()),
@@ -178,19 +201,19 @@ impl fmt::Display for WordFault {
                 f,
                 "no realm has width {width:x} and level {level:x}: 27 and 1, or 30 and 0"
             ),
-            WordFault::Vmid(vmid) => write!(f, "VMID {vmid:x} is above ff"),
-            WordFault::Algo(algo) => write!(f, "algo {algo:x} isn't 0"),
-            WordFault::Flags(flags) => write!(f, "flags {flags:x} is neither 0 nor 1"),
-            WordFault::Level(level) => write!(f, "level {level:x} is above 3"),
+            WordFault::Vmid(vmid) => write_about(f, "VMID ", vmid, " is above ff"),
+            WordFault::Algo(algo) => write_about(f, "algo ", algo, " isn't 0"),
+            WordFault::Flags(flags) => write_about(f, "flags ", flags, " is neither 0 nor 1"),
+            WordFault::Level(level) => write_about(f, "level ", level, " is above 3"),
             WordFault::Unaligned { address, size } => {
                 write!(f, "{address:x} is no multiple of {size:x}")
             }
-            WordFault::PageTooHigh(page) => write!(f, "{page:x} isn't below 1000000000000"),
+            WordFault::PageTooHigh(page) => write_about(f, "", page, " isn't below 1000000000000"),
             WordFault::EmptyStretch { base, top } => write!(f, "{base:x} isn't below {top:x}"),
-            WordFault::Index(index) => write!(f, "there is no such measurement {index:x}"),
-            WordFault::Size(size) => write!(f, "size {size:x} isn't from 1 to 40"),
-            WordFault::Ripas(ripas) => write!(f, "RIPAS {ripas:x} is neither 0 nor 1"),
-            WordFault::Imm(imm) => write!(f, "imm {imm:x} isn't below 10000"),
+            WordFault::Index(index) => write_about(f, "there is no such measurement ", index, ""),
+            WordFault::Size(size) => write_about(f, "size ", size, " isn't from 1 to 40"),
+            WordFault::Ripas(ripas) => write_about(f, "RIPAS ", ripas, " is neither 0 nor 1"),
+            WordFault::Imm(imm) => write_about(f, "imm ", imm, " isn't below 10000"),
         }
     }
 }

@@ -1,9 +1,8 @@
 //! The lines of a report behind the verdict's.
 
 use crate::call_text::CallText;
-use crate::changed::EarlierStep;
 use crate::explanation::{BadLine, Cause, Explanation, Refusal};
-use crate::named_call::NamedCall;
+use crate::named_call::{EarlierStep, NamedCall};
 use crate::reply_text::{AcceptedText, ReplyText, is_by_realm};
 use bad_lines::Shown;
 use std::fmt;

@@ -1,5 +1,4 @@
-//! Which condition of a command fails: the first row that doesn't hold, found by its words, by tags and by what other
-//! commands would be answered in the same state.
+//! Which condition of a command fails, with what it reads.
 
 use rmm_spec::Tag;
 

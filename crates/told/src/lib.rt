@@ -1,0 +1,24 @@
+//! What is told of a verdict on a history and a certificate, and how it is written for people.
+//! It promises that what is told is of the verdict that `verdict_of` names, and that its texts end, in whatever it is written to.
+//! Nothing here reads a text or a run: who tells of one says what of it is true, as `explain` does.
+//! A type stands beside the text that it is written as.
+//! The crate `explain` depends on it.
+#![tactic(auto)]
+
+mod call_text;
+mod condition;
+mod condition_text;
+mod explanation;
+mod explanation_text;
+mod flaw;
+mod levels;
+mod named_call;
+mod reply_text;
+mod summary_text;
+
+pub use condition::{Condition, EntryKind, EntryRead, WordFault};
+pub use explanation::{BadLine, Cause, Explanation, Refusal, Summary};
+pub use flaw::{Flaw, Misplaced};
+pub use levels::entry_size;
+pub use named_call::{EarlierStep, NamedCall};
+pub use reply_text::is_by_realm;
