@@ -130,19 +130,20 @@ fn expect_answers<R: Abort + AllocGlobal>(
     Ok(())
 }
 
-/// Whether the five granules have these tags, the realm at 1000 has VMID 1 where that is said, and so many RECs.
-fn stands(holder: &Holder, tags: [Tag; 5], has_vmid: bool, recs: u64) -> bool {
-    let mut granule = 0;
-    let are_tagged = tags.iter().all(|tag| {
-        granule += 0x1000;
-        holder
-            .held
-            .cell(Pa::new(granule))
-            .is_some_and(|cell| cell.tag() == *tag)
-    });
+/// The tags of the five granules.
+fn tags(holder: &Holder) -> [Option<Tag>; 5] {
+    let tag = |granule: u64| Some(holder.held.cell(Pa::new(granule))?.tag());
+    [0x1000, 0x2000, 0x3000, 0x4000, 0x5000].map(tag)
+}
+
+/// Whether the realm at 1000 has VMID 1 where that is said, and so many RECs.
+fn has(side: &Side, has_vmid: bool, recs: u64) -> bool {
     let rd = Pa::new(0x1000);
-    let realm = if has_vmid { Some(rd) } else { None };
-    are_tagged && holder.side.realm_with(1) == realm && holder.side.rec_count(rd) == recs
+    side.realm_with(1) == has_vmid.then_some(rd) && side.rec_count(rd) == recs
+}
+
+fn is_inside(place: &CpuPlace, rec: Pa, rd: Pa) -> bool {
+    matches!(place, CpuPlace::Inside { rec: at, rd: owner } if *at == rec && *owner == rd)
 }
 
 #[test]
@@ -150,7 +151,7 @@ fn a_realm_is_made_with_its_rec(rt: HostRuntime) -> Result<(), Fail> {
     let mut holder = five_granules(rt.alloc())?;
     expect_answers(&rt, &mut holder, REALM_WITH_A_REC)?;
     let made = [Tag::Rd, Tag::Rtt, Tag::Rec, Tag::RecAux, Tag::RecAux];
-    assert!(rt; stands(&holder, made, true, 1));
+    assert!(rt; tags(&holder) == made.map(Some) && has(&holder.side, true, 1));
     assert!(rt; matches!(holder.place, CpuPlace::Outside));
     Ok(())
 }
@@ -160,17 +161,10 @@ fn a_rec_runs_and_leaves(rt: HostRuntime) -> Result<(), Fail> {
     let mut holder = five_granules(rt.alloc())?;
     expect_answers(&rt, &mut holder, REALM_WITH_A_REC)?;
     expect_answers(&rt, &mut holder, CALLED_ITS_HOST)?;
-    assert!(rt; is_inside(&holder.place, 0x3000, 0x1000));
+    assert!(rt; is_inside(&holder.place, Pa::new(0x3000), Pa::new(0x1000)));
     expect_answers(&rt, &mut holder, "00000001 -> ok 5 2a 0 0\n")?;
     assert!(rt; matches!(holder.place, CpuPlace::Outside));
     expect_answers(&rt, &mut holder, TURNED_OFF)?;
-    assert!(rt; stands(&holder, [Tag::Delegated; 5], false, 0));
+    assert!(rt; tags(&holder) == [Some(Tag::Delegated); 5] && has(&holder.side, false, 0));
     Ok(())
-}
-
-fn is_inside(place: &CpuPlace, rec: u64, rd: u64) -> bool {
-    match place {
-        CpuPlace::Inside { rec: at, rd: of } => at.address() == rec && of.address() == rd,
-        CpuPlace::Outside => false,
-    }
 }

@@ -52,11 +52,6 @@ c400015c 3000 -> take 3000, free 3000, learn 1000, take 1000, take 3000, ready
 c400015c 7000 -> take 7000, free 7000, learn 9000, take 7000, take 9000, ready
 ";
 
-// Where it has learnt 2000, which is no realm, it begins anew.
-const ENTER_ANEW: &str = "\
-c400015c 7000 -> take 2000, free 2000, take 7000, free 7000, learn 9000, take 7000, take 9000, ready
-";
-
 const FROM_OUTSIDE: &str = "\
 c4000158 c000 b000 27 1 3 0
 c400015a 1000 d000 1 1 e000 b000
@@ -128,27 +123,32 @@ impl Caller {
         }
     }
 
-    fn free(&mut self, granule: Pa, learnt: Option<Pa>) -> Result<(), Fail> {
-        write!(self.trace, "free {:x}, ", granule.address())?;
-        self.taken.retain(|other| *other != granule);
-        self.learnt = learnt;
-        if let Some(realm) = learnt {
-            write!(self.trace, "learn {:x}, ", realm.address())?;
-        }
+    fn note(&mut self, step: &str, granule: Pa) -> Result<(), Fail> {
+        write!(self.trace, "{step} {:x}, ", granule.address())?;
         Ok(())
     }
 
-    // Returns whether there is more to do.
-    fn follow(&mut self, next: Next) -> Result<bool, Fail> {
-        match next {
-            Next::Take(granule) => {
-                write!(self.trace, "take {:x}, ", granule.address())?;
-                self.taken.push(granule)?;
-            }
-            Next::Free(granule, learnt) => self.free(granule, learnt)?,
-            Next::Ready => self.trace.push_str("ready")?,
+    fn free(&mut self, granule: Pa, learnt: Option<Pa>) -> Result<(), Fail> {
+        self.note("free", granule)?;
+        self.taken.retain(|other| *other != granule);
+        self.learnt = learnt;
+        match &learnt {
+            Some(realm) => self.note("learn", *realm),
+            None => Ok(()),
         }
-        Ok(!matches!(next, Next::Ready))
+    }
+
+    fn take(&mut self, granule: Pa) -> Result<(), Fail> {
+        self.taken.push(granule)?;
+        self.note("take", granule)
+    }
+
+    fn follow(&mut self, next: &Next) -> Result<(), Fail> {
+        match next {
+            Next::Take(granule) => self.take(*granule),
+            Next::Free(granule, learnt) => self.free(*granule, *learnt),
+            Next::Ready => Ok(self.trace.push_str("ready")?),
+        }
     }
 
     fn held(&self, alloc: Global) -> Result<PlainHeld, AllocError> {
@@ -161,21 +161,23 @@ impl Caller {
         Ok(held)
     }
 
-    // Does what comes next, and returns whether there is more to do.
+    // Does what comes next, and returns whether it is ready.
     fn go(&mut self, alloc: Global, place: &CpuPlace, command: &Command) -> Result<bool, Fail> {
         let config = Config::new(16, 2).ok_or("no such machine")?;
         if !served(command) {
             return Err(Fail::from("a command that isn't served"));
         }
         let held = self.held(alloc)?;
-        self.follow(next_lock(&config, command, place, self.learnt, &held))
+        let next = next_lock(&config, command, place, self.learnt, &held);
+        self.follow(&next)?;
+        Ok(matches!(next, Next::Ready))
     }
 
     // What it does until it is ready, within twenty steps.
     fn trace(mut self, alloc: Global, place: &CpuPlace, command: &str) -> Result<String, Fail> {
         let command = read_command(command)?;
         for _ in 0..20 {
-            if !self.go(alloc, place, &command)? {
+            if self.go(alloc, place, &command)? {
                 break;
             }
         }
@@ -184,44 +186,45 @@ impl Caller {
 }
 
 // Each line is what a CPU does that holds nothing.
-fn expect_traces<R: Abort + AllocGlobal>(
-    rt: &R,
-    place: &CpuPlace,
-    learnt: Option<Pa>,
-    text: &str,
-) -> Result<(), Fail> {
+fn expect_traces<R: Abort + AllocGlobal>(rt: &R, place: &CpuPlace, text: &str) -> Result<(), Fail> {
     for line in text.lines() {
         let (command, expected) = line.split_once(" -> ").ok_or("a line without a trace")?;
-        let trace = Caller::new(rt.alloc(), learnt).trace(rt.alloc(), place, command)?;
-        assert!(rt; trace.as_str() == expected, "{trace} for {command}");
+        let trace = Caller::new(rt.alloc(), None).trace(rt.alloc(), place, command)?;
+        assert!(rt; trace.as_str() == expected, "at {line}");
     }
     Ok(())
 }
 
 #[test]
 fn named_granules_are_taken_by_address(rt: HostRuntime) -> Result<(), Fail> {
-    expect_traces(&rt, &CpuPlace::Outside, None, NAMED)
+    expect_traces(&rt, &CpuPlace::Outside, NAMED)
 }
 
 #[test]
 fn parts_are_taken_after_what_names_them(rt: HostRuntime) -> Result<(), Fail> {
-    expect_traces(&rt, &CpuPlace::Outside, None, PARTS)
+    expect_traces(&rt, &CpuPlace::Outside, PARTS)
 }
 
 #[test]
 fn realm_calls_take_rec_and_realm(rt: HostRuntime) -> Result<(), Fail> {
-    expect_traces(&rt, &inside(0x3000, 0x1000), None, CALLS_BELOW)?;
-    expect_traces(&rt, &inside(0x7000, 0x9000), None, CALLS_ABOVE)
+    expect_traces(&rt, &inside(0x3000, 0x1000), CALLS_BELOW)?;
+    expect_traces(&rt, &inside(0x7000, 0x9000), CALLS_ABOVE)
 }
 
 #[test]
 fn enter_learns_its_realm(rt: HostRuntime) -> Result<(), Fail> {
-    expect_traces(&rt, &CpuPlace::Outside, None, ENTERS)
+    expect_traces(&rt, &CpuPlace::Outside, ENTERS)
 }
 
+// An Enter that has learnt a granule which is no realm begins anew, with nothing learnt.
 #[test]
 fn enter_gives_back_what_is_no_realm(rt: HostRuntime) -> Result<(), Fail> {
-    expect_traces(&rt, &CpuPlace::Outside, Some(Pa::new(0x2000)), ENTER_ANEW)
+    let caller = Caller::new(rt.alloc(), Some(Pa::new(0x2000)));
+    let trace = caller.trace(rt.alloc(), &CpuPlace::Outside, "c400015c 7000")?;
+    let anew =
+        "take 2000, free 2000, take 7000, free 7000, learn 9000, take 7000, take 9000, ready";
+    assert!(rt; trace.as_str() == anew);
+    Ok(())
 }
 
 // The next of a row of numbers without a plan, and a granule by it.
@@ -256,10 +259,7 @@ fn expect_ready<R: Abort + AllocGlobal>(
         for command in commands.lines() {
             let caller = strayed(rt.alloc(), &mut seed)?;
             let trace = caller.trace(rt.alloc(), place, command)?;
-            assert!(rt;
-                trace.as_str().ends_with("ready"),
-                "{trace} for {command} at {turn}"
-            );
+            assert!(rt; trace.as_str().ends_with("ready"), "at {turn}");
         }
     }
     Ok(())

@@ -4,10 +4,11 @@ ghost use Rattle.std.specs.Prelude.{◌≡◌, [], length, IfOk};
 ghost use Rattle.std.specs.List.{AllWithin};
 ghost use Rattle.event_queue.specs.View.{CanDrain, before_calls};
 
-use event_queue::{CpuPass, Full, Recorder, ScribePass, fit_a_history};
+use arrayvec::ArrayVec;
+use event_queue::{CpuPass, Recorder, ScribePass, fit_a_history};
 use granule_state::Config;
-use history::{Command, History, Reply, write};
-use rmi_codec::{read_command, read_reply};
+use history::{History, Reply, write};
+use rmi_codec::read_command;
 use std::alloc::{AllocError, Global};
 use std::sync::Wait;
 use std::sync::atomic::{AtomicU64, Ordering};
@@ -41,23 +42,61 @@ fn of_two_cpus(alloc: Global) -> Result<(Recorder, CpuPass, CpuPass, ScribePass)
     Ok((recorder, first, second, scribe))
 }
 
+/// Whether a call of the text's command is recorded, with this number.
+fn calls<R: Wait>(rt: &R, recorder: &Recorder, pass: &mut CpuPass, number: u32, text: &str) -> bool
+    requires { pass.old.queue ≡ recorder.now.queue }
+    ensures { (pass.new.queue ≡ pass.old.queue) × (pass.new.cpu ≡ pass.old.cpu) }
+{
+    let Ok(command) = read_command(text) else {
+        return false;
+    };
+    if pass.is_open() || pass.is_stopped() || pass.next_number() > 999_999 {
+        return false;
+    }
+    matches!(recorder.call(rt, pass, command), Ok(given) if given == number)
+}
+
+/// Whether a return with nothing is recorded.
+fn returns<R: Wait>(rt: &R, recorder: &Recorder, pass: &mut CpuPass) -> bool
+    requires { pass.old.queue ≡ recorder.now.queue }
+    ensures { (pass.new.queue ≡ pass.old.queue) × (pass.new.cpu ≡ pass.old.cpu) }
+{
+    if !pass.is_open() || pass.is_stopped() {
+        return false;
+    }
+    recorder
+        .returned(rt, pass, Reply::Ok(ArrayVec::new()))
+        .is_ok()
+}
+
+/// Whether a drain takes so many events.
+fn drains<R: Wait>(
+    rt: &R,
+    recorder: &Recorder,
+    scribe: &mut ScribePass,
+    history: &mut History,
+    count: usize,
+) -> bool
+    requires { CanDrain recorder.now.queue scribe.old history.old.recorded }
+    ensures can { CanDrain recorder.now.queue scribe.new history.new.recorded }
+    ensures cpus { scribe.new.cpus ≡ scribe.old.cpus }
+{
+    matches!(recorder.drain(rt, scribe, history), Ok(taken) if taken == count)
+}
+
 #[test]
 fn refused_return_stops_its_pass(rt: HostRuntime) -> Result<(), Fail> {
     let mut history = empty(rt.alloc(), 4, 2)?;
     let (recorder, mut first, mut second, mut scribe) = of_two_cpus(rt.alloc())?;
-    assert!(rt; recorder.call(&rt, &mut first, read_command("c4000151 1000")?)? == 0);
-    assert!(rt; recorder.call(&rt, &mut second, read_command("c4000151 2000")?)? == 0);
-    assert!(rt;
-        matches!(
-            recorder.returned(&rt, &mut first, read_reply("ok")?),
-            Err(Full)
-        )
-    );
-    assert!(rt; first.is_stopped() && first.is_open());
-    assert!(rt; recorder.drain(&rt, &mut scribe, &mut history)? == 2);
-    recorder.returned(&rt, &mut second, read_reply("ok")?)?;
-    assert!(rt; !second.is_stopped() && !second.is_open());
-    assert!(rt; recorder.drain(&rt, &mut scribe, &mut history)? == 1);
+    let first_calls = calls(&rt, &recorder, &mut first, 0, "c4000151 1000");
+    let second_calls = calls(&rt, &recorder, &mut second, 0, "c4000151 2000");
+    let first_returns = returns(&rt, &recorder, &mut first);
+    let two_drained = drains(&rt, &recorder, &mut scribe, &mut history, 2);
+    let second_returns = returns(&rt, &recorder, &mut second);
+    let one_drained = drains(&rt, &recorder, &mut scribe, &mut history, 1);
+    assert!(rt; first_calls && second_calls && two_drained && one_drained);
+    assert!(rt; !first_returns && first.is_stopped() && first.is_open());
+    assert!(rt; second_returns && !second.is_stopped() && !second.is_open());
     let text = "rmh1 4 2\nc 0 0 c4000151 1000\nc 1 0 c4000151 2000\nr 1 0 ok\n";
     assert!(rt; has_text(rt.alloc(), &history, text)?);
     Ok(())
@@ -67,12 +106,13 @@ fn refused_return_stops_its_pass(rt: HostRuntime) -> Result<(), Fail> {
 fn rest_makes_each_list_whole(rt: HostRuntime) -> Result<(), Fail> {
     let mut history = empty(rt.alloc(), 4, 2)?;
     let (recorder, mut first, mut second, mut scribe) = of_two_cpus(rt.alloc())?;
-    recorder.call(&rt, &mut first, read_command("c4000151 1000")?)?;
-    recorder.call(&rt, &mut second, read_command("c4000151 2000")?)?;
-    assert!(rt; recorder.drain(&rt, &mut scribe, &mut history)? == 2);
-    recorder.returned(&rt, &mut second, read_reply("ok")?)?;
-    recorder.returned(&rt, &mut first, read_reply("ok")?)?;
+    let first_calls = calls(&rt, &recorder, &mut first, 0, "c4000151 1000");
+    let second_calls = calls(&rt, &recorder, &mut second, 0, "c4000151 2000");
+    let two_drained = drains(&rt, &recorder, &mut scribe, &mut history, 2);
+    let second_returns = returns(&rt, &recorder, &mut second);
+    let first_returns = returns(&rt, &recorder, &mut first);
     let mut passes = [first, second];
+    assert!(rt; first_calls && second_calls && two_drained && second_returns && first_returns);
     assert!(rt; fit_a_history(&passes));
     recorder.drain_rest(&rt, &mut scribe, &mut passes, &mut history)?;
     let text = "rmh1 4 2\nc 0 0 c4000151 1000\nc 1 0 c4000151 2000\nr 1 0 ok\nr 0 0 ok\n";
@@ -85,19 +125,8 @@ fn record_one<R: Wait>(rt: &R, recorder: &Recorder, pass: &mut CpuPass) -> bool
     requires { pass.old.queue ≡ recorder.now.queue }
     ensures { pass.new.queue ≡ pass.old.queue }
 {
-    let Ok(command) = read_command("c4000151 1000") else {
-        return false;
-    };
-    let Ok(reply) = read_reply("ok") else {
-        return false;
-    };
-    if pass.is_open() || pass.is_stopped() || pass.next_number() > 999_999 {
-        return false;
-    }
-    if recorder.call(rt, pass, command).is_err() {
-        return false;
-    }
-    recorder.returned(rt, pass, reply).is_ok()
+    let number = pass.next_number();
+    calls(rt, recorder, pass, number, "c4000151 1000") && returns(rt, recorder, pass)
 }
 
 /// Records 1,000 calls and returns, or as many as aren't refused, and adds one to those that have ended.

@@ -98,7 +98,7 @@ fn words_of_the_program(rt: HostRuntime) -> Result<(), Fail> {
     for row in TAKEN.split(';') {
         let (words, expected) = row.split_once(" -> ").ok_or("a row without an outcome")?;
         let line = outcome(&rt, runtime(rt.alloc(), words))?;
-        assert!(rt; line.as_str() == expected, "{line} for {words}");
+        assert!(rt; line.as_str() == expected, "{line}");
     }
     Ok(())
 }

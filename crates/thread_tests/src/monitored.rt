@@ -12,9 +12,9 @@ use command_core::served;
 use granule_state::Config;
 use history::History;
 use monitor::{CpuPass, CpuToken, Done, Monitor, Open, Refused, ScribePass, Site, fit_a_history};
-use rmi_codec::read_command;
+use rmi_codec::{push_decimal, read_command, write_reply};
 use rmm_spec::{Command, Reply};
-use std::alloc::Global;
+use std::alloc::{AllocError, Global};
 use std::marker::Brand;
 use std::sync::Wait;
 use std::sync::ledger::Blank;
@@ -22,21 +22,28 @@ use std::test::Fail;
 
 pub type Answer = Result<Done, Refused>;
 
-/// Whether it has this ticket and this reply.
-fn is(done: &Done, ticket: usize, reply: &Reply) -> bool {
-    done.ticket == ticket && done.reply == *reply
-}
-
-/// Whether the command was executed to its end, with this ticket and this reply.
-fn is_done(answer: &Answer, ticket: usize, reply: &Reply) -> bool {
-    match answer {
-        Ok(done) => is(done, ticket, reply),
-        Err(_) => false,
-    }
-}
-
 pub fn ok() -> Reply {
     Reply::Ok(ArrayVec::new())
+}
+
+fn write_done(done: &Done, out: &mut Vec<u8>) -> Result<(), AllocError> {
+    push_decimal(out, done.ticket as u64)?;
+    out.extend_from_slice(b" ")?;
+    write_reply(&done.reply, out)?;
+    out.extend_from_slice(b"\n")
+}
+
+/// Appends a line of what a CPU was answered: a ticket and a reply, or a refusal.
+fn write_answer(answer: &Answer, out: &mut Vec<u8>) -> Result<(), AllocError> {
+    match answer {
+        Ok(done) => write_done(done, out),
+        Err(Refused::Unrecorded(done)) => {
+            out.extend_from_slice(b"unrecorded ")?;
+            write_done(done, out)
+        }
+        Err(Refused::Stopped) => out.extend_from_slice(b"stopped\n"),
+        Err(_) => out.extend_from_slice(b"refused\n"),
+    }
 }
 
 /// The command of a text, which is served.
@@ -51,7 +58,7 @@ fn command_from(text: &str) -> Result<Command, Fail>
     Ok(command)
 }
 
-/// What a CPU is answered.
+/// A CPU gives the command of a text, and what it is answered is appended.
 fn ask<S: Site, R: Wait>(
     rt: &R,
     alloc: Global,
@@ -60,7 +67,8 @@ fn ask<S: Site, R: Wait>(
     passes: &mut [CpuPass],
     cpu: usize,
     text: &str,
-) -> Result<Answer, Fail>
+    out: &mut Vec<u8>,
+) -> Result<(), Fail>
     requires cpus { AreCpus monitor.now tokens.old passes.old }
     requires cpu { cpu < monitor.now.config.cpus }
     ensures { AreCpus monitor.now tokens.new passes.new }
@@ -70,11 +78,12 @@ fn ask<S: Site, R: Wait>(
     if pass.next_number() > 999_999 {
         return Err("a number of a call".into());
     }
-    Ok(monitor.execute(rt, alloc, token, pass, &Open, command))
+    let answer = monitor.execute(rt, alloc, token, pass, &Open, command);
+    Ok(write_answer(&answer, out)?)
 }
 
-/// The texts of the history and of the certificate of a closed run.
-fn closed_texts<S: Site, R: Wait>(
+/// Closes the run, and appends the texts of its history and certificate.
+fn close<S: Site, R: Wait>(
     rt: &R,
     alloc: Global,
     monitor: Monitor<S>,
@@ -82,7 +91,8 @@ fn closed_texts<S: Site, R: Wait>(
     passes: Vec<CpuPass>,
     scribe: ScribePass,
     history: History,
-) -> Result<(Vec<u8>, Vec<u8>), Fail>
+    out: &mut Vec<u8>,
+) -> Result<(), Fail>
     requires cpus { AreCpus monitor tokens.items passes.items }
     requires drain { CanDrain monitor.queue scribe history.recorded }
     requires config { history.recorded.config ≡ monitor.config }
@@ -91,11 +101,9 @@ fn closed_texts<S: Site, R: Wait>(
         return Err("a history with room for the rest".into());
     }
     let (recorded, order) = monitor.close(rt, alloc, tokens, passes, scribe, history)?;
-    let mut history = Vec::new(alloc);
-    history::write(&recorded, &mut history)?;
-    let mut certificate = Vec::new(alloc);
-    certificate::write(&order, &mut certificate)?;
-    Ok((history, certificate))
+    history::write(&recorded, out)?;
+    certificate::write(&order, out)?;
+    Ok(())
 }
 
 /// One CPU delegates a granule and calls once more, with room for one event, and nobody drains before the close.
@@ -104,7 +112,8 @@ fn fill_queue<S: Site, R: Wait>(
     alloc: Global,
     blank: Blank,
     config: Config,
-) -> Result<([Answer; 2], (Vec<u8>, Vec<u8>)), Fail>
+    out: &mut Vec<u8>,
+) -> Result<(), Fail>
     requires name { blank.name ≡ S.name }
     requires parts { blank.parts ≡ S.parts }
     requires one_each { blank.parts ≡ config.cpus }
@@ -113,30 +122,37 @@ fn fill_queue<S: Site, R: Wait>(
     let (monitor, mut tokens, mut passes, scribe) = Monitor::<S>::new(alloc, blank, config, 1)?;
     let _cpus = config.cpus();
     let (held, recorded) = (tokens.as_mut_slice(), passes.as_mut_slice());
-    let answers = [
-        ask(rt, alloc, &monitor, held, recorded, 0, "c4000151 1000")?,
-        ask(rt, alloc, &monitor, held, recorded, 0, "c4000151 1000")?,
-    ];
+    ask(rt, alloc, &monitor, held, recorded, 0, "c4000151 1000", out)?;
+    ask(rt, alloc, &monitor, held, recorded, 0, "c4000151 1000", out)?;
     let history = History::new(alloc, config);
-    let texts = closed_texts(rt, alloc, monitor, tokens, passes, scribe, history)?;
-    Ok((answers, texts))
+    close(rt, alloc, monitor, tokens, passes, scribe, history, out)
 }
 
 #[test]
 fn full_queue_stops_token(rt: HostRuntime) -> Result<(), Fail> {
     let config = Config::new(4, 1).ok_or("a machine of this size")?;
-    let (answers, (history, certificate)) = fill_queue::<Brand, _>(
-        &rt,
-        rt.alloc(),
-        Blank::new(1),
-        config,
-    )?;
-    let [first, second] = answers;
-    assert!(rt; matches!(&first, Err(Refused::Unrecorded(done)) if is(done, 0, &ok())));
-    assert!(rt; matches!(second, Err(Refused::Stopped)));
-    assert!(rt; history.as_slice() == b"rmh1 4 1\nc 0 0 c4000151 1000\n".as_slice());
-    assert!(rt; certificate.as_slice() == b"u 0 0 ok\n".as_slice());
+    let mut out = Vec::new(rt.alloc());
+    fill_queue::<Brand, _>(&rt, rt.alloc(), Blank::new(1), config, &mut out)?;
+    let text = b"unrecorded 0 ok\nstopped\nrmh1 4 1\nc 0 0 c4000151 1000\nu 0 0 ok\n";
+    assert!(rt; out.as_slice() == text.as_slice());
     Ok(())
+}
+
+/// CPU 1 delegates a granule, and CPU 0 takes it back.
+fn ask_both<S: Site, R: Wait>(
+    rt: &R,
+    alloc: Global,
+    monitor: &Monitor<S>,
+    tokens: &mut [CpuToken<S>],
+    passes: &mut [CpuPass],
+    out: &mut Vec<u8>,
+) -> Result<(), Fail>
+    requires cpus { AreCpus monitor.now tokens.old passes.old }
+    requires two { monitor.now.config.cpus ≡ 2 }
+    ensures { AreCpus monitor.now tokens.new passes.new }
+{
+    ask(rt, alloc, monitor, tokens, passes, 1, "c4000151 1000", out)?;
+    ask(rt, alloc, monitor, tokens, passes, 0, "c4000152 1000", out)
 }
 
 /// Two CPUs delegate one granule, and the first takes it back. What the first command recorded is drained at once, and the rest at the close.
@@ -145,7 +161,8 @@ fn delegate_by_two<S: Site, R: Wait>(
     alloc: Global,
     blank: Blank,
     config: Config,
-) -> Result<([Answer; 3], (Vec<u8>, Vec<u8>)), Fail>
+    out: &mut Vec<u8>,
+) -> Result<(), Fail>
     requires name { blank.name ≡ S.name }
     requires parts { blank.parts ≡ S.parts }
     requires one_each { blank.parts ≡ config.cpus }
@@ -157,32 +174,32 @@ fn delegate_by_two<S: Site, R: Wait>(
     )?;
     let (held, recorded) = (tokens.as_mut_slice(), passes.as_mut_slice());
     let mut history = History::new(alloc, config);
-    let first = ask(rt, alloc, &monitor, held, recorded, 0, "c4000151 1000")?;
+    ask(rt, alloc, &monitor, held, recorded, 0, "c4000151 1000", out)?;
     monitor.drain(rt, &mut scribe, &mut history)?;
-    let answers = [
-        first,
-        ask(rt, alloc, &monitor, held, recorded, 1, "c4000151 1000")?,
-        ask(rt, alloc, &monitor, held, recorded, 0, "c4000152 1000")?,
-    ];
-    let texts = closed_texts(rt, alloc, monitor, tokens, passes, scribe, history)?;
-    Ok((answers, texts))
+    ask_both(rt, alloc, &monitor, held, recorded, out)?;
+    close(rt, alloc, monitor, tokens, passes, scribe, history, out)
 }
 
 #[test]
 fn three_tickets(rt: HostRuntime) -> Result<(), Fail> {
     let config = Config::new(4, 2).ok_or("a machine of this size")?;
-    let (answers, (history, certificate)) = delegate_by_two::<Brand, _>(
-        &rt,
-        rt.alloc(),
-        Blank::new(2),
-        config,
-    )?;
-    let [first, second, third] = answers;
-    assert!(rt; is_done(&first, 0, &ok()) && is_done(&second, 1, &Reply::Err(1, 0)));
-    assert!(rt; is_done(&third, 2, &ok()));
-    let text =
-        b"rmh1 4 2\nc 0 0 c4000151 1000\nr 0 0 ok\nc 1 0 c4000151 1000\nr 1 0 err 1 0\nc 0 1 c4000152 1000\nr 0 1 ok\n";
-    assert!(rt; history.as_slice() == text.as_slice());
-    assert!(rt; certificate.as_slice() == b"k 0 0\nk 1 0\nk 0 1\n".as_slice());
+    let mut out = Vec::new(rt.alloc());
+    delegate_by_two::<Brand, _>(&rt, rt.alloc(), Blank::new(2), config, &mut out)?;
+    let text = "\
+0 ok
+1 err 1 0
+2 ok
+rmh1 4 2
+c 0 0 c4000151 1000
+r 0 0 ok
+c 1 0 c4000151 1000
+r 1 0 err 1 0
+c 0 1 c4000152 1000
+r 0 1 ok
+k 0 0
+k 1 0
+k 0 1
+";
+    assert!(rt; out.as_slice() == text.as_bytes());
     Ok(())
 }
