@@ -1,13 +1,11 @@
-//! Nothing but tests: of texts judged, of the larger crates by their public calls, and of the whole program.
+//! Nothing but tests: of texts judged, and of the larger crates by their public calls.
 //! Their expected lines come from outside, worked out by hand from the profile, never from the program's own output.
 //! They show that the clauses say what was meant, and that calls with enough memory succeed.
-//! `judged` has histories and scripts with their verdicts, `by_crate` a file for each part of a crate, and `program` the whole
-//! program and its judgement on devices that fail. Nothing depends on it.
+//! `judged` has histories and scripts with their verdicts, and `by_crate` a file for each part of a crate.
+//! Nothing depends on it.
 #![tactic(auto)]
 
 #[cfg(test)]
 mod by_crate;
 #[cfg(test)]
 mod judged;
-#[cfg(test)]
-mod program;

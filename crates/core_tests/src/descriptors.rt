@@ -1,0 +1,92 @@
+//! A realm from its making on. Expected digests were computed by `sha256sum` from the bytes that each comment writes out.
+
+use granule_state::Pa;
+use realm_desc::{HashAlgorithm, Realm, RealmState, Rec, Space};
+use std::alloc::{AllocError, Global};
+
+fn new_realm(space: Space) -> Realm {
+    Realm::new(Pa::new(0x2000), space, 1, HashAlgorithm::Sha256)
+}
+
+// The realm's initial measurement, as `sha256sum` shows a digest.
+fn rim(alloc: Global, realm: &Realm) -> Result<String, AllocError> {
+    hex::encode(alloc, realm.rim.as_bytes().as_slice())
+}
+
+// Counts a REC of that index with those flags, where it is the next.
+fn counts(realm: &mut Realm, index: u8, flags: u64) -> bool {
+    if !realm.takes_index(u64::from(index)) {
+        return false;
+    }
+    realm.count_rec(index, flags);
+    true
+}
+
+#[test]
+fn rim_of_two_recs(rt: HostRuntime) -> Result<(), AllocError> {
+    let mut realm = new_realm(Space::Bits39);
+    // 580100c400000000 2700000000000000 0100000000000000 0000000000000000
+    let made = rim(rt.alloc(), &realm)?;
+    // the 32 bytes above, 5a0100c400000000 0000000000000000 0100000000000000
+    assert!(rt; !counts(&mut realm, 1, 0) && counts(&mut realm, 0, 1));
+    let first = rim(rt.alloc(), &realm)?;
+    // the 32 bytes above, 5a0100c400000000 0100000000000000 0000000000000000
+    assert!(rt; !counts(&mut realm, 0, 1) && counts(&mut realm, 1, 0));
+    let second = rim(rt.alloc(), &realm)?;
+    assert!(rt;
+        made.as_str() == "39f3ce61f3cc5d6d7208f6b0fecbf6b39274b4605fe90e6ae686b056168c2241"
+    );
+    assert!(rt;
+        first.as_str() == "a42c396228319368e7b1e21d4c3c557a6247a50bcf242fc4f8892370b922d36e"
+    );
+    assert!(rt;
+        second.as_str() == "c53d5a7d11940f4179880e3c45787d3364b96125422f6d0d918e995dd831ac9c"
+    );
+    Ok(())
+}
+
+#[test]
+fn rim_of_a_wide_realm(rt: HostRuntime) -> Result<(), AllocError> {
+    // 580100c400000000 3000000000000000 0000000000000000 0000000000000000
+    let made = rim(rt.alloc(), &new_realm(Space::Bits48))?;
+    assert!(rt;
+        made.as_str() == "5fca5e5cfa95f492ad2de98798b1d78f2e9b836174de6087945670d0b0ae21c5"
+    );
+    Ok(())
+}
+
+#[test]
+fn words_that_stand_for_nothing(rt: HostRuntime) {
+    assert!(rt; matches!(Space::of(0x27, 1), Some(Space::Bits39)));
+    assert!(rt; matches!(Space::of(0x30, 0), Some(Space::Bits48)));
+    for (width, level) in [(0x27, 0), (0x30, 1), (0x28, 1)] {
+        assert!(rt; Space::of(width, level).is_none(), "at {width:x} {level}");
+    }
+    assert!(rt; matches!(HashAlgorithm::of(0), Some(HashAlgorithm::Sha256)));
+    assert!(rt; HashAlgorithm::of(1).is_none());
+}
+
+#[test]
+fn life_of_a_realm(rt: HostRuntime) {
+    let mut realm = new_realm(Space::Bits39);
+    assert!(rt; realm.is_new());
+    realm.activate();
+    assert!(rt; !realm.is_new() && realm.state == RealmState::Active);
+}
+
+#[test]
+fn ninth_rec_is_refused(rt: HostRuntime) {
+    let mut realm = new_realm(Space::Bits39);
+    for index in 0..8 {
+        assert!(rt; counts(&mut realm, index, 0), "at {index}");
+    }
+    assert!(rt; !counts(&mut realm, 8, 0));
+}
+
+#[test]
+fn a_new_rec_waits(rt: HostRuntime) {
+    let rec = Rec::new(Pa::new(0x1000), 3, 1, Pa::new(0x6000), Pa::new(0x7000));
+    assert!(rt; rec.is_ready() && rec.runnable && rec.index == 3);
+    assert!(rt; rec.aux0.address() == 0x6000 && rec.aux1.address() == 0x7000);
+    assert!(rt; rec.request.is_none() && rec.pending.is_none());
+}

@@ -1,0 +1,115 @@
+//! What comes back from a granule, on one thread and on two.
+
+ghost use Rattle.std.specs.Prelude.{◌≡◌, ◌∷◌, [], IfOk, IsTrue};
+ghost use Rattle.rmm_spec.specs.Lookup.{is_granule};
+ghost use Rattle.world_laws.specs.Replaced.{held_at};
+ghost use Rattle.command_core.specs.Seen.{cell_of};
+ghost use Rattle.command_core.specs.declared.cell.Cell.{Cell};
+ghost use Rattle.granule_lock.specs.HeldCells.{hold_cells};
+
+use command_core::{Cell, Held};
+use granule_lock::{Granules, Hold};
+use granule_state::{Config, Pa};
+use rmm_spec::Tag;
+use std::alloc::Global;
+use std::sync::Wait;
+use std::sync::atomic::{AtomicU64, Ordering};
+use std::test::Fail;
+use std::thread;
+use std::thread::Threads;
+
+/// How often a thread looks at most.
+const LOOKS: u64 = 1_000_000;
+
+/// A machine of four granules, with two of them.
+#[tactic(auto, unfolding(rmm_spec::specs::Lookup::is_granule))]
+fn four_granules(alloc: Global) -> Result<(Granules, Pa, Pa), Fail>
+    ensures low { IfOk result (λ made. IsTrue (is_granule made.0.granules made.1)) }
+    ensures high { IfOk result (λ made. IsTrue (is_granule made.0.granules made.2)) }
+{
+    let config = Config::new(4, 2).ok_or("no such machine")?;
+    let granules = Granules::new(alloc, &config)?;
+    Ok((granules, Pa::new(0x1000), Pa::new(0x3000)))
+}
+
+/// A hold of one granule alone.
+fn hold_of<R: Wait>(rt: &R, granules: &Granules, pa: Pa) -> Hold
+    requires { IsTrue (is_granule granules.now.granules pa) }
+    ensures { (cell : Cell) × (hold_cells result ≡ held_at pa (cell_of cell) ∷ []) }
+{
+    let mut hold = Hold::new();
+    granules.take(rt, &mut hold, pa);
+    hold
+}
+
+fn tag_of<H: Held>(held: &H, pa: Pa) -> Option<Tag> {
+    Some(held.cell(pa)?.tag())
+}
+
+/// Puts a delegated granule in the place of what is held, and gives it home.
+fn give_delegated<R: Wait>(rt: &R, granules: &Granules, mut hold: Hold, pa: Pa)
+    requires granule { IsTrue (is_granule granules.now.granules pa) }
+    requires held { (cell : Cell) × (hold_cells hold ≡ held_at pa (cell_of cell) ∷ []) }
+{
+    hold.swap(pa, Cell::Delegated);
+    granules.give(rt, &mut hold, pa);
+}
+
+#[test]
+fn given_cells_come_back(rt: HostRuntime) -> Result<(), Fail> {
+    let (granules, low, high) = four_granules(rt.alloc())?;
+    let below = hold_of(&rt, &granules, low);
+    let hold = hold_of(&rt, &granules, high);
+    assert!(rt; tag_of(&below, low) == Some(Tag::Undelegated));
+    assert!(rt; tag_of(&hold, high) == Some(Tag::Undelegated));
+    give_delegated(&rt, &granules, hold, high);
+    let hold = hold_of(&rt, &granules, high);
+    assert!(rt; tag_of(&hold, high) == Some(Tag::Delegated));
+    assert!(rt; tag_of(&hold, low).is_none());
+    Ok(())
+}
+
+/// Looks at the other's counter, and gives the granule home only then. Returns whether the counter was 0 at each look.
+fn give_late<R: Wait>(rt: &R, granules: &Granules, hold: Hold, pa: Pa, taken: &AtomicU64) -> bool
+    requires granule { IsTrue (is_granule granules.now.granules pa) }
+    requires held { (cell : Cell) × (hold_cells hold ≡ held_at pa (cell_of cell) ∷ []) }
+{
+    let stayed = (0..LOOKS).all(|_| taken.load(Ordering::SeqCst) == 0);
+    give_delegated(rt, granules, hold, pa);
+    stayed
+}
+
+/// Takes the granule, counts that, and returns what it found.
+fn take_counted<R: Wait>(rt: &R, granules: &Granules, pa: Pa, taken: &AtomicU64) -> Option<Tag>
+    requires { IsTrue (is_granule granules.now.granules pa) }
+{
+    let hold = hold_of(rt, granules, pa);
+    taken.fetch_add(1, Ordering::SeqCst);
+    tag_of(&hold, pa)
+}
+
+/// One thread takes what another holds.
+fn take_beside<R: Threads + Wait + Sync>(rt: &R, granules: &Granules, pa: Pa) -> (Option<Tag>, bool)
+    requires { IsTrue (is_granule granules.now.granules pa) }
+{
+    let taken = AtomicU64::new(0);
+    let hold = hold_of(rt, granules, pa);
+    thread::join(
+        rt,
+        || -> Option<Tag>
+            requires { IsTrue (is_granule granules.now.granules pa) }
+        { take_counted(rt, granules, pa, &taken) },
+        || -> bool
+            requires { IsTrue (is_granule granules.now.granules pa)
+                × ((cell : Cell) × (hold_cells hold ≡ held_at pa (cell_of cell) ∷ [])) }
+        { give_late(rt, granules, hold, pa, &taken) },
+    )
+}
+
+#[test]
+fn holder_keeps_others_out(rt: HostRuntime) -> Result<(), Fail> {
+    let (granules, pa, _) = four_granules(rt.alloc())?;
+    let (found, stayed) = take_beside(&rt, &granules, pa);
+    assert!(rt; found == Some(Tag::Delegated) && stayed);
+    Ok(())
+}

@@ -1,0 +1,233 @@
+//! Runs of the recorder on one thread and on five.
+
+ghost use Rattle.std.specs.Prelude.{◌≡◌, [], length, IfOk};
+ghost use Rattle.std.specs.List.{AllWithin};
+ghost use Rattle.event_queue.specs.View.{CanDrain, before_calls};
+
+use arrayvec::ArrayVec;
+use event_queue::{CpuPass, Recorder, ScribePass, fit_a_history};
+use granule_state::Config;
+use history::{History, Reply, write};
+use rmi_codec::read_command;
+use std::alloc::{AllocError, Global};
+use std::sync::Wait;
+use std::sync::atomic::{AtomicU64, Ordering};
+use std::test::Fail;
+use std::thread;
+use std::thread::Threads;
+
+fn empty(alloc: Global, granules: u64, cpus: u64) -> Result<History, Fail>
+    ensures { IfOk result (λ history. (history.recorded.config.cpus ≡ cpus) × (history.recorded.events ≡ [])) }
+{
+    let config = Config::new(granules, cpus).ok_or("no such machine")?;
+    Ok(History::new(alloc, config))
+}
+
+/// Whether this is the history's text.
+fn has_text(alloc: Global, history: &History, text: &str) -> Result<bool, AllocError> {
+    let mut written = Vec::new(alloc);
+    write(history, &mut written)?;
+    Ok(written.as_slice() == text.as_bytes())
+}
+
+/// A queue of two events, for two CPUs.
+fn of_two_cpus(alloc: Global) -> Result<(Recorder, CpuPass, CpuPass, ScribePass), Fail>
+    ensures first { IfOk result (λ made. made.1 ≡ before_calls made.0.queue 2 0) }
+    ensures second { IfOk result (λ made. made.2 ≡ before_calls made.0.queue 2 1) }
+    ensures scribe { IfOk result (λ made. made.3 ≡ record { queue = made.0.queue; cpus = 2; events = [] }) }
+{
+    let (recorder, mut passes, scribe) = Recorder::new(alloc, 2, 2)?;
+    let second = passes.pop().ok_or("a pass for CPU 1")?;
+    let first = passes.pop().ok_or("a pass for CPU 0")?;
+    Ok((recorder, first, second, scribe))
+}
+
+/// Whether a call of the text's command is recorded, with this number.
+fn calls<R: Wait>(rt: &R, recorder: &Recorder, pass: &mut CpuPass, number: u32, text: &str) -> bool
+    requires { pass.old.queue ≡ recorder.now.queue }
+    ensures { (pass.new.queue ≡ pass.old.queue) × (pass.new.cpu ≡ pass.old.cpu) }
+{
+    let Ok(command) = read_command(text) else {
+        return false;
+    };
+    if pass.is_open() || pass.is_stopped() || pass.next_number() > 999_999 {
+        return false;
+    }
+    matches!(recorder.call(rt, pass, command), Ok(given) if given == number)
+}
+
+/// Whether a return with nothing is recorded.
+fn returns<R: Wait>(rt: &R, recorder: &Recorder, pass: &mut CpuPass) -> bool
+    requires { pass.old.queue ≡ recorder.now.queue }
+    ensures { (pass.new.queue ≡ pass.old.queue) × (pass.new.cpu ≡ pass.old.cpu) }
+{
+    if !pass.is_open() || pass.is_stopped() {
+        return false;
+    }
+    recorder
+        .returned(rt, pass, Reply::Ok(ArrayVec::new()))
+        .is_ok()
+}
+
+/// Whether a drain takes so many events.
+fn drains<R: Wait>(
+    rt: &R,
+    recorder: &Recorder,
+    scribe: &mut ScribePass,
+    history: &mut History,
+    count: usize,
+) -> bool
+    requires { CanDrain recorder.now.queue scribe.old history.old.recorded }
+    ensures can { CanDrain recorder.now.queue scribe.new history.new.recorded }
+    ensures cpus { scribe.new.cpus ≡ scribe.old.cpus }
+{
+    matches!(recorder.drain(rt, scribe, history), Ok(taken) if taken == count)
+}
+
+#[test]
+fn refused_return_stops_its_pass(rt: HostRuntime) -> Result<(), Fail> {
+    let mut history = empty(rt.alloc(), 4, 2)?;
+    let (recorder, mut first, mut second, mut scribe) = of_two_cpus(rt.alloc())?;
+    let first_calls = calls(&rt, &recorder, &mut first, 0, "c4000151 1000");
+    let second_calls = calls(&rt, &recorder, &mut second, 0, "c4000151 2000");
+    let first_returns = returns(&rt, &recorder, &mut first);
+    let two_drained = drains(&rt, &recorder, &mut scribe, &mut history, 2);
+    let second_returns = returns(&rt, &recorder, &mut second);
+    let one_drained = drains(&rt, &recorder, &mut scribe, &mut history, 1);
+    assert!(rt; first_calls && second_calls && two_drained && one_drained);
+    assert!(rt; !first_returns && first.is_stopped() && first.is_open());
+    assert!(rt; second_returns && !second.is_stopped() && !second.is_open());
+    let text = "rmh1 4 2\nc 0 0 c4000151 1000\nc 1 0 c4000151 2000\nr 1 0 ok\n";
+    assert!(rt; has_text(rt.alloc(), &history, text)?);
+    Ok(())
+}
+
+#[test]
+fn rest_makes_each_list_whole(rt: HostRuntime) -> Result<(), Fail> {
+    let mut history = empty(rt.alloc(), 4, 2)?;
+    let (recorder, mut first, mut second, mut scribe) = of_two_cpus(rt.alloc())?;
+    let first_calls = calls(&rt, &recorder, &mut first, 0, "c4000151 1000");
+    let second_calls = calls(&rt, &recorder, &mut second, 0, "c4000151 2000");
+    let two_drained = drains(&rt, &recorder, &mut scribe, &mut history, 2);
+    let second_returns = returns(&rt, &recorder, &mut second);
+    let first_returns = returns(&rt, &recorder, &mut first);
+    let mut passes = [first, second];
+    assert!(rt; first_calls && second_calls && two_drained && second_returns && first_returns);
+    assert!(rt; fit_a_history(&passes));
+    recorder.drain_rest(&rt, &mut scribe, &mut passes, &mut history)?;
+    let text = "rmh1 4 2\nc 0 0 c4000151 1000\nc 1 0 c4000151 2000\nr 1 0 ok\nr 0 0 ok\n";
+    assert!(rt; has_text(rt.alloc(), &history, text)?);
+    Ok(())
+}
+
+/// Records a call and its return, and returns whether neither was refused.
+fn record_one<R: Wait>(rt: &R, recorder: &Recorder, pass: &mut CpuPass) -> bool
+    requires { pass.old.queue ≡ recorder.now.queue }
+    ensures { pass.new.queue ≡ pass.old.queue }
+{
+    let number = pass.next_number();
+    calls(rt, recorder, pass, number, "c4000151 1000") && returns(rt, recorder, pass)
+}
+
+/// Records 1,000 calls and returns, or as many as aren't refused, and adds one to those that have ended.
+fn record_thousand<R: Wait>(rt: &R, recorder: &Recorder, pass: &mut CpuPass, ended: &AtomicU64)
+    requires { pass.old.queue ≡ recorder.now.queue }
+{
+    for _round in 0..1000 {
+        if !record_one(rt, recorder, pass) {
+            break;
+        }
+    }
+    ended.fetch_add(1, Ordering::SeqCst);
+}
+
+/// Drains again and again until so many have ended.
+fn drain_beside<R: Wait>(
+    rt: &R,
+    recorder: &Recorder,
+    mut scribe: ScribePass,
+    mut history: History,
+    ended: &AtomicU64,
+) -> (ScribePass, History)
+    requires { CanDrain recorder.now.queue scribe history.recorded }
+    ensures { CanDrain recorder.now.queue result.0 result.1.recorded }
+{
+    for _look in 0..10_000_000u64 {
+        if ended.load(Ordering::SeqCst) == 4
+            || recorder.drain(rt, &mut scribe, &mut history).is_err()
+        {
+            break;
+        }
+        thread::yield_now();
+    }
+    (scribe, history)
+}
+
+/// Four threads record beside one that drains.
+fn record_beside<R: Threads + Wait + Sync>(
+    rt: &R,
+    recorder: &Recorder,
+    passes: &mut [CpuPass],
+    scribe: ScribePass,
+    history: History,
+) -> (ScribePass, History)
+    requires passes { AllWithin (λ pass. pass.queue ≡ recorder.now.queue) passes.old 0 (length passes.old) }
+    requires scribe { CanDrain recorder.now.queue scribe history.recorded }
+    ensures { CanDrain recorder.now.queue result.0 result.1.recorded }
+{
+    let ended = AtomicU64::new(0);
+    let ((), drained) = thread::join(
+        rt,
+        ||
+            requires { AllWithin (λ pass. pass.queue ≡ recorder.now.queue) passes.now 0 (length passes.now) }
+        {
+            thread::for_each_mut(
+                rt,
+                passes,
+                4,
+                &|_, pass| record_thousand(rt, recorder, pass, &ended),
+            )
+        },
+        || -> (ScribePass, History)
+            requires { CanDrain recorder.now.queue scribe history.recorded }
+            ensures { CanDrain recorder.entry.now.queue result.0 result.1.recorded }
+        { drain_beside(rt, recorder, scribe, history, &ended) },
+    );
+    drained
+}
+
+#[test]
+fn four_threads_record_while_one_drains(rt: HostRuntime) -> Result<(), Fail> {
+    let history = empty(rt.alloc(), 4, 4)?;
+    let (recorder, mut passes, scribe) = Recorder::new(rt.alloc(), 65536, 4)?;
+    let (mut scribe, mut history) = record_beside(
+        &rt,
+        &recorder,
+        passes.as_mut_slice(),
+        scribe,
+        history,
+    );
+    recorder.drain(&rt, &mut scribe, &mut history)?;
+    assert!(rt; line_count(rt.alloc(), &history)? == 8001);
+    for cpu in 0..4 {
+        assert!(rt; has_thousand(&history, cpu), "{cpu}");
+    }
+    Ok(())
+}
+
+fn line_count(alloc: Global, history: &History) -> Result<usize, AllocError> {
+    let mut text = Vec::new(alloc);
+    write(history, &mut text)?;
+    Ok(text.iter().filter(|&&byte| byte == b'\n').count())
+}
+
+/// Whether a CPU has 1,000 calls that have returned, and no more.
+fn has_thousand(history: &History, cpu: u8) -> bool {
+    for number in 0..1000 {
+        match history.places_of(cpu, number) {
+            Some(places) if places.returned.is_some() => {}
+            _ => return false,
+        }
+    }
+    history.places_of(cpu, 1000).is_none()
+}

@@ -1,0 +1,178 @@
+//! Commits on cells that were taken from granules.
+
+ghost use Rattle.std.specs.Prelude.{◌≡◌, ◌<◌, IsTrue};
+ghost use Rattle.rmm_spec.specs.Call.{call_of};
+ghost use Rattle.rmm_spec.specs.Lookup.{is_granule};
+ghost use Rattle.command_core.specs.Served.{is_served};
+
+use arrayvec::ArrayVec;
+use command_core::{Held, Next, next_lock};
+use commit_tickets::{CommitFault, Committed, CpuToken, Done, Journal, Site, commit};
+use granule_lock::{Granules, Hold};
+use granule_state::{Config, Pa};
+use rmm_spec::{Command, FunctionId, Reply, Tag};
+use std::alloc::Global;
+use std::marker::Brand;
+use std::sync::Wait;
+use std::sync::ledger::Blank;
+use std::test::Fail;
+
+/// What came of a commit, or nothing where the hold isn't what the command's plan asks for.
+type Answer = Option<Result<Done, CommitFault>>;
+
+#[tactic(auto, unfolding(rmm_spec::specs::Call::call_from, command_core::specs::Served::is_served))]
+fn delegate(address: u64) -> Command
+    ensures { IsTrue (is_served (call_of result)) }
+{
+    let mut words = ArrayVec::new();
+    words.push(address);
+    Command {
+        function: FunctionId::GranuleDelegate,
+        words,
+    }
+}
+
+/// Whether the command was committed under this ticket with this reply.
+fn is_done(answer: &Answer, ticket: usize, reply: &Reply) -> bool {
+    match answer {
+        Some(Ok(done)) => done.ticket == ticket && done.reply == *reply,
+        _ => false,
+    }
+}
+
+fn ok() -> Reply {
+    Reply::Ok(ArrayVec::new())
+}
+
+/// Whether a granule was delegated, and nothing else committed.
+fn is_one_delegate(mine: &[Committed], ticket: usize, address: u64, reply: &Reply) -> bool {
+    match mine {
+        [only] => {
+            only.ticket == ticket && only.command == delegate(address) && only.reply == *reply
+        }
+        _ => false,
+    }
+}
+
+/// A hold of one granule.
+fn hold_of<R: Wait>(rt: &R, granules: &Granules, address: u64) -> Hold
+    requires { IsTrue (is_granule granules.now.granules address) }
+{
+    let mut hold = Hold::new();
+    granules.take(rt, &mut hold, Pa::new(address));
+    hold
+}
+
+/// Delegates a granule on what is held.
+fn delegate_on<S: Site>(
+    alloc: Global,
+    config: &Config,
+    journal: &mut Journal<S>,
+    token: &mut CpuToken<S>,
+    hold: &mut Hold,
+    address: u64,
+) -> Answer
+    requires { config.now.granules ≡ S.granules }
+{
+    let command = delegate(address);
+    match next_lock(config, &command, &token.place(), None, hold) {
+        Next::Ready => Some(commit(alloc, journal, token, hold, &command)),
+        _ => None,
+    }
+}
+
+/// Delegates a granule on the cells of one machine, and then on those of another. Returns both answers, how many commits the
+/// journal and the token have, and the tags of the two cells.
+#[tactic(auto, unfolding(rmm_spec::specs::Lookup::is_granule))]
+fn delegate_twice<S: Site, R: Wait>(
+    rt: &R,
+    alloc: Global,
+    blank: Blank,
+    config: Config,
+) -> Result<(Answer, Answer, usize, usize, Option<Tag>, Option<Tag>), Fail>
+    requires name { blank.name ≡ S.name }
+    requires parts { blank.parts ≡ S.parts }
+    requires one_each { blank.parts ≡ config.cpus }
+    requires granules { config.granules ≡ S.granules }
+    requires four { config.granules ≡ 4 }
+{
+    let (mut journal, mut tokens) = Journal::<S>::new(alloc, blank, config)?;
+    let mut token = tokens.pop().ok_or("a token")?;
+    let granules = Granules::new(alloc, &config)?;
+    let mut hold = hold_of(rt, &granules, 0x1000);
+    let first = delegate_on(alloc, &config, &mut journal, &mut token, &mut hold, 0x1000);
+    let others = Granules::new(alloc, &config)?;
+    let mut other = hold_of(rt, &others, 0x1000);
+    let second = delegate_on(alloc, &config, &mut journal, &mut token, &mut other, 0x1000);
+    let tag = hold.cell(Pa::new(0x1000)).map(|cell| cell.tag());
+    let other_tag = other.cell(Pa::new(0x1000)).map(|cell| cell.tag());
+    Ok((
+        first,
+        second,
+        journal.len(),
+        token.mine().len(),
+        tag,
+        other_tag,
+    ))
+}
+
+#[test]
+fn other_cells_disagree(rt: HostRuntime) -> Result<(), Fail> {
+    let config = Config::new(4, 1).ok_or("a machine of this size")?;
+    let seen = delegate_twice::<Brand, _>(&rt, rt.alloc(), Blank::new(1), config)?;
+    let (first, second, commits, mine, tag, other_tag) = seen;
+    assert!(rt; is_done(&first, 0, &ok()));
+    assert!(rt; matches!(second, Some(Err(CommitFault::Disagrees))));
+    assert!(rt; commits == 1 && mine == 1);
+    assert!(rt; tag == Some(Tag::Delegated) && other_tag == Some(Tag::Undelegated));
+    Ok(())
+}
+
+/// Three commits of two CPUs, the first of which is stopped after its first. Returns the answers, and whether the journal and
+/// the tokens have what they should.
+#[tactic(auto, unfolding(rmm_spec::specs::Lookup::is_granule))]
+fn commits_of_two<S: Site, R: Wait>(
+    rt: &R,
+    alloc: Global,
+    blank: Blank,
+    config: Config,
+) -> Result<([Answer; 3], bool), Fail>
+    requires name { blank.name ≡ S.name }
+    requires parts { blank.parts ≡ S.parts }
+    requires one_each { blank.parts ≡ config.cpus }
+    requires two { config.cpus ≡ 2 }
+    requires granules { config.granules ≡ S.granules }
+    requires four { config.granules ≡ 4 }
+{
+    let (mut journal, mut tokens) = Journal::<S>::new(alloc, blank, config)?;
+    journal.audit(tokens.as_mut_slice());
+    let mut second = tokens.pop().ok_or("a token for CPU 1")?;
+    let mut first = tokens.pop().ok_or("a token for CPU 0")?;
+    let granules = Granules::new(alloc, &config)?;
+    let mut low = hold_of(rt, &granules, 0x1000);
+    let mut high = hold_of(rt, &granules, 0x2000);
+    let answers = [
+        delegate_on(alloc, &config, &mut journal, &mut first, &mut low, 0x1000),
+        delegate_on(alloc, &config, &mut journal, &mut second, &mut low, 0x1000),
+        {
+            first.stop();
+            delegate_on(alloc, &config, &mut journal, &mut first, &mut high, 0x2000)
+        },
+    ];
+    let listed = journal.len() == 3
+        && first.cpu() == 0
+        && first.is_stopped()
+        && first.mine().len() == 2
+        && is_one_delegate(second.mine(), 1, 0x1000, &Reply::Err(1, 0));
+    Ok((answers, listed))
+}
+
+#[test]
+fn both_delegate_one_granule(rt: HostRuntime) -> Result<(), Fail> {
+    let config = Config::new(4, 2).ok_or("a machine of this size")?;
+    let (answers, listed) = commits_of_two::<Brand, _>(&rt, rt.alloc(), Blank::new(2), config)?;
+    let [first, second, third] = answers;
+    assert!(rt; is_done(&first, 0, &ok()) && is_done(&second, 1, &Reply::Err(1, 0)));
+    assert!(rt; is_done(&third, 2, &ok()) && listed);
+    Ok(())
+}

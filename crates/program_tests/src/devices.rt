@@ -1,0 +1,146 @@
+//! `judge` over devices of the test's, each of which fails at one of its calls.
+
+ghost use Rattle.std.specs.Prelude.{Some};
+ghost use Rattle.judging.specs.Sink.{prepared_room};
+
+use crate::runtime::TestFile;
+use checker::Verdict;
+use judging::{FileSource, WriteError};
+use scenarios::{JudgeFault, Sink, judge};
+use std::alloc::{AllocError, Global};
+use std::io::ErrorKind;
+
+const HISTORY: &[u8] = b"rmh1 4 1\nc 0 0 c4000151 1000\nr 0 0 ok\n";
+
+// Six pieces and the end.
+const HISTORY_READS: usize = 7;
+
+const CERTIFICATE: &[u8] = b"k 0 0\n";
+
+// One piece and the end.
+const CERTIFICATE_READS: usize = 2;
+
+// More than either takes.
+const WHOLE: usize = 100;
+
+// A sink that takes a few bytes a call, and fails after so many calls.
+#[derive(Drop)]
+struct TornSink {
+    taken: Vec<u8>,
+    most: usize,
+    calls: usize,
+    failures: u64,
+}
+
+impl TornSink {
+    fn new(alloc: Global, most: usize, calls: usize) -> TornSink {
+        TornSink {
+            taken: Vec::new(alloc),
+            most,
+            calls,
+            failures: 0,
+        }
+    }
+}
+
+impl Sink for TornSink {
+    ghost taken = { λ sink. sink.taken.items };
+
+    ghost contents = { λ sink. Some sink.taken.items };
+
+    ghost room = { λ sink. prepared_room sink.taken.len sink.taken.cap sink.failures };
+
+    ghost failures = { λ sink. sink.failures };
+
+    fn make_room(&mut self, count: usize) -> Result<(), AllocError> {
+        if count > 0 && self.failures == u64::MAX {
+            return Err(AllocError);
+        }
+        self.taken.reserve(count)
+    }
+
+    fn write(&mut self, bytes: &[u8]) -> Result<usize, WriteError> {
+        if self.calls == 0 {
+            self.failures += 1;
+            return Err(WriteError);
+        }
+        self.calls -= 1;
+        let count = bytes.len().min(self.most.max(1));
+        let _ = self.taken.extend_from_slice(&bytes[..count]);
+        Ok(count)
+    }
+}
+
+// A text that fails once it was read so often.
+fn source(alloc: Global, bytes: &'static [u8], reads: usize) -> FileSource<TestFile> {
+    FileSource::new(
+        alloc,
+        TestFile {
+            bytes,
+            reads,
+            failure: ErrorKind::Other,
+        },
+    )
+}
+
+// A judgement over a history and a certificate that are read so often before they fail, and what the sink took.
+fn judged(alloc: Global, history: usize, certificate: usize, mut sink: TornSink) -> Outcome {
+    let mut history = source(alloc, HISTORY, history);
+    let mut certificate = source(alloc, CERTIFICATE, certificate);
+    Outcome {
+        result: judge(alloc, &mut history, &mut certificate, &mut sink),
+        failures: sink.failures,
+        taken: sink.taken,
+    }
+}
+
+#[derive(Drop)]
+struct Outcome {
+    result: Result<Verdict, JudgeFault>,
+    failures: u64,
+    taken: Vec<u8>,
+}
+
+impl Outcome {
+    // Whether the sink failed so often, and has taken this.
+    fn left(&self, failures: u64, taken: &[u8]) -> bool {
+        self.failures == failures && self.taken.as_slice() == taken
+    }
+}
+
+#[test]
+fn source_that_fails_is_named(rt: HostRuntime) {
+    for reads in 0..HISTORY_READS {
+        let ended = judged(rt.alloc(), reads, 0, TornSink::new(rt.alloc(), 1, 0));
+        assert!(rt;
+            matches!(ended.result, Err(JudgeFault::ReadHistory)),
+            "{reads}"
+        );
+        assert!(rt; ended.left(0, b""), "{reads}");
+    }
+    for reads in 0..CERTIFICATE_READS {
+        let ended = judged(rt.alloc(), WHOLE, reads, TornSink::new(rt.alloc(), 1, 0));
+        assert!(rt;
+            matches!(ended.result, Err(JudgeFault::ReadCertificate)),
+            "{reads}"
+        );
+        assert!(rt; ended.left(0, b""), "{reads}");
+    }
+}
+
+// Whether a sink that takes so many bytes a call has taken this beginning of the line when it fails.
+fn takes_beginning(alloc: Global, most: usize, calls: usize, beginning: &[u8]) -> bool {
+    let ended = judged(alloc, WHOLE, WHOLE, TornSink::new(alloc, most, calls));
+    matches!(ended.result, Err(JudgeFault::Write)) && ended.left(1, beginning)
+}
+
+#[test]
+fn sink_that_fails_has_taken_a_beginning(rt: HostRuntime) {
+    assert!(rt; takes_beginning(rt.alloc(), 1, 0, b""));
+    assert!(rt; takes_beginning(rt.alloc(), 1, 1, b"y"));
+    assert!(rt; takes_beginning(rt.alloc(), 1, 5, b"yes 1"));
+    assert!(rt; takes_beginning(rt.alloc(), 3, 0, b""));
+    assert!(rt; takes_beginning(rt.alloc(), 3, 1, b"yes"));
+    let ended = judged(rt.alloc(), WHOLE, WHOLE, TornSink::new(rt.alloc(), 3, 2));
+    assert!(rt; matches!(ended.result, Ok(Verdict::Yes(1))) && ended.left(0, b"yes 1\n"));
+}

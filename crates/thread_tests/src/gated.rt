@@ -1,0 +1,328 @@
+//! Two CPUs on threads of their own, one of which a gate holds up.
+
+ghost use Rattle.std.specs.Prelude.{◌≡◌, IsTrue, IfOk, IfSome};
+ghost use Rattle.rmm_spec.specs.Call.{call_of};
+ghost use Rattle.rmm_spec.specs.CommandText.{IsCommand};
+ghost use Rattle.command_core.specs.Served.{is_served};
+ghost use Rattle.event_queue.specs.View.{CanDrain};
+ghost use Rattle.monitor.specs.Cpus.{ArePairs};
+ghost use Rattle.monitor.specs.Executed.{ArePaired};
+
+use crate::monitored::{Answer, ok};
+use command_core::served;
+use granule_state::Config;
+use monitor::{CpuPass, CpuToken, Gate, History, Monitor, ScribePass, Site};
+use rmi_codec::read_command;
+use rmm_spec::{Command, Reply};
+use std::alloc::{AllocError, Global};
+use std::marker::Brand;
+use std::sync::Wait;
+use std::sync::atomic::{AtomicBool, Ordering};
+use std::sync::ledger::Blank;
+use std::test::Fail;
+use std::thread;
+use std::thread::Threads;
+
+/// How often a thread looks at most.
+const LOOKS: u64 = 1_000_000_000;
+
+/// How often a thread looks at what has to stay as it is.
+const STEADY_LOOKS: u64 = 1_000_000;
+
+/// Looks again and again, until the flag is set or it has looked often enough. Returns whether it was set.
+fn wait_for(flag: &AtomicBool) -> bool {
+    for _look in 0..LOOKS {
+        if flag.load(Ordering::SeqCst) {
+            return true;
+        }
+        thread::yield_now();
+    }
+    false
+}
+
+/// A gate that holds CPU 0 up until it is opened. It notes who came.
+#[derive(Drop)]
+struct Turnstile {
+    first_came: AtomicBool,
+    second_came: AtomicBool,
+    is_open: AtomicBool,
+    ran_out: AtomicBool,
+}
+
+impl Turnstile {
+    fn new() -> Turnstile {
+        Turnstile {
+            first_came: AtomicBool::new(false),
+            second_came: AtomicBool::new(false),
+            is_open: AtomicBool::new(false),
+            ran_out: AtomicBool::new(false),
+        }
+    }
+}
+
+impl Gate for Turnstile {
+    fn pass(&self, cpu: u8, _command: &Command) {
+        if cpu != 0 {
+            self.second_came.store(true, Ordering::SeqCst);
+            return;
+        }
+        self.first_came.store(true, Ordering::SeqCst);
+        if !wait_for(&self.is_open) {
+            self.ran_out.store(true, Ordering::SeqCst);
+        }
+    }
+}
+
+/// The command of a text, if it is a served one's.
+fn served_command(text: &str) -> Option<Command>
+    ensures command { IfSome result (λ command. IsCommand command) }
+    ensures served { IfSome result (λ command. IsTrue (is_served (call_of command))) }
+{
+    let command = read_command(text).ok()?;
+    if !served(&command) {
+        return None;
+    }
+    Some(command)
+}
+
+/// A CPU's token and pass.
+#[derive(Drop)]
+struct Cpu<S: Site> {
+    token: CpuToken<S>,
+    pass: CpuPass,
+}
+
+impl<S: Site> Cpu<S> {
+    /// What the CPU is answered to the command of a text, or nothing where the text isn't a served command's.
+    fn ask<R: Wait>(
+        mut self,
+        rt: &R,
+        alloc: Global,
+        monitor: &Monitor<S>,
+        gate: &Turnstile,
+        text: &str,
+    ) -> Option<Answer>
+        requires { ArePaired monitor.now self.token self.pass }
+    {
+        let command = served_command(text)?;
+        if self.pass.next_number() > 999_999 {
+            return None;
+        }
+        Some(monitor.execute(rt, alloc, &mut self.token, &mut self.pass, gate, command))
+    }
+
+    /// The same once CPU 0 is held up.
+    fn ask_second<R: Wait>(
+        self,
+        rt: &R,
+        alloc: Global,
+        monitor: &Monitor<S>,
+        gate: &Turnstile,
+        text: &str,
+        answered: &AtomicBool,
+    ) -> Option<Answer>
+        requires { ArePaired monitor.now self.token self.pass }
+    {
+        if !wait_for(&gate.first_came) {
+            return None;
+        }
+        let answer = self.ask(rt, alloc, monitor, gate, text);
+        answered.store(true, Ordering::SeqCst);
+        answer
+    }
+}
+
+/// The CPU of the last token and the last pass.
+fn last_cpu<S: Site>(
+    monitor: &Monitor<S>,
+    tokens: &mut Vec<CpuToken<S>>,
+    passes: &mut Vec<CpuPass>,
+) -> Result<Cpu<S>, Fail>
+    requires { ArePairs monitor.now tokens.old.items passes.old.items }
+    ensures { IfOk result (λ cpu. ArePaired monitor.now cpu.token cpu.pass × ArePairs monitor.now tokens.new.items passes.new.items) }
+{
+    let token = tokens.pop().ok_or("a token")?;
+    let pass = passes.pop().ok_or("a pass")?;
+    Ok(Cpu { token, pass })
+}
+
+/// Both CPUs on threads of their own: CPU 0 delegates granule 1000, and CPU 1 is asked once CPU 0 is held up.
+fn ask_both<S: Site + Send + Sync, R: Threads + Wait + Sync>(
+    rt: &R,
+    alloc: Global,
+    monitor: &Monitor<S>,
+    gate: &Turnstile,
+    first: Cpu<S>,
+    second: Cpu<S>,
+    text: &str,
+    answered: &AtomicBool,
+) -> (Option<Answer>, Option<Answer>)
+    requires first { ArePaired monitor.now first.token first.pass }
+    requires second { ArePaired monitor.now second.token second.pass }
+{
+    thread::join(
+        rt,
+        || -> Option<Answer>
+            requires { ArePaired monitor.now first.token first.pass }
+        { first.ask(rt, alloc, monitor, gate, "c4000151 1000") },
+        || -> Option<Answer>
+            requires { ArePaired monitor.now second.token second.pass }
+        { second.ask_second(rt, alloc, monitor, gate, text, answered) },
+    )
+}
+
+/// CPU 0 delegates a granule and is held up until CPU 1 has been answered, which delegates another. Returns both answers,
+/// and whether CPU 0 gave up waiting.
+fn delegate_apart<S: Site + Send + Sync, R: Threads + Wait + Sync>(
+    rt: &R,
+    alloc: Global,
+    blank: Blank,
+    config: Config,
+) -> Result<(Option<Answer>, Option<Answer>, bool), Fail>
+    requires name { blank.name ≡ S.name }
+    requires parts { blank.parts ≡ S.parts }
+    requires one_each { blank.parts ≡ config.cpus }
+    requires granules { config.granules ≡ S.granules }
+{
+    let (monitor, mut tokens, mut passes, _scribe) = Monitor::<S>::new(alloc, blank, config, 16)?;
+    let second = last_cpu(&monitor, &mut tokens, &mut passes)?;
+    let first = last_cpu(&monitor, &mut tokens, &mut passes)?;
+    let gate = Turnstile::new();
+    let (first, second) = ask_both(
+        rt,
+        alloc,
+        &monitor,
+        &gate,
+        first,
+        second,
+        "c4000151 2000",
+        &gate.is_open,
+    );
+    Ok((first, second, gate.ran_out.load(Ordering::SeqCst)))
+}
+
+/// Whether the command was executed to its end, with this reply.
+fn is_answered(answer: &Option<Answer>, reply: &Reply) -> bool {
+    match answer {
+        Some(Ok(done)) => done.reply == *reply,
+        _ => false,
+    }
+}
+
+#[test]
+fn two_commands_under_way(rt: HostRuntime) -> Result<(), Fail> {
+    let config = Config::new(4, 2).ok_or("a machine of this size")?;
+    let (first, second, ran_out) = delegate_apart::<Brand, _>(
+        &rt,
+        rt.alloc(),
+        Blank::new(2),
+        config,
+    )?;
+    assert!(rt; is_answered(&first, &ok()) && is_answered(&second, &ok()) && !ran_out);
+    Ok(())
+}
+
+/// Drains again and again, until CPU 1's call is in the history or it has drained often enough. Returns whether the call is.
+fn drain_second<S: Site, R: Wait>(
+    rt: &R,
+    monitor: &Monitor<S>,
+    mut scribe: ScribePass,
+    mut history: History,
+) -> Result<bool, AllocError>
+    requires { CanDrain monitor.now.queue scribe history.recorded }
+{
+    for _look in 0..LOOKS {
+        monitor.drain(rt, &mut scribe, &mut history)?;
+        if history.call_of(1, 0).is_some() {
+            return Ok(true);
+        }
+        thread::yield_now();
+    }
+    Ok(false)
+}
+
+/// Whether CPU 1 has neither passed the gate nor been answered at any of many looks.
+fn stays_out(gate: &Turnstile, answered: &AtomicBool) -> bool {
+    for look in 0..STEADY_LOOKS {
+        if gate.second_came.load(Ordering::SeqCst) || answered.load(Ordering::SeqCst) {
+            return false;
+        }
+        if look % 1000 == 0 {
+            thread::yield_now();
+        }
+    }
+    true
+}
+
+/// Opens the gate after CPU 1 has called and was looked at. Returns whether it called and stayed out.
+fn open_late<S: Site, R: Wait>(
+    rt: &R,
+    monitor: &Monitor<S>,
+    scribe: ScribePass,
+    history: History,
+    gate: &Turnstile,
+    answered: &AtomicBool,
+) -> Result<bool, AllocError>
+    requires { CanDrain monitor.now.queue scribe history.recorded }
+{
+    let has_called = drain_second(rt, monitor, scribe, history);
+    let is_out = stays_out(gate, answered);
+    gate.is_open.store(true, Ordering::SeqCst);
+    Ok(has_called? && is_out)
+}
+
+/// CPU 0 delegates a granule and is held up with the granule locked, while CPU 1 calls to delegate the same one. Returns both
+/// answers, and whether CPU 1 stayed out until CPU 0 could go on.
+fn delegate_same<S: Site + Send + Sync, R: Threads + Wait + Sync>(
+    rt: &R,
+    alloc: Global,
+    blank: Blank,
+    config: Config,
+) -> Result<(Option<Answer>, Option<Answer>, bool), Fail>
+    requires name { blank.name ≡ S.name }
+    requires parts { blank.parts ≡ S.parts }
+    requires one_each { blank.parts ≡ config.cpus }
+    requires granules { config.granules ≡ S.granules }
+{
+    let (monitor, mut tokens, mut passes, scribe) = Monitor::<S>::new(alloc, blank, config, 16)?;
+    let second = last_cpu(&monitor, &mut tokens, &mut passes)?;
+    let first = last_cpu(&monitor, &mut tokens, &mut passes)?;
+    let history = History::new(alloc, config);
+    let (gate, answered) = (Turnstile::new(), AtomicBool::new(false));
+    let ((first, second), stayed_out) = thread::join(
+        rt,
+        || -> (Option<Answer>, Option<Answer>)
+            requires { ArePaired monitor first.token first.pass × ArePaired monitor second.token second.pass }
+        {
+            ask_both(
+                rt,
+                alloc,
+                &monitor,
+                &gate,
+                first,
+                second,
+                "c4000151 1000",
+                &answered,
+            )
+        },
+        || -> Result<bool, AllocError>
+            requires { CanDrain monitor.queue scribe history.recorded }
+        { open_late(rt, &monitor, scribe, history, &gate, &answered) },
+    );
+    let ran_out = gate.ran_out.load(Ordering::SeqCst);
+    Ok((first, second, stayed_out? && !ran_out))
+}
+
+#[test]
+fn holder_keeps_others_out(rt: HostRuntime) -> Result<(), Fail> {
+    let config = Config::new(4, 2).ok_or("a machine of this size")?;
+    let (first, second, stayed_out) = delegate_same::<Brand, _>(
+        &rt,
+        rt.alloc(),
+        Blank::new(2),
+        config,
+    )?;
+    assert!(rt; is_answered(&first, &ok()) && is_answered(&second, &Reply::Err(1, 0)));
+    assert!(rt; stayed_out);
+    Ok(())
+}

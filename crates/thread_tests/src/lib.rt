@@ -1,0 +1,11 @@
+//! Nothing but tests, of the monitor.
+//! Expected lines come from outside, worked out by hand from the profile.
+//! `monitored` runs it on one thread, with stated answers; `gated` on two, one of which a gate holds up.
+//! That two commands are under way at once, and that a holder keeps others out, no clause says.
+//! Nothing depends on it.
+#![tactic(auto)]
+
+#[cfg(test)]
+mod gated;
+#[cfg(test)]
+mod monitored;

@@ -1,0 +1,188 @@
+//! Worlds that turn, with the texts of their runs.
+//! A step of a script is a CPU and what its next turn reports: `c` that it called, `t` took, `k` committed, `f` freed, `r`
+//! returned, `s` stopped, as it was told, `i` that it idled, or the number of the granule by which it was blocked. With a
+//! number behind it, the CPU goes on until it has reported that so often.
+
+use granule_state::Config;
+use rmi_codec::read_command;
+use rmm_spec::Command;
+use std::alloc::Global;
+use std::process::Abort;
+use std::test::Fail;
+use world::{Kind, Turned, Will, World, can_open};
+
+// A command a line.
+fn program(alloc: Global, text: &str) -> Result<Vec<Command>, Fail> {
+    let mut commands = Vec::new(alloc);
+    for line in text.lines() {
+        commands.push(read_command(line)?)?;
+    }
+    Ok(commands)
+}
+
+fn opened(alloc: Global, config: &Config, programs: Vec<Vec<Command>>) -> Result<World, Fail> {
+    if !can_open(config, &programs) {
+        return Err(Fail::from("the programs can't be opened"));
+    }
+    Ok(World::new(alloc, config, programs)?)
+}
+
+fn two_cpus(alloc: Global, granules: u64, first: &str, second: &str) -> Result<World, Fail> {
+    let config = Config::new(granules, 2).ok_or("no such machine")?;
+    let mut programs = Vec::new(alloc);
+    programs.push(program(alloc, first)?)?;
+    programs.push(program(alloc, second)?)?;
+    opened(alloc, &config, programs)
+}
+
+fn letter_of(kind: Kind) -> u8 {
+    match kind {
+        Kind::Call => b'c',
+        Kind::Take => b't',
+        Kind::Free => b'f',
+        Kind::Commit => b'k',
+        Kind::GiveUp => b'g',
+        Kind::Return => b'r',
+        Kind::Stop => b's',
+    }
+}
+
+// One turn, and what it reports.
+fn turn(world: &mut World, alloc: Global, cpu: u8, will: Will) -> Result<u8, Fail> {
+    if cpu >= world.config().cpus() {
+        return Err(Fail::from("no such CPU"));
+    }
+    Ok(match world.turn(alloc, cpu, will)? {
+        Turned::Did(kind) => letter_of(kind),
+        Turned::Blocked(granule) => b"0123456789abcdef"[(granule.address() >> 12) as usize % 16],
+        Turned::Idle => b'i',
+    })
+}
+
+// Lets a CPU go on until it has reported this so often, in at most so many turns.
+fn go_until(
+    world: &mut World,
+    alloc: Global,
+    cpu: u8,
+    report: u8,
+    times: u8,
+    turns: u8,
+) -> Result<(), Fail> {
+    let will = if report == b's' { Will::Stop } else { Will::Go };
+    let mut left = times;
+    for _turn in 0..turns {
+        if turn(world, alloc, cpu, will)? == report {
+            left = left.saturating_sub(1);
+        }
+        if left == 0 {
+            return Ok(());
+        }
+    }
+    Err(Fail::from("the CPU doesn't come so far"))
+}
+
+fn play(world: &mut World, alloc: Global, script: &str) -> Result<(), Fail> {
+    for step in script.split(' ') {
+        match *step.as_bytes() {
+            [cpu, report] => go_until(world, alloc, cpu.wrapping_sub(b'0'), report, 1, 1)?,
+            [cpu, report, times] => go_until(
+                world,
+                alloc,
+                cpu.wrapping_sub(b'0'),
+                report,
+                times.wrapping_sub(b'0'),
+                200,
+            )?,
+            _ => return Err(Fail::from("no step")),
+        }
+    }
+    Ok(())
+}
+
+// The world plays the script, and has these texts then.
+fn expect_run<R: Abort + AllocGlobal>(
+    rt: &R,
+    mut world: World,
+    script: &str,
+    history: &str,
+    certificate: &str,
+) -> Result<(), Fail> {
+    let alloc = rt.alloc();
+    play(&mut world, alloc, script)?;
+    let mut events = Vec::new(alloc);
+    history::write(&world.history(alloc)?, &mut events)?;
+    let mut lines = Vec::new(alloc);
+    certificate::write(&world.certificate(alloc)?, &mut lines)?;
+    assert!(rt;
+        events.as_slice() == history.as_bytes() && lines.as_slice() == certificate.as_bytes()
+    );
+    Ok(())
+}
+
+#[test]
+fn two_cpus_one_granule(rt: HostRuntime) -> Result<(), Fail> {
+    let world = two_cpus(rt.alloc(), 4, "c4000151 1000\n", "c4000151 1000\n")?;
+    expect_run(
+        &rt,
+        world,
+        "0c 1c 0t 11 0k 11 0f 1t 0r 1k 0i 1f 0i 1r 0i 1i",
+        "rmh1 4 2\nc 0 0 c4000151 1000\nc 1 0 c4000151 1000\nr 0 0 ok\nr 1 0 err 1 0\n",
+        "k 0 0\nk 1 0\n",
+    )
+}
+
+#[test]
+fn stopped_with_a_lock(rt: HostRuntime) -> Result<(), Fail> {
+    let world = two_cpus(rt.alloc(), 4, "c4000151 1000\n", "c4000151 1000\n")?;
+    expect_run(
+        &rt,
+        world,
+        "0k1 0s 0i 1c 0i 11 0i 11",
+        "rmh1 4 2\nc 0 0 c4000151 1000\nc 1 0 c4000151 1000\n",
+        "u 0 0 ok\n",
+    )
+}
+
+#[test]
+fn destroyed_between_an_enters_takes(rt: HostRuntime) -> Result<(), Fail> {
+    let first = "c4000151 1000\nc4000151 2000\nc4000151 5000\nc4000151 6000\nc4000151 7000\n\
+        c4000158 1000 2000 27 1 1 0\nc400015a 1000 5000 0 1 6000 7000\nc4000157 1000\nc400015c 5000\n";
+    let world = two_cpus(rt.alloc(), 16, first, "c400015b 5000\n")?;
+    expect_run(
+        &rt,
+        world,
+        "0c9 0f1 1r1 0r1",
+        "rmh1 16 2\nc 0 0 c4000151 1000\nr 0 0 ok\nc 0 1 c4000151 2000\nr 0 1 ok\n\
+        c 0 2 c4000151 5000\nr 0 2 ok\nc 0 3 c4000151 6000\nr 0 3 ok\nc 0 4 c4000151 7000\nr 0 4 ok\n\
+        c 0 5 c4000158 1000 2000 27 1 1 0\nr 0 5 ok\nc 0 6 c400015a 1000 5000 0 1 6000 7000\nr 0 6 ok\n\
+        c 0 7 c4000157 1000\nr 0 7 ok\nc 0 8 c400015c 5000\nc 1 0 c400015b 5000\nr 1 0 ok\nr 0 8 err 1 0\n",
+        "k 0 0\nk 0 1\nk 0 2\nk 0 3\nk 0 4\nk 0 5\nk 0 6\nk 0 7\nk 1 0\nk 0 8\n",
+    )
+}
+
+#[test]
+fn realms_created_crosswise(rt: HostRuntime) -> Result<(), Fail> {
+    let first = "c4000151 1000\nc4000151 2000\nc4000158 1000 2000 27 1 1 0\n";
+    let world = two_cpus(rt.alloc(), 4, first, "c4000158 2000 1000 27 1 2 0\n")?;
+    expect_run(
+        &rt,
+        world,
+        "0c3 0t1 1c 11 0r1 1r1",
+        "rmh1 4 2\nc 0 0 c4000151 1000\nr 0 0 ok\nc 0 1 c4000151 2000\nr 0 1 ok\n\
+        c 0 2 c4000158 1000 2000 27 1 1 0\nc 1 0 c4000158 2000 1000 27 1 2 0\nr 0 2 ok\nr 1 0 err 1 0\n",
+        "k 0 0\nk 0 1\nk 0 2\nk 1 0\n",
+    )
+}
+
+#[test]
+fn opens_a_program_a_cpu(rt: HostRuntime) -> Result<(), Fail> {
+    let config = Config::new(4, 2).ok_or("no such machine")?;
+    let mut programs = Vec::new(rt.alloc());
+    programs.push(program(rt.alloc(), "c4000151 1000\nc4000152 1000\n")?)?;
+    assert!(rt; !can_open(&config, &programs));
+    programs.push(Vec::new(rt.alloc()))?;
+    let world = opened(rt.alloc(), &config, programs)?;
+    assert!(rt; world.history(rt.alloc())?.is_empty() && world.certificate(rt.alloc())?.is_empty());
+    assert!(rt; world.config().cpus() > 0 && world.waits(0).is_none());
+    Ok(())
+}
