@@ -1,0 +1,84 @@
+//! A run of a monitor, and what it leaves: a history and a certificate.
+
+ghost use Rattle.std.specs.Prelude.{◌≡◌, ◌≤◌, All, IfOk};
+ghost use Rattle.event_queue.specs.View.{CanDrain};
+ghost use Rattle.monitor.specs.Executed.{ArePaired};
+
+use crate::monitors::cpu::Cpu;
+use crate::monitors::cpus::{paired, parted, work_all};
+use crate::monitors::job::Job;
+use anyhow::{Result, bail};
+use granule_state::Config;
+use monitor::{Certificate, History, Monitor, ScribePass, Site, fit_a_history};
+use std::alloc::{AllocError, Global};
+use std::sync::Wait;
+use std::sync::atomic::{AtomicBool, Ordering};
+use std::sync::ledger::Blank;
+use std::thread;
+use std::thread::Threads;
+
+/// Runs a monitor of this size: each CPU executes its job on a thread, while the scribe drains. At the end the monitor is closed.
+pub(crate) fn recorded<S: Site + Send + Sync, R: Threads + Wait + Sync>(
+    rt: &R,
+    alloc: Global,
+    blank: Blank,
+    config: Config,
+    capacity: usize,
+    jobs: &[Job],
+) -> Result<(History, Certificate)>
+    requires name { blank.name ≡ S.name }
+    requires parts { blank.parts ≡ S.parts }
+    requires one_each { blank.parts ≡ config.cpus }
+    requires granules { config.granules ≡ S.granules }
+    requires capacity { (1 ≤ capacity) × (capacity ≤ 65536) }
+{
+    let (monitor, tokens, passes, scribe) = Monitor::<S>::new(alloc, blank, config, capacity)?;
+    let cpus = paired(alloc, &monitor, tokens, passes)?;
+    let history = History::new(alloc, config);
+    let have_ended = AtomicBool::new(false);
+    let (cpus, drained) = thread::join(
+        rt,
+        || -> Vec<Cpu<S>>
+            requires { All (λ cpu. ArePaired monitor cpu.token cpu.pass) cpus.items }
+            ensures { All (λ cpu. ArePaired monitor cpu.token cpu.pass) result.items }
+        {
+            let cpus = work_all(rt, alloc, &monitor, None, jobs, cpus);
+            have_ended.store(true, Ordering::SeqCst);
+            cpus
+        },
+        || -> Result<(ScribePass, History), AllocError>
+            requires { CanDrain monitor.queue scribe history.recorded × (history.recorded.config ≡ monitor.config) }
+            ensures { IfOk result (λ drained. CanDrain monitor.queue drained.0 drained.1.recorded
+                × (drained.1.recorded.config ≡ monitor.config)) }
+        { drained(rt, &monitor, scribe, history, &have_ended) },
+    );
+    let (scribe, history) = drained?;
+    let (tokens, passes) = parted(alloc, &monitor, cpus)?;
+    if !fit_a_history(passes.as_slice()) {
+        bail!("more events than a history has");
+    }
+    Ok(monitor.close(rt, alloc, tokens, passes, scribe, history)?)
+}
+
+// Drains until the CPUs have ended.
+fn drained<S: Site, R: Wait>(
+    rt: &R,
+    monitor: &Monitor<S>,
+    mut scribe: ScribePass,
+    mut history: History,
+    have_ended: &AtomicBool,
+) -> Result<(ScribePass, History), AllocError>
+    requires { CanDrain monitor.now.queue scribe history.recorded }
+    ensures queue { IfOk result (λ drained. CanDrain monitor.now.queue drained.0 drained.1.recorded) }
+    ensures config { IfOk result (λ drained. drained.1.recorded.config ≡ history.recorded.config) }
+{
+    for _look in rt.forever() {
+        if have_ended.load(Ordering::SeqCst) {
+            break;
+        }
+        if monitor.drain(rt, &mut scribe, &mut history)? == 0 {
+            thread::yield_now();
+        }
+    }
+    Ok((scribe, history))
+}
