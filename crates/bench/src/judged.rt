@@ -1,11 +1,12 @@
 //! What came out of a run: the verdict on its two texts, and its replies.
 
-use anyhow::Result;
 use certificate::Certificate;
 use checker::{Verdict, check, verdict_text};
 use history::History;
 use rmi_view::ReplyRef;
-use std::alloc::Global;
+use std::alloc::{AllocError, Global};
+use std::io;
+use std::io::Write;
 
 /// Whether the verdict on a run's two texts is `yes`. Another is printed, with the seed of the run.
 pub(crate) fn is_yes(
@@ -14,24 +15,28 @@ pub(crate) fn is_yes(
     seed: u64,
     history: &History,
     certificate: &Certificate,
-) -> Result<bool> {
+) -> io::Result<bool> {
     let verdict = verdict(alloc, history, certificate)?;
     if let Verdict::Yes(_) = verdict {
         return Ok(true);
     }
     let mut line = Vec::new(alloc);
     verdict_text(&verdict, &mut line)?;
-    let line = String::from_utf8(line)?;
-    print!(rt; "seed {seed}: {line}")?;
+    print!(rt; "seed {seed}: ")?;
+    io::writer(rt).write_all(line.as_slice())?;
     Ok(false)
 }
 
-fn verdict(alloc: Global, history: &History, certificate: &Certificate) -> Result<Verdict> {
+fn verdict(
+    alloc: Global,
+    history: &History,
+    certificate: &Certificate,
+) -> Result<Verdict, AllocError> {
     let mut events = Vec::new(alloc);
     history::write(history, &mut events)?;
     let mut lines = Vec::new(alloc);
     certificate::write(certificate, &mut lines)?;
-    Ok(check(alloc, events.as_slice(), lines.as_slice())?)
+    check(alloc, events.as_slice(), lines.as_slice())
 }
 
 /// How many replies a run has, and how many of them are `ok`.

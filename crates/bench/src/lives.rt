@@ -57,25 +57,37 @@ impl Life {
     pub(crate) fn next(&mut self) -> Command {
         let step = self.step;
         self.step = if step < 20 { step + 1 } else { 0 };
-        let rd = self.granule(0);
-        let rec = self.granule(2);
         match step {
             0..5 => command(FunctionId::GranuleDelegate, &[self.granule(step)]),
-            5 => {
-                let words = [rd, self.granule(1), 0x27, 1, self.vmid, 0];
-                command(FunctionId::RealmCreate, &words)
-            }
-            6 => {
-                let words = [rd, rec, 0, 1, self.granule(3), self.granule(4)];
-                command(FunctionId::RecCreate, &words)
-            }
+            16..21 => command(FunctionId::GranuleUndelegate, &[self.granule(step - 16)]),
+            5 | 6 => self.made(step == 6),
+            _ => self.between(step),
+        }
+    }
+
+    // The realm or the REC is made.
+    fn made(self, is_rec: bool) -> Command {
+        let (rd, second) = (self.granule(0), self.granule(1));
+        if !is_rec {
+            return command(
+                FunctionId::RealmCreate,
+                &[rd, second, 0x27, 1, self.vmid, 0],
+            );
+        }
+        let words = [rd, self.granule(2), 0, 1, self.granule(3), self.granule(4)];
+        command(FunctionId::RecCreate, &words)
+    }
+
+    // What comes once both are made, until they are destroyed.
+    fn between(self, step: u8) -> Command {
+        let (rd, rec) = (self.granule(0), self.granule(2));
+        match step {
             7 => command(FunctionId::RealmActivate, &[rd]),
             8 | 11 => command(FunctionId::RecEnter, &[rec]),
             9 => command(FunctionId::HostCall, &[1]),
             12 => command(FunctionId::RealmConfig, &[]),
             14 => command(FunctionId::RecDestroy, &[rec]),
             15 => command(FunctionId::RealmDestroy, &[rd]),
-            16..21 => command(FunctionId::GranuleUndelegate, &[self.granule(step - 16)]),
             _ => command(FunctionId::Exit, &[]),
         }
     }

@@ -15,9 +15,8 @@ mod walks;
 mod worlds;
 
 use anyhow::{Context, Result, bail};
-use std::alloc::Global;
+use std::alloc::{AllocError, Global};
 use std::env;
-use std::rt::Env;
 use std::sync::Wait;
 use std::thread::Threads;
 use std::time::Clock;
@@ -32,33 +31,37 @@ const GATE: [&str; 5] = [
 ];
 
 fn main(rt: HostRuntime) -> Result<()> {
-    let line = given_line(&rt)?;
-    match line.as_str() {
-        " gate" => run_gate(&rt, rt.alloc()),
-        line => run(&rt, rt.alloc(), line),
+    let given: Vec<String> = env::args(&rt)?.collect(rt.alloc())?;
+    let words = texts(rt.alloc(), given.as_slice())?;
+    match words.as_slice() {
+        [_, "gate"] => run_gate(&rt, rt.alloc()),
+        [_, words @ ..] => run(&rt, rt.alloc(), words),
+        [] => run(&rt, rt.alloc(), &[]),
     }
 }
 
-// The words behind the program's name, each with a space before it.
-fn given_line<R: Env + AllocGlobal>(rt: &R) -> Result<String> {
-    let mut line = String::new(rt.alloc());
-    for word in env::args(rt)?.skip(1) {
-        line.push(' ')?;
-        line.push_str(word.as_str())?;
+fn texts<'a>(alloc: Global, words: &'a [String]) -> Result<Vec<&'a str>, AllocError> {
+    let mut texts = Vec::new(alloc);
+    for word in words {
+        texts.push(word.as_str())?;
     }
-    Ok(line)
+    Ok(texts)
 }
 
 fn run_gate<R: Print + Threads + Wait + Clock + Sync>(rt: &R, alloc: Global) -> Result<()> {
     for line in GATE {
-        run(rt, alloc, line)?;
+        let words: Vec<&str> = line.split(' ').collect(alloc)?;
+        run(rt, alloc, words.as_slice())?;
     }
     Ok(())
 }
 
-fn run<R: Print + Threads + Wait + Clock + Sync>(rt: &R, alloc: Global, line: &str) -> Result<()> {
-    let words: Vec<&str> = line.split_whitespace().collect(alloc)?;
-    match words.as_slice() {
+fn run<R: Print + Threads + Wait + Clock + Sync>(
+    rt: &R,
+    alloc: Global,
+    words: &[&str],
+) -> Result<()> {
+    match words {
         ["measure", kind, count] => measures::extend(rt, kind, number(count)?),
         ["walk", rounds] => walks::walk_all(rt, alloc, number(rounds)?),
         ["queue", kind, producers, rounds] => {

@@ -6,6 +6,7 @@ mod job;
 mod random;
 mod recorded;
 mod runs;
+mod started;
 mod timed;
 
 use anyhow::{Result, bail};

@@ -6,8 +6,6 @@ mod queued;
 use crate::timing::Timing;
 use anyhow::{Context, Result, bail};
 use granule_state::Config;
-use rmi_codec::{read_command, read_reply};
-use rmm_spec::{Command, Reply};
 use std::alloc::Global;
 use std::sync::Wait;
 use std::thread::Threads;
@@ -15,6 +13,11 @@ use std::time::Clock;
 
 /// How many events a queue holds: more than there are in a round.
 const CAPACITY: usize = 65536;
+
+/// What each producer calls, and how that returns.
+const CALL: &str = "c4000151 1000";
+
+const REPLY: &str = "ok";
 
 /// How often a producer calls and returns in a round.
 const CALLS: u32 = 8000;
@@ -44,11 +47,4 @@ pub(crate) fn time_rounds<R: Print + Threads + Wait + Clock + Sync>(
     }
     timing.print(rt)?;
     Ok(())
-}
-
-// The call and the return of which each producer records many.
-fn call_and_return() -> Option<(Command, Reply)> {
-    let command = read_command("c4000151 1000").ok()?;
-    let reply = read_reply("ok").ok()?;
-    Some((command, reply))
 }

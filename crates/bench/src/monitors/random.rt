@@ -30,12 +30,7 @@ pub(crate) fn drawn_jobs(
     let mut jobs = Vec::new(alloc);
     for cpu in 0..CPUS {
         let program = drawn_program(alloc, cpu, commands, random)?;
-        let stop = if with_stop && cpu == stopped {
-            Some(program.len() / 2)
-        } else {
-            None
-        };
-        jobs.push(Job { program, stop })?;
+        jobs.push(Job::new(program, with_stop && cpu == stopped))?;
     }
     Ok(jobs)
 }
@@ -109,7 +104,7 @@ fn below(random: &mut Xoshiro256PlusPlus, limit: u64) -> u64
 }
 
 /// One of so many cases, from 0 on.
-pub(crate) fn case(random: &mut Xoshiro256PlusPlus, cases: i32) -> i32
+pub(crate) fn case(random: &mut Xoshiro256PlusPlus, cases: u32) -> u32
     requires { 0 < cases }
 {
     random.random_range(0..cases)

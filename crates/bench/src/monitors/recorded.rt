@@ -5,8 +5,9 @@ ghost use Rattle.event_queue.specs.View.{CanDrain};
 ghost use Rattle.monitor.specs.Executed.{ArePaired};
 
 use crate::monitors::cpu::Cpu;
-use crate::monitors::cpus::{paired, parted, work_all};
+use crate::monitors::cpus::{parted, work_all};
 use crate::monitors::job::Job;
+use crate::monitors::started::started;
 use anyhow::{Result, bail};
 use granule_state::Config;
 use monitor::{Certificate, History, Monitor, ScribePass, Site, fit_a_history};
@@ -32,32 +33,51 @@ pub(crate) fn recorded<S: Site + Send + Sync, R: Threads + Wait + Sync>(
     requires granules { config.granules ≡ S.granules }
     requires capacity { (1 ≤ capacity) × (capacity ≤ 65536) }
 {
-    let (monitor, tokens, passes, scribe) = Monitor::<S>::new(alloc, blank, config, capacity)?;
-    let cpus = paired(alloc, &monitor, tokens, passes)?;
+    let (monitor, cpus, scribe) = started::<S>(alloc, blank, config, capacity)?;
     let history = History::new(alloc, config);
-    let have_ended = AtomicBool::new(false);
-    let (cpus, drained) = thread::join(
-        rt,
-        || -> Vec<Cpu<S>>
-            requires { All (λ cpu. ArePaired monitor cpu.token cpu.pass) cpus.items }
-            ensures { All (λ cpu. ArePaired monitor cpu.token cpu.pass) result.items }
-        {
-            let cpus = work_all(rt, alloc, &monitor, None, jobs, cpus);
-            have_ended.store(true, Ordering::SeqCst);
-            cpus
-        },
-        || -> Result<(ScribePass, History), AllocError>
-            requires { CanDrain monitor.queue scribe history.recorded × (history.recorded.config ≡ monitor.config) }
-            ensures { IfOk result (λ drained. CanDrain monitor.queue drained.0 drained.1.recorded
-                × (drained.1.recorded.config ≡ monitor.config)) }
-        { drained(rt, &monitor, scribe, history, &have_ended) },
-    );
-    let (scribe, history) = drained?;
+    let (cpus, scribe, history) = worked(rt, alloc, &monitor, jobs, cpus, scribe, history)?;
     let (tokens, passes) = parted(alloc, &monitor, cpus)?;
     if !fit_a_history(passes.as_slice()) {
         bail!("more events than a history has");
     }
     Ok(monitor.close(rt, alloc, tokens, passes, scribe, history)?)
+}
+
+// Each CPU executes its job on a thread, beside one that drains.
+fn worked<S: Site + Send + Sync, R: Threads + Wait + Sync>(
+    rt: &R,
+    alloc: Global,
+    monitor: &Monitor<S>,
+    jobs: &[Job],
+    cpus: Vec<Cpu<S>>,
+    scribe: ScribePass,
+    history: History,
+) -> Result<(Vec<Cpu<S>>, ScribePass, History), AllocError>
+    requires cpus { All (λ cpu. ArePaired monitor.now cpu.token cpu.pass) cpus.items }
+    requires scribe { CanDrain monitor.now.queue scribe history.recorded }
+    ensures cpus { IfOk result (λ left. All (λ cpu. ArePaired monitor.now cpu.token cpu.pass) left.0.items) }
+    ensures queue { IfOk result (λ left. CanDrain monitor.now.queue left.1 left.2.recorded) }
+    ensures config { IfOk result (λ left. left.2.recorded.config ≡ history.recorded.config) }
+{
+    let have_ended = AtomicBool::new(false);
+    let (cpus, drained) = thread::join(
+        rt,
+        || -> Vec<Cpu<S>>
+            requires { All (λ cpu. ArePaired monitor.now cpu.token cpu.pass) cpus.items }
+            ensures { All (λ cpu. ArePaired monitor.entry.now cpu.token cpu.pass) result.items }
+        {
+            let cpus = work_all(rt, alloc, monitor, None, jobs, cpus);
+            have_ended.store(true, Ordering::SeqCst);
+            cpus
+        },
+        || -> Result<(ScribePass, History), AllocError>
+            requires { CanDrain monitor.now.queue scribe history.recorded }
+            ensures { IfOk result (λ drained. CanDrain monitor.entry.now.queue drained.0 drained.1.recorded
+                × (drained.1.recorded.config ≡ history.recorded.config)) }
+        { drained(rt, monitor, scribe, history, &have_ended) },
+    );
+    let (scribe, history) = drained?;
+    Ok((cpus, scribe, history))
 }
 
 // Drains until the CPUs have ended.

@@ -3,12 +3,13 @@
 ghost use Rattle.std.specs.Prelude.{◌≡◌};
 
 use crate::lives::Life;
-use crate::monitors::cpus::{paired, work_all};
+use crate::monitors::cpus::work_all;
 use crate::monitors::job::Job;
+use crate::monitors::started::started;
 use crate::timing::Timing;
 use anyhow::{Context, Result, bail};
 use granule_state::Config;
-use monitor::{Monitor, Site};
+use monitor::Site;
 use std::alloc::{AllocError, Global};
 use std::marker::Brand;
 use std::sync::ledger::Blank;
@@ -75,8 +76,7 @@ fn round<S: Site + Send + Sync, R: Threads + Wait + Clock + Sync>(
     requires one_each { blank.parts ≡ config.cpus }
     requires granules { config.granules ≡ S.granules }
 {
-    let (monitor, tokens, passes, _scribe) = Monitor::<S>::new(alloc, blank, config, CAPACITY)?;
-    let cpus = paired(alloc, &monitor, tokens, passes)?;
+    let (monitor, cpus, _scribe) = started::<S>(alloc, blank, config, CAPACITY)?;
     let jobs = fixed_jobs(alloc, kind.is_shared)?;
     let one = Mutex::new(());
     let lock = if kind.is_locked { Some(&one) } else { None };
@@ -97,10 +97,7 @@ fn fixed_jobs(alloc: Global, is_shared: bool) -> Result<Vec<Job>, AllocError> {
         let place = if is_shared { 0 } else { cpu };
         let mut program = Vec::new(alloc);
         Life::new(place, place).push_next(&mut program, COMMANDS)?;
-        jobs.push(Job {
-            program,
-            stop: None,
-        })?;
+        jobs.push(Job::new(program, false))?;
     }
     Ok(jobs)
 }

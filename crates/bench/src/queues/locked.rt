@@ -2,25 +2,25 @@
 
 ghost use Rattle.std.specs.Prelude.{◌<◌};
 
-use crate::queues::{CALLS, CAPACITY, call_and_return};
+use crate::queues::{CALL, CALLS, CAPACITY, REPLY};
 use crate::timing::Timing;
-use anyhow::Result;
 use granule_state::Config;
 use history::{Event, History};
+use rmi_codec::{read_command, read_reply};
 use std::alloc::{AllocError, Global};
 use std::collections::VecDeque;
 use std::sync::atomic::{AtomicBool, Ordering};
 use std::sync::{Mutex, Wait};
-use std::thread;
 use std::thread::Threads;
 use std::time::{Clock, Instant};
+use std::{io, thread};
 
 /// How many events came into the history, and in what time.
 pub(crate) fn round<R: Threads + Wait + Clock + Sync>(
     rt: &R,
     alloc: Global,
     config: Config,
-) -> Result<Timing> {
+) -> io::Result<Timing> {
     let history = History::new(alloc, config);
     let mut cpus = Vec::new(alloc);
     for cpu in 0..config.cpus() {
@@ -69,7 +69,7 @@ fn record_all<R: Wait>(rt: &R, queue: &Mutex<VecDeque<Event>>, cpu: u8) {
 
 // Records a call and its return, and returns whether neither was refused.
 fn record_one<R: Wait>(rt: &R, queue: &Mutex<VecDeque<Event>>, cpu: u8, number: u32) -> bool {
-    let Some((command, reply)) = call_and_return() else {
+    let (Ok(command), Ok(reply)) = (read_command(CALL), read_reply(REPLY)) else {
         return false;
     };
     let called = Event::Called {

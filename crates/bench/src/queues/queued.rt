@@ -4,25 +4,25 @@ ghost use Rattle.std.specs.Prelude.{◌≡◌, ◌<◌, length};
 ghost use Rattle.std.specs.List.{AllWithin};
 ghost use Rattle.event_queue.specs.View.{CanDrain};
 
-use crate::queues::{CALLS, CAPACITY, call_and_return};
+use crate::queues::{CALL, CALLS, CAPACITY, REPLY};
 use crate::timing::Timing;
-use anyhow::Result;
 use event_queue::{CpuPass, Recorder, ScribePass};
 use granule_state::Config;
 use history::History;
+use rmi_codec::{read_command, read_reply};
 use std::alloc::{AllocError, Global};
 use std::sync::Wait;
 use std::sync::atomic::{AtomicBool, Ordering};
-use std::thread;
 use std::thread::Threads;
 use std::time::{Clock, Instant};
+use std::{io, thread};
 
 /// How many events came into the history, and in what time.
 pub(crate) fn round<R: Threads + Wait + Clock + Sync>(
     rt: &R,
     alloc: Global,
     config: Config,
-) -> Result<Timing> {
+) -> io::Result<Timing> {
     let history = History::new(alloc, config);
     let (recorder, mut passes, scribe) = Recorder::new(alloc, CAPACITY, config.cpus())?;
     let start = Instant::now(rt)?;
@@ -78,7 +78,7 @@ fn record_one<R: Wait>(rt: &R, recorder: &Recorder, pass: &mut CpuPass) -> bool
     requires { pass.old.queue ≡ recorder.now.queue }
     ensures { pass.new.queue ≡ pass.old.queue }
 {
-    let Some((command, reply)) = call_and_return() else {
+    let (Ok(command), Ok(reply)) = (read_command(CALL), read_reply(REPLY)) else {
         return false;
     };
     if pass.is_open() || pass.is_stopped() || pass.next_number() > 999_999 {

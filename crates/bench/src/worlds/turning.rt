@@ -18,7 +18,7 @@ pub(crate) fn opened(alloc: Global, config: &Config, programs: Vec<Vec<Command>>
 
 pub(crate) fn turned(world: &mut World, alloc: Global, cpu: u8, will: Will) -> Result<Turned> {
     if cpu >= world.config().cpus() {
-        bail!("no CPU {cpu}");
+        bail!("no such CPU");
     }
     Ok(world.turn(alloc, cpu, will)?)
 }
