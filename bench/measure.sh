@@ -2,13 +2,13 @@
 # Extensions of a measurement a second, beside OpenSSL's SHA-256 on messages of the same 96 bytes. Each is the best of
 # three runs, taken in turn, by processor time.
 set -euo pipefail
-cd "$(dirname "$0")/../crates/bench_measure"
+cd "$(dirname "$0")/../crates/bench"
 count=${1:-1000000}
-rt run -- words 1 > /dev/null
+rt run -- measure words 1 > /dev/null
 
 extensions() {
   local seconds TIMEFORMAT=%U
-  seconds=$({ time out/bench_measure "$1" "$count" > /dev/null; } 2>&1)
+  seconds=$({ time out/bench measure "$1" "$count" > /dev/null; } 2>&1)
   awk -v count="$count" -v seconds="$seconds" 'BEGIN { printf "%.0f\n", count / seconds }'
 }
 

@@ -2,12 +2,12 @@
 # Events a second from 1, 2 and 4 producers into one history, through the event queue and through a deque behind a lock. Each
 # is the best of three runs of so many rounds (30 unless told), by the clock.
 set -euo pipefail
-cd "$(dirname "$0")/../crates/bench_queue"
+cd "$(dirname "$0")/../crates/bench"
 rounds=${1:-30}
-rt run -- queue 2 0 > /dev/null
+rt run -- queue queue 2 0 > /dev/null
 
 rate() {
-  out/bench_queue "$1" "$2" "$rounds" | awk '{ printf "%.0f\n", $1 / $2 * 1e9 }'
+  out/bench queue "$1" "$2" "$rounds" | awk '{ printf "%.0f\n", $1 / $2 * 1e9 }'
 }
 
 best() {

@@ -2,13 +2,13 @@
 # Nanoseconds a walk from level 0 to level 3, in a realm of 4001 tables: 3200 addresses, each walked so many rounds (1000
 # unless told), less the time of a run that walks none. The best of three runs of each, by processor time.
 set -euo pipefail
-cd "$(dirname "$0")/../crates/bench_walk"
+cd "$(dirname "$0")/../crates/bench"
 rounds=${1:-1000}
-rt run -- 1 > /dev/null
+rt run -- walk 1 > /dev/null
 
 seconds() {
   local TIMEFORMAT=%U
-  { time out/bench_walk "$1" > /dev/null; } 2>&1
+  { time out/bench walk "$1" > /dev/null; } 2>&1
 }
 
 best() {

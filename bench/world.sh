@@ -3,13 +3,13 @@
 # than that), less the time of a run that takes none, and of as many that follow. Each time is the best of five runs, by
 # processor time.
 set -euo pipefail
-cd "$(dirname "$0")/../crates/bench_world"
+cd "$(dirname "$0")/../crates/bench"
 turns=${1:-1000000}
-rt run -- turns 1 0 > /dev/null
+rt run -- world turns 1 0 > /dev/null
 
 seconds() {
   local TIMEFORMAT=%U
-  { time out/bench_world turns "$1" "$2" > /dev/null; } 2>&1
+  { time out/bench world turns "$1" "$2" > /dev/null; } 2>&1
 }
 
 best() {

@@ -2,7 +2,7 @@
 //! It promises `Yes` exactly for a linearization, isolated after every step, else the first bad line or the first step that fails.
 //! Real time is compared over all pairs of lines in the definition, and by one number, the latest call so far, in the code.
 //! It trusts neither the monitor nor whoever wrote the certificate, and is linear in both texts.
-//! `judging` and the acceptance tests depend on it.
+//! What judges, explains and measures runs depends on it.
 #![tactic(auto)]
 
 mod judged;

@@ -1,0 +1,37 @@
+//! Worlds of turns, run at random, and timed.
+
+mod dice;
+mod drafting;
+mod drawing;
+mod replies;
+mod runs;
+mod schedule;
+mod turning;
+mod turns;
+
+use anyhow::{Result, bail};
+use replies::compare_replies;
+use runs::judge_runs;
+use std::alloc::Global;
+use turns::take_turns;
+
+/// Judges the runs of so many seeds from the first on, compares the replies of so many programs on one CPU, does both, or lets so
+/// many CPUs (the first number) take so many turns.
+pub(crate) fn run(
+    rt: &impl Print,
+    alloc: Global,
+    kind: &str,
+    first: u64,
+    count: u64,
+) -> Result<()> {
+    match kind {
+        "runs" => judge_runs(rt, alloc, first, count),
+        "replies" => compare_replies(rt, alloc, first, count),
+        "all" => {
+            judge_runs(rt, alloc, first, count)?;
+            compare_replies(rt, alloc, first, count)
+        }
+        "turns" => take_turns(rt, alloc, first, count),
+        _ => bail!("runs, replies, all or turns?"),
+    }
+}

@@ -1,0 +1,125 @@
+//! Programs, drafted beside a machine that carries them out.
+
+use crate::worlds::dice::Dice;
+use crate::worlds::drawing::{Granules, Sharing, drawn_command, drawn_function};
+use crate::worlds::schedule::Schedule;
+use anyhow::{Context, Result, bail};
+use granule_state::Config;
+use rmm_spec::{Accepted, Command, FunctionId, Reply};
+use spec_machine::Machine;
+use std::alloc::Global;
+
+/// One of so many commands is taken as it is drawn.
+const UNCHECKED: u64 = 12;
+
+/// How many functions are drawn, and how often the words of each, before a command is taken that the machine refuses.
+const FUNCTION_DRAWS: u32 = 8;
+
+const WORD_DRAWS: u32 = 32;
+
+/// After how many turns a CPU gets a command, whether or not it is likely to have one open.
+const MOST_TURNS: u32 = 1000;
+
+/// A program for each CPU, of so many commands in all. Most are accepted where each takes as many turns of the schedule as it is
+/// likely to.
+pub(crate) fn drafted_programs(
+    alloc: Global,
+    config: &Config,
+    sharing: Sharing,
+    commands: u64,
+    mut schedule: Schedule,
+    dice: &mut Dice,
+) -> Result<Vec<Vec<Command>>> {
+    let mut machine = Machine::new(alloc, *config)?;
+    let mut programs = empty_programs(alloc, config)?;
+    let mut busy = [0; 8];
+    let mut rows = Vec::new(alloc);
+    for _command in 0..commands {
+        rows.clear();
+        machine.owner_report(&mut rows)?;
+        let cpu = idle_cpu(&mut schedule, &mut busy);
+        let granules = Granules {
+            rows: rows.as_slice(),
+            cpu,
+            sharing,
+        };
+        let command = drafted_command(&machine, granules, dice);
+        carry_out(&mut machine, cpu, &command)?;
+        busy[usize::from(cpu % 8)] = likely_turns(command.function);
+        if let Some(program) = programs.get_mut(usize::from(cpu)) {
+            program.push(command)?;
+        }
+    }
+    Ok(programs)
+}
+
+fn empty_programs(alloc: Global, config: &Config) -> Result<Vec<Vec<Command>>> {
+    let mut programs = Vec::new(alloc);
+    for _cpu in 0..config.cpus() {
+        programs.push(Vec::new(alloc))?;
+    }
+    Ok(programs)
+}
+
+// The next CPU that has a turn and is likely to have no open call. Each turn of another counts for its call.
+fn idle_cpu(schedule: &mut Schedule, busy: &mut [u8; 8]) -> u8 {
+    for _turn in 0..MOST_TURNS {
+        let (cpu, _will) = schedule.next();
+        let left = &mut busy[usize::from(cpu % 8)];
+        if *left == 0 {
+            return cpu;
+        }
+        *left -= 1;
+    }
+    0
+}
+
+// How many turns follow the call of a function that is accepted and meets no other CPU, about.
+fn likely_turns(function: FunctionId) -> u8 {
+    match function {
+        FunctionId::RecCreate | FunctionId::RecDestroy => 11,
+        FunctionId::RealmCreate | FunctionId::RealmDestroy | FunctionId::RecEnter => 7,
+        _ => 4,
+    }
+}
+
+fn drafted_command(machine: &Machine, granules: Granules<'_>, dice: &mut Dice) -> Command {
+    if !dice.one_in(UNCHECKED) {
+        for _function in 0..FUNCTION_DRAWS {
+            if let Some(command) = accepted_command(machine, granules, dice) {
+                return command;
+            }
+        }
+    }
+    let function = drawn_function(dice);
+    drawn_command(function, granules, dice)
+}
+
+// A command that the machine accepts, where a function gets such words.
+fn accepted_command(machine: &Machine, granules: Granules<'_>, dice: &mut Dice) -> Option<Command> {
+    let function = drawn_function(dice);
+    for _words in 0..WORD_DRAWS {
+        let command = drawn_command(function, granules, dice);
+        if machine.outcome(granules.cpu, &command).is_ok() {
+            return Some(command);
+        }
+    }
+    None
+}
+
+fn carry_out(machine: &mut Machine, cpu: u8, command: &Command) -> Result<()> {
+    let reply = reply_of(machine.outcome(cpu, command)).context("a reply left open")?;
+    if !machine.offer(cpu, command, &reply)? {
+        bail!("the machine refuses its own reply");
+    }
+    Ok(())
+}
+
+/// The reply that the machine gives, where the outcome leaves it no choice.
+pub(crate) fn reply_of(outcome: Result<Accepted, Reply>) -> Option<Reply> {
+    match outcome {
+        Ok(Accepted::Done { words, .. }) => Some(Reply::Ok(words)),
+        Ok(Accepted::Reaches(_)) => None,
+        Err(refusal) => Some(refusal),
+    }
+}

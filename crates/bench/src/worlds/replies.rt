@@ -1,0 +1,78 @@
+//! Replies of a world with one CPU, beside what the specification machine answers.
+
+use crate::worlds::dice::Dice;
+use crate::worlds::drafting::{drafted_programs, reply_of};
+use crate::worlds::drawing::Sharing;
+use crate::worlds::schedule::Schedule;
+use crate::worlds::turning::{finish, opened};
+use anyhow::{Context, Result, bail};
+use granule_state::Config;
+use history::{Call, History};
+use spec_machine::Machine;
+use std::alloc::Global;
+
+/// How many commands a program has.
+const COMMANDS: u64 = 60;
+
+/// Compares the replies of so many worlds, prints each one that differs, and then how many are equal. An error where one isn't.
+pub(crate) fn compare_replies(
+    rt: &impl Print,
+    alloc: Global,
+    first: u64,
+    count: u64,
+) -> Result<()> {
+    let mut all: u64 = 0;
+    let mut equal: u64 = 0;
+    for seed in first..first.saturating_add(count) {
+        let history = history_of(alloc, seed)?;
+        let machine = Machine::new(alloc, history.config())?;
+        let same = equal_replies(machine, &history)?;
+        equal = equal.wrapping_add(same as u64);
+        all = all.wrapping_add(COMMANDS);
+        if same as u64 != COMMANDS {
+            println!(rt; "seed {seed}: {same} replies of {COMMANDS} are equal")?;
+        }
+    }
+    println!(rt; "replies: {equal} of {all} are equal")?;
+    if equal != all {
+        bail!("not every reply is equal");
+    }
+    Ok(())
+}
+
+// The run of a program on one CPU.
+fn history_of(alloc: Global, seed: u64) -> Result<History> {
+    let mut dice = Dice::new(seed);
+    let sharing = Sharing::drawn(&mut dice);
+    let config = Config::new(sharing.granules(1), 1).context("no such machine")?;
+    let schedule = Schedule::new(&config, seed);
+    let programs = drafted_programs(alloc, &config, sharing, COMMANDS, schedule, &mut dice)?;
+    let mut world = opened(alloc, &config, programs)?;
+    finish(&mut world, alloc)?;
+    Ok(world.history(alloc)?)
+}
+
+// How many calls the machine answers as they were answered, before the first that it doesn't.
+fn equal_replies(mut machine: Machine, history: &History) -> Result<u32> {
+    let mut equal: u32 = 0;
+    for number in 0..COMMANDS as u32 {
+        let Some(call) = history.call_of(0, number) else {
+            break;
+        };
+        if !is_equal(&mut machine, &call)? {
+            break;
+        }
+        equal = number + 1;
+    }
+    Ok(equal)
+}
+
+// Whether the machine answers a call as it was answered, and takes that reply.
+fn is_equal(machine: &mut Machine, call: &Call) -> Result<bool> {
+    let Some(answer) = &call.answer else {
+        return Ok(false);
+    };
+    let outcome = reply_of(machine.outcome(0, &call.command));
+    let is_same = outcome.is_some_and(|reply| reply == answer.reply);
+    Ok(is_same && machine.offer(0, &call.command, &answer.reply)?)
+}

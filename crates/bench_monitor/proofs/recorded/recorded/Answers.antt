@@ -1,5 +1,0 @@
-use Rattle.std.proofs.Common.{rules}
-use Rattle.bench_monitor.proofs.recorded.recorded.Goals as goal
-
-pub join-cpus-requires-after_bounds : goal.join-cpus-requires-after_bounds
-join-cpus-requires-after_bounds g c κs within = ((c.in_ok-cpus.ensures, search rules), search rules)
