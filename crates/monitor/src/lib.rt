@@ -2,7 +2,7 @@
 //! It promises what each answer of `execute` leaves of the CPU's token and pass, and that no granule stays locked after it;
 //! that a refused commit has its cause; that a drain appends what it took; and that a close gives each CPU's whole list as
 //! history and the journal, which the tokens list, as certificate. Calls may wait, and promise where they return.
-//! `thread_runs` and `bench_monitor` run their threads through it.
+//! `thread_runs` and `bench` run their threads through it.
 #![tactic(auto)]
 
 mod close_fault;
