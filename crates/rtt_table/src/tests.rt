@@ -57,11 +57,18 @@ fn covers_its_bytes(rt: HostRuntime) {
 fn entries_are_set(rt: HostRuntime) -> Result<(), Fail> {
     let fill = Entry::Unassigned(Ripas::Empty);
     let mut table = Table::new(rt.alloc(), place(), fill)?;
-    assert_eq!(rt; table.place(), place());
+    let Place {
+        rd,
+        level,
+        base,
+        width,
+    } = table.place();
+    let given = place();
+    assert!(rt; (rd, level, base, width) == (given.rd, given.level, given.base, given.width));
     assert!(rt; table.is_uniform() && !table.is_live());
     table.set_entry(511, Entry::Assigned(Ripas::Ram, 0x5000));
-    assert_eq!(rt; table.entry(511), Entry::Assigned(Ripas::Ram, 0x5000));
-    assert_eq!(rt; table.entry(510), fill);
+    assert!(rt; table.entry(511) == Entry::Assigned(Ripas::Ram, 0x5000));
+    assert!(rt; table.entry(510) == fill);
     assert!(rt; table.is_live() && !table.is_uniform());
     table.set_entry(511, fill);
     table.set_entry(0, Entry::Unassigned(Ripas::Ram));
@@ -90,7 +97,7 @@ fn ripas_of_a_stretch(rt: HostRuntime) -> Result<(), Fail> {
         (11, Ripas::Ram),
         (12, Ripas::Empty),
     ] {
-        assert_eq!(rt; table.entry(index), Entry::Unassigned(want), "at {index}");
+        assert!(rt; table.entry(index) == Entry::Unassigned(want), "at {index}");
     }
     Ok(())
 }
@@ -107,7 +114,7 @@ fn ripas_of_assigned_entries(rt: HostRuntime) -> Result<(), Fail> {
         (11, Entry::Assigned(Ripas::Ram, 0x6000)),
         (12, Entry::Assigned(Ripas::Empty, 0x7000)),
     ] {
-        assert_eq!(rt; table.entry(index), want, "at {index}");
+        assert!(rt; table.entry(index) == want, "at {index}");
     }
     Ok(())
 }

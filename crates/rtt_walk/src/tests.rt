@@ -22,23 +22,23 @@ fn place(level: u8, base: u64, width: u8) -> Place {
     }
 }
 
+// The address of a table, its level, and its entry.
+type End = Option<(u64, u8, Entry)>;
+
 // Where a walk from the root at 2000 ends, or nothing where it may not start.
-fn ends_at(cells: &PlainCells, ipa: u64, max: u8) -> Option<Reached> {
+fn ends_at(cells: &PlainCells, ipa: u64, max: u8) -> End {
     let root = Pa::new(0x2000);
     let ipa = Ipa::new(ipa);
     if is_walkable(cells, cells.granules(), root, ipa, max) {
-        Some(walk(cells, root, ipa, max))
+        let Reached { pa, level, entry } = walk(cells, root, ipa, max);
+        Some((pa.address(), level, entry))
     } else {
         None
     }
 }
 
-fn reached(pa: u64, level: u8, entry: Entry) -> Option<Reached> {
-    Some(Reached {
-        pa: Pa::new(pa),
-        level,
-        entry,
-    })
+fn reached(pa: u64, level: u8, entry: Entry) -> End {
+    Some((pa, level, entry))
 }
 
 fn empty_cells(alloc: Global) -> Result<PlainCells, Fail> {
@@ -89,7 +89,7 @@ fn walks_from_level_one(rt: HostRuntime) -> Result<(), Fail> {
         (0, 3, reached(0x2000, 1, EMPTY)),
         (0x80_0000_0000, 3, None),
     ] {
-        assert_eq!(rt; ends_at(&cells, ipa, max), want, "{ipa:x} up to {max}");
+        assert!(rt; ends_at(&cells, ipa, max) == want, "{ipa:x} up to {max}");
     }
     Ok(())
 }
@@ -121,7 +121,7 @@ fn walks_from_level_zero(rt: HostRuntime) -> Result<(), Fail> {
         (0x80_0000_0000, reached(0x2000, 0, EMPTY)),
         (0xffff_ffff_f000, reached(0x2000, 0, EMPTY)),
     ] {
-        assert_eq!(rt; ends_at(&cells, ipa, 3), want, "{ipa:x}");
+        assert!(rt; ends_at(&cells, ipa, 3) == want, "{ipa:x}");
     }
     Ok(())
 }
@@ -134,12 +134,12 @@ fn stray_table(alloc: Global) -> Result<Table, Fail> {
 #[test]
 fn walks_that_may_not_start(rt: HostRuntime) -> Result<(), Fail> {
     let mut cells = empty_cells(rt.alloc())?;
-    assert_eq!(rt; ends_at(&cells, TOP, 3), None, "no root");
+    assert!(rt; ends_at(&cells, TOP, 3) == None, "no root");
     cells = three_levels(rt.alloc())?;
     assert!(rt; cells.table(Pa::new(0x2001)).is_none());
     assert!(rt; !cells.put(Pa::new(0x1_0000), stray_table(rt.alloc())?));
     put(&mut cells, 0x6000, stray_table(rt.alloc())?)?;
-    assert_eq!(rt; ends_at(&cells, TOP, 3), None, "a table without a link");
-    assert_eq!(rt; ends_at(&cells, 0, 3), reached(0x2000, 1, EMPTY));
+    assert!(rt; ends_at(&cells, TOP, 3) == None, "a table without a link");
+    assert!(rt; ends_at(&cells, 0, 3) == reached(0x2000, 1, EMPTY));
     Ok(())
 }
