@@ -1,0 +1,88 @@
+//! What is answered on a history and a certificate.
+
+use anyhow::Result;
+use checker::{check, verdict_text};
+use explain::{explain, explain_run, report};
+use explain_page::append_page;
+use std::alloc::Global;
+
+/// The verdict's line, and another one where a text that has no bad line doesn't come back byte for byte.
+pub(crate) fn verdict(alloc: Global, history: &str, certificate: &str) -> Result<String> {
+    let verdict = check(alloc, history.as_bytes(), certificate.as_bytes())?;
+    let mut line = Vec::new(alloc);
+    verdict_text(&verdict, &mut line)?;
+    let mut line = String::from_utf8(line)?;
+    let history_again = rewritten_history(alloc, history)?;
+    let certificate_again = rewritten_certificate(alloc, certificate)?;
+    let is_history_back = history_again.as_str() == AS_IT_WAS
+        || line.as_str().starts_with("fault history ");
+    let is_certificate_back = certificate_again.as_str() == AS_IT_WAS
+        || line.as_str().starts_with("fault ");
+    if !is_history_back || !is_certificate_back {
+        line.push_str("a text doesn't come back\n")?;
+    }
+    Ok(line)
+}
+
+const AS_IT_WAS: &str = "as it was\n";
+
+pub(crate) fn rewritten_history(alloc: Global, history: &str) -> Result<String> {
+    match history::rewritten(alloc, history.as_bytes()) {
+        Ok(again) => come_back(alloc, again.as_slice() == history.as_bytes()),
+        Err(fault) => Ok(format!(in alloc; "{fault}\n")?),
+    }
+}
+
+pub(crate) fn rewritten_certificate(alloc: Global, certificate: &str) -> Result<String> {
+    match certificate::rewritten(alloc, certificate.as_bytes()) {
+        Ok(again) => come_back(alloc, again.as_slice() == certificate.as_bytes()),
+        Err(fault) => Ok(format!(in alloc; "{fault}\n")?),
+    }
+}
+
+fn come_back(alloc: Global, is_same: bool) -> Result<String> {
+    let answer = if is_same { AS_IT_WAS } else { "another text\n" };
+    Ok(String::from_str(alloc, answer)?)
+}
+
+/// How many events are read, or why none.
+pub(crate) fn read_history(alloc: Global, history: &str) -> Result<String> {
+    Ok(match history::read(alloc, history.as_bytes()) {
+        Ok(history) => format!(in alloc; "{} events\n", history.len())?,
+        Err(fault) => format!(in alloc; "{fault}\n")?,
+    })
+}
+
+/// How many lines are read, or why none.
+pub(crate) fn read_certificate(alloc: Global, certificate: &str) -> Result<String> {
+    Ok(match certificate::read(alloc, certificate.as_bytes()) {
+        Ok(certificate) => format!(in alloc; "{} lines\n", certificate.len())?,
+        Err(fault) => format!(in alloc; "{fault}\n")?,
+    })
+}
+
+pub(crate) fn reported(alloc: Global, history: &str, certificate: &str) -> Result<String> {
+    let explanation = explain(alloc, history.as_bytes(), certificate.as_bytes())?;
+    let mut text = Vec::new(alloc);
+    report(alloc, &explanation, &mut text)?;
+    Ok(String::from_utf8(text)?)
+}
+
+/// Whether the page has this piece.
+pub(crate) fn page_has(
+    alloc: Global,
+    history: &str,
+    certificate: &str,
+    piece: &str,
+) -> Result<String> {
+    let told = explain_run(alloc, history.as_bytes(), certificate.as_bytes())?;
+    let mut page = Vec::new(alloc);
+    append_page(alloc, &told, &mut page)?;
+    let page = String::from_utf8(page)?;
+    let answer = if page.as_str().contains(piece) {
+        "shown\n"
+    } else {
+        "not shown\n"
+    };
+    Ok(String::from_str(alloc, answer)?)
+}

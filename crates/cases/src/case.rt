@@ -1,0 +1,95 @@
+//! A case under way.
+
+use crate::answers::{
+    page_has, read_certificate, read_history, reported, rewritten_certificate, rewritten_history,
+    verdict,
+};
+use crate::owners::owners;
+use crate::parts::{command_read, reply_read, wrong_event, wrong_header, wrong_line};
+use crate::script::Script;
+use crate::statement::{Statement, Word};
+use anyhow::{Result, bail};
+use std::alloc::{AllocError, Global};
+
+/// The inputs that its statements gave so far.
+#[derive(Drop)]
+pub(crate) struct Case {
+    history: String,
+    certificate: String,
+    header: String,
+    script: Script,
+}
+
+impl Case {
+    pub(crate) fn new(alloc: Global) -> Case {
+        Case {
+            history: String::new(alloc),
+            certificate: String::new(alloc),
+            header: String::new(alloc),
+            script: Script::none(alloc),
+        }
+    }
+
+    /// Takes what the statement gives.
+    pub(crate) fn take(&mut self, alloc: Global, statement: &Statement<'_>) -> Result<()> {
+        match statement.word {
+            Word::History => self.history = statement.text(alloc)?,
+            Word::Certificate => self.certificate = statement.text(alloc)?,
+            Word::Header => self.header = statement.part(alloc)?,
+            Word::Script => {
+                self.script = Script::on(alloc, statement.argument)?;
+                self.script.add(alloc, statement.block.as_str())?;
+                self.take_run(self.script.copy(alloc)?);
+            }
+            Word::Step => {
+                self.script.add(alloc, statement.text(alloc)?.as_str())?;
+                self.take_run(self.script.copy(alloc)?);
+            }
+            Word::Try => {
+                let mut script = self.script.copy(alloc)?;
+                script.add(alloc, statement.text(alloc)?.as_str())?;
+                self.take_run(script);
+            }
+            _ => {}
+        }
+        Ok(())
+    }
+
+    // The texts of a script.
+    fn take_run(&mut self, script: Script) {
+        let Script {
+            history,
+            certificate,
+            ..
+        } = script;
+        self.history = history;
+        self.certificate = certificate;
+    }
+
+    /// What the public calls answer to the statement.
+    pub(crate) fn answer(&self, alloc: Global, statement: &Statement<'_>) -> Result<String> {
+        let history = self.history.as_str();
+        let certificate = self.certificate.as_str();
+        let part = statement.part(alloc)?;
+        let part = part.as_str();
+        match statement.word {
+            Word::Report => reported(alloc, history, certificate),
+            Word::Page => page_has(alloc, history, certificate, part),
+            Word::Owners => owners(alloc, history),
+            Word::Read => match part {
+                "history" => read_history(alloc, history),
+                _ => read_certificate(alloc, certificate),
+            },
+            Word::Rewrite => match part {
+                "history" => rewritten_history(alloc, history),
+                _ => rewritten_certificate(alloc, certificate),
+            },
+            Word::Command => command_read(alloc, part),
+            Word::Reply => reply_read(alloc, part),
+            Word::Header => Ok(wrong_header(alloc, part)?),
+            Word::Event => Ok(wrong_event(alloc, part, self.header.as_str())?),
+            Word::Line => Ok(wrong_line(alloc, part)?),
+            _ => verdict(alloc, history, certificate),
+        }
+    }
+}
