@@ -8,7 +8,7 @@ use crate::owners::owners;
 use crate::parts::{command_read, reply_read, wrong_event, wrong_header, wrong_line};
 use crate::script::Script;
 use crate::statement::{Statement, Word};
-use anyhow::Result;
+use anyhow::{Result, bail};
 use std::alloc::{AllocError, Global};
 
 /// The inputs that its statements gave so far.
@@ -37,41 +37,32 @@ impl Case {
             Word::Certificate => self.certificate = statement.text(alloc)?,
             Word::Header => self.header = statement.part(alloc)?,
             Word::Script => {
-                let mut script = Script::on(alloc, statement.argument)?;
-                script.add(alloc, statement.block.as_str())?;
-                self.go_on(alloc, script)?;
+                self.script = Script::on(alloc, statement.argument)?;
+                self.script.add(alloc, statement.block.as_str())?;
+                let run = self.script_so_far(alloc)?;
+                self.take_run(run);
             }
             Word::Step => {
-                let script = self.longer(alloc, statement)?;
-                self.go_on(alloc, script)?;
+                self.script.add(alloc, statement.text(alloc)?.as_str())?;
+                let run = self.script_so_far(alloc)?;
+                self.take_run(run);
             }
             Word::Try => {
-                let script = self.longer(alloc, statement)?;
-                self.judge_run(script);
+                let mut run = self.script_so_far(alloc)?;
+                run.add(alloc, statement.text(alloc)?.as_str())?;
+                self.take_run(run);
             }
             _ => {}
         }
         Ok(())
     }
 
-    // The script with the statement's steps behind it.
-    fn longer(&self, alloc: Global, statement: &Statement<'_>) -> Result<Script> {
-        let mut script = self.script.copy(alloc)?;
-        let steps = statement.text(alloc)?;
-        script.add(alloc, steps.as_str())?;
-        Ok(script)
+    fn script_so_far(&self, alloc: Global) -> Result<Script, AllocError> {
+        self.script.copy(alloc)
     }
 
-    // Later statements see this script.
-    fn go_on(&mut self, alloc: Global, script: Script) -> Result<(), AllocError> {
-        let kept = script.copy(alloc)?;
-        self.judge_run(script);
-        self.script = kept;
-        Ok(())
-    }
-
-    // The texts are this script's.
-    fn judge_run(&mut self, script: Script) {
+    // The texts of a script.
+    fn take_run(&mut self, script: Script) {
         let Script {
             history,
             certificate,

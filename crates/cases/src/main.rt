@@ -1,7 +1,7 @@
 //! Asks the public calls what the case files ask, and prints a line for each case that is answered as its file says.
 //! A case file is plain text: inputs, and questions with their answers, which come from outside and never from an output.
 //! An answer that differs is printed with the one in whose place it came, and the status is then 1.
-//! It reads each `.txt` of the folder where it runs, or of the one that is named, and is proved to be safe and no more.
+//! It reads every `.txt` of the folder where it runs, in the order of their names; no clause says more than that it is safe.
 //! It depends on the crates that read, judge and explain texts, and nothing depends on it.
 #![tactic(auto)]
 
@@ -18,34 +18,25 @@ mod statement;
 use crate::case::Case;
 use crate::case_text::{CaseText, cases_of};
 use crate::statement::Statement;
-use anyhow::{Result, bail};
+use anyhow::{Context, Result, bail};
+use std::fs;
 use std::rt::Files;
-use std::{env, fs};
 
 fn main(rt: HostRuntime) -> Result<()> {
-    let folder = env::args(&rt)?.nth(1);
-    if judge_folder(&rt, folder.as_deref().unwrap_or("."))? {
+    let mut are_right = true;
+    for file in &files(&rt)? {
+        are_right &= judge_file(&rt, file.as_str())?;
+    }
+    if are_right {
         Ok(())
     } else {
         bail!("an answer differs")
     }
 }
 
-// Whether each answer is the one that its file says.
-fn judge_folder<R: Files + Print + AllocGlobal + Clone + Drop>(
-    rt: &R,
-    folder: &str,
-) -> Result<bool> {
-    let mut are_right = true;
-    for file in &files(rt, folder)? {
-        are_right &= judge_file(rt, folder, file.as_str())?;
-    }
-    Ok(are_right)
-}
-
-fn files<R: Files + AllocGlobal + Clone + Drop>(rt: &R, folder: &str) -> Result<Vec<String>> {
+fn files<R: Files + AllocGlobal + Clone + Drop>(rt: &R) -> Result<Vec<String>> {
     let mut names = Vec::new(rt.alloc());
-    for entry in fs::read_dir(rt, folder)? {
+    for entry in fs::read_dir(rt, ".")? {
         let entry = entry?;
         if entry.file_name().ends_with(".txt") {
             names.push(String::from_str(rt.alloc(), entry.file_name())?)?;
@@ -55,9 +46,9 @@ fn files<R: Files + AllocGlobal + Clone + Drop>(rt: &R, folder: &str) -> Result<
     Ok(names)
 }
 
-fn judge_file<R: Files + Print + AllocGlobal>(rt: &R, folder: &str, file: &str) -> Result<bool> {
-    let path = format!(in rt.alloc(); "{folder}/{file}")?;
-    let text = fs::read_to_string(rt, path.as_str())?;
+// Whether each answer is the one that the file says.
+fn judge_file<R: Files + Print + AllocGlobal>(rt: &R, file: &str) -> Result<bool> {
+    let text = fs::read_to_string(rt, file).context(file)?;
     let mut are_right = true;
     for case in &cases_of(rt.alloc(), text.as_str())? {
         are_right &= judge_case(rt, file, case)?;

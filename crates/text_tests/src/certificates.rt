@@ -1,4 +1,4 @@
-//! Certificates made, written and read.
+//! Certificates made, and read line by line.
 
 use certificate::{Certificate, Line, LineRef, Reply, is_line, read, read_back, write};
 use rmi_codec::read_reply;
@@ -41,18 +41,10 @@ fn writes_what_is_claimed(rt: HostRuntime) -> Result<(), Fail> {
     assert!(rt; text.as_slice().strip_prefix(b"before ".as_slice()) == Some(TEXT.as_bytes()));
 
     let again = read_back(rt.alloc(), &certificate)?;
-    assert_eq!(rt; again.len(), 4);
-    let expected = read_reply("ok ffffffffffffffff")?;
-    assert!(rt;
-        matches!(
-            again.line(1),
-            LineRef::Unfinished {
-                cpu: 0,
-                number: 10,
-                reply
-            } if *reply == expected
-        )
-    );
+    assert!(rt; again.len() == 4);
+    let mut text = Vec::new(rt.alloc());
+    write(&again, &mut text)?;
+    assert!(rt; text.as_slice() == TEXT.as_bytes());
     Ok(())
 }
 
@@ -84,14 +76,14 @@ fn reports_what_can_stand(rt: HostRuntime) {
 fn reads_each_line(rt: HostRuntime) -> Result<(), Fail> {
     let text = b"u 0 0 err 255 0\nk 1 0\nk 7 999999\n";
     let lines = read(rt.alloc(), text)?;
-    assert_eq!(rt; lines.len(), 3);
+    assert!(rt; lines.len() == 3);
     assert!(rt;
         matches!(
             lines.line(0),
             LineRef::Unfinished {
                 cpu: 0,
                 number: 0,
-                reply: Reply::Err(255, 0)
+                reply: Reply::Err(255, 0),
             }
         )
     );
@@ -101,15 +93,9 @@ fn reads_each_line(rt: HostRuntime) -> Result<(), Fail> {
             lines.line(2),
             LineRef::Keep {
                 cpu: 7,
-                number: 999_999
+                number: 999_999,
             }
         )
     );
-    Ok(())
-}
-
-#[test]
-fn reports_no_lines(rt: HostRuntime) -> Result<(), Fail> {
-    assert!(rt; read(rt.alloc(), b"")?.is_empty());
     Ok(())
 }

@@ -1,4 +1,4 @@
-//! Commands, replies and numbers written, and lines taken apart.
+//! Texts that are written, and the parts that readers are made of.
 
 use arrayvec::ArrayVec;
 use rmi_codec::{
@@ -7,25 +7,18 @@ use rmi_codec::{
 use std::alloc::Global;
 use std::test::Fail;
 
-// A command with up to ten words.
-fn command(function: FunctionId, all: &[u64]) -> Command {
+fn command(function: FunctionId, word: u64) -> Command {
     let mut words = ArrayVec::new();
-    for &word in all {
-        if !words.is_full() {
-            words.push(word);
-        }
-    }
+    words.push(word);
     Command { function, words }
 }
 
-// The reply `ok 1 2 ..` up to the count.
-fn counting(count: usize) -> Reply {
+// The reply `ok 1 2 .. a`.
+fn counting() -> Reply {
     let mut words = ArrayVec::new();
-    let mut next = 1;
-    for _ in 0..count {
+    for word in 1..11 {
         if !words.is_full() {
-            words.push(next);
-            next = if next < 10 { next + 1 } else { 0 };
+            words.push(word);
         }
     }
     Reply::Ok(words)
@@ -40,58 +33,39 @@ fn written(alloc: Global, reply: &Reply) -> Result<Vec<u8>, Fail> {
 #[test]
 fn writes(rt: HostRuntime) -> Result<(), Fail> {
     let mut out = Vec::new(rt.alloc());
-    write_command(
-        &command(FunctionId::GranuleUndelegate, &[u64::MAX]),
-        &mut out,
-    )?;
-    assert_eq!(rt; out.as_slice(), b"c4000152 ffffffffffffffff".as_slice());
-    write_command(&command(FunctionId::Exit, &[0]), &mut out)?;
-    assert_eq!(rt;
-        out.as_slice(),
-        b"c4000152 ffffffffffffffff00000001 0".as_slice()
-    );
-
-    assert_eq!(rt;
-        written(rt.alloc(), &counting(10))?.as_slice(),
-        b"ok 1 2 3 4 5 6 7 8 9 a".as_slice()
-    );
-    assert_eq!(rt;
-        written(rt.alloc(), &Reply::Err(10, 0))?.as_slice(),
-        b"err 10 0".as_slice()
-    );
-    assert_eq!(rt;
-        written(rt.alloc(), &Reply::Misplaced)?.as_slice(),
-        b"misplaced".as_slice()
-    );
+    write_command(&command(FunctionId::GranuleUndelegate, u64::MAX), &mut out)?;
+    assert!(rt; out.as_slice() == b"c4000152 ffffffffffffffff".as_slice());
+    write_command(&command(FunctionId::Exit, 0), &mut out)?;
+    assert!(rt; out.as_slice() == b"c4000152 ffffffffffffffff00000001 0".as_slice());
+    let counted = written(rt.alloc(), &counting())?;
+    assert!(rt; counted.as_slice() == b"ok 1 2 3 4 5 6 7 8 9 a".as_slice());
+    let refused = written(rt.alloc(), &Reply::Err(10, 0))?;
+    assert!(rt; refused.as_slice() == b"err 10 0".as_slice());
+    let misplaced = written(rt.alloc(), &Reply::Misplaced)?;
+    assert!(rt; misplaced.as_slice() == b"misplaced".as_slice());
     Ok(())
 }
 
 #[test]
 fn decimals(rt: HostRuntime) -> Result<(), Fail> {
-    for (text, number) in [
-        (b"0".as_slice(), Some(0)),
-        (b"999999".as_slice(), Some(999_999)),
-        (b"18446744073709551615".as_slice(), Some(u64::MAX)),
-        (b"18446744073709551616".as_slice(), None),
-        (b"99999999999999999999".as_slice(), None),
-        (b"00".as_slice(), None),
-        (b"+1".as_slice(), None),
-        (b"a".as_slice(), None),
-        (b"".as_slice(), None),
-    ] {
-        assert_eq!(rt; decimal_from(text), number);
+    assert!(rt; decimal_from(b"0") == Some(0));
+    assert!(rt; decimal_from(b"999999") == Some(999_999));
+    assert!(rt; decimal_from(b"18446744073709551615") == Some(u64::MAX));
+    for text in "18446744073709551616 99999999999999999999 00 +1 a".split(' ') {
+        assert!(rt; decimal_from(text.as_bytes()).is_none());
     }
+    assert!(rt; decimal_from(b"").is_none());
     let mut out = Vec::new(rt.alloc());
     push_decimal(&mut out, u64::MAX)?;
-    assert_eq!(rt; out.as_slice(), b"18446744073709551615".as_slice());
+    assert!(rt; out.as_slice() == b"18446744073709551615".as_slice());
     Ok(())
 }
 
 #[test]
 fn parts(rt: HostRuntime) {
     let mut parts = Parts::of(b"a  bc");
-    for part in [b"a".as_slice(), b"".as_slice(), b"bc".as_slice()] {
-        assert_eq!(rt; parts.next_part(), Some(part));
-    }
-    assert_eq!(rt; parts.next_part(), None);
+    assert!(rt; parts.next_part() == Some(b"a".as_slice()));
+    assert!(rt; parts.next_part() == Some(b"".as_slice()));
+    assert!(rt; parts.next_part() == Some(b"bc".as_slice()));
+    assert!(rt; parts.next_part().is_none());
 }

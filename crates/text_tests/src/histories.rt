@@ -49,15 +49,15 @@ fn push_after_make_room_is_never_refused(rt: HostRuntime) -> Result<(), Fail> {
         ] {
             let before = history.len();
             if history.make_room().is_err() {
-                assert_eq!(rt; history.len(), before);
+                assert!(rt; history.len() == before);
                 return Ok(());
             }
             assert!(rt; history.fits(&event) && history.has_room());
             assert!(rt; history.push(event).is_ok());
-            assert_eq!(rt; history.len(), before + 1);
+            assert!(rt; history.len() == before + 1);
         }
     }
-    assert_eq!(rt; history.len(), 36);
+    assert!(rt; history.len() == 36);
     Ok(())
 }
 
@@ -91,6 +91,12 @@ fn fits_what_can_follow(rt: HostRuntime) -> Result<(), Fail> {
 const TEXT: &str = "rmh1 4096 8\nc 7 0 c4000151 fff000\nc 0 0 c4000152 ffffffffffffffff\n\
                     r 7 0 ok 0 a\nc 7 1 c4000151 0\nr 0 0 err 255 10\nr 7 1 misplaced\n";
 
+fn has_text(alloc: Global, history: &History) -> Result<bool, Fail> {
+    let mut text = Vec::new(alloc);
+    write(history, &mut text)?;
+    Ok(text.as_slice() == TEXT.as_bytes())
+}
+
 #[test]
 fn writes_what_is_recorded(rt: HostRuntime) -> Result<(), Fail> {
     let mut history = empty(rt.alloc(), 4096, 8)?;
@@ -106,17 +112,8 @@ fn writes_what_is_recorded(rt: HostRuntime) -> Result<(), Fail> {
     assert!(rt; text.as_slice().strip_prefix(b"before ".as_slice()) == Some(TEXT.as_bytes()));
 
     let again = read_back(rt.alloc(), &history)?;
-    assert_eq!(rt; again.len(), 6);
-    assert!(rt;
-        matches!(
-            again.event(5),
-            Event::Returned {
-                cpu: 7,
-                number: 1,
-                reply: Reply::Misplaced
-            }
-        )
-    );
+    assert!(rt; again.len() == 6);
+    assert!(rt; has_text(rt.alloc(), &again)?);
     Ok(())
 }
 
@@ -124,17 +121,10 @@ fn writes_what_is_recorded(rt: HostRuntime) -> Result<(), Fail> {
 fn copies_each_event(rt: HostRuntime) -> Result<(), Fail> {
     let history = read(rt.alloc(), TEXT.as_bytes())?;
     let again = history.copy(rt.alloc())?;
-    assert_eq!(rt; again.len(), 6);
-    let expected = read_command("c4000151 0")?;
-    assert!(rt;
-        matches!(again.event(3), Event::Called { cpu: 7, number: 1, command } if command == expected)
-    );
+    assert!(rt; again.len() == 6);
+    assert!(rt; has_text(rt.alloc(), &again)?);
     let call = again.call_of(7, 1).ok_or("no call")?;
-    assert_eq!(rt; call.called, 5);
-    assert!(rt; call.command == expected);
-    let answer = call.answer.ok_or("no answer")?;
-    assert_eq!(rt; answer.returned, 7);
-    assert!(rt; answer.reply == Reply::Misplaced);
+    assert!(rt; call.called == 5);
     Ok(())
 }
 
@@ -143,25 +133,25 @@ fn finds_the_call_that_was_read(rt: HostRuntime) -> Result<(), Fail> {
     let text = b"rmh1 4 1\nc 0 0 c4000151 1000\nr 0 0 ok\n";
     let history = read(rt.alloc(), text)?;
     let config = history.config();
-    assert_eq!(rt; (config.granules(), config.cpus()), (4, 1));
-    assert_eq!(rt; history.len(), 2);
+    assert!(rt; (config.granules(), config.cpus()) == (4, 1));
+    assert!(rt; history.len() == 2);
     let places = history.places_of(0, 0).ok_or("no places")?;
-    assert_eq!(rt; (places.called, places.returned), (0, Some(1)));
+    assert!(rt; (places.called, places.returned) == (0, Some(1)));
     assert!(rt; history.places_of(0, 1).is_none());
     let call = history.call_of(0, 0).ok_or("no call")?;
-    assert_eq!(rt; call.called, 2);
+    assert!(rt; call.called == 2);
     assert!(rt; call.command.function == FunctionId::GranuleDelegate);
-    assert_eq!(rt; call.command.words.as_slice(), [0x1000].as_slice());
+    assert!(rt; call.command.words.as_slice() == [0x1000].as_slice());
     let command = history.command_at(0).ok_or("no command")?;
     assert!(rt; command.to_command() == call.command);
     assert!(rt; history.command_at(1).is_none());
     let answer = call.answer.ok_or("no answer")?;
-    assert_eq!(rt; answer.returned, 3);
+    assert!(rt; answer.returned == 3);
     assert!(rt; history.reply_at(0).is_none());
     assert!(rt; matches!(history.reply_at(1), Some(ReplyRef::Ok(words)) if words.is_empty()));
     assert!(rt; matches!(answer.reply, Reply::Ok(words) if words.is_empty()));
     assert!(rt; history.call_of(0, 1).is_none());
-    assert_eq!(rt; history.called_at(0), Some((0, 0)));
-    assert_eq!(rt; history.called_at(1), None);
+    assert!(rt; history.called_at(0) == Some((0, 0)));
+    assert!(rt; history.called_at(1).is_none());
     Ok(())
 }
