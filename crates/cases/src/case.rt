@@ -84,11 +84,13 @@ impl Case {
             Word::Owners => owners(alloc, history),
             Word::Read => match part {
                 "history" => read_history(alloc, history),
-                _ => read_certificate(alloc, certificate),
+                "certificate" => read_certificate(alloc, certificate),
+                _ => bail!("neither the history nor the certificate is read"),
             },
             Word::Rewrite => match part {
                 "history" => rewritten_history(alloc, history),
-                _ => rewritten_certificate(alloc, certificate),
+                "certificate" => rewritten_certificate(alloc, certificate),
+                _ => bail!("neither the history nor the certificate is rewritten"),
             },
             Word::Command => command_read(alloc, part),
             Word::Reply => reply_read(alloc, part),

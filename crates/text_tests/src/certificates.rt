@@ -77,6 +77,7 @@ fn reads_each_line(rt: HostRuntime) -> Result<(), Fail> {
     let text = b"u 0 0 err 255 0\nk 1 0\nk 7 999999\n";
     let lines = read(rt.alloc(), text)?;
     assert!(rt; lines.len() == 3);
+    assert!(rt; read(rt.alloc(), b"")?.is_empty());
     assert!(rt;
         matches!(
             lines.line(0),
