@@ -125,6 +125,10 @@ fn copies_each_event(rt: HostRuntime) -> Result<(), Fail> {
     assert!(rt; has_text(rt.alloc(), &again)?);
     let call = again.call_of(7, 1).ok_or("no call")?;
     assert!(rt; call.called == 5);
+    assert!(rt; call.command == read_command("c4000151 0")?);
+    let answer = call.answer.ok_or("no answer")?;
+    assert!(rt; answer.returned == 7);
+    assert!(rt; matches!(answer.reply, Reply::Misplaced));
     Ok(())
 }
 
