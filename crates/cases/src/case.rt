@@ -84,13 +84,6 @@ impl Case {
             Word::Owners => owners(alloc, history),
             Word::Read => match part {
                 "history" => read_history(alloc, history),
-<<<<<<< HEAD
-                _ => read_certificate(alloc, certificate),
-            },
-            Word::Rewrite => match part {
-                "history" => rewritten_history(alloc, history),
-                _ => rewritten_certificate(alloc, certificate),
-=======
                 "certificate" => read_certificate(alloc, certificate),
                 _ => bail!("neither the history nor the certificate is read"),
             },
@@ -98,7 +91,6 @@ impl Case {
                 "history" => rewritten_history(alloc, history),
                 "certificate" => rewritten_certificate(alloc, certificate),
                 _ => bail!("neither the history nor the certificate is rewritten"),
->>>>>>> 828271d868e8aadb550835c55d36f1520d5c00c2
             },
             Word::Command => command_read(alloc, part),
             Word::Reply => reply_read(alloc, part),

@@ -77,10 +77,7 @@ fn reads_each_line(rt: HostRuntime) -> Result<(), Fail> {
     let text = b"u 0 0 err 255 0\nk 1 0\nk 7 999999\n";
     let lines = read(rt.alloc(), text)?;
     assert!(rt; lines.len() == 3);
-<<<<<<< HEAD
-=======
     assert!(rt; read(rt.alloc(), b"")?.is_empty());
->>>>>>> 828271d868e8aadb550835c55d36f1520d5c00c2
     assert!(rt;
         matches!(
             lines.line(0),
