@@ -108,23 +108,28 @@ impl Outcome {
     }
 }
 
+// Whether the history is named where it fails after so many reads.
+fn blames_history(alloc: Global, reads: usize) -> bool {
+    let ended = judged(alloc, reads, 0, TornSink::new(alloc, 1, 0));
+    matches!(ended.result, Err(JudgeFault::ReadHistory)) && ended.left(0, b"")
+}
+
+// The same for the certificate.
+fn blames_certificate(alloc: Global, reads: usize) -> bool {
+    let ended = judged(alloc, WHOLE, reads, TornSink::new(alloc, 1, 0));
+    matches!(ended.result, Err(JudgeFault::ReadCertificate)) && ended.left(0, b"")
+}
+
 #[test]
 fn source_that_fails_is_named(rt: HostRuntime) {
     for reads in 0..HISTORY_READS {
-        let ended = judged(rt.alloc(), reads, 0, TornSink::new(rt.alloc(), 1, 0));
-        assert!(rt;
-            matches!(ended.result, Err(JudgeFault::ReadHistory)),
-            "{reads}"
-        );
-        assert!(rt; ended.left(0, b""), "{reads}");
+        assert!(rt; blames_history(rt.alloc(), reads), "after {reads} reads");
     }
     for reads in 0..CERTIFICATE_READS {
-        let ended = judged(rt.alloc(), WHOLE, reads, TornSink::new(rt.alloc(), 1, 0));
         assert!(rt;
-            matches!(ended.result, Err(JudgeFault::ReadCertificate)),
-            "{reads}"
+            blames_certificate(rt.alloc(), reads),
+            "after {reads} reads"
         );
-        assert!(rt; ended.left(0, b""), "{reads}");
     }
 }
 

@@ -86,19 +86,25 @@ rmmcheck check help c -> 3||rmmcheck: cannot read help\n;\
 rmmcheck check -- -h c -> 3||rmmcheck: cannot read -h\n;\
 rmmcheck check  c -> 3||rmmcheck: cannot read \n";
 
+// The program ends so on these words, where all goes well.
+fn expect_words<R: Abort + AllocGlobal + Threads + Wait + Sync>(
+    rt: &R,
+    words: &'static str,
+    expected: &str,
+) -> Result<(), Fail> {
+    let line = outcome(rt, runtime(rt.alloc(), words))?;
+    assert!(rt; line.as_str() == expected, "{line} for {words}");
+    Ok(())
+}
+
 #[test]
 fn words_of_the_program(rt: HostRuntime) -> Result<(), Fail> {
     for words in REFUSED.lines() {
-        let line = outcome(&rt, runtime(rt.alloc(), words))?;
-        assert!(rt;
-            line.as_str() == "2||rmmcheck: arguments\n",
-            "{line} for {words}"
-        );
+        expect_words(&rt, words, "2||rmmcheck: arguments\n")?;
     }
     for row in TAKEN.split(';') {
         let (words, expected) = row.split_once(" -> ").ok_or("a row without an outcome")?;
-        let line = outcome(&rt, runtime(rt.alloc(), words))?;
-        assert!(rt; line.as_str() == expected, "{line}");
+        expect_words(&rt, words, expected)?;
     }
     Ok(())
 }

@@ -157,8 +157,7 @@ fn ask_both<S: Site + Send + Sync, R: Threads + Wait + Sync>(
     text: &str,
     answered: &AtomicBool,
 ) -> (Option<Answer>, Option<Answer>)
-    requires first { ArePaired monitor.now first.token first.pass }
-    requires second { ArePaired monitor.now second.token second.pass }
+    requires { ArePaired monitor.now first.token first.pass × ArePaired monitor.now second.token second.pass }
 {
     thread::join(
         rt,

@@ -58,8 +58,30 @@ fn command_from(text: &str) -> Result<Command, Fail>
     Ok(command)
 }
 
-/// A CPU gives the command of a text, and what it is answered is appended.
+/// What a CPU is answered.
 fn ask<S: Site, R: Wait>(
+    rt: &R,
+    alloc: Global,
+    monitor: &Monitor<S>,
+    tokens: &mut [CpuToken<S>],
+    passes: &mut [CpuPass],
+    cpu: usize,
+    text: &str,
+) -> Result<Answer, Fail>
+    requires cpus { AreCpus monitor.now tokens.old passes.old }
+    requires cpu { cpu < monitor.now.config.cpus }
+    ensures { AreCpus monitor.now tokens.new passes.new }
+{
+    let command = command_from(text)?;
+    let (token, pass) = (&mut tokens[cpu], &mut passes[cpu]);
+    if pass.next_number() > 999_999 {
+        return Err("a number of a call".into());
+    }
+    Ok(monitor.execute(rt, alloc, token, pass, &Open, command))
+}
+
+/// The same, and the answer's line is appended.
+fn tell<S: Site, R: Wait>(
     rt: &R,
     alloc: Global,
     monitor: &Monitor<S>,
@@ -73,12 +95,7 @@ fn ask<S: Site, R: Wait>(
     requires cpu { cpu < monitor.now.config.cpus }
     ensures { AreCpus monitor.now tokens.new passes.new }
 {
-    let command = command_from(text)?;
-    let (token, pass) = (&mut tokens[cpu], &mut passes[cpu]);
-    if pass.next_number() > 999_999 {
-        return Err("a number of a call".into());
-    }
-    let answer = monitor.execute(rt, alloc, token, pass, &Open, command);
+    let answer = ask(rt, alloc, monitor, tokens, passes, cpu, text)?;
     Ok(write_answer(&answer, out)?)
 }
 
@@ -122,8 +139,8 @@ fn fill_queue<S: Site, R: Wait>(
     let (monitor, mut tokens, mut passes, scribe) = Monitor::<S>::new(alloc, blank, config, 1)?;
     let _cpus = config.cpus();
     let (held, recorded) = (tokens.as_mut_slice(), passes.as_mut_slice());
-    ask(rt, alloc, &monitor, held, recorded, 0, "c4000151 1000", out)?;
-    ask(rt, alloc, &monitor, held, recorded, 0, "c4000151 1000", out)?;
+    tell(rt, alloc, &monitor, held, recorded, 0, "c4000151 1000", out)?;
+    tell(rt, alloc, &monitor, held, recorded, 0, "c4000151 1000", out)?;
     let history = History::new(alloc, config);
     close(rt, alloc, monitor, tokens, passes, scribe, history, out)
 }
@@ -139,7 +156,7 @@ fn full_queue_stops_token(rt: HostRuntime) -> Result<(), Fail> {
 }
 
 /// CPU 1 delegates a granule, and CPU 0 takes it back.
-fn ask_both<S: Site, R: Wait>(
+fn tell_both<S: Site, R: Wait>(
     rt: &R,
     alloc: Global,
     monitor: &Monitor<S>,
@@ -151,8 +168,8 @@ fn ask_both<S: Site, R: Wait>(
     requires two { monitor.now.config.cpus ≡ 2 }
     ensures { AreCpus monitor.now tokens.new passes.new }
 {
-    ask(rt, alloc, monitor, tokens, passes, 1, "c4000151 1000", out)?;
-    ask(rt, alloc, monitor, tokens, passes, 0, "c4000152 1000", out)
+    tell(rt, alloc, monitor, tokens, passes, 1, "c4000151 1000", out)?;
+    tell(rt, alloc, monitor, tokens, passes, 0, "c4000152 1000", out)
 }
 
 /// Two CPUs delegate one granule, and the first takes it back. What the first command recorded is drained at once, and the rest at the close.
@@ -174,9 +191,9 @@ fn delegate_by_two<S: Site, R: Wait>(
     )?;
     let (held, recorded) = (tokens.as_mut_slice(), passes.as_mut_slice());
     let mut history = History::new(alloc, config);
-    ask(rt, alloc, &monitor, held, recorded, 0, "c4000151 1000", out)?;
+    tell(rt, alloc, &monitor, held, recorded, 0, "c4000151 1000", out)?;
     monitor.drain(rt, &mut scribe, &mut history)?;
-    ask_both(rt, alloc, &monitor, held, recorded, out)?;
+    tell_both(rt, alloc, &monitor, held, recorded, out)?;
     close(rt, alloc, monitor, tokens, passes, scribe, history, out)
 }
 

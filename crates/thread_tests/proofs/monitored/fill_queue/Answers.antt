@@ -5,6 +5,6 @@ use Rattle.thread_tests.proofs.monitored.fill_queue.Goals as goal
 pub close-requires-clause-cpus : goal.close-requires-clause-cpus
 close-requires-clause-cpus g c =
     let was = c.in_ok-monitor.ensures.cpus in
-    cpus-refilled c.in_ok-monitor.monitor c.ask-2.new.tokens c.in_ok-monitor.tokens.items c.ask-2.new.passes c.in_ok-monitor.passes.items
-    c.in_ok-monitor.tokens.len c.in_ok-monitor.passes.len c.ask-2.ensures (omega (arith, was.count, c.in_ok-monitor.tokens.ok.0))
+    cpus-refilled c.in_ok-monitor.monitor c.tell-2.new.tokens c.in_ok-monitor.tokens.items c.tell-2.new.passes c.in_ok-monitor.passes.items
+    c.in_ok-monitor.tokens.len c.in_ok-monitor.passes.len c.tell-2.ensures (omega (arith, was.count, c.in_ok-monitor.tokens.ok.0))
     (omega (arith, was.count, was.pairs.same_count, c.in_ok-monitor.passes.ok.0))
