@@ -1,22 +1,20 @@
 -- What is answered by the records of a REC and of its realm, as they are looked up.
-use Rattle.std.proofs.Common.{◌≡◌, ℕ, IfSome, IsTrue, Some, sym, ap, subst}
+use Rattle.std.proofs.Common.{◌≡◌, ℕ, Some, sym, ap}
 use Rattle.std.specs.Prelude.{Result, Ok, unwrap_or}
 use Rattle.rmm_spec.specs.declared.accepted.Accepted.{Accepted}
-use Rattle.rmm_spec.specs.declared.call.Call.TheVariants.{RecEnter}
 use Rattle.rmm_spec.specs.declared.change.RecUpdate.TheVariants.{Exited}
 use Rattle.rmm_spec.specs.declared.reply.Reply.{Reply}
-use Rattle.rmm_spec.specs.declared.tag.Tag.TheVariants.{Rd}
-use Rattle.rmm_spec.specs.Lookup.{has_tag, no_realm, realm_at, rec_at, request_of}
+use Rattle.rmm_spec.specs.Lookup.{no_realm, no_rec, realm_at, rec_at, request_of}
 use Rattle.rmm_spec.specs.Rows.{done}
 use Rattle.rmm_spec.specs.State.{State, RealmRecord, RecRecord}
 use Rattle.rmm_spec.specs.Step.Named.{named}
 use Rattle.rmm_spec.specs.Step.RealmCall.{exit_words, rec_change, rec_exit}
 use Rattle.rmm_spec.specs.Step.Words.{words_of}
-use Rattle.command_rows.specs.Answers.{IsOwned}
 
--- the REC that is entered has a realm
-pub owner-tagged : (s : State) (address : ℕ) (rec : RecRecord) → Some rec ≡ s.rec address → IsOwned s (RecEnter address) → IsTrue (has_tag s rec.owner Rd)
-owner-tagged s address rec is owned = subst (λ found. IfSome found (λ (r : RecRecord). IsTrue (has_tag s r.owner Rd))) (sym is) owned
+-- the REC that is there is the one that is read
+pub rec_there : (s : State) (address : ℕ) (rec : RecRecord) → Some rec ≡ s.rec address → rec_at s address ≡ rec
+unfolding rec_at
+rec_there s address rec is = ap (λ found. unwrap_or found no_rec) (sym is)
 
 -- the realm that is there is the one that is read
 pub realm_there : (s : State) (rd : ℕ) (realm : RealmRecord) → Some realm ≡ s.realm rd → realm_at s rd ≡ realm

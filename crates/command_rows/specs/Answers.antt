@@ -1,15 +1,15 @@
 -- What a command is answered, where it is given outside of RECs and where inside of one. Two searches through the whole state
 -- are told beside it, since who holds a part of the state knows them in another way.
-use Rattle.std.specs.Prelude.{ℕ, Bool, if◌then◌else◌, Result, Err, IfSome, IsTrue, is_none}
+use Rattle.std.specs.Prelude.{ℕ, Bool, if◌then◌else◌, Result, Err, IsTrue, is_none}
 use Rattle.rmm_spec.specs.declared.accepted.Accepted.{Accepted}
 use Rattle.rmm_spec.specs.declared.call.Call.{Call}
 use Rattle.rmm_spec.specs.declared.call.Call.TheVariants.{RealmCreate, RealmDestroy, RecEnter}
 use Rattle.rmm_spec.specs.declared.reply.Reply.{Reply}
 use Rattle.rmm_spec.specs.declared.reply.Reply.TheVariants.{Misplaced}
-use Rattle.rmm_spec.specs.declared.tag.Tag.TheVariants.{Rd}
+use Rattle.rmm_spec.specs.declared.tag.Tag.TheVariants.{Rd, Rec}
 use Rattle.rmm_spec.specs.Call.{Class, ByHost, ByRealm, ByExit, class_of}
 use Rattle.rmm_spec.specs.Lookup.{has_tag, rec_at}
-use Rattle.rmm_spec.specs.State.{State, RecRecord}
+use Rattle.rmm_spec.specs.State.{State}
 use Rattle.rmm_spec.specs.Step.{answer_of}
 use Rattle.rmm_spec.specs.Step.Realm.{realm_create_told, realm_destroy_told}
 use Rattle.rmm_spec.specs.Step.RealmCall.{rec_exit}
@@ -17,8 +17,17 @@ use Rattle.rec_steps.specs.Answers.{call_row}
 
 -- where a command enters a REC, the REC there, if one is, has a realm for its owner
 abbrev pub IsOwned : State → Call → Type 0
-IsOwned s (RecEnter rec) = IfSome (s.rec rec) (λ (found : RecRecord). IsTrue (has_tag s found.owner Rd))
+IsOwned s (RecEnter rec) = IsTrue (has_tag s rec Rec) → IsTrue (has_tag s (rec_at s rec).owner Rd)
 IsOwned s _ = Unit {0}
+
+-- a command is given from inside of a REC: an exit reads the REC, and a realm's call its realm besides
+abbrev pub IsInsideBy : Class → State → ℕ → Type 0
+IsInsideBy ByHost s rec = Unit {0}
+IsInsideBy ByRealm s rec = IsTrue (has_tag s rec Rec) × IsTrue (has_tag s (rec_at s rec).owner Rd)
+IsInsideBy ByExit s rec = IsTrue (has_tag s rec Rec)
+
+unfoldable pub IsInside : State → ℕ → Call → Type 0
+IsInside s rec call = IsInsideBy (class_of call) s rec
 
 -- a host's command is answered by its rows, and no other is given outside of RECs
 abbrev pub host_answer : Class → State → ℕ → Call → Result Accepted Reply

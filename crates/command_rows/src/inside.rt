@@ -1,12 +1,11 @@
 //! What is answered to a CPU that is inside a REC: the calls of a realm, and the exit to its host.
 
 ghost use Rattle.std.specs.Prelude.{◌≡◌, IfSome, IsTrue, is_some};
-ghost use Rattle.rmm_spec.specs.Call.{ByRealm, class_of};
 ghost use Rattle.rmm_spec.specs.Lookup as look;
 ghost use Rattle.rmm_spec.specs.State.{RealmRecord};
 ghost use Rattle.rmm_spec.specs.Step.RealmCall as spec;
 ghost use Rattle.rec_steps.specs.Answers.{is_read, IsRipasRead};
-ghost use Rattle.command_rows.specs.Answers.{inside_answer, realm_answer};
+ghost use Rattle.command_rows.specs.Answers.{IsInside, inside_answer, realm_answer};
 
 use crate::reply::accepted_at;
 use crate::sight::Sight;
@@ -16,10 +15,10 @@ use rec_steps::{answer_to_call, answer_to_exit};
 use rmm_spec::{Accepted, Call, Reply, Ripas};
 use table_entries::entry_ripas;
 
-/// What a call is answered in the state of the sight, given from inside of the REC. Only a realm's call reads the realm.
+/// What a call is answered in the state of the sight, given from inside of the REC.
+#[tactic(auto, unfolding(crate::specs::Answers::IsInside, crate::specs::Answers::inside_answer))]
 pub fn answer_inside<S: Sight>(sight: &S, rec: u64, call: &Call) -> Result<Accepted, Reply>
-    requires rec { IsTrue (look.has_tag (S.state sight.now) rec Tag.Rec) }
-    requires realm { class_of call.now ≡ ByRealm → IsTrue (look.has_tag (S.state sight.now) (look.rec_at (S.state sight.now) rec).owner Tag.Rd) }
+    requires inside { IsInside (S.state sight.now) rec call.now }
     ensures { result ≡ inside_answer (S.state sight.now) rec call.now }
 {
     match caller_of(call) {
