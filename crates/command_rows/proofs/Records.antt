@@ -1,6 +1,6 @@
 -- What is answered by the records of a REC and of its realm, as they are looked up.
 use Rattle.std.proofs.Common.{◌≡◌, ℕ, true, false, Some, refl, sym, ap, ◌∙◌}
-use Rattle.std.specs.Prelude.{Result, Ok, Err, is_none, unwrap_or}
+use Rattle.std.specs.Prelude.{Result, Ok, Err, is_none}
 use Rattle.rmm_spec.specs.declared.accepted.Accepted.{Accepted}
 use Rattle.rmm_spec.specs.declared.call.Call.{Call}
 use Rattle.rmm_spec.specs.declared.call.Call.TheVariants.{RecEnter}
@@ -8,24 +8,15 @@ use Rattle.rmm_spec.specs.declared.change.RecUpdate.TheVariants.{Exited}
 use Rattle.rmm_spec.specs.declared.reply.Reply.{Reply}
 use Rattle.rmm_spec.specs.declared.reply.Reply.TheVariants.{Misplaced}
 use Rattle.rmm_spec.specs.declared.tag.Tag.TheVariants.{Rd, Rec}
-use Rattle.rmm_spec.specs.Lookup.{has_tag, no_realm, no_rec, realm_at, rec_at, request_of}
+use Rattle.rmm_spec.specs.Lookup.{has_tag, rec_at, request_of}
 use Rattle.rmm_spec.specs.Rows.{done}
-use Rattle.rmm_spec.specs.State.{State, RealmRecord, RecRecord}
+use Rattle.rmm_spec.specs.State.{State, RecRecord}
 use Rattle.rmm_spec.specs.Step.Named.{named}
 use Rattle.rmm_spec.specs.Step.RealmCall.{exit_words, rec_change, rec_exit}
 use Rattle.rmm_spec.specs.Step.Words.{words_of}
 use Rattle.rec_steps.specs.Answers.{call_row}
+use Rattle.rec_steps.proofs.Steps.{rec_at-held}
 use Rattle.command_rows.specs.Answers.{IsOwned, realm_answer}
-
--- the REC that is there is the one that is read
-pub rec_there : (s : State) (address : ℕ) (rec : RecRecord) → Some rec ≡ s.rec address → rec_at s address ≡ rec
-unfolding rec_at
-rec_there s address rec is = ap (λ found. unwrap_or found no_rec) (sym is)
-
--- the realm that is there is the one that is read
-pub realm_there : (s : State) (rd : ℕ) (realm : RealmRecord) → Some realm ≡ s.realm rd → realm_at s rd ≡ realm
-unfolding realm_at
-realm_there s rd realm is = ap (λ found. unwrap_or found no_realm) (sym is)
 
 -- a REC leaves with the words of its record
 pub exit-row : (s : State) (address : ℕ) (rec : RecRecord) → rec ≡ rec_at s address
@@ -38,7 +29,7 @@ exit-row s address rec is =
 pub entered_realm : (s : State) (address rd : ℕ) (rec : RecRecord) → Some rec ≡ s.rec address → true ≡ has_tag s address Rec → rd ≡ rec.owner
     → IsOwned s (RecEnter address) → has_tag s rd Rd ≡ true
 entered_realm s address rd rec there tagged is owned =
-    ap (λ a. has_tag s a Rd) (is ∙ ap (λ (r : RecRecord). r.owner) (sym (rec_there s address rec there))) ∙ owned (sym tagged)
+    ap (λ a. has_tag s a Rd) (is ∙ ap (λ (r : RecRecord). r.owner) (sym (rec_at-held s address rec (sym there)))) ∙ owned (sym tagged)
 
 -- a REC that waits to leave gives no call
 pub called-waits : (s : State) (address : ℕ) (call : Call) (rec : RecRecord) → rec ≡ rec_at s address → is_none rec.pending ≡ false

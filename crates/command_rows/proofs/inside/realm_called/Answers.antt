@@ -5,7 +5,8 @@ use Rattle.rmm_spec.specs.Lookup.{has_tag, realm_at, rec_at}
 use Rattle.rmm_spec.specs.State.{RecRecord}
 use Rattle.rec_steps.specs.Answers.{IsRipasRead, answer_at}
 use Rattle.realm_desc.specs.View.{rec_record}
-use Rattle.command_rows.proofs.Records.{called-row, called-waits, realm_there}
+use Rattle.rec_steps.proofs.Steps.{realm_at-held}
+use Rattle.command_rows.proofs.Records.{called-row, called-waits}
 use Rattle.command_rows.proofs.inside.realm_called.Goals as goal
 
 pub returns-then-not-can_call : goal.returns-then-not-can_call
@@ -29,7 +30,7 @@ returns g c =
     let a = c.args in
     let rd = c.address-rd.result in
     let is_owner : rd ≡ (rec_at s a.address).owner = c.address-rd.ensures ∙ ap (λ (r : RecRecord). r.owner) c.rec_at.ensures in
-    let is_realm : realm_at s (rec_at s a.address).owner ≡ c.in-Some.realm = ap (realm_at s) (sym is_owner) ∙ realm_there s rd c.in-Some.realm c.in-Some.ensures.there in
+    let is_realm : realm_at s (rec_at s a.address).owner ≡ c.in-Some.realm = ap (realm_at s) (sym is_owner) ∙ realm_at-held s rd c.in-Some.realm (sym c.in-Some.ensures.there) in
     let read = subst (λ owner. IfSome c.ripas_read.result (IsRipasRead s owner a.call.now)) is_owner c.ripas_read.ensures.read in
     c.accepted_at.ensures ∙ ap (λ owner. answer_at owner a.address c.answer_to_call.result) is_owner
     ∙ c.answer_to_call.ensures.answer s a.address is_realm read
