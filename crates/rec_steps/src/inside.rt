@@ -1,0 +1,97 @@
+//! The commands of a CPU that is inside a REC.
+
+ghost use Rattle.std.specs.Prelude.{◌≡◌, ℕ, IfOk, IfSome, IsTrue, is_some};
+ghost use Rattle.rmm_spec.specs.Call.{call_of};
+ghost use Rattle.rmm_spec.specs.State.{State};
+ghost use Rattle.rmm_spec.specs.Lookup.{is_inside, rec_inside, realm_at, rec_at};
+ghost use Rattle.rmm_spec.specs.Step.{Step, outcome};
+ghost use Rattle.rmm_spec.specs.Update.{with_realm, with_rec};
+ghost use Rattle.rec_steps.specs.Answers.{answer_at, call_row, is_refusal, is_read, is_walk, IsRipasRead, IsStep};
+ghost use Rattle.rec_steps.specs.Held.{IsHeld};
+
+use crate::ipa_state::{ipa_state_get, ipa_state_set};
+use crate::leaving::{answer_to_exit, cpu_off, host_call, system_off};
+use crate::measurement::{measurement_extend, measurement_read};
+use crate::realm_config::config_of;
+use crate::step::RecStep;
+use realm_desc::{Realm, Rec};
+use rmm_spec::{Call, Command, Reply, Ripas};
+
+/// Whether the command of a CPU inside the REC reads an entry, whose RIPAS is then to be handed in.
+pub fn walks(realm: &Realm, rec: &Rec, command: &Command) -> bool
+    ensures { result ≡ is_walk realm.now rec.now (call_of command.now) }
+{
+    match command.call() {
+        Call::IpaStateGet { ipa } => rec.can_call() && realm.protects(ipa),
+        _ => false,
+    }
+}
+
+/// What is answered to a command of a CPU inside the REC. Where the command reads an entry, the RIPAS is that entry's.
+pub fn answer_inside(
+    realm: &Realm,
+    rec: &Rec,
+    call: &Call,
+    ripas: Option<Ripas>,
+) -> Result<RecStep, Reply>
+    requires { IsTrue (is_walk realm.now rec.now call.now) → IsTrue (is_some ripas) }
+    ensures answer { (s : State) (cpu : ℕ) → IsTrue (is_inside s cpu) → IsHeld s (rec_inside s cpu) realm.now rec.now
+        → IfSome ripas (IsRipasRead s rec.now.owner call.now)
+        → answer_at rec.now.owner (rec_inside s cpu) result ≡ outcome s cpu call.now }
+    ensures fits { IfOk result IsStep }
+{
+    if let Call::Exit = call {
+        return Ok(answer_to_exit(rec));
+    }
+    if !rec.can_call() {
+        return Err(Reply::Misplaced);
+    }
+    answer_to_call(realm, call, ripas)
+}
+
+/// What is answered to a realm's call of a REC that doesn't wait to leave. Where the call reads an entry, the RIPAS is that
+/// entry's.
+#[tactic(auto, unfolding(crate::specs::Answers::call_row))]
+pub fn answer_to_call(realm: &Realm, call: &Call, ripas: Option<Ripas>) -> Result<RecStep, Reply>
+    requires { IsTrue (is_read realm.now call.now) → IsTrue (is_some ripas) }
+    ensures answer { (s : State) (address : ℕ) → realm_at s (rec_at s address).owner ≡ realm.now
+        → IfSome ripas (IsRipasRead s (rec_at s address).owner call.now)
+        → answer_at (rec_at s address).owner address result ≡ call_row s address call.now }
+    ensures fits { IfOk result IsStep }
+{
+    match call {
+        Call::MeasurementRead { index } => measurement_read(realm, *index),
+        Call::MeasurementExtend {
+            index,
+            size,
+            values,
+        } => measurement_extend(*index, *size, values),
+        Call::RealmConfig => config_of(realm),
+        Call::IpaStateSet { base, top, ripas } => ipa_state_set(realm, *base, *top, *ripas),
+        Call::IpaStateGet { ipa } => ipa_state_get(realm, *ipa, ripas),
+        Call::HostCall { imm } => host_call(*imm),
+        Call::CpuOff => cpu_off(),
+        Call::SystemOff => system_off(),
+        _ => Err(Reply::Misplaced),
+    }
+}
+
+/// The REC that the CPU is inside gives a command. Where the command reads an entry, the RIPAS is that entry's.
+pub fn realm_call(
+    realm: &mut Realm,
+    rec: &mut Rec,
+    command: &Command,
+    ripas: Option<Ripas>,
+) -> Reply
+    requires { IsTrue (is_walk realm.old rec.old (call_of command.now)) → IsTrue (is_some ripas) }
+    ensures step { (s : State) (cpu : ℕ) → IsTrue (is_inside s cpu) → IsHeld s (rec_inside s cpu) realm.old rec.old
+        → IfSome ripas (IsRipasRead s rec.old.owner (call_of command.now))
+        → Step s cpu command.now result (with_rec (with_realm s rec.old.owner realm.new) (rec_inside s cpu) rec.new) }
+    ensures refused_realm { IsTrue (is_refusal result) → realm.new ≡ realm.old }
+    ensures refused_rec { IsTrue (is_refusal result) → rec.new ≡ rec.old }
+{
+    match answer_inside(realm, rec, &command.call(), ripas) {
+        Ok(step) => step.apply(realm, rec),
+        Err(refusal) => refusal,
+    }
+}
