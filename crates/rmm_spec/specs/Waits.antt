@@ -72,13 +72,16 @@ pub record IsLastTaken (w : World) (cpu granule : ℕ) : Type 0 where
 
 -- what a CPU frees as it goes: what its plan gives back before the commit, and after it the last taken first
 abbrev pub MayFree : World → ℕ → ℕ → Phase → Type 0
+MayFree w cpu granule (Deciding number command learnt) = Unit {0}
 MayFree w cpu granule (Decided number command given) = IsLastTaken w cpu granule
-MayFree w cpu granule _ = Unit {0}
+MayFree w cpu granule _ = ⊥
 
--- The moves that each will leads to. A go takes no lock but by a rising take.
+-- The moves that each will leads to. A go takes no lock but by a rising take, frees in an open call alone, and returns once
+-- nothing is held.
 abbrev pub IsWilled : World → Will → Move → Type 0
 IsWilled w Go (world.Take cpu granule) = IsRising w cpu granule
 IsWilled w Go (world.Free cpu granule learnt) = MayFree w cpu granule (w.phase cpu)
+IsWilled w Go (world.Return cpu) = w.taken cpu ≡ []
 IsWilled w Go (world.GiveUp cpu) = ⊥
 IsWilled w Go (world.Stop cpu) = ⊥
 IsWilled w Go _ = Unit {0}

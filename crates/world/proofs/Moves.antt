@@ -277,10 +277,10 @@ module _ (s : own.World) (cpu : ℕ) (within : cpu < s.history.recorded.config.c
   returned number command given decided none =
       let old = views_of s.cpus in
       let was : IsFit (Decided number command given) (old.program cpu) = subst (λ p. IsFit p (old.program cpu)) decided (s.kept.fit.each cpu) in
-      move-kept s cpu turn.Go (move.Return cpu) (with_return number given) refl refl refl tt
+      move-kept s cpu turn.Go (move.Return cpu) (with_return number given) refl refl refl none
       (record {
         is_cpu = within;
-        moves = record { number = number; command = command; given = given; is_decided = decided; holds_none = none; is_new = refl };
+        moves = record { number = number; command = command; given = given; is_decided = decided; is_new = refl };
       })
       s.kept.locked (AreFit-phase old.phase old.program cpu (Between (number + 1))
       (record { served = was.served; open_served = refl; numbered = was.numbered }) s.kept.fit)

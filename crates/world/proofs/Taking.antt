@@ -116,16 +116,17 @@ last-of taken last is =
           ∙ ap (λ x. take i taken ++ x ∷ []) (get_or_from_slice_get taken i last last is),
     )
 
-pub nothing_learnt-decided : (w : World) (p : Phase) (granule : ℕ) → is_decided p ≡ true → MayLearn w p granule None
-nothing_learnt-decided w (Between number) granule is = absurd (false≢true is)
-nothing_learnt-decided w (Deciding number command learnt) granule is = absurd (false≢true is)
-nothing_learnt-decided w (Decided number command given) granule is = tt
-nothing_learnt-decided w GivenUp granule is = absurd (false≢true is)
-nothing_learnt-decided w Stopped granule is = absurd (false≢true is)
+-- nothing may be learnt in whatever phase
+pub nothing_learnt : (w : World) (p : Phase) (granule : ℕ) → MayLearn w p granule None
+nothing_learnt w (Between number) granule = tt
+nothing_learnt w (Deciding number command learnt) granule = tt
+nothing_learnt w (Decided number command given) granule = tt
+nothing_learnt w GivenUp granule = tt
+nothing_learnt w Stopped granule = tt
 
-pub free-last : (w : World) (cpu granule : ℕ) (p : Phase) (earlier : List ℕ) → w.taken cpu ≡ earlier ++ granule ∷ [] → MayFree w cpu granule p
-free-last w cpu granule (Between number) earlier is = tt
-free-last w cpu granule (Deciding number command learnt) earlier is = tt
-free-last w cpu granule (Decided number command given) earlier is = record { earlier = earlier; is_last = is }
-free-last w cpu granule GivenUp earlier is = tt
-free-last w cpu granule Stopped earlier is = tt
+pub free-last : (w : World) (cpu granule : ℕ) (p : Phase) (earlier : List ℕ) → is_decided p ≡ true → w.taken cpu ≡ earlier ++ granule ∷ [] → MayFree w cpu granule p
+free-last w cpu granule (Between number) earlier decided is = absurd (false≢true decided)
+free-last w cpu granule (Deciding number command learnt) earlier decided is = absurd (false≢true decided)
+free-last w cpu granule (Decided number command given) earlier decided is = record { earlier = earlier; is_last = is }
+free-last w cpu granule GivenUp earlier decided is = absurd (false≢true decided)
+free-last w cpu granule Stopped earlier decided is = absurd (false≢true decided)

@@ -4,7 +4,8 @@ use Rattle.std.specs.Prelude.{Contains}
 use Rattle.rmm_spec.specs.World.{World, Phase, Between, Deciding, Decided, GivenUp, Stopped, IsGoing, IsShapedWorld}
 use Rattle.rmm_spec.specs.Waits.{IsRising, IsChain, HasNoCircle, Go, IsIdle, IsBlocked, HasReturnedAll, IsStuck, LeadsToStopped, WaitsBehindStopped}
 use Rattle.world_laws.proofs.Members.{Contains-nil}
-use Rattle.world_laws.proofs.Locked.{IsLocked, HoldsIn}
+use Rattle.world_laws.proofs.Locked.{IsLocked}
+use Rattle.world_laws.proofs.Holding.{HoldsIn, HoldByPhase}
 use Rattle.world_laws.proofs.Ranks.{rank, rank-rises, rank-bounded}
 
 -- what the first CPU of a chain waits for
@@ -33,30 +34,30 @@ HasNoCircle-shaped w shaped locked = λ cpu others chain.
 -- ---- stuck worlds
 
 -- a CPU that holds a lock and has nothing to do was stopped
-idle_holder : (w : World) → IsLocked w → (cpu granule : ℕ) → Contains (w.taken cpu) granule → IsIdle w cpu Go → w.phase cpu ≡ Stopped
-idle_holder w locked cpu granule holds (inr done) =
-    let none : w.taken cpu ≡ [] = subst (λ p. HoldsIn p (w.taken cpu)) done.is_between (locked.holds cpu) in
+idle_holder : (w : World) → HoldByPhase w → (cpu granule : ℕ) → Contains (w.taken cpu) granule → IsIdle w cpu Go → w.phase cpu ≡ Stopped
+idle_holder w freed cpu granule holds (inr done) =
+    let none : w.taken cpu ≡ [] = subst (λ p. HoldsIn p (w.taken cpu)) done.is_between (freed.each cpu) in
     absurd (Contains-nil granule (subst (λ held. Contains held granule) none holds))
-idle_holder w locked cpu granule holds (inl ended) = by (w.phase cpu) refl
+idle_holder w freed cpu granule holds (inl ended) = by (w.phase cpu) refl
   where
     empty : w.taken cpu ≡ [] → ⊥
     empty none = Contains-nil granule (subst (λ held. Contains held granule) none holds)
 
     by : (p : Phase) → w.phase cpu ≡ p → p ≡ Stopped
-    by (Between number) is = absurd (empty (subst (λ p. HoldsIn p (w.taken cpu)) is (locked.holds cpu)))
+    by (Between number) is = absurd (empty (subst (λ p. HoldsIn p (w.taken cpu)) is (freed.each cpu)))
     by (Deciding number command learnt) is = absurd (ended (subst IsGoing (sym is) tt))
     by (Decided number command given) is = absurd (ended (subst IsGoing (sym is) tt))
-    by GivenUp is = absurd (empty (subst (λ p. HoldsIn p (w.taken cpu)) is (locked.holds cpu)))
+    by GivenUp is = absurd (empty (subst (λ p. HoldsIn p (w.taken cpu)) is (freed.each cpu)))
     by Stopped is = refl
 
 -- from a blocked CPU a chain leads to one that was stopped, since ranks are bounded
-leads : (w : World) → IsShapedWorld w → IsLocked w → IsStuck w → (fuel cpu granule : ℕ) (blocked : IsBlocked w cpu granule)
+leads : (w : World) → IsShapedWorld w → IsLocked w → HoldByPhase w → IsStuck w → (fuel cpu granule : ℕ) (blocked : IsBlocked w cpu granule)
     → w.config.granules * 4096 + 5 ≤ fuel + rank w cpu granule blocked.waits.rising → LeadsToStopped w cpu
-leads w shaped locked stuck zero cpu granule blocked enough =
+leads w shaped locked freed stuck zero cpu granule blocked enough =
     absurd (omega (arith, rank-bounded w shaped cpu granule blocked.waits.rising, enough))
-leads w shaped locked stuck (suc fuel) cpu granule blocked enough =
+leads w shaped locked freed stuck (suc fuel) cpu granule blocked enough =
     by (stuck blocked.other (locked.fits blocked.other granule blocked.waits.is_held))
-    (λ next there enough_there. leads w shaped locked stuck fuel blocked.other next there enough_there)
+    (λ next there enough_there. leads w shaped locked freed stuck fuel blocked.other next there enough_there)
   where
     by : ((next : ℕ) × IsBlocked w blocked.other next) ⊎ IsIdle w blocked.other Go
         → ((next : ℕ) (there : IsBlocked w blocked.other next)
@@ -70,23 +71,23 @@ leads w shaped locked stuck (suc fuel) cpu granule blocked enough =
       others = [];
       last = blocked.other;
       chain = (granule, blocked.waits);
-      is_stopped = idle_holder w locked blocked.other granule blocked.waits.is_held idle;
+      is_stopped = idle_holder w freed blocked.other granule blocked.waits.is_held idle;
     }
 
-leads_on : (w : World) → IsShapedWorld w → IsLocked w → IsStuck w → (cpu granule : ℕ) → IsBlocked w cpu granule → LeadsToStopped w cpu
-leads_on w shaped locked stuck cpu granule blocked = leads w shaped locked stuck (w.config.granules * 4096 + 5) cpu granule blocked (omega arith)
+leads_on : (w : World) → IsShapedWorld w → IsLocked w → HoldByPhase w → IsStuck w → (cpu granule : ℕ) → IsBlocked w cpu granule → LeadsToStopped w cpu
+leads_on w shaped locked freed stuck cpu granule blocked = leads w shaped locked freed stuck (w.config.granules * 4096 + 5) cpu granule blocked (omega arith)
 
-pub WaitsBehindStopped-stuck : (w : World) → IsShapedWorld w → IsLocked w → IsStuck w → WaitsBehindStopped w
-WaitsBehindStopped-stuck w shaped locked stuck = record {
-  each = λ cpu granule blocked. leads_on w shaped locked stuck cpu granule blocked;
+pub WaitsBehindStopped-stuck : (w : World) → IsShapedWorld w → IsLocked w → HoldByPhase w → IsStuck w → WaitsBehindStopped w
+WaitsBehindStopped-stuck w shaped locked freed stuck = record {
+  each = λ cpu granule blocked. leads_on w shaped locked freed stuck cpu granule blocked;
   next = λ cpu other waits. next waits.0 other waits.1.is_held (stuck other (locked.fits other waits.0 waits.1.is_held));
   without_stop = λ none cpu is_cpu. without none cpu (stuck cpu is_cpu);
 }
   where
     next : (granule other : ℕ) → Contains (w.taken other) granule → ((wanted : ℕ) × IsBlocked w other wanted) ⊎ IsIdle w other Go
         → (w.phase other ≡ Stopped) ⊎ LeadsToStopped w other
-    next granule other holds (inl blocked) = inr (leads_on w shaped locked stuck other blocked.0 blocked.1)
-    next granule other holds (inr idle) = inl (idle_holder w locked other granule holds idle)
+    next granule other holds (inl blocked) = inr (leads_on w shaped locked freed stuck other blocked.0 blocked.1)
+    next granule other holds (inr idle) = inl (idle_holder w freed other granule holds idle)
 
     ended_by : ((cpu : ℕ) → w.phase cpu ≡ Stopped → ⊥) → (cpu : ℕ) → (IsGoing (w.phase cpu) → ⊥) → (p : Phase) → w.phase cpu ≡ p → w.phase cpu ≡ GivenUp
     ended_by none cpu ended (Between number) is = absurd (ended (subst IsGoing (sym is) tt))
@@ -98,6 +99,6 @@ WaitsBehindStopped-stuck w shaped locked stuck = record {
     without : ((cpu : ℕ) → w.phase cpu ≡ Stopped → ⊥) → (cpu : ℕ) → ((wanted : ℕ) × IsBlocked w cpu wanted) ⊎ IsIdle w cpu Go
         → (w.phase cpu ≡ GivenUp) ⊎ HasReturnedAll w cpu
     without none cpu (inl blocked) =
-        let on = leads_on w shaped locked stuck cpu blocked.0 blocked.1 in absurd (none on.last on.is_stopped)
+        let on = leads_on w shaped locked freed stuck cpu blocked.0 blocked.1 in absurd (none on.last on.is_stopped)
     without none cpu (inr (inl ended)) = inl (ended_by none cpu ended (w.phase cpu) refl)
     without none cpu (inr (inr done)) = inr done

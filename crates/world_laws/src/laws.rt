@@ -1,9 +1,9 @@
 //! The laws over the world: each is the contract of a function that does nothing.
 
-ghost use Rattle.std.specs.Prelude.{◌≡◌, ℕ, List, Contains};
+ghost use Rattle.std.specs.Prelude.{ℕ, List};
 ghost use Rattle.rmm_spec.specs.declared.command.Command.{Command};
 ghost use Rattle.rmm_spec.specs.HistoryText.{Config};
-ghost use Rattle.rmm_spec.specs.World.{World, Move, opening_world, HappenAll, IsCertified, IsShapedWorld};
+ghost use Rattle.rmm_spec.specs.World.{World, Move, opening_world, HappenAll, HasOneHolder, IsCertified, IsShapedWorld};
 ghost use Rattle.rmm_spec.specs.Waits.{Turn, TurnAll, HasNoCircle, KeepsWaiting, IsStuck, WaitsBehindStopped};
 
 /// After every list of moves, on a machine of any size and for all programs, the journal is a linearization of the history
@@ -18,8 +18,7 @@ pub fn every_run_is_certified()
 /// After every list of moves no two CPUs hold one lock.
 pub fn a_lock_has_one_holder()
     ensures { (config : Config) (programs : ℕ → List Command) (moves : List Move) (w : World)
-        → HappenAll (opening_world config programs) moves w
-        → (cpu other granule : ℕ) → Contains (w.taken cpu) granule → Contains (w.taken other) granule → cpu ≡ other }
+        → HappenAll (opening_world config programs) moves w → HasOneHolder w }
 {}
 
 /// After every list of moves no chain of waits at rising takes comes back to its start; and after every list of turns a CPU
@@ -33,9 +32,9 @@ pub fn no_wait_cycle()
         → TurnAll (opening_world config programs) turns w → KeepsWaiting turns w }
 {}
 
-/// Where no CPU can go on, each chain of waits ends at a CPU that was stopped. So without a stop each CPU has given up or has
-/// returned every call of its program.
+/// After every list of turns, where no CPU can go on, each chain of waits ends at a CPU that was stopped. So without a stop each
+/// CPU has given up or has returned every call of its program.
 pub fn stuck_behind_stopped()
-    ensures { (config : Config) (programs : ℕ → List Command) (moves : List Move) (w : World)
-        → HappenAll (opening_world config programs) moves w → IsStuck w → WaitsBehindStopped w }
+    ensures { (config : Config) (programs : ℕ → List Command) (turns : List Turn) (w : World)
+        → TurnAll (opening_world config programs) turns w → IsStuck w → WaitsBehindStopped w }
 {}
