@@ -24,7 +24,7 @@ use Rattle.world.specs.declared.world.World as world
 use Rattle.world.specs.declared.phase.Phase.TheVariants as phase
 use Rattle.world.specs.Cpus.{phase_in, is_deciding, is_decided}
 use Rattle.world.specs.Lent.{cells_at}
-use Rattle.world.specs.Next.{IsNext}
+use Rattle.world.specs.Next.{IsNext, next_in, next_for}
 use Rattle.world.specs.Whole.{world_from}
 use Rattle.world.specs.World.{world_of}
 
@@ -51,6 +51,11 @@ next-planned w cpu n granules place held number command learnt deciding has_gran
       (subst (λ p. IsPlanned granules command p learnt (held_cells w cpu) n) at (subst (λ h. IsPlanned granules command place learnt h n) holds planned));
   settled = sym (λ i. is_settled (has_granules i) (call_of command) (at i) (holds i)) ∙ settled;
 }
+
+-- it is what the plan says
+pub next-for : (w : World) (cpu : ℕ) (n : Next) → IsNext w cpu n → next_for w cpu ≡ Some n
+unfolding next_for
+next-for w cpu n next = ap (next_in w.config.granules (w.place cpu) (held_cells w cpu)) next.deciding.is_deciding ∙ ap Some (sym next.is_next)
 
 pub rising-next : (w : World) (cpu granule : ℕ) → IsNext w cpu (next.Take granule) → IsRising w cpu granule
 rising-next w cpu granule n = record { deciding = n.deciding; rising = n.planned }
