@@ -17,11 +17,15 @@ use std::alloc::{AllocError, Global};
 use world_laws::{every_run_is_certified, no_wait_cycle, stuck_behind_stopped};
 
 impl World {
-    /// All calls and returns so far.
+    /// All calls and returns so far. Without any no memory is taken.
     #[tactic(auto, unfolding(crate::specs::World::world_of, crate::specs::Whole::world_from))]
     pub fn history(&self, alloc: Global) -> Result<History, AllocError>
-        ensures { IfOk result (λ history. history.recorded ≡ history_of (world_of self.now)) }
+        ensures recorded { IfOk result (λ history. history.recorded ≡ history_of (world_of self.now)) }
+        ensures refused { OnErr result (0 < length (world_of self.now).events) }
     {
+        if self.history.is_empty() {
+            return Ok(History::new(alloc, self.history.config()));
+        }
         self.history.copy(alloc)
     }
 

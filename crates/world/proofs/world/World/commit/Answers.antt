@@ -15,7 +15,7 @@ use Rattle.world.specs.World.{world_of, waits_of}
 use Rattle.world.proofs.Locked.{locks-of_size}
 use Rattle.world.proofs.Taking.{not_deciding}
 use Rattle.world.specs.Recorded.{RecordsIn, IsShortIn, MakesTable, event_room, commit_room}
-use Rattle.world.proofs.Commits.{records-commit, unchanged-kept}
+use Rattle.world.proofs.Commits.{records-commit, unchanged-kept, accepts-reached}
 use Rattle.world.proofs.Goes.{next-report}
 use Rattle.world.proofs.Moves.{committed}
 use Rattle.world.proofs.world.World.commit.Goals as goal
@@ -84,9 +84,10 @@ returns-in_default-step-clause-only_short c =
     let s = c.args.self.now in
     let w = world_of s in
     let is_open = sym c.phase.ensures ∙ ap phase_in c.in-Deciding.is ∙ (λ i. Deciding c.in-Deciding.number (sym c.copied-command.ensures i) c.in-Deciding.learnt) in
+    let makes = subst (λ (config : Config). MakesTable config.granules c.args.cpu c.copied-command.result (hold_of w c.args.cpu)) c.config-config.ensures
+    c.in_default-step.ensures.only in
     subst (IsShortIn (event_room s) (commit_room s) w c.args.cpu) (sym is_open)
-    (inr (subst (λ (config : Config). MakesTable config.granules c.args.cpu c.copied-command.result (hold_of w c.args.cpu)) c.config-config.ensures
-    c.in_default-step.ensures.only))
+    (inr (accepts-reached s.history.recorded.config w (views_of s.cpus).waits c.args.cpu c.copied-command.result s.kept.reached makes))
 
 pub returns-in_default-reserve-clause-only_recorded : goal.returns-in_default-reserve-clause-only_recorded
 returns-in_default-reserve-clause-only_recorded c = records-commit (world_of c.args.self.now) c.args.cpu c.requires.ready
