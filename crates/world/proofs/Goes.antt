@@ -86,7 +86,7 @@ taken-fits cpus cpu granule has = by (nat_lt cpu (length cpus.list.items)) refl
     by true within = omega (arith, ltb-true cpu (length cpus.list.items) within, cpus.list.ok.0)
     by false past =
         absurd (Contains-nil granule (subst (λ o. Contains (told (λ (c : Cpu). c.taken.items) [] o) granule)
-        (slice_get_past cpus.list.items cpu (ltb-false cpu (length cpus.list.items) past)) has))
+        (slice_get_past cpus.list.items cpu (omega (arith, ltb-false cpu (length cpus.list.items) past))) has))
 
 pub is_taken-held : (s : own.World) (cpu granule : ℕ) → Contains ((world_of s).taken cpu) granule → is_taken (world_of s) granule ≡ true
 unfolding world_of world_from is_taken

@@ -2,7 +2,6 @@ use Rattle.std.proofs.Common.{sym, ◌∙◌}
 use Rattle.command_core.specs.Changed.{hold_of, hold_changed}
 use Rattle.command_core.specs.Seen.{place_of}
 use Rattle.command_core.specs.Sides.{side_of}
-use Rattle.std.proofs.lemmas.Bool.{not-true, not-false}
 use Rattle.certified_laws.proofs.Accepted.{refused-is_local}
 use Rattle.world.proofs.stepping.step_on.Goals as goal
 
