@@ -3,7 +3,7 @@
 ghost use Rattle.std.specs.Prelude.{◌≡◌, ℕ, ◌<◌, length, IfOk, OnErr, Some, Contains};
 ghost use Rattle.rmm_spec.specs.Linearization.{IsKnown};
 ghost use Rattle.rmm_spec.specs.World.{HasOneHolder, IsCertified, history_of, certificate_of, line_for};
-ghost use Rattle.rmm_spec.specs.Waits.{HasNoCircle, WaitsAt, Blocked, Wants, WaitsBehindStopped};
+ghost use Rattle.rmm_spec.specs.Waits.{HasNoCircle, WaitsAt, Blocked, AreRising, Wants, WaitsBehindStopped};
 ghost use Rattle.world.specs.Next.{go_report, blocking, StandsStill};
 ghost use Rattle.world.specs.World.{world_of, waits_of};
 
@@ -45,13 +45,14 @@ impl World {
     }
 
     /// What holds of every value: its journal is a linearization of its history that leads to the cells as they are, no two CPUs
-    /// hold one lock and none wait in a circle. Where a CPU's last turn was blocked, its go would be so again while another
-    /// holds that lock. And where no CPU's go would make a move, each chain of waits ends at a CPU that was stopped: without a
-    /// stop each has given up or returned all its calls.
+    /// hold one lock and none wait in a circle. A go would be blocked at a rising take alone. Where a CPU's last turn was blocked,
+    /// its go would be so again while another holds that lock. And where no CPU's go would make a move, each chain of waits ends
+    /// at a CPU that was stopped: without a stop each has given up or returned all its calls.
     pub fn well_formed(&self)
         ensures certified { ∥ IsCertified (world_of self.now) ∥₁ }
         ensures one { HasOneHolder (world_of self.now) }
         ensures acyclic { HasNoCircle (world_of self.now) }
+        ensures rising { AreRising (world_of self.now) (Wants (blocking (world_of self.now))) }
         ensures waiting { (cpu granule other : ℕ) → waits_of self.now cpu ≡ Some granule
             → Contains ((world_of self.now).taken other) granule → ∥ WaitsAt (world_of self.now) cpu granule other ∥₁ }
         ensures again { (cpu granule other : ℕ) → waits_of self.now cpu ≡ Some granule

@@ -46,6 +46,12 @@ returns-clause-one c =
     let s = c.args.self.now in
     HasOneHolder-locks s.history.recorded.config.granules (world_of s) (holder_of s.locks) s.kept.locked
 
+pub returns-clause-rising : goal.returns-clause-rising
+unfolding world_of
+returns-clause-rising c =
+    let s = c.args.self.now in
+    blocking-rises (world_of s) (holder_of s.locks) (views_of s.cpus).waits s.kept
+
 pub returns-clause-again : goal.returns-clause-again
 unfolding world_of waits_of
 returns-clause-again c =
