@@ -4,3 +4,4 @@ pub mod Room
 pub mod Written
 pub mod Lines
 pub mod Passed
+pub mod Accepted

@@ -18,7 +18,7 @@ use Rattle.rmm_spec.specs.World as world
 use Rattle.rmm_spec.proofs.Places.{IsEvent-slice_get}
 use Rattle.rmm_spec.proofs.Records.{subhistory_of-push_same, subhistory_of-push_other, stand_from-push_at, AllByRecursion-push}
 use Rattle.world_laws.proofs.Lists.{put_elim, slice_get-push_cases}
-use Rattle.world_laws.proofs.Recorded.{IsAccounted, AtPhase, IsAccounted-HappenAll, IsAccounted-opening}
+use Rattle.world_laws.proofs.Recorded.{Agrees-own, IsAccounted, AtPhase, IsAccounted-HappenAll, IsAccounted-opening}
 use Rattle.certified_laws.specs.Programs.{HaveTexts}
 use Rattle.world_laws.proofs.Opening.{flat_state-opening}
 use Rattle.certified_laws.proofs.Told.{StateFits, StateFits-opening}
@@ -142,11 +142,6 @@ IsWritten-Returns old cpu new accounted written happens =
       fits = written.fits;
     })
 
--- a CPU's own cells are the world's
-own_cells : (cells : ℕ → Cell) (taken : List ℕ) → Agrees cells (map (λ granule. record { granule = granule; cell = cells granule }) taken)
-own_cells cells [] = tt
-own_cells cells (granule ∷ taken) = (refl, own_cells cells taken)
-
 -- the command of an open call has a text, and so the reply that the machine gives, and the next state fits
 IsReply-Commits : (old : World) (cpu : ℕ) (given : Reply) (held : Hold) (new : World) → IsAccounted old → IsWritten old → Commits old cpu given held new
     → IsReply given × StateFits (flat_state old.config.granules (put_all old.cells held.cells))
@@ -155,7 +150,7 @@ IsReply-Commits old cpu given held new accounted written commits =
     let command = commits.deciding.command in
     let phase = subst (λ q. AtPhase q cpu old.journal old.events) commits.deciding.is_deciding (accounted.phases cpu) in
     let is_event = IsEvent-slice_get old.config.cpus old.events phase.1.0 (Called cpu number command) written.events phase.1.1 in
-    let right = commits.step.right old.cells old.place accounted.shaped (own_cells old.cells (old.taken cpu)) refl in
+    let right = commits.step.right old.cells old.place accounted.shaped (Agrees-own old.cells (old.taken cpu)) refl in
     IsReply-Step (flat_state old.config.granules old.cells) cpu command given (flat_state old.config.granules (put_all old.cells held.cells))
     written.fits is_event.1.words right.0
 

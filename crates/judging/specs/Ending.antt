@@ -1,5 +1,5 @@
--- How the program ends: its exit status, and its line on standard error where it has one. This project's own.
-use Rattle.std.specs.Prelude.{ℕ, List, ◌++◌, Option, None, Some, Result, Ok, Err, codes}
+-- How a judgement ends: its exit status, and its line on standard error where it has one. This project's own.
+use Rattle.std.specs.Prelude.{ℕ, List, ◌++◌, Result, Ok, Err, codes}
 use Rattle.rmm_spec.specs.declared.verdict.Verdict.{Verdict}
 use Rattle.rmm_spec.specs.declared.verdict.Verdict.TheVariants as verdict
 use Rattle.judging.specs.declared.fault.Fault.{Fault}
@@ -13,28 +13,17 @@ status_of (Ok (verdict.Yes count)) = 0
 status_of (Ok (verdict.No step why)) = 1
 status_of (Ok (verdict.HistoryFault line)) = 2
 status_of (Ok (verdict.CertificateFault line)) = 2
-status_of (Err fault.Arguments) = 2
 status_of (Err (fault.CannotRead path)) = 3
 status_of (Err fault.CannotWrite) = 3
 status_of (Err fault.NoMemory) = 3
-status_of (Err fault.NoThread) = 3
-status_of (Err fault.Disagrees) = 3
 
 -- without its newline
 abbrev pub fault_line : Fault → List ℕ
-fault_line fault.Arguments = codes "rmmcheck: arguments"
 fault_line (fault.CannotRead path) = codes "rmmcheck: cannot read " ++ path.now
 fault_line fault.CannotWrite = codes "rmmcheck: cannot write"
 fault_line fault.NoMemory = codes "rmmcheck: no memory"
-fault_line fault.NoThread = codes "rmmcheck: cannot start a thread"
-fault_line fault.Disagrees = codes "rmmcheck: disagrees"
 
--- a verdict's line goes to standard output, and a fault's to standard error
-abbrev pub error_line : Result Verdict Fault → Option (List ℕ)
-error_line (Ok verdict) = None
-error_line (Err fault) = Some (fault_line fault)
-
--- what a judgement of the files at two paths ends the program with
+-- what a fault of the judgement is, for the files at two paths
 abbrev pub fault_at : Paths → JudgeFault → Fault
 fault_at paths judge_fault.ReadHistory = fault.CannotRead paths.history
 fault_at paths judge_fault.ReadCertificate = fault.CannotRead paths.certificate

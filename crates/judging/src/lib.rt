@@ -1,7 +1,7 @@
 //! Judges what two devices give, and writes the verdict's line to a third: no words, no paths, and no files of its own.
 //! `judge` reads the history to its end and then the certificate, answers `checker`'s verdict and hands its line to the sink.
 //! It blames a device only for a failure of its own, and after any fault but `Write` the sink is as it was.
-//! `FileSource` and `OutputSink` are the devices over std's readers and writers; `ends_with` is the table of how a program ends.
+//! `FileSource` and `OutputSink` are the devices over std's readers and writers; `ends_with` is the table of its exit statuses.
 //! `scenarios` depends on it, and so the program `rmmcheck`.
 #![tactic(auto)]
 
@@ -13,7 +13,7 @@ mod output;
 mod sink;
 mod source;
 
-pub use ending::{Ending, ends_with};
+pub use ending::ends_with;
 pub use fault::{Fault, Paths};
 pub use file::FileSource;
 pub use judgement::{JudgeFault, judge};

@@ -25,13 +25,13 @@ abbrev pub WaitsFor : World → ℕ → ℕ → Type 0
 WaitsFor w cpu other = (granule : ℕ) × WaitsAt w cpu granule other
 
 -- a chain from the first CPU over others to the last, each waiting for the next
-abbrev pub IsChain : World → ℕ → List ℕ → ℕ → Type 0
-IsChain w first [] last = WaitsFor w first last
-IsChain w first (next ∷ others) last = WaitsFor w first next × IsChain w next others last
+abbrev pub IsChain : (ℕ → ℕ → Type 0) → ℕ → List ℕ → ℕ → Type 0
+IsChain waits first [] last = waits first last
+IsChain waits first (next ∷ others) last = waits first next × IsChain waits next others last
 
 -- no chain of waits comes back to its start
 abbrev pub HasNoCircle : World → Type 0
-HasNoCircle w = (cpu : ℕ) (others : List ℕ) → IsChain w cpu others cpu → ⊥
+HasNoCircle w = (cpu : ℕ) (others : List ℕ) → IsChain (WaitsFor w) cpu others cpu → ⊥
 
 -- ---- turns
 
@@ -72,13 +72,16 @@ pub record IsLastTaken (w : World) (cpu granule : ℕ) : Type 0 where
 
 -- what a CPU frees as it goes: what its plan gives back before the commit, and after it the last taken first
 abbrev pub MayFree : World → ℕ → ℕ → Phase → Type 0
+MayFree w cpu granule (Deciding number command learnt) = Unit {0}
 MayFree w cpu granule (Decided number command given) = IsLastTaken w cpu granule
-MayFree w cpu granule _ = Unit {0}
+MayFree w cpu granule _ = ⊥
 
--- The moves that each will leads to. A go takes no lock but by a rising take.
+-- The moves that each will leads to. A go takes no lock but by a rising take, frees in an open call alone, and returns once
+-- nothing is held.
 abbrev pub IsWilled : World → Will → Move → Type 0
 IsWilled w Go (world.Take cpu granule) = IsRising w cpu granule
 IsWilled w Go (world.Free cpu granule learnt) = MayFree w cpu granule (w.phase cpu)
+IsWilled w Go (world.Return cpu) = w.taken cpu ≡ []
 IsWilled w Go (world.GiveUp cpu) = ⊥
 IsWilled w Go (world.Stop cpu) = ⊥
 IsWilled w Go _ = Unit {0}
@@ -148,21 +151,36 @@ KeepsWaiting turns w =
 
 -- ---- stuck worlds
 
--- no CPU's go would make a move: each is blocked or has nothing to do
-abbrev pub IsStuck : World → Type 0
-IsStuck w = (cpu : ℕ) → cpu < w.config.cpus → ((granule : ℕ) × IsBlocked w cpu granule) ⊎ IsIdle w cpu Go
+-- What a CPU wants is the lock that its go would take next. Which that is, is left to a rule: any at whose rising take the CPU
+-- is, or the one that its plan names.
+
+-- each lock that is wanted is so at a rising take
+abbrev pub AreRising : World → (ℕ → ℕ → Type 0) → Type 0
+AreRising w wants = (cpu granule : ℕ) → wants cpu granule → IsRising w cpu granule
+
+-- the rule by which each CPU wants one lock at most
+abbrev pub Wants : (ℕ → Option ℕ) → ℕ → ℕ → Type 0
+Wants wanted cpu granule = wanted cpu ≡ Some granule
+
+-- by the rule, the one CPU waits for the other, which holds what it wants
+abbrev pub WaitsBy : World → (ℕ → ℕ → Type 0) → ℕ → ℕ → Type 0
+WaitsBy w wants cpu other = (granule : ℕ) × wants cpu granule × Contains (w.taken other) granule
+
+-- no CPU's go would make a move: each waits, or has nothing to do
+abbrev pub IsStuck : World → (ℕ → ℕ → Type 0) → Type 0
+IsStuck w wants = (cpu : ℕ) → cpu < w.config.cpus → ((other : ℕ) × WaitsBy w wants cpu other) ⊎ IsIdle w cpu Go
 
 -- from the CPU a chain of waits leads to one that was stopped
-pub record LeadsToStopped (w : World) (cpu : ℕ) : Type 0 where
+pub record LeadsToStopped (w : World) (waits : ℕ → ℕ → Type 0) (cpu : ℕ) : Type 0 where
   pub others : List ℕ
   pub last : ℕ
-  pub chain : IsChain w cpu others last
+  pub chain : IsChain waits cpu others last
   pub is_stopped : w.phase last ≡ Stopped
 
 -- Each chain of waits ends at a CPU that was stopped: who is waited for was stopped or waits in turn, and that comes to an
 -- end. So where none was stopped, each CPU gave up or has returned all calls of its program.
-pub record WaitsBehindStopped (w : World) : Type 0 where
-  pub each : (cpu granule : ℕ) → IsBlocked w cpu granule → LeadsToStopped w cpu
-  pub next : (cpu other : ℕ) → WaitsFor w cpu other → (w.phase other ≡ Stopped) ⊎ LeadsToStopped w other
+pub record WaitsBehindStopped (w : World) (wants : ℕ → ℕ → Type 0) : Type 0 where
+  pub each : (cpu other : ℕ) → WaitsBy w wants cpu other → LeadsToStopped w (WaitsBy w wants) cpu
+  pub next : (cpu other : ℕ) → WaitsBy w wants cpu other → (w.phase other ≡ Stopped) ⊎ LeadsToStopped w (WaitsBy w wants) other
   pub without_stop : ((cpu : ℕ) → w.phase cpu ≡ Stopped → ⊥) → (cpu : ℕ) → cpu < w.config.cpus
       → (w.phase cpu ≡ GivenUp) ⊎ HasReturnedAll w cpu

@@ -132,15 +132,12 @@ pub record Learns (w : World) (command : Command) (granule rd : ℕ) : Type 0 wh
   pub is_lock : IsTrue (is_granule w.config.granules rd)
   pub is_other : (rd == granule) ≡ false
 
--- what may be learnt in a phase where a granule is freed: nothing, or what an Enter learns
+-- what may be learnt as a granule is freed: nothing, or in a call that isn't committed what an Enter learns
 abbrev pub MayLearn : World → Phase → ℕ → Option ℕ → Type 0
 MayLearn w (Deciding number command learnt) granule None = Unit {0}
 MayLearn w (Deciding number command learnt) granule (Some rd) = Learns w command granule rd
-MayLearn w (Decided number command given) granule None = Unit {0}
-MayLearn w (Decided number command given) granule (Some rd) = ⊥
-MayLearn w (Between number) granule learnt = ⊥
-MayLearn w GivenUp granule learnt = ⊥
-MayLearn w Stopped granule learnt = ⊥
+MayLearn w _ granule None = Unit {0}
+MayLearn w _ granule (Some rd) = ⊥
 
 -- what is learnt takes the place of what was
 abbrev pub phase_learnt : Option ℕ → Phase → Phase
@@ -150,7 +147,7 @@ phase_learnt learnt (Between number) = Between number
 phase_learnt learnt GivenUp = GivenUp
 phase_learnt learnt Stopped = Stopped
 
--- a CPU with an open call frees a granule that it holds
+-- A granule that a CPU holds is freed, however far the CPU has come: what one that was stopped holds may come free, or never.
 pub record Frees (old : World) (cpu granule : ℕ) (learnt : Option ℕ) (new : World) : Type 0 where
   pub is_held : Contains (old.taken cpu) granule
   pub may_learn : MayLearn old (old.phase cpu) granule learnt
@@ -176,13 +173,12 @@ pub record GivesUp (old : World) (cpu : ℕ) (new : World) : Type 0 where
   pub deciding : IsDeciding old cpu
   pub is_new : new ≡ record old { taken = put old.taken cpu []; phase = put old.phase cpu GivenUp }
 
--- a CPU that has committed and holds no lock returns the reply
+-- a CPU that has committed returns the reply, whatever it still holds
 pub record Returns (old : World) (cpu : ℕ) (new : World) : Type 0 where
   pub number : ℕ
   pub command : Command
   pub given : Reply
   pub is_decided : old.phase cpu ≡ Decided number command given
-  pub holds_none : old.taken cpu ≡ []
   pub is_new : new ≡ record old {
     phase = put old.phase cpu (Between (number + 1));
     events = old.events ++ Returned cpu number given ∷ [];
@@ -219,6 +215,10 @@ pub record Happens (old : World) (move : Move) (new : World) : Type 0 where
 abbrev pub HappenAll : World → List Move → World → Type 0
 HappenAll old [] last = last ≡ old
 HappenAll old (move ∷ moves) last = (next : World) × Happens old move next × HappenAll next moves last
+
+-- no two CPUs hold one lock
+abbrev pub HasOneHolder : World → Type 0
+HasOneHolder w = (cpu other granule : ℕ) → Contains (w.taken cpu) granule → Contains (w.taken other) granule → cpu ≡ other
 
 -- ---- certified
 

@@ -1,14 +1,16 @@
 //! The program over any runtime: words, files, the verdict's line, the exit status.
 
-ghost use Rattle.std.specs.Prelude.{◌≡◌, ◌≢◌, ◌⊎◌, ◌≤◌, ℕ, List, IfOk, IfErr, map, string_bytes};
+ghost use Rattle.std.specs.Prelude.{◌≡◌, ◌≢◌, ◌⊎◌, ◌≤◌, ℕ, List, Ok, IfOk, IfErr, map, string_bytes};
 ghost use Rattle.std.specs.Io.KnownBytes.{Appends};
 ghost use Rattle.std.specs.IoError.{error_kind};
+ghost use Rattle.judging.specs.Ending.{status_of};
 ghost use Rattle.thread_runs.specs.Printed.{PrintsTwo};
-ghost use Rattle.scenarios.specs.Faults.{run_fault, unread_fault, EndsCheck, EndsThreads, HasCause};
+ghost use Rattle.scenarios.specs.Faults.{fault_status, run_fault, unread_fault, EndsCheck, EndsThreads, HasCause};
 
+use crate::fault::ProgramFault;
 use crate::words::{Request, request_given};
 use checker::Verdict;
-use judging::{Ending, Fault, FileSource, OutputSink, Paths, ends_with, judge};
+use judging::{Fault, FileSource, OutputSink, Paths, ends_with, judge};
 use std::alloc::Global;
 use std::io::{ErrorKind, Write};
 use std::rt::{Env, Files};
@@ -31,7 +33,7 @@ pub fn run<R: Env + Files + Print + Eprint + AllocGlobal, T: Threads + Wait + Sy
         Ok(words) => serve(rt, threads, words.as_slice()),
         Err(fault) => Err(*fault),
     };
-    end(rt, ends_with(outcome))
+    end(rt, outcome)
 }
 
 // Does what the words ask for.
@@ -39,13 +41,13 @@ fn serve<'a, R: Files + Print + AllocGlobal, T: Threads + Wait + Sync>(
     rt: &R,
     threads: &T,
     words: &'a [String],
-) -> Result<Verdict, Fault<'a>>
+) -> Result<Verdict, ProgramFault<'a>>
     ensures { IfErr result (HasCause (map string_bytes words.now)) }
 {
     match request_given(rt.alloc(), words) {
         Ok(Request::Check(paths)) => check_files(rt, paths),
         Ok(Request::Threads) => run_threads(rt, threads),
-        Err(fault) => Err(Fault::from(fault)),
+        Err(fault) => Err(ProgramFault::from(fault)),
     }
 }
 
@@ -53,7 +55,7 @@ fn serve<'a, R: Files + Print + AllocGlobal, T: Threads + Wait + Sync>(
 fn run_threads<R: Print + AllocGlobal, T: Threads + Wait + Sync>(
     rt: &R,
     threads: &T,
-) -> Result<Verdict, Fault<'static>>
+) -> Result<Verdict, ProgramFault<'static>>
     ensures { IfErr result EndsThreads }
 {
     print_threads(threads, rt.alloc(), &mut io::writer(rt))
@@ -64,10 +66,10 @@ fn print_threads<T: Threads + Wait + Sync, W: Write>(
     threads: &T,
     alloc: Global,
     out: &mut W,
-) -> Result<Verdict, Fault<'static>>
+) -> Result<Verdict, ProgramFault<'static>>
     ensures ok { IfOk result (λ verdict. (text : List ℕ) × Appends (W.contents out.old) (W.contents out.new) text
         × PrintsTwo text verdict) }
-    ensures silent { IfErr result (λ fault. fault ≢ Fault.CannotWrite → out.new ≡ out.old) }
+    ensures silent { IfErr result (λ fault. fault ≢ ProgramFault.Device Fault.CannotWrite → out.new ≡ out.old) }
     ensures faults { IfErr result EndsThreads }
 {
     let mut text = Vec::new(alloc);
@@ -77,18 +79,18 @@ fn print_threads<T: Threads + Wait + Sync, W: Write>(
     };
     match out.write_all(text.as_slice()) {
         Ok(()) => Ok(verdict),
-        Err(_) => Err(Fault::CannotWrite),
+        Err(_) => Err(ProgramFault::Device(Fault::CannotWrite)),
     }
 }
 
 // What ends the program where the run of threads broke off.
-fn fault_of_run(fault: RunFault) -> Fault<'static>
+fn fault_of_run(fault: RunFault) -> ProgramFault<'static>
     ensures { result ≡ run_fault fault }
 {
     match fault {
-        RunFault::NoMemory => Fault::NoMemory,
-        RunFault::Thread => Fault::NoThread,
-        RunFault::Disagrees => Fault::Disagrees,
+        RunFault::NoMemory => ProgramFault::Device(Fault::NoMemory),
+        RunFault::Thread => ProgramFault::NoThread,
+        RunFault::Disagrees => ProgramFault::Disagrees,
     }
 }
 
@@ -96,54 +98,61 @@ fn fault_of_run(fault: RunFault) -> Fault<'static>
 fn check_files<'a, R: Files + Print + AllocGlobal>(
     rt: &R,
     paths: Paths<'a>,
-) -> Result<Verdict, Fault<'a>>
+) -> Result<Verdict, ProgramFault<'a>>
     ensures { IfErr result (EndsCheck paths.entry) }
 {
     let Ok(history) = fs::open(rt, paths.history) else {
-        return Err(Fault::CannotRead(paths.history));
+        return Err(ProgramFault::Device(Fault::CannotRead(paths.history)));
     };
     let Ok(certificate) = fs::open(rt, paths.certificate) else {
-        return Err(Fault::CannotRead(paths.certificate));
+        return Err(ProgramFault::Device(Fault::CannotRead(paths.certificate)));
     };
     let mut history = FileSource::new(rt.alloc(), history);
     let mut certificate = FileSource::new(rt.alloc(), certificate);
     let mut sink = OutputSink::new(rt.alloc(), io::writer(rt));
     match judge(rt.alloc(), &mut history, &mut certificate, &mut sink) {
         Ok(verdict) => Ok(verdict),
-        Err(fault) => Err(paths.fault(fault)),
+        Err(fault) => Err(ProgramFault::Device(paths.fault(fault))),
     }
 }
 
 // The words of the command line.
-fn words_of<R: Env + AllocGlobal>(rt: &R) -> Result<Vec<String>, Fault<'static>>
-    ensures { IfErr result (λ fault. (fault ≡ Fault.NoMemory) ⊎ (fault ≡ Fault.Arguments)) }
+fn words_of<R: Env + AllocGlobal>(rt: &R) -> Result<Vec<String>, ProgramFault<'static>>
+    ensures { IfErr result (λ fault. (fault ≡ ProgramFault.Device Fault.NoMemory) ⊎ (fault ≡ ProgramFault.Arguments)) }
 {
     match env::args(rt) {
         Ok(args) => match args.collect(rt.alloc()) {
             Ok(words) => Ok(words),
-            Err(_) => Err(Fault::NoMemory),
+            Err(_) => Err(ProgramFault::Device(Fault::NoMemory)),
         },
         Err(error) => Err(fault_of_unread(&error)),
     }
 }
 
 // What ends the program where its words can't be read.
-fn fault_of_unread(error: &io::Error) -> Fault<'static>
+fn fault_of_unread(error: &io::Error) -> ProgramFault<'static>
     ensures cause { result ≡ unread_fault (error_kind error.now) }
-    ensures either { (result ≡ Fault.NoMemory) ⊎ (result ≡ Fault.Arguments) }
+    ensures either { (result ≡ ProgramFault.Device Fault.NoMemory) ⊎ (result ≡ ProgramFault.Arguments) }
 {
     match error.kind() {
-        ErrorKind::OutOfMemory => Fault::NoMemory,
-        _ => Fault::Arguments,
+        ErrorKind::OutOfMemory => ProgramFault::Device(Fault::NoMemory),
+        _ => ProgramFault::Arguments,
     }
 }
 
 // Writes the fault's line, where there is one.
-fn end<R: Eprint>(rt: &R, ending: Ending<'_>) -> u8
-    ensures { result ≡ ending.entry.status }
+fn end<R: Eprint>(rt: &R, outcome: Result<Verdict, ProgramFault<'_>>) -> u8
+    ensures ok { IfOk outcome.entry (λ verdict. result ≡ status_of (Ok verdict)) }
+    ensures err { IfErr outcome.entry (λ fault. result ≡ fault_status fault) }
+    ensures most { result ≤ 3 }
 {
-    if let Some(fault) = ending.fault {
+    if let Err(fault) = outcome {
         let _ = rt.eprintln(fault);
     }
-    ending.status
+    match outcome {
+        Ok(verdict) => ends_with(Ok(verdict)),
+        Err(ProgramFault::Device(fault)) => ends_with(Err(fault)),
+        Err(ProgramFault::Arguments) => 2,
+        Err(ProgramFault::NoThread | ProgramFault::Disagrees) => 3,
+    }
 }

@@ -5,6 +5,7 @@ ghost use Rattle.clap.specs.Words.{app_of, fault_of, kind_of, subcommand_rows_of
 ghost use Rattle.scenarios.specs.Faults.{words_fault};
 ghost use Rattle.scenarios.specs.Words.{Asks, IsAsked, rmmcheck_command, name_of, value_of};
 
+use crate::fault::ProgramFault;
 use clap::error::ErrorKind;
 use clap::{Arg, ArgMatches, Command, Error};
 use judging::{Fault, Paths};
@@ -19,13 +20,13 @@ pub enum WordsFault {
     NoMemory,
 }
 
-impl From<WordsFault> for Fault<'_> {
+impl From<WordsFault> for ProgramFault<'_> {
     ghost from_gives = { λ fault ended. ended ≡ words_fault fault };
 
     fn from(fault: WordsFault) -> Self {
         match fault {
-            WordsFault::Arguments => Fault::Arguments,
-            WordsFault::NoMemory => Fault::NoMemory,
+            WordsFault::Arguments => ProgramFault::Arguments,
+            WordsFault::NoMemory => ProgramFault::Device(Fault::NoMemory),
         }
     }
 }

@@ -180,7 +180,7 @@ serve may w cpu number command given held granules is_cpu quiet deciding can all
             tt,
             record {
               is_cpu = is_cpu;
-              moves = record { number = number; command = command; given = given; is_decided = decided; holds_none = put-here (λ _. []) cpu []; is_new = refl };
+              moves = record { number = number; command = command; given = given; is_decided = decided; is_new = refl };
             },
             sym (with_held-none last cpu quiet),
           ),

@@ -10,7 +10,7 @@ first-and_others [] x is = absurd (none-some x is)
 first-and_others (first ∷ xs) x is = ap (λ y. y ∷ xs) (same_Some first x is)
 
 -- one that has none is empty
-no_first : {A : Type 0} (xs : List A) → slice_get xs 0 ≡ None → xs ≡ []
+pub no_first : {A : Type 0} (xs : List A) → slice_get xs 0 ≡ None → xs ≡ []
 no_first [] is = refl
 no_first (first ∷ xs) is = absurd (none-some first (sym is))
 

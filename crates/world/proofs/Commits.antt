@@ -1,18 +1,26 @@
--- A CPU that can commit its open call, and a commit that is refused memory.
+-- A CPU that is ready to commit its open call, and a commit that is refused memory.
 use Rattle.std.proofs.Common.{◌≡◌, ℕ, List, Option, sym, subst}
-use Rattle.rmm_spec.specs.HistoryText.{History}
+use Rattle.std.proofs.Math.Logic.{∥∥₁_elim}
+use Rattle.std.proofs.Props.{props}
+use Rattle.rmm_spec.specs.declared.command.Command.{Command}
+use Rattle.rmm_spec.specs.HistoryText.{Config, History}
 use Rattle.rmm_spec.specs.Cell.{Cell}
 use Rattle.rmm_spec.specs.Shape.{Side}
-use Rattle.rmm_spec.specs.World.{World, Commitment}
+use Rattle.rmm_spec.specs.World.{World, Commitment, hold_of, opening_world}
+use Rattle.world_laws.proofs.Recorded.{IsAccounted-opening, IsAccounted-HappenAll}
+use Rattle.world_laws.proofs.Turned.{moves_of_turns}
+use Rattle.certified_laws.proofs.Accepted.{local-accepts}
+use Rattle.command_core.specs.Changed.{hold_changed}
+use Rattle.command_core.specs.declared.next.Next.TheVariants.{Ready}
 use Rattle.world.specs.Cpus.{Views}
-use Rattle.world.specs.Kept.{IsKept}
-use Rattle.world.specs.Recorded.{Records, RecordsIn}
-use Rattle.world.specs.Stepped.{CanCommit}
+use Rattle.world.specs.Kept.{IsReached, IsKept}
+use Rattle.world.specs.Next.{IsNext}
+use Rattle.world.specs.Recorded.{Records, RecordsIn, MakesTable, AcceptsTable}
 use Rattle.world.specs.Whole.{world_with}
 
 -- a commit records something
-pub records-commit : (w : World) (cpu : ℕ) → CanCommit w cpu → Records w cpu
-records-commit w cpu can = subst (RecordsIn w cpu) (sym can.deciding.is_deciding) can.settled
+pub records-commit : (w : World) (cpu : ℕ) → IsNext w cpu Ready → Records w cpu
+records-commit w cpu ready = subst (RecordsIn w cpu) (sym ready.deciding.is_deciding) ready.settled
 
 -- where nothing changed, all is kept
 pub unchanged-kept : (cells new_cells : ℕ → Cell) (side new_side : Side) (old new : Views) (journal entries : List Commitment) (history : History)
@@ -20,3 +28,15 @@ pub unchanged-kept : (cells new_cells : ℕ → Cell) (side new_side : Side) (ol
     → IsKept (world_with cells side old journal history) holder old.waits → IsKept (world_with new_cells new_side new entries history) holder new.waits
 unchanged-kept cells new_cells side new_side old new journal entries history holder same_cells same_side same_views same_entries kept =
     rw (same_cells, same_side, same_views, same_entries) kept
+
+-- what is decided as accepted the machine accepts, in the state that the cells stand for
+pub accepts-reached : (config : Config) (w : World) (waits : ℕ → Option ℕ) (cpu : ℕ) (command : Command) → ∥ IsReached config w waits ∥₁
+    → MakesTable w.config.granules cpu command (hold_of w cpu) → AcceptsTable w cpu command
+accepts-reached config w waits cpu command reached makes = record {
+  accepts = ∥∥₁_elim reached (hlevel props) (λ (r : IsReached config w waits).
+      let start = opening_world config r.programs in
+      let moves = moves_of_turns start r.turns w r.run in
+      local-accepts w cpu command makes.given (hold_changed (hold_of w cpu) makes.change)
+      (IsAccounted-HappenAll start moves.0 w (IsAccounted-opening config r.programs) moves.1).shaped makes.accepts makes.decides);
+  makes = makes;
+}

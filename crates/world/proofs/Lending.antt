@@ -9,10 +9,11 @@ use Rattle.std.proofs.lemmas.List.Folds.{list_any_at}
 use Rattle.rmm_spec.specs.Cell as whole
 use Rattle.rmm_spec.specs.Cell.{put}
 use Rattle.rmm_spec.proofs.Tests.{both_ways}
-use Rattle.rmm_spec.specs.Local.{HeldCell, granules_held, put_all, Agrees}
+use Rattle.rmm_spec.specs.Local.{HeldCell, granules_held, put_all}
 use Rattle.world_laws.proofs.Lists.{put-other}
 use Rattle.world_laws.proofs.Locals.{put_all-agrees}
 use Rattle.world_laws.proofs.Members.{Contains-nil, Contains-other, granules_held-cells_at}
+use Rattle.world_laws.proofs.Recorded.{Agrees-own}
 use Rattle.command_core.specs.Seen.{cell_of, are_distinct}
 use Rattle.command_core.specs.declared.cell.Cell.{Cell}
 use Rattle.command_core.specs.declared.cell.Cell.TheVariants.{Undelegated}
@@ -71,13 +72,9 @@ put_all-lent (h ∷ held) start now kept =
     by x apart false is =
         kept x (λ has. apart (Contains-other h.granule (granules_held held) x (λ here. both_ways (eq-eqb x h.granule (sym here)) is) has))
 
-agrees-cells_at : (cells : ℕ → whole.Cell) (gs : List ℕ) → Agrees cells (cells_at cells gs)
-agrees-cells_at cells [] = tt
-agrees-cells_at cells (g ∷ gs) = (refl, agrees-cells_at cells gs)
-
 -- cells that others gave way to are all back once those are put in
 pub put_all-given_back : (gs : List ℕ) (start now : ℕ → whole.Cell) → ((x : ℕ) → (Contains gs x → ⊥) → now x ≡ start x)
     → put_all now (cells_at start gs) ≡ start
 put_all-given_back gs start now kept =
     put_all-lent (cells_at start gs) start now (subst (λ held. (x : ℕ) → (Contains held x → ⊥) → now x ≡ start x) (sym (granules_held-cells_at start gs)) kept)
-    ∙ put_all-agrees (cells_at start gs) start (agrees-cells_at start gs)
+    ∙ put_all-agrees (cells_at start gs) start (Agrees-own start gs)

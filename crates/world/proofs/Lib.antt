@@ -12,3 +12,6 @@ pub mod Taking
 pub mod Opened
 pub mod Lines
 pub mod Commits
+pub mod Waiting
+pub mod Goes
+pub mod Stuck

@@ -3,6 +3,7 @@ use Rattle.std.proofs.Common.{◌≡◌, ℕ, ◌+◌, ◌<◌, Bool, true, fals
 use Rattle.std.specs.Prelude.{Contains}
 use Rattle.std.specs.List.{list_all}
 use Rattle.std.proofs.lemmas.Bool.{and_parts}
+use Rattle.std.proofs.lemmas.Option.{none-some, same_Some}
 use Rattle.rmm_spec.specs.declared.command.Command.{Command}
 use Rattle.rmm_spec.specs.declared.event.Event.TheVariants.{Called, Returned}
 use Rattle.rmm_spec.specs.declared.reply.Reply.{Reply}
@@ -17,6 +18,7 @@ use Rattle.rmm_spec.specs.Waits.{Will, Report, Did, Blocked, Idle, Turns, IsIdle
 use Rattle.rmm_spec.specs.Waits as turn
 use Rattle.rmm_spec.proofs.Tests.{both_ways}
 use Rattle.world_laws.proofs.Lists.{put_elim}
+use Rattle.command_core.specs.declared.next.Next.TheVariants.{Take}
 use Rattle.command_core.specs.Sides.{side_of}
 use Rattle.command_core.specs.declared.side.Side as own_side
 use Rattle.world.specs.declared.cells.Cells.{Cells}
@@ -26,6 +28,7 @@ use Rattle.world.specs.declared.world.World as own
 use Rattle.world.specs.Cpus.{Views, views_of, is_going, is_deciding}
 use Rattle.world.specs.Granules.{cells_of, holder_of}
 use Rattle.world.specs.Kept.{AreLocks, IsFit, AreFit, IsReached, IsTurn, serves, serves_phase, calls_made, freed_all}
+use Rattle.world.specs.Next.{IsNext, next_for, AreNext}
 use Rattle.world.specs.Stepped.{MakesStep}
 use Rattle.world.specs.Whole.{world_with, world_from}
 use Rattle.world.specs.World.{world_of}
@@ -33,6 +36,8 @@ use Rattle.world.proofs.Calls.{first-and_others}
 use Rattle.world.proofs.Phases.{going-true, deciding-true}
 use Rattle.world.proofs.Locked.{AreLocks-taken, AreLocks-freed, AreLocks-cleared, taken-contains, contains-taken, held_by}
 use Rattle.world.proofs.Reached.{IsReached-turned}
+use Rattle.world.proofs.Taking.{rising-next, next-for}
+use Rattle.world.proofs.Waiting.{HasOneHolder-locks, AreNext-turned}
 
 -- ---- what stays fit
 
@@ -105,16 +110,20 @@ made s cpu will report cpus recorded locks views history holder is more held tur
 -- a turn after which locks and phases fit keeps all
 turn-kept : (s : own.World) (cpu : ℕ) (will : Will) (report : Report) (f : Fields) → f.history.config ≡ s.history.recorded.config
     → f.views.waits ≡ put (views_of s.cpus).waits cpu (awaited report)
+    → ((granule : ℕ) → awaited report ≡ Some granule → next_for (world_of s) cpu ≡ Some (Take granule))
     → Turns (world_of s) cpu will report (world_with f.cells f.side f.views f.journal f.history)
     → AreLocks f.history.config.granules f.views.taken f.holder → AreFit f.views.phase f.views.program → IsTurnTo s cpu will report f
 unfolding world_of world_from
-turn-kept s cpu will report f config waiting turned locked fit =
+turn-kept s cpu will report f config waiting next turned locked fit =
     let w = world_with f.cells f.side f.views f.journal f.history in
     record {
       turned = turned;
       kept = record {
         locked = locked;
         fit = fit;
+        waiting = subst (AreNext w) (sym waiting)
+            (AreNext-turned (world_of s) cpu will report w (views_of s.cpus).waits (HasOneHolder-locks s.history.recorded.config.granules (world_of s)
+            (holder_of s.locks) s.kept.locked) turned next s.kept.waiting);
         reached = subst (λ c. ∥ IsReached c w f.views.waits ∥₁) (sym config)
             (subst (λ waits. ∥ IsReached s.history.recorded.config w waits ∥₁) (sym waiting)
             (IsReached-turned s.history.recorded.config (world_of s) (views_of s.cpus).waits cpu will report w turned s.kept.reached));
@@ -127,7 +136,7 @@ move-kept : (s : own.World) (cpu : ℕ) (will : Will) (m : Move) (f : Fields) �
     → Happens (world_of s) m (world_with f.cells f.side f.views f.journal f.history)
     → AreLocks f.history.config.granules f.views.taken f.holder → AreFit f.views.phase f.views.program → IsTurnTo s cpu will (Did (kind_of m)) f
 move-kept s cpu will m f config waiting is_mover willed happens =
-    turn-kept s cpu will (Did (kind_of m)) f config waiting
+    turn-kept s cpu will (Did (kind_of m)) f config waiting (λ granule is. absurd (none-some granule is))
     (record { move = m; is_kind = refl; is_mover = is_mover; is_willed = willed; happens = happens })
 
 -- ---- turns without a move
@@ -141,19 +150,21 @@ idle s cpu will cpus nothing is =
     let old = views_of s.cpus in
     made s cpu will Idle cpus s.history.recorded s.locks _ _ _ is refl refl
     (turn-kept s cpu will Idle (with_views s (record old { waits = put old.waits cpu None }) s.history.recorded (holder_of s.locks)) refl refl
-    (nothing, refl) s.kept.locked s.kept.fit)
+    (λ granule is. absurd (none-some granule is)) (nothing, refl) s.kept.locked s.kept.fit)
 
 -- another CPU holds the lock that comes next
-pub blocked : (s : own.World) (cpu granule other : ℕ) (cpus : Cpus) → IsRising (world_of s) cpu granule → holder_of s.locks granule ≡ Some other
+pub blocked : (s : own.World) (cpu granule other : ℕ) (cpus : Cpus) → IsNext (world_of s) cpu (Take granule) → holder_of s.locks granule ≡ Some other
     → views_of cpus ≡ record (views_of s.cpus) { waits = put (views_of s.cpus).waits cpu (Some granule) }
     → IsTurnTo s cpu turn.Go (Blocked granule) (with_views s (views_of cpus) s.history.recorded (holder_of s.locks))
 unfolding world_of world_from
-blocked s cpu granule other cpus rising held is =
+blocked s cpu granule other cpus next held is =
+    let rising = rising-next (world_of s) cpu granule next in
     let old = views_of s.cpus in
     let is_held = taken-contains (old.taken other) granule (s.kept.locked.held other granule ∙ ap (is_cpu other) held ∙ eq-eqb other other refl) in
     made s cpu turn.Go (Blocked granule) cpus s.history.recorded s.locks _ _ _ is refl refl
     (turn-kept s cpu turn.Go (Blocked granule) (with_views s (record old { waits = put old.waits cpu (Some granule) }) s.history.recorded (holder_of s.locks))
-    refl refl (record { other = other; waits = record { rising = rising; is_held = is_held } }, refl) s.kept.locked s.kept.fit)
+    refl refl (λ wanted same. next-for (world_of s) cpu (Take granule) next ∙ ap (λ g. Some (Take g)) (same_Some granule wanted same))
+    (record { other = other; waits = record { rising = rising; is_held = is_held } }, refl) s.kept.locked s.kept.fit)
 
 -- ---- moves
 
@@ -277,10 +288,10 @@ module _ (s : own.World) (cpu : ℕ) (within : cpu < s.history.recorded.config.c
   returned number command given decided none =
       let old = views_of s.cpus in
       let was : IsFit (Decided number command given) (old.program cpu) = subst (λ p. IsFit p (old.program cpu)) decided (s.kept.fit.each cpu) in
-      move-kept s cpu turn.Go (move.Return cpu) (with_return number given) refl refl refl tt
+      move-kept s cpu turn.Go (move.Return cpu) (with_return number given) refl refl refl none
       (record {
         is_cpu = within;
-        moves = record { number = number; command = command; given = given; is_decided = decided; holds_none = none; is_new = refl };
+        moves = record { number = number; command = command; given = given; is_decided = decided; is_new = refl };
       })
       s.kept.locked (AreFit-phase old.phase old.program cpu (Between (number + 1))
       (record { served = was.served; open_served = refl; numbered = was.numbered }) s.kept.fit)

@@ -3,7 +3,7 @@ use Rattle.std.proofs.Common.{◌≡◌, ℕ, zero, suc, ◌+◌, ◌<◌, ◌�
 use Rattle.std.specs.Prelude.{Vec}
 use Rattle.std.specs.declared.alloc.Global.{Global}
 use Rattle.std.proofs.lemmas.Bool.{false≢true, ltb-true, ltb-false}
-use Rattle.std.proofs.lemmas.Option.{slice_get_past}
+use Rattle.std.proofs.lemmas.Option.{none-some, slice_get_past}
 use Rattle.rmm_spec.specs.declared.command.Command.{Command}
 use Rattle.rmm_spec.specs.HistoryText.{Config, History}
 use Rattle.rmm_spec.specs.Cell.{Cell, Undelegated}
@@ -117,6 +117,7 @@ opened-kept config programs w holder waits can is free none =
     let opened : IsKept (opening_world config (programs_of programs)) (λ _. None) (λ _. None) = record {
       locked = record { held = λ cpu granule. refl; within = λ cpu. refl; distinct = λ cpu. refl };
       fit = record { each = opened-fit config programs can };
+      waiting = record { each = λ cpu granule none. absurd (none-some granule none) };
       reached = ∣ reached ∣₁;
     } in
     subst (λ v. IsKept v holder waits) (sym is) (subst (λ h. IsKept (opening_world config (programs_of programs)) h waits) (sym free)

@@ -24,7 +24,7 @@ use Rattle.world.specs.declared.world.World as world
 use Rattle.world.specs.declared.phase.Phase.TheVariants as phase
 use Rattle.world.specs.Cpus.{phase_in, is_deciding, is_decided}
 use Rattle.world.specs.Lent.{cells_at}
-use Rattle.world.specs.Next.{IsNext}
+use Rattle.world.specs.Next.{IsNext, next_in, next_for}
 use Rattle.world.specs.Whole.{world_from}
 use Rattle.world.specs.World.{world_of}
 
@@ -51,6 +51,11 @@ next-planned w cpu n granules place held number command learnt deciding has_gran
       (subst (λ p. IsPlanned granules command p learnt (held_cells w cpu) n) at (subst (λ h. IsPlanned granules command place learnt h n) holds planned));
   settled = sym (λ i. is_settled (has_granules i) (call_of command) (at i) (holds i)) ∙ settled;
 }
+
+-- it is what the plan says
+pub next-for : (w : World) (cpu : ℕ) (n : Next) → IsNext w cpu n → next_for w cpu ≡ Some n
+unfolding next_for
+next-for w cpu n next = ap (next_in w.config.granules (w.place cpu) (held_cells w cpu)) next.deciding.is_deciding ∙ ap Some (sym next.is_next)
 
 pub rising-next : (w : World) (cpu granule : ℕ) → IsNext w cpu (next.Take granule) → IsRising w cpu granule
 rising-next w cpu granule n = record { deciding = n.deciding; rising = n.planned }
@@ -116,16 +121,17 @@ last-of taken last is =
           ∙ ap (λ x. take i taken ++ x ∷ []) (get_or_from_slice_get taken i last last is),
     )
 
-pub nothing_learnt-decided : (w : World) (p : Phase) (granule : ℕ) → is_decided p ≡ true → MayLearn w p granule None
-nothing_learnt-decided w (Between number) granule is = absurd (false≢true is)
-nothing_learnt-decided w (Deciding number command learnt) granule is = absurd (false≢true is)
-nothing_learnt-decided w (Decided number command given) granule is = tt
-nothing_learnt-decided w GivenUp granule is = absurd (false≢true is)
-nothing_learnt-decided w Stopped granule is = absurd (false≢true is)
+-- nothing may be learnt in whatever phase
+pub nothing_learnt : (w : World) (p : Phase) (granule : ℕ) → MayLearn w p granule None
+nothing_learnt w (Between number) granule = tt
+nothing_learnt w (Deciding number command learnt) granule = tt
+nothing_learnt w (Decided number command given) granule = tt
+nothing_learnt w GivenUp granule = tt
+nothing_learnt w Stopped granule = tt
 
-pub free-last : (w : World) (cpu granule : ℕ) (p : Phase) (earlier : List ℕ) → w.taken cpu ≡ earlier ++ granule ∷ [] → MayFree w cpu granule p
-free-last w cpu granule (Between number) earlier is = tt
-free-last w cpu granule (Deciding number command learnt) earlier is = tt
-free-last w cpu granule (Decided number command given) earlier is = record { earlier = earlier; is_last = is }
-free-last w cpu granule GivenUp earlier is = tt
-free-last w cpu granule Stopped earlier is = tt
+pub free-last : (w : World) (cpu granule : ℕ) (p : Phase) (earlier : List ℕ) → is_decided p ≡ true → w.taken cpu ≡ earlier ++ granule ∷ [] → MayFree w cpu granule p
+free-last w cpu granule (Between number) earlier decided is = absurd (false≢true decided)
+free-last w cpu granule (Deciding number command learnt) earlier decided is = absurd (false≢true decided)
+free-last w cpu granule (Decided number command given) earlier decided is = record { earlier = earlier; is_last = is }
+free-last w cpu granule GivenUp earlier decided is = absurd (false≢true decided)
+free-last w cpu granule Stopped earlier decided is = absurd (false≢true decided)

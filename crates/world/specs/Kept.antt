@@ -10,6 +10,7 @@ use Rattle.rmm_spec.specs.Waits.{Will, Report, Turns, Turn, TurnAll, waits_after
 use Rattle.certified_laws.specs.Programs.{HaveTexts, commands_below}
 use Rattle.command_core.specs.Seen.{are_distinct}
 use Rattle.command_core.specs.Served.{is_served}
+use Rattle.world.specs.Next.{AreNext}
 
 -- Each lock's holder is the CPU that has taken it; locks are of granules, and none is taken twice.
 pub record AreLocks (granules : ℕ) (taken : ℕ → List ℕ) (holder : ℕ → Option ℕ) : Type 0 where
@@ -68,6 +69,7 @@ freed_all taken holder = λ lock. if has_taken taken lock then None else holder 
 pub record IsKept (w : World) (holder waits : ℕ → Option ℕ) : Type 0 where
   pub locked : AreLocks w.config.granules w.taken holder
   pub fit : AreFit w.phase w.program
+  pub waiting : AreNext w waits
   pub reached : ∥ IsReached w.config w waits ∥₁
 
 -- a turn, after which all is kept

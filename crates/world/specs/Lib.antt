@@ -3,9 +3,9 @@ pub mod Cpus
 pub mod Lent
 pub mod Told
 pub mod Whole
+pub mod Next
 pub mod Kept
 pub mod World
-pub mod Next
 pub mod Opening
 pub mod Stepped
 pub mod Recorded

@@ -1,9 +1,14 @@
 -- What comes next for a CPU of a world.
-use Rattle.std.specs.Prelude.{◌≡◌, ℕ, [], ◌∷◌, ◌++◌, Option}
+use Rattle.std.specs.Prelude.{◌≡◌, ℕ, ◌<◌, ◌==◌, if◌then◌else◌, Bool, List, [], ◌∷◌, ◌++◌, Option, Some, None}
+use Rattle.std.specs.List.{list_any}
+use Rattle.rmm_spec.specs.declared.command.Command.{Command}
 use Rattle.rmm_spec.specs.Call.{call_of}
+use Rattle.rmm_spec.specs.Lookup.{any_below}
 use Rattle.rmm_spec.specs.Cell.{put}
-use Rattle.rmm_spec.specs.World.{World, IsDeciding, held_cells, without_granule, phase_learnt}
-use Rattle.rmm_spec.specs.Waits.{Report, Did, Blocked}
+use Rattle.rmm_spec.specs.Shape.{CpuPlace}
+use Rattle.rmm_spec.specs.Local.{HeldCell}
+use Rattle.rmm_spec.specs.World.{World, Phase, Between, Deciding, Decided, GivenUp, Stopped, IsDeciding, held_cells, without_granule, phase_learnt}
+use Rattle.rmm_spec.specs.Waits.{Report, Did, Blocked, Idle, awaited}
 use Rattle.rmm_spec.specs.Waits as turn
 use Rattle.command_core.specs.declared.next.Next.{Next}
 use Rattle.command_core.specs.declared.next.Next.TheVariants.{Take, Free, Ready}
@@ -43,3 +48,62 @@ pub record DoesPlanned (old : World) (cpu : ℕ) (report : Report) (new : World)
   pub next : Next
   pub is_next : IsNext old cpu next
   pub does : DoesNext old cpu next report new
+
+-- ---- what a go comes to
+
+-- what the plan of an open call says next, on what is held
+abbrev pub next_in : ℕ → CpuPlace → List HeldCell → Phase → Option Next
+next_in granules place held (Deciding number command learnt) = Some (plan.next granules (call_of command) place learnt held)
+next_in granules place held _ = None
+
+-- there is none where no call is open, or it is committed
+unfoldable pub next_for : World → ℕ → Option Next
+next_for w cpu = next_in w.config.granules (w.place cpu) (held_cells w cpu) (w.phase cpu)
+
+-- each CPU that waits has a plan that takes that lock next
+pub record AreNext (w : World) (waits : ℕ → Option ℕ) : Type 0 where
+  pub each : (cpu granule : ℕ) → waits cpu ≡ Some granule → next_for w cpu ≡ Some (Take granule)
+
+-- whether a lock is held
+unfoldable pub is_taken : World → ℕ → Bool
+is_taken w granule = any_below w.config.cpus (λ cpu. list_any (λ lock. lock == granule) (w.taken cpu))
+
+abbrev pub next_report : World → Next → Report
+next_report w (Take granule) = if is_taken w granule then Blocked granule else Did turn.Take
+next_report w (Free granule learnt) = Did turn.Free
+next_report w Ready = Did turn.Commit
+
+abbrev pub call_report : List Command → Report
+call_report [] = Idle
+call_report (command ∷ others) = Did turn.Call
+
+abbrev pub return_report : List ℕ → Report
+return_report [] = Did turn.Return
+return_report (lock ∷ others) = Did turn.Free
+
+abbrev pub report_in : World → ℕ → Phase → Report
+report_in w cpu (Between number) = call_report (w.program cpu)
+report_in w cpu (Deciding number command learnt) =
+    next_report w (plan.next w.config.granules (call_of command) (w.place cpu) learnt (held_cells w cpu))
+report_in w cpu (Decided number command given) = return_report (w.taken cpu)
+report_in w cpu GivenUp = Idle
+report_in w cpu Stopped = Idle
+
+-- What a CPU's go reports, one value, wherever memory isn't refused: it calls where a command is left, does what its plan says
+-- next until it commits, frees what it holds then, and returns.
+unfoldable pub go_report : World → ℕ → Report
+go_report w cpu = report_in w cpu (w.phase cpu)
+
+-- the lock at which a CPU's go would be blocked
+abbrev pub blocking : World → ℕ → Option ℕ
+blocking w cpu = awaited (go_report w cpu)
+
+-- the report is of no move
+abbrev pub IsNoMove : Report → Type 0
+IsNoMove (Did kind) = ⊥
+IsNoMove (Blocked granule) = Unit {0}
+IsNoMove Idle = Unit {0}
+
+-- no CPU's go would make a move
+abbrev pub StandsStill : World → Type 0
+StandsStill w = (cpu : ℕ) → cpu < w.config.cpus → IsNoMove (go_report w cpu)

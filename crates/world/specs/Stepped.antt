@@ -1,21 +1,13 @@
--- What a commit requires of a world, and the local step that it makes of one CPU's cells.
-use Rattle.std.specs.Prelude.{◌≡◌, ℕ, IsTrue}
+-- The local step that a commit makes of one CPU's cells.
+use Rattle.std.specs.Prelude.{◌≡◌, ℕ}
 use Rattle.rmm_spec.specs.declared.command.Command.{Command}
 use Rattle.rmm_spec.specs.declared.reply.Reply.{Reply}
-use Rattle.rmm_spec.specs.Call.{call_of}
 use Rattle.rmm_spec.specs.Cell.{Cell, put}
 use Rattle.rmm_spec.specs.Shape.{Side}
 use Rattle.rmm_spec.specs.Local.{Hold, put_all, LocalStep}
-use Rattle.rmm_spec.specs.World.{World, IsDeciding, held_cells}
 use Rattle.command_core.specs.Changed.{hold_of}
-use Rattle.command_core.specs.Settled.{is_settled}
 use Rattle.world.specs.Lent.{cells_at}
 use Rattle.world.specs.Cpus.{Views}
-
--- the CPU's open call isn't committed, and what it holds settles it
-pub record CanCommit (w : World) (cpu : ℕ) : Type 0 where
-  pub deciding : IsDeciding w cpu
-  pub settled : IsTrue (is_settled w.config.granules (call_of deciding.command) (w.place cpu) (held_cells w cpu))
 
 -- a CPU makes a local step on the cells that it has taken, with that reply
 pub record MakesStep (granules cpu : ℕ) (command : Command) (given : Reply) (cells new_cells : ℕ → Cell) (side new_side : Side) (views new_views : Views) : Type 0 where

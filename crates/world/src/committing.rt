@@ -17,8 +17,7 @@ impl World {
     ghost use Rattle.rmm_spec.specs.Waits.{Turns, awaited};
     ghost use Rattle.rmm_spec.specs.Waits as waits;
     ghost use Rattle.command_core.specs.declared.next.Next.TheVariants as next;
-    ghost use Rattle.world.specs.Next.{DoesNext};
-    ghost use Rattle.world.specs.Stepped.{CanCommit};
+    ghost use Rattle.world.specs.Next.{IsNext, DoesNext, go_report};
     ghost use Rattle.world.specs.Recorded.{Records, IsShort, event_room, commit_room};
     ghost use Rattle.world.specs.Told.{report_of};
     ghost use Rattle.world.specs.World.{world_of, waits_of};
@@ -26,9 +25,10 @@ impl World {
     // Commits a CPU's open call, which what it holds settles. Where memory is refused, nothing changes.
     pub(crate) fn commit(&mut self, alloc: Global, cpu: u8) -> Result<Turned, AllocError>
         requires cpu { cpu < (world_of self.old).config.cpus }
-        requires can { CanCommit (world_of self.old) cpu }
+        requires ready { IsNext (world_of self.old) cpu next.Ready }
         ensures turned { IfOk result (λ turned. Turns (world_of self.old) cpu waits.Go (report_of turned) (world_of self.new)) }
         ensures waits { IfOk result (λ turned. waits_of self.new ≡ put (waits_of self.old) cpu (awaited (report_of turned))) }
+        ensures exact { IfOk result (λ turned. report_of turned ≡ go_report (world_of self.old) cpu) }
         ensures does { IfOk result (λ turned. DoesNext (world_of self.old) cpu next.Ready (report_of turned) (world_of self.new)) }
         ensures err { OnErr result (world_of self.new ≡ world_of self.old) }
         ensures err_waits { OnErr result (waits_of self.new ≡ waits_of self.old) }

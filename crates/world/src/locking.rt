@@ -18,7 +18,7 @@ impl World {
     ghost use Rattle.rmm_spec.specs.Waits as waits;
     ghost use Rattle.command_core.specs.declared.next.Next.TheVariants as next;
     ghost use Rattle.world.specs.Cpus.{is_decided};
-    ghost use Rattle.world.specs.Next.{IsNext, DoesNext, with_freed};
+    ghost use Rattle.world.specs.Next.{IsNext, DoesNext, with_freed, go_report};
     ghost use Rattle.world.specs.declared.turned.Turned.TheVariants as turned;
     ghost use Rattle.world.specs.declared.turned.Kind.TheVariants as kind;
     ghost use Rattle.world.specs.Recorded.{event_room, commit_room};
@@ -57,6 +57,7 @@ impl World {
         ensures turned { Turns (world_of self.old) cpu waits.Go (report_of result) (world_of self.new) }
         ensures waits { waits_of self.new ≡ put (waits_of self.old) cpu (awaited (report_of result)) }
         ensures does { DoesNext (world_of self.old) cpu (next.Take pa) (report_of result) (world_of self.new) }
+        ensures exact { report_of result ≡ go_report (world_of self.old) cpu }
     {
         if let Some(_other) = self.locks.holder(pa) {
             self.cpus.set_waits(cpu, Some(pa));
@@ -74,6 +75,7 @@ impl World {
         ensures turned { Turns (world_of self.old) cpu waits.Go (report_of result) (world_of self.new) }
         ensures waits { waits_of self.new ≡ put (waits_of self.old) cpu (awaited (report_of result)) }
         ensures does { DoesNext (world_of self.old) cpu (next.Free pa learnt) (report_of result) (world_of self.new) }
+        ensures exact { report_of result ≡ go_report (world_of self.old) cpu }
     {
         self.free_lock(cpu, pa, learnt)
     }
@@ -85,6 +87,7 @@ impl World {
         requires held { 0 < length ((world_of self.old).taken cpu) }
         ensures turned { Turns (world_of self.old) cpu waits.Go (report_of result) (world_of self.new) }
         ensures waits { waits_of self.new ≡ put (waits_of self.old) cpu (awaited (report_of result)) }
+        ensures exact { report_of result ≡ go_report (world_of self.old) cpu }
     {
         let Some(last) = self.cpus.taken(cpu).last() else {
             unreachable!()

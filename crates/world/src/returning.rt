@@ -18,6 +18,7 @@ impl World {
     ghost use Rattle.rmm_spec.specs.Cell.{put};
     ghost use Rattle.rmm_spec.specs.Waits.{Turns, awaited};
     ghost use Rattle.rmm_spec.specs.Waits as waits;
+    ghost use Rattle.world.specs.Next.{go_report};
     ghost use Rattle.world.specs.Recorded.{Records, IsShort, event_room, commit_room};
     ghost use Rattle.world.specs.Told.{report_of};
     ghost use Rattle.world.specs.World.{world_of, waits_of};
@@ -34,6 +35,7 @@ impl World {
         requires none { (world_of self.old).taken cpu ≡ [] }
         ensures turned { IfOk result (λ turned. Turns (world_of self.old) cpu waits.Go (report_of turned) (world_of self.new)) }
         ensures waits { IfOk result (λ turned. waits_of self.new ≡ put (waits_of self.old) cpu (awaited (report_of turned))) }
+        ensures exact { IfOk result (λ turned. report_of turned ≡ go_report (world_of self.old) cpu) }
         ensures err { OnErr result (world_of self.new ≡ world_of self.old) }
         ensures err_waits { OnErr result (waits_of self.new ≡ waits_of self.old) }
         ensures only_recorded { OnErr result (Records (world_of self.old) cpu) }

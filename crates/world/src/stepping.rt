@@ -5,6 +5,7 @@ ghost use Rattle.std.specs.List.{All};
 ghost use Rattle.rmm_spec.specs.Call.{call_of};
 ghost use Rattle.rmm_spec.specs.Local.{granules_held, LocalStep};
 ghost use Rattle.rmm_spec.specs.Lookup.{is_granule};
+ghost use Rattle.rmm_spec.specs.Ownership.{is_accepted};
 ghost use Rattle.command_core.specs.Changed.{hold_of};
 ghost use Rattle.command_core.specs.Seen.{are_distinct, place_of};
 ghost use Rattle.command_core.specs.Served.{is_served};
@@ -24,7 +25,8 @@ use granule_state::Config;
 use rmm_spec::{Command, Reply};
 use std::alloc::{AllocError, Global};
 
-// Decides a command on what is held, and makes its change of that. Where memory is refused, nothing changes.
+// Decides a command on what is held, and makes its change of that. A refusal changes nothing and takes no memory. Where memory
+// is refused, nothing changes either.
 fn step_on<H: Held>(
     alloc: Global,
     config: &Config,
@@ -45,11 +47,20 @@ fn step_on<H: Held>(
 {
     applied_decisions_are_local();
     let (reply, change) = decide(config, command, cpu, place, held, side);
+    if !is_accepted(&reply) {
+        return Ok(reply);
+    }
     let Ok(room) = room(alloc, side, &change) else {
         return Err(AllocError);
     };
     apply(held, side, place, change, room);
     Ok(reply)
+}
+
+fn is_accepted(reply: &Reply) -> bool
+    ensures { result ≡ is_accepted reply.now }
+{
+    matches!(reply, Reply::Ok(_))
 }
 
 impl Cpus {

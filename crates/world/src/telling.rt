@@ -2,8 +2,9 @@
 
 ghost use Rattle.std.specs.Prelude.{◌≡◌, ℕ, ◌<◌, length, IfOk, OnErr, Some, Contains};
 ghost use Rattle.rmm_spec.specs.Linearization.{IsKnown};
-ghost use Rattle.rmm_spec.specs.World.{IsCertified, history_of, certificate_of, line_for};
-ghost use Rattle.rmm_spec.specs.Waits.{HasNoCircle, WaitsAt};
+ghost use Rattle.rmm_spec.specs.World.{HasOneHolder, IsCertified, history_of, certificate_of, line_for};
+ghost use Rattle.rmm_spec.specs.Waits.{HasNoCircle, WaitsAt, Blocked, AreRising, Wants, WaitsBehindStopped};
+ghost use Rattle.world.specs.Next.{go_report, blocking, StandsStill};
 ghost use Rattle.world.specs.World.{world_of, waits_of};
 
 use crate::committed::Committed;
@@ -13,14 +14,18 @@ use certificate::Certificate;
 use history::History;
 use rmm_spec::Line;
 use std::alloc::{AllocError, Global};
-use world_laws::{every_run_is_certified, no_wait_cycle};
+use world_laws::{every_run_is_certified, no_wait_cycle, stuck_behind_stopped};
 
 impl World {
-    /// All calls and returns so far.
+    /// All calls and returns so far. Without any no memory is taken.
     #[tactic(auto, unfolding(crate::specs::World::world_of, crate::specs::Whole::world_from))]
     pub fn history(&self, alloc: Global) -> Result<History, AllocError>
-        ensures { IfOk result (λ history. history.recorded ≡ history_of (world_of self.now)) }
+        ensures recorded { IfOk result (λ history. history.recorded ≡ history_of (world_of self.now)) }
+        ensures refused { OnErr result (0 < length (world_of self.now).events) }
     {
+        if self.history.is_empty() {
+            return Ok(History::new(alloc, self.history.config()));
+        }
         self.history.copy(alloc)
     }
 
@@ -39,16 +44,25 @@ impl World {
         Ok(lines)
     }
 
-    /// What holds of every value: its journal is a linearization of its history that leads to the cells as they are, no CPUs
-    /// wait in a circle, and a CPU whose last turn was blocked still waits for whoever holds that lock.
+    /// What holds of every value: its journal is a linearization of its history that leads to the cells as they are, no two CPUs
+    /// hold one lock and none wait in a circle. A go would be blocked at a rising take alone. Where a CPU's last turn was blocked,
+    /// its go would be so again while another holds that lock. And where no CPU's go would make a move, each chain of waits ends
+    /// at a CPU that was stopped: without a stop each has given up or returned all its calls.
     pub fn well_formed(&self)
         ensures certified { ∥ IsCertified (world_of self.now) ∥₁ }
+        ensures one { HasOneHolder (world_of self.now) }
         ensures acyclic { HasNoCircle (world_of self.now) }
+        ensures rising { AreRising (world_of self.now) (Wants (blocking (world_of self.now))) }
         ensures waiting { (cpu granule other : ℕ) → waits_of self.now cpu ≡ Some granule
             → Contains ((world_of self.now).taken other) granule → ∥ WaitsAt (world_of self.now) cpu granule other ∥₁ }
+        ensures again { (cpu granule other : ℕ) → waits_of self.now cpu ≡ Some granule
+            → Contains ((world_of self.now).taken other) granule → go_report (world_of self.now) cpu ≡ Blocked granule }
+        ensures still { StandsStill (world_of self.now)
+            → ∥ WaitsBehindStopped (world_of self.now) (Wants (blocking (world_of self.now))) ∥₁ }
     {
         every_run_is_certified();
         no_wait_cycle();
+        stuck_behind_stopped();
         let _kept = &self.history;
     }
 }

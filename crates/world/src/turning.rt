@@ -16,7 +16,7 @@ impl World {
     ghost use Rattle.rmm_spec.specs.World.{IsDeciding, IsGoing};
     ghost use Rattle.rmm_spec.specs.Waits.{Turns, awaited};
     ghost use Rattle.rmm_spec.specs.Waits as waits;
-    ghost use Rattle.world.specs.Next.{DoesPlanned};
+    ghost use Rattle.world.specs.Next.{DoesPlanned, go_report};
     ghost use Rattle.world.specs.declared.turned.Will.TheVariants.{Go};
     ghost use Rattle.world.specs.Recorded.{Records, IsShort, event_room, commit_room};
     ghost use Rattle.world.specs.Told.{will_of, report_of};
@@ -30,6 +30,7 @@ impl World {
         ensures waits { IfOk result (λ turned. waits_of self.new ≡ put (waits_of self.old) cpu (awaited (report_of turned))) }
         ensures planned { IfOk result (λ turned. will ≡ Go → IsDeciding (world_of self.old) cpu
             → DoesPlanned (world_of self.old) cpu (report_of turned) (world_of self.new)) }
+        ensures exact { IfOk result (λ turned. will ≡ Go → report_of turned ≡ go_report (world_of self.old) cpu) }
         ensures err { OnErr result (world_of self.new ≡ world_of self.old) }
         ensures err_waits { OnErr result (waits_of self.new ≡ waits_of self.old) }
         ensures only_go { OnErr result (will ≡ Go) }
@@ -49,6 +50,7 @@ impl World {
         ensures turned { IfOk result (λ turned. Turns (world_of self.old) cpu waits.Go (report_of turned) (world_of self.new)) }
         ensures waits { IfOk result (λ turned. waits_of self.new ≡ put (waits_of self.old) cpu (awaited (report_of turned))) }
         ensures planned { IfOk result (λ turned. IsDeciding (world_of self.old) cpu → DoesPlanned (world_of self.old) cpu (report_of turned) (world_of self.new)) }
+        ensures exact { IfOk result (λ turned. report_of turned ≡ go_report (world_of self.old) cpu) }
         ensures err { OnErr result (world_of self.new ≡ world_of self.old) }
         ensures err_waits { OnErr result (waits_of self.new ≡ waits_of self.old) }
         ensures only_recorded { OnErr result (Records (world_of self.old) cpu) }
@@ -79,6 +81,7 @@ impl World {
         ensures turned { IfOk result (λ turned. Turns (world_of self.old) cpu waits.Go (report_of turned) (world_of self.new)) }
         ensures waits { IfOk result (λ turned. waits_of self.new ≡ put (waits_of self.old) cpu (awaited (report_of turned))) }
         ensures planned { IfOk result (λ turned. DoesPlanned (world_of self.old) cpu (report_of turned) (world_of self.new)) }
+        ensures exact { IfOk result (λ turned. report_of turned ≡ go_report (world_of self.old) cpu) }
         ensures err { OnErr result (world_of self.new ≡ world_of self.old) }
         ensures err_waits { OnErr result (waits_of self.new ≡ waits_of self.old) }
         ensures only_recorded { OnErr result (Records (world_of self.old) cpu) }
@@ -97,6 +100,7 @@ impl World {
         requires ended { IsGoing ((world_of self.old).phase cpu) → ⊥ }
         ensures turned { Turns (world_of self.old) cpu waits.Go (report_of result) (world_of self.new) }
         ensures waits { waits_of self.new ≡ put (waits_of self.old) cpu (awaited (report_of result)) }
+        ensures exact { report_of result ≡ go_report (world_of self.old) cpu }
     {
         self.cpus.set_waits(cpu, None);
         Turned::Idle

@@ -7,6 +7,7 @@ pub mod Locked
 pub mod Ranks
 pub mod Circles
 pub mod Turned
+pub mod Holding
 pub mod Placed
 pub mod Locals
 pub mod Refusals

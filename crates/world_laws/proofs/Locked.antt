@@ -1,65 +1,38 @@
--- Each lock has one holder at most, a CPU of the machine; and a CPU without an open call, or that gave one up, holds none.
-use Rattle.std.proofs.Common.{◌≡◌, ℕ, ◌+◌, ◌<◌, Bool, true, false, ◌==◌, List, [], ◌∷◌, ◌++◌, Option, None, ◌⊎◌, inl, inr, refl, sym, ap, ◌∙◌, subst}
+-- Each lock has one holder at most, a CPU of the machine.
+use Rattle.std.proofs.Common.{◌≡◌, ℕ, ◌<◌, ◌==◌, List, [], ◌∷◌, ◌++◌, ◌⊎◌, inl, inr, sym, ◌∙◌, subst}
 use Rattle.std.specs.Prelude.{Contains, not}
 use Rattle.std.proofs.lemmas.List.Elements.{Contains-push_cases}
 use Rattle.rmm_spec.specs.declared.command.Command.{Command}
 use Rattle.rmm_spec.specs.HistoryText.{Config}
 use Rattle.rmm_spec.specs.Cell.{put}
-use Rattle.rmm_spec.specs.World.{World, Phase, Between, Deciding, Decided, GivenUp, Stopped, Move, mover, Moves, Happens, HappenAll, MayLearn, phase_learnt, without_granule, opening_world, Takes}
+use Rattle.rmm_spec.specs.World.{World, Move, mover, Moves, Happens, HappenAll, without_granule, opening_world, Takes}
 use Rattle.rmm_spec.specs.World as world
 use Rattle.world_laws.proofs.Lists.{put_elim}
 use Rattle.world_laws.proofs.Members.{Contains-nil, Contains-filter}
 
--- what a phase says of the locks that its CPU holds
-abbrev pub HoldsIn : Phase → List ℕ → Type 0
-HoldsIn (Between number) taken = taken ≡ []
-HoldsIn (Deciding number command learnt) taken = Unit {0}
-HoldsIn (Decided number command given) taken = Unit {0}
-HoldsIn GivenUp taken = taken ≡ []
-HoldsIn Stopped taken = Unit {0}
-
-pub record AreLocked (cpus : ℕ) (taken : ℕ → List ℕ) (phase : ℕ → Phase) : Type 0 where
+pub record AreLocked (cpus : ℕ) (taken : ℕ → List ℕ) : Type 0 where
   pub one : (cpu other granule : ℕ) → Contains (taken cpu) granule → Contains (taken other) granule → cpu ≡ other
   pub fits : (cpu granule : ℕ) → Contains (taken cpu) granule → cpu < cpus
-  pub holds : (cpu : ℕ) → HoldsIn (phase cpu) (taken cpu)
 
 abbrev pub IsLocked : World → Type 0
-IsLocked w = AreLocked w.config.cpus w.taken w.phase
+IsLocked w = AreLocked w.config.cpus w.taken
 
--- a CPU's phase changes, and it holds no more than it did
-AreLocked-less : (cpus : ℕ) (taken : ℕ → List ℕ) (phase : ℕ → Phase) (cpu : ℕ) (p : Phase) (fewer : List ℕ)
-    → ((granule : ℕ) → Contains fewer granule → Contains (taken cpu) granule) → HoldsIn p fewer
-    → AreLocked cpus taken phase → AreLocked cpus (put taken cpu fewer) (put phase cpu p)
-AreLocked-less cpus taken phase cpu p fewer less here locked = record {
+-- a CPU holds no more than it did
+AreLocked-less : (cpus : ℕ) (taken : ℕ → List ℕ) (cpu : ℕ) (fewer : List ℕ) → ((granule : ℕ) → Contains fewer granule → Contains (taken cpu) granule)
+    → AreLocked cpus taken → AreLocked cpus (put taken cpu fewer)
+AreLocked-less cpus taken cpu fewer less locked = record {
   one = λ c d granule of_c of_d. locked.one c d granule (was c granule of_c) (was d granule of_d);
   fits = λ c granule of_c. locked.fits c granule (was c granule of_c);
-  holds = λ c. by c (c == cpu) refl;
 }
   where
     was : (c granule : ℕ) → Contains (put taken cpu fewer c) granule → Contains (taken c) granule
     was c granule = put_elim (λ held. Contains held granule → Contains (taken c) granule) taken cpu fewer c
         (λ same has. subst (λ k. Contains (taken k) granule) (sym same) (less granule has)) (λ apart has. has)
 
-    by : (c : ℕ) (b : Bool) → (c == cpu) ≡ b → HoldsIn (put phase cpu p c) (put taken cpu fewer c)
-    by c true is = rw is here
-    by c false is = rw is (locked.holds c)
-
--- a CPU's phase alone changes
-AreLocked-phase : (cpus : ℕ) (taken : ℕ → List ℕ) (phase : ℕ → Phase) (cpu : ℕ) (p : Phase) → HoldsIn p (taken cpu)
-    → AreLocked cpus taken phase → AreLocked cpus taken (put phase cpu p)
-AreLocked-phase cpus taken phase cpu p here locked = record {
-  one = locked.one;
-  fits = locked.fits;
-  holds = λ c. put_elim (λ q. HoldsIn q (taken c)) phase cpu p c (λ same. subst (λ k. HoldsIn p (taken k)) (sym same) here) (λ apart. locked.holds c);
-}
-
 IsLocked-Takes : (old : World) (cpu granule : ℕ) (new : World) → cpu < old.config.cpus → IsLocked old → Takes old cpu granule new → IsLocked new
 IsLocked-Takes old cpu granule new is_cpu locked takes = subst IsLocked (sym takes.is_new) (record {
   one = λ c d g of_c of_d. one c d g (was c g of_c) (was d g of_d);
   fits = λ c g of_c. fits c g (was c g of_c);
-  holds = λ c. put_elim (λ held. HoldsIn (old.phase c) held) old.taken cpu (old.taken cpu ++ granule ∷ []) c
-      (λ same. subst (λ p. HoldsIn p (old.taken cpu ++ granule ∷ [])) (sym takes.deciding.is_deciding ∙ ap old.phase (sym same)) tt)
-      (λ apart. locked.holds c);
 })
   where
     was : (c g : ℕ) → Contains (put old.taken cpu (old.taken cpu ++ granule ∷ []) c) g → Contains (old.taken c) g ⊎ ((c ≡ cpu) × (granule ≡ g))
@@ -80,33 +53,18 @@ IsLocked-Takes old cpu granule new is_cpu locked takes = subst IsLocked (sym tak
     fits c g (inl of_c) = locked.fits c g of_c
     fits c g (inr of_c) = subst (λ k. k < old.config.cpus) (sym of_c.0) is_cpu
 
--- where something may be learnt a call is open
-HoldsIn-learnt : (w : World) (p : Phase) (granule : ℕ) (learnt : Option ℕ) (taken : List ℕ) → MayLearn w p granule learnt → HoldsIn (phase_learnt learnt p) taken
-HoldsIn-learnt w (Between number) granule learnt taken may = absurd may
-HoldsIn-learnt w (Deciding number command earlier) granule learnt taken may = tt
-HoldsIn-learnt w (Decided number command given) granule learnt taken may = tt
-HoldsIn-learnt w GivenUp granule learnt taken may = absurd may
-HoldsIn-learnt w Stopped granule learnt taken may = absurd may
-
 IsLocked-Moves : (old : World) (move : Move) (new : World) → mover move < old.config.cpus → IsLocked old → Moves old move new → IsLocked new
-IsLocked-Moves old (world.Call cpu) new is_cpu locked moves =
-    subst IsLocked (sym moves.is_new) (AreLocked-phase old.config.cpus old.taken old.phase cpu (Deciding moves.number moves.command None) tt locked)
+IsLocked-Moves old (world.Call cpu) new is_cpu locked moves = subst IsLocked (sym moves.is_new) locked
 IsLocked-Moves old (world.Take cpu granule) new is_cpu locked moves = IsLocked-Takes old cpu granule new is_cpu locked moves
 IsLocked-Moves old (world.Free cpu granule learnt) new is_cpu locked moves =
     subst IsLocked (sym moves.is_new)
-    (AreLocked-less old.config.cpus old.taken old.phase cpu (phase_learnt learnt (old.phase cpu)) (without_granule granule (old.taken cpu))
-    (λ g has. Contains-filter (λ other. not (other == granule)) (old.taken cpu) g has)
-    (HoldsIn-learnt old (old.phase cpu) granule learnt (without_granule granule (old.taken cpu)) moves.may_learn) locked)
-IsLocked-Moves old (world.Commit cpu given held) new is_cpu locked moves =
-    subst IsLocked (sym moves.is_new)
-    (AreLocked-phase old.config.cpus old.taken old.phase cpu (Decided moves.deciding.number moves.deciding.command given) tt locked)
+    (AreLocked-less old.config.cpus old.taken cpu (without_granule granule (old.taken cpu))
+    (λ g has. Contains-filter (λ other. not (other == granule)) (old.taken cpu) g has) locked)
+IsLocked-Moves old (world.Commit cpu given held) new is_cpu locked moves = subst IsLocked (sym moves.is_new) locked
 IsLocked-Moves old (world.GiveUp cpu) new is_cpu locked moves =
-    subst IsLocked (sym moves.is_new)
-    (AreLocked-less old.config.cpus old.taken old.phase cpu GivenUp [] (λ g has. absurd (Contains-nil g has)) refl locked)
-IsLocked-Moves old (world.Return cpu) new is_cpu locked moves =
-    subst IsLocked (sym moves.is_new) (AreLocked-phase old.config.cpus old.taken old.phase cpu (Between (moves.number + 1)) moves.holds_none locked)
-IsLocked-Moves old (world.Stop cpu) new is_cpu locked moves =
-    subst IsLocked (sym moves.is_new) (AreLocked-phase old.config.cpus old.taken old.phase cpu Stopped tt locked)
+    subst IsLocked (sym moves.is_new) (AreLocked-less old.config.cpus old.taken cpu [] (λ g has. absurd (Contains-nil g has)) locked)
+IsLocked-Moves old (world.Return cpu) new is_cpu locked moves = subst IsLocked (sym moves.is_new) locked
+IsLocked-Moves old (world.Stop cpu) new is_cpu locked moves = subst IsLocked (sym moves.is_new) locked
 
 pub IsLocked-Happens : (old : World) (move : Move) (new : World) → IsLocked old → Happens old move new → IsLocked new
 IsLocked-Happens old move new locked happens = IsLocked-Moves old move new happens.is_cpu locked happens.moves
@@ -121,5 +79,4 @@ unfolding opening_world
 IsLocked-opening config programs = record {
   one = λ c d granule of_c of_d. absurd (Contains-nil granule of_c);
   fits = λ c granule of_c. absurd (Contains-nil granule of_c);
-  holds = λ c. refl;
 }

@@ -294,7 +294,7 @@ IsRun-push old [] middle entry last run step = (last, subst (λ (s : State). Ste
 IsRun-push old (first ∷ entries) middle entry last run step = (run.0, run.1, IsRun-push run.0 entries middle entry last run.2 step)
 
 -- a CPU's own cells are the world's
-Agrees-own : (cells : ℕ → Cell) (taken : List ℕ) → Agrees cells (map (λ granule. record { granule = granule; cell = cells granule }) taken)
+pub Agrees-own : (cells : ℕ → Cell) (taken : List ℕ) → Agrees cells (map (λ granule. record { granule = granule; cell = cells granule }) taken)
 Agrees-own cells [] = tt
 Agrees-own cells (granule ∷ taken) = (refl, Agrees-own cells taken)
 

@@ -6,7 +6,7 @@ use Rattle.rmm_spec.specs.HistoryText.{Config}
 use Rattle.rmm_spec.specs.Call.{call_of}
 use Rattle.rmm_spec.specs.Cell.{put}
 use Rattle.rmm_spec.specs.Local.{put_all}
-use Rattle.rmm_spec.specs.World.{World, Move, mover, Moves, HappenAll, held_cells, phase_learnt, without_granule, Between, Deciding, Decided, GivenUp, Stopped}
+use Rattle.rmm_spec.specs.World.{World, Move, mover, Moves, HappenAll, HasOneHolder, held_cells, phase_learnt, without_granule, Between, Deciding, Decided, GivenUp, Stopped}
 use Rattle.rmm_spec.specs.World as move
 use Rattle.rmm_spec.specs.Locks.{needs, IsRisingTake}
 use Rattle.rmm_spec.specs.Waits.{IsRising, Will, Report, Turns, Turn, TurnAll, awaited, waits_after, KeepsWaiting}
@@ -22,47 +22,47 @@ pub record LeavesAlone (old new : World) (cpu : ℕ) : Type 0 where
   pub place : new.place cpu ≡ old.place cpu
   pub held : held_cells new cpu ≡ held_cells old cpu
 
-LeavesAlone-Moves : (old : World) (m : Move) (new : World) (cpu : ℕ) → IsLocked old → (cpu ≡ mover m → ⊥) → Moves old m new → LeavesAlone old new cpu
-LeavesAlone-Moves old (move.Call key) new cpu locked apart moves = subst (λ w. LeavesAlone old w cpu) (sym moves.is_new) (record {
+pub LeavesAlone-Moves : (old : World) (m : Move) (new : World) (cpu : ℕ) → HasOneHolder old → (cpu ≡ mover m → ⊥) → Moves old m new → LeavesAlone old new cpu
+LeavesAlone-Moves old (move.Call key) new cpu one apart moves = subst (λ w. LeavesAlone old w cpu) (sym moves.is_new) (record {
   config = refl;
   phase = put-other old.phase key (Deciding moves.number moves.command None) cpu apart;
   place = refl;
   held = refl;
 })
-LeavesAlone-Moves old (move.Take key granule) new cpu locked apart moves = subst (λ w. LeavesAlone old w cpu) (sym moves.is_new) (record {
+LeavesAlone-Moves old (move.Take key granule) new cpu one apart moves = subst (λ w. LeavesAlone old w cpu) (sym moves.is_new) (record {
   config = refl;
   phase = refl;
   place = refl;
   held = ap (cells_at old.cells) (put-other old.taken key (old.taken key ++ granule ∷ []) cpu apart);
 })
-LeavesAlone-Moves old (move.Free key granule learnt) new cpu locked apart moves = subst (λ w. LeavesAlone old w cpu) (sym moves.is_new) (record {
+LeavesAlone-Moves old (move.Free key granule learnt) new cpu one apart moves = subst (λ w. LeavesAlone old w cpu) (sym moves.is_new) (record {
   config = refl;
   phase = put-other old.phase key (phase_learnt learnt (old.phase key)) cpu apart;
   place = refl;
   held = ap (cells_at old.cells) (put-other old.taken key (without_granule granule (old.taken key)) cpu apart);
 })
-LeavesAlone-Moves old (move.Commit key given held) new cpu locked apart moves = subst (λ w. LeavesAlone old w cpu) (sym moves.is_new) (record {
+LeavesAlone-Moves old (move.Commit key given held) new cpu one apart moves = subst (λ w. LeavesAlone old w cpu) (sym moves.is_new) (record {
   config = refl;
   phase = put-other old.phase key (Decided moves.deciding.number moves.deciding.command given) cpu apart;
   place = put-other old.place key held.place cpu apart;
   held = cells_at-same old.cells (put_all old.cells held.cells) (old.taken cpu) (λ granule has.
       put_all-other held.cells old.cells granule (λ changed.
-      apart (locked.one cpu key granule has
+      apart (one cpu key granule has
       (subst (λ granules. Contains granules granule) (moves.step.same ∙ granules_held-cells_at old.cells (old.taken key)) changed))));
 })
-LeavesAlone-Moves old (move.GiveUp key) new cpu locked apart moves = subst (λ w. LeavesAlone old w cpu) (sym moves.is_new) (record {
+LeavesAlone-Moves old (move.GiveUp key) new cpu one apart moves = subst (λ w. LeavesAlone old w cpu) (sym moves.is_new) (record {
   config = refl;
   phase = put-other old.phase key GivenUp cpu apart;
   place = refl;
   held = ap (cells_at old.cells) (put-other old.taken key [] cpu apart);
 })
-LeavesAlone-Moves old (move.Return key) new cpu locked apart moves = subst (λ w. LeavesAlone old w cpu) (sym moves.is_new) (record {
+LeavesAlone-Moves old (move.Return key) new cpu one apart moves = subst (λ w. LeavesAlone old w cpu) (sym moves.is_new) (record {
   config = refl;
   phase = put-other old.phase key (Between (moves.number + 1)) cpu apart;
   place = refl;
   held = refl;
 })
-LeavesAlone-Moves old (move.Stop key) new cpu locked apart moves = subst (λ w. LeavesAlone old w cpu) (sym moves.is_new) (record {
+LeavesAlone-Moves old (move.Stop key) new cpu one apart moves = subst (λ w. LeavesAlone old w cpu) (sym moves.is_new) (record {
   config = refl;
   phase = put-other old.phase key Stopped cpu apart;
   place = refl;
@@ -99,7 +99,7 @@ AreAtRisingTakes-Turns old cpu will (turn.Did kind) new waits locked turned was 
   each = λ other granule. put_elim (λ a. a ≡ Some granule → IsRising new other granule) waits cpu None other
       (λ same is. absurd (none-some granule is))
       (λ apart is. IsRising-alone old new other granule
-      (LeavesAlone-Moves old turned.move new other locked (λ same. keys_apart other cpu apart (same ∙ turned.is_mover)) turned.happens.moves)
+      (LeavesAlone-Moves old turned.move new other locked.one (λ same. keys_apart other cpu apart (same ∙ turned.is_mover)) turned.happens.moves)
       (was.each other granule is));
 }
 AreAtRisingTakes-Turns old cpu will turn.Idle new waits locked turned was =

@@ -175,6 +175,20 @@ fn realms_created_crosswise(rt: HostRuntime) -> Result<(), Fail> {
 }
 
 #[test]
+fn frees_both_locks_before_it_returns(rt: HostRuntime) -> Result<(), Fail> {
+    let first = "c4000151 1000\nc4000151 2000\nc4000158 1000 2000 27 1 1 0\n";
+    let world = two_cpus(rt.alloc(), 4, first, "c4000151 2000\n")?;
+    expect_run(
+        &rt,
+        world,
+        "0r2 0c 0t 0t 1c 0k 12 0f 1t 0f 0r 1k 1f 1r 0i 1i",
+        "rmh1 4 2\nc 0 0 c4000151 1000\nr 0 0 ok\nc 0 1 c4000151 2000\nr 0 1 ok\n\
+        c 0 2 c4000158 1000 2000 27 1 1 0\nc 1 0 c4000151 2000\nr 0 2 ok\nr 1 0 err 1 0\n",
+        "k 0 0\nk 0 1\nk 0 2\nk 1 0\n",
+    )
+}
+
+#[test]
 fn opens_a_program_a_cpu(rt: HostRuntime) -> Result<(), Fail> {
     let config = Config::new(4, 2).ok_or("no such machine")?;
     let mut programs = Vec::new(rt.alloc());

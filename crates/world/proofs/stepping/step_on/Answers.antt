@@ -1,4 +1,16 @@
+use Rattle.std.proofs.Common.{sym, ◌∙◌}
+use Rattle.command_core.specs.Changed.{hold_of, hold_changed}
+use Rattle.command_core.specs.Seen.{place_of}
+use Rattle.command_core.specs.Sides.{side_of}
+use Rattle.certified_laws.proofs.Accepted.{refused-is_local}
 use Rattle.world.proofs.stepping.step_on.Goals as goal
+
+-- what refuses is a local step that changes nothing
+pub returns-then-not-is_accepted-clause-ok : goal.returns-then-not-is_accepted-clause-ok
+returns-then-not-is_accepted-clause-ok g c =
+    let hold = hold_of (g.H.Held.cells c.args.held.now) (side_of c.args.side.now) (place_of c.args.place.now) in
+    refused-is_local c.args.config.now.granules c.args.cpu c.args.command.now c.decide-reply.result.0 hold (hold_changed hold c.decide-reply.result.1)
+    (sym c.is_accepted.ensures ∙ c.if-not-is_accepted.true) c.decide-reply.ensures.decides
 
 -- the change that is decided makes a table
 pub returns-in_default-clause-only : goal.returns-in_default-clause-only
@@ -7,5 +19,7 @@ returns-in_default-clause-only g c =
       given = c.decide-reply.result.0;
       change = c.decide-reply.result.1;
       decides = c.decide-reply.ensures.decides;
+      can = c.decide-reply.ensures.can;
+      accepts = sym c.is_accepted.ensures ∙ c.if-not-is_accepted.false;
       is_table = c.in_default.ensures.only;
     }

@@ -9,6 +9,7 @@ use Rattle.world.specs.Whole.{world_from}
 use Rattle.world.proofs.Calls.{all-called}
 use Rattle.world.proofs.Follows.{call-follows, none_left}
 use Rattle.world.proofs.Moves.{idle, made, called}
+use Rattle.world.proofs.Goes.{called-report, all_called-report}
 use Rattle.world.proofs.world.World.call.Goals as goal
 
 pub invariant_of-self-clause-kept : goal.invariant_of-self-clause-kept
@@ -70,3 +71,13 @@ returns-clause-turned c =
     }) c.copied.ensures in
     (made s c.args.cpu turn.Go (Did turn.Call) c.open_call.new.self c.push.new.self.recorded s.locks _ _ _ c.open_call.ensures.views more refl
     (called s c.args.cpu c.requires.cpu c.args.number c.in-Some.command c.requires.between (sym c.next_command.ensures ∙ c.in-Some.is))).turned
+
+pub returns-in_default-clause-exact : goal.returns-in_default-clause-exact
+unfolding world_of world_from
+returns-in_default-clause-exact c =
+    all_called-report (world_of c.args.self.now) c.args.cpu c.args.number c.requires.between (sym c.next_command.ensures ∙ c.in_default.is)
+
+pub returns-clause-exact : goal.returns-clause-exact
+unfolding world_of world_from
+returns-clause-exact c =
+    called-report (world_of c.args.self.now) c.args.cpu c.args.number c.in-Some.command c.requires.between (sym c.next_command.ensures ∙ c.in-Some.is)

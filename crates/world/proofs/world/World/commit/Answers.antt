@@ -6,6 +6,7 @@ use Rattle.rmm_spec.specs.World.{Deciding, held_cells, hold_of}
 use Rattle.command_core.specs.Served.{is_served}
 use Rattle.command_core.specs.Settled.{is_settled}
 use Rattle.command_core.specs.Sides.{side_of}
+use Rattle.command_core.specs.declared.next.Next.TheVariants.{Ready}
 use Rattle.world.specs.Granules.{cells_of, holder_of}
 use Rattle.world.specs.Cpus.{Views, views_of, phase_in}
 use Rattle.world.specs.Kept.{serves_phase}
@@ -14,13 +15,14 @@ use Rattle.world.specs.World.{world_of, waits_of}
 use Rattle.world.proofs.Locked.{locks-of_size}
 use Rattle.world.proofs.Taking.{not_deciding}
 use Rattle.world.specs.Recorded.{RecordsIn, IsShortIn, MakesTable, event_room, commit_room}
-use Rattle.world.proofs.Commits.{records-commit, unchanged-kept}
+use Rattle.world.proofs.Commits.{records-commit, unchanged-kept, accepts-reached}
+use Rattle.world.proofs.Goes.{next-report}
 use Rattle.world.proofs.Moves.{committed}
 use Rattle.world.proofs.world.World.commit.Goals as goal
 
 pub unreachable-requires : goal.unreachable-requires
 unfolding world_of world_from
-unreachable-requires c = not_deciding c.phase.result.now c.in_default.not-Deciding _ _ _ (c.phase.ensures ∙ c.requires.can.deciding.is_deciding)
+unreachable-requires c = not_deciding c.phase.result.now c.in_default.not-Deciding _ _ _ (c.phase.ensures ∙ c.requires.ready.deciding.is_deciding)
 
 pub returns-in_default-reserve-clause-err : goal.returns-in_default-reserve-clause-err
 unfolding world_of world_from
@@ -41,7 +43,7 @@ step-requires-clause-settled c =
     let w = world_of c.args.self.now in
     let is_open = sym c.phase.ensures ∙ ap phase_in c.in-Deciding.is in
     (λ i. is_settled ((ap (λ (config : Config). config.granules) c.config-config.ensures) i) (call_of (c.copied-command.ensures i)) (w.place c.args.cpu)
-    (held_cells w c.args.cpu)) ∙ subst (RecordsIn w c.args.cpu) is_open (records-commit w c.args.cpu c.requires.can)
+    (held_cells w c.args.cpu)) ∙ subst (RecordsIn w c.args.cpu) is_open (records-commit w c.args.cpu c.requires.ready)
 
 pub step-requires-clause-distinct : goal.step-requires-clause-distinct
 unfolding world_from
@@ -73,7 +75,7 @@ pub returns-in_default-reserve-clause-only_short : goal.returns-in_default-reser
 unfolding commit_room
 returns-in_default-reserve-clause-only_short c =
     let s = c.args.self.now in
-    subst (IsShortIn (event_room s) (commit_room s) (world_of s) c.args.cpu) (sym c.requires.can.deciding.is_deciding)
+    subst (IsShortIn (event_room s) (commit_room s) (world_of s) c.args.cpu) (sym c.requires.ready.deciding.is_deciding)
     (inl (omega (arith, c.in_default-reserve.ensures.full)))
 
 pub returns-in_default-step-clause-only_short : goal.returns-in_default-step-clause-only_short
@@ -82,15 +84,16 @@ returns-in_default-step-clause-only_short c =
     let s = c.args.self.now in
     let w = world_of s in
     let is_open = sym c.phase.ensures ∙ ap phase_in c.in-Deciding.is ∙ (λ i. Deciding c.in-Deciding.number (sym c.copied-command.ensures i) c.in-Deciding.learnt) in
+    let makes = subst (λ (config : Config). MakesTable config.granules c.args.cpu c.copied-command.result (hold_of w c.args.cpu)) c.config-config.ensures
+    c.in_default-step.ensures.only in
     subst (IsShortIn (event_room s) (commit_room s) w c.args.cpu) (sym is_open)
-    (inr (subst (λ (config : Config). MakesTable config.granules c.args.cpu c.copied-command.result (hold_of w c.args.cpu)) c.config-config.ensures
-    c.in_default-step.ensures.only))
+    (inr (accepts-reached s.history.recorded.config w (views_of s.cpus).waits c.args.cpu c.copied-command.result s.kept.reached makes))
 
 pub returns-in_default-reserve-clause-only_recorded : goal.returns-in_default-reserve-clause-only_recorded
-returns-in_default-reserve-clause-only_recorded c = records-commit (world_of c.args.self.now) c.args.cpu c.requires.can
+returns-in_default-reserve-clause-only_recorded c = records-commit (world_of c.args.self.now) c.args.cpu c.requires.ready
 
 pub returns-in_default-step-clause-only_recorded : goal.returns-in_default-step-clause-only_recorded
-returns-in_default-step-clause-only_recorded c = records-commit (world_of c.args.self.now) c.args.cpu c.requires.can
+returns-in_default-step-clause-only_recorded c = records-commit (world_of c.args.self.now) c.args.cpu c.requires.ready
 
 pub invariant_of-self-2-clause-kept : goal.invariant_of-self-2-clause-kept
 unfolding world_of world_from
@@ -114,3 +117,6 @@ pub returns-clause-waits : goal.returns-clause-waits
 unfolding waits_of
 returns-clause-waits c =
     ap (λ (v : Views). v.waits) c.come_to.ensures.views ∙ ap (λ (v : Views). put v.waits c.args.cpu None) c.in-Ok-step.ensures.ok.has_views
+
+pub returns-clause-exact : goal.returns-clause-exact
+returns-clause-exact c = next-report (world_of c.args.self.now) c.args.cpu Ready c.requires.ready

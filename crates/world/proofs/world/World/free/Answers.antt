@@ -1,6 +1,8 @@
 use Rattle.std.proofs.Common.{refl}
 use Rattle.world.specs.World.{world_of}
 use Rattle.world.proofs.Taking.{held-next, learnt-next, free-next}
+use Rattle.command_core.specs.declared.next.Next.TheVariants as next
+use Rattle.world.proofs.Goes.{next-report}
 use Rattle.world.proofs.world.World.free.Goals as goal
 
 pub free_lock-requires : goal.free_lock-requires
@@ -15,3 +17,7 @@ free_lock-requires c =
 
 pub returns-clause-does : goal.returns-clause-does
 returns-clause-does c = rw c.free_lock.ensures.free (refl, c.free_lock.ensures.freed)
+
+pub returns-clause-exact : goal.returns-clause-exact
+returns-clause-exact c =
+    rw c.free_lock.ensures.free (next-report (world_of c.args.self.now) c.args.cpu (next.Free c.args.pa c.args.learnt) c.requires.next)

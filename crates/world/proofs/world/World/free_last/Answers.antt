@@ -3,7 +3,8 @@ use Rattle.std.specs.Prelude.{option_copied}
 use Rattle.world_laws.proofs.Members.{Contains-from_slice_get}
 use Rattle.world.specs.Whole.{world_from}
 use Rattle.world.specs.World.{world_of}
-use Rattle.world.proofs.Taking.{no_last, last-of, nothing_learnt-decided, free-last}
+use Rattle.world.proofs.Taking.{no_last, last-of, nothing_learnt, free-last}
+use Rattle.world.proofs.Goes.{freed-report}
 use Rattle.world.proofs.world.World.free_last.Goals as goal
 
 pub unreachable-requires : goal.unreachable-requires
@@ -24,6 +25,9 @@ free_lock-requires c =
     record {
       cpu = c.requires.cpu;
       held = Contains-from_slice_get (w.taken cpu) (length (w.taken cpu) - 1) last is;
-      learnt = nothing_learnt-decided w (w.phase cpu) last c.requires.decided;
-      freed = free-last w cpu last (w.phase cpu) parts.0 parts.1;
+      learnt = nothing_learnt w (w.phase cpu) last;
+      freed = free-last w cpu last (w.phase cpu) parts.0 c.requires.decided parts.1;
     }
+
+pub returns-clause-exact : goal.returns-clause-exact
+returns-clause-exact c = rw c.free_lock.ensures.free (freed-report (world_of c.args.self.now) c.args.cpu c.requires.decided c.requires.held)

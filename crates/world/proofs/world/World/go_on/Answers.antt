@@ -3,16 +3,14 @@ use Rattle.command_core.specs.declared.next.Next.TheVariants.{Ready}
 use Rattle.world.specs.Next.{IsNext}
 use Rattle.std.specs.Prelude.{OnErr}
 use Rattle.world.specs.Recorded.{Records, IsShort, event_room, commit_room}
-use Rattle.world.specs.Stepped.{CanCommit}
 use Rattle.world.specs.World.{world_of}
 use Rattle.world.proofs.world.World.go_on.Goals as goal
 
-pub commit-requires-clause-can : goal.commit-requires-clause-can
-commit-requires-clause-can c =
+pub commit-requires-clause-ready : goal.commit-requires-clause-ready
+commit-requires-clause-ready c =
     let old = world_of c.args.self.now in
     let ready : IsNext old c.args.cpu Ready = subst (IsNext old c.args.cpu) c.in-Ready.is c.next_of.ensures.next in
-    let can : CanCommit old c.args.cpu = record { deciding = ready.deciding; settled = ready.settled } in
-    subst (λ w. CanCommit w c.args.cpu) (sym c.next_of.ensures.world) can
+    subst (λ w. IsNext w c.args.cpu Ready) (sym c.next_of.ensures.world) ready
 
 pub returns-in-Ready-clause-only_recorded : goal.returns-in-Ready-clause-only_recorded
 returns-in-Ready-clause-only_recorded c =

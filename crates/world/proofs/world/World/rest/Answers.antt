@@ -3,6 +3,7 @@ use Rattle.rmm_spec.specs.Waits as turn
 use Rattle.world.specs.World.{world_of}
 use Rattle.world.specs.Whole.{world_from}
 use Rattle.world.proofs.Moves.{idle}
+use Rattle.world.proofs.Goes.{ended-report}
 use Rattle.world.proofs.world.World.rest.Goals as goal
 
 pub invariant_of-self-clause-kept : goal.invariant_of-self-clause-kept
@@ -14,3 +15,6 @@ pub returns-clause-turned : goal.returns-clause-turned
 unfolding world_of world_from
 returns-clause-turned c =
     (idle c.args.self.now c.args.cpu turn.Go c.set_waits.new.self (inl c.requires.ended) c.set_waits.ensures.views).turned
+
+pub returns-clause-exact : goal.returns-clause-exact
+returns-clause-exact c = ended-report (world_of c.args.self.now) c.args.cpu c.requires.ended

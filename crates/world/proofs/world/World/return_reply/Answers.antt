@@ -6,6 +6,7 @@ use Rattle.world.specs.World.{world_of}
 use Rattle.world.specs.Whole.{world_from}
 use Rattle.world.proofs.Follows.{return-follows, next-number, none_left}
 use Rattle.world.proofs.Moves.{made, returned}
+use Rattle.world.proofs.Goes.{returned-report}
 use Rattle.world.proofs.world.World.return_reply.Goals as goal
 
 pub push-requires-clause-follows : goal.push-requires-clause-follows
@@ -49,3 +50,7 @@ returns-clause-turned c =
     let s = c.args.self.now in
     (made s c.args.cpu turn.Go (Did turn.Return) c.come_to.new.self c.push.new.self.recorded s.locks _ _ _ c.come_to.ensures.views c.in-Ok.ensures.ok refl
     (returned s c.args.cpu c.requires.cpu c.args.number c.requires.decided.0 c.args.reply c.requires.decided.1 c.requires.none)).turned
+
+pub returns-clause-exact : goal.returns-clause-exact
+returns-clause-exact c =
+    returned-report (world_of c.args.self.now) c.args.cpu c.args.number c.requires.decided.0 c.args.reply c.requires.decided.1 c.requires.none

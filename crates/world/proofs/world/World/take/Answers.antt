@@ -1,10 +1,12 @@
-use Rattle.std.proofs.Common.{refl, sym, ap, ◌∙◌}
+use Rattle.std.proofs.Common.{refl, sym, ap, ◌∙◌, true, false}
 use Rattle.command_core.specs.Sides.{side_of}
 use Rattle.world.specs.Granules.{cells_of}
 use Rattle.world.specs.Whole.{world_from, world_with}
 use Rattle.world.specs.World.{world_of}
 use Rattle.world.proofs.Taking.{lock-next, rising-next, room-rising}
 use Rattle.world.proofs.Moves.{blocked, took}
+use Rattle.command_core.specs.declared.next.Next.TheVariants as next
+use Rattle.world.proofs.Goes.{next-report, take-report, is_taken-held, is_taken-free, taken-held}
 use Rattle.world.proofs.world.World.take.Goals as goal
 
 pub holder-requires : goal.holder-requires
@@ -14,14 +16,14 @@ pub invariant_of-self-clause-kept : goal.invariant_of-self-clause-kept
 unfolding world_of world_from
 invariant_of-self-clause-kept c =
     let s = c.args.self.now in
-    (blocked s c.args.cpu c.args.pa c.in-Some._other c.set_waits.new.self (rising-next (world_of s) c.args.cpu c.args.pa c.requires.next)
+    (blocked s c.args.cpu c.args.pa c.in-Some._other c.set_waits.new.self c.requires.next
     (sym c.holder.ensures ∙ c.in-Some.is) c.set_waits.ensures.views).kept
 
 pub returns-in-Some-clause-turned : goal.returns-in-Some-clause-turned
 unfolding world_of world_from
 returns-in-Some-clause-turned c =
     let s = c.args.self.now in
-    (blocked s c.args.cpu c.args.pa c.in-Some._other c.set_waits.new.self (rising-next (world_of s) c.args.cpu c.args.pa c.requires.next)
+    (blocked s c.args.cpu c.args.pa c.in-Some._other c.set_waits.new.self c.requires.next
     (sym c.holder.ensures ∙ c.in-Some.is) c.set_waits.ensures.views).turned
 
 pub returns-in-Some-clause-does : goal.returns-in-Some-clause-does
@@ -58,3 +60,17 @@ unfolding world_of world_from
 returns-clause-does c =
     let s = c.args.self.now in
     (refl, ap (λ v. world_with (cells_of s.cells) (side_of s.side) v s.journal.items s.history.recorded) c.take.ensures.views)
+
+pub returns-in-Some-clause-exact : goal.returns-in-Some-clause-exact
+returns-in-Some-clause-exact c =
+    let s = c.args.self.now in
+    let w = world_of s in
+    let held = is_taken-held s c.in-Some._other c.args.pa (taken-held s c.in-Some._other c.args.pa (sym c.holder.ensures ∙ c.in-Some.is)) in
+    sym (take-report w c.args.pa true held) ∙ next-report w c.args.cpu (next.Take c.args.pa) c.requires.next
+
+pub returns-clause-exact : goal.returns-clause-exact
+returns-clause-exact c =
+    let s = c.args.self.now in
+    let w = world_of s in
+    sym (take-report w c.args.pa false (is_taken-free s c.args.pa (sym c.holder.ensures ∙ c.in_default.is)))
+    ∙ next-report w c.args.cpu (next.Take c.args.pa) c.requires.next

@@ -1,11 +1,11 @@
-use Rattle.std.proofs.Common.{Result, Ok, Err, Bool, true, false, sym, ap, ◌∙◌}
+use Rattle.std.proofs.Common.{◌≡◌, Result, Ok, Err, Bool, true, false, sym, ap, ◌∙◌}
 use Rattle.std.specs.Prelude.{OnErr}
 use Rattle.std.proofs.lemmas.Bool.{false≢true}
 use Rattle.std.proofs.lemmas.Result.{IfOk-weaker}
 use Rattle.rmm_spec.specs.World.{IsDeciding}
 use Rattle.world.specs.declared.turned.Will.{Will}
 use Rattle.world.specs.declared.turned.Will.TheVariants.{Go, GiveUp, Stop}
-use Rattle.world.specs.Next.{DoesPlanned}
+use Rattle.world.specs.Next.{DoesPlanned, go_report}
 use Rattle.world.specs.Told.{report_of}
 use Rattle.world.specs.World.{world_of}
 use Rattle.world.proofs.world.World.turn.Goals as goal
@@ -28,6 +28,17 @@ returns-in-GiveUp-clause-planned c = λ is. absurd (false≢true (sym (ap goes c
 
 pub returns-in-Stop-clause-planned : goal.returns-in-Stop-clause-planned
 returns-in-Stop-clause-planned c = λ is. absurd (false≢true (sym (ap goes c.in-Stop.is) ∙ ap goes is))
+
+pub returns-in-Go-clause-exact : goal.returns-in-Go-clause-exact
+returns-in-Go-clause-exact c =
+    let report = go_report (world_of c.args.self.now) c.args.cpu in
+    IfOk-weaker c.go.result (λ turned. report_of turned ≡ report) _ (λ turned exact is. exact) c.go.ensures.exact
+
+pub returns-in-GiveUp-clause-exact : goal.returns-in-GiveUp-clause-exact
+returns-in-GiveUp-clause-exact c = λ is. absurd (false≢true (sym (ap goes c.in-GiveUp.is) ∙ ap goes is))
+
+pub returns-in-Stop-clause-exact : goal.returns-in-Stop-clause-exact
+returns-in-Stop-clause-exact c = λ is. absurd (false≢true (sym (ap goes c.in-Stop.is) ∙ ap goes is))
 
 -- what holds whatever is returned holds of an error
 of_error : {T E P : Type 0} (r : Result T E) → P → OnErr r P
