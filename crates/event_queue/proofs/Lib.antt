@@ -1,4 +1,1 @@
-pub mod Steps
-pub mod Stands
-pub mod Passes
-pub mod Wholes
+pub mod Hearings

@@ -60,4 +60,4 @@ returns-clause-certificate g c =
     ∙ sym c.self.invariant.1 ∙ ap (λ (m : MonitorView). m.config.granules) c.self.view_is in
     closed c.args.self.config c.audit.new.self _ granules c.books-books.ensures c.args.tokens.items c.audit.new.tokens
     (c.audit.ensures.tokens ∙ c.as_mut_slice-tokens.ensures.value) c.is_listed_by.result c.is_listed_by.ensures c.drain_rest.new.history.recorded.events
-    (map entry_of c.into_entries.result.items) _ c.if-not-is_listed_by.false c.into_entries.ensures c.in_ok-certificate.ensures
+    (map entry_of c.into_entries.result.items) _ c.if-not-is_listed_by.false c.into_entries.ensures c.in_ok-certificate.ensures.written
