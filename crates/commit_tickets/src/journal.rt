@@ -9,7 +9,7 @@ ghost use Rattle.commit_tickets.specs.Entries.{entry_of};
 use crate::site::Site;
 use command_core::Side;
 use granule_state::Config;
-use rmi_view::{CommandRef, ReplyRef};
+use rmi_view::CommandRef;
 use rmm_spec::{Command, Reply};
 use spec_machine::Machine;
 use std::marker::Model;
@@ -26,13 +26,14 @@ pub struct JournalEntry {
 impl JournalEntry {
     ghost use Rattle.commit_tickets.specs.View.{entry};
 
-    pub(crate) fn of(cpu: u8, command: &Command, reply: &Reply) -> JournalEntry
-        ensures { entry_of result ≡ entry cpu command.now reply.now }
+    pub(crate) fn of(cpu: u8, command: &Command, reply: Reply) -> JournalEntry
+        ensures { entry_of result ≡ entry cpu command.now reply }
     {
+        let _few = command.words.len();
         JournalEntry {
             cpu,
             command: CommandRef::of(command).to_command(),
-            reply: ReplyRef::of(reply).to_reply(),
+            reply,
         }
     }
 }

@@ -1,1 +1,5 @@
 pub mod Hearings
+pub mod Steps
+pub mod Stands
+pub mod Passes
+pub mod Wholes
