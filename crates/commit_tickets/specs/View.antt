@@ -1,5 +1,5 @@
 -- What contracts see of a journal and of a token.
-use Rattle.std.specs.Prelude.{ℕ, zero, suc, ◌-◌, Bool, false, List, [], ◌∷◌, ◌++◌, Vec, vec_len, vec_capacity}
+use Rattle.std.specs.Prelude.{ℕ, zero, suc, ◌-◌, Bool, false, List, [], ◌∷◌, ◌++◌, Option, None, Vec, vec_len, vec_capacity}
 use Rattle.rmm_spec.specs.declared.command.Command.{Command}
 use Rattle.rmm_spec.specs.declared.reply.Reply.{Reply}
 use Rattle.rmm_spec.specs.HistoryText.{Config}
@@ -11,6 +11,7 @@ use Rattle.command_core.specs.declared.side.Side.{Side}
 use Rattle.command_core.specs.Changed.{hold_of}
 use Rattle.command_core.specs.Seen.{place_of}
 use Rattle.command_core.specs.Sides.{side_of}
+use Rattle.commit_tickets.specs.declared.fault.CommitFault.{CommitFault}
 use Rattle.commit_tickets.specs.declared.token.Committed.{Committed}
 
 -- how many more elements a vector has room for
@@ -24,16 +25,17 @@ pub record JournalView : Type 0 where
   pub side : Side
   pub room : ℕ
 
--- A CPU, where it is, its own commits in their order, and for how many more its list has room.
+-- A CPU, where it is, its own commits in their order, for how many more its list has room, and why its last commit was refused.
 pub record TokenView : Type 0 where
   pub cpu : ℕ
   pub place : CpuPlace
   pub is_stopped : Bool
   pub mine : List Committed
   pub room : ℕ
+  pub fault : Option CommitFault
 
 abbrev pub before_commits : ℕ → TokenView
-before_commits cpu = record { cpu = cpu; place = Outside; is_stopped = false; mine = []; room = 0 }
+before_commits cpu = record { cpu = cpu; place = Outside; is_stopped = false; mine = []; room = 0; fault = None }
 
 -- the tokens of the first so many CPUs
 abbrev pub first_tokens : ℕ → List TokenView

@@ -1,6 +1,6 @@
 //! A CPU commits a command on the cells that it holds.
 
-ghost use Rattle.std.specs.Prelude.{◌≡◌, ◌+◌, ◌<◌, [], ◌∷◌, ◌++◌, length, IsTrue, IfOk, IfErr, OnOk, OnErr};
+ghost use Rattle.std.specs.Prelude.{◌≡◌, ◌+◌, ◌<◌, [], ◌∷◌, ◌++◌, length, Some, None, IsTrue, IfOk, IfErr, OnOk, OnErr};
 ghost use Rattle.rmm_spec.specs.Call.{call_of};
 ghost use Rattle.rmm_spec.specs.Local.{LocalStep};
 ghost use Rattle.command_core.specs.Changed.{hold_of};
@@ -12,13 +12,13 @@ ghost use Rattle.granule_lock.specs.HeldCells.{hold_cells};
 ghost use Rattle.commit_tickets.specs.Faults.{HasCause};
 ghost use Rattle.commit_tickets.specs.View.{entry, hold_with};
 
-use crate::copies::{copy_of_command, copy_of_reply};
 use crate::fault::CommitFault;
-use crate::journal::{Entry, Journal};
+use crate::journal::{Journal, JournalEntry};
 use crate::site::Site;
 use crate::token::{Committed, CpuToken};
 use command_core::{applied_decisions_are_local, apply, decide, room};
 use granule_lock::Hold;
+use rmi_view::ReplyRef;
 use rmm_spec::{Command, Reply};
 use std::alloc::Global;
 
@@ -31,7 +31,8 @@ pub struct Done {
 
 /// Commits a served command that what is held settles, as `next_lock` tells by Ready, by the token of its CPU. The reply is
 /// decided on the held cells and offered to the journal's books. Where they give it, the cells, the side table and the token's
-/// place make the step; where they don't, or memory is refused, nothing changes. It waits for nobody.
+/// place make the step; where they don't, or memory is refused, nothing changes but that the token keeps the fault. It waits
+/// for nobody.
 pub fn commit<S: Site>(
     alloc: Global,
     journal: &mut Journal<S>,
@@ -51,17 +52,19 @@ pub fn commit<S: Site>(
       place = token.new.place;
       mine = token.old.mine ++ record { ticket = done.ticket; command = command.now; reply = done.reply } ∷ [];
       room = token.new.room;
+      fault = None;
     }) }
     ensures step { IfOk result (λ done. LocalStep S.granules token.old.cpu command.now done.reply
         (hold_with journal.old token.old (hold_cells hold.old)) (hold_with journal.new token.new (hold_cells hold.new))) }
     ensures cause { IfErr result (λ fault. HasCause fault S.granules command.now journal.old token.old (hold_cells hold.old)) }
     ensures kept_journal { OnErr result (journal.new ≡ record journal.old { side = journal.new.side; room = journal.new.room }) }
     ensures kept_side { OnErr result (side_of journal.new.side ≡ side_of journal.old.side) }
-    ensures kept_token { OnErr result (token.new ≡ record token.old { room = token.new.room }) }
+    ensures kept_token { IfErr result (λ fault. token.new ≡ record token.old { room = token.new.room; fault = Some fault }) }
     ensures kept_hold { OnErr result (hold.new ≡ hold.old) }
 {
     applied_decisions_are_local();
     let cpu = token.cpu;
+    token.fault = Some(CommitFault::NoMemory);
     let (reply, change) = decide(
         &journal.config,
         command,
@@ -74,20 +77,16 @@ pub fn commit<S: Site>(
     journal.entries.reserve(1)?;
     token.mine.reserve(1)?;
     if !journal.books.offer(cpu, command, &reply)? {
+        token.fault = Some(CommitFault::Disagrees);
         return Err(CommitFault::Disagrees);
     }
+    token.fault = None;
     apply(hold, &mut journal.side, &mut token.place, change, room);
     journal.commits.add(&mut token.share, 1);
     let ticket = journal.entries.len();
-    journal.entries.push_reserved(Entry {
-        cpu,
-        command: copy_of_command(command),
-        reply: copy_of_reply(&reply),
-    });
-    token.mine.push_reserved(Committed {
-        ticket,
-        command: copy_of_command(command),
-        reply: copy_of_reply(&reply),
-    });
+    let recorded = ReplyRef::of(&reply).to_reply();
+    journal.entries.push_reserved(JournalEntry::of(cpu, command, recorded));
+    let listed = ReplyRef::of(&reply).to_reply();
+    token.mine.push_reserved(Committed::of(ticket, command, listed));
     Ok(Done { ticket, reply })
 }

@@ -9,6 +9,7 @@ ghost use Rattle.commit_tickets.specs.Entries.{entry_of};
 use crate::site::Site;
 use command_core::Side;
 use granule_state::Config;
+use rmi_view::CommandRef;
 use rmm_spec::{Command, Reply};
 use spec_machine::Machine;
 use std::marker::Model;
@@ -16,10 +17,25 @@ use std::sync::ledger::Book;
 
 /// A commit: a CPU's command, and what it was answered.
 #[derive(Drop)]
-pub struct Entry {
+pub struct JournalEntry {
     pub cpu: u8,
     pub command: Command,
     pub reply: Reply,
+}
+
+impl JournalEntry {
+    ghost use Rattle.commit_tickets.specs.View.{entry};
+
+    pub(crate) fn of(cpu: u8, command: &Command, reply: Reply) -> JournalEntry
+        ensures { entry_of result ≡ entry cpu command.now reply }
+    {
+        let _few = command.words.len();
+        JournalEntry {
+            cpu,
+            command: CommandRef::of(command).to_command(),
+            reply,
+        }
+    }
 }
 
 /// The commits of all CPUs in their one order, with the books, which are the specification machine that they have led to,
@@ -27,7 +43,7 @@ pub struct Entry {
 #[derive(Drop)]
 pub struct Journal<S: Site> {
     pub(crate) config: Config,
-    pub(crate) entries: Vec<Entry>,
+    pub(crate) entries: Vec<JournalEntry>,
     pub(crate) books: Machine,
     pub(crate) side: Side,
     pub(crate) commits: Book<S>,
@@ -74,7 +90,7 @@ impl<S: Site> Journal<S> {
     }
 
     /// The commit of a ticket.
-    pub fn entry(&self, ticket: usize) -> &Entry
+    pub fn entry(&self, ticket: usize) -> &JournalEntry
         requires { ticket < length self.now.entries }
         ensures { slice_get self.now.entries ticket ≡ Some (entry_of result.now) }
     {
@@ -82,7 +98,7 @@ impl<S: Site> Journal<S> {
     }
 
     /// The commits in their order.
-    pub fn into_entries(self) -> Vec<Entry>
+    pub fn into_entries(self) -> Vec<JournalEntry>
         ensures { map entry_of result.items ≡ self.entries }
     {
         let Journal { entries, .. } = self;

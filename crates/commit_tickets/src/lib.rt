@@ -7,7 +7,6 @@
 
 mod audit;
 mod committing;
-mod copies;
 mod fault;
 mod journal;
 mod listing;
@@ -19,7 +18,7 @@ mod token;
 
 pub use committing::{Done, commit};
 pub use fault::CommitFault;
-pub use journal::{Entry, Journal};
+pub use journal::{Journal, JournalEntry};
 pub use numbers::Numbers;
 pub use site::Site;
 pub use token::{Committed, CpuToken};

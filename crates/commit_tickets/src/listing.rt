@@ -4,7 +4,7 @@ ghost use Rattle.std.specs.Prelude.{◌≡◌, ℕ, ◌≤◌, ◌↔◌, IsTrue
 ghost use Rattle.commit_tickets.specs.Entries.{entry_of};
 ghost use Rattle.commit_tickets.specs.Listed.{AreListed, commit_at, mine_of, numbers_of};
 
-use crate::journal::{Entry, Journal};
+use crate::journal::{Journal, JournalEntry};
 use crate::numbers::Numbers;
 use crate::same::{is_same_command, is_same_reply};
 use crate::site::Site;
@@ -33,7 +33,7 @@ impl<S: Site> Journal<S> {
 
 impl<S: Site> CpuToken<S> {
     // Whether the commit of a number is the entry of a ticket.
-    fn lists(&self, number: usize, ticket: usize, entry: &Entry) -> bool
+    fn lists(&self, number: usize, ticket: usize, entry: &JournalEntry) -> bool
         ensures { IsTrue result ↔ (slice_get self.now.mine number ≡ Some (commit_at ticket (entry_of entry.now))) }
     {
         match self.mine.get(number) {
@@ -45,7 +45,7 @@ impl<S: Site> CpuToken<S> {
 
 impl Committed {
     // Whether it is the entry of a ticket.
-    fn is_entry(&self, ticket: usize, entry: &Entry) -> bool
+    fn is_entry(&self, ticket: usize, entry: &JournalEntry) -> bool
         ensures { IsTrue result ↔ (self.now ≡ commit_at ticket (entry_of entry.now)) }
     {
         self.ticket == ticket

@@ -37,6 +37,7 @@ impl<S: Site> Journal<S> {
                 place: CpuPlace::Outside,
                 is_stopped: false,
                 mine: Vec::new(alloc),
+                fault: None,
                 share: rest.split_off(1, 0),
             })?;
         }

@@ -3,8 +3,10 @@
 ghost use Rattle.std.specs.Prelude.{◌≡◌, true};
 ghost use Rattle.commit_tickets.specs.View.{TokenView};
 
+use crate::fault::CommitFault;
 use crate::site::Site;
 use command_core::CpuPlace;
+use rmi_view::CommandRef;
 use rmm_spec::{Command, Reply};
 use std::marker::Model;
 use std::sync::ledger::Share;
@@ -17,13 +19,29 @@ pub struct Committed {
     pub reply: Reply,
 }
 
-/// What a CPU commits by: where it is, and its own commits in their order. Its share of the ledger takes no bytes.
+impl Committed {
+    pub(crate) fn of(ticket: usize, command: &Command, reply: Reply) -> Committed
+        ensures { result ≡ record { ticket = ticket; command = command.now; reply = reply } }
+    {
+        let _few = command.words.len();
+        Committed {
+            ticket,
+            command: CommandRef::of(command).to_command(),
+            reply,
+        }
+    }
+}
+
+/// What a CPU commits by: where it is, its own commits in their order, and why its last try was refused, if it was. Its share
+/// of the ledger takes no bytes.
 #[derive(Drop)]
 pub struct CpuToken<S: Site> {
     pub(crate) cpu: u8,
     pub(crate) place: CpuPlace,
     pub(crate) is_stopped: bool,
     pub(crate) mine: Vec<Committed>,
+    // set by `commit` alone
+    pub(crate) fault: Option<CommitFault>,
     pub(crate) share: Share<S>,
 }
 
@@ -35,7 +53,7 @@ impl<S: Site> Model for CpuToken<S> {
     ghost use Rattle.std.specs.Prelude.{◌≡◌, vec_len};
     ghost use Rattle.commit_tickets.specs.View.{spare};
 
-    ghost view = { λ t. record { cpu = t.cpu; place = t.place; is_stopped = t.is_stopped; mine = t.mine.items; room = spare t.mine } };
+    ghost view = { λ t. record { cpu = t.cpu; place = t.place; is_stopped = t.is_stopped; mine = t.mine.items; room = spare t.mine; fault = t.fault } };
 
     ghost invariant = { λ t. (t.share.parts ≡ 1) × (t.share.amount ≡ vec_len t.mine) };
 }
@@ -59,6 +77,13 @@ impl<S: Site> CpuToken<S> {
         ensures { result.now ≡ self.now.mine }
     {
         self.mine.as_slice()
+    }
+
+    /// Why its last commit was refused, if it was.
+    pub fn fault(&self) -> Option<CommitFault>
+        ensures { result ≡ self.now.fault }
+    {
+        self.fault
     }
 
     pub fn is_stopped(&self) -> bool

@@ -1,3 +1,4 @@
+pub mod Hearings
 pub mod Steps
 pub mod Stands
 pub mod Passes

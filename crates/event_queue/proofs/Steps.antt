@@ -183,6 +183,7 @@ finds place page queued pages book at cpu holder =
     let mine = cpu_page_of book.0 (book.0.drained ++ queued) place page cpu holder (book.1.each place page at) in
     record {
       drained = book.0.drained;
+      is_heard = book.1.seen place page at;
       are_records = subst (λ cpus. AreRecords cpus (book.0.drained ++ queued)) (sym mine.same_cpus) book.1.are_records;
       is_own = sym mine.own;
     }

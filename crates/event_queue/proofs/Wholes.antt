@@ -96,6 +96,12 @@ begun-more passes events last mine at_last begins before cpu pass below at_cpu =
     (λ (apart : cpu ≢ last). before cpu pass (omega arith) at_cpu)
     (cases_eq cpu last)
 
+-- events of these CPUs, of which each CPU's part begins its pass's list, are no more than the passes recorded
+pub at_most_recorded : (passes : List CpuView) (events : List Event) → AllByRecursion (IsEvent (length passes)) events → AreBegun passes events
+    → length events ≤ count_recorded passes
+at_most_recorded passes events each begun =
+    omega (arith, all_in_parts (length passes) events each, parts-le passes (λ cpu. subhistory_of cpu events) begun)
+
 -- events of these CPUs, as many as all passes recorded, of which each CPU's part begins its pass's list
 pub are_whole : (passes : List CpuView) (events : List Event) → AllByRecursion (IsEvent (length passes)) events → AreBegun passes events
     → count_recorded passes ≤ length events → AreWhole passes events

@@ -32,7 +32,7 @@ BeginsWithDrained page queued = (cpu : ℕ) → page.holder ≡ Cpu cpu → IsPr
 
 -- what a CPU knows of the events in the queue
 abbrev pub MayFindQueued : Page → List Event → Type 0
-MayFindQueued page queued = (cpu : ℕ) → page.holder ≡ Cpu cpu → MayBeQueued page.cpus cpu page.events queued
+MayFindQueued page queued = (cpu : ℕ) → page.holder ≡ Cpu cpu → MayBeQueued page.cpus cpu page.events page.seen queued
 
 -- the event was the oldest in the queue, and goes to the end of what was drained
 pub record IsDrained (page : Page) (event : Event) (new : Page) : Type 0 where

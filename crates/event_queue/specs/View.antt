@@ -11,14 +11,19 @@ pub record RecorderView : Type 0 where
   pub queue : TableId
   pub capacity : ℕ
 
--- a CPU's own list of events, where it leads, and whether a return was refused
+-- a CPU's own list of events, where it leads, what it has heard of the events that were drained, and whether a return was refused
 pub record CpuView : Type 0 where
   pub queue : TableId
   pub cpus : ℕ
   pub cpu : ℕ
   pub events : List Event
   pub stand : Stand
+  pub heard : List Event
   pub is_stopped : Bool
+
+-- the pass has heard of these drained events
+abbrev pub hearing : List Event → CpuView → CpuView
+hearing drained pass = record pass { heard = drained }
 
 -- all events that were drained
 pub record ScribeView : Type 0 where
@@ -28,7 +33,7 @@ pub record ScribeView : Type 0 where
 
 -- a CPU's before its first call
 abbrev pub before_calls : TableId → ℕ → ℕ → CpuView
-before_calls queue cpus cpu = record { queue = queue; cpus = cpus; cpu = cpu; events = []; stand = start; is_stopped = false }
+before_calls queue cpus cpu = record { queue = queue; cpus = cpus; cpu = cpu; events = []; stand = start; heard = []; is_stopped = false }
 
 -- the history is the one that the scribe drains this queue into
 pub record CanDrain (queue : TableId) (scribe : ScribeView) (history : History) : Type 0 where

@@ -7,7 +7,7 @@ ghost use mathlib.Core.List.{IsPrefix};
 ghost use Rattle.rmm_spec.specs.HistoryText.{subhistory_of, start, stand_from};
 ghost use Rattle.event_queue.specs.Pages.{cpu_page};
 ghost use Rattle.event_queue.specs.Records.{WasFull};
-ghost use Rattle.event_queue.specs.View.{before_calls};
+ghost use Rattle.event_queue.specs.View.{before_calls, hearing};
 
 use crate::book::{Hears, PagePass, Queue, Records};
 use crate::full::Full;
@@ -41,6 +41,7 @@ impl Model for CpuPass {
       cpu = p.cpu;
       events = (page_of p.pass).events;
       stand = record { next = p.next; is_open = p.is_open };
+      heard = (page_of p.pass).seen;
       is_stopped = p.is_stopped;
     } };
 
@@ -110,7 +111,7 @@ impl CpuPass {
           stand = record { next = self.old.stand.next + 1; is_open = true };
         }) }
         ensures full { OnErr result (self.new ≡ self.old) }
-        ensures cause { OnErr result (WasFull (ruled_capacity queue.now) self.old.cpus self.old.cpu self.old.events) }
+        ensures cause { OnErr result (WasFull (ruled_capacity queue.now) self.old.cpus self.old.cpu self.old.events self.old.heard) }
     {
         let (cpu, number) = (self.cpu, self.next);
         let event = Event::Called {
@@ -142,7 +143,7 @@ impl CpuPass {
           stand = record { next = self.old.stand.next; is_open = false };
         }) }
         ensures full { OnErr result (self.new ≡ record self.old { is_stopped = true }) }
-        ensures cause { OnErr result (WasFull (ruled_capacity queue.now) self.old.cpus self.old.cpu self.old.events) }
+        ensures cause { OnErr result (WasFull (ruled_capacity queue.now) self.old.cpus self.old.cpu self.old.events self.old.heard) }
     {
         reply_has_text(&reply);
         let (cpu, number) = (self.cpu, self.next - 1);
@@ -159,11 +160,11 @@ impl CpuPass {
         }
     }
 
-    /// Compares what was drained with the CPU's own list.
+    /// Compares what was drained with the CPU's own list, and has heard of it then.
     pub(crate) fn compare(&mut self, queue: &Queue, note: PagePass)
         requires queue { queue.now.table.shared.table_id ≡ self.old.queue }
         requires note { IsPassOf queue.now note }
-        ensures same { self.new ≡ self.old }
+        ensures heard { self.new ≡ hearing (page_of note).seen self.old }
         ensures beginning { IsPrefix (subhistory_of self.old.cpu (page_of note).seen) self.old.events }
     {
         queue.absorb::<Hears>(&mut self.pass, note);

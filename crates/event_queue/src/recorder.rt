@@ -8,7 +8,7 @@ ghost use Rattle.rmm_spec.specs.HistoryText.{subhistory_of};
 ghost use Rattle.crossbeam_queue.specs.Passes.{IsPassOf, view as page_of};
 ghost use Rattle.event_queue.specs.Pages.{opening_page, scribe_page};
 ghost use Rattle.event_queue.specs.Records.{WasFull};
-ghost use Rattle.event_queue.specs.View.{CanDrain, before_calls};
+ghost use Rattle.event_queue.specs.View.{CanDrain, before_calls, hearing};
 
 use crate::book::{Counts, PagePass, Queue, Seats};
 use crate::cpu_pass::CpuPass;
@@ -74,7 +74,7 @@ impl Recorder {
           stand = record { next = pass.old.stand.next + 1; is_open = true };
         }) }
         ensures full { OnErr result (pass.new ≡ pass.old) }
-        ensures cause { OnErr result (WasFull self.now.capacity pass.old.cpus pass.old.cpu pass.old.events) }
+        ensures cause { OnErr result (WasFull self.now.capacity pass.old.cpus pass.old.cpu pass.old.events pass.old.heard) }
     {
         pass.call(rt, &self.queue, command)
     }
@@ -89,7 +89,7 @@ impl Recorder {
           stand = record { next = pass.old.stand.next; is_open = false };
         }) }
         ensures full { OnErr result (pass.new ≡ record pass.old { is_stopped = true }) }
-        ensures cause { OnErr result (WasFull self.now.capacity pass.old.cpus pass.old.cpu pass.old.events) }
+        ensures cause { OnErr result (WasFull self.now.capacity pass.old.cpus pass.old.cpu pass.old.events pass.old.heard) }
     {
         pass.returned(rt, &self.queue, reply)
     }
@@ -120,12 +120,13 @@ impl Recorder {
         Ok(capacity)
     }
 
-    /// The law on what was drained: each CPU's part of it is a beginning of the CPU's own list.
+    /// The law on what was drained: each CPU's part of it is a beginning of the CPU's own list. The pass has heard of it then,
+    /// so that a later refusal speaks of a moment after it.
     pub fn drained_in_order(&self, scribe: &mut ScribePass, pass: &mut CpuPass)
         requires scribe { scribe.old.queue ≡ self.now.queue }
         requires pass { pass.old.queue ≡ self.now.queue }
         ensures beginning { IsPrefix (subhistory_of pass.old.cpu scribe.old.events) pass.old.events }
-        ensures same { (scribe.new ≡ scribe.old) × (pass.new ≡ pass.old) }
+        ensures heard { (scribe.new ≡ scribe.old) × (pass.new ≡ hearing scribe.old.events pass.old) }
     {
         let note = scribe.note(&self.queue);
         pass.compare(&self.queue, note);

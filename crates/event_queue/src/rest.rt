@@ -1,8 +1,8 @@
 //! The rest of what the CPUs recorded, once their passes are back.
 
-ghost use Rattle.std.specs.Prelude.{◌≡◌, ◌<◌, ◌≤◌, ◌^◌, ◌↔◌, IsTrue, IfSome, IfNone, OnOk, OnErr, List, ◌++◌, length};
+ghost use Rattle.std.specs.Prelude.{◌≡◌, ◌+◌, ◌<◌, ◌≤◌, ◌^◌, ◌↔◌, IsTrue, IfSome, IfNone, OnOk, OnErr, List, ◌++◌, length, map};
 ghost use Rattle.rmm_spec.specs.declared.event.Event.{Event};
-ghost use Rattle.event_queue.specs.View.{CanDrain, AreSeats, AreBegun, AreWhole, count_recorded};
+ghost use Rattle.event_queue.specs.View.{CanDrain, AreSeats, AreBegun, AreWhole, count_recorded, hearing};
 
 use crate::cpu_pass::CpuPass;
 use crate::recorder::Recorder;
@@ -14,7 +14,7 @@ use std::sync::Wait;
 impl Recorder {
     /// Drains until the history has each CPU's whole list. All passes are here, so nobody records meanwhile, and it tries again
     /// as long as an event is missing. Where memory is refused, what was taken stands in the history, and was all that it had
-    /// room for in memory.
+    /// room for in memory, which was too little for all that the passes recorded and one event more.
     pub fn drain_rest<R: Wait>(
         &self,
         rt: &R,
@@ -29,16 +29,17 @@ impl Recorder {
         ensures whole { OnOk result (AreWhole passes.old history.new.recorded.events) }
         ensures taken { (rest : List Event) × (scribe.new ≡ record scribe.old { events = scribe.old.events ++ rest })
             × OnErr result (history.old.room ≤ length rest) }
+        ensures short { OnErr result (history.old.room + length history.old.recorded.events ≤ count_recorded passes.old) }
         ensures history { history.new.recorded ≡ record history.old.recorded { events = scribe.new.events } }
-        ensures passes { passes.new ≡ passes.old }
+        ensures passes { passes.new ≡ map (hearing scribe.new.events) passes.old }
     {
         let Some(count) = count_recorded(passes) else {
             unreachable!()
         };
-        self.drain_to(rt, scribe, history, count)?;
+        let drained = self.drain_to(rt, scribe, history, count);
         history.well_formed();
         self.compare_all(scribe, passes);
-        Ok(())
+        drained
     }
 
     /// Drains again and again until the history has so many events.
@@ -64,12 +65,12 @@ impl Recorder {
         unreachable!()
     }
 
-    /// Compares what was drained with each CPU's own list.
+    /// Compares what was drained with each CPU's own list, of which the passes have heard then.
     fn compare_all(&self, scribe: &mut ScribePass, passes: &mut [CpuPass])
         requires scribe { scribe.old.queue ≡ self.now.queue }
         requires passes { AreSeats self.now.queue passes.old }
         ensures begun { AreBegun passes.old scribe.old.events }
-        ensures same { (scribe.new ≡ scribe.old) × (passes.new ≡ passes.old) }
+        ensures heard { (scribe.new ≡ scribe.old) × (passes.new ≡ map (hearing scribe.old.events) passes.old) }
     {
         for pass in passes.iter_mut() {
             self.drained_in_order(scribe, pass);

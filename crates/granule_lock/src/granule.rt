@@ -1,5 +1,6 @@
 //! One granule's lock.
 
+use crate::hold::Away;
 use command_core::Cell;
 use std::sync::{Condvar, Mutex, Wait};
 
@@ -20,16 +21,16 @@ impl Granule {
     }
 
     /// Takes the cell away, once it is home.
-    pub fn take<R: Wait>(&self, rt: &R) -> Cell {
+    pub fn take<R: Wait>(&self, rt: &R) -> Away {
         let mut home = self
             .came_home
             .wait_while(rt, self.home.lock(rt), |home| home.is_none());
-        home.take().unwrap()
+        Away::of(home.take().unwrap())
     }
 
     /// Brings the cell home, and wakes one that waits for it.
-    pub fn give<R: Wait>(&self, rt: &R, cell: Cell) {
-        *self.home.lock(rt) = Some(cell);
+    pub fn give<R: Wait>(&self, rt: &R, cell: Away) {
+        cell.go_home(&mut *self.home.lock(rt));
         self.came_home.notify_one();
     }
 }

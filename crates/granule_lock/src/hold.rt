@@ -1,6 +1,6 @@
 //! The cells that a CPU holds.
 
-ghost use Rattle.std.specs.Prelude.{◌≡◌, ◌≤◌, length, IsTrue};
+ghost use Rattle.std.specs.Prelude.{◌≡◌, ◌≤◌, Some, length, IsTrue};
 ghost use Rattle.command_core.specs.Seen.{are_distinct};
 
 use arrayvec::ArrayVec;
@@ -8,8 +8,29 @@ use command_core::{Cell, Held};
 use granule_state::Pa;
 use std::mem::replace;
 
-/// Up to six cells with their granules, in the order in which they were taken. Only a take adds one.
-#[derive(Drop)]
+/// A cell that was taken from its granule. It has no `Drop`: it is put among those that are held, or it goes home.
+pub struct Away {
+    cell: Cell,
+}
+
+impl Away {
+    pub fn of(cell: Cell) -> Away
+        ensures { result.cell ≡ cell }
+    {
+        Away { cell }
+    }
+
+    /// Puts the cell into its home.
+    pub fn go_home(self, home: &mut Option<Cell>)
+        ensures { home.new ≡ Some self.cell }
+    {
+        let Away { cell } = self;
+        *home = Some(cell);
+    }
+}
+
+/// Up to six cells with their granules, in the order in which they were taken. Only a take adds one. It has no `Drop`, so that
+/// each cell goes home before it ends.
 pub struct Hold {
     granules: ArrayVec<Pa, 6>,
     cells: ArrayVec<Cell, 6>,
@@ -34,25 +55,38 @@ impl Hold {
         }
     }
 
+    /// Ends a hold of no cells.
+    pub fn end(self)
+        requires { hold_cells self ≡ [] }
+    {
+        let Hold {
+            granules: _,
+            cells: _,
+        } = self;
+    }
+
     /// One cell more, of a granule that isn't held yet.
-    pub(crate) fn push(&mut self, pa: Pa, cell: Cell)
+    pub(crate) fn push(&mut self, pa: Pa, away: Away)
         requires room { length (hold_cells self.old) < 6 }
         requires new { is_held pa (hold_cells self.old) ≡ false }
-        ensures { hold_cells self.new ≡ hold_cells self.old ++ held_at pa (cell_of cell) ∷ [] }
+        ensures { hold_cells self.new ≡ hold_cells self.old ++ held_at pa (cell_of away.cell) ∷ [] }
     {
+        let Away { cell } = away;
         self.granules.push(pa);
         self.cells.push(cell);
     }
 
     /// Takes a held cell out.
-    pub(crate) fn remove(&mut self, pa: Pa) -> Cell
+    pub(crate) fn remove(&mut self, pa: Pa) -> Away
         requires { IsTrue (is_held pa (hold_cells self.old)) }
         ensures cells { hold_cells self.new ≡ without_cell pa (hold_cells self.old) }
-        ensures given { cell_in pa (hold_cells self.old) ≡ Some (cell_of result) }
+        ensures given { cell_in pa (hold_cells self.old) ≡ Some (cell_of result.cell) }
     {
         let place = self.place_of(pa);
         self.granules.remove(place);
-        self.cells.remove(place)
+        Away {
+            cell: self.cells.remove(place),
+        }
     }
 
     // Where a held granule stands.

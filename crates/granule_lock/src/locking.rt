@@ -1,12 +1,12 @@
 //! A CPU takes and frees granules.
 
-ghost use Rattle.std.specs.Prelude.{◌≡◌, [], false, IsTrue, IfSome, IfNone};
+ghost use Rattle.std.specs.Prelude.{◌≡◌, ℕ, [], false, Option, IsTrue, IfSome, IfNone};
 ghost use Rattle.rmm_spec.specs.Call.{call_of};
 ghost use Rattle.command_core.specs.Seen.{place_of, is_held};
 ghost use Rattle.command_core.specs.Served.{is_served};
 ghost use Rattle.command_core.specs.Settled.{is_settled};
 ghost use Rattle.granule_lock.specs.HeldCells.{hold_cells};
-ghost use Rattle.granule_lock.specs.Locked.{AreGranules};
+ghost use Rattle.granule_lock.specs.Locked.{AreGranules, IsPlannedStep, IsReached, locking};
 
 use crate::granules::Granules;
 use crate::hold::Hold;
@@ -29,6 +29,8 @@ pub fn lock_for<R: Wait>(
     requires none { hold_cells hold.old ≡ [] }
     ensures settled { IsTrue (is_settled config.now.granules (call_of command.now) (place_of place.now) (hold_cells hold.new)) }
     ensures granules { AreGranules granules.now.granules (hold_cells hold.new) }
+    ensures planned { (learnt : Option ℕ)
+        × IsReached config.now.granules (call_of command.now) (place_of place.now) (locking (hold_cells hold.new) learnt) }
 {
     let mut learnt = None;
     for _step in rt.forever() {
@@ -53,7 +55,10 @@ fn goes_on<R: Wait>(
     requires served { IsTrue (is_served (call_of command.now)) }
     requires granules { AreGranules granules.now.granules (hold_cells hold.old) }
     ensures settled { result ≡ false → IsTrue (is_settled config.now.granules (call_of command.now) (place_of place.now) (hold_cells hold.new)) }
+    ensures stays { result ≡ false → hold.new ≡ hold.old }
     ensures granules { AreGranules granules.now.granules (hold_cells hold.new) }
+    ensures planned { IsTrue result → IsPlannedStep config.now.granules (call_of command.now) (place_of place.now)
+        (locking (hold_cells hold.old) learnt.old) (locking (hold_cells hold.new) learnt.new) }
 {
     match next_lock(config, command, place, *learnt, hold) {
         Next::Take(pa) => granules.take(rt, hold, pa),

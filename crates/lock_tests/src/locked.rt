@@ -1,6 +1,7 @@
 //! What comes back from a granule, on one thread and on two.
 
 ghost use Rattle.std.specs.Prelude.{◌≡◌, ◌∷◌, [], IfOk, IsTrue};
+ghost use Rattle.rmm_spec.specs.Cell as whole;
 ghost use Rattle.rmm_spec.specs.Lookup.{is_granule};
 ghost use Rattle.world_laws.specs.Replaced.{held_at};
 ghost use Rattle.command_core.specs.Seen.{cell_of};
@@ -46,13 +47,22 @@ fn tag_of<H: Held>(held: &H, pa: Pa) -> Option<Tag> {
     Some(held.cell(pa)?.tag())
 }
 
+/// Gives home all that is held.
+fn give_home<R: Wait>(rt: &R, granules: &Granules, mut hold: Hold, pa: Pa)
+    requires granule { IsTrue (is_granule granules.now.granules pa) }
+    requires held { (cell : whole.Cell) × (hold_cells hold ≡ held_at pa cell ∷ []) }
+{
+    granules.give(rt, &mut hold, pa);
+    hold.end();
+}
+
 /// Puts a delegated granule in the place of what is held, and gives it home.
 fn give_delegated<R: Wait>(rt: &R, granules: &Granules, mut hold: Hold, pa: Pa)
     requires granule { IsTrue (is_granule granules.now.granules pa) }
     requires held { (cell : Cell) × (hold_cells hold ≡ held_at pa (cell_of cell) ∷ []) }
 {
     hold.swap(pa, Cell::Delegated);
-    granules.give(rt, &mut hold, pa);
+    give_home(rt, granules, hold, pa);
 }
 
 #[test]
@@ -66,6 +76,8 @@ fn given_cells_come_back(rt: HostRuntime) -> Result<(), Fail> {
     let hold = hold_of(&rt, &granules, high);
     assert!(rt; tag_of(&hold, high) == Some(Tag::Delegated));
     assert!(rt; tag_of(&hold, low).is_none());
+    give_home(&rt, &granules, hold, high);
+    give_home(&rt, &granules, below, low);
     Ok(())
 }
 
@@ -85,7 +97,9 @@ fn take_counted<R: Wait>(rt: &R, granules: &Granules, pa: Pa, taken: &AtomicU64)
 {
     let hold = hold_of(rt, granules, pa);
     taken.fetch_add(1, Ordering::SeqCst);
-    tag_of(&hold, pa)
+    let tag = tag_of(&hold, pa);
+    give_home(rt, granules, hold, pa);
+    tag
 }
 
 /// One thread takes what another holds.

@@ -129,6 +129,33 @@ fn record_one<R: Wait>(rt: &R, recorder: &Recorder, pass: &mut CpuPass) -> bool
     calls(rt, recorder, pass, number, "c4000151 1000") && returns(rt, recorder, pass)
 }
 
+/// Records 500 calls and returns, or as many as aren't refused, and drains after each of them.
+fn record_drained<R: Wait>(
+    rt: &R,
+    recorder: &Recorder,
+    pass: &mut CpuPass,
+    scribe: &mut ScribePass,
+    history: &mut History,
+)
+    requires pass { pass.old.queue ≡ recorder.now.queue }
+    requires scribe { CanDrain recorder.now.queue scribe.old history.old.recorded }
+{
+    for _round in 0..500 {
+        if !record_one(rt, recorder, pass) || !drains(rt, recorder, scribe, history, 2) {
+            break;
+        }
+    }
+}
+
+#[test]
+fn drained_queue_takes_more(rt: HostRuntime) -> Result<(), Fail> {
+    let mut history = empty(rt.alloc(), 4, 2)?;
+    let (recorder, mut pass, _other, mut scribe) = of_two_cpus(rt.alloc())?;
+    record_drained(&rt, &recorder, &mut pass, &mut scribe, &mut history);
+    assert!(rt; history.len() == 1000 && !pass.is_open() && !pass.is_stopped());
+    Ok(())
+}
+
 /// Records 1,000 calls and returns, or as many as aren't refused, and adds one to those that have ended.
 fn record_thousand<R: Wait>(rt: &R, recorder: &Recorder, pass: &mut CpuPass, ended: &AtomicU64)
     requires { pass.old.queue ≡ recorder.now.queue }

@@ -4,11 +4,13 @@ ghost use Rattle.std.specs.Prelude.{◌≡◌, ◌<◌, IsTrue};
 ghost use Rattle.rmm_spec.specs.Call.{call_of};
 ghost use Rattle.rmm_spec.specs.Lookup.{is_granule};
 ghost use Rattle.command_core.specs.Served.{is_served};
+ghost use Rattle.granule_lock.specs.HeldCells.{hold_cells};
+ghost use Rattle.granule_lock.specs.Locked.{AreGranules};
 
 use arrayvec::ArrayVec;
 use command_core::{Held, Next, next_lock};
 use commit_tickets::{CommitFault, Committed, CpuToken, Done, Journal, Site, commit};
-use granule_lock::{Granules, Hold};
+use granule_lock::{Granules, Hold, free_all};
 use granule_state::{Config, Pa};
 use rmm_spec::{Command, FunctionId, Reply, Tag};
 use std::alloc::Global;
@@ -57,10 +59,19 @@ fn is_one_delegate(mine: &[Committed], ticket: usize, address: u64, reply: &Repl
 /// A hold of one granule.
 fn hold_of<R: Wait>(rt: &R, granules: &Granules, address: u64) -> Hold
     requires { IsTrue (is_granule granules.now.granules address) }
+    ensures { AreGranules granules.now.granules (hold_cells result) }
 {
     let mut hold = Hold::new();
     granules.take(rt, &mut hold, Pa::new(address));
     hold
+}
+
+/// Gives home all that is held.
+fn give_home<R: Wait>(rt: &R, granules: &Granules, mut hold: Hold)
+    requires { AreGranules granules.now.granules (hold_cells hold) }
+{
+    free_all(rt, granules, &mut hold);
+    hold.end();
 }
 
 /// Delegates a granule on what is held.
@@ -72,7 +83,9 @@ fn delegate_on<S: Site>(
     hold: &mut Hold,
     address: u64,
 ) -> Answer
-    requires { config.now.granules ≡ S.granules }
+    requires size { config.now.granules ≡ S.granules }
+    requires granules { AreGranules S.granules (hold_cells hold.old) }
+    ensures { AreGranules S.granules (hold_cells hold.new) }
 {
     let command = delegate(address);
     match next_lock(config, &command, &token.place(), None, hold) {
@@ -99,13 +112,15 @@ fn delegate_twice<S: Site, R: Wait>(
     let (mut journal, mut tokens) = Journal::<S>::new(alloc, blank, config)?;
     let mut token = tokens.pop().ok_or("a token")?;
     let granules = Granules::new(alloc, &config)?;
+    let others = Granules::new(alloc, &config)?;
     let mut hold = hold_of(rt, &granules, 0x1000);
     let first = delegate_on(alloc, &config, &mut journal, &mut token, &mut hold, 0x1000);
-    let others = Granules::new(alloc, &config)?;
     let mut other = hold_of(rt, &others, 0x1000);
     let second = delegate_on(alloc, &config, &mut journal, &mut token, &mut other, 0x1000);
     let tag = hold.cell(Pa::new(0x1000)).map(|cell| cell.tag());
     let other_tag = other.cell(Pa::new(0x1000)).map(|cell| cell.tag());
+    give_home(rt, &granules, hold);
+    give_home(rt, &others, other);
     Ok((
         first,
         second,
@@ -159,6 +174,8 @@ fn commits_of_two<S: Site, R: Wait>(
             delegate_on(alloc, &config, &mut journal, &mut first, &mut high, 0x2000)
         },
     ];
+    give_home(rt, &granules, low);
+    give_home(rt, &granules, high);
     let listed = journal.len() == 3
         && first.cpu() == 0
         && first.is_stopped()

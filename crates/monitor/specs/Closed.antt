@@ -1,5 +1,5 @@
 -- What is left of a run at its close.
-use Rattle.std.specs.Prelude.{◌≡◌, List, length, map}
+use Rattle.std.specs.Prelude.{◌≡◌, ℕ, ◌+◌, ◌<◌, ◌≤◌, ◌⊎◌, List, length, map}
 use Rattle.std.specs.List.{sum_by}
 use Rattle.rmm_spec.specs.declared.event.Event.{Event}
 use Rattle.rmm_spec.specs.declared.line.Line.{Line}
@@ -9,6 +9,8 @@ use Rattle.rmm_spec.specs.State.{State, opening}
 use Rattle.rmm_spec.specs.World.{line_for}
 use Rattle.commit_tickets.specs.Listed.{AreListed, numbered}
 use Rattle.commit_tickets.specs.View.{TokenView}
+use Rattle.event_queue.specs.View.{CpuView, count_recorded}
+use Rattle.history.specs.View.{Recording}
 
 -- the journal written as a certificate of these events
 abbrev pub lines_for : List Event → List JournalEntry → List Line
@@ -22,10 +24,19 @@ pub record IsJournal (config : Config) (tokens : List TokenView) (events : List 
   pub listed : AreListed tokens entries
   pub written : lines ≡ lines_for events entries
 
+-- how many commits the tokens list together
+abbrev pub count_committed : List TokenView → ℕ
+count_committed tokens = sum_by (λ (token : TokenView). length token.mine) tokens
+
+-- the history has no room in memory for all that the passes recorded and one event more, or there is a commit to write
+abbrev pub IsShort : Recording → List TokenView → List CpuView → Type 0
+IsShort history tokens passes =
+    (history.room + length history.recorded.events ≤ count_recorded passes) ⊎ (0 < count_committed tokens)
+
 -- Some journal that is a run of this machine, with as many entries as the tokens list together, isn't what they list.
 pub record Disagree (config : Config) (tokens : List TokenView) : Type 0 where
   pub entries : List JournalEntry
   pub last : State
   pub run : IsRun (opening config) entries last
-  pub counted : length entries ≡ sum_by (λ (token : TokenView). length token.mine) tokens
+  pub counted : length entries ≡ count_committed tokens
   pub unlisted : ¬ AreListed tokens entries

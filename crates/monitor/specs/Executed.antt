@@ -1,5 +1,5 @@
 -- What an execution leaves of its CPU's token and pass.
-use Rattle.std.specs.Prelude.{◌≡◌, ℕ, ◌+◌, ◌-◌, ◌≤◌, true, false, [], ◌∷◌, ◌++◌, length, Result, Ok, Err}
+use Rattle.std.specs.Prelude.{◌≡◌, ℕ, ◌+◌, ◌-◌, ◌≤◌, true, false, [], ◌∷◌, ◌++◌, length, Some, None, Result, Ok, Err}
 use Rattle.rmm_spec.specs.declared.command.Command.{Command}
 use Rattle.rmm_spec.specs.declared.event.Event.TheVariants.{Called, Returned}
 use Rattle.rmm_spec.specs.declared.reply.Reply.{Reply}
@@ -32,6 +32,12 @@ called pass command = record pass {
   stand = record { next = pass.stand.next + 1; is_open = true };
 }
 
+-- The pass of the token's CPU, whose last event is the call of this command.
+pub record HasCalled (token : TokenView) (command : Command) (pass : CpuView) : Type 0 where
+  pub same_cpu : pass.cpu ≡ token.cpu
+  pub before : CpuView
+  pub is_called : pass ≡ called before command
+
 -- the pass after the return from its open call
 abbrev pub returned : CpuView → Reply → CpuView
 returned pass given = record pass {
@@ -51,11 +57,12 @@ HasCommitted old command done new = new ≡ record old {
   place = new.place;
   mine = old.mine ++ record { ticket = done.ticket; command = command; reply = done.reply } ∷ [];
   room = new.room;
+  fault = None;
 }
 
--- the token is stopped, and lists what it listed
-abbrev pub IsStopped : TokenView → TokenView → Type 0
-IsStopped old new = new ≡ record old { is_stopped = true; room = new.room }
+-- nothing was committed, for which the token keeps the fault
+abbrev pub HasFailed : TokenView → CommitFault → TokenView → Type 0
+HasFailed old fault new = new ≡ record old { room = new.room; fault = Some fault }
 
 -- ---- answers
 
@@ -70,13 +77,15 @@ Leaves command token pass (Ok done) new_token new_pass =
     HasCommitted token command done new_token × (new_pass ≡ returned (called pass command) done.reply)
 Leaves command token pass (Err (Unrecorded done)) new_token new_pass =
     HasCommitted (record token { is_stopped = true }) command done new_token × (new_pass ≡ unreturned (called pass command))
-Leaves command token pass (Err NoMemory) new_token new_pass = IsStopped token new_token × (new_pass ≡ called pass command)
-Leaves command token pass (Err Disagrees) new_token new_pass = IsStopped token new_token × (new_pass ≡ called pass command)
+Leaves command token pass (Err NoMemory) new_token new_pass =
+    HasFailed (record token { is_stopped = true }) commit.NoMemory new_token × (new_pass ≡ called pass command)
+Leaves command token pass (Err Disagrees) new_token new_pass =
+    HasFailed (record token { is_stopped = true }) commit.Disagrees new_token × (new_pass ≡ called pass command)
 Leaves command token pass (Err Full) new_token new_pass = (new_token ≡ token) × (new_pass ≡ pass)
 Leaves command token pass (Err Stopped) new_token new_pass = (new_token ≡ token) × (new_pass ≡ pass)
 
 -- a full queue is answered only where it was full at some moment, while the pass had the events that it has now
 abbrev pub FullAtSomeMoment : ℕ → CpuView → Result Done Refused → Type 0
-FullAtSomeMoment capacity pass (Err Full) = WasFull capacity pass.cpus pass.cpu pass.events
-FullAtSomeMoment capacity pass (Err (Unrecorded done)) = WasFull capacity pass.cpus pass.cpu pass.events
+FullAtSomeMoment capacity pass (Err Full) = WasFull capacity pass.cpus pass.cpu pass.events pass.heard
+FullAtSomeMoment capacity pass (Err (Unrecorded done)) = WasFull capacity pass.cpus pass.cpu pass.events pass.heard
 FullAtSomeMoment capacity pass _ = Unit {0}

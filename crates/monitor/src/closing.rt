@@ -3,9 +3,9 @@
 ghost use Rattle.std.specs.Prelude.{◌≡◌, ◌<◌, ◌++◌, List, IfOk, IfErr};
 ghost use Rattle.rmm_spec.specs.declared.event.Event.{Event};
 ghost use Rattle.event_queue.specs.View.{AreWhole, CanDrain, count_recorded};
-ghost use Rattle.monitor.specs.Closed.{Disagree, IsJournal};
+ghost use Rattle.monitor.specs.Closed.{Disagree, IsJournal, IsShort};
 ghost use Rattle.monitor.specs.Cpus.{AreCpus};
-ghost use Rattle.monitor.specs.declared.close_fault.CloseFault.TheVariants.{Disagrees};
+ghost use Rattle.monitor.specs.declared.close_fault.CloseFault.TheVariants.{NoMemory, Disagrees};
 
 use crate::close_fault::CloseFault;
 use crate::journal_lines::certificate_of;
@@ -38,6 +38,7 @@ impl<S: Site> Monitor<S> {
             × (closed.0.recorded ≡ record history.recorded { events = history.recorded.events ++ rest })) }
         ensures certificate { IfOk result (λ closed. IsJournal self.config tokens.items closed.0.recorded.events closed.1.lines) }
         ensures cause { IfErr result (λ fault. fault ≡ Disagrees → Disagree self.config tokens.items) }
+        ensures short { IfErr result (λ fault. fault ≡ NoMemory → IsShort history tokens.items passes.items) }
     {
         let _cpus = self.config.cpus();
         let Monitor {

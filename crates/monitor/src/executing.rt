@@ -8,7 +8,7 @@ ghost use Rattle.command_core.specs.Served.{is_served};
 ghost use Rattle.command_core.specs.Settled.{is_settled};
 ghost use Rattle.granule_lock.specs.HeldCells.{hold_cells};
 ghost use Rattle.monitor.specs.Causes.{HadCause, FaultHadCause};
-ghost use Rattle.monitor.specs.Executed.{ArePaired, Leaves, FullAtSomeMoment, HasCommitted, returned, unreturned};
+ghost use Rattle.monitor.specs.Executed.{ArePaired, Leaves, FullAtSomeMoment, HasCalled, HasCommitted, HasFailed, returned, unreturned};
 ghost use Rattle.granule_lock.specs.Locked.{AreGranules};
 ghost use Rattle.monitor.specs.declared.refused.Refused.TheVariants as refused;
 
@@ -25,8 +25,8 @@ use std::sync::Wait;
 
 impl<S: Site> Monitor<S> {
     /// Executes a served command by the token and the pass of its CPU: records the call, locks the command's granules, passes
-    /// the gate, commits under the journal's lock, frees the granules and records the return. Whatever is answered, no granule
-    /// stays locked. The pass tells whether its next number is still one of a history.
+    /// the gate, commits under the journal's lock, frees the granules and records the return. What refused the commit is what
+    /// the token keeps. Whatever is answered, no granule stays locked. The pass tells whether its next number is still one of a history.
     pub fn execute<R: Wait, G: Gate>(
         &self,
         rt: &R,
@@ -54,7 +54,9 @@ impl<S: Site> Monitor<S> {
             return Err(Refused::Full);
         }
         let mut hold = Hold::new();
-        match self.commit_locked(rt, alloc, token, &mut hold, gate, &command) {
+        let committed = self.commit_locked(rt, alloc, token, pass, &mut hold, gate, &command);
+        hold.end();
+        match committed {
             Ok(done) => self.record_return(rt, token, pass, done),
             Err(fault) => {
                 token.stop();
@@ -63,47 +65,51 @@ impl<S: Site> Monitor<S> {
         }
     }
 
-    // Commits a command on its granules, which are locked for that alone, whatever comes of it.
+    // Commits a command that is called, on its granules, which are locked for that alone, whatever comes of it.
     fn commit_locked<R: Wait, G: Gate>(
         &self,
         rt: &R,
         alloc: Global,
         token: &mut CpuToken<S>,
+        pass: &CpuPass,
         hold: &mut Hold,
         gate: &G,
         command: &Command,
     ) -> Result<Done, CommitFault>
         requires served { IsTrue (is_served (call_of command.now)) }
+        requires called { HasCalled token.old command.now pass.now }
         requires unlocked { hold_cells hold.old ≡ [] }
         ensures unlocked { hold_cells hold.new ≡ [] }
         ensures done { IfOk result (λ done. HasCommitted token.old command.now done token.new) }
-        ensures fault { OnErr result (token.new ≡ record token.old { room = token.new.room }) }
+        ensures fault { IfErr result (λ fault. HasFailed token.old fault token.new) }
         ensures cause { IfErr result (λ fault. HadCause self.now.config fault command.now token.old) }
     {
         let place = token.place();
         lock_for(rt, &self.granules, &self.config, &place, command, hold);
         gate.pass(token.cpu(), command);
-        let done = self.commit_held(rt, alloc, token, hold, command);
+        let done = self.commit_held(rt, alloc, token, pass, hold, command);
         free_all(rt, &self.granules, hold);
         done
     }
 
-    // Commits a command on what is held, under the journal's lock. That the journal is then a run of this machine is what its
+    // Commits a command that is called, on what is held, under the journal's lock. That the journal is then a run of this machine is what its
     // size and its books show.
     fn commit_held<R: Wait>(
         &self,
         rt: &R,
         alloc: Global,
         token: &mut CpuToken<S>,
+        _pass: &CpuPass,
         hold: &mut Hold,
         command: &Command,
     ) -> Result<Done, CommitFault>
         requires served { IsTrue (is_served (call_of command.now)) }
+        requires called { HasCalled token.old command.now _pass.now }
         requires granules { AreGranules self.now.config.granules (hold_cells hold.old) }
         requires settled { IsTrue (is_settled self.now.config.granules (call_of command.now) (place_of token.old.place) (hold_cells hold.old)) }
         ensures granules { AreGranules self.now.config.granules (hold_cells hold.new) }
         ensures done { IfOk result (λ done. HasCommitted token.old command.now done token.new) }
-        ensures fault { OnErr result (token.new ≡ record token.old { room = token.new.room }) }
+        ensures fault { IfErr result (λ fault. HasFailed token.old fault token.new) }
         ensures cause { IfErr result (λ fault. HadCause self.now.config fault command.now token.old) }
     {
         let mut locked = self.journal.lock(rt);

@@ -1,16 +1,16 @@
 //! The journal of a run as a certificate.
 
-ghost use Rattle.std.specs.Prelude.{◌≡◌, ◌<◌, ◌≤◌, ◌↔◌, IsTrue, map, length, IfOk};
+ghost use Rattle.std.specs.Prelude.{◌≡◌, ◌<◌, ◌≤◌, ◌↔◌, IsTrue, map, length, IfOk, OnErr};
 ghost use Rattle.std.specs.List.{AllByRecursion};
 ghost use Rattle.rmm_spec.specs.CertificateText.{IsLine};
 ghost use Rattle.rmm_spec.specs.Linearization.{IsFinished};
-ghost use Rattle.rmm_spec.specs.Run.{JournalEntry};
+ghost use Rattle.rmm_spec.specs.Run as run;
 ghost use Rattle.rmm_spec.specs.World.{line_for};
 ghost use Rattle.commit_tickets.specs.Entries.{entry_of};
 ghost use Rattle.monitor.specs.Closed.{lines_for};
 
 use certificate::{Certificate, Line, MOST_LINES};
-use commit_tickets::{Entry, Numbers};
+use commit_tickets::{JournalEntry, Numbers};
 use history::History;
 use rmi_codec::reply_has_text;
 use std::alloc::{AllocError, Global};
@@ -18,12 +18,13 @@ use std::alloc::{AllocError, Global};
 /// The journal's entries as the lines of a certificate of the history.
 pub(crate) fn certificate_of(
     alloc: Global,
-    entries: Vec<Entry>,
+    entries: Vec<JournalEntry>,
     history: &History,
 ) -> Result<Certificate, AllocError>
     requires few { length entries.items ≤ MOST_LINES }
-    requires cpus { AllByRecursion (λ (entry : JournalEntry). entry.cpu < 8) (map entry_of entries.items) }
-    ensures { IfOk result (λ certificate. certificate.lines ≡ lines_for history.now.recorded.events (map entry_of entries.items)) }
+    requires cpus { AllByRecursion (λ (entry : run.JournalEntry). entry.cpu < 8) (map entry_of entries.items) }
+    ensures short { OnErr result (0 < length entries.items) }
+    ensures written { IfOk result (λ certificate. certificate.lines ≡ lines_for history.now.recorded.events (map entry_of entries.items)) }
 {
     let mut numbers = Numbers::new();
     let mut certificate = Certificate::new(alloc);
@@ -35,7 +36,7 @@ pub(crate) fn certificate_of(
 }
 
 // The line of a CPU's commit of that number: kept where its return is recorded, and else unfinished with its reply.
-fn line_of(history: &History, entry: Entry, number: u32) -> Line
+fn line_of(history: &History, entry: JournalEntry, number: u32) -> Line
     requires cpu { entry.cpu < 8 }
     requires number { number < 1000000 }
     ensures line { result ≡ line_for history.now.recorded.events
@@ -43,7 +44,7 @@ fn line_of(history: &History, entry: Entry, number: u32) -> Line
     ensures is_line { IsLine result }
 {
     reply_has_text(&entry.reply);
-    let Entry { cpu, reply, .. } = entry;
+    let JournalEntry { cpu, reply, .. } = entry;
     if is_returned(history, cpu, number) {
         Line::Keep { cpu, number }
     } else {

@@ -1,6 +1,6 @@
 //! What all CPUs share.
 
-ghost use Rattle.std.specs.Prelude.{◌≡◌, ℕ, ◌≤◌, ◌<◌, [], ◌++◌, List, length, slice_get, Some, IfOk, OnErr};
+ghost use Rattle.std.specs.Prelude.{◌≡◌, ℕ, ◌+◌, ◌≤◌, ◌<◌, [], ◌++◌, List, length, slice_get, Some, IfOk, OnErr};
 ghost use Rattle.rmm_spec.specs.declared.event.Event.{Event};
 ghost use Rattle.commit_tickets.specs.View.{first_tokens};
 ghost use Rattle.event_queue.specs.View.{CanDrain, before_calls};
@@ -80,7 +80,8 @@ impl<S: Site> Monitor<S> {
 
     /// Moves events from the queue to the end of the history, and returns how many. It takes at most as many as the queue
     /// may hold, and stops where the queue is empty or the history's text has no room for another line. Where memory is
-    /// refused, what was taken stands in the history, and was all that it had room for in memory.
+    /// refused, what was taken stands in the history, and was all that it had room for in memory. No more of that room is
+    /// used up than what was taken.
     pub fn drain<R: Wait>(
         &self,
         rt: &R,
@@ -91,6 +92,7 @@ impl<S: Site> Monitor<S> {
         ensures taken { (taken : List Event) × (scribe.new ≡ record scribe.old { events = scribe.old.events ++ taken })
             × (length taken ≤ self.now.capacity) × IfOk result (λ count. count ≡ length taken)
             × OnErr result (history.old.room ≤ length taken) }
+        ensures left { history.old.room + length scribe.old.events ≤ history.new.room + length scribe.new.events }
         ensures history { history.new.recorded ≡ record history.old.recorded { events = scribe.new.events } }
     {
         self.recorder.drain(rt, scribe, history)

@@ -1,7 +1,8 @@
 use Rattle.std.proofs.Common.{List, [], ◌∷◌, ◌++◌, ap, ◌∙◌, arith}
 use Rattle.granule_lock.specs.HeldCells.{hold_cells}
 use Rattle.spec_machine.specs.View.{state_of}
-use Rattle.commit_tickets.specs.declared.journal.Entry.{Entry}
+use Rattle.commit_tickets.specs.declared.journal.JournalEntry.{JournalEntry}
+use Rattle.commit_tickets.specs.View.{entry}
 use Rattle.commit_tickets.proofs.Disagreements.{refused-disagree}
 use Rattle.commit_tickets.proofs.Runs.{IsRun-append}
 use Rattle.commit_tickets.proofs.committing.commit.Goals as goal
@@ -14,7 +15,7 @@ returns-then-not-branch-clause-cause g c =
 
 pub invariant_of-journal-2 : goal.invariant_of-journal-2
 invariant_of-journal-2 g c =
-    let entry : Entry = record { cpu = c.token.inside.cpu; command = c.copy_of_command.result; reply = c.copy_of_reply.result } in
-    let run = IsRun-append _ _ _ _ _ _ _ _ _ _ c.journal.invariant.0 (c.in_ok-offer.ensures.step c.if-not-branch.false) c.copy_of_command.ensures
-    c.copy_of_reply.ensures (c.push_reserved.ensures.items ∙ ap (λ (es : List Entry). es ++ entry ∷ []) c.reserve.ensures.items) in
+    let is_added = c.of-2.ensures ∙ ap (entry c.token.inside.cpu c.args.command.now) (c.to_reply-recorded.ensures ∙ c.of.ensures) in
+    let run = IsRun-append _ _ _ c.of-2.result _ _ _ _ _ c.journal.invariant.0 (c.in_ok-offer.ensures.step c.if-not-branch.false) is_added
+    (c.push_reserved.ensures.items ∙ ap (λ (es : List JournalEntry). es ++ c.of-2.result ∷ []) c.reserve.ensures.items) in
     (run, c.journal.invariant.1, omega (arith, c.push_reserved.ensures.len, c.reserve.ensures.len, c.add.ensures.total, c.journal.invariant.2))

@@ -23,6 +23,7 @@ loop-entry-preserved c =
     let are = ap (map entry_of) steps.0 in
     record {
       left = omega (arith, was.left, steps.1, ap length steps.0);
+      few = omega (arith, was.few, ap length steps.0);
       cpus = (subst (AllByRecursion (λ (e : JournalEntry). e.cpu < 8)) are was.cpus).1;
       room = omega (arith, was.room, ap length steps.0, ap length longer, length_push lines c.line_of.result);
       numbers = numbers-next number next entry.cpu lines c.push.new.self.lines c.line_of.result c.count-number.ensures.counted longer was.numbers;

@@ -11,6 +11,7 @@ use Rattle.monitor.proofs.journal_lines.certificate_of.Given as goal
 abbrev pub invariant-loop-entry : goal.invariant-loop-entry
 invariant-loop-entry l = record {
   left : into_iter_len l.entry-iterator ≡ length (into_iter_items l.entry-iterator);
+  few : length (into_iter_items l.entry-iterator) ≤ length l.fn.entries.items;
   cpus : AllByRecursion (λ (entry : JournalEntry). entry.cpu < 8) (map entry_of (into_iter_items l.entry-iterator));
   room : length l.certificate.lines + length (into_iter_items l.entry-iterator) ≤ 1000000;
   numbers : (cpu : ℕ) → numbers_of l.numbers cpu ≤ length l.certificate.lines;

@@ -30,4 +30,4 @@ invariant_of-self c =
 pub returns : goal.returns
 returns c =
     let s = c.args.self.now in
-    (λ i. paired (c.push.ensures.items i) (c.push-2.ensures.items i)) ∙ paired-push s.granules.items s.cells.items c.args.pa c.args.cell s.same_count
+    (λ i. paired (c.push.ensures.items i) (c.push-2.ensures.items i)) ∙ paired-push s.granules.items s.cells.items c.args.pa c.args.away.cell s.same_count

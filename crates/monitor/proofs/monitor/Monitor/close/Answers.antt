@@ -1,4 +1,5 @@
-use Rattle.std.proofs.Common.{◌<◌, ◌≤◌, length, map, slice_get, sym, ap, ◌∙◌, subst, arith}
+use Rattle.std.proofs.Common.{◌≡◌, ◌<◌, ◌≤◌, length, map, slice_get, sym, ap, ◌∙◌, subst, arith, inr}
+use Rattle.std.specs.Prelude.{Result, Ok, Err, IfErr}
 use Rattle.std.specs.List.{AllByRecursion, sum_by}
 use Rattle.std.proofs.lemmas.List.{length-map}
 use Rattle.rmm_spec.specs.HistoryText.{Config}
@@ -6,7 +7,9 @@ use Rattle.rmm_spec.specs.Run.{JournalEntry}
 use Rattle.commit_tickets.specs.Entries.{entry_of}
 use Rattle.commit_tickets.specs.View.{JournalView, TokenView}
 use Rattle.commit_tickets.proofs.Lists.{listed-below}
+use Rattle.monitor.specs.Closed.{IsShort, count_committed}
 use Rattle.monitor.specs.View.{MonitorView}
+use Rattle.monitor.specs.declared.close_fault.CloseFault.TheVariants.{NoMemory}
 use Rattle.monitor.proofs.Closes.{disagree, listed, closed}
 use Rattle.monitor.proofs.CpuLists.{cpus-seats, commits-le}
 use Rattle.monitor.proofs.monitor.Monitor.close.Goals as goal
@@ -60,4 +63,22 @@ returns-clause-certificate g c =
     ∙ sym c.self.invariant.1 ∙ ap (λ (m : MonitorView). m.config.granules) c.self.view_is in
     closed c.args.self.config c.audit.new.self _ granules c.books-books.ensures c.args.tokens.items c.audit.new.tokens
     (c.audit.ensures.tokens ∙ c.as_mut_slice-tokens.ensures.value) c.is_listed_by.result c.is_listed_by.ensures c.drain_rest.new.history.recorded.events
-    (map entry_of c.into_entries.result.items) _ c.if-not-is_listed_by.false c.into_entries.ensures c.in_ok-certificate.ensures
+    (map entry_of c.into_entries.result.items) _ c.if-not-is_listed_by.false c.into_entries.ensures c.in_ok-certificate.ensures.written
+
+any_err : {T E : Type 0} (P : E → Type 0) (r : Result T E) → ((fault : E) → P fault) → IfErr r P
+any_err P (Ok x) each = tt
+any_err P (Err fault) each = each fault
+
+pub returns-in_err-certificate-clause-short : goal.returns-in_err-certificate-clause-short
+returns-in_err-certificate-clause-short g c =
+    let some : 0 < count_committed c.args.tokens.items = omega (
+      arith,
+      c.in_err-certificate.ensures.short,
+      length-map c.into_entries.result.items entry_of,
+      ap length c.into_entries.ensures,
+      ap (λ (j : JournalView). length j.entries) c.audit.ensures.journal,
+      c.audit.ensures.counted,
+      ap (sum_by (λ (token : TokenView). length token.mine)) c.as_mut_slice-tokens.ensures.value,
+    ) in
+    any_err (λ fault. fault ≡ NoMemory → IsShort c.args.history c.args.tokens.items c.args.passes.items)
+    c.from_residual-in_err-certificate.result (λ fault memory. inr some)
