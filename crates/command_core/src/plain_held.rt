@@ -4,8 +4,8 @@ ghost use Rattle.std.specs.Prelude.{◌≡◌, ◌≤◌, ◌==◌, map, vec_len
 ghost use Rattle.command_core.specs.declared.plain_held.Entry.{Entry};
 ghost use Rattle.command_core.specs.Seen.{are_distinct};
 
-use crate::cell::Cell;
 use crate::held::Held;
+use granule_cells::Cell;
 use granule_state::Pa;
 use std::alloc::{AllocError, Global};
 use std::mem::replace;

@@ -26,7 +26,7 @@ pub struct Side {
 #[tactic(auto, unfolding(crate::specs::Sides::side_of))]
 impl Side {
     ghost use Rattle.std.specs.Prelude.{◌≡◌, ◌≤◌, ◌+◌, ◌-◌, ℕ, IfOk, IsTrue, None, Some};
-    ghost use Rattle.command_core.specs.Sides.{side_of, with_vmid, with_count};
+    ghost use Rattle.granule_cells.specs.Sides.{side_of, with_vmid, with_count};
 
     /// No VMID is used, and no realm has a REC.
     pub fn new(alloc: Global) -> Result<Side, AllocError>
@@ -63,14 +63,14 @@ impl Side {
     }
 
     /// Gives a VMID to a realm, or frees it.
-    pub(crate) fn set_vmid(&mut self, vmid: u8, realm: Option<Pa>)
+    pub fn set_vmid(&mut self, vmid: u8, realm: Option<Pa>)
         ensures { side_of self.new ≡ with_vmid (side_of self.old) vmid realm }
     {
         self.vmids[usize::from(vmid)] = realm;
     }
 
     /// The realm has one REC more.
-    pub(crate) fn count_rec(&mut self, rd: Pa)
+    pub fn count_rec(&mut self, rd: Pa)
         requires granule { IsTrue (is_granule 4096 rd) }
         requires limit { (side_of self.old).rec_counts rd ≤ 4096 }
         ensures { side_of self.new ≡ with_count (side_of self.old) rd ((side_of self.old).rec_counts rd + 1) }
@@ -80,7 +80,7 @@ impl Side {
     }
 
     /// The realm has one REC less, where it has any.
-    pub(crate) fn uncount_rec(&mut self, rd: Pa)
+    pub fn uncount_rec(&mut self, rd: Pa)
         ensures { side_of self.new ≡ with_count (side_of self.old) rd ((side_of self.old).rec_counts rd - 1) }
     {
         let count = self.rec_count(rd);

@@ -1,7 +1,7 @@
 use Rattle.std.proofs.Common.{◌<◌, length, subst, arith, ◌≡◌}
-use Rattle.command_core.specs.Sides.{side_of}
-use Rattle.command_core.proofs.SideTable.{counted-granule}
-use Rattle.command_core.proofs.side.Side.uncount_rec.Goals as goal
+use Rattle.granule_cells.specs.Sides.{side_of}
+use Rattle.granule_cells.proofs.SideTable.{counted-granule}
+use Rattle.granule_cells.proofs.side.Side.uncount_rec.Goals as goal
 
 pub set_count-requires : goal.set_count-requires
 unfolding side_of

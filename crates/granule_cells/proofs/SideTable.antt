@@ -1,12 +1,11 @@
 -- One place of the side table is changed: what it then tells of each VMID and of each realm.
 use Rattle.std.proofs.Common.{◌≡◌, ℕ, zero, suc, ◌/◌, ◌%◌, ◌*◌, ◌<◌, ◌==◌, ◌&&◌, Bool, true, false, if◌then◌else◌, List, length, None, slice_get, slice_set, replicate, IsTrue, nat_lt, refl, sym, ap, ◌∙◌, arith}
 use Rattle.std.specs.Prelude.{slice_index}
-use Rattle.std.proofs.lemmas.Bool.{false≢true, and_parts, eqb-true, ltb-true, ltb-false}
+use Rattle.std.proofs.lemmas.Bool.{false≢true, and_parts, eqb-true, eqb-false, ltb-true, ltb-false}
 use Rattle.std.proofs.lemmas.List.{get_or_past, get_or-set_same, get_or-set_other}
 use Rattle.rmm_spec.specs.Lookup.{is_granule}
 use Rattle.rmm_spec.specs.Cell.{put}
-use Rattle.world_laws.proofs.Lists.{keys_apart}
-use Rattle.command_core.specs.Sides.{listed_at, counted_at}
+use Rattle.granule_cells.specs.Sides.{listed_at, counted_at}
 
 -- ---- VMIDs
 
@@ -53,7 +52,7 @@ counted_at-set items rd count whole granule = λ i other. at other (other % 4096
         ∙ get_or-set_same items (rd / 4096) count 0 (omega (arith, whole, place_within rd granule))
     at other true false is_even apart =
         get_or-set_other items (rd / 4096) (other / 4096) count 0
-        (λ same. keys_apart other rd apart (omega (arith, same, eqb-true (other % 4096) 0 is_even, eqb-true (rd % 4096) 0 parts.0)))
+        (λ same. eqb-false other rd apart (omega (arith, same, eqb-true (other % 4096) 0 is_even, eqb-true (rd % 4096) 0 parts.0)))
     at other false true is_odd is_same =
         absurd (false≢true (sym is_odd ∙ (ap (λ k. k % 4096 == 0) (eqb-true other rd is_same) ∙ parts.0)))
     at other false false is_odd apart = refl

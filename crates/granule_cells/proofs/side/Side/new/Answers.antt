@@ -1,8 +1,8 @@
 use Rattle.std.proofs.Common.{◌≡◌, None, replicate, rules, ap, ◌∙◌}
 use Rattle.std.specs.Prelude.{slice_get}
-use Rattle.command_core.specs.Sides.{side_of, listed_at, counted_at}
-use Rattle.command_core.proofs.SideTable.{listed_at-replicate, counted_at-replicate}
-use Rattle.command_core.proofs.side.Side.new.Goals as goal
+use Rattle.granule_cells.specs.Sides.{side_of, listed_at, counted_at}
+use Rattle.granule_cells.proofs.SideTable.{listed_at-replicate, counted_at-replicate}
+use Rattle.granule_cells.proofs.side.Side.new.Goals as goal
 
 pub returns-clause-unused : goal.returns-clause-unused
 unfolding side_of

@@ -1,8 +1,8 @@
 use Rattle.std.proofs.Common.{◌≡◌, length, slice_set, ap, ◌∙◌, arith}
 use Rattle.rmm_spec.specs.Cell.{put}
-use Rattle.command_core.specs.Sides.{side_of, counted_at}
-use Rattle.command_core.proofs.SideTable.{counted_at-set}
-use Rattle.command_core.proofs.side.Side.set_count.Goals as goal
+use Rattle.granule_cells.specs.Sides.{side_of, counted_at}
+use Rattle.granule_cells.proofs.SideTable.{counted_at-set}
+use Rattle.granule_cells.proofs.side.Side.set_count.Goals as goal
 
 pub index_mut-requires : goal.index_mut-requires
 index_mut-requires c = omega (arith, c.place_of.ensures.within, c.args.self.now.counts_whole)

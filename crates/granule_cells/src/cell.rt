@@ -20,7 +20,7 @@ pub enum Cell {
 impl Cell {
     ghost use Rattle.std.specs.Prelude.{◌≡◌};
     ghost use Rattle.rmm_spec.specs.Cell.{tag_of};
-    ghost use Rattle.command_core.specs.Seen.{cell_of};
+    ghost use Rattle.granule_cells.specs.Seen.{cell_of};
 
     /// The granule's state alone.
     pub fn tag(&self) -> Tag
