@@ -4,7 +4,6 @@ pub mod EntryReads
 mod Linked
 mod Paths
 mod Runs
-mod Sizes
 mod Spots
 mod Stretches
 mod Updates

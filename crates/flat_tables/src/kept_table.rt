@@ -1,9 +1,8 @@
 //! One table: the granule that it lies in, and its leaves.
 
-ghost use Rattle.std.specs.Prelude.{◌≡◌, length, option_map};
-ghost use Rattle.rmm_spec.specs.Update.{entry_with_ripas};
+ghost use Rattle.std.specs.Prelude.{◌≡◌, length};
 
-use crate::entries::is_used;
+use crate::leaves::{is_used, leaf_with_ripas};
 use rmm_spec::{Entry, Ripas};
 use std::alloc::{AllocError, Global};
 
@@ -79,18 +78,7 @@ impl KeptTable {
             then option_map (entry_with_ripas ripas) (leaf_in place self.old) else leaf_in place self.old) }
     {
         for place in from..to {
-            self.leaves[place] = with_ripas(self.leaves[place], ripas);
+            self.leaves[place] = leaf_with_ripas(self.leaves[place], ripas);
         }
-    }
-}
-
-// The leaf with another RIPAS, where it has one.
-fn with_ripas(leaf: Option<Entry>, ripas: Ripas) -> Option<Entry>
-    ensures { result ≡ option_map (entry_with_ripas ripas) leaf }
-{
-    match leaf {
-        Some(Entry::Unassigned(_)) => Some(Entry::Unassigned(ripas)),
-        Some(Entry::Assigned(_, granule)) => Some(Entry::Assigned(ripas, granule)),
-        Some(Entry::Table(_) | Entry::UnassignedNs | Entry::AssignedNs(_)) | None => leaf,
     }
 }

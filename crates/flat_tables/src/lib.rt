@@ -6,18 +6,12 @@
 #![tactic(auto)]
 
 mod changes;
-mod entries;
-mod entry_reads;
 mod kept_table;
+mod leaves;
 mod links;
 mod searches;
 mod spot;
 mod tables;
 mod walks;
 
-pub use entries::{entry_number, entry_size, is_table, table_number};
-pub use entry_reads::{
-    entry_address, entry_ripas, entry_state, is_assigned, is_assigned_ns, is_unassigned,
-    is_unassigned_ns, is_unassigned_ram, ripas_number,
-};
 pub use tables::Tables;

@@ -3,9 +3,9 @@
 ghost use Rattle.std.specs.Prelude.{◌≡◌, ◌≤◌};
 ghost use Rattle.flat_tables.specs.Flat as flat;
 
-use crate::entries::{can_be_set, entry_number, entry_size, table_number};
 use crate::tables::Tables;
 use rmm_spec::Stretch;
+use table_entries::{can_be_set, entry_number, entry_size, table_number};
 
 impl Tables {
     ghost use Rattle.std.specs.Prelude.{◌≡◌, ◌^◌, ◌<◌, ◌≤◌};

@@ -4,10 +4,10 @@ ghost use Rattle.std.specs.Prelude.{◌≡◌, ◌<◌};
 ghost use Rattle.std.specs.Option.{option_and_then, option_copied};
 ghost use Rattle.flat_tables.specs.Flat.{leaf_in};
 
-use crate::entries::{entry_number, linked};
 use crate::kept_table::KeptTable;
 use crate::tables::{Tables, place_of};
 use rmm_spec::{Entry, Walked};
+use table_entries::{entry_number, linked};
 
 impl Tables {
     ghost use Rattle.std.specs.Prelude.{◌≡◌, ◌/◌, ◌≤◌};

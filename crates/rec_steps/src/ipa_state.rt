@@ -2,16 +2,17 @@
 
 ghost use Rattle.std.specs.Prelude.{◌≡◌, ℕ, IfOk, IfSome, IsTrue, is_some};
 ghost use Rattle.rmm_spec.specs.State.{State};
-ghost use Rattle.rmm_spec.specs.Lookup.{realm_at, rec_at, ripas_number};
+ghost use Rattle.rmm_spec.specs.Lookup.{realm_at, rec_at};
 ghost use Rattle.rmm_spec.specs.Step.RealmCall.{ipa_state_set, ipa_state_get};
 ghost use Rattle.rmm_spec.specs.Walk.{walk, entry_ripas, is_protected};
 ghost use Rattle.rec_steps.specs.Answers.{answer_at, IsStep};
 
 use crate::reply::input_error;
 use crate::step::RecStep;
-use granule_state::GRANULE_BYTES;
+use command_words::is_page;
 use realm_desc::Realm;
 use rmm_spec::{RecUpdate, Reply, Ripas};
+use table_entries::ripas_number;
 
 #[tactic(auto, unfolding(rmm_spec::specs::Step::RealmCall::ipa_state_set, rmm_spec::specs::Step::Words::words_of, rmm_spec::specs::Step::Named::named))]
 pub(crate) fn ipa_state_set(
@@ -24,7 +25,7 @@ pub(crate) fn ipa_state_set(
         → answer_at (rec_at s rec).owner rec result ≡ ipa_state_set s rec base top ripas }
     ensures fits { IfOk result IsStep }
 {
-    if !(base % GRANULE_BYTES == 0 && top % GRANULE_BYTES == 0) {
+    if !(is_page(base) && is_page(top)) {
         return Err(input_error());
     }
     if base >= top {
@@ -54,15 +55,4 @@ pub(crate) fn ipa_state_get(realm: &Realm, ipa: u64, ripas: Option<Ripas>) -> Re
     }
     let Some(ripas) = ripas else { unreachable!() };
     Ok(RecStep::read(&[ripas_number(ripas)]))
-}
-
-// RIPAS as replies give it.
-pub(crate) fn ripas_number(ripas: Ripas) -> u64
-    ensures { result ≡ ripas_number ripas }
-{
-    match ripas {
-        Ripas::Empty => 0,
-        Ripas::Ram => 1,
-        Ripas::Destroyed => 2,
-    }
 }

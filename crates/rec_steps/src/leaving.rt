@@ -12,12 +12,12 @@ ghost use Rattle.rmm_spec.specs.Step.RealmCall.{host_call, cpu_off, system_off, 
 ghost use Rattle.rmm_spec.specs.Update.{with_rec};
 ghost use Rattle.rec_steps.specs.Answers.{answer_at, IsStep};
 
-use crate::ipa_state::ripas_number;
 use crate::reply::{input_error, reply_words};
 use crate::step::RecStep;
 use arrayvec::ArrayVec;
 use realm_desc::{PendingExit, Rec};
 use rmm_spec::{RealmUpdate, RecUpdate, Reply};
+use table_entries::ripas_number;
 
 #[tactic(auto, unfolding(rmm_spec::specs::Step::RealmCall::host_call, rmm_spec::specs::Step::Words::words_of, rmm_spec::specs::Step::Named::named))]
 pub(crate) fn host_call(imm: u64) -> Result<RecStep, Reply>

@@ -5,12 +5,12 @@ ghost use Rattle.rmm_spec.specs.Table as spec;
 
 use granule_state::Ipa;
 use rmm_spec::Place;
+use table_entries::table_number;
 
 /// Whether the table at a place covers an address.
-#[tactic(auto, unfolding(rmm_spec::specs::Table::covers, rmm_spec::specs::Table::place_number, rmm_spec::specs::Walk::table_number, rmm_spec::specs::Walk::table_size))]
+#[tactic(auto, unfolding(rmm_spec::specs::Table::covers, rmm_spec::specs::Table::place_number))]
 pub fn covers(place: &Place, ipa: Ipa) -> bool
     ensures { result ≡ spec.covers place.now ipa }
 {
-    let shift = 12 + 9 * 4u8.saturating_sub(place.level);
-    ipa.address() >> shift == place.base >> shift
+    table_number(place.level, ipa.address()) == table_number(place.level, place.base)
 }

@@ -11,6 +11,7 @@ use rmm_spec::{Entry, Place, Ripas};
 use std::alloc::{AllocError, Global};
 use std::marker::Model;
 use std::mem::size_of;
+use table_entries::{entry_number, is_live, is_table, with_ripas};
 
 /// How many entries a table has.
 const ENTRIES: usize = 512;
@@ -18,13 +19,12 @@ const ENTRIES: usize = 512;
 const _: () = prove!(size_of::<Entry>() <= 16);
 
 /// Where in its table the level's entry for an address stands: levels past 3 count as level 3.
-#[tactic(auto, unfolding(rmm_spec::specs::Table::entry_index, rmm_spec::specs::Walk::entry_number, rmm_spec::specs::Walk::entry_size))]
+#[tactic(auto, unfolding(rmm_spec::specs::Table::entry_index))]
 pub fn index_of(level: u8, ipa: Ipa) -> usize
     ensures place { result ≡ entry_index level ipa }
     ensures within { result < 512 }
 {
-    let shift = 12 + 9 * 3u8.saturating_sub(level);
-    (ipa.address() >> shift) as usize % ENTRIES
+    entry_number(level, ipa.address()) as usize % ENTRIES
 }
 
 /// A translation table on the heap.
@@ -80,14 +80,14 @@ impl Table {
     pub fn is_live(&self) -> bool
         ensures { result ≡ list_any is_live self.now.entries }
     {
-        self.entries.iter().any(|entry| is_in_use(*entry))
+        self.entries.iter().any(|entry| is_live(*entry))
     }
 
     /// Whether some entry is a link to a table.
     pub fn has_link(&self) -> bool
         ensures { result ≡ list_any is_table self.now.entries }
     {
-        self.entries.iter().any(|entry| is_link(*entry))
+        self.entries.iter().any(|entry| is_table(*entry))
     }
 
     /// Whether all 512 entries are equal.
@@ -108,23 +108,6 @@ impl Table {
     }
 }
 
-// Whether an entry keeps its table in use.
-fn is_in_use(entry: Entry) -> bool
-    ensures { result ≡ is_live entry }
-{
-    match entry {
-        Entry::Assigned(..) | Entry::AssignedNs(_) | Entry::Table(_) => true,
-        Entry::Unassigned(_) | Entry::UnassignedNs => false,
-    }
-}
-
-// Whether an entry leads to a table.
-fn is_link(entry: Entry) -> bool
-    ensures { result ≡ is_table entry }
-{
-    matches!(entry, Entry::Table(_))
-}
-
 // Whether each entry equals the given one.
 fn are_all(entries: &[Entry], same: Entry) -> bool
     ensures { IsTrue result ↔ All (λ e. e ≡ same) entries.now }
@@ -138,16 +121,5 @@ fn change_ripas(entries: &mut [Entry], ripas: Ripas)
 {
     for entry in entries.iter_mut() {
         *entry = with_ripas(*entry, ripas);
-    }
-}
-
-// The entry with another RIPAS, where it has one.
-fn with_ripas(entry: Entry, ripas: Ripas) -> Entry
-    ensures { result ≡ entry_with_ripas ripas entry }
-{
-    match entry {
-        Entry::Unassigned(_) => Entry::Unassigned(ripas),
-        Entry::Assigned(_, granule) => Entry::Assigned(ripas, granule),
-        Entry::Table(_) | Entry::UnassignedNs | Entry::AssignedNs(_) => entry,
     }
 }

@@ -11,6 +11,7 @@ ghost use Rattle.spec_machine.specs.Lending.{lending_outcome};
 
 use crate::machine::Machine;
 use crate::reply::{is_done, is_input_error};
+use command_rows::Sight;
 use rmi_view::{CommandRef, ReplyRef};
 use rmm_spec::{FunctionId, Tag};
 

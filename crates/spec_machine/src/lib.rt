@@ -1,4 +1,4 @@
-//! The specification machine as a program: it holds one state, decides what the definitions answer to a command, and applies it.
+//! The specification machine as a program: it holds one state, decides by the rows of commands what is answered, and applies it.
 //! It promises that an offer is accepted exactly where the definitions have a step, and then holds the next state.
 //! What a clause sees of it is `state_of`, a flat state; how the parts are kept can change under every clause.
 //! An offer that isn't accepted leaves the state as it was; memory is taken only by `new`, where a table is made, and for a report.
@@ -9,25 +9,18 @@ mod by_granule;
 mod change;
 mod changed_records;
 mod changed_tables;
-mod data;
-mod granule;
 mod granules;
-mod inside;
 mod lending;
 mod machine;
-mod outside;
 mod owner_report;
 mod owners;
-mod realm;
-mod rec;
+mod reaching;
 mod reply;
-mod ripas;
 mod running;
+mod sight;
 mod store;
 mod stored_changes;
 mod stored_tables;
-mod table;
-mod unprotected;
 
 pub use machine::Machine;
 pub use owner_report::OwnerRow;

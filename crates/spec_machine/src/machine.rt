@@ -11,6 +11,7 @@ use crate::owners::Owners;
 use crate::reply::is_ok;
 use crate::running::Running;
 use crate::store::Store;
+use command_rows::{answer_inside, answer_outside};
 use granule_state::{Config, Pa};
 use rmi_view::{CommandRef, ReplyRef};
 use rmm_spec::{Accepted, Command, Reply};
@@ -147,8 +148,8 @@ impl Machine {
     {
         let call = command.call();
         match self.rec_inside(cpu) {
-            None => self.answer_outside(cpu, &call),
-            Some(rec) => self.answer_inside(cpu, rec.address(), &call),
+            None => answer_outside(self, cpu, &call),
+            Some(rec) => answer_inside(self, rec.address(), &call),
         }
     }
 }

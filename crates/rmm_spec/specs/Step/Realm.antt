@@ -1,5 +1,5 @@
 -- Realms are made, activated and destroyed (DEN0137, RMI_REALM_CREATE, RMI_REALM_ACTIVATE, RMI_REALM_DESTROY).
-use Rattle.std.specs.Prelude.{ℕ, not, [], ◌∷◌, Result, Some, None}
+use Rattle.std.specs.Prelude.{ℕ, Bool, not, [], ◌∷◌, Result, Some, None}
 use Rattle.rmm_spec.specs.declared.accepted.Accepted.{Accepted}
 use Rattle.rmm_spec.specs.declared.call.Call.TheVariants.{RealmActivate, RealmCreate, RealmDestroy}
 use Rattle.rmm_spec.specs.declared.change.Change.TheVariants.{RealmMade, RealmDestroyed, RecordsChanged}
@@ -11,13 +11,17 @@ use Rattle.rmm_spec.specs.Walk.{has_link}
 use Rattle.rmm_spec.specs.Rows.{row, input, decided, done, realm_error}
 use Rattle.rmm_spec.specs.Step.Front.{with_front}
 
-unfoldable pub realm_create : State → ℕ → ℕ → ℕ → ℕ → ℕ → ℕ → Result Accepted Reply
-realm_create s rd root width level vmid algo =
+-- the rows, where it is told whether a realm has the VMID
+abbrev pub realm_create_told : Bool → State → ℕ → ℕ → ℕ → ℕ → ℕ → ℕ → Result Accepted Reply
+realm_create_told used s rd root width level vmid algo =
     decided
     (with_front s (RealmCreate rd root width level vmid algo)
-    (input (not (is_vmid_used s vmid))  -- vmid_valid
+    (input (not used)  -- vmid_valid
     ∷ []))
     (done [] (RealmMade rd root width level vmid algo))
+
+unfoldable pub realm_create : State → ℕ → ℕ → ℕ → ℕ → ℕ → ℕ → Result Accepted Reply
+realm_create s rd root width level vmid algo = realm_create_told (is_vmid_used s vmid) s rd root width level vmid algo
 
 unfoldable pub realm_activate : State → ℕ → Result Accepted Reply
 realm_activate s rd =
@@ -27,12 +31,16 @@ realm_activate s rd =
     ∷ []))
     (done [] (RecordsChanged (Some (record { rd = rd; update = Activated })) None))
 
-unfoldable pub realm_destroy : State → ℕ → Result Accepted Reply
-realm_destroy s rd =
+-- the rows, where it is told whether a REC belongs to the realm
+abbrev pub realm_destroy_told : Bool → State → ℕ → Result Accepted Reply
+realm_destroy_told owns s rd =
     let realm = realm_at s rd in
     decided
     (with_front s (RealmDestroy rd)
-    (row (not (has_rec s rd)) (realm_error 0)  -- realm_live
+    (row (not owns) (realm_error 0)  -- realm_live
     ∷ row (not (has_link s rd realm.start_level 0)) (realm_error 0)  -- realm_live
     ∷ []))
     (done [] (RealmDestroyed rd realm.root))
+
+unfoldable pub realm_destroy : State → ℕ → Result Accepted Reply
+realm_destroy s rd = realm_destroy_told (has_rec s rd) s rd

@@ -1,0 +1,166 @@
+//! The commands that make a granule a page of a realm's protected memory, and take it back.
+
+ghost use Rattle.std.specs.Prelude.{◌≡◌};
+ghost use Rattle.rmm_spec.specs.Step.Data as spec;
+
+use crate::reply::{done, done_with, table_error};
+use crate::sight::Sight;
+use command_words::is_page;
+use rec_steps::{input_error, realm_error};
+use rmm_spec::{
+    Accepted, Change, Entry, EntryChange, RealmChange, RealmUpdate, Reply, Ripas, Tag, TagChange,
+};
+use table_entries::{
+    entry_address, entry_number, entry_ripas, is_assigned, is_unassigned, is_unassigned_ram,
+};
+
+#[tactic(auto, unfolding(rmm_spec::specs::Step::Data::data_create, rmm_spec::specs::Step::Words::words_of, rmm_spec::specs::Step::Named::named, rmm_spec::specs::Lookup::realm_at))]
+#[inline(never)]
+pub(crate) fn data_create<S: Sight>(
+    sight: &S,
+    rd: u64,
+    granule: u64,
+    ipa: u64,
+    source: u64,
+    flags: u64,
+    digest: [u64; 4],
+) -> Result<Accepted, Reply>
+    ensures { result ≡ spec.data_create (S.state sight.now) rd granule ipa source flags digest }
+{
+    if flags > 1 {
+        return Err(input_error());
+    }
+    if !is_page(ipa) {
+        return Err(input_error());
+    }
+    let Some(realm) = sight.realm(rd) else {
+        return Err(input_error());
+    };
+    if !(sight.has_tag(granule, Tag::Delegated) && sight.has_tag(source, Tag::Undelegated)) {
+        return Err(input_error());
+    }
+    if ipa >= realm.protected_end() {
+        return Err(input_error());
+    }
+    if !realm.is_new() {
+        return Err(realm_error(0));
+    }
+    let end = sight.walk(rd, ipa, 3);
+    if end.level != 3 {
+        return Err(table_error(end.level));
+    }
+    if !is_unassigned_ram(end.entry) {
+        return Err(table_error(3));
+    }
+    let update = RealmUpdate::PageMeasured { ipa, flags, digest };
+    Ok(done(Change::EntriesChanged {
+        rd,
+        level: 3,
+        entries: page_entry(ipa, Entry::Assigned(Ripas::Ram, granule)),
+        page: Some(TagChange {
+            granule,
+            tag: Tag::Data,
+        }),
+        realm: Some(RealmChange { rd, update }),
+        rec: None,
+    }))
+}
+
+#[tactic(auto, unfolding(rmm_spec::specs::Step::Data::data_create_unknown, rmm_spec::specs::Step::Words::words_of, rmm_spec::specs::Step::Named::named, rmm_spec::specs::Lookup::realm_at))]
+#[inline(never)]
+pub(crate) fn data_create_unknown<S: Sight>(
+    sight: &S,
+    rd: u64,
+    granule: u64,
+    ipa: u64,
+) -> Result<Accepted, Reply>
+    ensures { result ≡ spec.data_create_unknown (S.state sight.now) rd granule ipa }
+{
+    if !is_page(ipa) {
+        return Err(input_error());
+    }
+    let Some(realm) = sight.realm(rd) else {
+        return Err(input_error());
+    };
+    if !sight.has_tag(granule, Tag::Delegated) {
+        return Err(input_error());
+    }
+    if ipa >= realm.protected_end() {
+        return Err(input_error());
+    }
+    let end = sight.walk(rd, ipa, 3);
+    if end.level != 3 {
+        return Err(table_error(end.level));
+    }
+    if !is_unassigned(end.entry) {
+        return Err(table_error(3));
+    }
+    Ok(done(Change::EntriesChanged {
+        rd,
+        level: 3,
+        entries: page_entry(ipa, Entry::Assigned(entry_ripas(end.entry), granule)),
+        page: Some(TagChange {
+            granule,
+            tag: Tag::Data,
+        }),
+        realm: None,
+        rec: None,
+    }))
+}
+
+#[tactic(auto, unfolding(rmm_spec::specs::Step::Data::data_destroy, rmm_spec::specs::Step::Words::words_of, rmm_spec::specs::Step::Named::named, rmm_spec::specs::Lookup::realm_at))]
+#[inline(never)]
+pub(crate) fn data_destroy<S: Sight>(sight: &S, rd: u64, ipa: u64) -> Result<Accepted, Reply>
+    ensures { result ≡ spec.data_destroy (S.state sight.now) rd ipa }
+{
+    if !is_page(ipa) {
+        return Err(input_error());
+    }
+    let Some(realm) = sight.realm(rd) else {
+        return Err(input_error());
+    };
+    if ipa >= realm.protected_end() {
+        return Err(input_error());
+    }
+    let end = sight.walk(rd, ipa, 3);
+    if end.level != 3 {
+        return Err(table_error(end.level));
+    }
+    if !is_assigned(end.entry) {
+        return Err(table_error(3));
+    }
+    let granule = entry_address(end.entry);
+    let ripas = ripas_after_data(entry_ripas(end.entry));
+    Ok(done_with(
+        granule,
+        Change::EntriesChanged {
+            rd,
+            level: 3,
+            entries: page_entry(ipa, Entry::Unassigned(ripas)),
+            page: Some(TagChange {
+                granule,
+                tag: Tag::Delegated,
+            }),
+            realm: None,
+            rec: None,
+        },
+    ))
+}
+
+// The entry of a page is replaced.
+fn page_entry(ipa: u64, entry: Entry) -> EntryChange
+    ensures { result ≡ spec.page_entry ipa entry }
+{
+    let number = entry_number(3, ipa);
+    EntryChange::Replaced { number, entry }
+}
+
+// The RIPAS of a page that was taken back: what was memory is lost.
+fn ripas_after_data(ripas: Ripas) -> Ripas
+    ensures { result ≡ spec.ripas_after_data ripas }
+{
+    match ripas {
+        Ripas::Ram | Ripas::Destroyed => Ripas::Destroyed,
+        Ripas::Empty => Ripas::Empty,
+    }
+}

@@ -1,0 +1,26 @@
+//! What each of the 27 commands is answered: its rows, in their order, over whatever can look up what they read.
+//! It promises the definitions' answer in the state that a `Sight` stands for, at every call, of a CPU outside of RECs and inside of one.
+//! A row stands once in code, for every program that decides commands; what a command changes is a value, and is made elsewhere.
+//! Nothing here changes a state, takes memory or waits.
+//! The specification machine and the core of the monitor decide by it.
+#![tactic(auto)]
+
+mod data;
+mod granule;
+mod inside;
+mod outside;
+mod realm;
+mod rec;
+mod reply;
+mod ripas;
+mod sight;
+mod table;
+mod unprotected;
+
+pub use inside::answer_inside;
+pub use outside::answer_outside;
+pub use realm_desc::{Realm, Rec};
+pub use rec_steps::{input_error, realm_error, rec_error};
+pub use reply::{accepted_at, done, done_with, table_error, told};
+pub use rmm_spec::{Accepted, Call, Reply, Tag, Walked};
+pub use sight::Sight;

@@ -1,0 +1,91 @@
+//! The commands that make a realm, let it run and take it apart.
+
+ghost use Rattle.std.specs.Prelude.{◌≡◌};
+ghost use Rattle.rmm_spec.specs.Step.Realm as spec;
+
+use crate::reply::done;
+use crate::sight::Sight;
+use realm_desc::{HashAlgorithm, Space};
+use rec_steps::{input_error, realm_error};
+use rmm_spec::{Accepted, Change, RealmChange, RealmUpdate, Reply, Tag};
+
+#[tactic(auto, unfolding(rmm_spec::specs::Step::Words::words_of, rmm_spec::specs::Step::Named::named))]
+#[inline(never)]
+pub(crate) fn realm_create<S: Sight>(
+    sight: &S,
+    rd: u64,
+    root: u64,
+    width: u64,
+    level: u64,
+    vmid: u64,
+    algo: u64,
+) -> Result<Accepted, Reply>
+    ensures { result ≡ spec.realm_create_told (S.uses_vmid sight.now vmid) (S.state sight.now) rd root width level vmid algo }
+{
+    if rd == root {
+        return Err(input_error());
+    }
+    let Some(space) = Space::of(width, level) else {
+        return Err(input_error());
+    };
+    if vmid > 0xff {
+        return Err(input_error());
+    }
+    let Some(algorithm) = HashAlgorithm::of(algo) else {
+        return Err(input_error());
+    };
+    if !sight.has_tag(rd, Tag::Delegated) {
+        return Err(input_error());
+    }
+    if !sight.has_tag(root, Tag::Delegated) {
+        return Err(input_error());
+    }
+    let vmid = vmid as u8;
+    if sight.is_vmid_used(vmid) {
+        return Err(input_error());
+    }
+    Ok(done(Change::RealmMade {
+        rd,
+        root,
+        width: space.width(),
+        level: space.start_level(),
+        vmid,
+        algo: algorithm.number(),
+    }))
+}
+
+#[tactic(auto, unfolding(rmm_spec::specs::Step::Realm::realm_activate, rmm_spec::specs::Step::Words::words_of, rmm_spec::specs::Step::Named::named, rmm_spec::specs::Lookup::realm_at))]
+#[inline(never)]
+pub(crate) fn realm_activate<S: Sight>(sight: &S, rd: u64) -> Result<Accepted, Reply>
+    ensures { result ≡ spec.realm_activate (S.state sight.now) rd }
+{
+    let Some(realm) = sight.realm(rd) else {
+        return Err(input_error());
+    };
+    if !realm.is_new() {
+        return Err(realm_error(0));
+    }
+    let update = RealmUpdate::Activated;
+    Ok(done(Change::RecordsChanged {
+        realm: Some(RealmChange { rd, update }),
+        rec: None,
+    }))
+}
+
+#[tactic(auto, unfolding(rmm_spec::specs::Step::Words::words_of, rmm_spec::specs::Step::Named::named, rmm_spec::specs::Lookup::realm_at, realm_desc::specs::View::realm_record))]
+#[inline(never)]
+pub(crate) fn realm_destroy<S: Sight>(sight: &S, rd: u64) -> Result<Accepted, Reply>
+    ensures { result ≡ spec.realm_destroy_told (S.has_recs sight.now rd) (S.state sight.now) rd }
+{
+    let Some(realm) = sight.realm(rd) else {
+        return Err(input_error());
+    };
+    if sight.has_rec(rd) {
+        return Err(realm_error(0));
+    }
+    if sight.has_link(rd, realm.start_level()) {
+        return Err(realm_error(0));
+    }
+    let root = realm.root.address();
+    Ok(done(Change::RealmDestroyed { rd, root }))
+}

@@ -1,0 +1,149 @@
+//! The commands that put tables in, take them out and read their entries.
+
+ghost use Rattle.std.specs.Prelude.{◌≡◌};
+ghost use Rattle.rmm_spec.specs.Step.Table as spec;
+
+use crate::reply::{done, done_with, table_error, told};
+use crate::sight::Sight;
+use command_words::is_aligned;
+use realm_desc::Realm;
+use rec_steps::input_error;
+use rmm_spec::{Accepted, Change, Entry, Reply, Ripas, Tag};
+use table_entries::{
+    entry_address, entry_ripas, entry_state, is_table, ripas_number, table_number,
+};
+
+#[tactic(auto, unfolding(rmm_spec::specs::Step::Table::rtt_create, rmm_spec::specs::Step::Words::words_of, rmm_spec::specs::Step::Named::named, rmm_spec::specs::Lookup::realm_at))]
+#[inline(never)]
+pub(crate) fn rtt_create<S: Sight>(
+    sight: &S,
+    rd: u64,
+    rtt: u64,
+    ipa: u64,
+    level: u64,
+) -> Result<Accepted, Reply>
+    ensures { result ≡ spec.rtt_create (S.state sight.now) rd rtt ipa level }
+{
+    if level > 3 {
+        return Err(input_error());
+    }
+    let level = level as u8;
+    let above = level.saturating_sub(1);
+    if !is_aligned(ipa, above) {
+        return Err(input_error());
+    }
+    let Some(realm) = sight.realm(rd) else {
+        return Err(input_error());
+    };
+    if !sight.has_tag(rtt, Tag::Delegated) {
+        return Err(input_error());
+    }
+    if realm.start_level() >= level {
+        return Err(input_error());
+    }
+    if ipa >= realm.space_end() {
+        return Err(input_error());
+    }
+    let end = sight.walk(rd, ipa, above);
+    if end.level != above {
+        return Err(table_error(end.level));
+    }
+    if is_table(end.entry) {
+        return Err(table_error(above));
+    }
+    let number = table_number(level, ipa);
+    Ok(done(Change::TableMade {
+        rd,
+        level,
+        number,
+        rtt,
+        entry: end.entry,
+    }))
+}
+
+#[tactic(auto, unfolding(rmm_spec::specs::Step::Table::rtt_destroy, rmm_spec::specs::Step::Words::words_of, rmm_spec::specs::Step::Named::named, rmm_spec::specs::Lookup::realm_at))]
+#[inline(never)]
+pub(crate) fn rtt_destroy<S: Sight>(sight: &S, rd: u64, ipa: u64, level: u64) -> Result<Accepted, Reply>
+    ensures { result ≡ spec.rtt_destroy (S.state sight.now) rd ipa level }
+{
+    if level > 3 {
+        return Err(input_error());
+    }
+    let level = level as u8;
+    let above = level.saturating_sub(1);
+    if !is_aligned(ipa, above) {
+        return Err(input_error());
+    }
+    let Some(realm) = sight.realm(rd) else {
+        return Err(input_error());
+    };
+    if realm.start_level() >= level {
+        return Err(input_error());
+    }
+    if ipa >= realm.space_end() {
+        return Err(input_error());
+    }
+    let end = sight.walk(rd, ipa, above);
+    if !(end.level == above && is_table(end.entry)) {
+        return Err(table_error(end.level));
+    }
+    let number = table_number(level, ipa);
+    if sight.is_in_use(rd, level, number) {
+        return Err(table_error(level));
+    }
+    let rtt = entry_address(end.entry);
+    let entry = entry_after_table(&realm, ipa);
+    Ok(done_with(
+        rtt,
+        Change::TableDestroyed {
+            rd,
+            level,
+            number,
+            rtt,
+            entry,
+        },
+    ))
+}
+
+#[tactic(auto, unfolding(rmm_spec::specs::Step::Table::rtt_read_entry, rmm_spec::specs::Step::Words::words_of, rmm_spec::specs::Step::Named::named, rmm_spec::specs::Lookup::realm_at))]
+#[inline(never)]
+pub(crate) fn rtt_read_entry<S: Sight>(sight: &S, rd: u64, ipa: u64, level: u64) -> Result<Accepted, Reply>
+    ensures { result ≡ spec.rtt_read_entry (S.state sight.now) rd ipa level }
+{
+    if level > 3 {
+        return Err(input_error());
+    }
+    let level = level as u8;
+    if !is_aligned(ipa, level) {
+        return Err(input_error());
+    }
+    let Some(realm) = sight.realm(rd) else {
+        return Err(input_error());
+    };
+    if realm.start_level() > level {
+        return Err(input_error());
+    }
+    if ipa >= realm.space_end() {
+        return Err(input_error());
+    }
+    let end = sight.walk(rd, ipa, level);
+    let level = u64::from(end.level);
+    let ripas = ripas_number(entry_ripas(end.entry));
+    Ok(told([
+        level,
+        entry_state(end.entry),
+        entry_address(end.entry),
+        ripas,
+    ]))
+}
+
+// What a stretch of addresses is where a table of it was taken out.
+fn entry_after_table(realm: &Realm, ipa: u64) -> Entry
+    ensures { result ≡ spec.entry_after_table realm.now ipa }
+{
+    if ipa < realm.protected_end() {
+        Entry::Unassigned(Ripas::Destroyed)
+    } else {
+        Entry::UnassignedNs
+    }
+}

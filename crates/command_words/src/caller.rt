@@ -1,0 +1,51 @@
+//! Who gives a command.
+
+ghost use Rattle.std.specs.Prelude.{◌≡◌};
+ghost use Rattle.rmm_spec.specs.Call.{class_of};
+ghost use Rattle.command_words.specs.Callers.{class_from};
+
+use rmm_spec::Call;
+
+/// A realm's host, a realm from inside a REC, or a REC that leaves to its host.
+#[derive(Clone, Copy)]
+pub enum Caller {
+    Host,
+    Realm,
+    Rec,
+}
+
+/// Who gives the command.
+#[tactic(auto, unfolding(rmm_spec::specs::Call::class_of))]
+pub fn caller_of(call: &Call) -> Caller
+    ensures { class_from result ≡ class_of call.now }
+{
+    match call {
+        Call::MeasurementRead { .. }
+        | Call::MeasurementExtend { .. }
+        | Call::RealmConfig
+        | Call::IpaStateSet { .. }
+        | Call::IpaStateGet { .. }
+        | Call::HostCall { .. }
+        | Call::CpuOff
+        | Call::SystemOff => Caller::Realm,
+        Call::Exit => Caller::Rec,
+        Call::GranuleDelegate { .. }
+        | Call::GranuleUndelegate { .. }
+        | Call::DataCreate { .. }
+        | Call::DataCreateUnknown { .. }
+        | Call::DataDestroy { .. }
+        | Call::RealmActivate { .. }
+        | Call::RealmCreate { .. }
+        | Call::RealmDestroy { .. }
+        | Call::RecCreate { .. }
+        | Call::RecDestroy { .. }
+        | Call::RecEnter { .. }
+        | Call::RttCreate { .. }
+        | Call::RttDestroy { .. }
+        | Call::RttMapUnprotected { .. }
+        | Call::RttReadEntry { .. }
+        | Call::RttUnmapUnprotected { .. }
+        | Call::RttInitRipas { .. }
+        | Call::RttSetRipas { .. } => Caller::Host,
+    }
+}

@@ -1,0 +1,55 @@
+//! What the rows of commands look up in a machine.
+
+use crate::machine::Machine;
+use command_rows::Sight;
+use realm_desc::{Realm, Rec};
+use rmm_spec::{Tag, Walked};
+
+impl Sight for Machine {
+    ghost use Rattle.rmm_spec.specs.Lookup.{has_rec, is_vmid_used};
+    ghost use Rattle.spec_machine.specs.View.{state_of};
+
+    ghost state = { state_of };
+
+    ghost uses_vmid = { λ machine. is_vmid_used (state_of machine) };
+
+    ghost has_recs = { λ machine. has_rec (state_of machine) };
+
+    #[tactic(auto, unfolding(crate::specs::View::state_of))]
+    fn has_tag(&self, address: u64, tag: Tag) -> bool {
+        self.store.has_tag(address, tag)
+    }
+
+    #[tactic(auto, unfolding(crate::specs::View::state_of))]
+    fn realm(&self, rd: u64) -> Option<Realm> {
+        self.store.realm(rd)
+    }
+
+    #[tactic(auto, unfolding(crate::specs::View::state_of))]
+    fn rec(&self, address: u64) -> Option<Rec> {
+        self.store.rec(address)
+    }
+
+    #[tactic(auto, unfolding(crate::specs::View::state_of))]
+    fn walk(&self, rd: u64, ipa: u64, max: u8) -> Walked {
+        self.store.walk(rd, ipa, max)
+    }
+
+    #[tactic(auto, unfolding(crate::specs::View::state_of))]
+    fn is_in_use(&self, rd: u64, level: u8, number: u64) -> bool {
+        self.store.is_in_use(rd, level, number)
+    }
+
+    #[tactic(auto, unfolding(crate::specs::View::state_of))]
+    fn has_link(&self, rd: u64, level: u8) -> bool {
+        self.store.has_link(rd, level, 0)
+    }
+
+    fn has_rec(&self, rd: u64) -> bool {
+        self.rec_count(rd) > 0
+    }
+
+    fn is_vmid_used(&self, vmid: u8) -> bool {
+        self.vmids[usize::from(vmid)].is_some()
+    }
+}
