@@ -1,9 +1,9 @@
 -- What a table in a well-shaped whole is in the flat state: the table of its place, with its own entries.
-use Rattle.std.proofs.Common.{◌≡◌, ℕ, suc, ◌+◌, ◌*◌, ◌/◌, ◌%◌, ◌<◌, Bool, true, false, ◌&&◌, ◌==◌, nat_lt, if◌then◌else◌, Option, Some, None, slice_get, option_map, refl, sym, ap, ◌∙◌, subst, arith, add-one}
+use Rattle.std.proofs.Common.{◌≡◌, ℕ, suc, ◌+◌, ◌*◌, ◌/◌, ◌%◌, ◌<◌, Bool, true, false, ◌&&◌, ◌==◌, nat_lt, if◌then◌else◌, Option, Some, None, slice_get, get_or, length, option_map, refl, sym, ap, ◌∙◌, subst, arith, add-one}
 use Rattle.std.specs.Option.{option_and_then}
 use Rattle.std.proofs.lemmas.Bool.{false≢true}
 use Rattle.std.proofs.lemmas.Bool.Decides.{nat_tests}
-use Rattle.std.proofs.lemmas.Option.{none-some, same_Some}
+use Rattle.std.proofs.lemmas.Option.{none-some, same_Some, slice_get-get_or}
 use Rattle.rmm_spec.specs.declared.entry.Entry.{Entry}
 use Rattle.rmm_spec.specs.declared.entry.Entry.TheVariants.{Unassigned, Assigned, Table, UnassignedNs, AssignedNs}
 use Rattle.rmm_spec.specs.Table.{TableRecord, place_number}
@@ -13,7 +13,7 @@ use Rattle.rmm_spec.specs.Cell.{Cell, Undelegated, table_in, tables_of, realms_o
 use Rattle.rmm_spec.specs.Flat.{flat_state, table_granule, leaf_in_tables, found_below, is_table_of}
 use Rattle.rmm_spec.specs.Shape.{Side, CpuPlace, IsWellShaped, HoldsTable}
 use Rattle.world_laws.proofs.Placed.{cell_granule}
-use Rattle.refusal_laws.proofs.Searches.{found_below-one, found_below-passes}
+use Rattle.command_core.proofs.Searches.{found_below-one, found_below-passes}
 
 -- ---- places
 
@@ -104,7 +104,7 @@ below-link granules side places cells shaped g t number child is above link =
     rw (test, add-one t.place.level) (table-from_HoldsTable granules side places cells shaped child t.place.rd (suc t.place.level) number below)
 
 -- a table below is linked from here
-pub link-from_table : (granules : ℕ) (side : Side) (places : ℕ → CpuPlace) (cells : ℕ → Cell) → IsWellShaped granules side places cells
+link-from_table : (granules : ℕ) (side : Side) (places : ℕ → CpuPlace) (cells : ℕ → Cell) → IsWellShaped granules side places cells
     → (g : ℕ) (t : TableRecord) (number child : ℕ) → tables_of cells g ≡ Some t → number / 512 ≡ place_number t.place
     → HoldsTable (tables_of cells) child t.place.rd (suc t.place.level) number → slice_get t.entries (number % 512) ≡ Some (Table child)
 link-from_table granules side places cells shaped g t number child is above below =
@@ -176,3 +176,12 @@ entry_at-table granules side places cells shaped g t number e is above entry = b
     by (Assigned ripas granule) here = leaf (Assigned ripas granule) refl here
     by UnassignedNs here = leaf UnassignedNs refl here
     by (AssignedNs page) here = leaf (AssignedNs page) refl here
+
+-- and each of its places has one
+pub entry_at-own : (granules : ℕ) (side : Side) (places : ℕ → CpuPlace) (cells : ℕ → Cell) → IsWellShaped granules side places cells
+    → (g : ℕ) (t : TableRecord) (number : ℕ) → tables_of cells g ≡ Some t → number / 512 ≡ place_number t.place
+    → entry_at (flat_state granules cells) t.place.rd t.place.level number ≡ get_or t.entries (number % 512) UnassignedNs
+entry_at-own granules side places cells shaped g t number is above =
+    let whole = shaped.tables.whole g t is in
+    entry_at-table granules side places cells shaped g t number (get_or t.entries (number % 512) UnassignedNs) is above
+    (slice_get-get_or t.entries (number % 512) UnassignedNs (let index : number % 512 < length t.entries = omega (arith, whole) in index))
