@@ -10,8 +10,8 @@ use Rattle.world_laws.specs.Replaced.{replaced_cells}
 use Rattle.world_laws.proofs.Lists.{map-push}
 use Rattle.command_core.specs.Seen.{cell_of, cell_in, is_held, are_distinct}
 use Rattle.command_core.specs.Plain.{held_of}
-use Rattle.command_core.specs.declared.cell.Cell.{Cell}
-use Rattle.command_core.specs.declared.cell.Cell.TheVariants.{Undelegated}
+use Rattle.granule_cells.specs.declared.cell.Cell.{Cell}
+use Rattle.granule_cells.specs.declared.cell.Cell.TheVariants.{Undelegated}
 use Rattle.command_core.specs.declared.plain_held.Entry.{Entry}
 
 abbrev pub granules_of : List Entry → List ℕ
