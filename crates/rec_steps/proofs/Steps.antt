@@ -1,34 +1,15 @@
--- In a state that holds the two records: what the definitions answer, and the step that an answer is.
-use Rattle.std.proofs.Common.{◌≡◌, ℕ, Bool, true, false, ◌==◌, if◌then◌else◌, not, IsTrue, refl, sym, ap, ◌∙◌, subst}
-use Rattle.std.specs.Prelude.{Ok, Err, Option, Some, None, is_none, unwrap_or}
-use Rattle.arrayvec.specs.ArrayVec.{ArrayVec}
-use Rattle.std.proofs.lemmas.Bool.{eqb-true, and_from, and_right}
-use Rattle.rmm_spec.specs.declared.accepted.Accepted.TheVariants.{Done}
-use Rattle.rmm_spec.specs.declared.call.Call.{Call}
-use Rattle.rmm_spec.specs.declared.call.Call.TheVariants as call
-use Rattle.rmm_spec.specs.declared.command.Command.{Command}
-use Rattle.rmm_spec.specs.declared.change.RealmUpdate.{RealmUpdate}
-use Rattle.rmm_spec.specs.declared.change.RecUpdate.{RecUpdate}
-use Rattle.rmm_spec.specs.declared.change.RecUpdate.TheVariants.{Exited}
-use Rattle.rmm_spec.specs.declared.reply.Reply.{Reply}
-use Rattle.rmm_spec.specs.declared.reply.Reply.TheVariants as reply
+-- In a state that holds the two records, what is read is what it holds.
+use Rattle.std.proofs.Common.{◌≡◌, ℕ, Bool, true, if◌then◌else◌, IsTrue, refl, sym, ap, ◌∙◌}
+use Rattle.std.specs.Prelude.{Err, Some, unwrap_or}
 use Rattle.rmm_spec.specs.declared.tag.Tag.TheVariants as tag
-use Rattle.rmm_spec.specs.Call.{Class, ByHost, ByRealm, ByExit, call_of, class_of}
-use Rattle.rmm_spec.specs.Change.{changed, realm_updated, rec_updated}
-use Rattle.rmm_spec.specs.Lookup.{no_realm, no_rec, has_tag, is_inside, rec_inside, realm_at, rec_at, request_of}
-use Rattle.rmm_spec.specs.Rows.{done, input_error}
+use Rattle.rmm_spec.specs.Lookup.{no_realm, no_rec, has_tag, realm_at, rec_at}
+use Rattle.rmm_spec.specs.Rows.{input_error}
 use Rattle.rmm_spec.specs.State.{State, RealmRecord, RecRecord}
-use Rattle.rmm_spec.specs.Step.{Step, CarriesOut, answer_of, is_placed, outcome}
 use Rattle.rmm_spec.specs.Step.Named.{named}
-use Rattle.rmm_spec.specs.Step.RealmCall.{exit_words, rec_change, rec_exit}
 use Rattle.rmm_spec.specs.Step.Rec.{rec_enter}
 use Rattle.rmm_spec.specs.Step.Words.{words_of}
-use Rattle.rmm_spec.specs.Update.{with_realm, with_rec}
-use Rattle.rec_steps.specs.Answers.{answer_at, call_row, enter_rows, change_at, realm_after, rec_after}
+use Rattle.rec_steps.specs.Answers.{enter_rows}
 use Rattle.rec_steps.specs.Held.{IsHeld}
-use Rattle.rec_steps.specs.declared.step.RecStep.{RecStep}
-
--- ---- records
 
 -- the REC that is read is the one that is held
 pub rec_at-held : (s : State) (address : ℕ) (rec : RecRecord) → s.rec address ≡ Some rec → rec_at s address ≡ rec
@@ -36,7 +17,7 @@ unfolding rec_at
 rec_at-held s address rec held = ap (λ found. unwrap_or found no_rec) held
 
 -- the realm that is read is the one that is held
-realm_at-held : (s : State) (rd : ℕ) (realm : RealmRecord) → s.realm rd ≡ Some realm → realm_at s rd ≡ realm
+pub realm_at-held : (s : State) (rd : ℕ) (realm : RealmRecord) → s.realm rd ≡ Some realm → realm_at s rd ≡ realm
 unfolding realm_at
 realm_at-held s rd realm held = ap (λ found. unwrap_or found no_realm) held
 
@@ -46,73 +27,9 @@ pub realm_at-IsHeld : (s : State) (address : ℕ) (realm : RealmRecord) (rec : R
 realm_at-IsHeld s address realm rec held =
     ap (λ (r : RecRecord). realm_at s r.owner) (rec_at-held s address rec held.has_rec) ∙ realm_at-held s rec.owner realm held.has_realm
 
--- what is there may be put there again
-put_same : {A : Type 0} (f : ℕ → Option A) (place : ℕ) (a : A) → f place ≡ Some a → (other : ℕ) (b : Bool) → (other == place) ≡ b
-    → (if b then Some a else f other) ≡ f other
-put_same f place a held other false apart = refl
-put_same f place a held other true same = sym held ∙ ap f (sym (eqb-true other place same))
-
-with_realm-same : (s : State) (rd : ℕ) (realm : RealmRecord) → s.realm rd ≡ Some realm → with_realm s rd realm ≡ s
-with_realm-same s rd realm held = λ i. record s { realm = λ other. put_same s.realm rd realm held other (other == rd) refl i }
-
-with_rec-same : (s : State) (address : ℕ) (rec : RecRecord) → s.rec address ≡ Some rec → with_rec s address rec ≡ s
-with_rec-same s address rec held = λ i. record s { rec = λ other. put_same s.rec address rec held other (other == address) refl i }
-
--- ---- steps
-
--- the change of a step puts the records in that the step makes
-changed-step : (s : State) (address : ℕ) (realm : RealmRecord) (rec : RecRecord) (u : Option RealmUpdate) (v : Option RecUpdate)
-    → IsHeld s address realm rec
-    → with_rec (with_realm s rec.owner (realm_after u realm)) address (rec_after v rec) ≡ changed s (change_at rec.owner address u v)
-unfolding changed
-changed-step s address realm rec None None held =
-    ap (λ t. with_rec t address rec) (with_realm-same s rec.owner realm held.has_realm) ∙ with_rec-same s address rec held.has_rec
-changed-step s address realm rec None (Some v) held =
-    ap (λ t. with_rec t address (rec_updated v rec)) (with_realm-same s rec.owner realm held.has_realm)
-    ∙ ap (λ r. with_rec s address (rec_updated v r)) (sym (rec_at-held s address rec held.has_rec))
-changed-step s address realm rec (Some u) None held =
-    with_rec-same (with_realm s rec.owner (realm_updated u realm)) address rec held.has_rec
-    ∙ ap (λ r. with_realm s rec.owner (realm_updated u r)) (sym (realm_at-held s rec.owner realm held.has_realm))
-changed-step s address realm rec (Some u) (Some v) held =
-    let t = with_realm s rec.owner (realm_updated u (realm_at s rec.owner)) in
-    ap (λ r. with_rec (with_realm s rec.owner (realm_updated u r)) address (rec_updated v rec)) (sym (realm_at-held s rec.owner realm held.has_realm))
-    ∙ ap (λ r. with_rec t address (rec_updated v r)) (sym (rec_at-held t address rec held.has_rec))
-
--- an answer that is the definitions' is a step from any state that holds the records
-pub step_taken : (s : State) (cpu address : ℕ) (command : Command) (realm : RealmRecord) (rec : RecRecord) (step : RecStep)
-    → IsHeld s address realm rec → answer_at rec.owner address (Ok step) ≡ outcome s cpu (call_of command)
-    → Step s cpu command (reply.Ok step.words)
-    (with_rec (with_realm s rec.owner (realm_after step.realm realm)) address (rec_after step.rec rec))
-step_taken s cpu address command realm rec step held is =
-    let new = with_rec (with_realm s rec.owner (realm_after step.realm realm)) address (rec_after step.rec rec) in
-    subst (λ answer. CarriesOut answer s (reply.Ok step.words) new) is (refl, changed-step s address realm rec step.realm step.rec held)
-
--- a refusal that is the definitions' leaves the records as they are
-pub step_refused : (s : State) (cpu address : ℕ) (command : Command) (realm : RealmRecord) (rec : RecRecord) (refusal : Reply)
-    → IsHeld s address realm rec → Err refusal ≡ outcome s cpu (call_of command)
-    → Step s cpu command refusal (with_rec (with_realm s rec.owner realm) address rec)
-unfolding changed
-step_refused s cpu address command realm rec refusal held is =
-    subst (λ answer. CarriesOut answer s refusal (with_rec (with_realm s rec.owner realm) address rec)) is
-    (refl, changed-step s address realm rec None None held)
-
--- an exit changes the REC alone
-pub exit_taken : (s : State) (cpu address : ℕ) (command : Command) (rec : RecRecord) (words : ArrayVec ℕ)
-    → s.rec address ≡ Some rec → Ok (Done words (rec_change address Exited)) ≡ outcome s cpu (call_of command)
-    → Step s cpu command (reply.Ok words) (with_rec s address (rec_updated Exited rec))
-unfolding changed
-exit_taken s cpu address command rec words held is =
-    subst (λ answer. CarriesOut answer s (reply.Ok words) (with_rec s address (rec_updated Exited rec))) is
-    (refl, ap (λ r. with_rec s address (rec_updated Exited r)) (sym (rec_at-held s address rec held)))
-
--- ---- what the definitions answer
-
 -- a test that has come out
 when_true : {A : Type 0} (b : Bool) (x y : A) → b ≡ true → x ≡ (if b then x else y)
 when_true b x y is = rw is refl
-
-when_false : {A : Type 0} (b : Bool) (x y : A) → b ≡ false → y ≡ (if b then x else y)
-when_false b x y is = rw is refl
 
 -- the rows of an Enter over the two records are those that a state with these records has
 pub rec_enter-IsHeld : (s : State) (cpu address : ℕ) (realm : RealmRecord) (rec : RecRecord) → IsHeld s address realm rec
@@ -123,63 +40,3 @@ rec_enter-IsHeld s cpu address realm rec held tagged =
     ap (λ r. enter_rows r rec cpu address) (sym (realm_at-IsHeld s address realm rec held))
     ∙ ap (λ (r : RecRecord). enter_rows (realm_at s (rec_at s address).owner) r cpu address) (sym here)
     ∙ when_true (has_tag s address tag.Rec) (enter_rows (realm_at s (rec_at s address).owner) (rec_at s address) cpu address) (Err input_error) tagged
-
--- a host enters a REC from outside
-pub outcome-enter : (s : State) (cpu address : ℕ) (c : Call) → c ≡ call.RecEnter address → is_inside s cpu ≡ false
-    → rec_enter s cpu address ≡ outcome s cpu c
-unfolding outcome answer_of class_of
-outcome-enter s cpu address c is outside = rw (is, outside) refl
-
--- a REC with no exit pending is answered by its rows, and gives no host's command
-pub outcome-row : (s : State) (cpu : ℕ) (c : Call) (realm : RealmRecord) (rec : RecRecord) → IsTrue (is_inside s cpu)
-    → IsHeld s (rec_inside s cpu) realm rec → is_none rec.pending ≡ true → (c ≡ call.Exit → ⊥) → call_row s (rec_inside s cpu) c ≡ outcome s cpu c
-unfolding outcome answer_of class_of call_row
-outcome-row s cpu c realm rec inside held free other = by c other
-  where
-    placed : is_placed s cpu ByRealm ≡ true
-    placed = and_from (is_inside s cpu) _ inside (ap (λ (r : RecRecord). is_none r.pending) (rec_at-held s (rec_inside s cpu) rec held.has_rec) ∙ free)
-
-    by : (d : Call) → (d ≡ call.Exit → ⊥) → call_row s (rec_inside s cpu) d ≡ outcome s cpu d
-    by (call.MeasurementRead index) other = when_true (is_placed s cpu ByRealm) _ _ placed
-    by (call.MeasurementExtend index size values) other = when_true (is_placed s cpu ByRealm) _ _ placed
-    by call.RealmConfig other = when_true (is_placed s cpu ByRealm) _ _ placed
-    by (call.IpaStateSet base top ripas) other = when_true (is_placed s cpu ByRealm) _ _ placed
-    by (call.IpaStateGet ipa) other = when_true (is_placed s cpu ByRealm) _ _ placed
-    by (call.HostCall imm) other = when_true (is_placed s cpu ByRealm) _ _ placed
-    by call.CpuOff other = when_true (is_placed s cpu ByRealm) _ _ placed
-    by call.SystemOff other = when_true (is_placed s cpu ByRealm) _ _ placed
-    by call.Exit other = absurd (other refl)
-    by _ other = when_false (is_placed s cpu ByHost) _ _ (ap not inside)
-
--- only Exit is given while an exit is pending
-exit_class : (c : Call) → class_of c ≡ ByExit → c ≡ call.Exit
-unfolding class_of
-exit_class call.Exit class = refl
-exit_class _ class = absurd cc
-
-pending_misplaced : (s : State) (cpu : ℕ) (rec : RecRecord) (class : Class) → IsTrue (is_inside s cpu) → s.rec (rec_inside s cpu) ≡ Some rec
-    → is_none rec.pending ≡ false → (class ≡ ByExit → ⊥) → is_placed s cpu class ≡ false
-pending_misplaced s cpu rec ByHost inside held waits other = ap not inside
-pending_misplaced s cpu rec ByRealm inside held waits other =
-    and_right (is_inside s cpu) _ (ap (λ (r : RecRecord). is_none r.pending) (rec_at-held s (rec_inside s cpu) rec held) ∙ waits)
-pending_misplaced s cpu rec ByExit inside held waits other = absurd (other refl)
-
--- a REC with an exit pending gives no call, and never a host's command
-pub outcome-pending : (s : State) (cpu : ℕ) (c : Call) (rec : RecRecord) → IsTrue (is_inside s cpu) → s.rec (rec_inside s cpu) ≡ Some rec
-    → is_none rec.pending ≡ false → (c ≡ call.Exit → ⊥) → Err reply.Misplaced ≡ outcome s cpu c
-unfolding outcome
-outcome-pending s cpu c rec inside held waits other =
-    when_false (is_placed s cpu (class_of c)) (answer_of s cpu c) (Err reply.Misplaced)
-    (pending_misplaced s cpu rec (class_of c) inside held waits (λ class. other (exit_class c class)))
-
--- a REC leaves, and its host is told why
-pub answered_exit : (s : State) (cpu : ℕ) (c : Call) (rec : RecRecord) (words : ArrayVec ℕ) → c ≡ call.Exit → IsTrue (is_inside s cpu)
-    → s.rec (rec_inside s cpu) ≡ Some rec → words.items ≡ exit_words (request_of rec) rec.pending
-    → Ok (Done words (rec_change (rec_inside s cpu) Exited)) ≡ outcome s cpu c
-unfolding outcome answer_of class_of rec_exit words_of named
-answered_exit s cpu c rec words is inside held told =
-    let address = rec_inside s cpu in
-    ap (λ items. Ok (done items (rec_change address Exited))) told
-    ∙ ap (λ (r : RecRecord). Ok (done (exit_words (request_of r) r.pending) (rec_change address Exited))) (sym (rec_at-held s address rec held))
-    ∙ when_true (is_inside s cpu) (rec_exit s address) (Err reply.Misplaced) inside
-    ∙ ap (outcome s cpu) (sym is)

@@ -13,7 +13,6 @@ use Rattle.rmm_spec.specs.declared.reply.Reply.{Reply}
 use Rattle.rmm_spec.specs.declared.reply.Reply.TheVariants as reply
 use Rattle.rmm_spec.specs.declared.tag.Ripas.{Ripas}
 use Rattle.rmm_spec.specs.Applicable.{IsRealmUpdate}
-use Rattle.rmm_spec.specs.Change.{realm_updated, rec_updated}
 use Rattle.rmm_spec.specs.Lookup.{request_of, is_new, is_system_off}
 use Rattle.rmm_spec.specs.Rows.{row, decided, done, realm_error, rec_error}
 use Rattle.rmm_spec.specs.State.{State, RealmRecord, RecRecord}
@@ -63,11 +62,6 @@ enter_rows realm rec cpu address =
     ∷ [])
     (done ((request_of rec).base ∷ []) (rec_change address (Entered cpu)))
 
-abbrev pub is_refusal : Reply → Bool
-is_refusal (reply.Ok words) = false
-is_refusal (reply.Err status index) = true
-is_refusal reply.Misplaced = true
-
 -- ---- what is read
 
 -- whether the call reads an entry: an IPA_STATE_GET with good words
@@ -75,25 +69,12 @@ abbrev pub is_read : RealmRecord → Call → Bool
 is_read realm (IpaStateGet ipa) = is_protected realm ipa
 is_read realm _ = false
 
--- whether the command of a CPU inside the REC reads one, with no exit pending
-abbrev pub is_walk : RealmRecord → RecRecord → Call → Bool
-is_walk realm rec (IpaStateGet ipa) = is_none rec.pending && is_protected realm ipa
-is_walk realm rec _ = false
-
 -- the RIPAS is that of the entry which the command reads
 abbrev pub IsRipasRead : State → ℕ → Call → Ripas → Type 0
 IsRipasRead s rd (IpaStateGet ipa) ripas = entry_ripas (walk s rd ipa 3).entry ≡ ripas
 IsRipasRead s rd _ ripas = Unit {0}
 
 -- ---- what is changed
-
-abbrev pub realm_after : Option RealmUpdate → RealmRecord → RealmRecord
-realm_after None realm = realm
-realm_after (Some update) realm = realm_updated update realm
-
-abbrev pub rec_after : Option RecUpdate → RecRecord → RecRecord
-rec_after None rec = rec
-rec_after (Some update) rec = rec_updated update rec
 
 -- a realm and any REC of it can take the step
 pub record IsStep (step : RecStep) : Type 0 where

@@ -1,15 +1,10 @@
 //! A REC asks to leave to its host, and leaves.
 
-ghost use Rattle.std.specs.Prelude.{◌≡◌, ℕ, IfOk, IsTrue, Some, None};
-ghost use Rattle.rmm_spec.specs.declared.call.Call.TheVariants as call;
+ghost use Rattle.std.specs.Prelude.{◌≡◌, ℕ, IfOk, Some, None};
 ghost use Rattle.rmm_spec.specs.declared.change.RecUpdate.TheVariants as update;
-ghost use Rattle.rmm_spec.specs.declared.command.Command.{Command};
-ghost use Rattle.rmm_spec.specs.Call.{call_of};
 ghost use Rattle.rmm_spec.specs.State.{State};
-ghost use Rattle.rmm_spec.specs.Lookup.{rec_at, is_inside, rec_inside, request_of};
-ghost use Rattle.rmm_spec.specs.Step.{Step};
+ghost use Rattle.rmm_spec.specs.Lookup.{rec_at, request_of};
 ghost use Rattle.rmm_spec.specs.Step.RealmCall.{host_call, cpu_off, system_off, exit_words};
-ghost use Rattle.rmm_spec.specs.Update.{with_rec};
 ghost use Rattle.rec_steps.specs.Answers.{answer_at, IsStep};
 
 use crate::reply::{input_error, reply_words};
@@ -75,14 +70,4 @@ fn exit_words(rec: &Rec) -> [u64; 4]
         },
         Some(PendingExit::HostCall(imm)) => [5, u64::from(imm), 0, 0],
     }
-}
-
-/// The REC that runs leaves to its host, which is told why. What it asked for still stands.
-pub fn exit(rec: &mut Rec) -> Reply
-    ensures step { (s : State) (cpu : ℕ) (command : Command) → call_of command ≡ call.Exit → IsTrue (is_inside s cpu)
-        → s.rec (rec_inside s cpu) ≡ Some rec.old → Step s cpu command result (with_rec s (rec_inside s cpu) rec.new) }
-{
-    let words = exit_words(rec);
-    rec.exit();
-    Reply::Ok(reply_words(&words))
 }

@@ -2,8 +2,7 @@
 
 use crate::reply::reply_words;
 use arrayvec::ArrayVec;
-use realm_desc::{Realm, Rec};
-use rmm_spec::{Accepted, Change, RealmChange, RealmUpdate, RecChange, RecUpdate, Reply};
+use rmm_spec::{Accepted, Change, RealmChange, RealmUpdate, RecChange, RecUpdate};
 
 /// The words of the reply, and what becomes of the two records. Where they lie doesn't matter for either.
 #[derive(Drop)]
@@ -15,7 +14,7 @@ pub struct RecStep {
 
 impl RecStep {
     ghost use Rattle.std.specs.Prelude.{◌≡◌, ◌≤◌, length, [], Some, None};
-    ghost use Rattle.rec_steps.specs.Answers.{accepted_at, realm_after, rec_after, IsStep};
+    ghost use Rattle.rec_steps.specs.Answers.{accepted_at};
 
     /// Nothing changes, and the reply has these words.
     pub(crate) fn read(words: &[u64]) -> RecStep
@@ -55,21 +54,5 @@ impl RecStep {
             words: self.words,
             change,
         }
-    }
-
-    /// Makes the step, and returns its reply.
-    pub(crate) fn apply(self, realm: &mut Realm, rec: &mut Rec) -> Reply
-        requires { IsStep self }
-        ensures reply { result ≡ Reply.Ok self.words }
-        ensures realm { realm.new ≡ realm_after self.realm realm.old }
-        ensures rec { rec.new ≡ rec_after self.rec rec.old }
-    {
-        if let Some(update) = self.realm {
-            realm.update(update);
-        }
-        if let Some(update) = self.rec {
-            rec.update(update);
-        }
-        Reply::Ok(self.words)
     }
 }

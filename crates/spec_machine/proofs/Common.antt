@@ -18,7 +18,6 @@ pub use Rattle.rmm_spec.specs.Step.Ripas.{is_reached, stretch_change}
 pub use Rattle.rmm_spec.proofs.{TagLaws.granule_from_tag, TagLaws.sameb-tag_number, TagLaws.tag-has_tag, Tests.both_ways}
 pub use Rattle.rmm_sound.proofs.{Cases.none_of, Cases.spot_itself, Changes.changed_sound, Runs.done_applies, Runs.reached_applies, Searches.inside_runs, Searches.realm_granule, Searches.realm_there, Searches.rec_granule, Searches.rec_there}
 pub use Rattle.rmm_laws.proofs.{ChangeWords.closed, ChangeWords.opened, ChangeWords.page_closed, ChangeWords.page_opened, Replays.is_reached-reached, Replays.reached-is_reached}
-pub use Rattle.rec_steps.specs.{Answers.IsRipasRead, Answers.answer_at, Held.IsHeld}
 pub use Rattle.flat_tables.proofs.Counts.{any_below-count_below, count_below-le, count_below-more, count_below-same}
 pub use Rattle.rmi_view.specs.Seen.{command_seen, reply_seen}
 pub use Rattle.spec_machine.specs.Kept.{AreNamed, IsKept, names}

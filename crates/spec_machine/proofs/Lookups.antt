@@ -1,5 +1,5 @@
 -- What a machine finds by places is what the definitions search for.
-use Rattle.spec_machine.proofs.Common.{◌≡◌, ℕ, true, is_some, IfSome, IsTrue, slice_index_or, Some, None, Option, IsHeld, IsSound, Machine, RealmRecord, RecRecord, State, ap, both_ways, eq-eqb, has_rec, has_vmid, inside_runs, is_inside, is_vmid_used, names, realm_at, realm_granule, realm_there, rec_granule, rec_inside, refl, runs_on, stored, sym, ◌∙◌}
+use Rattle.spec_machine.proofs.Common.{◌≡◌, ℕ, true, is_some, IfSome, IsTrue, slice_index_or, Some, None, Option, IsSound, Machine, Rd, RealmRecord, Rec, RecRecord, State, ap, both_ways, eq-eqb, has_tag, has_vmid, inside_runs, is_inside, is_vmid_used, names, realm_granule, rec_at, rec_granule, rec_inside, rec_there, refl, runs_on, stored, sym, ◌∙◌}
 use Rattle.spec_machine.proofs.Named.{any_below-named}
 
 pub is_vmid_used-kept : (m : Machine) (vmid : ℕ) → is_vmid_used (stored m.store) vmid ≡ is_some (slice_index_or m.vmids.items vmid None)
@@ -33,10 +33,6 @@ rec_inside-running m cpu (Some g) is =
     let runs : IsTrue (runs_on cpu (s.rec g)) = sym (m.inside cpu g) ∙ sym (ap (names g) is) ∙ eq-eqb g g refl in
     m.kept.sound.recs.alone g (rec_inside s cpu) cpu runs (inside_runs s cpu inside)
 
--- a REC and its realm, as they are found, are what the state holds
-pub held_at : (s : State) (address rd : ℕ) (realm : RealmRecord) (rec : RecRecord) → IsSound s → s.rec address ≡ Some rec → rd ≡ rec.owner
-    → realm ≡ realm_at s rd → IsHeld s address realm rec
-held_at s address rd realm rec sound there is_owner is_realm = record {
-  has_rec = there;
-  has_realm = realm_there s rec.owner sound (sound.recs.owned address rec there) ∙ ap Some (ap (realm_at s) (sym is_owner) ∙ sym is_realm);
-}
+-- each REC has a realm
+pub owner_tagged : (s : State) → IsSound s → (rec : ℕ) → IsTrue (has_tag s rec Rec) → IsTrue (has_tag s (rec_at s rec).owner Rd)
+owner_tagged s sound rec tag = sound.recs.owned rec (rec_at s rec) (rec_there s rec sound tag)
