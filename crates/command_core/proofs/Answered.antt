@@ -1,9 +1,8 @@
 -- Two states that agree on what a command's rows look up answer it alike: one lemma a command.
-use Rattle.std.proofs.Common.{◌≡◌, ℕ, Bool, true, false, not, ◌&&◌, ◌==◌, if◌then◌else◌, List, [], ◌∷◌, Result, Ok, Err, refl}
+use Rattle.std.proofs.Common.{◌≡◌, ℕ, Bool, true, false, not, ◌&&◌, ◌==◌, if◌then◌else◌, List, [], ◌∷◌, Err, refl}
 use Rattle.std.specs.Prelude.{is_none, nat_lt, nat_le}
-use Rattle.rmm_spec.specs.declared.accepted.Accepted.{Accepted}
+use Rattle.rmm_spec.specs.declared.change.Change.{Change}
 use Rattle.rmm_spec.specs.declared.change.Change.TheVariants.{RealmDestroyed, RecMade}
-use Rattle.rmm_spec.specs.declared.reply.Reply.{Reply}
 use Rattle.rmm_spec.specs.declared.tag.Tag.TheVariants.{Undelegated, Delegated, Rd, Rec}
 use Rattle.rmm_spec.specs.State.{State}
 use Rattle.rmm_spec.specs.Lookup.{has_tag, realm_at, rec_at, is_new}
@@ -16,14 +15,15 @@ use Rattle.rmm_spec.specs.Step.Realm.{realm_create_told, realm_activate, realm_d
 use Rattle.rmm_spec.specs.Step.Rec.{rec_create, rec_destroy, rec_enter}
 use Rattle.rmm_spec.specs.Step.RealmCall.{measurement_read, measurement_extend, realm_config, ipa_state_set, host_call, cpu_off, system_off, rec_exit}
 use Rattle.rmm_spec.specs.Local.{Hold}
-use Rattle.command_core.specs.Changed.{CanAnswer}
+use Rattle.command_core.specs.Changed.{CanChange, CanAnswer}
 
 -- what the rows refuse needs nothing of what is held
-pub can-decided : (cpu : ℕ) (hold : Hold) (rows : List Row) (accepted : Accepted) → CanAnswer cpu hold (Ok accepted) → CanAnswer cpu hold (decided rows accepted)
-can-decided cpu hold [] accepted can = can
-can-decided cpu hold (first ∷ rows) accepted can = by first.holds (can-decided cpu hold rows accepted can)
+pub can-done : (cpu : ℕ) (hold : Hold) (change : Change) (words : List ℕ) (rows : List Row) → CanChange cpu hold change → CanAnswer cpu hold (decided rows (done words change))
+can-done cpu hold change words [] can = can
+can-done cpu hold change words (first ∷ rows) can = by first.holds (can-done cpu hold change words rows can)
   where
-    by : (b : Bool) → CanAnswer cpu hold (decided rows accepted) → CanAnswer cpu hold (if b then decided rows accepted else Err first.otherwise)
+    by : (b : Bool) → CanAnswer cpu hold (decided rows (done words change))
+        → CanAnswer cpu hold (if b then decided rows (done words change) else Err first.otherwise)
     by true later = later
     by false later = tt
 

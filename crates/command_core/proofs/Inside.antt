@@ -5,6 +5,9 @@ use Rattle.std.proofs.lemmas.Bool.{false≢true, and_parts, or_parts, not-false}
 use Rattle.rmm_spec.specs.declared.accepted.Accepted.{Accepted}
 use Rattle.rmm_spec.specs.declared.call.Call.{Call}
 use Rattle.rmm_spec.specs.declared.call.Call.TheVariants as call
+use Rattle.rmm_spec.specs.declared.change.Change.TheVariants.{Unchanged, RecordsChanged}
+use Rattle.rmm_spec.specs.declared.change.RealmUpdate.TheVariants as realm_update
+use Rattle.rmm_spec.specs.declared.change.RecUpdate.TheVariants as rec_update
 use Rattle.rmm_spec.specs.declared.reply.Reply.{Reply}
 use Rattle.rmm_spec.specs.declared.reply.Reply.TheVariants as reply
 use Rattle.rmm_spec.specs.declared.tag.Tag.TheVariants as tag
@@ -12,8 +15,9 @@ use Rattle.rmm_spec.specs.Call.{Class, ByHost, ByRealm, ByExit, class_of}
 use Rattle.rmm_spec.specs.State.{State, RecRecord}
 use Rattle.rmm_spec.specs.Lookup.{is_granule, has_tag, realm_at, rec_at}
 use Rattle.rmm_spec.specs.Rows.{Needed}
+use Rattle.rmm_spec.specs.Step.Front.{with_front}
 use Rattle.rmm_spec.specs.Step.Named.{needed}
-use Rattle.rmm_spec.specs.Step.RealmCall.{measurement_read, measurement_extend, realm_config, ipa_state_set, host_call, cpu_off, system_off, rec_exit}
+use Rattle.rmm_spec.specs.Step.RealmCall.{measurement_read, measurement_extend, realm_config, ipa_state_set, host_call, cpu_off, system_off, rec_exit, rec_change, realm_change, ripas_asked}
 use Rattle.rmm_spec.specs.Cell.{Cell, Undelegated, Delegated, Rd, Rec, RecAux, Data, Rtt, tag_of}
 use Rattle.rmm_spec.specs.Shape.{Inside}
 use Rattle.rmm_spec.specs.Local.{HeldCell, Hold}
@@ -28,7 +32,7 @@ use Rattle.command_core.specs.Named.{has_wrong}
 use Rattle.command_core.specs.Unshaped.{has_other_owner, is_misfit}
 use Rattle.command_core.specs.Settled.{is_settled_inside}
 use Rattle.command_core.proofs.Answered
-use Rattle.command_core.proofs.Answered.{can-decided}
+use Rattle.command_core.proofs.Answered.{can-done}
 use Rattle.command_core.proofs.Fronts.{named-cell}
 use Rattle.command_core.proofs.SeenStates.{realm-same, rec-same, tag-seen, rec-seen}
 use Rattle.command_core.proofs.Wholes.{Whole, state}
@@ -91,8 +95,8 @@ fitting-realm granules rec rd held fits holds =
     tag-seen granules held rd at.cell tag.Rd parts.of_rd at.found at.tagged
 
 or_right : (b c : Bool) → b ≡ false → (b || c) ≡ true → c ≡ true
-or_right false c no is = is
-or_right true c no is = absurd (false≢true (sym no))
+or_right false c fails is = is
+or_right true c fails is = absurd (false≢true (sym fails))
 
 -- a command whose place fits may be given there
 pub settled-inside : (granules rec rd : ℕ) (held : List HeldCell) (k : Class) → is_misfit granules rec rd held ≡ false
@@ -127,19 +131,27 @@ call_row-same s t rec _ served same realm = refl
 can-call : (cpu : ℕ) (hold : Hold) (s : State) (rec : ℕ) (c : Call) → is_served c ≡ true → is_held rec hold.cells ≡ true
     → is_held (rec_at s rec).owner hold.cells ≡ true → CanAnswer cpu hold (call_row s rec c)
 unfolding call_row is_served new_cells measurement_read measurement_extend realm_config ipa_state_set host_call cpu_off system_off
-can-call cpu hold s rec (call.MeasurementRead index) served held owner = can-decided cpu hold _ _ (record { held = tt; here = tt })
-can-call cpu hold s rec (call.MeasurementExtend index size values) served held owner = can-decided cpu hold _ _ (record { held = (owner, tt); here = tt })
-can-call cpu hold s rec call.RealmConfig served held owner = can-decided cpu hold _ _ (record { held = tt; here = tt })
-can-call cpu hold s rec (call.IpaStateSet base top ripas) served held owner = can-decided cpu hold _ _ (record { held = (held, tt); here = tt })
-can-call cpu hold s rec (call.HostCall imm) served held owner = can-decided cpu hold _ _ (record { held = (held, tt); here = tt })
-can-call cpu hold s rec call.CpuOff served held owner = can-decided cpu hold _ _ (record { held = (held, tt); here = tt })
-can-call cpu hold s rec call.SystemOff served held owner = can-decided cpu hold _ _ (record { held = (owner, (held, tt)); here = tt })
+can-call cpu hold s rec (call.MeasurementRead index) served held owner =
+    can-done cpu hold Unchanged _ (with_front s (call.MeasurementRead index) _) (record { held = tt; here = tt })
+can-call cpu hold s rec (call.MeasurementExtend index size values) served held owner =
+    can-done cpu hold (realm_change (rec_at s rec).owner (realm_update.MeasurementExtended index size values)) _ (with_front s (call.MeasurementExtend index size values) _) (record { held = (owner, tt); here = tt })
+can-call cpu hold s rec call.RealmConfig served held owner =
+    can-done cpu hold Unchanged _ (with_front s call.RealmConfig _) (record { held = tt; here = tt })
+can-call cpu hold s rec (call.IpaStateSet base top ripas) served held owner =
+    can-done cpu hold (rec_change rec (rec_update.RipasRequested base top (ripas_asked ripas))) _ (with_front s (call.IpaStateSet base top ripas) _) (record { held = (held, tt); here = tt })
+can-call cpu hold s rec (call.HostCall imm) served held owner =
+    can-done cpu hold (rec_change rec (rec_update.HostCalled imm)) _ (with_front s (call.HostCall imm) _) (record { held = (held, tt); here = tt })
+can-call cpu hold s rec call.CpuOff served held owner =
+    can-done cpu hold (rec_change rec rec_update.TurnedOff) _ (with_front s call.CpuOff _) (record { held = (held, tt); here = tt })
+can-call cpu hold s rec call.SystemOff served held owner =
+    can-done cpu hold (RecordsChanged (Some (record { rd = (rec_at s rec).owner; update = realm_update.TurnedOff })) (Some (record { rec = rec; update = rec_update.SystemTurnedOff }))) _ (with_front s call.SystemOff _) (record { held = (owner, (held, tt)); here = tt })
 can-call cpu hold s rec (call.IpaStateGet ipa) served held owner = absurd (false≢true served)
 can-call cpu hold s rec _ served held owner = tt
 
 can-exit : (cpu : ℕ) (hold : Hold) (s : State) (rec rd : ℕ) → hold.place ≡ Inside rec rd → is_held rec hold.cells ≡ true → CanAnswer cpu hold (rec_exit s rec)
 unfolding rec_exit new_cells
-can-exit cpu hold s rec rd place held = can-decided cpu hold _ _ (record { held = (held, tt); here = (rd, place) })
+can-exit cpu hold s rec rd place held =
+    can-done cpu hold (rec_change rec rec_update.Exited) _ (with_front s call.Exit _) (record { held = (held, tt); here = (rd, place) })
 
 -- ---- any command
 

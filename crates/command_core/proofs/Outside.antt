@@ -6,6 +6,9 @@ use Rattle.std.proofs.lemmas.Bool.{false≢true, and_parts}
 use Rattle.rmm_spec.specs.declared.accepted.Accepted.{Accepted}
 use Rattle.rmm_spec.specs.declared.call.Call.{Call}
 use Rattle.rmm_spec.specs.declared.call.Call.TheVariants as call
+use Rattle.rmm_spec.specs.declared.change.Change.TheVariants.{Retagged, RealmMade, RealmDestroyed, RecMade, RecDestroyed}
+use Rattle.rmm_spec.specs.declared.change.RealmUpdate.TheVariants.{Activated}
+use Rattle.rmm_spec.specs.declared.change.RecUpdate.TheVariants.{Entered}
 use Rattle.rmm_spec.specs.declared.reply.Reply.{Reply}
 use Rattle.rmm_spec.specs.declared.tag.Tag.TheVariants as tag
 use Rattle.rmm_spec.specs.Call.{ByHost, class_of}
@@ -14,11 +17,13 @@ use Rattle.rmm_spec.specs.Lookup.{is_granule, realm_at, rec_at, is_vmid_used, ha
 use Rattle.rmm_spec.specs.Rows.{Needed}
 use Rattle.rmm_spec.specs.Walk.{has_link}
 use Rattle.rmm_spec.specs.Step.{answer_of}
+use Rattle.rmm_spec.specs.Step.Front.{with_front}
 use Rattle.rmm_spec.specs.Step.Words.{words_of}
 use Rattle.rmm_spec.specs.Step.Named.{named}
 use Rattle.rmm_spec.specs.Step.Granule.{granule_delegate, granule_undelegate}
 use Rattle.rmm_spec.specs.Step.Realm.{realm_activate}
 use Rattle.rmm_spec.specs.Step.Rec.{rec_create, rec_destroy, rec_enter}
+use Rattle.rmm_spec.specs.Step.RealmCall.{rec_change, realm_change}
 use Rattle.rmm_spec.specs.Cell.{Cell, Rd, Rec, Rtt, table_in, tables_of, realm_in}
 use Rattle.rmm_spec.specs.Shape.{HoldsTable}
 use Rattle.rmm_spec.specs.Local.{HeldCell, Hold}
@@ -31,7 +36,7 @@ use Rattle.command_core.specs.Changed.{new_cells, CanAnswer}
 use Rattle.command_core.specs.Named.{words_fit, holds_all}
 use Rattle.command_core.specs.Settled.{is_root_held, are_auxes_held, is_realm_in, is_owner_held, is_complete}
 use Rattle.command_core.proofs.Answered
-use Rattle.command_core.proofs.Answered.{can-decided}
+use Rattle.command_core.proofs.Answered.{can-done}
 use Rattle.command_core.proofs.SeenStates.{tag-same, realm-same, rec-same, tag-seen, rec-seen, realm-seen}
 use Rattle.command_core.proofs.SeenTables.{table_cell, links-same}
 use Rattle.command_core.proofs.Wholes.{Whole, state, whole_cell, realm_at-cell, has_rec-counted, is_vmid_used-listed}
@@ -123,7 +128,7 @@ realm_destroy-told : (granules cpu : ℕ) (hold : Hold) (rd : ℕ) → is_granul
     → is_root_held o hold.cells ≡ true → IsToldOutside granules cpu hold (call.RealmDestroy rd)
 unfolding outside_answer new_cells
 realm_destroy-told granules cpu hold rd granule (Some (Rd realm)) found root = record {
-  can = can-decided cpu hold _ _
+  can = can-done cpu hold (RealmDestroyed rd (realm_at (seen_state granules hold.cells) rd).root) _ (with_front (seen_state granules hold.cells) (call.RealmDestroy rd) _)
       (record { held = (held, (subst (λ (r : RealmRecord). is_held r.root hold.cells ≡ true) (sym seen) root, tt)); here = tt });
   same = λ w.
       let s = state granules cpu hold w in
@@ -147,7 +152,8 @@ realm_destroy-told granules cpu hold rd granule _ found root = absurd (false≢t
 rec_destroy-can : (cpu : ℕ) (hold : Hold) (s : State) (rec : ℕ) → is_held rec hold.cells ≡ true → is_held (rec_at s rec).aux0 hold.cells ≡ true
     → is_held (rec_at s rec).aux1 hold.cells ≡ true → CanAnswer cpu hold (rec_destroy s rec)
 unfolding rec_destroy new_cells
-rec_destroy-can cpu hold s rec held aux0 aux1 = can-decided cpu hold _ _ (record { held = (held, (aux0, (aux1, tt))); here = tt })
+rec_destroy-can cpu hold s rec held aux0 aux1 =
+    can-done cpu hold (RecDestroyed rec (rec_at s rec).aux0 (rec_at s rec).aux1) _ (with_front s (call.RecDestroy rec) _) (record { held = (held, (aux0, (aux1, tt))); here = tt })
 
 rec_destroy-told : (granules cpu : ℕ) (hold : Hold) (rec : ℕ) → is_granule granules rec ≡ true → (o : Option Cell) → cell_in rec hold.cells ≡ o
     → are_auxes_held o hold.cells ≡ true → IsToldOutside granules cpu hold (call.RecDestroy rec)
@@ -186,7 +192,7 @@ rec_enter-told : (granules cpu : ℕ) (hold : Hold) (rec : ℕ) → is_granule g
     → is_owner_held o hold.cells ≡ true → IsToldOutside granules cpu hold (call.RecEnter rec)
 unfolding outside_answer answer_of class_of rec_enter new_cells
 rec_enter-told granules cpu hold rec granule (Some (Rec it)) found owner = record {
-  can = can-decided cpu hold _ _ (record { held = (held, tt); here = refl });
+  can = can-done cpu hold (rec_change rec (Entered cpu)) _ (with_front (seen_state granules hold.cells) (call.RecEnter rec) _) (record { held = (held, tt); here = refl });
   same = λ w.
       let s = state granules cpu hold w in
       let t = seen_state granules hold.cells in
@@ -210,23 +216,27 @@ pub complete-told : (granules cpu : ℕ) (hold : Hold) (c : Call) → is_served 
 unfolding is_served class_of is_complete outside_answer answer_of granule_delegate granule_undelegate realm_activate rec_create new_cells
 complete-told granules cpu hold (call.GranuleDelegate g) served host fits complete =
     let held = delegate-held hold.cells g complete in record {
-      can = can-decided cpu hold _ _ (record { held = (held, tt); here = tt });
+      can = can-done cpu hold (Retagged (record { granule = g; tag = tag.Delegated })) _ (with_front (seen_state granules hold.cells) (call.GranuleDelegate g) _)
+          (record { held = (held, tt); here = tt });
       same = λ w. Answered.granule_delegate-same (state granules cpu hold w) (seen_state granules hold.cells) g (tag-same granules cpu hold w g tag.Undelegated held);
     }
 complete-told granules cpu hold (call.GranuleUndelegate g) served host fits complete =
     let held = undelegate-held hold.cells g complete in record {
-      can = can-decided cpu hold _ _ (record { held = (held, tt); here = tt });
+      can = can-done cpu hold (Retagged (record { granule = g; tag = tag.Undelegated })) _ (with_front (seen_state granules hold.cells) (call.GranuleUndelegate g) _)
+          (record { held = (held, tt); here = tt });
       same = λ w. Answered.granule_undelegate-same (state granules cpu hold w) (seen_state granules hold.cells) g (tag-same granules cpu hold w g tag.Delegated held);
     }
 complete-told granules cpu hold (call.RealmActivate rd) served host fits complete =
     let held = activate-held hold.cells rd complete in record {
-      can = can-decided cpu hold _ _ (record { held = (held, tt); here = tt });
+      can = can-done cpu hold (realm_change rd Activated) _ (with_front (seen_state granules hold.cells) (call.RealmActivate rd) _)
+          (record { held = (held, tt); here = tt });
       same = λ w. Answered.realm_activate-same (state granules cpu hold w) (seen_state granules hold.cells) rd
           (tag-same granules cpu hold w rd tag.Rd held) (realm-same granules cpu hold w rd held);
     }
 complete-told granules cpu hold (call.RealmCreate rd root width level vmid algo) served host fits complete =
     let held = realm_create-held hold.cells rd root width level vmid algo complete in record {
-      can = can-decided cpu hold _ _ (record { held = (held.0, (held.1, tt)); here = tt });
+      can = can-done cpu hold (RealmMade rd root width level vmid algo) _ (with_front (seen_state granules hold.cells) (call.RealmCreate rd root width level vmid algo) _)
+          (record { held = (held.0, (held.1, tt)); here = tt });
       same = λ w. Answered.realm_create-same (state granules cpu hold w) (seen_state granules hold.cells) rd root width level vmid algo
           (is_vmid_used (state granules cpu hold w) vmid) (is_vmid_listed hold.side vmid)
           (tag-same granules cpu hold w rd tag.Delegated held.0) (tag-same granules cpu hold w root tag.Delegated held.1)
@@ -234,7 +244,8 @@ complete-told granules cpu hold (call.RealmCreate rd root width level vmid algo)
     }
 complete-told granules cpu hold (call.RecCreate rd rec mpidr flags aux0 aux1) served host fits complete =
     let held = rec_create-held hold.cells rd rec mpidr flags aux0 aux1 complete in record {
-      can = can-decided cpu hold _ _ (record { held = (held.of_rec, (held.of_aux0, (held.of_aux1, (held.of_rd, tt)))); here = tt });
+      can = can-done cpu hold (RecMade rd rec mpidr flags aux0 aux1) _ (with_front (seen_state granules hold.cells) (call.RecCreate rd rec mpidr flags aux0 aux1) _)
+          (record { held = (held.of_rec, (held.of_aux0, (held.of_aux1, (held.of_rd, tt)))); here = tt });
       same = λ w. Answered.rec_create-same (state granules cpu hold w) (seen_state granules hold.cells) rd rec mpidr flags aux0 aux1
           (tag-same granules cpu hold w rd tag.Rd held.of_rd) (tag-same granules cpu hold w rec tag.Delegated held.of_rec)
           (tag-same granules cpu hold w aux0 tag.Delegated held.of_aux0) (tag-same granules cpu hold w aux1 tag.Delegated held.of_aux1)

@@ -12,7 +12,7 @@ use Rattle.rmm_spec.specs.declared.command.Command.{Command}
 use Rattle.rmm_spec.specs.declared.reply.Reply.{Reply}
 use Rattle.rmm_spec.specs.declared.reply.Reply.TheVariants as reply
 use Rattle.rmm_spec.specs.Call.{Class, ByHost, ByRealm, ByExit, call_of, class_of}
-use Rattle.rmm_spec.specs.Lookup.{rec_inside}
+use Rattle.rmm_spec.specs.State.{State}
 use Rattle.rmm_spec.specs.Rows.{input_error}
 use Rattle.rmm_spec.specs.Step.{outcome}
 use Rattle.rmm_spec.specs.Step.Named.{named}
@@ -109,17 +109,12 @@ host-ready granules cpu command hold served host place shaped settled =
         (is_inside-outside granules hold.side w.places w.cells w.shaped cpu (w.placed ∙ place))) ∙ told.same w)
 
 -- no other command is given there
-realm-misplaced : (vmids recs : ℕ → Bool) (granules : ℕ) (held : List HeldCell) (cpu : ℕ) (c : Call) → class_of c ≡ ByRealm
-    → outside_answer vmids recs (seen_state granules held) cpu c ≡ Err reply.Misplaced
+other-answer : (vmids recs : ℕ → Bool) (s : State) (cpu : ℕ) (c : Call) (k : Class) → class_of c ≡ k → (k ≡ ByHost → ⊥)
+    → outside_answer vmids recs s cpu c ≡ host_answer k s cpu c
 unfolding outside_answer class_of
-realm-misplaced vmids recs granules held cpu (call.MeasurementRead index) realm = refl
-realm-misplaced vmids recs granules held cpu _ realm = first_of (refl, absurd cc)
-
-exit-misplaced : (vmids recs : ℕ → Bool) (granules : ℕ) (held : List HeldCell) (cpu : ℕ) (c : Call) → class_of c ≡ ByExit
-    → outside_answer vmids recs (seen_state granules held) cpu c ≡ Err reply.Misplaced
-unfolding outside_answer class_of
-exit-misplaced vmids recs granules held cpu call.Exit exit = refl
-exit-misplaced vmids recs granules held cpu _ exit = absurd cc
+other-answer vmids recs s cpu (call.RealmCreate rd root width level vmid algo) k is other = absurd (other (sym is))
+other-answer vmids recs s cpu (call.RealmDestroy rd) k is other = absurd (other (sym is))
+other-answer vmids recs s cpu c k is other = ap (λ x. host_answer x s cpu c) is
 
 -- ---- any command
 
@@ -140,11 +135,11 @@ settled-answered granules cpu command hold served settled = by (is_unshaped gran
     outside ByHost host place shaped is = host-ready granules cpu command hold served host place shaped is
     outside ByRealm realm place shaped is =
         subst (λ (answer : Result Accepted Reply). IsAnswer granules cpu command hold (made_answer granules hold.cells hold.side answer))
-        (sym (realm-misplaced (is_vmid_listed hold.side) (are_recs_counted hold.side) granules hold.cells cpu c realm))
+        (sym (other-answer (is_vmid_listed hold.side) (are_recs_counted hold.side) (seen_state granules hold.cells) cpu c ByRealm realm (λ same. cc)))
         (refused granules cpu command hold reply.Misplaced (outside-is_local granules cpu command hold (inl realm) place))
     outside ByExit exit place shaped is =
         subst (λ (answer : Result Accepted Reply). IsAnswer granules cpu command hold (made_answer granules hold.cells hold.side answer))
-        (sym (exit-misplaced (is_vmid_listed hold.side) (are_recs_counted hold.side) granules hold.cells cpu c exit))
+        (sym (other-answer (is_vmid_listed hold.side) (are_recs_counted hold.side) (seen_state granules hold.cells) cpu c ByExit exit (λ same. cc)))
         (refused granules cpu command hold reply.Misplaced (outside-is_local granules cpu command hold (inr exit) place))
 
     inside : (rec rd : ℕ) → hold.place ≡ Inside rec rd → is_misfit granules rec rd hold.cells ≡ false

@@ -19,6 +19,7 @@ use Rattle.rmm_spec.specs.Flat.{flat_state, is_table_of}
 use Rattle.rmm_spec.specs.Shape.{HoldsTable}
 use Rattle.rmm_spec.specs.Local.{HeldCell, Hold, granules_held}
 use Rattle.world_laws.proofs.Members.{Contains-nil, Contains-other}
+use Rattle.world_laws.proofs.Placed.{any_below-from}
 use Rattle.command_core.specs.Seen.{cell_in, is_held}
 use Rattle.command_core.specs.SeenState.{table_held, found_or, table_placed, entry_in, entry_held, link_of, linked_or, table_seen, leaf_seen, seen_state}
 use Rattle.command_core.proofs.SeenCells.{held-contains}
@@ -170,9 +171,12 @@ pub reach-up : (s : State) (rd ipa level : ℕ) → (level == 0) ≡ false
     → reach s rd ipa level ≡ (if is_some (s.table rd level (table_number level ipa)) then level else reach s rd ipa (level - 1))
 unfolding reach
 reach-up s rd ipa zero root = absurd (false≢true (sym root))
-reach-up s rd ipa (suc level) below = refl
+reach-up s rd ipa (suc level) below = let above : suc level - 1 ≡ level = omega arith in rw above refl
 
 -- ---- loops over the entries of a table
 
-pub none-more : (passes : ℕ → Bool) (n : ℕ) → any_below n passes ≡ false → passes n ≡ false → any_below (n + 1) passes ≡ false
-none-more passes n none fails = rw (add-one n, fails) none
+pub found-within : (passes : ℕ → Bool) (k : ℕ) → k < 512 → true ≡ passes k → true ≡ any_below 512 passes
+found-within passes k within is = sym (any_below-from 512 passes k within (sym is))
+
+pub none-within : (passes : ℕ → Bool) (n : ℕ) → n ≡ 512 → any_below n passes ≡ false → false ≡ any_below 512 passes
+none-within passes n all none = sym none ∙ ap (λ k. any_below k passes) all

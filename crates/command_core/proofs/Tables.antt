@@ -24,7 +24,7 @@ tests_pass : (a b c d e f : ℕ) → a ≡ b → c ≡ d → e ≡ f → (a == b
 tests_pass a b c d e f ab cd ef = grind (arith, nat_tests)
 
 -- a granule that passes holds the table
-HoldsTable-from_test : (tables : ℕ → Option TableRecord) (g rd level number : ℕ) → is_table_of rd level number (tables g) ≡ true → HoldsTable tables g rd level number
+pub HoldsTable-from_test : (tables : ℕ → Option TableRecord) (g rd level number : ℕ) → is_table_of rd level number (tables g) ≡ true → HoldsTable tables g rd level number
 HoldsTable-from_test tables g rd level number passes = by (tables g) refl passes
   where
     by : (o : Option TableRecord) → tables g ≡ o → is_table_of rd level number o ≡ true → HoldsTable tables g rd level number

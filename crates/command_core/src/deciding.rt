@@ -14,7 +14,7 @@ use crate::held::Held;
 use crate::held_sight::HeldSight;
 use crate::making::can_make;
 use crate::unshaped::is_unshaped;
-use command_rows::{answer_inside, answer_outside};
+use crate::dispatch::{answer_inside, answer_outside};
 use granule_cells::{CpuPlace, Side};
 use granule_state::Config;
 use rmm_spec::{Accepted, Call, Change, Command, Reply};

@@ -8,6 +8,7 @@
 mod applying;
 mod change_room;
 mod deciding;
+mod dispatch;
 mod held;
 mod held_sight;
 mod held_tables;

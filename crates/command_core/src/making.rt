@@ -1,6 +1,6 @@
 //! Whether a change can be made of what is held.
 
-ghost use Rattle.std.specs.Prelude.{◌≡◌, option_map, option_copied, unwrap_or};
+ghost use Rattle.std.specs.Prelude.{◌≡◌, ◌&&◌, ◌==◌, nat_le, length, option_map, option_copied, unwrap_or};
 ghost use Rattle.rmm_spec.specs.Cell as whole;
 ghost use Rattle.command_core.specs.Changed as spec;
 ghost use Rattle.command_core.specs.Seen.{cell_of};
@@ -34,15 +34,31 @@ fn counts_in(mpidr: u8, cell: Option<&Cell>) -> bool
     }
 }
 
+// Whether a realm has the measurement, and the values as many bytes.
+fn is_extension(index: u8, size: u8, values: &[u64; 8]) -> bool
+    ensures { result ≡ (nat_le 1 index && nat_le index 4 && nat_le size 0x40 && length values.now == 8) }
+{
+    1 <= index && index <= 4 && size <= 0x40 && values.len() == 8
+}
+
+// Whether the digest has as many words as one has.
+fn is_digest(digest: &[u64; 4]) -> bool
+    ensures { result ≡ (length digest.now == 4) }
+{
+    digest.len() == 4
+}
+
 // Whether a realm's measurements are extended within what they have.
 fn is_realm_update(update: &RealmUpdate) -> bool
     ensures { result ≡ spec.is_realm_update update.now }
 {
     match update {
-        RealmUpdate::MeasurementExtended { index, size, values } => {
-            1 <= *index && *index <= 4 && *size <= 0x40 && values.len() == 8
-        }
-        RealmUpdate::PageMeasured { digest, .. } => digest.len() == 4,
+        RealmUpdate::MeasurementExtended {
+            index,
+            size,
+            values,
+        } => is_extension(*index, *size, values),
+        RealmUpdate::PageMeasured { digest, .. } => is_digest(digest),
         RealmUpdate::RecCounted { .. } => false,
         RealmUpdate::Activated | RealmUpdate::TurnedOff | RealmUpdate::StretchMeasured { .. } => true,
     }
