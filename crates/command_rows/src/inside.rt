@@ -1,6 +1,7 @@
 //! What is answered to a CPU that is inside a REC: the calls of a realm, and the exit to its host.
 
 ghost use Rattle.std.specs.Prelude.{◌≡◌, IfSome, IsTrue, is_some};
+ghost use Rattle.rmm_spec.specs.declared.tag.Tag.TheVariants as tag;
 ghost use Rattle.rmm_spec.specs.Lookup as look;
 ghost use Rattle.rmm_spec.specs.State.{RealmRecord};
 ghost use Rattle.rmm_spec.specs.Step.RealmCall as spec;
@@ -30,15 +31,15 @@ pub fn answer_inside<S: Sight>(sight: &S, rec: u64, call: &Call) -> Result<Accep
 
 // A realm calls from the REC, which may wait to leave.
 fn realm_called<S: Sight>(sight: &S, address: u64, call: &Call) -> Result<Accepted, Reply>
-    requires rec { IsTrue (look.has_tag (S.state sight.now) address Tag.Rec) }
-    requires realm { IsTrue (look.has_tag (S.state sight.now) (look.rec_at (S.state sight.now) address).owner Tag.Rd) }
+    requires rec { IsTrue (look.has_tag (S.state sight.now) address tag.Rec) }
+    requires realm { IsTrue (look.has_tag (S.state sight.now) (look.rec_at (S.state sight.now) address).owner tag.Rd) }
     ensures { result ≡ realm_answer (S.state sight.now) address call.now }
 {
     let rec = rec_at(sight, address);
     if !rec.can_call() {
         return Err(Reply::Misplaced);
     }
-    let rd = rec.owner.address();
+    let rd = owner(&rec);
     let Some(realm) = sight.realm(rd) else {
         unreachable!()
     };
@@ -48,17 +49,17 @@ fn realm_called<S: Sight>(sight: &S, address: u64, call: &Call) -> Result<Accept
 
 // The REC leaves to its host.
 fn left<S: Sight>(sight: &S, address: u64) -> Result<Accepted, Reply>
-    requires { IsTrue (look.has_tag (S.state sight.now) address Tag.Rec) }
+    requires { IsTrue (look.has_tag (S.state sight.now) address tag.Rec) }
     ensures { result ≡ spec.rec_exit (S.state sight.now) address }
 {
     let rec = rec_at(sight, address);
-    accepted_at(rec.owner.address(), address, Ok(answer_to_exit(&rec)))
+    accepted_at(owner(&rec), address, Ok(answer_to_exit(&rec)))
 }
 
 // The REC of its own granule.
 #[tactic(auto, unfolding(rmm_spec::specs::Lookup::rec_at))]
 fn rec_at<S: Sight>(sight: &S, address: u64) -> Rec
-    requires { IsTrue (look.has_tag (S.state sight.now) address Tag.Rec) }
+    requires { IsTrue (look.has_tag (S.state sight.now) address tag.Rec) }
     ensures { result ≡ look.rec_at (S.state sight.now) address }
 {
     let Some(rec) = sight.rec(address) else {
@@ -76,4 +77,12 @@ fn ripas_read<S: Sight>(sight: &S, rd: u64, call: &Call) -> Option<Ripas>
         Call::IpaStateGet { ipa } => Some(entry_ripas(sight.walk(rd, *ipa, 3).entry)),
         _ => None,
     }
+}
+
+/// The realm that a REC belongs to, by the address of its descriptor.
+#[tactic(auto, unfolding(realm_desc::specs::View::rec_record))]
+pub(crate) fn owner(rec: &Rec) -> u64
+    ensures { result ≡ rec.now.owner }
+{
+    rec.owner.address()
 }

@@ -5,6 +5,7 @@ ghost use Rattle.rmm_spec.specs.declared.call.Call.TheVariants.{RecEnter};
 ghost use Rattle.rmm_spec.specs.Step.Rec as spec;
 ghost use Rattle.command_rows.specs.Answers.{IsOwned};
 
+use crate::inside::owner;
 use crate::reply::{accepted_at, done};
 use crate::sight::Sight;
 use command_words::are_apart;
@@ -76,7 +77,7 @@ pub(crate) fn rec_destroy<S: Sight>(sight: &S, address: u64) -> Result<Accepted,
     }))
 }
 
-#[tactic(auto, unfolding(realm_desc::specs::View::rec_record))]
+#[tactic(auto, unfolding(rmm_spec::specs::Step::Rec::rec_enter, rmm_spec::specs::Step::Words::words_of, rmm_spec::specs::Step::Named::named))]
 pub(crate) fn rec_enter<S: Sight>(sight: &S, cpu: u8, address: u64) -> Result<Accepted, Reply>
     requires { IsOwned (S.state sight.now) (RecEnter address) }
     ensures { result ≡ spec.rec_enter (S.state sight.now) cpu address }
@@ -84,7 +85,7 @@ pub(crate) fn rec_enter<S: Sight>(sight: &S, cpu: u8, address: u64) -> Result<Ac
     let Some(rec) = sight.rec(address) else {
         return Err(input_error());
     };
-    let rd = rec.owner.address();
+    let rd = owner(&rec);
     let Some(realm) = sight.realm(rd) else {
         unreachable!()
     };

@@ -12,7 +12,12 @@ use table_entries::{entry_size, is_unassigned};
 
 #[tactic(auto, unfolding(rmm_spec::specs::Step::Ripas::rtt_init_ripas, rmm_spec::specs::Step::Words::words_of, rmm_spec::specs::Step::Named::named, rmm_spec::specs::Lookup::realm_at))]
 #[inline(never)]
-pub(crate) fn rtt_init_ripas<S: Sight>(sight: &S, rd: u64, base: u64, top: u64) -> Result<Accepted, Reply>
+pub(crate) fn rtt_init_ripas<S: Sight>(
+    sight: &S,
+    rd: u64,
+    base: u64,
+    top: u64,
+) -> Result<Accepted, Reply>
     ensures { result ≡ spec.rtt_init_ripas (S.state sight.now) rd base top }
 {
     if !(is_page(base) && is_page(top)) {

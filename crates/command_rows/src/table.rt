@@ -63,7 +63,12 @@ pub(crate) fn rtt_create<S: Sight>(
 
 #[tactic(auto, unfolding(rmm_spec::specs::Step::Table::rtt_destroy, rmm_spec::specs::Step::Words::words_of, rmm_spec::specs::Step::Named::named, rmm_spec::specs::Lookup::realm_at))]
 #[inline(never)]
-pub(crate) fn rtt_destroy<S: Sight>(sight: &S, rd: u64, ipa: u64, level: u64) -> Result<Accepted, Reply>
+pub(crate) fn rtt_destroy<S: Sight>(
+    sight: &S,
+    rd: u64,
+    ipa: u64,
+    level: u64,
+) -> Result<Accepted, Reply>
     ensures { result ≡ spec.rtt_destroy (S.state sight.now) rd ipa level }
 {
     if level > 3 {
@@ -107,7 +112,12 @@ pub(crate) fn rtt_destroy<S: Sight>(sight: &S, rd: u64, ipa: u64, level: u64) ->
 
 #[tactic(auto, unfolding(rmm_spec::specs::Step::Table::rtt_read_entry, rmm_spec::specs::Step::Words::words_of, rmm_spec::specs::Step::Named::named, rmm_spec::specs::Lookup::realm_at))]
 #[inline(never)]
-pub(crate) fn rtt_read_entry<S: Sight>(sight: &S, rd: u64, ipa: u64, level: u64) -> Result<Accepted, Reply>
+pub(crate) fn rtt_read_entry<S: Sight>(
+    sight: &S,
+    rd: u64,
+    ipa: u64,
+    level: u64,
+) -> Result<Accepted, Reply>
     ensures { result ≡ spec.rtt_read_entry (S.state sight.now) rd ipa level }
 {
     if level > 3 {

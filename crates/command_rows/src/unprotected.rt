@@ -48,7 +48,11 @@ pub(crate) fn rtt_map_unprotected<S: Sight>(
 
 #[tactic(auto, unfolding(rmm_spec::specs::Step::Unprotected::rtt_unmap_unprotected, rmm_spec::specs::Step::Words::words_of, rmm_spec::specs::Step::Named::named, rmm_spec::specs::Lookup::realm_at))]
 #[inline(never)]
-pub(crate) fn rtt_unmap_unprotected<S: Sight>(sight: &S, rd: u64, ipa: u64) -> Result<Accepted, Reply>
+pub(crate) fn rtt_unmap_unprotected<S: Sight>(
+    sight: &S,
+    rd: u64,
+    ipa: u64,
+) -> Result<Accepted, Reply>
     ensures { result ≡ spec.rtt_unmap_unprotected (S.state sight.now) rd ipa }
 {
     if !is_page(ipa) {

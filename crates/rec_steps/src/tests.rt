@@ -17,12 +17,7 @@ fn realm_and_rec() -> (Realm, Rec) {
 }
 
 // Whether the answer is accepted with these words. Then the records are what it makes of them.
-fn gives(
-    realm: &mut Realm,
-    rec: &mut Rec,
-    answer: Result<RecStep, Reply>,
-    words: &[u64],
-) -> bool
+fn gives(realm: &mut Realm, rec: &mut Rec, answer: Result<RecStep, Reply>, words: &[u64]) -> bool
     requires { IfOk answer IsStep }
 {
     let Ok(step) = answer else {

@@ -6,14 +6,14 @@ pub realm_called-requires : goal.realm_called-requires
 unfolding IsInside
 realm_called-requires g c =
     let s = g.S.Sight.state c.args.sight.now in
-    let there = subst (λ class. IsInsideBy class s c.args.rec) (sym c.in-Realm.ensures) c.requires in
+    let there = subst (λ class. IsInsideBy class s c.args.rec) (sym c.in-Realm.ensures) c.requires.inside in
     record { rec = there.0; realm = there.1 }
 
 pub left-requires : goal.left-requires
 unfolding IsInside
 left-requires g c =
     let s = g.S.Sight.state c.args.sight.now in
-    subst (λ class. IsInsideBy class s c.args.rec) (sym c.in-Rec.ensures) c.requires
+    subst (λ class. IsInsideBy class s c.args.rec) (sym c.in-Rec.ensures) c.requires.inside
 
 pub returns-in-Host : goal.returns-in-Host
 unfolding inside_answer

@@ -7,5 +7,5 @@ use Rattle.command_rows.proofs.inside.left.Goals as goal
 pub returns : goal.returns
 returns g c =
     let s = g.S.Sight.state c.args.sight.now in
-    c.accepted_at.ensures ∙ ap (λ (step : RecStep). Ok (accepted_at c.address.result c.args.address step)) c.answer_to_exit.ensures
-    ∙ exit-row s c.args.address c.rec_at.result c.rec_at.ensures
+    c.accepted_at.ensures ∙ ap (λ (step : RecStep). Ok (accepted_at c.owner.result c.args.address step)) c.answer_to_exit.ensures
+    ∙ exit-row s c.args.address c.rec_at-rec.result c.rec_at-rec.ensures

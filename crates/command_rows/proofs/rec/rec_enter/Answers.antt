@@ -2,24 +2,21 @@ use Rattle.std.proofs.Common.{◌≡◌, ap, sym, ◌∙◌}
 use Rattle.std.proofs.lemmas.Bool.{false≢true}
 use Rattle.rec_steps.specs.Answers.{answer_at}
 use Rattle.rec_steps.specs.Held.{IsHeld}
-use Rattle.realm_desc.specs.View.{rec_record}
 use Rattle.command_rows.proofs.Records.{entered_realm}
 use Rattle.command_rows.proofs.rec.rec_enter.Goals as goal
 
 pub unreachable-requires : goal.unreachable-requires
-unfolding rec_record
 unreachable-requires g c =
     let s = g.S.Sight.state c.args.sight.now in
-    let is_owner : c.address-rd.result ≡ c.in-Some.rec.owner = c.address-rd.ensures in
+    let is_owner : c.owner-rd.result ≡ c.in-Some.rec.owner = c.owner-rd.ensures in
     false≢true (c.in_default-realm.ensures.tagged
-    ∙ entered_realm s c.args.address c.address-rd.result c.in-Some.rec c.in-Some.ensures.there c.in-Some.ensures.tagged is_owner c.requires)
+    ∙ entered_realm s c.args.address c.owner-rd.result c.in-Some.rec c.in-Some.ensures.there c.in-Some.ensures.tagged is_owner c.requires)
 
 pub returns : goal.returns
-unfolding rec_record
 returns g c =
     let s = g.S.Sight.state c.args.sight.now in
     let a = c.args in
-    let is_owner : c.address-rd.result ≡ c.in-Some.rec.owner = c.address-rd.ensures in
+    let is_owner : c.owner-rd.result ≡ c.in-Some.rec.owner = c.owner-rd.ensures in
     let held : IsHeld s a.address c.in-Some-realm.realm c.in-Some.rec = record {
       has_rec = sym c.in-Some.ensures.there;
       has_realm = ap s.realm (sym is_owner) ∙ sym c.in-Some-realm.ensures.there;
