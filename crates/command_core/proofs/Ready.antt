@@ -1,6 +1,5 @@
 -- Where what is held settles a command, it allows a local step, whatever the side table has and whichever CPU it is.
 use Rattle.std.proofs.Common.{◌≡◌, ℕ, ◌≤◌, Bool, true, false, not, ◌||◌, if◌then◌else◌, List, Result, Ok, Err, inl, inr, refl, sym, ap, ◌∙◌, subst}
-use Rattle.arrayvec.specs.ArrayVec.{ArrayVec}
 use Rattle.std.proofs.lemmas.Bool.{false≢true}
 use Rattle.rmm_spec.specs.declared.accepted.Accepted.{Accepted}
 use Rattle.rmm_spec.specs.declared.accepted.Accepted.TheVariants.{Done, Reaches}
@@ -28,7 +27,7 @@ use Rattle.command_rows.proofs.Outcomes.{outcome-outside, outcome-inside}
 use Rattle.command_core.specs.SeenState.{seen_state}
 use Rattle.command_core.specs.Sides.{is_vmid_listed, are_recs_counted}
 use Rattle.command_core.specs.Served.{is_served}
-use Rattle.command_core.specs.Changed.{new_cells, new_place, hold_of, hold_changed, CanAnswer, Answers, IsAnswer, can_make, CanMake}
+use Rattle.command_core.specs.Changed.{new_cells, new_place, hold_of, hold_changed, CanAnswer, Answers, IsAnswer, can_make, CanMakeAnswer}
 use Rattle.command_core.specs.Named.{has_wrong, words_fit}
 use Rattle.command_core.specs.Unshaped.{is_misfit, is_unshaped_outside, is_unshaped}
 use Rattle.command_core.specs.Settled.{is_complete, is_settled_outside, is_settled_inside, is_settled}
@@ -171,36 +170,25 @@ decision granules cpu command hold c given answer is served settled decided_so s
     (ap (λ (x : Call). settled_answer granules cpu x hold.cells hold.side hold.place) (sym is) ∙ (sym decided_so ∙ same))
     (settled-answered granules cpu command hold served settled)
 
--- an answer that stands can be made
-made-fits : (granules : ℕ) (held : List HeldCell) (side : Side) (rows : Result Accepted Reply) (answer : Accepted) (words : ArrayVec ℕ) (change : Change)
-    → answer ≡ Done words change → made_answer granules held side rows ≡ Ok answer → can_make granules held side change ≡ true
-made-fits granules held side (Err refusal) answer words change done is = absurd cc
-made-fits granules held side (Ok (Reaches stretch)) answer words change done is = absurd cc
-made-fits granules held side (Ok (Done given other)) answer words change done is = by (can_make granules held side other) refl is
+-- an answer that stands can be made of what is held
+pub answer-makes : (granules : ℕ) (hold : Hold) (rows : Result Accepted Reply) → granules ≤ 4096
+    → CanMakeAnswer hold (made_answer granules hold.cells hold.side rows)
+answer-makes granules hold (Err refusal) few = tt
+answer-makes granules hold (Ok (Reaches stretch)) few = tt
+answer-makes granules hold (Ok (Done words change)) few = by (can_make granules hold.cells hold.side change) refl
   where
-    by : (b : Bool) → can_make granules held side other ≡ b → (if b then Ok (Done given other) else Err reply.Misplaced) ≡ Ok answer
-        → can_make granules held side change ≡ true
-    by true fits same = subst (λ (x : Change). can_make granules held side x ≡ true) (let e : other ≡ change = cc in e) fits
-    by false unfit same = absurd cc
-
--- and so can what was decided
-pub decision-makes : (granules cpu : ℕ) (hold : Hold) (c : Call) (given : Result Accepted Reply) (answer : Accepted) (words : ArrayVec ℕ) (change : Change)
-    → granules ≤ 4096 → given ≡ settled_answer granules cpu c hold.cells hold.side hold.place → given ≡ Ok answer → answer ≡ Done words change
-    → CanMake hold change
-unfolding settled_answer
-decision-makes granules cpu hold c given answer words change few decided_so same done =
-    makes granules hold.cells hold.side hold.place change few (by (is_unshaped granules c hold.place hold.cells) (sym decided_so ∙ same))
-  where
-    by : (b : Bool) → (if b then Err reply.Misplaced else made_answer granules hold.cells hold.side (rows_answer granules cpu c hold.cells hold.side hold.place))
-        ≡ Ok answer → can_make granules hold.cells hold.side change ≡ true
-    by true is = absurd cc
-    by false is = made-fits granules hold.cells hold.side (rows_answer granules cpu c hold.cells hold.side hold.place) answer words change done is
+    by : (b : Bool) → can_make granules hold.cells hold.side change ≡ b
+        → CanMakeAnswer hold (if b then Ok (Done words change) else Err reply.Misplaced)
+    by true fits = makes granules hold.cells hold.side hold.place change few fits
+    by false unfit = tt
 
 -- cells that are unshaped are answered as misplaced
-pub decision-unshaped : (granules cpu : ℕ) (hold : Hold) (c : Call) → is_unshaped granules c hold.place hold.cells ≡ true
-    → settled_answer granules cpu c hold.cells hold.side hold.place ≡ Err reply.Misplaced
+pub decision-unshaped : (granules cpu : ℕ) (command : Command) (hold : Hold) (c : Call) (given : Result Accepted Reply) → c ≡ call_of command
+    → given ≡ settled_answer granules cpu c hold.cells hold.side hold.place → is_unshaped granules (call_of command) hold.place hold.cells ≡ true
+    → given ≡ Err reply.Misplaced
 unfolding settled_answer
-decision-unshaped granules cpu hold c unshaped = rw unshaped refl
+decision-unshaped granules cpu command hold c given is decided_so unshaped =
+    decided_so ∙ (ap (λ (x : Call). settled_answer granules cpu x hold.cells hold.side hold.place) is ∙ rw unshaped refl)
 
 pub settled-ready : (granules : ℕ) (command : Command) (place : CpuPlace) (held : List HeldCell) → is_served (call_of command) ≡ true
     → is_settled granules (call_of command) place held ≡ true → IsReady granules command place held

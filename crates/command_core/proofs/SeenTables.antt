@@ -166,12 +166,24 @@ links-same granules cpu hold w g t found root =
 
 -- ---- walks
 
--- the walk up to a level ends there, or at the level above
-pub reach-up : (s : State) (rd ipa level : ℕ) → (level == 0) ≡ false
-    → reach s rd ipa level ≡ (if is_some (s.table rd level (table_number level ipa)) then level else reach s rd ipa (level - 1))
+-- no walk ends above level 0
+pub reach-top : (s : State) (rd ipa level : ℕ) → level ≡ 0 → 0 ≡ reach s rd ipa level
 unfolding reach
-reach-up s rd ipa zero root = absurd (false≢true (sym root))
-reach-up s rd ipa (suc level) below = let above : suc level - 1 ≡ level = omega arith in rw above refl
+reach-top s rd ipa zero top = refl
+reach-top s rd ipa (suc level) top = absurd (omega arith)
+
+-- the walk up to a level ends there, where that has a table
+pub reach-here : (s : State) (rd ipa level : ℕ) → 0 < level → is_some (s.table rd level (table_number level ipa)) ≡ true → level ≡ reach s rd ipa level
+unfolding reach
+reach-here s rd ipa zero some there = absurd (omega arith)
+reach-here s rd ipa (suc level) some there = rw there refl
+
+-- and at the level above, where that has none
+pub reach-above : (s : State) (rd ipa level : ℕ) → 0 < level → is_some (s.table rd level (table_number level ipa)) ≡ false
+    → reach s rd ipa (level - 1) ≡ reach s rd ipa level
+unfolding reach
+reach-above s rd ipa zero some none = absurd (omega arith)
+reach-above s rd ipa (suc level) some none = let above : suc level - 1 ≡ level = omega arith in rw (none, above) refl
 
 -- ---- loops over the entries of a table
 

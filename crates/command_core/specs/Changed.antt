@@ -201,3 +201,9 @@ Answers granules cpu command hold (Ok (Reaches stretch)) = ⊥
 pub record IsAnswer (granules cpu : ℕ) (command : Command) (hold : Hold) (answer : Result Accepted Reply) : Type 0 where
   pub can : CanAnswer cpu hold answer
   pub is_local : Answers granules cpu command hold answer
+
+-- where it is no refusal, its change can be made of the records
+abbrev pub CanMakeAnswer : Hold → Result Accepted Reply → Type 0
+CanMakeAnswer hold (Err refusal) = Unit {0}
+CanMakeAnswer hold (Ok (Done words change)) = CanMake hold change
+CanMakeAnswer hold (Ok (Reaches stretch)) = Unit {0}

@@ -2,7 +2,7 @@
 
 ghost use Rattle.std.specs.Prelude.{◌≡◌, false, IsTrue};
 ghost use Rattle.rmm_spec.specs.Call.{call_of};
-ghost use Rattle.command_core.specs.Changed.{hold_of, CanChange, CanMake, Decides};
+ghost use Rattle.command_core.specs.Changed.{hold_of, CanChange, CanMake, CanMakeAnswer, Decides};
 ghost use Rattle.command_core.specs.Decided as spec;
 ghost use Rattle.command_core.specs.Seen.{place_of};
 ghost use Rattle.command_core.specs.Served.{is_served};
@@ -14,7 +14,7 @@ use crate::held::Held;
 use crate::held_sight::HeldSight;
 use crate::making::can_make;
 use crate::unshaped::is_unshaped;
-use crate::dispatch::{answer_inside, answer_outside};
+use command_rows::{answer_inside, answer_outside};
 use granule_cells::{CpuPlace, Side};
 use granule_state::Config;
 use rmm_spec::{Accepted, Call, Change, Command, Reply};
@@ -56,13 +56,14 @@ fn settled_answer<H: Held>(
     side: &Side,
 ) -> Result<Accepted, Reply>
     requires { IsTrue (is_settled config.now.granules call.now (place_of place.now) (H.cells held.now)) }
-    ensures { result ≡ spec.settled_answer config.now.granules cpu call.now (H.cells held.now) (side_of side.now) (place_of place.now) }
+    ensures answer { result ≡ spec.settled_answer config.now.granules cpu call.now (H.cells held.now) (side_of side.now) (place_of place.now) }
+    ensures makes { CanMakeAnswer (hold_of (H.cells held.now) (side_of side.now) (place_of place.now)) result }
 {
     if is_unshaped(config, call, place, held) {
         return Err(Reply::Misplaced);
     }
     let answer = rows_answer(config, call, cpu, place, held, side);
-    made_answer(config, held, side, answer)
+    made_answer(config, config.granules(), held, side, answer)
 }
 
 // What the command's rows answer in the state that the held cells tell of.
@@ -88,15 +89,17 @@ fn rows_answer<H: Held>(
 // The answer, where its change can be made of what is held.
 fn made_answer<H: Held>(
     config: &Config,
+    granules: u64,
     held: &H,
     side: &Side,
     answer: Result<Accepted, Reply>,
 ) -> Result<Accepted, Reply>
+    requires { granules ≡ config.now.granules }
     ensures { result ≡ spec.made_answer config.now.granules (H.cells held.now) (side_of side.now) answer }
 {
     match answer {
         Ok(Accepted::Done { words, change }) => {
-            if can_make(config, held, side, &change) {
+            if can_make(config, granules, held, side, &change) {
                 Ok(Accepted::Done { words, change })
             } else {
                 Err(Reply::Misplaced)

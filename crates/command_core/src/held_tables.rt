@@ -161,7 +161,10 @@ impl<'a, H: Held> HeldSight<'a, H> {
         ensures level { result ≡ walks.reach (seen_state self.now.config.now.granules (H.cells self.now.held.now)) rd ipa max }
         ensures within { result ≤ max }
     {
-        if max == 0 || self.table(rd, max, table_number(max, ipa)).is_some() {
+        if max == 0 {
+            return 0;
+        }
+        if self.table(rd, max, table_number(max, ipa)).is_some() {
             return max;
         }
         self.reach(rd, ipa, max - 1)

@@ -8,7 +8,6 @@
 mod applying;
 mod change_room;
 mod deciding;
-mod dispatch;
 mod held;
 mod held_sight;
 mod held_tables;

@@ -126,21 +126,29 @@ fn fits_cells<H: Held>(held: &H, change: &Change) -> bool
 }
 
 // Whether a REC that is made can be counted.
-fn can_count(config: &Config, side: &Side, change: &Change) -> bool
+fn can_count(config: &Config, granules: u64, side: &Side, change: &Change) -> bool
+    requires { granules ≡ config.now.granules }
     ensures { result ≡ spec.can_count config.now.granules (side_of side.now) change.now }
 {
     match change {
         Change::RecMade { rd, .. } => {
-            is_granule(config, *rd) && side.rec_count(Pa::new(*rd)) <= config.granules()
+            is_granule(config, *rd) && side.rec_count(Pa::new(*rd)) <= granules
         }
         _ => true,
     }
 }
 
-/// Whether the change can be made of what is held.
+/// Whether the change can be made of what is held, on a machine of so many granules.
 #[tactic(auto, unfolding(crate::specs::Changed::can_make))]
-pub(crate) fn can_make<H: Held>(config: &Config, held: &H, side: &Side, change: &Change) -> bool
+pub(crate) fn can_make<H: Held>(
+    config: &Config,
+    granules: u64,
+    held: &H,
+    side: &Side,
+    change: &Change,
+) -> bool
+    requires { granules ≡ config.now.granules }
     ensures { result ≡ spec.can_make config.now.granules (H.cells held.now) (side_of side.now) change.now }
 {
-    fits_cells(held, change) && can_count(config, side, change)
+    fits_cells(held, change) && can_count(config, granules, side, change)
 }
