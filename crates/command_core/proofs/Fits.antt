@@ -1,5 +1,5 @@
 -- A change that a whole can take is one that can be made of what is held, where its new cells are held.
-use Rattle.std.proofs.Common.{◌≡◌, ℕ, ◌*◌, ◌≤◌, true, false, ◌&&◌, ◌==◌, List, length, Option, Some, None, inl, inr, refl, sym, ap, ◌∙◌, subst, arith, eq-eqb, eqb-true}
+use Rattle.std.proofs.Common.{◌≡◌, ℕ, ◌*◌, ◌≤◌, true, false, ◌&&◌, ◌==◌, List, length, Option, Some, None, inl, inr, refl, sym, ap, ◌∙◌, subst, arith, eq-eqb}
 use Rattle.std.specs.Prelude.{IsTrue, is_some, nat_le, nat_lt, ◌%◌}
 use Rattle.std.proofs.lemmas.Bool.{false≢true, and_parts, and_from, ltb-true}
 use Rattle.std.proofs.lemmas.Bool.Decides.{nat_tests}
@@ -20,24 +20,11 @@ use Rattle.rmm_spec.specs.Cell.{Cell, Undelegated, Delegated, Rd, Rec, RecAux, D
 use Rattle.rmm_spec.specs.Flat.{flat_state}
 use Rattle.rmm_spec.specs.Shape.{Side, CpuPlace}
 use Rattle.rmm_spec.specs.Local.{HeldCell, Hold}
-use Rattle.realm_desc.specs.Updates.{IsRecUpdate}
 use Rattle.command_core.specs.Seen.{is_held, known_cell}
 use Rattle.command_core.specs.Changed.{hold_of, new_cells, is_plain, counts_in, is_realm_update, fits_realm, is_rec_update, fits_rec, fits_realm_change, fits_rec_change, fits_cells, can_count, can_make, CanMake, CanChange}
 use Rattle.command_core.proofs.Wholes.{Whole, state, same_at, few_recs, realm_at-cell, rec_at-cell}
 
 -- ---- updates
-
-pub fitting-realm_update : (u : RealmUpdate) → IsTrue (is_realm_update u) → IsRealmUpdate u
-fitting-realm_update (realm_update.MeasurementExtended index size values) is =
-    let first = and_parts (nat_le 1 index && nat_le index 4 && nat_le size 0x40) (length values == 8) is in
-    let second = and_parts (nat_le 1 index && nat_le index 4) (nat_le size 0x40) first.0 in
-    let third = and_parts (nat_le 1 index) (nat_le index 4) second.0 in
-    (grind (arith, nat_tests), grind (arith, nat_tests), grind (arith, nat_tests), eqb-true (length values) 8 first.1)
-fitting-realm_update (realm_update.PageMeasured ipa flags digest) is = eqb-true (length digest) 4 is
-fitting-realm_update (realm_update.RecCounted mpidr flags) is = false≢true is
-fitting-realm_update realm_update.Activated is = tt
-fitting-realm_update realm_update.TurnedOff is = tt
-fitting-realm_update (realm_update.StretchMeasured base top) is = tt
 
 realm_update-fits : (u : RealmUpdate) → IsRealmUpdate u → is_realm_update u ≡ true
 realm_update-fits (realm_update.MeasurementExtended index size values) can =
@@ -52,10 +39,6 @@ realm_update-fits (realm_update.RecCounted mpidr flags) can = absurd can
 realm_update-fits realm_update.Activated can = refl
 realm_update-fits realm_update.TurnedOff can = refl
 realm_update-fits (realm_update.StretchMeasured base top) can = refl
-
-pub fitting-rec_update : (rec : RecRecord) (u : RecUpdate) → IsTrue (is_rec_update rec u) → IsRecUpdate rec u
-fitting-rec_update rec (rec_update.RequestMoved base) is = is
-fitting-rec_update rec _ is = tt
 
 rec_update-fits : (s : State) (rec : RecRecord) (u : RecUpdate) → CanUpdateRec s rec u → is_rec_update rec u ≡ true
 rec_update-fits s rec (rec_update.RequestMoved base) can = can.1

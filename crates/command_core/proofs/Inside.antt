@@ -91,7 +91,7 @@ fitting-realm : (granules rec rd : ℕ) (held : List HeldCell) → is_misfit gra
 fitting-realm granules rec rd held fits holds =
     let parts = fitting granules rec rd held fits in
     let at = named-cell (names rec rd) held parts.right (needed rd tag.Rd)
-        (Contains-tail (needed rec tag.Rec) (needed rd tag.Rd ∷ []) (needed rd tag.Rd) (Contains-head (needed rd tag.Rd) [])) holds in
+    (Contains-tail (needed rec tag.Rec) (needed rd tag.Rd ∷ []) (needed rd tag.Rd) (Contains-head (needed rd tag.Rd) [])) holds in
     tag-seen granules held rd at.cell tag.Rd parts.of_rd at.found at.tagged
 
 or_right : (b c : Bool) → b ≡ false → (b || c) ≡ true → c ≡ true

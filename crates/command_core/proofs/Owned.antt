@@ -77,7 +77,7 @@ unfolding is_settled is_unshaped is_unshaped_outside is_complete class_of
 enter-owned granules rec held settled shaped has =
     let there = rec-there granules rec held has in
     let complete = last (words_fit granules (call.RecEnter rec)) (has_wrong (named (call.RecEnter rec)) held) (has_bad_owner granules rec (cell_in rec held))
-        (is_owner_held (cell_in rec held) held) (enter-fits granules rec there.granule) (enter-right rec held there.it there.found) shaped settled in
+    (is_owner_held (cell_in rec held) held) (enter-fits granules rec there.granule) (enter-right rec held there.it there.found) shaped settled in
     let realm = realm_there (cell_in there.it.owner held) (ap (λ o. is_owner_held o held) (sym there.found) ∙ complete) in
     let learns = not-false (can_learn granules rec there.it.owner) (ap (has_bad_owner granules rec) (sym there.found) ∙ shaped) in
     let granule = (and_parts (is_granule granules there.it.owner) (not (there.it.owner == rec)) learns).0 in

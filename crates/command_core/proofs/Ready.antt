@@ -101,7 +101,7 @@ host-ready granules cpu command hold served host place shaped settled =
         (refused granules cpu command hold input_error refusal.1)
     by false front =
         let parts = settled_by (words_fit granules (call_of command)) (has_wrong (named (call_of command)) hold.cells)
-            (is_unshaped_outside granules (call_of command) hold.cells) (is_complete (call_of command) hold.cells) shaped settled front in
+        (is_unshaped_outside granules (call_of command) hold.cells) (is_complete (call_of command) hold.cells) shaped settled front in
         let told = complete-told granules cpu hold (call_of command) served host parts.0 parts.1 in
         made-answered granules cpu command hold (told_outside granules cpu hold (call_of command)) told.can
         (λ w. sym (outcome-outside (state granules cpu hold w) cpu (call_of command)

@@ -3,7 +3,6 @@ use Rattle.std.proofs.Common.{◌≡◌, ℕ, Bool, true, false, ◌&&◌, ◌==
 use Rattle.std.specs.Prelude.{IsTrue, is_some, unwrap_or}
 use Rattle.std.proofs.lemmas.Bool.{and_from}
 use Rattle.rmm_spec.specs.declared.tag.Tag.{Tag}
-use Rattle.rmm_spec.specs.declared.tag.Tag.TheVariants as tag
 use Rattle.rmm_spec.specs.State.{RealmRecord, RecRecord}
 use Rattle.rmm_spec.specs.Lookup.{tag_number, is_granule, has_tag, realm_at, rec_at, no_realm, no_rec}
 use Rattle.rmm_spec.specs.Cell.{Cell, Undelegated, Delegated, Rd, Rec, RecAux, Data, Rtt, tag_of, realm_in, rec_in}
@@ -61,41 +60,3 @@ pub realm-seen : (granules : ℕ) (held : List HeldCell) (g : ℕ) (realm : Real
     → realm_at (seen_state granules held) g ≡ realm
 unfolding realm_at seen_state
 realm-seen granules held g realm granule found = ap (λ (c : Cell). unwrap_or (realm_in c) no_realm) (cell-seen granules held g (Rd realm) granule found)
-
--- ---- one record exactly where the tag says so
-
-pub realm-tagged : (granules : ℕ) (held : List HeldCell) (g : ℕ) → is_some (realm_in (cell_seen granules held g)) ≡ has_tag (seen_state granules held) g tag.Rd
-unfolding has_tag seen_state
-realm-tagged granules held g = by (is_granule granules g)
-  where
-    one : (c : Cell) → is_some (realm_in c) ≡ (tag_number (tag_of c) == 2)
-    one Undelegated = refl
-    one Delegated = refl
-    one (Rd realm) = refl
-    one (Rec rec) = refl
-    one RecAux = refl
-    one Data = refl
-    one (Rtt table) = refl
-
-    by : (b : Bool) → is_some (realm_in (if b then known_cell held g else Undelegated))
-        ≡ (b && tag_number (tag_of (if b then known_cell held g else Undelegated)) == 2)
-    by true = one (known_cell held g)
-    by false = refl
-
-pub rec-tagged : (granules : ℕ) (held : List HeldCell) (g : ℕ) → is_some (rec_in (cell_seen granules held g)) ≡ has_tag (seen_state granules held) g tag.Rec
-unfolding has_tag seen_state
-rec-tagged granules held g = by (is_granule granules g)
-  where
-    one : (c : Cell) → is_some (rec_in c) ≡ (tag_number (tag_of c) == 3)
-    one Undelegated = refl
-    one Delegated = refl
-    one (Rd realm) = refl
-    one (Rec rec) = refl
-    one RecAux = refl
-    one Data = refl
-    one (Rtt table) = refl
-
-    by : (b : Bool) → is_some (rec_in (if b then known_cell held g else Undelegated))
-        ≡ (b && tag_number (tag_of (if b then known_cell held g else Undelegated)) == 3)
-    by true = one (known_cell held g)
-    by false = refl

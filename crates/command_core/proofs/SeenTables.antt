@@ -105,7 +105,7 @@ placed-own granules cpu hold w g rd level number held passes =
     let p : ℕ → Bool = λ x. is_table_of rd level number (table_held hold.cells x) in
     let found = found-first p (granules_held hold.cells) g (held-contains hold.cells g held) passes in
     let same = one_granule granules hold.side w.places w.cells w.shaped found.0 g rd level number
-        (table-whole granules cpu hold w found.0 rd level number found.2) (table-whole granules cpu hold w g rd level number passes) in
+    (table-whole granules cpu hold w found.0 rd level number found.2) (table-whole granules cpu hold w g rd level number passes) in
     found.1 ∙ ap (λ (x : ℕ). Some x) same
 
 -- ---- links of a root

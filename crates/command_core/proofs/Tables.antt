@@ -1,9 +1,9 @@
 -- What a table in a well-shaped whole is in the flat state: the table of its place, with its own entries.
-use Rattle.std.proofs.Common.{◌≡◌, ℕ, suc, ◌+◌, ◌*◌, ◌/◌, ◌%◌, ◌<◌, Bool, true, false, ◌&&◌, ◌==◌, nat_lt, if◌then◌else◌, Option, Some, None, slice_get, get_or, length, option_map, refl, sym, ap, ◌∙◌, subst, arith, add-one}
+use Rattle.std.proofs.Common.{◌≡◌, ℕ, suc, ◌+◌, ◌*◌, ◌/◌, ◌%◌, ◌<◌, Bool, true, false, ◌&&◌, ◌==◌, nat_lt, if◌then◌else◌, Option, Some, None, slice_get, option_map, refl, sym, ap, ◌∙◌, subst, arith, add-one}
 use Rattle.std.specs.Option.{option_and_then}
 use Rattle.std.proofs.lemmas.Bool.{false≢true}
 use Rattle.std.proofs.lemmas.Bool.Decides.{nat_tests}
-use Rattle.std.proofs.lemmas.Option.{none-some, same_Some, slice_get-get_or}
+use Rattle.std.proofs.lemmas.Option.{none-some, same_Some}
 use Rattle.rmm_spec.specs.declared.entry.Entry.{Entry}
 use Rattle.rmm_spec.specs.declared.entry.Entry.TheVariants.{Unassigned, Assigned, Table, UnassignedNs, AssignedNs}
 use Rattle.rmm_spec.specs.Table.{TableRecord, place_number}
@@ -176,12 +176,3 @@ entry_at-table granules side places cells shaped g t number e is above entry = b
     by (Assigned ripas granule) here = leaf (Assigned ripas granule) refl here
     by UnassignedNs here = leaf UnassignedNs refl here
     by (AssignedNs page) here = leaf (AssignedNs page) refl here
-
--- and each of its places has one
-pub entry_at-own : (granules : ℕ) (side : Side) (places : ℕ → CpuPlace) (cells : ℕ → Cell) → IsWellShaped granules side places cells
-    → (g : ℕ) (t : TableRecord) (number : ℕ) → tables_of cells g ≡ Some t → number / 512 ≡ place_number t.place
-    → entry_at (flat_state granules cells) t.place.rd t.place.level number ≡ get_or t.entries (number % 512) UnassignedNs
-entry_at-own granules side places cells shaped g t number is above =
-    let whole = shaped.tables.whole g t is in
-    entry_at-table granules side places cells shaped g t number (get_or t.entries (number % 512) UnassignedNs) is above
-    (slice_get-get_or t.entries (number % 512) UnassignedNs (let index : number % 512 < length t.entries = omega (arith, whole) in index))

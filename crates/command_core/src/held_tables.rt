@@ -1,5 +1,10 @@
 //! What the tables that are held tell of walks and entries.
 
+ghost use Rattle.std.specs.Prelude.{◌≡◌};
+ghost use Rattle.rmm_spec.specs.Table.{place_number};
+ghost use Rattle.rmm_spec.specs.Update.{is_same_entry};
+ghost use Rattle.command_core.specs.SeenState as spec;
+
 use crate::held::Held;
 use crate::held_sight::HeldSight;
 use granule_cells::Cell;
@@ -7,11 +12,6 @@ use granule_state::Pa;
 use rmm_spec::{Entry, Place};
 use rtt_table::Table;
 use table_entries::{is_live, is_table, linked, table_number};
-
-ghost use Rattle.std.specs.Prelude.{◌≡◌};
-ghost use Rattle.rmm_spec.specs.Table.{place_number};
-ghost use Rattle.rmm_spec.specs.Update.{is_same_entry};
-ghost use Rattle.command_core.specs.SeenState as spec;
 
 /// How many entries a table has.
 const ENTRIES: u64 = 512;
@@ -30,7 +30,8 @@ fn link_of(entry: Entry) -> Option<u64>
 {
     match entry {
         Entry::Table(granule) => Some(granule),
-        Entry::Unassigned(_) | Entry::Assigned(..) | Entry::UnassignedNs | Entry::AssignedNs(_) => None,
+        Entry::Unassigned(_) | Entry::Assigned(..) | Entry::UnassignedNs | Entry::AssignedNs(_) =>
+            None,
     }
 }
 
@@ -62,7 +63,14 @@ impl<'a, H: Held> HeldSight<'a, H> {
     }
 
     // The granule that was found, or else this one, where it has the table.
-    fn found_or(&self, found: Option<u64>, granule: Pa, rd: u64, level: u8, number: u64) -> Option<u64>
+    fn found_or(
+        &self,
+        found: Option<u64>,
+        granule: Pa,
+        rd: u64,
+        level: u8,
+        number: u64,
+    ) -> Option<u64>
         ensures { result ≡ spec.found_or (λ g. is_table_of rd level number (spec.table_held (H.cells self.now.held.now) g)) found granule }
     {
         if found.is_some() {
@@ -80,10 +88,10 @@ impl<'a, H: Held> HeldSight<'a, H> {
     fn placed(&self, rd: u64, level: u8, number: u64) -> Option<u64>
         ensures { result ≡ spec.table_placed (H.cells self.now.held.now) rd level number }
     {
-        self.held
-            .held()
-            .iter()
-            .fold(None, |found, granule| self.found_or(found, *granule, rd, level, number))
+        self.held.held().iter().fold(
+            None,
+            |found, granule| self.found_or(found, *granule, rd, level, number),
+        )
     }
 
     // The entry at a place of the table that is held in a granule.
@@ -149,10 +157,7 @@ impl<'a, H: Held> HeldSight<'a, H> {
     pub(crate) fn entry(&self, rd: u64, level: u8, number: u64) -> Entry
         ensures { result ≡ walks.entry_at (seen_state self.now.config.now.granules (H.cells self.now.held.now)) rd level number }
     {
-        linked(
-            self.below(rd, level, number),
-            self.leaf(rd, level, number),
-        )
+        linked(self.below(rd, level, number), self.leaf(rd, level, number))
     }
 
     /// The deepest level up to `max` at which a table covers the address.

@@ -60,7 +60,8 @@ fn is_realm_update(update: &RealmUpdate) -> bool
         } => is_extension(*index, *size, values),
         RealmUpdate::PageMeasured { digest, .. } => is_digest(digest),
         RealmUpdate::RecCounted { .. } => false,
-        RealmUpdate::Activated | RealmUpdate::TurnedOff | RealmUpdate::StretchMeasured { .. } => true,
+        RealmUpdate::Activated | RealmUpdate::TurnedOff | RealmUpdate::StretchMeasured { .. } =>
+            true,
     }
 }
 
@@ -118,9 +119,8 @@ fn fits_cells<H: Held>(held: &H, change: &Change) -> bool
         } => is_space(u64::from(*width), u64::from(*level)) && *algo == 0,
         Change::RecMade { rd, mpidr, .. } => counts_in(*mpidr, held.cell(Pa::new(*rd))),
         Change::RecordsChanged { realm, rec } => fits_realm(held, realm) && fits_rec(held, rec),
-        Change::TableMade { .. }
-        | Change::TableDestroyed { .. }
-        | Change::EntriesChanged { .. } => false,
+        Change::TableMade { .. } | Change::TableDestroyed { .. } | Change::EntriesChanged { .. } =>
+            false,
         Change::Unchanged | Change::RealmDestroyed { .. } | Change::RecDestroyed { .. } => true,
     }
 }
