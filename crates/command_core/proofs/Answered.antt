@@ -1,31 +1,29 @@
--- What is answered from the held cells is what each whole that agrees answers: one lemma a command, over any two states.
-use Rattle.std.proofs.Common.{◌≡◌, ℕ, Bool, true, false, not, ◌&&◌, ◌==◌, if◌then◌else◌, List, [], ◌∷◌, Option, Some, None, Result, Ok, Err, refl, sym, ap, ◌∙◌, subst}
-use Rattle.std.specs.Prelude.{IsTrue, is_none, is_some, nat_lt, nat_le}
-use Rattle.rmm_spec.specs.declared.accepted.Accepted.{Accepted}
-use Rattle.rmm_spec.specs.declared.call.Call.TheVariants as call
-use Rattle.rmm_spec.specs.declared.change.Change.TheVariants.{RealmMade, RealmDestroyed, RecMade}
-use Rattle.rmm_spec.specs.declared.reply.Reply.{Reply}
+-- Two states that agree on what a command's rows look up answer it alike: one lemma a command.
+use Rattle.std.proofs.Common.{◌≡◌, ℕ, Bool, true, false, not, ◌&&◌, ◌==◌, if◌then◌else◌, List, [], ◌∷◌, Err, refl}
+use Rattle.std.specs.Prelude.{is_none, nat_lt, nat_le}
+use Rattle.rmm_spec.specs.declared.change.Change.{Change}
+use Rattle.rmm_spec.specs.declared.change.Change.TheVariants.{RealmDestroyed, RecMade}
 use Rattle.rmm_spec.specs.declared.tag.Tag.TheVariants.{Undelegated, Delegated, Rd, Rec}
-use Rattle.rmm_spec.specs.State.{State, RealmRecord, RecRecord}
-use Rattle.rmm_spec.specs.Lookup.{has_tag, realm_at, rec_at, is_new, is_vmid_used, has_rec}
+use Rattle.rmm_spec.specs.State.{State}
+use Rattle.rmm_spec.specs.Lookup.{has_tag, realm_at, rec_at, is_new}
 use Rattle.rmm_spec.specs.Rows.{Row, decided, row, input, done, realm_error, rec_error}
 use Rattle.rmm_spec.specs.Walk.{has_link}
-use Rattle.rmm_spec.specs.Step.Front.{with_front}
-use Rattle.rmm_spec.specs.Step.Words.{words_of, is_space}
+use Rattle.rmm_spec.specs.Step.Words.{words_of}
 use Rattle.rmm_spec.specs.Step.Named.{named}
 use Rattle.rmm_spec.specs.Step.Granule.{granule_delegate, granule_undelegate}
-use Rattle.rmm_spec.specs.Step.Realm.{realm_create, realm_activate, realm_destroy}
+use Rattle.rmm_spec.specs.Step.Realm.{realm_create_told, realm_activate, realm_destroy_told}
 use Rattle.rmm_spec.specs.Step.Rec.{rec_create, rec_destroy, rec_enter}
 use Rattle.rmm_spec.specs.Step.RealmCall.{measurement_read, measurement_extend, realm_config, ipa_state_set, host_call, cpu_off, system_off, rec_exit}
 use Rattle.rmm_spec.specs.Local.{Hold}
-use Rattle.command_core.specs.Changed.{CanAnswer}
+use Rattle.command_core.specs.Changed.{CanChange, CanAnswer}
 
 -- what the rows refuse needs nothing of what is held
-pub can-decided : (cpu : ℕ) (hold : Hold) (rows : List Row) (accepted : Accepted) → CanAnswer cpu hold (Ok accepted) → CanAnswer cpu hold (decided rows accepted)
-can-decided cpu hold [] accepted can = can
-can-decided cpu hold (first ∷ rows) accepted can = by first.holds (can-decided cpu hold rows accepted can)
+pub can-done : (cpu : ℕ) (hold : Hold) (change : Change) (words : List ℕ) (rows : List Row) → CanChange cpu hold change → CanAnswer cpu hold (decided rows (done words change))
+can-done cpu hold change words [] can = can
+can-done cpu hold change words (first ∷ rows) can = by first.holds (can-done cpu hold change words rows can)
   where
-    by : (b : Bool) → CanAnswer cpu hold (decided rows accepted) → CanAnswer cpu hold (if b then decided rows accepted else Err first.otherwise)
+    by : (b : Bool) → CanAnswer cpu hold (decided rows (done words change))
+        → CanAnswer cpu hold (if b then decided rows (done words change) else Err first.otherwise)
     by true later = later
     by false later = tt
 
@@ -54,28 +52,22 @@ rec_create-same s t rd rec mpidr flags aux0 aux1 of_rd of_rec of_aux0 of_aux1 re
     ∷ row (is_new (realm i)) (realm_error 0) ∷ input (mpidr == (realm i).next_index && nat_lt mpidr 8) ∷ [])
     (done [] (RecMade rd rec mpidr flags aux0 aux1))
 
--- whether the VMID is used is told by the side table
-pub realm_create-listed : (s t : State) (rd root width level vmid algo : ℕ) (used : Bool) → has_tag s rd Delegated ≡ has_tag t rd Delegated
-    → has_tag s root Delegated ≡ has_tag t root Delegated → is_vmid_used s vmid ≡ used
-    → realm_create s rd root width level vmid algo
-    ≡ decided (with_front t (call.RealmCreate rd root width level vmid algo) (input (not used) ∷ [])) (done [] (RealmMade rd root width level vmid algo))
-unfolding realm_create words_of named
-realm_create-listed s t rd root width level vmid algo used of_rd of_root is =
-    λ i. decided
-    (input (not (rd == root)) ∷ input (is_space width level) ∷ input (nat_le vmid 0xff) ∷ input (algo == 0)
-    ∷ input (of_rd i) ∷ input (of_root i) ∷ input (not (is i)) ∷ [])
-    (done [] (RealmMade rd root width level vmid algo))
+-- it may be told otherwise whether a realm has the VMID
+pub realm_create-same : (s t : State) (rd root width level vmid algo : ℕ) (used told : Bool) → has_tag s rd Delegated ≡ has_tag t rd Delegated
+    → has_tag s root Delegated ≡ has_tag t root Delegated → used ≡ told
+    → realm_create_told used s rd root width level vmid algo ≡ realm_create_told told t rd root width level vmid algo
+unfolding words_of named
+realm_create-same s t rd root width level vmid algo used told of_rd of_root same = rw (of_rd, of_root, same) refl
 
--- whether the realm has RECs is told by the side table, and whether its root has a link by that table
-pub realm_destroy-listed : (s t : State) (rd root : ℕ) (recs linked : Bool) → has_tag s rd Rd ≡ has_tag t rd Rd → has_rec s rd ≡ recs
-    → has_link s rd (realm_at s rd).start_level 0 ≡ linked → (realm_at s rd).root ≡ root
-    → realm_destroy s rd
-    ≡ decided (with_front t (call.RealmDestroy rd) (row (not recs) (realm_error 0) ∷ row (not linked) (realm_error 0) ∷ [])) (done [] (RealmDestroyed rd root))
-unfolding realm_destroy words_of named
-realm_destroy-listed s t rd root recs linked of_rd has_recs has_links is_root =
+-- and whether a REC belongs to the realm
+pub realm_destroy-same : (s t : State) (rd : ℕ) (owns told : Bool) → has_tag s rd Rd ≡ has_tag t rd Rd → owns ≡ told
+    → has_link s rd (realm_at s rd).start_level 0 ≡ has_link t rd (realm_at t rd).start_level 0 → realm_at s rd ≡ realm_at t rd
+    → realm_destroy_told owns s rd ≡ realm_destroy_told told t rd
+unfolding words_of named
+realm_destroy-same s t rd owns told of_rd same linked realm =
     λ i. decided
-    (input (of_rd i) ∷ row (not (has_recs i)) (realm_error 0) ∷ row (not (has_links i)) (realm_error 0) ∷ [])
-    (done [] (RealmDestroyed rd (is_root i)))
+    (input (of_rd i) ∷ row (not (same i)) (realm_error 0) ∷ row (not (linked i)) (realm_error 0) ∷ [])
+    (done [] (RealmDestroyed rd (realm i).root))
 
 pub rec_destroy-same : (s t : State) (rec : ℕ) → has_tag s rec Rec ≡ has_tag t rec Rec → rec_at s rec ≡ rec_at t rec → rec_destroy s rec ≡ rec_destroy t rec
 unfolding rec_destroy words_of named

@@ -4,7 +4,6 @@ use Rattle.std.specs.Prelude.{IsTrue, Contains}
 use Rattle.std.specs.List.{AllByRecursion}
 use Rattle.std.proofs.lemmas.Bool.{false≢true, and_parts}
 use Rattle.std.proofs.lemmas.List.Elements.{All-contains, All-from_recursion}
-use Rattle.std.proofs.lemmas.Option.{none-some, same_Some}
 use Rattle.rmm_spec.specs.declared.accepted.Accepted.{Accepted}
 use Rattle.rmm_spec.specs.declared.accepted.Accepted.TheVariants.{Done, Reaches}
 use Rattle.rmm_spec.specs.declared.change.Change.{Change}
@@ -22,7 +21,7 @@ use Rattle.rmm_spec.specs.Lookup.{has_tag, tag_number, is_granule}
 use Rattle.rmm_spec.specs.State.{RecRecord}
 use Rattle.rmm_spec.specs.Rows.{ok}
 use Rattle.rmm_spec.specs.Step.{Step, outcome}
-use Rattle.rmm_spec.specs.Cell.{Cell, Undelegated, Delegated, Rd, Rec, RecAux, Data, Rtt, put, tag_of, rec_in}
+use Rattle.rmm_spec.specs.Cell.{Cell, Undelegated, Delegated, Rd, Rec, RecAux, Data, Rtt, put, tag_of}
 use Rattle.rmm_spec.specs.Flat.{flat_state}
 use Rattle.rmm_spec.specs.Shape.{Outside, Inside, IsWellShaped}
 use Rattle.rmm_spec.specs.Local.{HeldCell, Hold, granules_held, put_all}
@@ -33,10 +32,10 @@ use Rattle.world_laws.proofs.Refusals.{Step-refused}
 use Rattle.shape_laws.specs.Whole.{cells_changed, side_changed, side_without_vmid, side_without_rec, places_changed, places_of_rec, cell_with_tag, cell_with_realm, cell_with_rec}
 use Rattle.shape_laws.proofs.Accepted.{done-keeps_shape}
 use Rattle.shape_laws.proofs.Ties.{well_shaped-is_sound}
-use Rattle.refusal_laws.proofs.Readings.{Whole, state}
 use Rattle.command_core.specs.Seen.{is_held, known_cell}
 use Rattle.command_core.specs.Changed.{new_cells, place_with_rec, new_place, IsOnCpu, CanChange, CanAnswer, Answers, IsAnswer}
-use Rattle.command_core.proofs.SeenCells.{known-same, held-contains}
+use Rattle.command_core.proofs.SeenCells.{held-contains}
+use Rattle.command_core.proofs.Wholes.{Whole, state, same_at, rec_cell}
 
 -- ---- granules with two tags are two
 
@@ -52,10 +51,6 @@ tags_apart granules cells g h t u first second apart same =
     false≢true (sym apart ∙ eq-eqb (tag_number t) (tag_number u) (sym one ∙ (ap (λ x. tag_number (tag_of (cells x))) same ∙ two)))
 
 -- ---- cells
-
--- the whole's cell at a granule that is held
-pub same_at : (granules cpu : ℕ) (hold : Hold) (w : Whole granules cpu hold) (g : ℕ) → IsTrue (is_held g hold.cells) → w.cells g ≡ known_cell hold.cells g
-same_at granules cpu hold w g held = known-same hold.cells w.cells g w.agrees held
 
 cells-changed : (granules cpu : ℕ) (hold : Hold) (w : Whole granules cpu hold) (change : Change) → CanApply (state granules cpu hold w) change
     → CanChange cpu hold change → cells_changed granules w.cells change ≡ put_all w.cells (new_cells hold.cells change)
@@ -112,15 +107,6 @@ side-changed granules cpu hold w (EntriesChanged rd level entries page realm rec
 -- a place that is put in where it was
 same_place : (granules cpu : ℕ) (hold : Hold) (w : Whole granules cpu hold) → w.places ≡ put w.places cpu hold.place
 same_place granules cpu hold w = sym (put-same w.places cpu hold.place w.placed)
-
-pub rec_cell : (c : Cell) (rec : RecRecord) → rec_in c ≡ Some rec → c ≡ Rec rec
-rec_cell Undelegated rec is = absurd (none-some rec is)
-rec_cell Delegated rec is = absurd (none-some rec is)
-rec_cell (Rd realm) rec is = absurd (none-some rec is)
-rec_cell (Rec other) rec is = ap Rec (same_Some other rec is)
-rec_cell RecAux rec is = absurd (none-some rec is)
-rec_cell Data rec is = absurd (none-some rec is)
-rec_cell (Rtt table) rec is = absurd (none-some rec is)
 
 place-rec : (granules cpu : ℕ) (hold : Hold) (w : Whole granules cpu hold) (address : ℕ) (u : RecUpdate) (c : Cell) → w.cells address ≡ c
     → IsOnCpu cpu hold.place address u → places_of_rec w.places address u c ≡ put w.places cpu (place_with_rec hold.place address u c)

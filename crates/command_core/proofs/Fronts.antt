@@ -1,23 +1,29 @@
--- A host's command that its words refuse, or a tag of what is held, is refused in a local step.
-use Rattle.std.proofs.Common.{◌≡◌, ℕ, Bool, true, false, not, ◌&&◌, ◌||◌, ◌==◌, if◌then◌else◌, List, [], ◌∷◌, Option, Some, None, ◌⊎◌, inl, inr, refl, sym, ap, ◌∙◌, subst, eqb-true}
-use Rattle.std.specs.Prelude.{IsTrue, Contains}
+-- A host's command that its words refuse, or a tag of what is held, is refused by what is held as by every whole that agrees.
+use Rattle.std.proofs.Common.{◌≡◌, ℕ, Bool, true, false, not, ◌&&◌, ◌||◌, ◌==◌, if◌then◌else◌, List, [], ◌∷◌, Option, Some, None, Err, refl, sym, ap, ◌∙◌, subst, eqb-true}
+use Rattle.std.specs.Prelude.{IsTrue, Contains, is_some}
 use Rattle.std.specs.List.{list_any, list_all}
 use Rattle.std.proofs.lemmas.Bool.{false≢true, and_parts, not-true}
+use Rattle.rmm_spec.specs.declared.call.Call.{Call}
+use Rattle.rmm_spec.specs.declared.call.Call.TheVariants as call
 use Rattle.rmm_spec.specs.declared.command.Command.{Command}
 use Rattle.rmm_spec.specs.Call.{ByHost, call_of, class_of}
-use Rattle.rmm_spec.specs.Lookup.{tag_number, is_granule}
+use Rattle.rmm_spec.specs.State.{State}
+use Rattle.rmm_spec.specs.Lookup.{has_tag, tag_number, is_granule}
 use Rattle.rmm_spec.specs.Rows.{Needed, input_error}
 use Rattle.rmm_spec.specs.Step.Words.{words_of}
 use Rattle.rmm_spec.specs.Step.Named.{named}
-use Rattle.rmm_spec.specs.Cell.{Cell, tag_of}
+use Rattle.rmm_spec.specs.Cell.{Cell, Undelegated, tag_of}
 use Rattle.rmm_spec.specs.Shape.{Outside}
 use Rattle.rmm_spec.specs.Local.{HeldCell, Hold, granules_held, LocalStep}
 use Rattle.world_laws.specs.Replaced.{held_at}
-use Rattle.world_laws.proofs.Members.{Contains-head, Contains-tail}
-use Rattle.world_laws.proofs.Refusals.{words-are_local, addresses-are_local, tags-are_local}
-use Rattle.command_core.specs.Seen.{cell_in}
+use Rattle.world_laws.proofs.Members.{Contains-head, Contains-tail, slice_get-from_Contains}
+use Rattle.world_laws.proofs.Refusals.{IsRefusedInFront, by_words, by_tag, decided-front, answer_of-front, words-are_local, addresses-are_local, tags-are_local}
+use Rattle.command_rows.specs.Answers.{host_answer, outside_answer}
+use Rattle.command_core.specs.Seen.{cell_in, is_held, known_cell}
 use Rattle.command_core.specs.Named.{is_wrong_for, is_wrong, has_wrong, words_fit}
-use Rattle.command_core.proofs.Rising.{found-contains}
+use Rattle.command_core.specs.SeenState.{seen_state}
+use Rattle.command_core.proofs.Rising.{none_at, found-contains, right_tag}
+use Rattle.command_core.proofs.SeenCells.{known}
 
 -- ---- tests on lists
 
@@ -29,7 +35,7 @@ pub record Passes {X : Type 0} (p : X → Bool) (b : Bool) (xs : List X) : Type 
 later : {X : Type 0} (p : X → Bool) (b : Bool) (x : X) (xs : List X) → Passes p b xs → Passes p b (x ∷ xs)
 later p b x xs found = record { it = found.it; has = Contains-tail x xs found.it found.has; is = found.is }
 
-pub some-passes : {X : Type 0} (p : X → Bool) (xs : List X) → list_any p xs ≡ true → Passes p true xs
+some-passes : {X : Type 0} (p : X → Bool) (xs : List X) → list_any p xs ≡ true → Passes p true xs
 some-passes p [] any = absurd (false≢true any)
 some-passes p (x ∷ xs) any = by (p x) refl (some-passes p xs) any
   where
@@ -52,6 +58,7 @@ pub record WrongTag (names : List Needed) (held : List HeldCell) : Type 0 where
   pub h : HeldCell
   pub n : Needed
   pub has_h : Contains held h
+  pub found : cell_in h.granule held ≡ Some h.cell
   pub has_n : Contains names n
   pub same : n.granule ≡ h.granule
   pub wrong : (tag_number (tag_of h.cell) == tag_number n.tag) ≡ false
@@ -65,6 +72,7 @@ wrong_name names held g (Some c) found is =
       h = held_at g c;
       n = name.it;
       has_h = found-contains held g c found;
+      found = found;
       has_n = name.has;
       same = eqb-true name.it.granule g parts.0;
       wrong = not-true (tag_number (tag_of c) == tag_number name.it.tag) parts.1;
@@ -76,24 +84,86 @@ wrong_tag names held is =
     let granule = some-passes (λ g. is_wrong (cell_in g held) g names) (granules_held held) is in
     wrong_name names held granule.it (cell_in granule.it held) refl granule.is
 
+-- what is held at a name, with the tag that is needed there
+pub record NamedCell (held : List HeldCell) (n : Needed) : Type 0 where
+  pub cell : Cell
+  pub found : cell_in n.granule held ≡ Some cell
+  pub tagged : tag_of cell ≡ n.tag
+
+pub named-cell : (names : List Needed) (held : List HeldCell) → has_wrong names held ≡ false → (n : Needed) → Contains names n
+    → IsTrue (is_held n.granule held) → NamedCell held n
+unfolding has_wrong
+named-cell names held right n has holds = by (cell_in n.granule held) refl holds
+  where
+    by : (o : Option Cell) → cell_in n.granule held ≡ o → IsTrue (is_some o) → NamedCell held n
+    by None found is = absurd (false≢true is)
+    by (Some c) found is =
+        let here = none_at (λ g. is_wrong (cell_in g held) g names) held right (held_at n.granule c) (found-contains held n.granule c found) in
+        let fits : is_wrong_for c n.granule names ≡ false = subst (λ o. is_wrong o n.granule names ≡ false) found here in
+        record { cell = c; found = found; tagged = right_tag names n.granule c fits n has refl }
+
 -- ---- refusals
 
-pub wrong_tag-refused : (granules cpu : ℕ) (command : Command) (hold : Hold) → class_of (call_of command) ≡ ByHost → hold.place ≡ Outside
-    → has_wrong (named (call_of command)) hold.cells ≡ true → LocalStep granules cpu command input_error hold hold
-wrong_tag-refused granules cpu command hold host place is =
-    let w = wrong_tag (named (call_of command)) hold.cells is in
-    tags-are_local granules cpu command hold w.h w.n host place w.has_h w.has_n w.same w.wrong
+-- an address that is no granule has no tag
+tag-no_granule : (granules : ℕ) (held : List HeldCell) (n : Needed) → is_granule granules n.granule ≡ false
+    → has_tag (seen_state granules held) n.granule n.tag ≡ false
+unfolding has_tag seen_state
+tag-no_granule granules held n none = rw none refl
 
-pub unfit-refused : (granules cpu : ℕ) (command : Command) (hold : Hold) → class_of (call_of command) ≡ ByHost → hold.place ≡ Outside
-    → words_fit granules (call_of command) ≡ false → LocalStep granules cpu command input_error hold hold
-unfolding words_fit
-unfit-refused granules cpu command hold host place unfit =
-    by (list_all (λ allowed. allowed) (words_of (call_of command))) refl unfit
+tag-wrong : (granules : ℕ) (held : List HeldCell) (n : Needed) (c : Cell) → cell_in n.granule held ≡ Some c
+    → (tag_number (tag_of c) == tag_number n.tag) ≡ false → has_tag (seen_state granules held) n.granule n.tag ≡ false
+unfolding has_tag seen_state
+tag-wrong granules held n c found wrong = by (is_granule granules n.granule)
   where
-    by : (b : Bool) → list_all (λ allowed. allowed) (words_of (call_of command)) ≡ b
-        → (b && list_all (λ (n : Needed). is_granule granules n.granule) (named (call_of command))) ≡ false
-        → LocalStep granules cpu command input_error hold hold
-    by false words is = words-are_local granules cpu command hold host place words
-    by true words is =
-        let name = some-fails (λ (n : Needed). is_granule granules n.granule) (named (call_of command)) is in
+    by : (b : Bool) → (b && tag_number (tag_of (if b then known_cell held n.granule else Undelegated)) == tag_number n.tag) ≡ false
+    by true = ap (λ (x : Cell). tag_number (tag_of x) == tag_number n.tag) (known held n.granule c found) ∙ wrong
+    by false = refl
+
+-- what the words refuse, or a tag of what is held, is refused in front by the state that the cells tell of
+pub front-refused : (granules : ℕ) (held : List HeldCell) (c : Call) → (not (words_fit granules c) || has_wrong (named c) held) ≡ true
+    → IsRefusedInFront (seen_state granules held) c
+unfolding words_fit
+front-refused granules held c is =
+    by (list_all (λ allowed. allowed) (words_of c)) (list_all (λ (n : Needed). is_granule granules n.granule) (named c)) refl refl is
+  where
+    by : (b d : Bool) → list_all (λ allowed. allowed) (words_of c) ≡ b → list_all (λ (n : Needed). is_granule granules n.granule) (named c) ≡ d
+        → (not (b && d) || has_wrong (named c) held) ≡ true → IsRefusedInFront (seen_state granules held) c
+    by false d words names is = by_words words
+    by true false words names is =
+        let name = some-fails (λ (n : Needed). is_granule granules n.granule) (named c) names in
+        let at = slice_get-from_Contains (named c) name.it name.has in
+        by_tag at.0 name.it at.1 (tag-no_granule granules held name.it name.is)
+    by true true words names is =
+        let w = wrong_tag (named c) held is in
+        let at = slice_get-from_Contains (named c) w.n w.has_n in
+        by_tag at.0 w.n at.1 (tag-wrong granules held w.n w.h.cell (ap (λ g. cell_in g held) w.same ∙ w.found) w.wrong)
+
+outside-front : (vmids recs : ℕ → Bool) (s : State) (cpu : ℕ) (c : Call) → class_of c ≡ ByHost → IsRefusedInFront s c
+    → outside_answer vmids recs s cpu c ≡ Err input_error
+unfolding outside_answer
+outside-front vmids recs s cpu (call.RealmCreate rd root width level vmid algo) host refused =
+    decided-front s (call.RealmCreate rd root width level vmid algo) _ _ refused
+outside-front vmids recs s cpu (call.RealmDestroy rd) host refused = decided-front s (call.RealmDestroy rd) _ _ refused
+outside-front vmids recs s cpu c host refused = ap (λ k. host_answer k s cpu c) host ∙ answer_of-front s cpu c refused
+
+-- and so it is by every whole that agrees
+pub refused-answer : (granules cpu : ℕ) (command : Command) (hold : Hold) (vmids recs : ℕ → Bool) → class_of (call_of command) ≡ ByHost → hold.place ≡ Outside
+    → (not (words_fit granules (call_of command)) || has_wrong (named (call_of command)) hold.cells) ≡ true
+    → (outside_answer vmids recs (seen_state granules hold.cells) cpu (call_of command) ≡ Err input_error)
+    × LocalStep granules cpu command input_error hold hold
+unfolding words_fit
+refused-answer granules cpu command hold vmids recs host place is = (
+  outside-front vmids recs (seen_state granules hold.cells) cpu (call_of command) host (front-refused granules hold.cells (call_of command) is),
+  by (list_all (λ allowed. allowed) (words_of (call_of command))) (list_all (λ (n : Needed). is_granule granules n.granule) (named (call_of command))) refl refl is,
+)
+  where
+    by : (b d : Bool) → list_all (λ allowed. allowed) (words_of (call_of command)) ≡ b
+        → list_all (λ (n : Needed). is_granule granules n.granule) (named (call_of command)) ≡ d
+        → (not (b && d) || has_wrong (named (call_of command)) hold.cells) ≡ true → LocalStep granules cpu command input_error hold hold
+    by false d words names is = words-are_local granules cpu command hold host place words
+    by true false words names is =
+        let name = some-fails (λ (n : Needed). is_granule granules n.granule) (named (call_of command)) names in
         addresses-are_local granules cpu command hold name.it host place name.has name.is
+    by true true words names is =
+        let w = wrong_tag (named (call_of command)) hold.cells is in
+        tags-are_local granules cpu command hold w.h w.n host place w.has_h w.has_n w.same w.wrong

@@ -10,16 +10,16 @@ use Rattle.world_laws.specs.Replaced.{replaced_cells}
 use Rattle.world_laws.proofs.Lists.{map-push}
 use Rattle.command_core.specs.Seen.{cell_of, cell_in, is_held, are_distinct}
 use Rattle.command_core.specs.Plain.{held_of}
-use Rattle.command_core.specs.declared.cell.Cell.{Cell}
-use Rattle.command_core.specs.declared.cell.Cell.TheVariants.{Undelegated}
-use Rattle.command_core.specs.declared.plain_held.Entry.{Entry}
+use Rattle.granule_cells.specs.declared.cell.Cell.{Cell}
+use Rattle.granule_cells.specs.declared.cell.Cell.TheVariants.{Undelegated}
+use Rattle.command_core.specs.declared.plain_held.PlainCell.{PlainCell}
 
-abbrev pub granules_of : List Entry → List ℕ
-granules_of entries = map (λ (e : Entry). e.granule) entries
+abbrev pub granules_of : List PlainCell → List ℕ
+granules_of entries = map (λ (e : PlainCell). e.granule) entries
 
 -- ---- finding
 
-found-at : (entries : List Entry) (g i : ℕ) (d : Entry) → i < length entries → ((get_or entries i d).granule == g) ≡ true
+found-at : (entries : List PlainCell) (g i : ℕ) (d : PlainCell) → i < length entries → ((get_or entries i d).granule == g) ≡ true
     → ((k : ℕ) → k < i → ((get_or entries k d).granule == g) ≡ false) → cell_in g (map held_of entries) ≡ Some (cell_of (get_or entries i d).cell)
 found-at [] g i d within is before = absurd (omega arith)
 found-at (e ∷ entries) g zero d within is before = rw is refl
@@ -27,27 +27,27 @@ found-at (e ∷ entries) g (suc i) d within is before =
     let first : (e.granule == g) ≡ false = before 0 (omega arith) in
     rw first (found-at entries g i d (omega arith) is (λ k less. before (suc k) (omega arith)))
 
-not_found : (entries : List Entry) (g : ℕ) (d : Entry) → ((k : ℕ) → k < length entries → ((get_or entries k d).granule == g) ≡ false)
+not_found : (entries : List PlainCell) (g : ℕ) (d : PlainCell) → ((k : ℕ) → k < length entries → ((get_or entries k d).granule == g) ≡ false)
     → cell_in g (map held_of entries) ≡ None
 not_found [] g d none = refl
 not_found (e ∷ entries) g d none =
     let first : (e.granule == g) ≡ false = none 0 (omega arith) in
     rw first (not_found entries g d (λ k less. none (suc k) (omega arith)))
 
-pub cell_in-place : (entries : List Entry) (g i : ℕ) (e : Entry) → position (λ (x : Entry). x.granule == g) entries ≡ Some i → e ≡ get_or entries i e
+pub cell_in-place : (entries : List PlainCell) (g i : ℕ) (e : PlainCell) → position (λ (x : PlainCell). x.granule == g) entries ≡ Some i → e ≡ get_or entries i e
     → cell_in g (map held_of entries) ≡ Some (cell_of e.cell)
 cell_in-place entries g i e is at =
-    let place = position-Some (λ (x : Entry). x.granule == g) entries i e is in
-    found-at entries g i e place.0 place.1 place.2 ∙ ap (λ (x : Entry). Some (cell_of x.cell)) (sym at)
+    let place = position-Some (λ (x : PlainCell). x.granule == g) entries i e is in
+    found-at entries g i e place.0 place.1 place.2 ∙ ap (λ (x : PlainCell). Some (cell_of x.cell)) (sym at)
 
 no_place : (b : Bool) (n : ℕ) → cond b (Some n) None ≡ None → b ≡ false
 no_place true n is = absurd cc
 no_place false n is = refl
 
-pub cell_in-no_place : (entries : List Entry) (g : ℕ) → position (λ (x : Entry). x.granule == g) entries ≡ None → cell_in g (map held_of entries) ≡ None
+pub cell_in-no_place : (entries : List PlainCell) (g : ℕ) → position (λ (x : PlainCell). x.granule == g) entries ≡ None → cell_in g (map held_of entries) ≡ None
 cell_in-no_place entries g is =
-    let p : Entry → Bool = λ x. x.granule == g in
-    let d : Entry = record { granule = 0; cell = Undelegated } in
+    let p : PlainCell → Bool = λ x. x.granule == g in
+    let d : PlainCell = record { granule = 0; cell = Undelegated } in
     let test : ltb (position_or_len p entries) (length entries) ≡ false = no_place _ (position_or_len p entries) is in
     let past : length entries ≤ position_or_len p entries = grind (arith, nat_tests) in
     not_found entries g d (λ k less. fails_before_first p entries k d (omega (arith, past, less)))
@@ -58,7 +58,7 @@ either : (b c : Bool) → (b || c) ≡ false → (b ≡ false) × (c ≡ false)
 either true c is = absurd (false≢true (sym is))
 either false c is = (refl, is)
 
-none_replaced : (entries : List Entry) (g : ℕ) (c : Cell) → list_any (λ other. other == g) (granules_of entries) ≡ false
+none_replaced : (entries : List PlainCell) (g : ℕ) (c : Cell) → list_any (λ other. other == g) (granules_of entries) ≡ false
     → replaced_cells (map held_of entries) g (cell_of c) ≡ map held_of entries
 none_replaced [] g c none = refl
 none_replaced (e ∷ entries) g c none =
@@ -66,7 +66,7 @@ none_replaced (e ∷ entries) g c none =
     let first : (e.granule == g) ≡ false = parts.0 in
     rw first (ap (λ rest. held_of e ∷ rest) (none_replaced entries g c parts.1))
 
-set_at : (entries : List Entry) (g i : ℕ) (d : Entry) (c : Cell) → i < length entries → ((get_or entries i d).granule == g) ≡ true
+set_at : (entries : List PlainCell) (g i : ℕ) (d : PlainCell) (c : Cell) → i < length entries → ((get_or entries i d).granule == g) ≡ true
     → ((k : ℕ) → k < i → ((get_or entries k d).granule == g) ≡ false) → IsTrue (are_distinct (granules_of entries))
     → map held_of (slice_set entries i (record { granule = (get_or entries i d).granule; cell = c })) ≡ replaced_cells (map held_of entries) g (cell_of c)
 set_at [] g i d c within is before distinct = absurd (omega arith)
@@ -80,24 +80,24 @@ set_at (e ∷ entries) g (suc i) d c within is before distinct =
     let first : (e.granule == g) ≡ false = before 0 (omega arith) in
     rw first (ap (λ rest. held_of e ∷ rest) (set_at entries g i d c (omega arith) is (λ k less. before (suc k) (omega arith)) parts.1))
 
-pub replaced-place : (entries : List Entry) (g i : ℕ) (e : Entry) (c : Cell) → position (λ (x : Entry). x.granule == g) entries ≡ Some i
+pub replaced-place : (entries : List PlainCell) (g i : ℕ) (e : PlainCell) (c : Cell) → position (λ (x : PlainCell). x.granule == g) entries ≡ Some i
     → e ≡ get_or entries i e → IsTrue (are_distinct (granules_of entries))
     → map held_of (slice_set entries i (record { granule = e.granule; cell = c })) ≡ replaced_cells (map held_of entries) g (cell_of c)
 replaced-place entries g i e c is at distinct =
-    let place = position-Some (λ (x : Entry). x.granule == g) entries i e is in
-    subst (λ (x : Entry). map held_of (slice_set entries i (record { granule = x.granule; cell = c })) ≡ replaced_cells (map held_of entries) g (cell_of c)) (sym at)
+    let place = position-Some (λ (x : PlainCell). x.granule == g) entries i e is in
+    subst (λ (x : PlainCell). map held_of (slice_set entries i (record { granule = x.granule; cell = c })) ≡ replaced_cells (map held_of entries) g (cell_of c)) (sym at)
     (set_at entries g i e c place.0 place.1 place.2 distinct)
 
 -- the granules stay
-pub granules_of-set : (entries : List Entry) (i : ℕ) (e : Entry) (c : Cell) → e ≡ get_or entries i e
+pub granules_of-set : (entries : List PlainCell) (i : ℕ) (e : PlainCell) (c : Cell) → e ≡ get_or entries i e
     → granules_of (slice_set entries i (record { granule = e.granule; cell = c })) ≡ granules_of entries
 granules_of-set [] i e c at = refl
-granules_of-set (first ∷ entries) zero e c at = ap (λ (x : Entry). x.granule ∷ granules_of entries) at
+granules_of-set (first ∷ entries) zero e c at = ap (λ (x : PlainCell). x.granule ∷ granules_of entries) at
 granules_of-set (first ∷ entries) (suc i) e c at = ap (λ rest. first.granule ∷ rest) (granules_of-set entries i e c at)
 
 -- ---- one more
 
-pub unheld-apart : (entries : List Entry) (g : ℕ) → is_held g (map held_of entries) ≡ false → list_any (λ other. other == g) (granules_of entries) ≡ false
+pub unheld-apart : (entries : List PlainCell) (g : ℕ) → is_held g (map held_of entries) ≡ false → list_any (λ other. other == g) (granules_of entries) ≡ false
 unheld-apart [] g none = refl
 unheld-apart (e ∷ entries) g none = by (e.granule == g) (unheld-apart entries g) none
   where
@@ -123,7 +123,7 @@ distinct-push (x ∷ gs) g distinct none =
     and_from (not (list_any (λ other. other == x) (gs ++ g ∷ []))) (are_distinct (gs ++ g ∷ [])) (ap not behind) (distinct-push gs g parts.1 apart.1)
 
 -- the granules of the one list are still those of the other
-pub pushed-listed : (gs news : List ℕ) (es more : List Entry) (e : Entry) → news ≡ gs ++ e.granule ∷ [] → more ≡ es ++ e ∷ [] → gs ≡ granules_of es
+pub pushed-listed : (gs news : List ℕ) (es more : List PlainCell) (e : PlainCell) → news ≡ gs ++ e.granule ∷ [] → more ≡ es ++ e ∷ [] → gs ≡ granules_of es
     → news ≡ granules_of more
 pushed-listed gs news es more e first second listed =
-    first ∙ (ap (λ xs. xs ++ e.granule ∷ []) listed ∙ (sym (map-push (λ (x : Entry). x.granule) es e) ∙ sym (ap granules_of second)))
+    first ∙ (ap (λ xs. xs ++ e.granule ∷ []) listed ∙ (sym (map-push (λ (x : PlainCell). x.granule) es e) ∙ sym (ap granules_of second)))

@@ -1,11 +1,8 @@
 -- What is held is what a whole has that agrees with it.
-use Rattle.std.proofs.Common.{◌≡◌, ℕ, Bool, true, false, ◌&&◌, ◌==◌, if◌then◌else◌, List, [], ◌∷◌, Some, refl, ap, subst, eqb-true}
+use Rattle.std.proofs.Common.{◌≡◌, ℕ, Bool, true, false, ◌==◌, if◌then◌else◌, List, [], ◌∷◌, Option, Some, refl, ap, subst, eqb-true}
 use Rattle.std.specs.Prelude.{IsTrue, Contains, is_some, unwrap_or}
-use Rattle.std.proofs.lemmas.Bool.{false≢true, and_from, eq-eqb}
-use Rattle.rmm_spec.specs.declared.tag.Tag.{Tag}
-use Rattle.rmm_spec.specs.Lookup.{tag_number, is_granule, has_tag, realm_at, rec_at, no_realm, no_rec}
-use Rattle.rmm_spec.specs.Cell.{Cell, Undelegated, tag_of, realm_in, rec_in}
-use Rattle.rmm_spec.specs.Flat.{flat_state}
+use Rattle.std.proofs.lemmas.Bool.{false≢true}
+use Rattle.rmm_spec.specs.Cell.{Cell, Undelegated}
 use Rattle.rmm_spec.specs.Local.{HeldCell, granules_held, Agrees}
 use Rattle.world_laws.specs.Replaced.{replaced_cells}
 use Rattle.world_laws.proofs.Members.{Contains-head, Contains-tail}
@@ -19,6 +16,9 @@ known-same (h ∷ held) cells g agrees has = by (h.granule == g) refl (known-sam
         → IsTrue (is_some (if b then Some h.cell else cell_in g held)) → cells g ≡ unwrap_or (if b then Some h.cell else cell_in g held) Undelegated
     by true same rest here = subst (λ x. cells x ≡ h.cell) (eqb-true h.granule g same) agrees.0
     by false apart rest here = rest here
+
+pub known : (held : List HeldCell) (g : ℕ) (c : Cell) → cell_in g held ≡ Some c → known_cell held g ≡ c
+known held g c found = ap (λ (o : Option Cell). unwrap_or o Undelegated) found
 
 -- a granule whose cell is found is in the list
 pub held-contains : (held : List HeldCell) (g : ℕ) → IsTrue (is_held g held) → Contains (granules_held held) g
@@ -40,27 +40,3 @@ is_held-replaced_cells (h ∷ held) g granule cell = by (h.granule == g) (is_hel
         ≡ is_some (if b then Some h.cell else cell_in g held)
     by true rest = refl
     by false rest = rest
-
--- ---- what rows read of it
-
-pub tag-same : (granules : ℕ) (cells others : ℕ → Cell) (g : ℕ) (t : Tag) → cells g ≡ others g
-    → has_tag (flat_state granules cells) g t ≡ has_tag (flat_state granules others) g t
-unfolding has_tag flat_state
-tag-same granules cells others g t same = ap (λ (c : Cell). is_granule granules g && tag_number (tag_of c) == tag_number t) same
-
-pub realm-same : (granules : ℕ) (cells others : ℕ → Cell) (g : ℕ) → cells g ≡ others g
-    → realm_at (flat_state granules cells) g ≡ realm_at (flat_state granules others) g
-unfolding realm_at flat_state
-realm-same granules cells others g same = ap (λ (c : Cell). unwrap_or (realm_in c) no_realm) same
-
-pub rec-same : (granules : ℕ) (cells others : ℕ → Cell) (g : ℕ) → cells g ≡ others g
-    → rec_at (flat_state granules cells) g ≡ rec_at (flat_state granules others) g
-unfolding rec_at flat_state
-rec-same granules cells others g same = ap (λ (c : Cell). unwrap_or (rec_in c) no_rec) same
-
--- a granule of which the cell has the tag
-pub tag-of_cell : (granules : ℕ) (cells : ℕ → Cell) (g : ℕ) (t : Tag) → is_granule granules g ≡ true → tag_of (cells g) ≡ t
-    → has_tag (flat_state granules cells) g t ≡ true
-unfolding has_tag flat_state
-tag-of_cell granules cells g t granule is =
-    and_from (is_granule granules g) (tag_number (tag_of (cells g)) == tag_number t) granule (eq-eqb (tag_number (tag_of (cells g))) (tag_number t) (ap tag_number is))

@@ -24,10 +24,12 @@ use Rattle.command_core.specs.declared.next.Next.{Next}
 use Rattle.command_core.specs.declared.next.Next.TheVariants.{Take, Free, Ready}
 use Rattle.command_core.specs.Seen.{cell_in, is_held, are_distinct}
 use Rattle.command_core.specs.Named.{has_wrong, words_fit, is_less, lesser, least_missing, is_upward, is_downward, holds_all}
-use Rattle.command_core.specs.Settled.{can_learn, is_realm_in, is_owner_seen, is_complete, is_misfit, is_settled_outside, is_settled_inside, is_settled}
+use Rattle.command_core.specs.Unshaped.{can_learn, has_bad_owner, is_misfit, is_unshaped_outside}
+use Rattle.command_core.specs.Settled.{is_complete, is_settled_outside, is_settled_inside, is_settled}
 use Rattle.command_core.specs.Served.{is_served}
 use Rattle.command_core.specs.Plan.{IsStep, IsPlanned, is_ready}
 use Rattle.command_core.specs.Next.{last_taken, taken, take_named, take_least, take_part, take_root, take_auxes, next_aux, learn_realm, take_realm, next_to_enter, first_named, next_outside, next_inside, next_unsettled, next}
+use Rattle.command_core.proofs.Inside.{fitting-granule}
 use Rattle.command_core.proofs.Ready.{settled-ready}
 use Rattle.command_core.proofs.SeenCells.{held-contains}
 use Rattle.command_core.proofs.Rising.{upward-rises, downward-rises}
@@ -124,17 +126,17 @@ root-steps granules c place names held rd distinct one _ found = named-steps gra
 auxes-steps : (granules : ℕ) (c : Call) (place : CpuPlace) (names : List Needed) (held : List HeldCell) (rec : ℕ) → IsTrue (are_distinct (granules_held held))
     → IsOne granules names rec → (o : Option Cell) → cell_in rec held ≡ o → IsStep granules c place names held (take_auxes granules names held rec o)
 auxes-steps granules c place names held rec distinct one (Some (Rec it)) found =
-    part-steps granules c place names held rec (next_aux granules it held) (Rec it) distinct found
+    part-steps granules c place names held rec (next_aux it held) (Rec it) distinct found
 auxes-steps granules c place names held rec distinct one _ found = named-steps granules c place names held rec distinct one
 
 -- ---- REC_ENTER
 
 learn-steps : (granules : ℕ) (held : List HeldCell) (rec : ℕ) → IsTrue (are_distinct (granules_held held)) → is_granule granules rec ≡ true
-    → (o : Option Cell) → cell_in rec held ≡ o → is_owner_seen granules rec o held ≡ false
+    → (o : Option Cell) → cell_in rec held ≡ o → has_bad_owner granules rec o ≡ false
     → IsStep granules (call.RecEnter rec) Outside (named (call.RecEnter rec)) held (learn_realm granules held rec o)
 unfolding named
-learn-steps granules held rec distinct lock (Some (Rec it)) found unseen =
-    let can = not-false (can_learn granules rec it.owner) (or_parts (not (can_learn granules rec it.owner)) (is_realm_in (cell_in it.owner held)) unseen).0 in
+learn-steps granules held rec distinct lock (Some (Rec it)) found shaped =
+    let can = not-false (can_learn granules rec it.owner) shaped in
     let parts = and_parts (is_granule granules it.owner) (not (it.owner == rec)) can in
     record {
       rec = it;
@@ -146,7 +148,7 @@ learn-steps granules held rec distinct lock (Some (Rec it)) found unseen =
       is_lock = parts.0;
       is_other = not-true (it.owner == rec) parts.1;
     }
-learn-steps granules held rec distinct lock _ found unseen =
+learn-steps granules held rec distinct lock _ found shaped =
     named-steps granules (call.RecEnter rec) Outside (named (call.RecEnter rec)) held rec distinct
     (record { is_lock = lock; is_one = named-has (needed rec tag.Rec ∷ []) (needed rec tag.Rec) (Contains-head (needed rec tag.Rec) []) })
 
@@ -169,10 +171,10 @@ realm-steps granules held rec rd distinct lock _ found =
     })
 
 enter-steps : (granules : ℕ) (held : List HeldCell) (rec : ℕ) (learnt : Option ℕ) → IsTrue (are_distinct (granules_held held)) → is_granule granules rec ≡ true
-    → is_owner_seen granules rec (cell_in rec held) held ≡ false
+    → has_bad_owner granules rec (cell_in rec held) ≡ false
     → IsStep granules (call.RecEnter rec) Outside (needs_outside learnt (call.RecEnter rec)) held (next_to_enter granules rec (cell_in rec held) held learnt)
-enter-steps granules held rec None distinct lock unseen = learn-steps granules held rec distinct lock (cell_in rec held) refl unseen
-enter-steps granules held rec (Some rd) distinct lock unseen = realm-steps granules held rec rd distinct lock (cell_in rec held) refl
+enter-steps granules held rec None distinct lock shaped = learn-steps granules held rec distinct lock (cell_in rec held) refl shaped
+enter-steps granules held rec (Some rd) distinct lock shaped = realm-steps granules held rec rd distinct lock (cell_in rec held) refl
 
 -- ---- outside of RECs
 
@@ -191,7 +193,7 @@ only-one granules n locks = record { is_lock = (and_parts (is_granule granules n
 
 -- each command by the names that it has without what is learnt
 plain-steps : (granules : ℕ) (c : Call) (learnt : Option ℕ) (held : List HeldCell) → IsTrue (are_distinct (granules_held held))
-    → list_all (λ (n : Needed). is_granule granules n.granule) (named c) ≡ true → is_complete granules c held ≡ false
+    → list_all (λ (n : Needed). is_granule granules n.granule) (named c) ≡ true → is_complete c held ≡ false
     → ((rec : ℕ) → c ≡ call.RecEnter rec → ⊥) → IsStep granules c Outside (named c) held (next_outside granules c learnt held)
 unfolding is_complete next_outside named
 plain-steps granules (call.RecEnter rec) learnt held distinct locks incomplete other = absurd (other rec refl)
@@ -204,24 +206,15 @@ plain-steps granules c learnt held distinct locks incomplete other =
 
 -- what is learnt is named by an Enter alone
 outside-steps : (granules : ℕ) (c : Call) (learnt : Option ℕ) (held : List HeldCell) → IsTrue (are_distinct (granules_held held))
-    → list_all (λ (n : Needed). is_granule granules n.granule) (named c) ≡ true → is_complete granules c held ≡ false
-    → IsStep granules c Outside (needs_outside learnt c) held (next_outside granules c learnt held)
-unfolding is_complete next_outside named
-outside-steps granules (call.RecEnter rec) learnt held distinct locks incomplete =
-    enter-steps granules held rec learnt distinct (and_parts (is_granule granules rec) true locks).0 incomplete
-outside-steps granules c None held distinct locks incomplete = plain-steps granules c None held distinct locks incomplete (λ rec same. cc)
-outside-steps granules c (Some rd) held distinct locks incomplete = plain-steps granules c (Some rd) held distinct locks incomplete (λ rec same. cc)
+    → list_all (λ (n : Needed). is_granule granules n.granule) (named c) ≡ true → is_unshaped_outside granules c held ≡ false
+    → is_complete c held ≡ false → IsStep granules c Outside (needs_outside learnt c) held (next_outside granules c learnt held)
+unfolding is_unshaped_outside next_outside named
+outside-steps granules (call.RecEnter rec) learnt held distinct locks shaped incomplete =
+    enter-steps granules held rec learnt distinct (and_parts (is_granule granules rec) true locks).0 shaped
+outside-steps granules c None held distinct locks shaped incomplete = plain-steps granules c None held distinct locks incomplete (λ rec same. cc)
+outside-steps granules c (Some rd) held distinct locks shaped incomplete = plain-steps granules c (Some rd) held distinct locks incomplete (λ rec same. cc)
 
 -- ---- inside of a REC
-
--- where nothing speaks against the place, its REC is a granule
-fitting : (granules rec rd : ℕ) (held : List HeldCell) → is_misfit granules rec rd held ≡ false → is_granule granules rec ≡ true
-unfolding is_misfit
-fitting granules rec rd held fits =
-    let locks = is_granule granules rec && is_granule granules rd in
-    let first = or_parts (not (locks && not (rec == rd))) (has_wrong (needed rec tag.Rec ∷ needed rd tag.Rd ∷ []) held) fits in
-    let second = and_parts locks (not (rec == rd)) (not-false (locks && not (rec == rd)) first.0) in
-    (and_parts (is_granule granules rec) (is_granule granules rd) second.0).0
 
 inside-steps : (k : Class) (granules : ℕ) (c : Call) (rec rd : ℕ) (held : List HeldCell) → IsTrue (are_distinct (granules_held held))
     → is_settled_inside k granules rec rd held ≡ false
@@ -232,7 +225,7 @@ inside-steps k granules c rec rd held distinct = by k
     names = needed rec tag.Rec ∷ needed rd tag.Rd ∷ []
 
     one : is_misfit granules rec rd held ≡ false → IsOne granules names rec
-    one fits = record { is_lock = fitting granules rec rd held fits; is_one = named-has names (needed rec tag.Rec) (Contains-head (needed rec tag.Rec) (needed rd tag.Rd ∷ [])) }
+    one fits = record { is_lock = fitting-granule granules rec rd held fits; is_one = named-has names (needed rec tag.Rec) (Contains-head (needed rec tag.Rec) (needed rd tag.Rd ∷ [])) }
 
     by : (kind : Class) → is_settled_inside kind granules rec rd held ≡ false → IsStep granules c (Inside rec rd) names held (next_inside kind granules rec rd held)
     by ByHost open_yet = absurd (false≢true (sym open_yet))
@@ -252,10 +245,11 @@ unsettled-steps granules c Outside learnt held distinct unsettled = by (class_of
     by ByRealm is = absurd (false≢true (sym is))
     by ByExit is = absurd (false≢true (sym is))
     by ByHost is =
-        let parts = or_parts (not (words_fit granules c) || has_wrong (named c) held) (is_complete granules c held) is in
-        let fit = not-false (words_fit granules c) (or_parts (not (words_fit granules c)) (has_wrong (named c) held) parts.0).0 in
+        let parts = or_parts (not (words_fit granules c) || has_wrong (named c) held || is_unshaped_outside granules c held) (is_complete c held) is in
+        let front = or_parts (not (words_fit granules c) || has_wrong (named c) held) (is_unshaped_outside granules c held) parts.0 in
+        let fit = not-false (words_fit granules c) (or_parts (not (words_fit granules c)) (has_wrong (named c) held) front.0).0 in
         outside-steps granules c learnt held distinct
-        (and_parts (list_all (λ allowed. allowed) (words_of c)) (list_all (λ (n : Needed). is_granule granules n.granule) (named c)) fit).1 parts.1
+        (and_parts (list_all (λ allowed. allowed) (words_of c)) (list_all (λ (n : Needed). is_granule granules n.granule) (named c)) fit).1 front.1 parts.1
 unsettled-steps granules c (Inside rec rd) learnt held distinct unsettled = inside-steps (class_of c) granules c rec rd held distinct unsettled
 
 -- ---- the next step

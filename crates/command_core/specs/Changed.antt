@@ -1,6 +1,6 @@
 -- What a change makes of what one CPU holds: its cells, the side table and its place. It is what the same change makes of a
 -- whole, on the cells that are held. This project's own.
-use Rattle.std.specs.Prelude.{◌≡◌, ℕ, ◌≤◌, ◌&&◌, ◌==◌, nat_lt, IsTrue, List, [], ◌∷◌, ◌++◌, Option, Some, None, Result, Ok, Err}
+use Rattle.std.specs.Prelude.{◌≡◌, ℕ, Bool, true, false, ◌&&◌, ◌==◌, nat_lt, nat_le, IsTrue, List, [], ◌∷◌, ◌++◌, length, Option, Some, None, is_some, Result, Ok, Err}
 use Rattle.std.specs.List.{AllByRecursion}
 use Rattle.rmm_spec.specs.declared.accepted.Accepted.{Accepted}
 use Rattle.rmm_spec.specs.declared.accepted.Accepted.TheVariants.{Done, Reaches}
@@ -8,17 +8,18 @@ use Rattle.rmm_spec.specs.declared.change.Change.{Change}
 use Rattle.rmm_spec.specs.declared.change.Change.TheVariants.{Unchanged, Retagged, RealmMade, RealmDestroyed, RecMade, RecDestroyed, RecordsChanged, TableMade, TableDestroyed, EntriesChanged}
 use Rattle.rmm_spec.specs.declared.change.RealmChange.{RealmChange}
 use Rattle.rmm_spec.specs.declared.change.RealmUpdate.{RealmUpdate}
+use Rattle.rmm_spec.specs.declared.change.RealmUpdate.TheVariants as realm_update
 use Rattle.rmm_spec.specs.declared.change.RealmUpdate.TheVariants.{RecCounted}
 use Rattle.rmm_spec.specs.declared.change.RecChange.{RecChange}
 use Rattle.rmm_spec.specs.declared.change.RecUpdate.{RecUpdate}
-use Rattle.rmm_spec.specs.declared.change.RecUpdate.TheVariants.{Entered, Exited}
+use Rattle.rmm_spec.specs.declared.change.RecUpdate.TheVariants.{Entered, Exited, RequestMoved}
 use Rattle.rmm_spec.specs.declared.command.Command.{Command}
 use Rattle.rmm_spec.specs.declared.reply.Reply.{Reply}
 use Rattle.rmm_spec.specs.declared.reply.Reply.TheVariants as reply
 use Rattle.rmm_spec.specs.declared.tag.Tag.{Tag}
 use Rattle.rmm_spec.specs.declared.tag.Tag.TheVariants as tag
-use Rattle.rmm_spec.specs.Applicable.{IsRealmUpdate}
 use Rattle.rmm_spec.specs.Change.{new_realm, new_rec}
+use Rattle.rmm_spec.specs.State.{RecRecord}
 use Rattle.rmm_spec.specs.Lookup.{is_granule}
 use Rattle.rmm_spec.specs.Step.Words.{is_space}
 use Rattle.rmm_spec.specs.Cell.{Cell, Delegated, Rd, Rec, RecAux, Rtt}
@@ -26,7 +27,6 @@ use Rattle.rmm_spec.specs.Shape.{Side, CpuPlace, Outside, Inside}
 use Rattle.rmm_spec.specs.Local.{HeldCell, Hold, LocalStep}
 use Rattle.world_laws.specs.Replaced.{held_at, replaced_all}
 use Rattle.shape_laws.specs.Whole.{cell_with_tag, cell_with_realm, cell_with_rec, root_table, side_changed}
-use Rattle.realm_desc.specs.Updates.{IsRecUpdate}
 use Rattle.command_core.specs.Seen.{is_held, known_cell}
 
 -- ---- cells
@@ -121,52 +121,69 @@ CanAnswer cpu hold (Ok (Reaches stretch)) = ⊥
 -- ---- what a change requires of the records that are held, and of the side table
 
 -- a granule that holds nothing
-abbrev pub IsPlain : Tag → Type 0
-IsPlain tag.Rd = ⊥
-IsPlain tag.Rec = ⊥
-IsPlain tag.Rtt = ⊥
-IsPlain _ = Unit {0}
+abbrev pub is_plain : Tag → Bool
+is_plain tag.Rd = false
+is_plain tag.Rec = false
+is_plain tag.Rtt = false
+is_plain _ = true
 
 -- a realm whose next REC has that index
-abbrev pub CountsIn : ℕ → Cell → Type 0
-CountsIn mpidr (Rd realm) = IsTrue (mpidr == realm.next_index && nat_lt mpidr 8)
-CountsIn mpidr _ = ⊥
+abbrev pub counts_in : ℕ → Cell → Bool
+counts_in mpidr (Rd realm) = mpidr == realm.next_index && nat_lt mpidr 8
+counts_in mpidr _ = false
 
-abbrev pub FitsRealm : RealmUpdate → Cell → Type 0
-FitsRealm update (Rd realm) = IsRealmUpdate update
-FitsRealm update _ = ⊥
+-- a realm's measurements are extended within what they have
+abbrev pub is_realm_update : RealmUpdate → Bool
+is_realm_update (realm_update.MeasurementExtended index size values) =
+    nat_le 1 index && nat_le index 4 && nat_le size 0x40 && length values == 8
+is_realm_update (realm_update.PageMeasured ipa flags digest) = length digest == 4
+is_realm_update (realm_update.RecCounted mpidr flags) = false
+is_realm_update _ = true
 
-abbrev pub FitsRec : RecUpdate → Cell → Type 0
-FitsRec update (Rec rec) = IsRecUpdate rec update
-FitsRec update _ = ⊥
+abbrev pub fits_realm : RealmUpdate → Cell → Bool
+fits_realm update (Rd realm) = is_realm_update update
+fits_realm update _ = false
 
-abbrev pub FitsRealmChange : List HeldCell → Option RealmChange → Type 0
-FitsRealmChange held None = Unit {0}
-FitsRealmChange held (Some change) = FitsRealm change.update (known_cell held change.rd)
+-- a request can be moved where there is one
+abbrev pub is_rec_update : RecRecord → RecUpdate → Bool
+is_rec_update rec (RequestMoved base) = is_some rec.request
+is_rec_update rec _ = true
 
-abbrev pub FitsRecChange : List HeldCell → Option RecChange → Type 0
-FitsRecChange held None = Unit {0}
-FitsRecChange held (Some change) = FitsRec change.update (known_cell held change.rec)
+abbrev pub fits_rec : RecUpdate → Cell → Bool
+fits_rec update (Rec rec) = is_rec_update rec update
+fits_rec update _ = false
+
+abbrev pub fits_realm_change : List HeldCell → Option RealmChange → Bool
+fits_realm_change held None = true
+fits_realm_change held (Some change) = fits_realm change.update (known_cell held change.rd)
+
+abbrev pub fits_rec_change : List HeldCell → Option RecChange → Bool
+fits_rec_change held None = true
+fits_rec_change held (Some change) = fits_rec change.update (known_cell held change.rec)
 
 -- the records are what the change updates
-abbrev pub FitsCells : List HeldCell → Change → Type 0
-FitsCells held (Retagged change) = IsPlain change.tag
-FitsCells held (RealmMade rd root width level vmid algo) = IsTrue (is_space width level) × (algo ≡ 0)
-FitsCells held (RecMade rd rec mpidr flags aux0 aux1) = CountsIn mpidr (known_cell held rd)
-FitsCells held (RecordsChanged realm rec) = FitsRealmChange held realm × FitsRecChange held rec
-FitsCells held (TableMade rd level number rtt entry) = ⊥
-FitsCells held (TableDestroyed rd level number rtt entry) = ⊥
-FitsCells held (EntriesChanged rd level entries page realm rec) = ⊥
-FitsCells held _ = Unit {0}
+abbrev pub fits_cells : List HeldCell → Change → Bool
+fits_cells held (Retagged change) = is_plain change.tag
+fits_cells held (RealmMade rd root width level vmid algo) = is_space width level && algo == 0
+fits_cells held (RecMade rd rec mpidr flags aux0 aux1) = counts_in mpidr (known_cell held rd)
+fits_cells held (RecordsChanged realm rec) = fits_realm_change held realm && fits_rec_change held rec
+fits_cells held (TableMade rd level number rtt entry) = false
+fits_cells held (TableDestroyed rd level number rtt entry) = false
+fits_cells held (EntriesChanged rd level entries page realm rec) = false
+fits_cells held _ = true
 
--- a REC that is made is counted at a granule's address, and a machine has 4096 granules at most
-abbrev pub CanCount : Side → Change → Type 0
-CanCount side (RecMade rd rec mpidr flags aux0 aux1) = IsTrue (is_granule 4096 rd) × (side.rec_counts rd ≤ 4096)
-CanCount side _ = Unit {0}
+-- a REC that is made is counted at a granule's address, and no realm has more RECs than there are granules
+abbrev pub can_count : ℕ → Side → Change → Bool
+can_count granules side (RecMade rd rec mpidr flags aux0 aux1) = is_granule granules rd && nat_le (side.rec_counts rd) granules
+can_count granules side _ = true
 
+unfoldable pub can_make : ℕ → List HeldCell → Side → Change → Bool
+can_make granules held side change = fits_cells held change && can_count granules side change
+
+-- a machine has 4096 granules at most
 pub record CanMake (hold : Hold) (change : Change) : Type 0 where
-  pub fits : FitsCells hold.cells change
-  pub counts : CanCount hold.side change
+  pub fits : IsTrue (fits_cells hold.cells change)
+  pub counts : IsTrue (can_count 4096 hold.side change)
 
 -- ---- decisions
 

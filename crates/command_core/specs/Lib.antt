@@ -1,14 +1,14 @@
 pub mod Seen
+pub mod SeenState
 pub mod Plain
 pub mod PlainLaws
 pub mod Served
 pub mod Changed
 pub mod Named
-pub mod Names
+pub mod Unshaped
 pub mod Settled
 pub mod Plan
-pub mod Decided
 pub mod Sides
-pub mod Callers
+pub mod Decided
 pub mod Next
 pub mod Rooms

@@ -16,9 +16,9 @@ use Rattle.rmm_spec.specs.Local.{HeldCell, granules_held}
 use Rattle.rmm_spec.specs.Locks.{needs_outside}
 use Rattle.command_core.specs.declared.next.Next.{Next}
 use Rattle.command_core.specs.declared.next.Next.TheVariants.{Take, Free, Ready}
-use Rattle.command_core.specs.Seen.{cell_in}
+use Rattle.command_core.specs.Seen.{cell_in, is_held}
 use Rattle.command_core.specs.Named.{is_upward, is_downward, least_missing}
-use Rattle.command_core.specs.Settled.{is_seen, is_settled}
+use Rattle.command_core.specs.Settled.{is_settled}
 
 -- ---- one step
 
@@ -48,12 +48,12 @@ abbrev pub take_root : ℕ → List Needed → List HeldCell → ℕ → Option 
 take_root granules names held rd (Some (Rd realm)) = take_part granules names held rd realm.root
 take_root granules names held rd _ = take_named granules names held rd
 
-abbrev pub next_aux : ℕ → RecRecord → List HeldCell → ℕ
-next_aux granules rec held = if is_seen granules rec.aux0 held then rec.aux1 else rec.aux0
+abbrev pub next_aux : RecRecord → List HeldCell → ℕ
+next_aux rec held = if is_held rec.aux0 held then rec.aux1 else rec.aux0
 
 -- a REC, and then its two others
 abbrev pub take_auxes : ℕ → List Needed → List HeldCell → ℕ → Option Cell → Next
-take_auxes granules names held rec (Some (Rec it)) = take_part granules names held rec (next_aux granules it held)
+take_auxes granules names held rec (Some (Rec it)) = take_part granules names held rec (next_aux it held)
 take_auxes granules names held rec _ = take_named granules names held rec
 
 -- an Enter takes its REC, and frees it as it learns the realm

@@ -2,10 +2,10 @@
 use Rattle.std.specs.Prelude.{List, map}
 use Rattle.rmm_spec.specs.Local.{HeldCell}
 use Rattle.command_core.specs.Seen.{cell_of}
-use Rattle.command_core.specs.declared.plain_held.Entry.{Entry}
+use Rattle.command_core.specs.declared.plain_held.PlainCell.{PlainCell}
 use Rattle.command_core.specs.declared.plain_held.PlainHeld.{PlainHeld}
 
-abbrev pub held_of : Entry → HeldCell
+abbrev pub held_of : PlainCell → HeldCell
 held_of entry = record { granule = entry.granule; cell = cell_of entry.cell }
 
 abbrev pub plain_cells : PlainHeld → List HeldCell

@@ -4,14 +4,14 @@ use Rattle.std.specs.Prelude.{IsTrue}
 use Rattle.rmm_spec.specs.Local.{HeldCell, granules_held}
 use Rattle.command_core.specs.Seen.{are_distinct}
 use Rattle.command_core.specs.Plain.{held_of, plain_cells}
-use Rattle.command_core.specs.declared.plain_held.Entry.{Entry}
+use Rattle.command_core.specs.declared.plain_held.PlainCell.{PlainCell}
 use Rattle.command_core.specs.declared.plain_held.PlainHeld.{PlainHeld}
 
-pub granules_held-entries : (entries : List Entry) → granules_held (map held_of entries) ≡ map (λ (e : Entry). e.granule) entries
+pub granules_held-entries : (entries : List PlainCell) → granules_held (map held_of entries) ≡ map (λ (e : PlainCell). e.granule) entries
 granules_held-entries [] = refl
 granules_held-entries (e ∷ entries) = ap (λ rest. e.granule ∷ rest) (granules_held-entries entries)
 
-pub length-entries : (entries : List Entry) → length (map held_of entries) ≡ length entries
+pub length-entries : (entries : List PlainCell) → length (map held_of entries) ≡ length entries
 length-entries [] = refl
 length-entries (e ∷ entries) = omega (arith, length-entries entries)
 

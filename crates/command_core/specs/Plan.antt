@@ -1,21 +1,18 @@
 -- What a CPU does next, told by what it holds: it commits where that allows a local step, takes a lock at a rising take alone,
 -- or gives one back. This project's own.
-use Rattle.std.specs.Prelude.{◌≡◌, ℕ, Bool, true, false, ◌==◌, IsTrue, List, Option, Some, None, Result, Contains}
-use Rattle.rmm_spec.specs.declared.accepted.Accepted.{Accepted}
+use Rattle.std.specs.Prelude.{◌≡◌, ℕ, Bool, true, false, ◌==◌, IsTrue, List, Option, Some, None, Contains}
 use Rattle.rmm_spec.specs.declared.call.Call.{Call}
 use Rattle.rmm_spec.specs.declared.call.Call.TheVariants as call
 use Rattle.rmm_spec.specs.declared.command.Command.{Command}
 use Rattle.rmm_spec.specs.declared.reply.Reply.{Reply}
 use Rattle.rmm_spec.specs.Call.{call_of}
-use Rattle.rmm_spec.specs.State.{State, RecRecord}
+use Rattle.rmm_spec.specs.State.{RecRecord}
 use Rattle.rmm_spec.specs.Lookup.{is_granule}
-use Rattle.rmm_spec.specs.Step.RealmCall.{rec_exit}
 use Rattle.rmm_spec.specs.Rows.{Needed}
 use Rattle.rmm_spec.specs.Cell.{Rec}
 use Rattle.rmm_spec.specs.Shape.{Side, CpuPlace, Outside}
 use Rattle.rmm_spec.specs.Local.{HeldCell, Hold, granules_held, LocalStep}
 use Rattle.rmm_spec.specs.Locks.{needs, IsRisingTake}
-use Rattle.rec_steps.specs.Answers.{call_row}
 use Rattle.command_core.specs.declared.next.Next.{Next}
 use Rattle.command_core.specs.declared.next.Next.TheVariants.{Take, Free, Ready}
 use Rattle.command_core.specs.Seen.{cell_in}
@@ -62,10 +59,3 @@ abbrev pub is_ready : Next → Bool
 is_ready Ready = true
 is_ready (Take granule) = false
 is_ready (Free granule rd) = false
-
--- ---- answers
-
--- what a REC's own command is answered where the REC doesn't wait to leave
-unfoldable pub call_answer : State → ℕ → Call → Result Accepted Reply
-call_answer s rec call.Exit = rec_exit s rec
-call_answer s rec c = call_row s rec c

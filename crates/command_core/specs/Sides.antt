@@ -1,28 +1,12 @@
--- The side table that a monitor's own value stands for.
-use Rattle.std.specs.Prelude.{ℕ, ◌/◌, ◌%◌, ◌==◌, if◌then◌else◌, List, Option, Some, None, slice_get, slice_index}
-use Rattle.rmm_spec.specs.Cell.{put}
-use Rattle.rmm_spec.specs.Shape as shape
-use Rattle.command_core.specs.declared.side.Side.{Side}
+-- The side table that a monitor's own value stands for, and what it tells.
+use Rattle.std.specs.Prelude.{ℕ, Bool, not, ◌==◌, is_some}
+use Rattle.rmm_spec.specs.Shape.{Side}
+unfoldable pub use Rattle.granule_cells.specs.Sides.{side_of}
 
--- what is listed at a place, and nothing past the last
-abbrev pub listed_at : Option (Option ℕ) → Option ℕ
-listed_at None = None
-listed_at (Some listed) = listed
+-- whether a realm has the VMID
+abbrev pub is_vmid_listed : Side → ℕ → Bool
+is_vmid_listed side vmid = is_some (side.vmids vmid)
 
--- how many are counted at a granule's address
-abbrev pub counted_at : List ℕ → ℕ → ℕ
-counted_at counts rd = if rd % 4096 == 0 then slice_index counts (rd / 4096) else 0
-
-unfoldable pub side_of : Side → shape.Side
-side_of side = record {
-  vmids = λ vmid. listed_at (slice_get side.vmids.items vmid);
-  rec_counts = counted_at side.rec_counts.items;
-}
-
--- the side table with another realm, or none, at a VMID
-abbrev pub with_vmid : shape.Side → ℕ → Option ℕ → shape.Side
-with_vmid side vmid realm = record side { vmids = put side.vmids vmid realm }
-
--- with another count of a realm's RECs
-abbrev pub with_count : shape.Side → ℕ → ℕ → shape.Side
-with_count side rd count = record side { rec_counts = put side.rec_counts rd count }
+-- whether a REC belongs to the realm
+abbrev pub are_recs_counted : Side → ℕ → Bool
+are_recs_counted side rd = not (side.rec_counts rd == 0)

@@ -1,21 +1,19 @@
 //! A decided change, made of the cells that are held, of the side table and of the CPU's place.
 
-ghost use Rattle.std.specs.Prelude.{◌≡◌, option_map, option_copied, unwrap_or};
+ghost use Rattle.std.specs.Prelude.{◌≡◌, option_map, option_copied, unwrap_or, IsTrue};
 ghost use Rattle.rmm_spec.specs.Cell as whole;
 ghost use Rattle.world_laws.specs.Replaced.{replaced_all};
 ghost use Rattle.shape_laws.specs.Whole.{side_changed};
 ghost use Rattle.command_core.specs.Changed as spec;
-ghost use Rattle.command_core.specs.Changed.{hold_of, new_cells, AreHeld, CanMake, CanCount};
+ghost use Rattle.command_core.specs.Changed.{hold_of, new_cells, AreHeld, CanMake, can_count};
 ghost use Rattle.command_core.specs.Rooms.{IsRoomFor};
 ghost use Rattle.command_core.specs.Seen.{cell_of, place_of, known_cell};
 ghost use Rattle.command_core.specs.Sides.{side_of};
 
-use crate::cell::Cell;
 use crate::change_room::Room;
-use crate::cpu_place::CpuPlace;
 use crate::held::Held;
 use crate::put_cells::put_cells;
-use crate::side::Side;
+use granule_cells::{Cell, CpuPlace, Side};
 use granule_state::Pa;
 use rmm_spec::{Change, RecChange, RecUpdate};
 
@@ -76,7 +74,7 @@ fn place_with_rec(cell: Option<&Cell>, place: CpuPlace, change: &RecChange) -> C
 // What the change makes of the side table: of the VMIDs where a realm is made or destroyed, of the counts where a REC is.
 #[tactic(auto, unfolding(shape_laws::specs::Whole::side_changed, realm_desc::specs::View::realm_record, realm_desc::specs::View::rec_record))]
 fn change_side<H: Held>(held: &H, side: &mut Side, change: &Change)
-    requires { CanCount (side_of side.old) change.now }
+    requires { IsTrue (can_count 4096 (side_of side.old) change.now) }
     ensures { side_of side.new ≡ side_changed (known_cell (H.cells held.now)) (side_of side.old) change.now }
 {
     match *change {

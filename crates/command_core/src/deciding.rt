@@ -1,22 +1,22 @@
 //! What is answered to a command where what is held settles it.
 
-ghost use Rattle.std.specs.Prelude.{◌≡◌, ℕ, IsTrue};
-ghost use Rattle.rmm_spec.specs.Call.{call_of, class_of};
-ghost use Rattle.rmm_spec.specs.Shape as spec_place;
+ghost use Rattle.std.specs.Prelude.{◌≡◌, false, IsTrue};
+ghost use Rattle.rmm_spec.specs.Call.{call_of};
 ghost use Rattle.command_core.specs.Changed.{hold_of, CanChange, CanMake, CanMakeAnswer, Decides};
 ghost use Rattle.command_core.specs.Decided as spec;
 ghost use Rattle.command_core.specs.Seen.{place_of};
 ghost use Rattle.command_core.specs.Served.{is_served};
 ghost use Rattle.command_core.specs.Settled.{is_settled};
 ghost use Rattle.command_core.specs.Sides.{side_of};
+ghost use Rattle.command_core.specs.Unshaped.{is_unshaped};
 
-use crate::caller::{Caller, caller_of};
-use crate::cpu_place::CpuPlace;
 use crate::held::Held;
-use crate::host_answers::host_answer;
-use crate::rec_answers::{realm_called, rec_left};
-use crate::side::Side;
-use granule_state::{Config, Pa};
+use crate::held_sight::HeldSight;
+use crate::making::can_make;
+use crate::unshaped::is_unshaped;
+use command_rows::{answer_inside, answer_outside};
+use granule_cells::{CpuPlace, Side};
+use granule_state::Config;
 use rmm_spec::{Accepted, Call, Change, Command, Reply};
 
 /// The reply and the change of a served command that what is held settles. Together they are a step of the machine, whatever
@@ -35,6 +35,8 @@ pub fn decide<H: Held>(
         (hold_of (H.cells held.now) (side_of side.now) (place_of place.now)) result.0 result.1 }
     ensures can { CanChange cpu (hold_of (H.cells held.now) (side_of side.now) (place_of place.now)) result.1 }
     ensures makes { CanMake (hold_of (H.cells held.now) (side_of side.now) (place_of place.now)) result.1 }
+    ensures misplaced { IsTrue (is_unshaped config.now.granules (call_of command.now) (place_of place.now) (H.cells held.now))
+        → (result.0 ≡ Reply.Misplaced) × (result.1 ≡ Change.Unchanged) }
 {
     match settled_answer(config, &command.call(), cpu, place, held, side) {
         Ok(Accepted::Done { words, change }) => (Reply::Ok(words), change),
@@ -43,6 +45,7 @@ pub fn decide<H: Held>(
     }
 }
 
+// The answer of what is settled.
 #[tactic(auto, unfolding(crate::specs::Decided::settled_answer))]
 fn settled_answer<H: Held>(
     config: &Config,
@@ -52,41 +55,57 @@ fn settled_answer<H: Held>(
     held: &H,
     side: &Side,
 ) -> Result<Accepted, Reply>
-    requires { IsTrue (is_served call.now) }
+    requires { IsTrue (is_settled config.now.granules call.now (place_of place.now) (H.cells held.now)) }
     ensures answer { result ≡ spec.settled_answer config.now.granules cpu call.now (H.cells held.now) (side_of side.now) (place_of place.now) }
     ensures makes { CanMakeAnswer (hold_of (H.cells held.now) (side_of side.now) (place_of place.now)) result }
 {
-    match *place {
-        CpuPlace::Outside => answer_outside(config, call, cpu, held, side),
-        CpuPlace::Inside { rec, rd } => answer_inside(call, rec, rd, held),
+    if is_unshaped(config, call, place, held) {
+        return Err(Reply::Misplaced);
     }
+    let answer = rows_answer(config, call, cpu, place, held, side);
+    made_answer(config, config.granules(), held, side, answer)
 }
 
-fn answer_outside<H: Held>(
+// What the command's rows answer in the state that the held cells tell of.
+fn rows_answer<H: Held>(
     config: &Config,
     call: &Call,
     cpu: u8,
+    place: &CpuPlace,
     held: &H,
     side: &Side,
 ) -> Result<Accepted, Reply>
-    requires { IsTrue (is_served call.now) }
-    ensures answer { result ≡ spec.answer_outside (class_of call.now) config.now.granules cpu call.now (side_of side.now) (H.cells held.now) }
-    ensures makes { (place : spec_place.CpuPlace) → CanMakeAnswer (hold_of (H.cells held.now) (side_of side.now) place) result }
+    requires settled { IsTrue (is_settled config.now.granules call.now (place_of place.now) (H.cells held.now)) }
+    requires shaped { is_unshaped config.now.granules call.now (place_of place.now) (H.cells held.now) ≡ false }
+    ensures { result ≡ spec.rows_answer config.now.granules cpu call.now (H.cells held.now) (side_of side.now) (place_of place.now) }
 {
-    match caller_of(call) {
-        Caller::Host => host_answer(config, config.granules(), call, cpu, held, side),
-        Caller::Realm | Caller::Rec => Err(Reply::Misplaced),
+    let sight = HeldSight { config, held, side };
+    match *place {
+        CpuPlace::Outside => answer_outside(&sight, cpu, call),
+        CpuPlace::Inside { rec, .. } => answer_inside(&sight, rec.address(), call),
     }
 }
 
-fn answer_inside<H: Held>(call: &Call, rec: Pa, rd: Pa, held: &H) -> Result<Accepted, Reply>
-    requires { IsTrue (is_served call.now) }
-    ensures answer { (granules : ℕ) → result ≡ spec.answer_inside (class_of call.now) granules call.now rec rd (H.cells held.now) }
-    ensures makes { (side : spec_place.Side) (place : spec_place.CpuPlace) → CanMakeAnswer (hold_of (H.cells held.now) side place) result }
+// The answer, where its change can be made of what is held.
+fn made_answer<H: Held>(
+    config: &Config,
+    granules: u64,
+    held: &H,
+    side: &Side,
+    answer: Result<Accepted, Reply>,
+) -> Result<Accepted, Reply>
+    requires { granules ≡ config.now.granules }
+    ensures { result ≡ spec.made_answer config.now.granules (H.cells held.now) (side_of side.now) answer }
 {
-    match caller_of(call) {
-        Caller::Host => Err(Reply::Misplaced),
-        Caller::Realm => realm_called(call, rec, rd, held),
-        Caller::Rec => rec_left(rec, held),
+    match answer {
+        Ok(Accepted::Done { words, change }) => {
+            if can_make(config, granules, held, side, &change) {
+                Ok(Accepted::Done { words, change })
+            } else {
+                Err(Reply::Misplaced)
+            }
+        }
+        Ok(Accepted::Reaches(_)) => Err(Reply::Misplaced),
+        Err(refusal) => Err(refusal),
     }
 }

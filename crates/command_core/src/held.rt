@@ -5,7 +5,7 @@ ghost use Rattle.rmm_spec.specs.Local.{HeldCell, granules_held};
 ghost use Rattle.world_laws.specs.Replaced.{replaced_cells};
 ghost use Rattle.command_core.specs.Seen.{cell_of, cell_in, is_held, are_distinct};
 
-use crate::cell::Cell;
+use granule_cells::Cell;
 use granule_state::Pa;
 
 /// Up to six cells, each of a granule of its own, wherever they lie. None is copied.

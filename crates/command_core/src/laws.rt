@@ -2,6 +2,7 @@
 
 ghost use Rattle.std.specs.Prelude.{◌≡◌, ℕ, true, IsTrue, List, Result};
 ghost use Rattle.rmm_spec.specs.declared.accepted.Accepted.{Accepted};
+ghost use Rattle.rmm_spec.specs.declared.call.Call.{Call};
 ghost use Rattle.rmm_spec.specs.declared.change.Change.{Change};
 ghost use Rattle.rmm_spec.specs.declared.command.Command.{Command};
 ghost use Rattle.rmm_spec.specs.declared.reply.Reply.{Reply};
@@ -20,6 +21,7 @@ ghost use Rattle.command_core.specs.Served.{is_served};
 ghost use Rattle.command_core.specs.Changed.{CanAnswer, Answers, Decides, new_cells, new_place};
 ghost use Rattle.command_core.specs.Named.{is_upward, is_downward};
 ghost use Rattle.command_core.specs.Settled.{is_settled};
+ghost use Rattle.command_core.specs.Unshaped.{is_unshaped};
 ghost use Rattle.command_core.specs.Plan.{IsReady};
 
 /// What every well-shaped whole answers that agrees with what is held is a local step: a refusal that changes nothing, or the
@@ -50,4 +52,11 @@ pub fn applied_decisions_are_local()
     ensures { (granules cpu : ℕ) (command : Command) (hold new : Hold) (given : Reply) (change : Change) → Decides granules cpu command hold given change
         → new.cells ≡ replaced_all hold.cells (new_cells hold.cells change) → new.side ≡ side_changed (known_cell hold.cells) hold.side change
         → new.place ≡ new_place hold.cells hold.place change → LocalStep granules cpu command given hold new }
+{}
+
+/// Cells that are unshaped for a command at a CPU's place are those of no well-shaped whole with the CPU there.
+pub fn unshaped_cells_have_no_whole()
+    ensures { (granules cpu : ℕ) (call : Call) (hold : Hold) (cells : ℕ → Cell) (places : ℕ → CpuPlace)
+        → IsTrue (is_unshaped granules call hold.place hold.cells) → IsWellShaped granules hold.side places cells
+        → Agrees cells hold.cells → places cpu ≡ hold.place → ⊥ }
 {}

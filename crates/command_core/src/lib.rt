@@ -6,36 +6,32 @@
 #![tactic(auto)]
 
 mod applying;
-mod caller;
-mod cell;
 mod change_room;
-mod cpu_place;
 mod deciding;
 mod held;
-mod host_answers;
+mod held_sight;
+mod held_tables;
 mod laws;
-mod name_list;
-mod names;
+mod making;
 mod next;
 mod plain_held;
 mod planning;
 mod put_cells;
-mod realm_answers;
-mod rec_answers;
 mod rooms;
+mod seen_cells;
 mod serving;
 mod settling;
-mod side;
 mod taking;
+mod unshaped;
 
 pub use applying::apply;
-pub use cell::Cell;
 pub use change_room::Room;
-pub use cpu_place::CpuPlace;
 pub use deciding::decide;
+pub use granule_cells::{Cell, CpuPlace, Side};
 pub use held::Held;
 pub use laws::{
     answers_are_local, applied_decisions_are_local, settled_commands_are_ready, tested_takes_rise,
+    unshaped_cells_have_no_whole,
 };
 pub use next::Next;
 pub use plain_held::PlainHeld;
@@ -43,4 +39,3 @@ pub use planning::next_lock;
 pub use rmm_spec::Change;
 pub use rooms::room;
 pub use serving::served;
-pub use side::Side;

@@ -1,18 +1,18 @@
 //! Held cells in a list of their own.
 
 ghost use Rattle.std.specs.Prelude.{◌≡◌, ◌≤◌, ◌==◌, map, vec_len, IsTrue};
-ghost use Rattle.command_core.specs.declared.plain_held.Entry.{Entry};
+ghost use Rattle.command_core.specs.declared.plain_held.PlainCell.{PlainCell};
 ghost use Rattle.command_core.specs.Seen.{are_distinct};
 
-use crate::cell::Cell;
 use crate::held::Held;
+use granule_cells::Cell;
 use granule_state::Pa;
 use std::alloc::{AllocError, Global};
 use std::mem::replace;
 
 /// One cell with its granule.
 #[derive(Drop)]
-struct Entry {
+struct PlainCell {
     granule: Pa,
     cell: Cell,
 }
@@ -21,8 +21,8 @@ struct Entry {
 #[derive(Drop)]
 pub struct PlainHeld {
     granules: Vec<Pa>,
-    entries: Vec<Entry>,
-    ghost listed: { granules.items ≡ map (λ (e : Entry). e.granule) entries.items },
+    entries: Vec<PlainCell>,
+    ghost listed: { granules.items ≡ map (λ (e : PlainCell). e.granule) entries.items },
     ghost few: { vec_len entries ≤ 6 },
     ghost distinct: { IsTrue (are_distinct granules.items) },
 }
@@ -30,7 +30,7 @@ pub struct PlainHeld {
 impl PlainHeld {
     ghost use Rattle.std.specs.Prelude.{◌≡◌, ◌++◌, ◌∷◌, [], ◌<◌, ◌==◌, false, length, position, OnOk, OnErr};
     ghost use Rattle.world_laws.specs.Replaced.{held_at};
-    ghost use Rattle.command_core.specs.declared.plain_held.Entry.{Entry};
+    ghost use Rattle.command_core.specs.declared.plain_held.PlainCell.{PlainCell};
     ghost use Rattle.command_core.specs.Seen.{cell_of, is_held};
     ghost use Rattle.command_core.specs.Plain.{plain_cells};
 
@@ -54,13 +54,13 @@ impl PlainHeld {
         self.granules.reserve(1)?;
         self.entries.reserve(1)?;
         self.granules.push_reserved(pa);
-        self.entries.push_reserved(Entry { granule: pa, cell });
+        self.entries.push_reserved(PlainCell { granule: pa, cell });
         Ok(())
     }
 
     // Where the cell of a granule stands, where it is held.
     fn place_of(&self, pa: Pa) -> Option<usize>
-        ensures { result ≡ position (λ (e : Entry). e.granule == pa) self.now.entries.items }
+        ensures { result ≡ position (λ (e : PlainCell). e.granule == pa) self.now.entries.items }
     {
         self.entries.iter().position(|entry| entry.granule == pa)
     }

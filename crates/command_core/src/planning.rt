@@ -8,15 +8,12 @@ ghost use Rattle.command_core.specs.Settled.{is_settled};
 ghost use Rattle.command_core.specs.Plan.{IsPlanned, is_ready};
 ghost use Rattle.command_core.specs.Next as spec;
 
-use crate::caller::{Caller, caller_of};
-use crate::cell::Cell;
-use crate::cpu_place::CpuPlace;
 use crate::held::Held;
-use crate::name_list::Name;
-use crate::names::{named, needed, one, two};
 use crate::next::Next;
-use crate::settling::{is_seen, is_settled};
-use crate::taking::{is_downward, is_upward, least_missing};
+use crate::settling::is_settled;
+use crate::taking::{is_downward, is_held, is_upward, least_missing};
+use command_words::{Caller, Name, caller_of, named, needed, one, two};
+use granule_cells::{Cell, CpuPlace};
 use granule_state::{Config, Pa};
 use realm_desc::Rec;
 use rmm_spec::{Call, Command, Tag};
@@ -69,10 +66,10 @@ fn take_root<H: Held>(config: &Config, names: &[Name], held: &H, rd: Pa) -> Next
 
 // Which of the REC's two others comes next.
 #[tactic(auto, unfolding(realm_desc::specs::View::rec_record))]
-fn next_aux<H: Held>(config: &Config, rec: &Rec, held: &H) -> Pa
-    ensures { result ≡ spec.next_aux config.now.granules rec.now (H.cells held.now) }
+fn next_aux<H: Held>(rec: &Rec, held: &H) -> Pa
+    ensures { result ≡ spec.next_aux rec.now (H.cells held.now) }
 {
-    if is_seen(config, rec.aux0, held) {
+    if is_held(held, rec.aux0) {
         rec.aux1
     } else {
         rec.aux0
@@ -85,7 +82,7 @@ fn take_auxes<H: Held>(config: &Config, names: &[Name], held: &H, rec: Pa) -> Ne
 {
     match held.cell(rec) {
         Some(Cell::Rec(it)) => {
-            let next = next_aux(config, it, held);
+            let next = next_aux(it, held);
             take_part(config, names, held, rec, next)
         }
         _ => take_named(config, names, held, rec.address()),
@@ -179,7 +176,6 @@ fn next_for<H: Held>(
     learnt: Option<Pa>,
     held: &H,
 ) -> Next
-    requires { IsTrue (is_served call.now) }
     ensures { result ≡ spec.next config.now.granules call.now (place_of place.now) learnt (H.cells held.now) }
 {
     if is_settled(config, call, place, held) {

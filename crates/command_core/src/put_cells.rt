@@ -7,13 +7,13 @@ ghost use Rattle.rmm_spec.specs.Cell as whole;
 ghost use Rattle.rmm_spec.specs.Step.Words.{is_space};
 ghost use Rattle.world_laws.specs.Replaced.{held_at, replaced_cells, replaced_all};
 ghost use Rattle.shape_laws.specs.Whole.{root_table, cell_with_tag, cell_with_realm, cell_with_rec};
-ghost use Rattle.command_core.specs.Changed.{new_cells, realm_cells, rec_cells, AreHeld, AreAllHeld, IsPlain, CountsIn, FitsRealm, FitsRec, FitsRealmChange, FitsRecChange, FitsCells};
+ghost use Rattle.command_core.specs.Changed.{new_cells, realm_cells, rec_cells, AreHeld, AreAllHeld, is_plain, counts_in, fits_realm, fits_rec, fits_realm_change, fits_rec_change, fits_cells};
 ghost use Rattle.command_core.specs.Rooms.{IsRoomFor};
 ghost use Rattle.command_core.specs.Seen.{cell_of, is_held, known_cell};
 
-use crate::cell::Cell;
 use crate::change_room::Room;
 use crate::held::Held;
+use granule_cells::Cell;
 use granule_state::Pa;
 use realm_desc::{HashAlgorithm, Realm, Rec, Space};
 use rmm_spec::{Change, RealmChange, RealmUpdate, RecChange, RecUpdate, Tag};
@@ -23,7 +23,7 @@ use rtt_table::Table;
 #[tactic(auto, unfolding(crate::specs::Changed::new_cells))]
 pub(crate) fn put_cells<H: Held>(held: &mut H, change: &Change, room: Room)
     requires held { AreHeld (H.cells held.old) change.now }
-    requires fits { FitsCells (H.cells held.old) change.now }
+    requires fits { IsTrue (fits_cells (H.cells held.old) change.now) }
     requires room { IsRoomFor change.now room }
     ensures { H.cells held.new ≡ replaced_all (H.cells held.old) (new_cells (H.cells held.old) change.now) }
 {
@@ -71,7 +71,7 @@ fn put<H: Held>(held: &mut H, granule: u64, cell: Cell)
 
 // The cell of a granule that holds nothing.
 fn plain_cell(tag: Tag) -> Cell
-    requires { IsPlain tag }
+    requires { IsTrue (is_plain tag) }
     ensures { (before : whole.Cell) → cell_of result ≡ cell_with_tag tag before }
 {
     match tag {
@@ -157,7 +157,7 @@ fn free_rec<H: Held>(held: &mut H, rec: u64, aux0: u64, aux1: u64)
 
 // The realm that is there, with one REC more counted and measured.
 fn counted(cell: Option<&Cell>, mpidr: u8, flags: u64) -> Realm
-    requires { CountsIn mpidr (unwrap_or (option_map cell_of (option_copied cell)) whole.Undelegated) }
+    requires { IsTrue (counts_in mpidr (unwrap_or (option_map cell_of (option_copied cell)) whole.Undelegated)) }
     ensures { whole.Rd result ≡ cell_with_realm (RecCounted mpidr flags) (unwrap_or (option_map cell_of (option_copied cell.entry)) whole.Undelegated) }
 {
     let Some(Cell::Rd(realm)) = cell else {
@@ -170,7 +170,7 @@ fn counted(cell: Option<&Cell>, mpidr: u8, flags: u64) -> Realm
 
 // The realm that is there, updated.
 fn updated_realm(cell: Option<&Cell>, update: RealmUpdate) -> Cell
-    requires { FitsRealm update (unwrap_or (option_map cell_of (option_copied cell)) whole.Undelegated) }
+    requires { IsTrue (fits_realm update (unwrap_or (option_map cell_of (option_copied cell)) whole.Undelegated)) }
     ensures { cell_of result ≡ cell_with_realm update (unwrap_or (option_map cell_of (option_copied cell.entry)) whole.Undelegated) }
 {
     let Some(Cell::Rd(realm)) = cell else {
@@ -183,7 +183,7 @@ fn updated_realm(cell: Option<&Cell>, update: RealmUpdate) -> Cell
 
 // The REC that is there, updated.
 fn updated_rec(cell: Option<&Cell>, update: RecUpdate) -> Cell
-    requires { FitsRec update (unwrap_or (option_map cell_of (option_copied cell)) whole.Undelegated) }
+    requires { IsTrue (fits_rec update (unwrap_or (option_map cell_of (option_copied cell)) whole.Undelegated)) }
     ensures { cell_of result ≡ cell_with_rec update (unwrap_or (option_map cell_of (option_copied cell.entry)) whole.Undelegated) }
 {
     let Some(Cell::Rec(rec)) = cell else {
@@ -197,8 +197,8 @@ fn updated_rec(cell: Option<&Cell>, update: RecUpdate) -> Cell
 // Updates a realm and a REC, each of which is read first.
 fn put_records<H: Held>(held: &mut H, realm: Option<RealmChange>, rec: Option<RecChange>)
     requires held { AreAllHeld (H.cells held.old) (realm_cells (H.cells held.old) realm ++ rec_cells (H.cells held.old) rec) }
-    requires realm { FitsRealmChange (H.cells held.old) realm }
-    requires rec { FitsRecChange (H.cells held.old) rec }
+    requires realm { IsTrue (fits_realm_change (H.cells held.old) realm) }
+    requires rec { IsTrue (fits_rec_change (H.cells held.old) rec) }
     ensures { H.cells held.new ≡ replaced_all (H.cells held.old) (realm_cells (H.cells held.old) realm ++ rec_cells (H.cells held.old) rec) }
 {
     match (realm, rec) {

@@ -6,7 +6,7 @@ ghost use Rattle.command_core.specs.Rooms.{IsRoomFor, makes_table};
 ghost use Rattle.command_core.specs.Sides.{side_of};
 
 use crate::change_room::Room;
-use crate::side::Side;
+use granule_cells::Side;
 use rmm_spec::{Change, Entry, Place, Ripas};
 use rtt_table::Table;
 use std::alloc::{AllocError, Global};

@@ -9,10 +9,9 @@ ghost use Rattle.command_core.specs.Seen as seen;
 ghost use Rattle.command_core.specs.Seen.{cell_of};
 ghost use Rattle.command_core.specs.Named as spec;
 
-use crate::cell::Cell;
 use crate::held::Held;
-use crate::name_list::Name;
-use crate::names::is_tag;
+use command_words::{Name, is_tag};
+use granule_cells::Cell;
 use granule_state::{Config, Pa, granule_at};
 
 /// Whether a granule is one of the machine's.

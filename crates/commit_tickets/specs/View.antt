@@ -5,9 +5,9 @@ use Rattle.rmm_spec.specs.declared.reply.Reply.{Reply}
 use Rattle.rmm_spec.specs.HistoryText.{Config}
 use Rattle.rmm_spec.specs.Local.{HeldCell, Hold}
 use Rattle.rmm_spec.specs.Run.{JournalEntry}
-use Rattle.command_core.specs.declared.cpu_place.CpuPlace.{CpuPlace}
-use Rattle.command_core.specs.declared.cpu_place.CpuPlace.TheVariants.{Outside}
-use Rattle.command_core.specs.declared.side.Side.{Side}
+use Rattle.granule_cells.specs.declared.cpu_place.CpuPlace.{CpuPlace}
+use Rattle.granule_cells.specs.declared.cpu_place.CpuPlace.TheVariants.{Outside}
+use Rattle.granule_cells.specs.declared.side.Side.{Side}
 use Rattle.command_core.specs.Changed.{hold_of}
 use Rattle.command_core.specs.Seen.{place_of}
 use Rattle.command_core.specs.Sides.{side_of}

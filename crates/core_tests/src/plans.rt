@@ -66,18 +66,18 @@ c4000196
 00000001
 ";
 
-fn inside(rec: u64, rd: u64) -> CpuPlace {
+pub(crate) fn inside(rec: u64, rd: u64) -> CpuPlace {
     CpuPlace::Inside {
         rec: Pa::new(rec),
         rd: Pa::new(rd),
     }
 }
 
-fn realm(root: u64, vmid: u8) -> Cell {
+pub(crate) fn realm(root: u64, vmid: u8) -> Cell {
     Cell::Rd(Realm::new(Pa::new(root), Space::Bits39, vmid, HashAlgorithm::Sha256))
 }
 
-fn rec(owner: u64, aux0: u64, aux1: u64) -> Cell {
+pub(crate) fn rec(owner: u64, aux0: u64, aux1: u64) -> Cell {
     Cell::Rec(Rec::new(Pa::new(owner), 0, 1, Pa::new(aux0), Pa::new(aux1)))
 }
 

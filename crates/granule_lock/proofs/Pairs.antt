@@ -8,7 +8,7 @@ use Rattle.std.proofs.lemmas.Iterator.Adapters.{position_from-zero}
 use Rattle.rmm_spec.specs.Cell as whole
 use Rattle.world_laws.specs.Replaced.{held_at, replaced_cells}
 use Rattle.command_core.specs.Seen.{cell_of, cell_in, is_held, are_distinct}
-use Rattle.command_core.specs.declared.cell.Cell.{Cell}
+use Rattle.granule_cells.specs.declared.cell.Cell.{Cell}
 use Rattle.granule_lock.specs.HeldCells.{paired, without_cell}
 
 -- ---- finding

@@ -4,7 +4,7 @@ use Rattle.std.specs.List.{filter}
 use Rattle.rmm_spec.specs.Local.{HeldCell}
 use Rattle.world_laws.specs.Replaced.{held_at}
 use Rattle.command_core.specs.Seen.{cell_of}
-use Rattle.command_core.specs.declared.cell.Cell.{Cell}
+use Rattle.granule_cells.specs.declared.cell.Cell.{Cell}
 use Rattle.granule_lock.specs.declared.hold.Hold.{Hold}
 
 -- how many granules there are

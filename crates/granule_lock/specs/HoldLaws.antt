@@ -3,7 +3,7 @@ use Rattle.std.proofs.Common.{◌≡◌, ℕ, ◌≤◌, List, [], ◌∷◌, le
 use Rattle.std.specs.Prelude.{IsTrue}
 use Rattle.rmm_spec.specs.Local.{granules_held}
 use Rattle.command_core.specs.Seen.{are_distinct}
-use Rattle.command_core.specs.declared.cell.Cell.{Cell}
+use Rattle.granule_cells.specs.declared.cell.Cell.{Cell}
 use Rattle.granule_lock.specs.HeldCells.{paired, hold_cells}
 use Rattle.granule_lock.specs.declared.hold.Hold.{Hold}
 

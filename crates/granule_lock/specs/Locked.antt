@@ -5,7 +5,7 @@ use Rattle.rmm_spec.specs.Lookup.{is_granule}
 use Rattle.rmm_spec.specs.Shape.{CpuPlace}
 use Rattle.rmm_spec.specs.Local.{HeldCell, granules_held}
 use Rattle.world_laws.specs.Replaced.{held_at}
-use Rattle.command_core.specs.declared.cell.Cell.{Cell}
+use Rattle.granule_cells.specs.declared.cell.Cell.{Cell}
 use Rattle.command_core.specs.declared.next.Next.{Next}
 use Rattle.command_core.specs.declared.next.Next.TheVariants.{Take, Free, Ready}
 use Rattle.command_core.specs.Next.{next}

@@ -5,7 +5,7 @@ ghost use Rattle.rmm_spec.specs.Cell as whole;
 ghost use Rattle.rmm_spec.specs.Lookup.{is_granule};
 ghost use Rattle.world_laws.specs.Replaced.{held_at};
 ghost use Rattle.command_core.specs.Seen.{cell_of};
-ghost use Rattle.command_core.specs.declared.cell.Cell.{Cell};
+ghost use Rattle.granule_cells.specs.declared.cell.Cell.{Cell};
 ghost use Rattle.granule_lock.specs.HeldCells.{hold_cells};
 
 use command_core::{Cell, Held};

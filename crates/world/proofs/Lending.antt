@@ -15,8 +15,8 @@ use Rattle.world_laws.proofs.Locals.{put_all-agrees}
 use Rattle.world_laws.proofs.Members.{Contains-nil, Contains-other, granules_held-cells_at}
 use Rattle.world_laws.proofs.Recorded.{Agrees-own}
 use Rattle.command_core.specs.Seen.{cell_of, are_distinct}
-use Rattle.command_core.specs.declared.cell.Cell.{Cell}
-use Rattle.command_core.specs.declared.cell.Cell.TheVariants.{Undelegated}
+use Rattle.granule_cells.specs.declared.cell.Cell.{Cell}
+use Rattle.granule_cells.specs.declared.cell.Cell.TheVariants.{Undelegated}
 use Rattle.world.specs.Lent.{cells_at}
 
 -- a granule of a list without doubles isn't among those before it

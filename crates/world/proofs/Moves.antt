@@ -20,7 +20,7 @@ use Rattle.rmm_spec.proofs.Tests.{both_ways}
 use Rattle.world_laws.proofs.Lists.{put_elim}
 use Rattle.command_core.specs.declared.next.Next.TheVariants.{Take}
 use Rattle.command_core.specs.Sides.{side_of}
-use Rattle.command_core.specs.declared.side.Side as own_side
+use Rattle.granule_cells.specs.declared.side.Side as own_side
 use Rattle.world.specs.declared.cells.Cells.{Cells}
 use Rattle.world.specs.declared.cpus.Cpus.{Cpus}
 use Rattle.world.specs.declared.locks.Locks.{Locks}

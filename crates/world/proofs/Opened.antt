@@ -11,7 +11,7 @@ use Rattle.rmm_spec.specs.Shape as shape
 use Rattle.rmm_spec.specs.World.{World, Between, Commitment, opening_world}
 use Rattle.certified_laws.specs.Programs.{commands_below}
 use Rattle.command_core.specs.Seen.{place_of}
-use Rattle.command_core.specs.declared.cpu_place.CpuPlace.TheVariants.{Outside}
+use Rattle.granule_cells.specs.declared.cpu_place.CpuPlace.TheVariants.{Outside}
 use Rattle.world.specs.Cpus.{Views, views_at, of_each, phase_in}
 use Rattle.world.specs.Kept.{IsFit, IsReached, IsKept}
 use Rattle.world.specs.Whole.{world_with}

@@ -9,7 +9,7 @@ use Rattle.std.proofs.lemmas.List.Sums.{fails_before_first}
 use Rattle.rmm_spec.specs.Cell as whole
 use Rattle.world_laws.specs.Replaced.{replaced_cells, held_at}
 use Rattle.command_core.specs.Seen.{cell_of, cell_in, are_distinct}
-use Rattle.command_core.specs.declared.cell.Cell.{Cell}
+use Rattle.granule_cells.specs.declared.cell.Cell.{Cell}
 use Rattle.world.specs.Lent.{pairs, cells_at}
 
 -- ---- finding

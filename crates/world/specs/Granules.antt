@@ -2,7 +2,7 @@
 use Rattle.std.specs.Prelude.{ℕ, ◌/◌, ◌%◌, ◌==◌, if◌then◌else◌, List, Option, None, slice_index_or}
 use Rattle.rmm_spec.specs.Cell as whole
 use Rattle.command_core.specs.Seen.{cell_of}
-use Rattle.command_core.specs.declared.cell.Cell.TheVariants.{Undelegated}
+use Rattle.granule_cells.specs.declared.cell.Cell.TheVariants.{Undelegated}
 use Rattle.world.specs.declared.cells.Cells.{Cells}
 use Rattle.world.specs.declared.locks.Locks.{Locks}
 

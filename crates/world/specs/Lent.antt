@@ -5,7 +5,7 @@ use Rattle.rmm_spec.specs.Cell as whole
 use Rattle.rmm_spec.specs.Local.{HeldCell, granules_held}
 use Rattle.world_laws.specs.Replaced.{held_at}
 use Rattle.command_core.specs.Seen.{cell_of, are_distinct}
-use Rattle.command_core.specs.declared.cell.Cell.{Cell}
+use Rattle.granule_cells.specs.declared.cell.Cell.{Cell}
 use Rattle.world.specs.declared.lent.Lent.{Lent}
 
 -- each granule with its cell

@@ -5,7 +5,7 @@ use Rattle.rmm_spec.specs.Shape as shape
 use Rattle.rmm_spec.specs.Cell.{Cell}
 use Rattle.rmm_spec.specs.World.{World, Commitment}
 use Rattle.command_core.specs.Sides.{side_of}
-use Rattle.command_core.specs.declared.side.Side.{Side}
+use Rattle.granule_cells.specs.declared.side.Side.{Side}
 use Rattle.world.specs.Granules.{cells_of}
 use Rattle.world.specs.Cpus.{Views, views_of}
 use Rattle.world.specs.declared.cells.Cells.{Cells}

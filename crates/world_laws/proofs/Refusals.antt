@@ -59,13 +59,13 @@ pub data IsRefusedInFront (s : State) (c : Call) : Type 0 where
   by_words : list_all (λ b. b) (words_of c) ≡ false → IsRefusedInFront s c
   by_tag : (i : ℕ) (n : Needed) → slice_get (named c) i ≡ Some n → has_tag s n.granule n.tag ≡ false → IsRefusedInFront s c
 
-decided-front : (s : State) (c : Call) (rows : List Row) (accepted : Accepted) → IsRefusedInFront s c → decided (with_front s c rows) accepted ≡ Err input_error
+pub decided-front : (s : State) (c : Call) (rows : List Row) (accepted : Accepted) → IsRefusedInFront s c → decided (with_front s c rows) accepted ≡ Err input_error
 decided-front s c rows accepted (by_words wrong) = decided-words (words_of c) (tagged s (named c) rows) accepted wrong
 decided-front s c rows accepted (by_tag i n is wrong) =
     decided-inputs (words_of c) (tagged s (named c) rows) accepted (decided-tags s (named c) rows accepted i n is wrong)
 
 -- each command begins with those rows
-answer_of-front : (s : State) (cpu : ℕ) (c : Call) → IsRefusedInFront s c → answer_of s cpu c ≡ Err input_error
+pub answer_of-front : (s : State) (cpu : ℕ) (c : Call) → IsRefusedInFront s c → answer_of s cpu c ≡ Err input_error
 answer_of-front s cpu c refused = let rest = behind s cpu c in rest.2 ∙ decided-front s c rest.0 rest.1 refused
 
 -- ---- local steps

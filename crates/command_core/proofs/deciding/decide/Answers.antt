@@ -1,9 +1,10 @@
-use Rattle.std.proofs.Common.{Ok, Err, ap, ◌∙◌}
+use Rattle.std.proofs.Common.{◌≡◌, Ok, Err, refl, sym, ap, ◌∙◌}
 use Rattle.rmm_spec.specs.declared.accepted.Accepted.TheVariants.{Done, Reaches}
+use Rattle.rmm_spec.specs.declared.reply.Reply.TheVariants.{Misplaced}
 use Rattle.command_core.specs.Changed.{hold_of, new_cells}
 use Rattle.command_core.specs.Seen.{place_of}
 use Rattle.command_core.specs.Sides.{side_of}
-use Rattle.command_core.proofs.Ready.{decision}
+use Rattle.command_core.proofs.Ready.{decision, decision-unshaped}
 use Rattle.command_core.proofs.deciding.decide.Goals as goal
 
 pub unreachable-requires : goal.unreachable-requires
@@ -36,3 +37,21 @@ returns-in-Err-clause-decides g c =
 pub returns-in-Err-clause-can : goal.returns-in-Err-clause-can
 unfolding new_cells
 returns-in-Err-clause-can g c = record { held = tt; here = tt }
+
+pub returns-in-Ok-Done-clause-misplaced : goal.returns-in-Ok-Done-clause-misplaced
+returns-in-Ok-Done-clause-misplaced g c = λ unshaped.
+    let is : c.settled_answer.result ≡ Err Misplaced =
+    decision-unshaped c.args.config.now.granules c.args.cpu c.args.command.now
+    (hold_of (g.H.Held.cells c.args.held.now) (side_of c.args.side.now) (place_of c.args.place.now)) c.call.result c.settled_answer.result
+    c.call.ensures c.settled_answer.ensures.answer unshaped in
+    absurd (let bad : Ok c.in-Ok-Done.field-0 ≡ Err Misplaced = sym c.in-Ok-Done.is ∙ is in cc)
+
+pub returns-in-Err-clause-misplaced : goal.returns-in-Err-clause-misplaced
+returns-in-Err-clause-misplaced g c = λ unshaped.
+    let is : c.settled_answer.result ≡ Err Misplaced =
+    decision-unshaped c.args.config.now.granules c.args.cpu c.args.command.now
+    (hold_of (g.H.Held.cells c.args.held.now) (side_of c.args.side.now) (place_of c.args.place.now)) c.call.result c.settled_answer.result
+    c.call.ensures c.settled_answer.ensures.answer unshaped in
+    let both : Err c.in-Err.refusal ≡ Err Misplaced = sym c.in-Err.is ∙ is in
+    let same : c.in-Err.refusal ≡ Misplaced = cc in
+    (same, refl)

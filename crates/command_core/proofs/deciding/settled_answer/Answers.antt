@@ -1,9 +1,11 @@
+use Rattle.std.proofs.Common.{sym, subst}
+use Rattle.command_core.specs.Changed.{hold_of, CanMakeAnswer}
 use Rattle.command_core.specs.Seen.{place_of}
 use Rattle.command_core.specs.Sides.{side_of}
+use Rattle.command_core.proofs.Ready.{answer-makes}
 use Rattle.command_core.proofs.deciding.settled_answer.Goals as goal
 
-pub returns-in-Outside-clause-makes : goal.returns-in-Outside-clause-makes
-returns-in-Outside-clause-makes g c = c.answer_outside.ensures.makes (place_of c.args.place.now)
-
-pub returns-in-Inside-clause-makes : goal.returns-in-Inside-clause-makes
-returns-in-Inside-clause-makes g c = c.answer_inside.ensures.makes (side_of c.args.side.now) (place_of c.args.place.now)
+pub returns-clause-makes : goal.returns-clause-makes
+returns-clause-makes g c =
+    let hold = hold_of (g.H.Held.cells c.args.held.now) (side_of c.args.side.now) (place_of c.args.place.now) in
+    subst (CanMakeAnswer hold) (sym c.made_answer.ensures) (answer-makes c.args.config.now.granules hold c.rows_answer-answer.result c.granules.ensures.limits.most_granules)

@@ -4,14 +4,14 @@ use Rattle.std.specs.List.{list_any}
 use Rattle.std.specs.Prelude.{◌==◌}
 use Rattle.command_core.specs.Seen.{are_distinct}
 use Rattle.command_core.specs.PlainLaws.{length-entries}
-use Rattle.command_core.specs.declared.plain_held.Entry.{Entry}
+use Rattle.command_core.specs.declared.plain_held.PlainCell.{PlainCell}
 use Rattle.command_core.proofs.PlainCells.{pushed-listed, distinct-push, unheld-apart}
 use Rattle.command_core.proofs.plain_held.PlainHeld.push.Goals as goal
 
 pub invariant_of-self-2 : goal.invariant_of-self-2
 invariant_of-self-2 c =
     let s = c.args.self.now in
-    let one : Entry = record { granule = c.args.pa; cell = c.args.cell } in
+    let one : PlainCell = record { granule = c.args.pa; cell = c.args.cell } in
     let granules = c.push_reserved.ensures.items ∙ ap (λ xs. xs ++ c.args.pa ∷ []) c.reserve.ensures.items in
     let entries = c.push_reserved-2.ensures.items ∙ ap (λ xs. xs ++ one ∷ []) c.reserve-2.ensures.items in
     let apart = subst (λ gs. list_any (λ other. other == c.args.pa) gs ≡ false) (sym s.listed) (unheld-apart s.entries.items c.args.pa c.requires.new) in

@@ -5,7 +5,7 @@ use Rattle.rmm_spec.specs.Cell as whole
 use Rattle.world_laws.specs.Replaced.{replaced_cells}
 use Rattle.command_core.specs.Seen.{cell_of, are_distinct}
 use Rattle.command_core.specs.Plain.{plain_cells}
-use Rattle.command_core.specs.declared.cell.Cell.{Cell}
+use Rattle.granule_cells.specs.declared.cell.Cell.{Cell}
 use Rattle.command_core.proofs.PlainCells.{cell_in-place, cell_in-no_place, replaced-place, granules_of-set}
 use Rattle.command_core.proofs.plain_held.PlainHeldHeld.swap.Goals as goal
 

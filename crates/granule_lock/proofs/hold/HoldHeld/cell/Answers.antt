@@ -1,7 +1,7 @@
 use Rattle.std.proofs.Common.{sym, ◌∙◌, ap}
 use Rattle.std.specs.Prelude.{List}
 use Rattle.std.specs.Prelude.{get_or}
-use Rattle.command_core.specs.declared.cell.Cell.{Cell}
+use Rattle.granule_cells.specs.declared.cell.Cell.{Cell}
 use Rattle.granule_lock.proofs.Pairs.{position-first, cell_in-place, cell_in-no_place}
 use Rattle.granule_lock.proofs.hold.HoldHeld.cell.Goals as goal
 

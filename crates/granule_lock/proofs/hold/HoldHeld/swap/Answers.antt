@@ -4,7 +4,7 @@ use Rattle.std.proofs.lemmas.List.{length-set}
 use Rattle.arrayvec.proofs.ArrayVecLemmas.{items-with_items}
 use Rattle.world_laws.specs.Replaced.{replaced_cells}
 use Rattle.command_core.specs.Seen.{cell_of}
-use Rattle.command_core.specs.declared.cell.Cell.{Cell}
+use Rattle.granule_cells.specs.declared.cell.Cell.{Cell}
 use Rattle.granule_lock.specs.HeldCells.{paired, hold_cells}
 use Rattle.granule_lock.proofs.Pairs.{position-first, cell_in-place, paired-slice_set}
 use Rattle.granule_lock.proofs.hold.HoldHeld.swap.Goals as goal

@@ -1,7 +1,7 @@
 use Rattle.std.proofs.Common.{◌≡◌, ◌∷◌, [], ◌++◌, List, None, length, refl, sym, ap, subst, ◌∙◌, append_assoc, append-nil, arith}
 use Rattle.std.proofs.lemmas.List.{length_push}
 use Rattle.std.specs.Vec.Iter.{into_iter_items}
-use Rattle.command_core.specs.declared.cpu_place.CpuPlace.TheVariants.{Outside}
+use Rattle.granule_cells.specs.declared.cpu_place.CpuPlace.TheVariants.{Outside}
 use Rattle.world.specs.Cpus.{views_of}
 use Rattle.world.specs.declared.cpus.Cpu.{Cpu}
 use Rattle.world.specs.declared.phase.Phase.TheVariants.{Between}

@@ -3,7 +3,7 @@ use Rattle.std.proofs.lemmas.List.{get_or_default, length-set, length-take-le, t
 use Rattle.rmm_spec.specs.Cell as whole
 use Rattle.rmm_spec.specs.Cell.{put}
 use Rattle.command_core.specs.Seen.{cell_of}
-use Rattle.command_core.specs.declared.cell.Cell.TheVariants.{Undelegated}
+use Rattle.granule_cells.specs.declared.cell.Cell.TheVariants.{Undelegated}
 use Rattle.world.specs.Granules.{cells_of}
 use Rattle.world.specs.Lent.{pairs}
 use Rattle.world.proofs.Lending.{kept-next, lent-next}

@@ -1,7 +1,7 @@
 use Rattle.std.proofs.Common.{◌≡◌, ℕ, ◌<◌, length, get_or, take, vec_len}
 use Rattle.std.specs.Prelude.{Contains}
 use Rattle.command_core.specs.Seen.{cell_of}
-use Rattle.command_core.specs.declared.cell.Cell.TheVariants.{Undelegated}
+use Rattle.granule_cells.specs.declared.cell.Cell.TheVariants.{Undelegated}
 use Rattle.world.specs.Granules.{cells_of}
 use Rattle.world.proofs.lent.Lent.lend.Given as goal
 

@@ -4,7 +4,7 @@ use Rattle.std.proofs.lemmas.Bool.{false≢true}
 use Rattle.rmm_spec.specs.Cell as whole
 use Rattle.world_laws.specs.Replaced.{replaced_cells}
 use Rattle.command_core.specs.Seen.{cell_of}
-use Rattle.command_core.specs.declared.cell.Cell.{Cell}
+use Rattle.granule_cells.specs.declared.cell.Cell.{Cell}
 use Rattle.world.specs.Lent.{lent_cells}
 use Rattle.world.proofs.Pairs.{cell_in-place, cell_in-no_place, replaced-place}
 use Rattle.world.proofs.lent.LentHeld.swap.Goals as goal

@@ -1,0 +1,144 @@
+-- A change that a whole can take is one that can be made of what is held, where its new cells are held.
+use Rattle.std.proofs.Common.{◌≡◌, ℕ, ◌*◌, ◌≤◌, true, false, ◌&&◌, ◌==◌, List, length, Option, Some, None, inl, inr, refl, sym, ap, ◌∙◌, subst, arith, eq-eqb}
+use Rattle.std.specs.Prelude.{IsTrue, is_some, nat_le, nat_lt, ◌%◌}
+use Rattle.std.proofs.lemmas.Bool.{false≢true, and_parts, and_from, ltb-true}
+use Rattle.std.proofs.lemmas.Bool.Decides.{nat_tests}
+use Rattle.rmm_spec.specs.declared.change.Change.{Change}
+use Rattle.rmm_spec.specs.declared.change.Change.TheVariants.{Unchanged, Retagged, RealmMade, RealmDestroyed, RecMade, RecDestroyed, RecordsChanged, TableMade, TableDestroyed, EntriesChanged}
+use Rattle.rmm_spec.specs.declared.change.RealmUpdate.{RealmUpdate}
+use Rattle.rmm_spec.specs.declared.change.RealmUpdate.TheVariants as realm_update
+use Rattle.rmm_spec.specs.declared.change.RecUpdate.{RecUpdate}
+use Rattle.rmm_spec.specs.declared.change.RecUpdate.TheVariants as rec_update
+use Rattle.rmm_spec.specs.declared.change.TagChange.{TagChange}
+use Rattle.rmm_spec.specs.declared.tag.Tag.{Tag}
+use Rattle.rmm_spec.specs.declared.tag.Tag.TheVariants as tag
+use Rattle.rmm_spec.specs.Applicable.{IsRealmUpdate, CanUpdateRec, CanRetag, CanApply}
+use Rattle.rmm_spec.specs.State.{State, RealmRecord, RecRecord}
+use Rattle.rmm_spec.specs.Lookup.{tag_number, is_granule, has_tag, realm_at, rec_at}
+use Rattle.rmm_spec.specs.Step.Words.{is_space}
+use Rattle.rmm_spec.specs.Cell.{Cell, Undelegated, Delegated, Rd, Rec, RecAux, Data, Rtt, tag_of}
+use Rattle.rmm_spec.specs.Flat.{flat_state}
+use Rattle.rmm_spec.specs.Shape.{Side, CpuPlace}
+use Rattle.rmm_spec.specs.Local.{HeldCell, Hold}
+use Rattle.command_core.specs.Seen.{is_held, known_cell}
+use Rattle.command_core.specs.Changed.{hold_of, new_cells, is_plain, counts_in, is_realm_update, fits_realm, is_rec_update, fits_rec, fits_realm_change, fits_rec_change, fits_cells, can_count, can_make, CanMake, CanChange}
+use Rattle.command_core.proofs.Wholes.{Whole, state, same_at, few_recs, realm_at-cell, rec_at-cell}
+
+-- ---- updates
+
+realm_update-fits : (u : RealmUpdate) → IsRealmUpdate u → is_realm_update u ≡ true
+realm_update-fits (realm_update.MeasurementExtended index size values) can =
+    let low = can.0 in
+    let high = can.1 in
+    let small = can.2 in
+    and_from (nat_le 1 index && nat_le index 4 && nat_le size 0x40) (length values == 8)
+    (let tests : (nat_le 1 index && nat_le index 4 && nat_le size 0x40) ≡ true = grind (arith, nat_tests) in tests)
+    (eq-eqb (length values) 8 can.3)
+realm_update-fits (realm_update.PageMeasured ipa flags digest) can = eq-eqb (length digest) 4 can
+realm_update-fits (realm_update.RecCounted mpidr flags) can = absurd can
+realm_update-fits realm_update.Activated can = refl
+realm_update-fits realm_update.TurnedOff can = refl
+realm_update-fits (realm_update.StretchMeasured base top) can = refl
+
+rec_update-fits : (s : State) (rec : RecRecord) (u : RecUpdate) → CanUpdateRec s rec u → is_rec_update rec u ≡ true
+rec_update-fits s rec (rec_update.RequestMoved base) can = can.1
+rec_update-fits s rec _ can = refl
+
+-- ---- records of a whole
+
+tagged : (granules : ℕ) (cells : ℕ → Cell) (g : ℕ) (t : Tag) → IsTrue (has_tag (flat_state granules cells) g t)
+    → (is_granule granules g ≡ true) × ((tag_number (tag_of (cells g)) == tag_number t) ≡ true)
+unfolding has_tag flat_state
+tagged granules cells g t has = and_parts (is_granule granules g) (tag_number (tag_of (cells g)) == tag_number t) has
+
+realm_there : (c : Cell) → (tag_number (tag_of c) == 2) ≡ true → (realm : RealmRecord) × (c ≡ Rd realm)
+realm_there (Rd realm) is = (realm, refl)
+realm_there _ is = absurd (false≢true is)
+
+rec_there : (c : Cell) → (tag_number (tag_of c) == 3) ≡ true → (rec : RecRecord) × (c ≡ Rec rec)
+rec_there (Rec rec) is = (rec, refl)
+rec_there _ is = absurd (false≢true is)
+
+counts : (granules cpu : ℕ) (hold : Hold) (w : Whole granules cpu hold) (rd mpidr : ℕ) → IsTrue (has_tag (state granules cpu hold w) rd tag.Rd)
+    → IsTrue (mpidr == (realm_at (state granules cpu hold w) rd).next_index && nat_lt mpidr 8) → IsTrue (is_held rd hold.cells)
+    → counts_in mpidr (known_cell hold.cells rd) ≡ true
+counts granules cpu hold w rd mpidr has index held =
+    let realm = realm_there (w.cells rd) (tagged granules w.cells rd tag.Rd has).1 in
+    subst (λ (c : Cell). counts_in mpidr c ≡ true) (sym realm.1 ∙ same_at granules cpu hold w rd held)
+    (subst (λ (r : RealmRecord). (mpidr == r.next_index && nat_lt mpidr 8) ≡ true) (realm_at-cell granules w.cells rd realm.0 realm.1) index)
+
+realm-fits : (granules cpu : ℕ) (hold : Hold) (w : Whole granules cpu hold) (rd : ℕ) (u : RealmUpdate) → IsTrue (has_tag (state granules cpu hold w) rd tag.Rd)
+    → IsRealmUpdate u → IsTrue (is_held rd hold.cells) → fits_realm u (known_cell hold.cells rd) ≡ true
+realm-fits granules cpu hold w rd u has can held =
+    let realm = realm_there (w.cells rd) (tagged granules w.cells rd tag.Rd has).1 in
+    subst (λ (c : Cell). fits_realm u c ≡ true) (sym realm.1 ∙ same_at granules cpu hold w rd held) (realm_update-fits u can)
+
+rec-fits : (granules cpu : ℕ) (hold : Hold) (w : Whole granules cpu hold) (rec : ℕ) (u : RecUpdate) → IsTrue (has_tag (state granules cpu hold w) rec tag.Rec)
+    → CanUpdateRec (state granules cpu hold w) (rec_at (state granules cpu hold w) rec) u → IsTrue (is_held rec hold.cells)
+    → fits_rec u (known_cell hold.cells rec) ≡ true
+rec-fits granules cpu hold w rec u has can held =
+    let it = rec_there (w.cells rec) (tagged granules w.cells rec tag.Rec has).1 in
+    subst (λ (c : Cell). fits_rec u c ≡ true) (sym it.1 ∙ same_at granules cpu hold w rec held)
+    (subst (λ (r : RecRecord). is_rec_update r u ≡ true) (rec_at-cell granules w.cells rec it.0 it.1)
+    (rec_update-fits (state granules cpu hold w) (rec_at (state granules cpu hold w) rec) u can))
+
+-- ---- changes
+
+retag-fits : (s : State) (change : TagChange) → CanRetag s change → (is_plain change.tag && true) ≡ true
+retag-fits s change (inl lent) = ap (λ (t : Tag). is_plain t && true) lent.1
+retag-fits s change (inr back) = ap (λ (t : Tag). is_plain t && true) back.1
+
+pub applied-fits : (granules cpu : ℕ) (hold : Hold) (w : Whole granules cpu hold) (change : Change) → CanApply (state granules cpu hold w) change
+    → CanChange cpu hold change → can_make granules hold.cells hold.side change ≡ true
+unfolding can_make new_cells
+applied-fits granules cpu hold w Unchanged can fits = refl
+applied-fits granules cpu hold w (Retagged change) can fits = retag-fits (state granules cpu hold w) change can
+applied-fits granules cpu hold w (RealmMade rd root width level vmid algo) can fits =
+    and_from (is_space width level && algo == 0) true
+    (and_from (is_space width level) (algo == 0) can.space (eq-eqb algo 0 can.is_algo)) refl
+applied-fits granules cpu hold w (RealmDestroyed rd root) can fits = refl
+applied-fits granules cpu hold w (RecMade rd rec mpidr flags aux0 aux1) can fits =
+    and_from (counts_in mpidr (known_cell hold.cells rd)) (is_granule granules rd && nat_le (hold.side.rec_counts rd) granules)
+    (counts granules cpu hold w rd mpidr can.rd_tag can.index_fits fits.held.1.1.1.0)
+    (and_from (is_granule granules rd) (nat_le (hold.side.rec_counts rd) granules) (tagged granules w.cells rd tag.Rd can.rd_tag).0 (few_recs granules cpu hold w rd))
+applied-fits granules cpu hold w (RecDestroyed rec aux0 aux1) can fits = refl
+applied-fits granules cpu hold w (RecordsChanged None None) can fits = refl
+applied-fits granules cpu hold w (RecordsChanged (Some realm) None) can fits =
+    let one = realm-fits granules cpu hold w realm.rd realm.update can.0.0 can.0.1 fits.held.0 in
+    rw one refl
+applied-fits granules cpu hold w (RecordsChanged None (Some rec)) can fits =
+    let one = rec-fits granules cpu hold w rec.rec rec.update can.1.0 can.1.1 fits.held.0 in
+    rw one refl
+applied-fits granules cpu hold w (RecordsChanged (Some realm) (Some rec)) can fits =
+    let first = realm-fits granules cpu hold w realm.rd realm.update can.0.0 can.0.1 fits.held.0 in
+    let second = rec-fits granules cpu hold w rec.rec rec.update can.1.0 can.1.1 fits.held.1.0 in
+    rw (first, second) refl
+applied-fits granules cpu hold w (TableMade rd level number rtt entry) can fits = absurd fits.here
+applied-fits granules cpu hold w (TableDestroyed rd level number rtt entry) can fits = absurd fits.here
+applied-fits granules cpu hold w (EntriesChanged rd level entries page realm rec) can fits = absurd fits.here
+
+-- ---- a machine's size
+
+more-granule : (granules rd : ℕ) → granules ≤ 4096 → is_granule granules rd ≡ true → is_granule 4096 rd ≡ true
+unfolding is_granule
+more-granule granules rd few is =
+    let parts = and_parts (rd % 4096 == 0) (nat_lt rd (granules * 4096)) is in
+    let below = ltb-true rd (granules * 4096) parts.1 in
+    let past : nat_lt rd (4096 * 4096) ≡ true = grind (arith, nat_tests) in
+    and_from (rd % 4096 == 0) (nat_lt rd (4096 * 4096)) parts.0 past
+
+count-more : (granules : ℕ) (side : Side) (change : Change) → granules ≤ 4096 → can_count granules side change ≡ true → can_count 4096 side change ≡ true
+count-more granules side (RecMade rd rec mpidr flags aux0 aux1) few is =
+    let parts = and_parts (is_granule granules rd) (nat_le (side.rec_counts rd) granules) is in
+    let least = parts.1 in
+    let most : nat_le (side.rec_counts rd) 4096 ≡ true = grind (arith, nat_tests) in
+    and_from (is_granule 4096 rd) (nat_le (side.rec_counts rd) 4096) (more-granule granules rd few parts.0) most
+count-more granules side _ few is = refl
+
+-- what can be made on a machine can be made on a larger one
+pub makes : (granules : ℕ) (held : List HeldCell) (side : Side) (place : CpuPlace) (change : Change) → granules ≤ 4096
+    → can_make granules held side change ≡ true → CanMake (hold_of held side place) change
+unfolding can_make
+makes granules held side place change few is =
+    let parts = and_parts (fits_cells held change) (can_count granules side change) is in
+    record { fits = parts.0; counts = count-more granules side change few parts.1 }

@@ -1,0 +1,204 @@
+-- A command of a CPU inside a REC is answered from that REC and its realm, as they are held, as by every whole that agrees.
+use Rattle.std.proofs.Common.{◌≡◌, ℕ, Bool, true, false, not, ◌&&◌, ◌||◌, ◌==◌, if◌then◌else◌, List, [], ◌∷◌, Option, Some, Err, Result, refl, sym, ap, ◌∙◌, subst, eqb-true}
+use Rattle.std.specs.Prelude.{IsTrue, Contains, is_none, is_some}
+use Rattle.std.proofs.lemmas.Bool.{false≢true, and_parts, or_parts, not-false}
+use Rattle.rmm_spec.specs.declared.accepted.Accepted.{Accepted}
+use Rattle.rmm_spec.specs.declared.call.Call.{Call}
+use Rattle.rmm_spec.specs.declared.call.Call.TheVariants as call
+use Rattle.rmm_spec.specs.declared.change.Change.TheVariants.{Unchanged, RecordsChanged}
+use Rattle.rmm_spec.specs.declared.change.RealmUpdate.TheVariants as realm_update
+use Rattle.rmm_spec.specs.declared.change.RecUpdate.TheVariants as rec_update
+use Rattle.rmm_spec.specs.declared.reply.Reply.{Reply}
+use Rattle.rmm_spec.specs.declared.reply.Reply.TheVariants as reply
+use Rattle.rmm_spec.specs.declared.tag.Tag.TheVariants as tag
+use Rattle.rmm_spec.specs.Call.{Class, ByHost, ByRealm, ByExit, class_of}
+use Rattle.rmm_spec.specs.State.{State, RecRecord}
+use Rattle.rmm_spec.specs.Lookup.{is_granule, has_tag, realm_at, rec_at}
+use Rattle.rmm_spec.specs.Rows.{Needed}
+use Rattle.rmm_spec.specs.Step.Front.{with_front}
+use Rattle.rmm_spec.specs.Step.Named.{needed}
+use Rattle.rmm_spec.specs.Step.RealmCall.{measurement_read, measurement_extend, realm_config, ipa_state_set, host_call, cpu_off, system_off, rec_exit, rec_change, realm_change, ripas_asked}
+use Rattle.rmm_spec.specs.Cell.{Cell, Undelegated, Delegated, Rd, Rec, RecAux, Data, Rtt, tag_of}
+use Rattle.rmm_spec.specs.Shape.{Inside}
+use Rattle.rmm_spec.specs.Local.{HeldCell, Hold}
+use Rattle.world_laws.proofs.Members.{Contains-head, Contains-tail}
+use Rattle.rec_steps.specs.Answers.{call_row}
+use Rattle.command_rows.specs.Answers.{IsInsideBy, realm_answer, class_answer, inside_answer}
+use Rattle.command_core.specs.Seen.{cell_in, is_held}
+use Rattle.command_core.specs.SeenState.{seen_state}
+use Rattle.command_core.specs.Served.{is_served}
+use Rattle.command_core.specs.Changed.{new_cells, CanAnswer}
+use Rattle.command_core.specs.Named.{has_wrong}
+use Rattle.command_core.specs.Unshaped.{has_other_owner, is_misfit}
+use Rattle.command_core.specs.Settled.{is_settled_inside}
+use Rattle.command_core.proofs.Answered
+use Rattle.command_core.proofs.Answered.{can-done}
+use Rattle.command_core.proofs.Fronts.{named-cell}
+use Rattle.command_core.proofs.SeenStates.{realm-same, rec-same, tag-seen, rec-seen}
+use Rattle.command_core.proofs.Wholes.{Whole, state}
+
+-- ---- what is held at the place's granules
+
+abbrev names : ℕ → ℕ → List Needed
+names rec rd = needed rec tag.Rec ∷ needed rd tag.Rd ∷ []
+
+record Fits (granules rec rd : ℕ) (held : List HeldCell) : Type 0 where
+  of_rec : is_granule granules rec ≡ true
+  of_rd : is_granule granules rd ≡ true
+  right : has_wrong (names rec rd) held ≡ false
+  owner : has_other_owner rd (cell_in rec held) ≡ false
+
+fitting : (granules rec rd : ℕ) (held : List HeldCell) → is_misfit granules rec rd held ≡ false → Fits granules rec rd held
+unfolding is_misfit
+fitting granules rec rd held fits =
+    let locks = is_granule granules rec && is_granule granules rd && not (rec == rd) in
+    let first = or_parts (not locks || has_wrong (names rec rd) held) (has_other_owner rd (cell_in rec held)) fits in
+    let second = or_parts (not locks) (has_wrong (names rec rd) held) first.0 in
+    let third = and_parts (is_granule granules rec && is_granule granules rd) (not (rec == rd)) (not-false locks second.0) in
+    let fourth = and_parts (is_granule granules rec) (is_granule granules rd) third.0 in
+    record { of_rec = fourth.0; of_rd = fourth.1; right = second.1; owner = first.1 }
+
+pub fitting-granule : (granules rec rd : ℕ) (held : List HeldCell) → is_misfit granules rec rd held ≡ false → is_granule granules rec ≡ true
+fitting-granule granules rec rd held fits = (fitting granules rec rd held fits).of_rec
+
+rec-tag : (c : Cell) → tag_of c ≡ tag.Rec → (it : RecRecord) × (c ≡ Rec it)
+rec-tag (Rec it) is = (it, refl)
+rec-tag _ is = absurd cc
+
+-- the REC is one of that realm
+record FittingRec (granules rec rd : ℕ) (held : List HeldCell) : Type 0 where
+  it : RecRecord
+  seen : rec_at (seen_state granules held) rec ≡ it
+  owner : it.owner ≡ rd
+  tagged : has_tag (seen_state granules held) rec tag.Rec ≡ true
+
+fitting-rec : (granules rec rd : ℕ) (held : List HeldCell) → is_misfit granules rec rd held ≡ false → is_held rec held ≡ true → FittingRec granules rec rd held
+fitting-rec granules rec rd held fits holds =
+    let parts = fitting granules rec rd held fits in
+    let at = named-cell (names rec rd) held parts.right (needed rec tag.Rec) (Contains-head (needed rec tag.Rec) (needed rd tag.Rd ∷ [])) holds in
+    let rec_cell = rec-tag at.cell at.tagged in
+    let found : cell_in rec held ≡ Some (Rec rec_cell.0) = at.found ∙ ap (λ (c : Cell). Some c) rec_cell.1 in
+    let same : not (rec_cell.0.owner == rd) ≡ false = ap (has_other_owner rd) (sym found) ∙ parts.owner in
+    record {
+      it = rec_cell.0;
+      seen = rec-seen granules held rec rec_cell.0 parts.of_rec found;
+      owner = eqb-true rec_cell.0.owner rd (not-false (rec_cell.0.owner == rd) same);
+      tagged = tag-seen granules held rec at.cell tag.Rec parts.of_rec at.found at.tagged;
+    }
+
+fitting-realm : (granules rec rd : ℕ) (held : List HeldCell) → is_misfit granules rec rd held ≡ false → is_held rd held ≡ true
+    → has_tag (seen_state granules held) rd tag.Rd ≡ true
+fitting-realm granules rec rd held fits holds =
+    let parts = fitting granules rec rd held fits in
+    let at = named-cell (names rec rd) held parts.right (needed rd tag.Rd)
+    (Contains-tail (needed rec tag.Rec) (needed rd tag.Rd ∷ []) (needed rd tag.Rd) (Contains-head (needed rd tag.Rd) [])) holds in
+    tag-seen granules held rd at.cell tag.Rd parts.of_rd at.found at.tagged
+
+or_right : (b c : Bool) → b ≡ false → (b || c) ≡ true → c ≡ true
+or_right false c fails is = is
+or_right true c fails is = absurd (false≢true (sym fails))
+
+-- a command whose place fits may be given there
+pub settled-inside : (granules rec rd : ℕ) (held : List HeldCell) (k : Class) → is_misfit granules rec rd held ≡ false
+    → is_settled_inside k granules rec rd held ≡ true → IsInsideBy k (seen_state granules held) rec
+settled-inside granules rec rd held ByHost fits settled = tt
+settled-inside granules rec rd held ByRealm fits settled =
+    let both = and_parts (is_held rec held) (is_held rd held) (or_right (is_misfit granules rec rd held) (is_held rec held && is_held rd held) fits settled) in
+    let one = fitting-rec granules rec rd held fits both.0 in
+    let realm = fitting-realm granules rec rd held fits both.1 in (
+      one.tagged,
+      subst (λ x. has_tag (seen_state granules held) x tag.Rd ≡ true) (sym (ap (λ (r : RecRecord). r.owner) one.seen ∙ one.owner)) realm,
+    )
+settled-inside granules rec rd held ByExit fits settled =
+    (fitting-rec granules rec rd held fits (or_right (is_misfit granules rec rd held) (is_held rec held) fits settled)).tagged
+
+-- ---- realm calls
+
+-- a REC's call looks up the REC and its realm
+call_row-same : (s t : State) (rec : ℕ) (c : Call) → is_served c ≡ true → rec_at s rec ≡ rec_at t rec
+    → realm_at s (rec_at s rec).owner ≡ realm_at t (rec_at t rec).owner → call_row s rec c ≡ call_row t rec c
+unfolding call_row is_served
+call_row-same s t rec (call.MeasurementRead index) served same realm = Answered.measurement_read-same s t rec index realm
+call_row-same s t rec (call.MeasurementExtend index size values) served same realm = Answered.measurement_extend-same s t rec index size values same
+call_row-same s t rec call.RealmConfig served same realm = Answered.realm_config-same s t rec realm
+call_row-same s t rec (call.IpaStateSet base top ripas) served same realm = Answered.ipa_state_set-same s t rec base top ripas realm
+call_row-same s t rec (call.HostCall imm) served same realm = Answered.host_call-same s t rec imm
+call_row-same s t rec call.CpuOff served same realm = Answered.cpu_off-same s t rec
+call_row-same s t rec call.SystemOff served same realm = Answered.system_off-same s t rec same
+call_row-same s t rec (call.IpaStateGet ipa) served same realm = absurd (false≢true served)
+call_row-same s t rec _ served same realm = refl
+
+can-call : (cpu : ℕ) (hold : Hold) (s : State) (rec : ℕ) (c : Call) → is_served c ≡ true → is_held rec hold.cells ≡ true
+    → is_held (rec_at s rec).owner hold.cells ≡ true → CanAnswer cpu hold (call_row s rec c)
+unfolding call_row is_served new_cells measurement_read measurement_extend realm_config ipa_state_set host_call cpu_off system_off
+can-call cpu hold s rec (call.MeasurementRead index) served held owner =
+    can-done cpu hold Unchanged _ (with_front s (call.MeasurementRead index) _) (record { held = tt; here = tt })
+can-call cpu hold s rec (call.MeasurementExtend index size values) served held owner =
+    can-done cpu hold (realm_change (rec_at s rec).owner (realm_update.MeasurementExtended index size values)) _ (with_front s (call.MeasurementExtend index size values) _) (record { held = (owner, tt); here = tt })
+can-call cpu hold s rec call.RealmConfig served held owner =
+    can-done cpu hold Unchanged _ (with_front s call.RealmConfig _) (record { held = tt; here = tt })
+can-call cpu hold s rec (call.IpaStateSet base top ripas) served held owner =
+    can-done cpu hold (rec_change rec (rec_update.RipasRequested base top (ripas_asked ripas))) _ (with_front s (call.IpaStateSet base top ripas) _) (record { held = (held, tt); here = tt })
+can-call cpu hold s rec (call.HostCall imm) served held owner =
+    can-done cpu hold (rec_change rec (rec_update.HostCalled imm)) _ (with_front s (call.HostCall imm) _) (record { held = (held, tt); here = tt })
+can-call cpu hold s rec call.CpuOff served held owner =
+    can-done cpu hold (rec_change rec rec_update.TurnedOff) _ (with_front s call.CpuOff _) (record { held = (held, tt); here = tt })
+can-call cpu hold s rec call.SystemOff served held owner =
+    can-done cpu hold (RecordsChanged (Some (record { rd = (rec_at s rec).owner; update = realm_update.TurnedOff })) (Some (record { rec = rec; update = rec_update.SystemTurnedOff }))) _ (with_front s call.SystemOff _) (record { held = (owner, (held, tt)); here = tt })
+can-call cpu hold s rec (call.IpaStateGet ipa) served held owner = absurd (false≢true served)
+can-call cpu hold s rec _ served held owner = tt
+
+can-exit : (cpu : ℕ) (hold : Hold) (s : State) (rec rd : ℕ) → hold.place ≡ Inside rec rd → is_held rec hold.cells ≡ true → CanAnswer cpu hold (rec_exit s rec)
+unfolding rec_exit new_cells
+can-exit cpu hold s rec rd place held =
+    can-done cpu hold (rec_change rec rec_update.Exited) _ (with_front s call.Exit _) (record { held = (held, tt); here = (rd, place) })
+
+-- ---- any command
+
+-- its change is one of what is held, and each whole that agrees answers the same
+pub record IsToldInside (granules cpu : ℕ) (hold : Hold) (rec : ℕ) (c : Call) : Type 0 where
+  pub can : CanAnswer cpu hold (inside_answer (seen_state granules hold.cells) rec c)
+  pub same : (w : Whole granules cpu hold) → inside_answer (state granules cpu hold w) rec c ≡ inside_answer (seen_state granules hold.cells) rec c
+
+pub fitting-told : (granules cpu : ℕ) (hold : Hold) (rec rd : ℕ) (c : Call) → is_served c ≡ true → hold.place ≡ Inside rec rd
+    → is_misfit granules rec rd hold.cells ≡ false → is_settled_inside (class_of c) granules rec rd hold.cells ≡ true → IsToldInside granules cpu hold rec c
+unfolding inside_answer
+fitting-told granules cpu hold rec rd c served place fits settled = record { can = can (class_of c) settled; same = λ w. same w (class_of c) settled }
+  where
+    t : State
+    t = seen_state granules hold.cells
+
+    rec-held : is_settled_inside ByExit granules rec rd hold.cells ≡ true → is_held rec hold.cells ≡ true
+    rec-held is = or_right (is_misfit granules rec rd hold.cells) (is_held rec hold.cells) fits is
+
+    both-held : is_settled_inside ByRealm granules rec rd hold.cells ≡ true → (is_held rec hold.cells ≡ true) × (is_held rd hold.cells ≡ true)
+    both-held is = and_parts (is_held rec hold.cells) (is_held rd hold.cells)
+        (or_right (is_misfit granules rec rd hold.cells) (is_held rec hold.cells && is_held rd hold.cells) fits is)
+
+    owner-held : (is_held rec hold.cells ≡ true) × (is_held rd hold.cells ≡ true) → is_held (rec_at t rec).owner hold.cells ≡ true
+    owner-held both =
+        let one = fitting-rec granules rec rd hold.cells fits both.0 in
+        subst (λ x. is_held x hold.cells ≡ true) (sym (ap (λ (r : RecRecord). r.owner) one.seen ∙ one.owner)) both.1
+
+    can-wait : (b : Bool) → CanAnswer cpu hold (call_row t rec c) → CanAnswer cpu hold (if b then call_row t rec c else Err reply.Misplaced)
+    can-wait true later = later
+    can-wait false later = tt
+
+    can : (k : Class) → is_settled_inside k granules rec rd hold.cells ≡ true → CanAnswer cpu hold (class_answer k t rec c)
+    can ByHost is = tt
+    can ByRealm is =
+        let both = both-held is in
+        can-wait (is_none (rec_at t rec).pending) (can-call cpu hold t rec c served both.0 (owner-held both))
+    can ByExit is = can-exit cpu hold t rec rd place (rec-held is)
+
+    same : (w : Whole granules cpu hold) (k : Class) → is_settled_inside k granules rec rd hold.cells ≡ true
+        → class_answer k (state granules cpu hold w) rec c ≡ class_answer k t rec c
+    same w ByHost is = refl
+    same w ByRealm is =
+        let s = state granules cpu hold w in
+        let both = both-held is in
+        let recs = rec-same granules cpu hold w rec both.0 in
+        let realms = ap (λ (r : RecRecord). realm_at s r.owner) recs ∙ realm-same granules cpu hold w (rec_at t rec).owner (owner-held both) in
+        let rows = call_row-same s t rec c served recs realms in
+        λ i. if is_none (recs i).pending then rows i else Err reply.Misplaced
+    same w ByExit is = Answered.rec_exit-same (state granules cpu hold w) t rec (rec-same granules cpu hold w rec (rec-held is))

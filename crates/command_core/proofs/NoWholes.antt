@@ -1,0 +1,226 @@
+-- Cells that no shaped whole has: each case is refuted by the group of the shape that speaks of it.
+use Rattle.std.proofs.Common.{◌≡◌, ℕ, ◌*◌, Bool, true, false, not, ◌&&◌, ◌||◌, ◌==◌, [], ◌∷◌, Option, Some, None, ◌⊎◌, inl, inr, refl, sym, ap, ◌∙◌, eqb-true, eq-eqb, zero-mul}
+use Rattle.std.specs.Prelude.{is_none, is_some}
+use Rattle.std.proofs.lemmas.Bool.{false≢true, and_parts, and_from, false_from_ne_true, not-true}
+use Rattle.std.proofs.lemmas.Option.{same_Some}
+use Rattle.rmm_spec.specs.declared.call.Call.{Call}
+use Rattle.rmm_spec.specs.declared.call.Call.TheVariants.{RealmDestroy, RecDestroy, RecEnter}
+use Rattle.rmm_spec.specs.declared.tag.Tag.TheVariants as tag
+use Rattle.rmm_spec.specs.State.{RealmRecord, RecRecord}
+use Rattle.rmm_spec.specs.Lookup.{tag_number, is_granule}
+use Rattle.rmm_spec.specs.Rows.{Needed}
+use Rattle.rmm_spec.specs.Table.{TableRecord, place_number}
+use Rattle.rmm_spec.specs.Walk.{table_size}
+use Rattle.rmm_spec.specs.Step.Named.{needed}
+use Rattle.rmm_spec.specs.Cell.{Cell, Undelegated, Delegated, Rd, Rec, RecAux, Data, Rtt, tag_of, is_aux, table_in, realm_in, rec_in, realms_of, tables_of}
+use Rattle.rmm_spec.specs.Shape.{CpuPlace, Outside, Inside, HoldsTable}
+use Rattle.rmm_spec.specs.Local.{Hold}
+use Rattle.world_laws.proofs.Locals.{agrees-at}
+use Rattle.world_laws.proofs.Members.{each_of_two}
+use Rattle.command_core.specs.Seen.{cell_in, is_held}
+use Rattle.command_core.specs.Named.{has_wrong}
+use Rattle.command_core.specs.Unshaped.{is_root_place, is_other_root, has_bad_root, is_other_aux, is_bad_aux, are_bad_auxes, has_bad_aux, can_learn, has_bad_owner, has_other_owner, is_misfit, is_unshaped_outside, is_unshaped}
+use Rattle.command_core.proofs.Fronts.{wrong_tag}
+use Rattle.command_core.proofs.Wholes.{Whole, whole_cell, tagged_granule, realm_cell, InsideCells, inside-cells}
+
+or_cases : (b c : Bool) → (b || c) ≡ true → (b ≡ true) ⊎ (c ≡ true)
+or_cases true c is = inl refl
+or_cases false c is = inr is
+
+-- a granule that holds something is one
+no_granule : (granules cpu : ℕ) (hold : Hold) (w : Whole granules cpu hold) (g : ℕ) → (tag_number (tag_of (w.cells g)) == 0) ≡ false
+    → not (is_granule granules g) ≡ true → ⊥
+no_granule granules cpu hold w g tagged none = false≢true (sym (not-true (is_granule granules g) none) ∙ tagged_granule granules cpu hold w g tagged)
+
+-- ---- a realm's root
+
+table_tag : (c : Cell) → is_some (table_in c) ≡ true → (tag_number (tag_of c) == 0) ≡ false
+table_tag (Rtt table) is = refl
+table_tag _ is = absurd (false≢true is)
+
+-- the place of a realm's root
+root-placed : (granules cpu : ℕ) (hold : Hold) (w : Whole granules cpu hold) (rd : ℕ) (realm : RealmRecord) (t : TableRecord)
+    → realms_of w.cells rd ≡ Some realm → tables_of w.cells realm.root ≡ Some t → is_root_place rd realm t.place ≡ true
+root-placed granules cpu hold w rd realm t is_realm is_table =
+    and_from (t.place.rd == rd && t.place.level == realm.start_level && t.place.base == 0) (t.place.width == realm.width)
+    (and_from (t.place.rd == rd && t.place.level == realm.start_level) (t.place.base == 0)
+    (and_from (t.place.rd == rd) (t.place.level == realm.start_level) (eq-eqb t.place.rd rd of_rd) (eq-eqb t.place.level realm.start_level of_level))
+    (eq-eqb t.place.base 0 base)) (eq-eqb t.place.width realm.width width)
+  where
+    root : HoldsTable (tables_of w.cells) realm.root rd realm.start_level 0
+    root = w.shaped.tables.roots rd realm is_realm
+
+    same : root.table ≡ t
+    same = same_Some root.table t (sym root.is_held ∙ is_table)
+
+    of_rd : t.place.rd ≡ rd
+    of_rd = ap (λ (x : TableRecord). x.place.rd) (sym same) ∙ root.is_realm
+
+    of_level : t.place.level ≡ realm.start_level
+    of_level = ap (λ (x : TableRecord). x.place.level) (sym same) ∙ root.is_level
+
+    base : t.place.base ≡ 0
+    base =
+        let own = w.shaped.tables.placed realm.root t is_table in
+        let number : place_number t.place ≡ 0 = ap (λ (x : TableRecord). place_number x.place) (sym same) ∙ root.is_number in
+        own.2.base ∙ (ap (λ n. n * table_size t.place.level) number ∙ zero-mul (table_size t.place.level))
+
+    width : t.place.width ≡ realm.width
+    width =
+        let own = w.shaped.tables.placed realm.root t is_table in
+        let one : own.0 ≡ realm = same_Some own.0 realm (sym own.1 ∙ (ap (realms_of w.cells) of_rd ∙ is_realm)) in
+        own.2.width ∙ ap (λ (r : RealmRecord). r.width) one
+
+root-none : (granules cpu : ℕ) (hold : Hold) (w : Whole granules cpu hold) (rd : ℕ) (o : Option Cell) → cell_in rd hold.cells ≡ o
+    → has_bad_root granules rd o hold.cells ≡ true → ⊥
+root-none granules cpu hold w rd (Some (Rd realm)) found bad =
+    by (or_cases (not (is_granule granules realm.root)) (is_other_root rd realm (cell_in realm.root hold.cells)) bad)
+  where
+    is_realm : realms_of w.cells rd ≡ Some realm
+    is_realm = ap realm_in (whole_cell granules cpu hold w rd (Rd realm) found)
+
+    there : is_some (table_in (w.cells realm.root)) ≡ true
+    there = ap (λ (o : Option TableRecord). is_some o) (w.shaped.tables.roots rd realm is_realm).is_held
+
+    no_table : (c : Cell) → cell_in realm.root hold.cells ≡ Some c → is_some (table_in c) ≡ true
+    no_table c root = ap (λ (x : Cell). is_some (table_in x)) (sym (whole_cell granules cpu hold w realm.root c root)) ∙ there
+
+    other : (p : Option Cell) → cell_in realm.root hold.cells ≡ p → is_other_root rd realm p ≡ true → ⊥
+    other None root is = false≢true is
+    other (Some (Rtt t)) root is =
+        false≢true (sym (not-true (is_root_place rd realm t.place) is)
+        ∙ root-placed granules cpu hold w rd realm t is_realm (ap table_in (whole_cell granules cpu hold w realm.root (Rtt t) root)))
+    other (Some Undelegated) root is = false≢true (no_table Undelegated root)
+    other (Some Delegated) root is = false≢true (no_table Delegated root)
+    other (Some (Rd x)) root is = false≢true (no_table (Rd x) root)
+    other (Some (Rec x)) root is = false≢true (no_table (Rec x) root)
+    other (Some RecAux) root is = false≢true (no_table RecAux root)
+    other (Some Data) root is = false≢true (no_table Data root)
+
+    by : (not (is_granule granules realm.root) ≡ true) ⊎ (is_other_root rd realm (cell_in realm.root hold.cells) ≡ true) → ⊥
+    by (inl none) = no_granule granules cpu hold w realm.root (table_tag (w.cells realm.root) there) none
+    by (inr is) = other (cell_in realm.root hold.cells) refl is
+root-none granules cpu hold w rd _ found bad = false≢true bad
+
+-- ---- a REC's two others
+
+aux_tag : (c : Cell) → is_aux c ≡ true → (tag_number (tag_of c) == 0) ≡ false
+aux_tag RecAux is = refl
+aux_tag _ is = absurd (false≢true is)
+
+bad_aux-none : (granules cpu : ℕ) (hold : Hold) (w : Whole granules cpu hold) (aux : ℕ) → is_aux (w.cells aux) ≡ true → is_bad_aux granules aux hold.cells ≡ true → ⊥
+bad_aux-none granules cpu hold w aux is_one bad = by (or_cases (not (is_granule granules aux)) (is_other_aux (cell_in aux hold.cells)) bad)
+  where
+    other : (p : Option Cell) → cell_in aux hold.cells ≡ p → is_other_aux p ≡ true → ⊥
+    other None found is = false≢true is
+    other (Some c) found is =
+        false≢true (sym (not-true (is_aux c) is) ∙ (ap is_aux (sym (whole_cell granules cpu hold w aux c found)) ∙ is_one))
+
+    by : (not (is_granule granules aux) ≡ true) ⊎ (is_other_aux (cell_in aux hold.cells) ≡ true) → ⊥
+    by (inl none) = no_granule granules cpu hold w aux (aux_tag (w.cells aux) is_one) none
+    by (inr is) = other (cell_in aux hold.cells) refl is
+
+auxes-none : (granules cpu : ℕ) (hold : Hold) (w : Whole granules cpu hold) (rec : ℕ) (o : Option Cell) → cell_in rec hold.cells ≡ o
+    → has_bad_aux granules o hold.cells ≡ true → ⊥
+auxes-none granules cpu hold w rec (Some (Rec it)) found bad =
+    by (or_cases (is_bad_aux granules it.aux0 hold.cells) (is_held it.aux0 hold.cells && (it.aux0 == it.aux1 || is_bad_aux granules it.aux1 hold.cells))
+    (and_parts (is_none it.cpu) (are_bad_auxes granules it hold.cells) bad).1)
+  where
+    is_rec : rec_in (w.cells rec) ≡ Some it
+    is_rec = ap rec_in (whole_cell granules cpu hold w rec (Rec it) found)
+
+    second : ((it.aux0 == it.aux1) ≡ true) ⊎ (is_bad_aux granules it.aux1 hold.cells ≡ true) → ⊥
+    second (inl same) = false≢true (sym (w.shaped.recs.two rec it is_rec) ∙ same)
+    second (inr is) = bad_aux-none granules cpu hold w it.aux1 (w.shaped.recs.aux1 rec it is_rec) is
+
+    by : (is_bad_aux granules it.aux0 hold.cells ≡ true)
+        ⊎ ((is_held it.aux0 hold.cells && (it.aux0 == it.aux1 || is_bad_aux granules it.aux1 hold.cells)) ≡ true) → ⊥
+    by (inl is) = bad_aux-none granules cpu hold w it.aux0 (w.shaped.recs.aux0 rec it is_rec) is
+    by (inr is) = second (or_cases (it.aux0 == it.aux1) (is_bad_aux granules it.aux1 hold.cells)
+        (and_parts (is_held it.aux0 hold.cells) (it.aux0 == it.aux1 || is_bad_aux granules it.aux1 hold.cells) is).1)
+auxes-none granules cpu hold w rec _ found bad = false≢true bad
+
+-- ---- a REC's realm
+
+owner-none : (granules cpu : ℕ) (hold : Hold) (w : Whole granules cpu hold) (rec : ℕ) (o : Option Cell) → cell_in rec hold.cells ≡ o
+    → has_bad_owner granules rec o ≡ true → ⊥
+owner-none granules cpu hold w rec (Some (Rec it)) found bad =
+    let cell = whole_cell granules cpu hold w rec (Rec it) found in
+    let realm = realm_cell (w.cells it.owner) (w.shaped.recs.owned rec it (ap rec_in cell)) in
+    let granule = tagged_granule granules cpu hold w it.owner (ap (λ (c : Cell). tag_number (tag_of c) == 0) realm.1) in
+    let apart : (it.owner == rec) ≡ false = false_from_ne_true (it.owner == rec) (λ same.
+    false≢true (ap (λ (c : Cell). tag_number (tag_of c) == 2) (sym cell ∙ (sym (ap w.cells (eqb-true it.owner rec same)) ∙ realm.1)))) in
+    false≢true (sym (not-true (can_learn granules rec it.owner) bad)
+    ∙ and_from (is_granule granules it.owner) (not (it.owner == rec)) granule (ap not apart))
+owner-none granules cpu hold w rec _ found bad = false≢true bad
+
+-- ---- a CPU's place
+
+cells_apart : (c d : Cell) (it : RecRecord) (realm : RealmRecord) → c ≡ Rec it → d ≡ Rd realm → c ≡ d → ⊥
+cells_apart c d it realm first second same = false≢true (ap (λ (x : Cell). tag_number (tag_of x) == 2) (sym first ∙ (same ∙ second)))
+
+-- what is held at the two granules has their tags
+right_tags : (granules cpu : ℕ) (hold : Hold) (w : Whole granules cpu hold) (rec rd : ℕ) → hold.place ≡ Inside rec rd
+    → has_wrong (needed rec tag.Rec ∷ needed rd tag.Rd ∷ []) hold.cells ≡ true → ⊥
+right_tags granules cpu hold w rec rd place is =
+    let here = inside-cells granules cpu hold w rec rd place in
+    let wrong = wrong_tag (needed rec tag.Rec ∷ needed rd tag.Rd ∷ []) hold.cells is in
+    let tags : tag_of (w.cells wrong.n.granule) ≡ wrong.n.tag =
+    each_of_two (λ (n : Needed). tag_of (w.cells n.granule) ≡ n.tag) (needed rec tag.Rec) (needed rd tag.Rd)
+    (ap (λ (c : Cell). tag_of c) here.is_rec) (ap (λ (c : Cell). tag_of c) here.is_realm) wrong.n wrong.has_n in
+    let cell : w.cells wrong.n.granule ≡ wrong.h.cell = ap w.cells wrong.same ∙ agrees-at w.cells hold.cells wrong.h w.agrees wrong.has_h in
+    false≢true (sym wrong.wrong
+    ∙ eq-eqb (tag_number (tag_of wrong.h.cell)) (tag_number wrong.n.tag) (ap (λ (c : Cell). tag_number (tag_of c)) (sym cell) ∙ ap tag_number tags))
+
+misfit-none : (granules cpu : ℕ) (hold : Hold) (w : Whole granules cpu hold) (rec rd : ℕ) → hold.place ≡ Inside rec rd
+    → is_misfit granules rec rd hold.cells ≡ true → ⊥
+unfolding is_misfit
+misfit-none granules cpu hold w rec rd place misfit =
+    by (or_cases (not locks || has_wrong (needed rec tag.Rec ∷ needed rd tag.Rd ∷ []) hold.cells) (has_other_owner rd (cell_in rec hold.cells)) misfit)
+  where
+    locks : Bool
+    locks = is_granule granules rec && is_granule granules rd && not (rec == rd)
+
+    here : InsideCells w.cells rec rd
+    here = inside-cells granules cpu hold w rec rd place
+
+    apart : (rec == rd) ≡ false
+    apart = false_from_ne_true (rec == rd) (λ same. cells_apart (w.cells rec) (w.cells rd) here.it here.realm here.is_rec here.is_realm (ap w.cells (eqb-true rec rd same)))
+
+    fits : locks ≡ true
+    fits = and_from (is_granule granules rec && is_granule granules rd) (not (rec == rd))
+        (and_from (is_granule granules rec) (is_granule granules rd)
+        (tagged_granule granules cpu hold w rec (ap (λ (c : Cell). tag_number (tag_of c) == 0) here.is_rec))
+        (tagged_granule granules cpu hold w rd (ap (λ (c : Cell). tag_number (tag_of c) == 0) here.is_realm)))
+        (ap not apart)
+
+    first : (not locks ≡ true) ⊎ (has_wrong (needed rec tag.Rec ∷ needed rd tag.Rd ∷ []) hold.cells ≡ true) → ⊥
+    first (inl none) = false≢true (sym (not-true locks none) ∙ fits)
+    first (inr wrong) = right_tags granules cpu hold w rec rd place wrong
+
+    other : (o : Option Cell) → cell_in rec hold.cells ≡ o → has_other_owner rd o ≡ true → ⊥
+    other (Some (Rec it)) found is =
+        let same : here.it ≡ it = same_Some here.it it (ap rec_in (sym here.is_rec ∙ whole_cell granules cpu hold w rec (Rec it) found)) in
+        false≢true (sym (not-true (it.owner == rd) is) ∙ eq-eqb it.owner rd (ap (λ (r : RecRecord). r.owner) (sym same) ∙ here.is_owner))
+    other _ found is = false≢true is
+
+    by : ((not locks || has_wrong (needed rec tag.Rec ∷ needed rd tag.Rd ∷ []) hold.cells) ≡ true) ⊎ (has_other_owner rd (cell_in rec hold.cells) ≡ true) → ⊥
+    by (inl is) = first (or_cases (not locks) (has_wrong (needed rec tag.Rec ∷ needed rd tag.Rd ∷ []) hold.cells) is)
+    by (inr is) = other (cell_in rec hold.cells) refl is
+
+-- ---- any command
+
+outside-none : (granules cpu : ℕ) (hold : Hold) (w : Whole granules cpu hold) (c : Call) → is_unshaped_outside granules c hold.cells ≡ true → ⊥
+unfolding is_unshaped_outside
+outside-none granules cpu hold w (RealmDestroy rd) bad = root-none granules cpu hold w rd (cell_in rd hold.cells) refl bad
+outside-none granules cpu hold w (RecDestroy rec) bad = auxes-none granules cpu hold w rec (cell_in rec hold.cells) refl bad
+outside-none granules cpu hold w (RecEnter rec) bad = owner-none granules cpu hold w rec (cell_in rec hold.cells) refl bad
+outside-none granules cpu hold w _ bad = false≢true bad
+
+pub unshaped-none : (granules cpu : ℕ) (hold : Hold) (c : Call) → is_unshaped granules c hold.place hold.cells ≡ true → Whole granules cpu hold → ⊥
+unfolding is_unshaped
+unshaped-none granules cpu hold c bad w = by hold.place refl bad
+  where
+    by : (p : CpuPlace) → hold.place ≡ p → is_unshaped granules c p hold.cells ≡ true → ⊥
+    by Outside place is = outside-none granules cpu hold w c is
+    by (Inside rec rd) place is = misfit-none granules cpu hold w rec rd place is

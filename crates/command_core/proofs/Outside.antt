@@ -1,0 +1,260 @@
+-- A host's command of which all is held that its rows look up is answered from what is held as by every whole that agrees.
+use Rattle.std.proofs.Common.{◌≡◌, ℕ, Bool, true, false, ◌&&◌, ◌||◌, List, [], ◌∷◌, Option, Some, None, Result, refl, sym, ap, ◌∙◌, subst}
+use Rattle.std.specs.Prelude.{is_some, is_none}
+use Rattle.std.specs.List.{list_all}
+use Rattle.std.proofs.lemmas.Bool.{false≢true, and_parts}
+use Rattle.rmm_spec.specs.declared.accepted.Accepted.{Accepted}
+use Rattle.rmm_spec.specs.declared.call.Call.{Call}
+use Rattle.rmm_spec.specs.declared.call.Call.TheVariants as call
+use Rattle.rmm_spec.specs.declared.change.Change.TheVariants.{Retagged, RealmMade, RealmDestroyed, RecMade, RecDestroyed}
+use Rattle.rmm_spec.specs.declared.change.RealmUpdate.TheVariants.{Activated}
+use Rattle.rmm_spec.specs.declared.change.RecUpdate.TheVariants.{Entered}
+use Rattle.rmm_spec.specs.declared.reply.Reply.{Reply}
+use Rattle.rmm_spec.specs.declared.tag.Tag.TheVariants as tag
+use Rattle.rmm_spec.specs.Call.{ByHost, class_of}
+use Rattle.rmm_spec.specs.State.{State, RealmRecord, RecRecord}
+use Rattle.rmm_spec.specs.Lookup.{is_granule, realm_at, rec_at, is_vmid_used, has_rec}
+use Rattle.rmm_spec.specs.Rows.{Needed}
+use Rattle.rmm_spec.specs.Walk.{has_link}
+use Rattle.rmm_spec.specs.Step.{answer_of}
+use Rattle.rmm_spec.specs.Step.Front.{with_front}
+use Rattle.rmm_spec.specs.Step.Words.{words_of}
+use Rattle.rmm_spec.specs.Step.Named.{named}
+use Rattle.rmm_spec.specs.Step.Granule.{granule_delegate, granule_undelegate}
+use Rattle.rmm_spec.specs.Step.Realm.{realm_activate}
+use Rattle.rmm_spec.specs.Step.Rec.{rec_create, rec_destroy, rec_enter}
+use Rattle.rmm_spec.specs.Step.RealmCall.{rec_change, realm_change}
+use Rattle.rmm_spec.specs.Cell.{Cell, Rd, Rec, Rtt, table_in, tables_of, realm_in}
+use Rattle.rmm_spec.specs.Shape.{HoldsTable}
+use Rattle.rmm_spec.specs.Local.{HeldCell, Hold}
+use Rattle.command_rows.specs.Answers.{outside_answer}
+use Rattle.command_core.specs.Seen.{cell_in, is_held}
+use Rattle.command_core.specs.SeenState.{seen_state}
+use Rattle.command_core.specs.Sides.{is_vmid_listed, are_recs_counted}
+use Rattle.command_core.specs.Served.{is_served}
+use Rattle.command_core.specs.Changed.{new_cells, CanAnswer}
+use Rattle.command_core.specs.Named.{words_fit, holds_all}
+use Rattle.command_core.specs.Settled.{is_root_held, are_auxes_held, is_realm_in, is_owner_held, is_complete}
+use Rattle.command_core.proofs.Answered
+use Rattle.command_core.proofs.Answered.{can-done}
+use Rattle.command_core.proofs.SeenStates.{tag-same, realm-same, rec-same, tag-seen, rec-seen, realm-seen}
+use Rattle.command_core.proofs.SeenTables.{table_cell, links-same}
+use Rattle.command_core.proofs.Wholes.{Whole, state, whole_cell, realm_at-cell, has_rec-counted, is_vmid_used-listed}
+
+abbrev pub told_outside : ℕ → ℕ → Hold → Call → Result Accepted Reply
+told_outside granules cpu hold c = outside_answer (is_vmid_listed hold.side) (are_recs_counted hold.side) (seen_state granules hold.cells) cpu c
+
+-- its change is one of what is held, and each whole that agrees answers the same
+pub record IsToldOutside (granules cpu : ℕ) (hold : Hold) (c : Call) : Type 0 where
+  pub can : CanAnswer cpu hold (told_outside granules cpu hold c)
+  pub same : (w : Whole granules cpu hold) → outside_answer (is_vmid_used (state granules cpu hold w)) (has_rec (state granules cpu hold w)) (state granules cpu hold w) cpu c
+      ≡ told_outside granules cpu hold c
+
+held_by : (held : List HeldCell) (g : ℕ) (c : Cell) → cell_in g held ≡ Some c → is_held g held ≡ true
+held_by held g c found = ap (λ (o : Option Cell). is_some o) found
+
+-- ---- named granules that are held
+
+delegate-held : (held : List HeldCell) (g : ℕ) → holds_all (named (call.GranuleDelegate g)) held ≡ true → is_held g held ≡ true
+unfolding holds_all named
+delegate-held held g all = (and_parts (is_held g held) true all).0
+
+undelegate-held : (held : List HeldCell) (g : ℕ) → holds_all (named (call.GranuleUndelegate g)) held ≡ true → is_held g held ≡ true
+unfolding holds_all named
+undelegate-held held g all = (and_parts (is_held g held) true all).0
+
+activate-held : (held : List HeldCell) (rd : ℕ) → holds_all (named (call.RealmActivate rd)) held ≡ true → is_held rd held ≡ true
+unfolding holds_all named
+activate-held held rd all = (and_parts (is_held rd held) true all).0
+
+realm_create-held : (held : List HeldCell) (rd root width level vmid algo : ℕ) → holds_all (named (call.RealmCreate rd root width level vmid algo)) held ≡ true
+    → (is_held rd held ≡ true) × (is_held root held ≡ true)
+unfolding holds_all named
+realm_create-held held rd root width level vmid algo all =
+    let first = and_parts (is_held rd held) (is_held root held && true) all in (first.0, (and_parts (is_held root held) true first.1).0)
+
+record RecParts (held : List HeldCell) (rd rec aux0 aux1 : ℕ) : Type 0 where
+  of_rd : is_held rd held ≡ true
+  of_rec : is_held rec held ≡ true
+  of_aux0 : is_held aux0 held ≡ true
+  of_aux1 : is_held aux1 held ≡ true
+
+rec_create-held : (held : List HeldCell) (rd rec mpidr flags aux0 aux1 : ℕ) → holds_all (named (call.RecCreate rd rec mpidr flags aux0 aux1)) held ≡ true
+    → RecParts held rd rec aux0 aux1
+unfolding holds_all named
+rec_create-held held rd rec mpidr flags aux0 aux1 all =
+    let first = and_parts (is_held rd held) (is_held rec held && (is_held aux0 held && (is_held aux1 held && true))) all in
+    let second = and_parts (is_held rec held) (is_held aux0 held && (is_held aux1 held && true)) first.1 in
+    let third = and_parts (is_held aux0 held) (is_held aux1 held && true) second.1 in
+    record { of_rd = first.0; of_rec = second.0; of_aux0 = third.0; of_aux1 = (and_parts (is_held aux1 held) true third.1).0 }
+
+-- ---- a named granule is one
+
+only-granule : (granules : ℕ) (n : Needed) → list_all (λ (m : Needed). is_granule granules m.granule) (n ∷ []) ≡ true → is_granule granules n.granule ≡ true
+only-granule granules n all = (and_parts (is_granule granules n.granule) true all).0
+
+realm_destroy-granule : (granules rd : ℕ) → words_fit granules (call.RealmDestroy rd) ≡ true → is_granule granules rd ≡ true
+unfolding words_fit named words_of
+realm_destroy-granule granules rd fits = only-granule granules (record { granule = rd; tag = tag.Rd }) fits
+
+rec_destroy-granule : (granules rec : ℕ) → words_fit granules (call.RecDestroy rec) ≡ true → is_granule granules rec ≡ true
+unfolding words_fit named words_of
+rec_destroy-granule granules rec fits = only-granule granules (record { granule = rec; tag = tag.Rec }) fits
+
+rec_enter-granule : (granules rec : ℕ) → words_fit granules (call.RecEnter rec) ≡ true → is_granule granules rec ≡ true
+unfolding words_fit named words_of
+rec_enter-granule granules rec fits = only-granule granules (record { granule = rec; tag = tag.Rec }) fits
+
+-- ---- a realm and its root
+
+-- what is held at a realm's root is the table of its place
+root-linked : (granules cpu : ℕ) (hold : Hold) (w : Whole granules cpu hold) (rd : ℕ) (realm : RealmRecord) → cell_in rd hold.cells ≡ Some (Rd realm)
+    → is_held realm.root hold.cells ≡ true → has_link (state granules cpu hold w) rd realm.start_level 0 ≡ has_link (seen_state granules hold.cells) rd realm.start_level 0
+root-linked granules cpu hold w rd realm found held = by (cell_in realm.root hold.cells) refl held
+  where
+    root : HoldsTable (tables_of w.cells) realm.root rd realm.start_level 0
+    root = w.shaped.tables.roots rd realm (ap realm_in (whole_cell granules cpu hold w rd (Rd realm) found))
+
+    by : (o : Option Cell) → cell_in realm.root hold.cells ≡ o → is_some o ≡ true
+        → has_link (state granules cpu hold w) rd realm.start_level 0 ≡ has_link (seen_state granules hold.cells) rd realm.start_level 0
+    by None none is = absurd (false≢true is)
+    by (Some c) there is =
+        let table : c ≡ Rtt root.table = table_cell c root.table (ap table_in (sym (whole_cell granules cpu hold w realm.root c there)) ∙ root.is_held) in
+        let same = links-same granules cpu hold w realm.root root.table (there ∙ ap (λ (x : Cell). Some x) table) root.is_number in
+        subst (λ x. has_link (state granules cpu hold w) x realm.start_level 0 ≡ has_link (seen_state granules hold.cells) x realm.start_level 0) root.is_realm
+        (subst (λ l. has_link (state granules cpu hold w) root.table.place.rd l 0 ≡ has_link (seen_state granules hold.cells) root.table.place.rd l 0) root.is_level same)
+
+realm_destroy-told : (granules cpu : ℕ) (hold : Hold) (rd : ℕ) → is_granule granules rd ≡ true → (o : Option Cell) → cell_in rd hold.cells ≡ o
+    → is_root_held o hold.cells ≡ true → IsToldOutside granules cpu hold (call.RealmDestroy rd)
+unfolding outside_answer new_cells
+realm_destroy-told granules cpu hold rd granule (Some (Rd realm)) found root = record {
+  can = can-done cpu hold (RealmDestroyed rd (realm_at (seen_state granules hold.cells) rd).root) _ (with_front (seen_state granules hold.cells) (call.RealmDestroy rd) _)
+      (record { held = (held, (subst (λ (r : RealmRecord). is_held r.root hold.cells ≡ true) (sym seen) root, tt)); here = tt });
+  same = λ w.
+      let s = state granules cpu hold w in
+      let t = seen_state granules hold.cells in
+      let of_whole : realm_at s rd ≡ realm = realm_at-cell granules w.cells rd realm (whole_cell granules cpu hold w rd (Rd realm) found) in
+      Answered.realm_destroy-same s t rd (has_rec s rd) (are_recs_counted hold.side rd) (tag-same granules cpu hold w rd tag.Rd held) (has_rec-counted granules cpu hold w rd)
+      (ap (λ (r : RealmRecord). has_link s rd r.start_level 0) of_whole
+      ∙ (root-linked granules cpu hold w rd realm found root ∙ sym (ap (λ (r : RealmRecord). has_link t rd r.start_level 0) seen)))
+      (realm-same granules cpu hold w rd held);
+}
+  where
+    held : is_held rd hold.cells ≡ true
+    held = held_by hold.cells rd (Rd realm) found
+
+    seen : realm_at (seen_state granules hold.cells) rd ≡ realm
+    seen = realm-seen granules hold.cells rd realm granule found
+realm_destroy-told granules cpu hold rd granule _ found root = absurd (false≢true root)
+
+-- ---- a REC, its two others and its realm
+
+rec_destroy-can : (cpu : ℕ) (hold : Hold) (s : State) (rec : ℕ) → is_held rec hold.cells ≡ true → is_held (rec_at s rec).aux0 hold.cells ≡ true
+    → is_held (rec_at s rec).aux1 hold.cells ≡ true → CanAnswer cpu hold (rec_destroy s rec)
+unfolding rec_destroy new_cells
+rec_destroy-can cpu hold s rec held aux0 aux1 =
+    can-done cpu hold (RecDestroyed rec (rec_at s rec).aux0 (rec_at s rec).aux1) _ (with_front s (call.RecDestroy rec) _) (record { held = (held, (aux0, (aux1, tt))); here = tt })
+
+rec_destroy-told : (granules cpu : ℕ) (hold : Hold) (rec : ℕ) → is_granule granules rec ≡ true → (o : Option Cell) → cell_in rec hold.cells ≡ o
+    → are_auxes_held o hold.cells ≡ true → IsToldOutside granules cpu hold (call.RecDestroy rec)
+unfolding outside_answer answer_of class_of
+rec_destroy-told granules cpu hold rec granule (Some (Rec it)) found auxes = record {
+  can = by it.cpu refl auxes;
+  same = λ w. Answered.rec_destroy-same (state granules cpu hold w) (seen_state granules hold.cells) rec
+      (tag-same granules cpu hold w rec tag.Rec held) (rec-same granules cpu hold w rec held);
+}
+  where
+    held : is_held rec hold.cells ≡ true
+    held = held_by hold.cells rec (Rec it) found
+
+    seen : rec_at (seen_state granules hold.cells) rec ≡ it
+    seen = rec-seen granules hold.cells rec it granule found
+
+    by : (o : Option ℕ) → it.cpu ≡ o → (is_some o || (is_held it.aux0 hold.cells && is_held it.aux1 hold.cells)) ≡ true
+        → CanAnswer cpu hold (rec_destroy (seen_state granules hold.cells) rec)
+    by (Some on) runs is =
+        subst (CanAnswer cpu hold)
+        (sym (Answered.rec_destroy-running (seen_state granules hold.cells) rec (tag-seen granules hold.cells rec (Rec it) tag.Rec granule found refl)
+        (ap (λ (r : RecRecord). is_none r.cpu) seen ∙ ap (λ (o : Option ℕ). is_none o) runs)))
+        tt
+    by None none is =
+        let both = and_parts (is_held it.aux0 hold.cells) (is_held it.aux1 hold.cells) is in
+        rec_destroy-can cpu hold (seen_state granules hold.cells) rec held
+        (subst (λ (r : RecRecord). is_held r.aux0 hold.cells ≡ true) (sym seen) both.0)
+        (subst (λ (r : RecRecord). is_held r.aux1 hold.cells ≡ true) (sym seen) both.1)
+rec_destroy-told granules cpu hold rec granule _ found auxes = absurd (false≢true auxes)
+
+realm-held : (o : Option Cell) → is_realm_in o ≡ true → is_some o ≡ true
+realm-held (Some c) is = refl
+realm-held None is = absurd (false≢true is)
+
+rec_enter-told : (granules cpu : ℕ) (hold : Hold) (rec : ℕ) → is_granule granules rec ≡ true → (o : Option Cell) → cell_in rec hold.cells ≡ o
+    → is_owner_held o hold.cells ≡ true → IsToldOutside granules cpu hold (call.RecEnter rec)
+unfolding outside_answer answer_of class_of rec_enter new_cells
+rec_enter-told granules cpu hold rec granule (Some (Rec it)) found owner = record {
+  can = can-done cpu hold (rec_change rec (Entered cpu)) _ (with_front (seen_state granules hold.cells) (call.RecEnter rec) _) (record { held = (held, tt); here = refl });
+  same = λ w.
+      let s = state granules cpu hold w in
+      let t = seen_state granules hold.cells in
+      let same = rec-same granules cpu hold w rec held in
+      Answered.rec_enter-same s t cpu rec (tag-same granules cpu hold w rec tag.Rec held) same
+      (ap (λ (r : RecRecord). realm_at s r.owner) (same ∙ seen)
+      ∙ (realm-same granules cpu hold w it.owner (realm-held (cell_in it.owner hold.cells) owner) ∙ sym (ap (λ (r : RecRecord). realm_at t r.owner) seen)));
+}
+  where
+    held : is_held rec hold.cells ≡ true
+    held = held_by hold.cells rec (Rec it) found
+
+    seen : rec_at (seen_state granules hold.cells) rec ≡ it
+    seen = rec-seen granules hold.cells rec it granule found
+rec_enter-told granules cpu hold rec granule _ found owner = absurd (false≢true owner)
+
+-- ---- any command
+
+pub complete-told : (granules cpu : ℕ) (hold : Hold) (c : Call) → is_served c ≡ true → class_of c ≡ ByHost → words_fit granules c ≡ true
+    → is_complete c hold.cells ≡ true → IsToldOutside granules cpu hold c
+unfolding is_served class_of is_complete outside_answer answer_of granule_delegate granule_undelegate realm_activate rec_create new_cells
+complete-told granules cpu hold (call.GranuleDelegate g) served host fits complete =
+    let held = delegate-held hold.cells g complete in record {
+      can = can-done cpu hold (Retagged (record { granule = g; tag = tag.Delegated })) _ (with_front (seen_state granules hold.cells) (call.GranuleDelegate g) _)
+          (record { held = (held, tt); here = tt });
+      same = λ w. Answered.granule_delegate-same (state granules cpu hold w) (seen_state granules hold.cells) g (tag-same granules cpu hold w g tag.Undelegated held);
+    }
+complete-told granules cpu hold (call.GranuleUndelegate g) served host fits complete =
+    let held = undelegate-held hold.cells g complete in record {
+      can = can-done cpu hold (Retagged (record { granule = g; tag = tag.Undelegated })) _ (with_front (seen_state granules hold.cells) (call.GranuleUndelegate g) _)
+          (record { held = (held, tt); here = tt });
+      same = λ w. Answered.granule_undelegate-same (state granules cpu hold w) (seen_state granules hold.cells) g (tag-same granules cpu hold w g tag.Delegated held);
+    }
+complete-told granules cpu hold (call.RealmActivate rd) served host fits complete =
+    let held = activate-held hold.cells rd complete in record {
+      can = can-done cpu hold (realm_change rd Activated) _ (with_front (seen_state granules hold.cells) (call.RealmActivate rd) _)
+          (record { held = (held, tt); here = tt });
+      same = λ w. Answered.realm_activate-same (state granules cpu hold w) (seen_state granules hold.cells) rd
+          (tag-same granules cpu hold w rd tag.Rd held) (realm-same granules cpu hold w rd held);
+    }
+complete-told granules cpu hold (call.RealmCreate rd root width level vmid algo) served host fits complete =
+    let held = realm_create-held hold.cells rd root width level vmid algo complete in record {
+      can = can-done cpu hold (RealmMade rd root width level vmid algo) _ (with_front (seen_state granules hold.cells) (call.RealmCreate rd root width level vmid algo) _)
+          (record { held = (held.0, (held.1, tt)); here = tt });
+      same = λ w. Answered.realm_create-same (state granules cpu hold w) (seen_state granules hold.cells) rd root width level vmid algo
+          (is_vmid_used (state granules cpu hold w) vmid) (is_vmid_listed hold.side vmid)
+          (tag-same granules cpu hold w rd tag.Delegated held.0) (tag-same granules cpu hold w root tag.Delegated held.1)
+          (is_vmid_used-listed granules cpu hold w vmid);
+    }
+complete-told granules cpu hold (call.RecCreate rd rec mpidr flags aux0 aux1) served host fits complete =
+    let held = rec_create-held hold.cells rd rec mpidr flags aux0 aux1 complete in record {
+      can = can-done cpu hold (RecMade rd rec mpidr flags aux0 aux1) _ (with_front (seen_state granules hold.cells) (call.RecCreate rd rec mpidr flags aux0 aux1) _)
+          (record { held = (held.of_rec, (held.of_aux0, (held.of_aux1, (held.of_rd, tt)))); here = tt });
+      same = λ w. Answered.rec_create-same (state granules cpu hold w) (seen_state granules hold.cells) rd rec mpidr flags aux0 aux1
+          (tag-same granules cpu hold w rd tag.Rd held.of_rd) (tag-same granules cpu hold w rec tag.Delegated held.of_rec)
+          (tag-same granules cpu hold w aux0 tag.Delegated held.of_aux0) (tag-same granules cpu hold w aux1 tag.Delegated held.of_aux1)
+          (realm-same granules cpu hold w rd held.of_rd);
+    }
+complete-told granules cpu hold (call.RealmDestroy rd) served host fits complete =
+    realm_destroy-told granules cpu hold rd (realm_destroy-granule granules rd fits) (cell_in rd hold.cells) refl complete
+complete-told granules cpu hold (call.RecDestroy rec) served host fits complete =
+    rec_destroy-told granules cpu hold rec (rec_destroy-granule granules rec fits) (cell_in rec hold.cells) refl complete
+complete-told granules cpu hold (call.RecEnter rec) served host fits complete =
+    rec_enter-told granules cpu hold rec (rec_enter-granule granules rec fits) (cell_in rec hold.cells) refl complete
+complete-told granules cpu hold _ served host fits complete = absurd cc

@@ -1,0 +1,62 @@
+-- What the held cells tell of tags, realms and RECs is what each whole has that agrees with them.
+use Rattle.std.proofs.Common.{◌≡◌, ℕ, Bool, true, false, ◌&&◌, ◌==◌, if◌then◌else◌, List, Some, refl, ap, ◌∙◌, eq-eqb}
+use Rattle.std.specs.Prelude.{IsTrue, is_some, unwrap_or}
+use Rattle.std.proofs.lemmas.Bool.{and_from}
+use Rattle.rmm_spec.specs.declared.tag.Tag.{Tag}
+use Rattle.rmm_spec.specs.State.{RealmRecord, RecRecord}
+use Rattle.rmm_spec.specs.Lookup.{tag_number, is_granule, has_tag, realm_at, rec_at, no_realm, no_rec}
+use Rattle.rmm_spec.specs.Cell.{Cell, Undelegated, Delegated, Rd, Rec, RecAux, Data, Rtt, tag_of, realm_in, rec_in}
+use Rattle.rmm_spec.specs.Flat.{flat_state}
+use Rattle.rmm_spec.specs.Local.{HeldCell, Hold}
+use Rattle.command_core.specs.Seen.{cell_in, is_held, known_cell}
+use Rattle.command_core.specs.SeenState.{cell_seen, seen_state}
+use Rattle.command_core.proofs.SeenCells.{known-same, known}
+use Rattle.command_core.proofs.Wholes.{Whole, state}
+
+-- ---- wholes
+
+cell-same : (granules cpu : ℕ) (hold : Hold) (w : Whole granules cpu hold) (g : ℕ) → IsTrue (is_held g hold.cells) → w.cells g ≡ cell_seen granules hold.cells g
+cell-same granules cpu hold w g held = by (is_granule granules g) refl
+  where
+    by : (b : Bool) → is_granule granules g ≡ b → w.cells g ≡ (if b then known_cell hold.cells g else Undelegated)
+    by true granule = known-same hold.cells w.cells g w.agrees held
+    by false outside = w.shaped.outside.undelegated g outside
+
+pub tag-same : (granules cpu : ℕ) (hold : Hold) (w : Whole granules cpu hold) (g : ℕ) (t : Tag) → IsTrue (is_held g hold.cells)
+    → has_tag (state granules cpu hold w) g t ≡ has_tag (seen_state granules hold.cells) g t
+unfolding has_tag flat_state seen_state
+tag-same granules cpu hold w g t held =
+    ap (λ (c : Cell). is_granule granules g && tag_number (tag_of c) == tag_number t) (cell-same granules cpu hold w g held)
+
+pub realm-same : (granules cpu : ℕ) (hold : Hold) (w : Whole granules cpu hold) (rd : ℕ) → IsTrue (is_held rd hold.cells)
+    → realm_at (state granules cpu hold w) rd ≡ realm_at (seen_state granules hold.cells) rd
+unfolding realm_at flat_state seen_state
+realm-same granules cpu hold w rd held = ap (λ (c : Cell). unwrap_or (realm_in c) no_realm) (cell-same granules cpu hold w rd held)
+
+pub rec-same : (granules cpu : ℕ) (hold : Hold) (w : Whole granules cpu hold) (rec : ℕ) → IsTrue (is_held rec hold.cells)
+    → rec_at (state granules cpu hold w) rec ≡ rec_at (seen_state granules hold.cells) rec
+unfolding rec_at flat_state seen_state
+rec-same granules cpu hold w rec held = ap (λ (c : Cell). unwrap_or (rec_in c) no_rec) (cell-same granules cpu hold w rec held)
+
+-- ---- cells that are held
+
+cell-seen : (granules : ℕ) (held : List HeldCell) (g : ℕ) (c : Cell) → is_granule granules g ≡ true → cell_in g held ≡ Some c → cell_seen granules held g ≡ c
+cell-seen granules held g c granule found = rw granule (known held g c found)
+
+pub tag-seen : (granules : ℕ) (held : List HeldCell) (g : ℕ) (c : Cell) (t : Tag) → is_granule granules g ≡ true → cell_in g held ≡ Some c → tag_of c ≡ t
+    → has_tag (seen_state granules held) g t ≡ true
+unfolding has_tag seen_state
+tag-seen granules held g c t granule found is =
+    and_from (is_granule granules g) (tag_number (tag_of (cell_seen granules held g)) == tag_number t) granule
+    (eq-eqb (tag_number (tag_of (cell_seen granules held g))) (tag_number t)
+    (ap (λ (x : Cell). tag_number (tag_of x)) (cell-seen granules held g c granule found) ∙ ap tag_number is))
+
+pub rec-seen : (granules : ℕ) (held : List HeldCell) (g : ℕ) (it : RecRecord) → is_granule granules g ≡ true → cell_in g held ≡ Some (Rec it)
+    → rec_at (seen_state granules held) g ≡ it
+unfolding rec_at seen_state
+rec-seen granules held g it granule found = ap (λ (c : Cell). unwrap_or (rec_in c) no_rec) (cell-seen granules held g (Rec it) granule found)
+
+pub realm-seen : (granules : ℕ) (held : List HeldCell) (g : ℕ) (realm : RealmRecord) → is_granule granules g ≡ true → cell_in g held ≡ Some (Rd realm)
+    → realm_at (seen_state granules held) g ≡ realm
+unfolding realm_at seen_state
+realm-seen granules held g realm granule found = ap (λ (c : Cell). unwrap_or (realm_in c) no_realm) (cell-seen granules held g (Rd realm) granule found)

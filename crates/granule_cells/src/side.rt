@@ -1,0 +1,108 @@
+//! What is kept of no granule.
+
+ghost use Rattle.std.specs.Prelude.{◌≡◌, ◌<◌, ◌/◌, IsTrue, vec_len};
+ghost use Rattle.rmm_spec.specs.Lookup.{is_granule};
+
+use granule_state::{GRANULE_BYTES, Pa};
+use std::alloc::{AllocError, Global};
+
+/// How many VMIDs there are.
+const VMIDS: usize = 256;
+
+/// How many granules a machine has at most.
+const GRANULES: usize = 4096;
+
+/// The realm that has each VMID, and how many RECs belong to each realm, for a machine of any size.
+#[derive(Drop)]
+pub struct Side {
+    // at each VMID the descriptor of the realm that has it
+    vmids: Vec<Option<Pa>>,
+    // at each granule how many RECs belong to the realm there
+    rec_counts: Vec<u64>,
+    ghost vmids_whole: { vec_len vmids ≡ 256 },
+    ghost counts_whole: { vec_len rec_counts ≡ 4096 },
+}
+
+#[tactic(auto, unfolding(crate::specs::Sides::side_of))]
+impl Side {
+    ghost use Rattle.std.specs.Prelude.{◌≡◌, ◌≤◌, ◌+◌, ◌-◌, ℕ, IfOk, IsTrue, None, Some};
+    ghost use Rattle.granule_cells.specs.Sides.{side_of, with_vmid, with_count};
+
+    /// No VMID is used, and no realm has a REC.
+    pub fn new(alloc: Global) -> Result<Side, AllocError>
+        ensures unused { IfOk result (λ side. (vmid : ℕ) → (side_of side).vmids vmid ≡ None) }
+        ensures none { IfOk result (λ side. (rd : ℕ) → (side_of side).rec_counts rd ≡ 0) }
+    {
+        let vmids = vec![in alloc; None; VMIDS]?;
+        let rec_counts = vec![in alloc; 0; GRANULES]?;
+        Ok(Side { vmids, rec_counts })
+    }
+
+    /// The realm that has the VMID, by the address of its descriptor.
+    pub fn realm_with(&self, vmid: u8) -> Option<Pa>
+        ensures { result ≡ (side_of self.now).vmids vmid }
+    {
+        match self.vmids.get(usize::from(vmid)) {
+            Some(realm) => *realm,
+            None => None,
+        }
+    }
+
+    /// How many RECs belong to the realm.
+    pub fn rec_count(&self, rd: Pa) -> u64
+        ensures { result ≡ (side_of self.now).rec_counts rd }
+    {
+        let address = rd.address();
+        if address % GRANULE_BYTES != 0 {
+            return 0;
+        }
+        match self.rec_counts.get((address / GRANULE_BYTES) as usize) {
+            Some(count) => *count,
+            None => 0,
+        }
+    }
+
+    /// Gives a VMID to a realm, or frees it.
+    pub fn set_vmid(&mut self, vmid: u8, realm: Option<Pa>)
+        ensures { side_of self.new ≡ with_vmid (side_of self.old) vmid realm }
+    {
+        self.vmids[usize::from(vmid)] = realm;
+    }
+
+    /// The realm has one REC more.
+    pub fn count_rec(&mut self, rd: Pa)
+        requires granule { IsTrue (is_granule 4096 rd) }
+        requires limit { (side_of self.old).rec_counts rd ≤ 4096 }
+        ensures { side_of self.new ≡ with_count (side_of self.old) rd ((side_of self.old).rec_counts rd + 1) }
+    {
+        let count = self.rec_count(rd);
+        self.set_count(rd, count + 1);
+    }
+
+    /// The realm has one REC less, where it has any.
+    pub fn uncount_rec(&mut self, rd: Pa)
+        ensures { side_of self.new ≡ with_count (side_of self.old) rd ((side_of self.old).rec_counts rd - 1) }
+    {
+        let count = self.rec_count(rd);
+        if count > 0 {
+            self.set_count(rd, count - 1);
+        }
+    }
+
+    fn set_count(&mut self, rd: Pa, count: u64)
+        requires { IsTrue (is_granule 4096 rd) }
+        ensures { side_of self.new ≡ with_count (side_of self.old) rd count }
+    {
+        self.rec_counts[place_of(rd)] = count;
+    }
+}
+
+// Where what is kept of a granule stands.
+#[tactic(auto, using(crate::proofs::SideTable::place_within))]
+fn place_of(granule: Pa) -> usize
+    requires { IsTrue (is_granule 4096 granule) }
+    ensures place { result ≡ granule / 4096 }
+    ensures within { result < 4096 }
+{
+    (granule.address() / GRANULE_BYTES) as usize
+}
