@@ -64,6 +64,7 @@ pub fn commit<S: Site>(
 {
     applied_decisions_are_local();
     let cpu = token.cpu;
+    // what each `?` answers
     token.fault = Some(CommitFault::NoMemory);
     let (reply, change) = decide(
         &journal.config,
@@ -85,8 +86,12 @@ pub fn commit<S: Site>(
     journal.commits.add(&mut token.share, 1);
     let ticket = journal.entries.len();
     let recorded = ReplyRef::of(&reply).to_reply();
-    journal.entries.push_reserved(JournalEntry::of(cpu, command, recorded));
+    journal
+        .entries
+        .push_reserved(JournalEntry::of(cpu, command, recorded));
     let listed = ReplyRef::of(&reply).to_reply();
-    token.mine.push_reserved(Committed::of(ticket, command, listed));
+    token
+        .mine
+        .push_reserved(Committed::of(ticket, command, listed));
     Ok(Done { ticket, reply })
 }
