@@ -64,6 +64,7 @@ pub fn commit<S: Site>(
 {
     applied_decisions_are_local();
     let cpu = token.cpu;
+    // what each `?` answers
     token.fault = Some(CommitFault::NoMemory);
     let (reply, change) = decide(
         &journal.config,

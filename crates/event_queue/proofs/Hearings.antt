@@ -1,23 +1,11 @@
 -- Passes that hear of what was drained, one after the other.
-use Rattle.std.proofs.Common.{◌≡◌, ℕ, zero, suc, ◌≤◌, List, [], ◌∷◌, ◌++◌, length, map, take, drop, Some, refl, arith, sym, ap}
+use Rattle.std.proofs.Common.{◌≡◌, ℕ, zero, suc, List, [], ◌∷◌, ◌++◌, map, take, drop, Some, refl, sym, ap}
 use Rattle.std.specs.Prelude.{slice_get, slice_set}
 use Rattle.std.proofs.lemmas.Option.{none-some, same_Some}
 
 -- a list of which the first so many elements were replaced
 abbrev pub replaced_before : {X : Type 0} → (X → X) → ℕ → List X → List X
 replaced_before f count xs = map f (take count xs) ++ drop count xs
-
--- none was
-pub replaced-none : {X : Type 0} (f : X → X) (xs : List X) → replaced_before f 0 xs ≡ xs
-replaced-none f [] = refl
-replaced-none f (x ∷ xs) = refl
-
--- all were
-pub replaced-all : {X : Type 0} (f : X → X) (count : ℕ) (xs : List X) → length xs ≤ count → replaced_before f count xs ≡ map f xs
-replaced-all f zero [] all = refl
-replaced-all f (suc count) [] all = refl
-replaced-all f zero (x ∷ xs) all = absurd (omega (arith, all))
-replaced-all f (suc count) (x ∷ xs) all = ap (λ rest. f x ∷ rest) (replaced-all f count xs (omega (arith, all)))
 
 -- the next one is as it was
 pub replaced-next : {X : Type 0} (f : X → X) (count : ℕ) (xs : List X) → slice_get (replaced_before f count xs) count ≡ slice_get xs count

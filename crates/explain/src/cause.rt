@@ -189,7 +189,18 @@ fn claimed_by(history: &History, line: LineRef<'_>) -> Reply
 {
     match line {
         LineRef::Keep { cpu, number } => reply_of(history, cpu, number),
-        LineRef::Unfinished { reply, .. } => ReplyRef::of(reply).to_reply(),
+        LineRef::Unfinished { reply, .. } => copy_of(reply),
+    }
+}
+
+// The same reply once more.
+fn copy_of(reply: &Reply) -> Reply
+    ensures { result ≡ reply.now }
+{
+    match reply {
+        Reply::Ok(words) => ReplyRef::Ok(words.as_slice()).to_reply(),
+        Reply::Err(status, index) => Reply::Err(*status, *index),
+        Reply::Misplaced => Reply::Misplaced,
     }
 }
 

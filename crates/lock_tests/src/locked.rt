@@ -81,20 +81,40 @@ fn given_cells_come_back(rt: HostRuntime) -> Result<(), Fail> {
     Ok(())
 }
 
-/// Looks at the other's counter, and gives the granule home only then. Returns whether the counter was 0 at each look.
-fn give_late<R: Wait>(rt: &R, granules: &Granules, hold: Hold, pa: Pa, taken: &AtomicU64) -> bool
-    requires granule { IsTrue (is_granule granules.now.granules pa) }
-    requires held { (cell : Cell) × (hold_cells hold ≡ held_at pa (cell_of cell) ∷ []) }
+/// Takes the granule and says so, looks at the other's counter, and gives the granule home only then. Returns whether the counter
+/// was 0 at each look.
+fn hold_long<R: Wait>(
+    rt: &R,
+    granules: &Granules,
+    pa: Pa,
+    held: &AtomicU64,
+    taken: &AtomicU64,
+) -> bool
+    requires { IsTrue (is_granule granules.now.granules pa) }
 {
+    let hold = hold_of(rt, granules, pa);
+    held.store(1, Ordering::SeqCst);
     let stayed = (0..LOOKS).all(|_| taken.load(Ordering::SeqCst) == 0);
     give_delegated(rt, granules, hold, pa);
     stayed
 }
 
-/// Takes the granule, counts that, and returns what it found.
-fn take_counted<R: Wait>(rt: &R, granules: &Granules, pa: Pa, taken: &AtomicU64) -> Option<Tag>
+/// Takes the granule once another holds it, counts that, and returns what it found.
+fn take_counted<R: Wait>(
+    rt: &R,
+    granules: &Granules,
+    pa: Pa,
+    held: &AtomicU64,
+    taken: &AtomicU64,
+) -> Option<Tag>
     requires { IsTrue (is_granule granules.now.granules pa) }
 {
+    for _look in 0..LOOKS {
+        if held.load(Ordering::SeqCst) == 1 {
+            break;
+        }
+        thread::yield_now();
+    }
     let hold = hold_of(rt, granules, pa);
     taken.fetch_add(1, Ordering::SeqCst);
     let tag = tag_of(&hold, pa);
@@ -106,17 +126,16 @@ fn take_counted<R: Wait>(rt: &R, granules: &Granules, pa: Pa, taken: &AtomicU64)
 fn take_beside<R: Threads + Wait + Sync>(rt: &R, granules: &Granules, pa: Pa) -> (Option<Tag>, bool)
     requires { IsTrue (is_granule granules.now.granules pa) }
 {
+    let held = AtomicU64::new(0);
     let taken = AtomicU64::new(0);
-    let hold = hold_of(rt, granules, pa);
     thread::join(
         rt,
         || -> Option<Tag>
             requires { IsTrue (is_granule granules.now.granules pa) }
-        { take_counted(rt, granules, pa, &taken) },
+        { take_counted(rt, granules, pa, &held, &taken) },
         || -> bool
-            requires { IsTrue (is_granule granules.now.granules pa)
-                × ((cell : Cell) × (hold_cells hold ≡ held_at pa (cell_of cell) ∷ [])) }
-        { give_late(rt, granules, hold, pa, &taken) },
+            requires { IsTrue (is_granule granules.now.granules pa) }
+        { hold_long(rt, granules, pa, &held, &taken) },
     )
 }
 

@@ -4,7 +4,7 @@ use Rattle.std.proofs.lemmas.Option.{slice_get-get_or, slice_get_within}
 use mathlib.Core.List.{IsPrefix}
 use Rattle.rmm_spec.specs.HistoryText.{subhistory_of}
 use Rattle.event_queue.specs.View.{CpuView, ScribeView, hearing}
-use Rattle.event_queue.proofs.Hearings.{replaced_before, replaced-none, replaced-all, replaced-next, replaced-more}
+use Rattle.event_queue.proofs.Hearings.{replaced_before, replaced-next, replaced-more}
 use Rattle.event_queue.proofs.Wholes.{begun-more}
 use Rattle.event_queue.proofs.recorder.Recorder.compare_all.Goals as goal
 

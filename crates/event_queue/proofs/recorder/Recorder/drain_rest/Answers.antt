@@ -1,8 +1,6 @@
-use Rattle.std.proofs.Common.{◌≤◌, length, arith, sym, ap, ◌∙◌, subst, length-append}
+use Rattle.std.proofs.Common.{length, arith, sym, ap, ◌∙◌, subst, length-append}
 use Rattle.std.specs.List.{AllByRecursion}
 use Rattle.std.proofs.lemmas.Result.{on_ok_weaker, on_err_weaker}
-use Rattle.rmm_spec.specs.declared.event.Event.{Event}
-use Rattle.std.specs.Prelude.{List}
 use Rattle.rmm_spec.specs.HistoryText.{History, IsEvent}
 use Rattle.event_queue.specs.View.{AreBegun, ScribeView}
 use Rattle.event_queue.proofs.Wholes.{are_whole, at_most_recorded}
