@@ -11,6 +11,7 @@ use rmm_spec::{RecChange, Stretch};
 
 impl Machine {
     ghost use Rattle.std.specs.Prelude.{◌≡◌, ◌≤◌, is_some, IfSome, IsTrue, vec_len};
+    ghost use Rattle.rmm_spec.specs.declared.tag.Tag.TheVariants as tag;
     ghost use Rattle.rmm_spec.specs.Lookup.{has_tag, is_inside, rec_inside, realm_at, rec_at};
     ghost use Rattle.rmm_spec.specs.Step.Ripas.{is_reached};
     ghost use Rattle.rmm_spec.specs.Applicable.{CanChangeRec};
@@ -29,7 +30,7 @@ impl Machine {
     /// The realm of a descriptor.
     #[tactic(auto, unfolding(rmm_spec::specs::Lookup::realm_at))]
     pub(crate) fn realm_at(&self, rd: u64) -> Realm
-        requires { IsTrue (has_tag (state_of self.now) rd Tag.Rd) }
+        requires { IsTrue (has_tag (state_of self.now) rd tag.Rd) }
         ensures { result ≡ realm_at (state_of self.now) rd }
     {
         let Some(realm) = self.realm(rd) else {
@@ -41,7 +42,7 @@ impl Machine {
     /// The REC of its own granule.
     #[tactic(auto, unfolding(rmm_spec::specs::Lookup::rec_at))]
     pub(crate) fn rec_at(&self, address: u64) -> Rec
-        requires { IsTrue (has_tag (state_of self.now) address Tag.Rec) }
+        requires { IsTrue (has_tag (state_of self.now) address tag.Rec) }
         ensures { result ≡ rec_at (state_of self.now) address }
     {
         let Some(rec) = self.rec(address) else {
@@ -52,9 +53,9 @@ impl Machine {
 
     /// The realm of the REC, by the address of its descriptor.
     pub(crate) fn owner_of(&self, address: u64) -> u64
-        requires { IsTrue (has_tag (state_of self.now) address Tag.Rec) }
+        requires { IsTrue (has_tag (state_of self.now) address tag.Rec) }
         ensures is { result ≡ (rec_at (state_of self.now) address).owner }
-        ensures realm { IsTrue (has_tag (state_of self.now) result Tag.Rd) }
+        ensures realm { IsTrue (has_tag (state_of self.now) result tag.Rd) }
     {
         owner(&self.rec_at(address))
     }
@@ -74,7 +75,7 @@ impl Machine {
 
     /// How many RECs belong to the realm.
     pub(crate) fn rec_count(&self, rd: u64) -> usize
-        requires { IsTrue (has_tag (state_of self.now) rd Tag.Rd) }
+        requires { IsTrue (has_tag (state_of self.now) rd tag.Rd) }
         ensures counted { result ≡ rec_count (state_of self.now) rd }
         ensures few { result ≤ vec_len self.now.rec_counts }
     {

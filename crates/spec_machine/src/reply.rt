@@ -1,6 +1,7 @@
 //! Replies compared in place.
 
 ghost use Rattle.std.specs.Prelude.{◌≡◌, ◌≢◌, ◌↔◌, ℕ, IsTrue, IfSome, IfNone, [], ◌∷◌};
+ghost use Rattle.rmm_spec.specs.declared.reply.Reply.TheVariants as answer;
 ghost use Rattle.rmm_spec.specs.Rows as rows;
 ghost use Rattle.rmi_view.specs.Seen.{reply_seen};
 
@@ -23,7 +24,7 @@ pub fn is_done(reply: ReplyRef<'_>) -> bool
 
 /// Whether the command was carried out and gave these words.
 pub fn is_ok(reply: ReplyRef<'_>, words: &ArrayVec<u64, 10>) -> bool
-    ensures { IsTrue result ↔ (reply_seen reply.entry ≡ Reply.Ok words.now) }
+    ensures { IsTrue result ↔ (reply_seen reply.entry ≡ answer.Ok words.now) }
 {
     matches!(reply, ReplyRef::Ok(given) if given == words.as_slice())
 }

@@ -1,6 +1,6 @@
-use Rattle.spec_machine.proofs.Common.{◌≡◌, true, false, IsSound, ap, is_inside, outcome, rec_inside, state_of, sym, ◌∙◌}
+use Rattle.spec_machine.proofs.Common.{◌≡◌, true, false, ap, is_inside, outcome, rec_inside, state_of, sym, ◌∙◌}
 use Rattle.rmm_sound.proofs.Applies.{inside_running}
-use Rattle.command_rows.specs.Answers.{IsInside, inside_answer}
+use Rattle.command_rows.specs.Answers.{inside_answer}
 use Rattle.command_rows.proofs.Outcomes.{inside, owned, outcome-inside, outcome-outside}
 use Rattle.spec_machine.proofs.Lookups.{owner_tagged}
 use Rattle.spec_machine.proofs.machine.Machine.outcome_seen.Goals as goal
@@ -9,7 +9,7 @@ pub answer_outside-requires : goal.answer_outside-requires
 unfolding state_of
 answer_outside-requires c =
     let m = c.args.self.now in
-    owned (state_of m) c.call.result (owner_tagged (state_of m) m.kept.sound)
+    record { owned = owned (state_of m) c.call-call.result (owner_tagged (state_of m) m.kept.sound) }
 
 pub answer_inside-requires : goal.answer_inside-requires
 unfolding state_of
@@ -17,17 +17,19 @@ answer_inside-requires c =
     let m = c.args.self.now in
     let runs : is_inside (state_of m) c.args.cpu ≡ true = sym c.in-Some.ensures.is in
     let running = inside_running (state_of m) c.args.cpu m.kept.sound runs in
-    rw (c.address.ensures, c.in-Some.ensures.at) (inside (state_of m) (rec_inside (state_of m) c.args.cpu) c.call.result running.tag running.owner)
+    record {
+      inside = rw (c.address.ensures, c.in-Some.ensures.at) (inside (state_of m) (rec_inside (state_of m) c.args.cpu) c.call-call.result running.tag running.owner);
+    }
 
 pub returns-in-None : goal.returns-in-None
 returns-in-None c =
     let s = state_of c.args.self.now in
     let outside : is_inside s c.args.cpu ≡ false = sym c.in-None.ensures.is in
-    c.answer_outside.ensures ∙ outcome-outside s c.args.cpu c.call.result outside ∙ ap (outcome s c.args.cpu) c.call.ensures
+    c.answer_outside.ensures ∙ outcome-outside s c.args.cpu c.call-call.result outside ∙ ap (outcome s c.args.cpu) c.call-call.ensures
 
 pub returns-in-Some : goal.returns-in-Some
 returns-in-Some c =
     let s = state_of c.args.self.now in
     let runs : is_inside s c.args.cpu ≡ true = sym c.in-Some.ensures.is in
-    c.answer_inside.ensures ∙ ap (λ a. inside_answer s a c.call.result) (c.address.ensures ∙ c.in-Some.ensures.at)
-    ∙ outcome-inside s c.args.cpu c.call.result runs ∙ ap (outcome s c.args.cpu) c.call.ensures
+    c.answer_inside.ensures ∙ ap (λ a. inside_answer s a c.call-call.result) (c.address.ensures ∙ c.in-Some.ensures.at)
+    ∙ outcome-inside s c.args.cpu c.call-call.result runs ∙ ap (outcome s c.args.cpu) c.call-call.ensures
