@@ -1,24 +1,26 @@
 -- Cells that no shaped whole has: each case is refuted by the group of the shape that speaks of it.
-use Rattle.std.proofs.Common.{◌≡◌, ℕ, ◌*◌, Bool, true, false, not, ◌&&◌, ◌||◌, ◌==◌, [], ◌∷◌, Option, Some, None, ◌⊎◌, inl, inr, refl, sym, ap, ◌∙◌, eqb-true, eq-eqb, zero-mul}
+use Rattle.std.proofs.Common.{◌≡◌, ℕ, ◌*◌, Bool, true, false, not, ◌&&◌, ◌||◌, ◌==◌, List, [], ◌∷◌, Option, Some, None, ◌⊎◌, inl, inr, refl, sym, ap, ◌∙◌, eqb-true, eq-eqb, zero-mul}
 use Rattle.std.specs.Prelude.{is_none, is_some}
 use Rattle.std.proofs.lemmas.Bool.{false≢true, and_parts, and_from, false_from_ne_true, not-true}
 use Rattle.std.proofs.lemmas.Option.{same_Some}
 use Rattle.rmm_spec.specs.declared.call.Call.{Call}
 use Rattle.rmm_spec.specs.declared.call.Call.TheVariants.{RealmDestroy, RecDestroy, RecEnter}
 use Rattle.rmm_spec.specs.declared.tag.Tag.TheVariants as tag
+use Rattle.rmm_spec.specs.Call.{Class, ByHost, ByRealm, ByExit, class_of}
 use Rattle.rmm_spec.specs.State.{RealmRecord, RecRecord}
 use Rattle.rmm_spec.specs.Lookup.{tag_number, is_granule}
 use Rattle.rmm_spec.specs.Rows.{Needed}
 use Rattle.rmm_spec.specs.Table.{TableRecord, place_number}
 use Rattle.rmm_spec.specs.Walk.{table_size}
-use Rattle.rmm_spec.specs.Step.Named.{needed}
+use Rattle.rmm_spec.specs.Step.Named.{needed, named}
 use Rattle.rmm_spec.specs.Cell.{Cell, Undelegated, Delegated, Rd, Rec, RecAux, Data, Rtt, tag_of, is_aux, table_in, realm_in, rec_in, realms_of, tables_of}
 use Rattle.rmm_spec.specs.Shape.{CpuPlace, Outside, Inside, HoldsTable}
-use Rattle.rmm_spec.specs.Local.{Hold}
+use Rattle.rmm_spec.specs.Local.{HeldCell, Hold}
 use Rattle.world_laws.proofs.Locals.{agrees-at}
 use Rattle.world_laws.proofs.Members.{each_of_two}
 use Rattle.command_core.specs.Seen.{cell_in, is_held}
-use Rattle.command_core.specs.Named.{has_wrong}
+use Rattle.command_core.specs.Named.{has_wrong, words_fit}
+use Rattle.command_core.specs.Settled.{is_complete, is_settled_outside, is_settled_inside, is_settled}
 use Rattle.command_core.specs.Unshaped.{is_root_place, is_other_root, has_bad_root, is_other_aux, is_bad_aux, are_bad_auxes, has_bad_aux, can_learn, has_bad_owner, has_other_owner, is_misfit, is_unshaped_outside, is_unshaped}
 use Rattle.command_core.proofs.Fronts.{wrong_tag}
 use Rattle.command_core.proofs.Wholes.{Whole, whole_cell, tagged_granule, realm_cell, InsideCells, inside-cells}
@@ -224,3 +226,25 @@ unshaped-none granules cpu hold c bad w = by hold.place refl bad
     by : (p : CpuPlace) → hold.place ≡ p → is_unshaped granules c p hold.cells ≡ true → ⊥
     by Outside place is = outside-none granules cpu hold w c is
     by (Inside rec rd) place is = misfit-none granules cpu hold w rec rd place is
+
+-- they settle it, so that no more is taken or freed
+or_middle : (a b c : Bool) → b ≡ true → (a || b || c) ≡ true
+or_middle true b c is = refl
+or_middle false true c is = refl
+or_middle false false c is = absurd (false≢true is)
+
+pub unshaped-settled : (granules : ℕ) (c : Call) (place : CpuPlace) (held : List HeldCell) → is_unshaped granules c place held ≡ true
+    → is_settled granules c place held ≡ true
+unfolding is_unshaped is_settled
+unshaped-settled granules c Outside held unshaped = by (class_of c)
+  where
+    by : (k : Class) → is_settled_outside k granules c held ≡ true
+    by ByHost = or_middle (not (words_fit granules c) || has_wrong (named c) held) (is_unshaped_outside granules c held) (is_complete c held) unshaped
+    by ByRealm = refl
+    by ByExit = refl
+unshaped-settled granules c (Inside rec rd) held unshaped = by (class_of c)
+  where
+    by : (k : Class) → is_settled_inside k granules rec rd held ≡ true
+    by ByHost = refl
+    by ByRealm = ap (λ b. b || (is_held rec held && is_held rd held)) unshaped
+    by ByExit = ap (λ b. b || is_held rec held) unshaped

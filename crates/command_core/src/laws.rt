@@ -54,9 +54,12 @@ pub fn applied_decisions_are_local()
         → new.place ≡ new_place hold.cells hold.place change → LocalStep granules cpu command given hold new }
 {}
 
-/// Cells that are unshaped for a command at a CPU's place are those of no well-shaped whole with the CPU there.
+/// Cells that are unshaped for a command at a CPU's place are those of no well-shaped whole with the CPU there. They settle the
+/// command, so that nothing more is taken or freed for it.
 pub fn unshaped_cells_have_no_whole()
-    ensures { (granules cpu : ℕ) (call : Call) (hold : Hold) (cells : ℕ → Cell) (places : ℕ → CpuPlace)
+    ensures none { (granules cpu : ℕ) (call : Call) (hold : Hold) (cells : ℕ → Cell) (places : ℕ → CpuPlace)
         → IsTrue (is_unshaped granules call hold.place hold.cells) → IsWellShaped granules hold.side places cells
         → Agrees cells hold.cells → places cpu ≡ hold.place → ⊥ }
+    ensures settled { (granules : ℕ) (call : Call) (place : CpuPlace) (held : List HeldCell)
+        → IsTrue (is_unshaped granules call place held) → IsTrue (is_settled granules call place held) }
 {}

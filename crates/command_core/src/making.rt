@@ -34,14 +34,14 @@ fn counts_in(mpidr: u8, cell: Option<&Cell>) -> bool
     }
 }
 
-// Whether a realm has the measurement, and the values as many bytes.
+// Whether a realm has such a measurement, and the values have that many bytes.
 fn is_extension(index: u8, size: u8, values: &[u64; 8]) -> bool
     ensures { result ≡ (nat_le 1 index && nat_le index 4 && nat_le size 0x40 && length values.now == 8) }
 {
     1 <= index && index <= 4 && size <= 0x40 && values.len() == 8
 }
 
-// Whether the digest has as many words as one has.
+// Whether it has the words of a digest.
 fn is_digest(digest: &[u64; 4]) -> bool
     ensures { result ≡ (length digest.now == 4) }
 {
