@@ -13,6 +13,7 @@ mod explaining;
 mod failing;
 mod flaw;
 mod named_call;
+mod named_granules;
 mod reporting;
 mod word_fault;
 
