@@ -6,16 +6,10 @@ use Rattle.rmm_spec.specs.declared.reply.Reply.{Reply}
 use Rattle.rmm_spec.specs.declared.reply.Reply.TheVariants as reply
 use Rattle.rmm_spec.specs.declared.tag.Tag.{Tag}
 use Rattle.rmm_spec.specs.Lookup.{is_granule}
-use Rattle.rmm_spec.specs.Rows as rows
 use Rattle.rmm_spec.specs.State.{State}
 use Rattle.rmm_spec.specs.Step.Named.{named, needed}
 use Rattle.told.specs.declared.condition.Condition.{Condition}
 use Rattle.told.specs.declared.condition.Condition.TheVariants as condition
-use Rattle.explain.specs.declared.named_granules.Needed.{Needed}
-
--- a granule that a command names, as its rows name it
-abbrev pub needed_seen : Needed → rows.Needed
-needed_seen n = needed n.granule n.tag
 
 -- the tag of the granule at the address, or nothing where there is none
 abbrev pub IsFound : State → ℕ → Option Tag → Type 0

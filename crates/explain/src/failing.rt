@@ -6,9 +6,9 @@ ghost use Rattle.explain.specs.Failing.{IsFailing, IsStatusFor};
 ghost use Rattle.rmm_spec.specs.Call.{call_of};
 ghost use Rattle.spec_machine.specs.View.{state_of};
 
-use crate::named_granules::{Needed, named_granules};
 use crate::word_fault::word_fault;
 use arrayvec::ArrayVec;
+use command_words::{Name, named};
 use granule_state::GRANULE_BYTES;
 use rmi_view::CommandRef;
 use rmm_spec::{Accepted, Call, Command, FunctionId, Reply, Stretch, StretchUse, Tag};
@@ -119,9 +119,11 @@ impl Place<'_> {
         ensures fails { IfSome result (IsFailing (state_of self.entry.machine.now) call.now) }
         ensures status { IfSome result (λ condition. (status index : ℕ) → IsStatusOf condition status index) }
     {
-        let granules = named_granules(call);
-        for i in 0..granules.len() {
-            let Needed { granule, tag } = granules[i];
+        let named = named(call);
+        let names = named.as_slice();
+        for i in 0..names.len() {
+            let name = names[i];
+            let Name { granule, tag } = name;
             let found = self.tag(granule);
             if found != Some(tag) {
                 return Some(Condition::Tag {

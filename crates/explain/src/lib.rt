@@ -13,7 +13,6 @@ mod explaining;
 mod failing;
 mod flaw;
 mod named_call;
-mod named_granules;
 mod reporting;
 mod word_fault;
 

@@ -1,16 +1,40 @@
-//! What a command's words must say by themselves.
+//! Which of a command's words doesn't say what it must.
 
+ghost use Rattle.std.specs.Prelude.{◌≡◌, is_none, false};
+ghost use Rattle.std.specs.List.{list_all};
+ghost use Rattle.rmm_spec.specs.Step.Words.{words_of};
+
+use command_words::{are_apart, is_page, is_space, words_allow};
 use rmm_spec::Call;
 use told::{WordFault, entry_size};
 
 /// The first word that isn't what it has to be, where there is one.
-pub(crate) fn word_fault(call: &Call) -> Option<WordFault> {
+pub(crate) fn word_fault(call: &Call) -> Option<WordFault>
+    ensures { is_none result ≡ list_all (λ allowed. allowed) (words_of call.now) }
+{
+    if words_allow(call) {
+        None
+    } else {
+        Some(first_fault(call))
+    }
+}
+
+#[tactic(auto, unfolding(rmm_spec::specs::Step::Words::words_of))]
+fn first_fault(call: &Call) -> WordFault
+    requires { list_all (λ allowed. allowed) (words_of call.now) ≡ false }
+{
     match *call {
-        Call::DataCreate { ipa, flags, .. } => flags_fault(flags).or(page_fault(ipa)),
+        Call::DataCreate { ipa, flags, .. } => {
+            if flags > 1 {
+                WordFault::Flags(flags)
+            } else {
+                unaligned(ipa, 3)
+            }
+        }
         Call::DataCreateUnknown { ipa, .. }
         | Call::DataDestroy { ipa, .. }
         | Call::RttUnmapUnprotected { ipa, .. }
-        | Call::IpaStateGet { ipa } => page_fault(ipa),
+        | Call::IpaStateGet { ipa } => unaligned(ipa, 3),
         Call::RealmCreate {
             rd,
             root,
@@ -18,72 +42,96 @@ pub(crate) fn word_fault(call: &Call) -> Option<WordFault> {
             level,
             vmid,
             algo,
-        } => unless(rd != root, WordFault::SameGranule)
-            .or(unless(is_space(width, level), WordFault::Space { width, level }))
-            .or(unless(vmid <= 0xff, WordFault::Vmid(vmid)))
-            .or(unless(algo == 0, WordFault::Algo(algo))),
+        } => {
+            if rd == root {
+                WordFault::SameGranule
+            } else if !is_space(width, level) {
+                WordFault::Space { width, level }
+            } else if vmid > 0xff {
+                WordFault::Vmid(vmid)
+            } else {
+                WordFault::Algo(algo)
+            }
+        }
         Call::RecCreate {
             rec,
             flags,
             aux0,
             aux1,
             ..
-        } => unless(
-            rec != aux0 && rec != aux1 && aux0 != aux1,
-            WordFault::SameGranule,
-        )
-        .or(flags_fault(flags)),
+        } => {
+            if are_apart(rec, aux0, aux1) {
+                WordFault::Flags(flags)
+            } else {
+                WordFault::SameGranule
+            }
+        }
         Call::RttCreate { ipa, level, .. } | Call::RttDestroy { ipa, level, .. } => {
-            level_fault(level).or(size_fault(ipa, level.saturating_sub(1)))
+            level_fault(level, ipa, level.saturating_sub(1))
         }
-        Call::RttReadEntry { ipa, level, .. } => level_fault(level).or(size_fault(ipa, level)),
-        Call::RttMapUnprotected { ipa, page, .. } => page_fault(ipa)
-            .or(page_fault(page))
-            .or(unless(page < 1 << 48, WordFault::PageTooHigh(page))),
-        Call::RttInitRipas { base, top, .. } => stretch_fault(base, top),
+        Call::RttReadEntry { ipa, level, .. } => level_fault(level, ipa, level),
+        Call::RttMapUnprotected { ipa, page, .. } => {
+            if !is_page(ipa) {
+                unaligned(ipa, 3)
+            } else if !is_page(page) {
+                unaligned(page, 3)
+            } else {
+                WordFault::PageTooHigh(page)
+            }
+        }
+        Call::RttInitRipas { base, top, .. } => {
+            stretch_fault(base, top).unwrap_or(WordFault::EmptyStretch { base, top })
+        }
         Call::IpaStateSet { base, top, ripas } => {
-            stretch_fault(base, top).or(unless(ripas <= 1, WordFault::Ripas(ripas)))
+            stretch_fault(base, top).unwrap_or(WordFault::Ripas(ripas))
         }
-        Call::MeasurementRead { index } => unless(index <= 4, WordFault::Index(index)),
+        Call::MeasurementRead { index } => WordFault::Index(index),
         Call::MeasurementExtend { index, size, .. } => {
-            unless((1..=4).contains(&index), WordFault::Index(index)).or(unless(
-                (1..=0x40).contains(&size),
-                WordFault::Size(size),
-            ))
+            if (1..=4).contains(&index) {
+                WordFault::Size(size)
+            } else {
+                WordFault::Index(index)
+            }
         }
-        Call::HostCall { imm } => unless(imm < 0x10000, WordFault::Imm(imm)),
-        _ => None,
+        Call::HostCall { imm } => WordFault::Imm(imm),
+        Call::GranuleDelegate { .. }
+        | Call::GranuleUndelegate { .. }
+        | Call::RealmActivate { .. }
+        | Call::RealmDestroy { .. }
+        | Call::RecDestroy { .. }
+        | Call::RecEnter { .. }
+        | Call::RttSetRipas { .. }
+        | Call::RealmConfig
+        | Call::CpuOff
+        | Call::SystemOff
+        | Call::Exit => unreachable!(),
     }
 }
 
-fn unless(holds: bool, fault: WordFault) -> Option<WordFault> {
-    if holds { None } else { Some(fault) }
+fn unaligned(address: u64, level: u64) -> WordFault {
+    WordFault::Unaligned {
+        address,
+        size: entry_size(level),
+    }
 }
 
-// The address spaces that a realm can have.
-fn is_space(width: u64, level: u64) -> bool {
-    (width, level) == (0x27, 1) || (width, level) == (0x30, 0)
-}
-
-fn flags_fault(flags: u64) -> Option<WordFault> {
-    unless(flags <= 1, WordFault::Flags(flags))
-}
-
-fn level_fault(level: u64) -> Option<WordFault> {
-    unless(level <= 3, WordFault::Level(level))
-}
-
-fn page_fault(address: u64) -> Option<WordFault> {
-    size_fault(address, 3)
-}
-
-fn size_fault(address: u64, level: u64) -> Option<WordFault> {
-    let size = entry_size(level);
-    unless(address % size == 0, WordFault::Unaligned { address, size })
+// The level is none, or no entry of the other level begins at the address.
+fn level_fault(level: u64, ipa: u64, aligned: u64) -> WordFault {
+    if level > 3 {
+        WordFault::Level(level)
+    } else {
+        unaligned(ipa, aligned)
+    }
 }
 
 fn stretch_fault(base: u64, top: u64) -> Option<WordFault> {
-    page_fault(base)
-        .or(page_fault(top))
-        .or(unless(base < top, WordFault::EmptyStretch { base, top }))
+    if !is_page(base) {
+        Some(unaligned(base, 3))
+    } else if !is_page(top) {
+        Some(unaligned(top, 3))
+    } else if base >= top {
+        Some(WordFault::EmptyStretch { base, top })
+    } else {
+        None
+    }
 }
