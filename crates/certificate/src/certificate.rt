@@ -64,6 +64,27 @@ pub enum LineRef<'a> {
     },
 }
 
+impl<'a> LineRef<'a> {
+    ghost use Rattle.certificate.specs.LineRef.{line_seen};
+
+    /// A line, seen where it lies.
+    pub fn of(line: &'a Line) -> LineRef<'a>
+        ensures { line_seen result ≡ line.now }
+    {
+        match line {
+            Line::Keep { cpu, number } => LineRef::Keep {
+                cpu: *cpu,
+                number: *number,
+            },
+            Line::Unfinished { cpu, number, reply } => LineRef::Unfinished {
+                cpu: *cpu,
+                number: *number,
+                reply,
+            },
+        }
+    }
+}
+
 impl Certificate {
     ghost use Rattle.certificate.specs.LineRef.{line_seen};
     ghost use Rattle.rmm_spec.specs.declared.line.Line.TheVariants as line;

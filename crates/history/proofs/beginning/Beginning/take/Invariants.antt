@@ -1,9 +1,8 @@
 use Rattle.std.proofs.Common.{◌≡◌, ◌++◌, length}
-use Rattle.rmm_spec.specs.HistoryText.{history_text}
-use Rattle.history.proofs.reading.read.Given as goal
+use Rattle.history.proofs.beginning.Beginning.take.Given as goal
 
 abbrev pub invariant-loop-rest : goal.invariant-loop-rest
-invariant-loop-rest l = l.text ≡ history_text l.history.recorded ++ l.rest
+invariant-loop-rest l = l.fn.self ++ l.piece ≡ l.self ++ l.rest
 
 abbrev pub decreases-loop-rest : goal.decreases-loop-rest
 decreases-loop-rest l = length l.rest
