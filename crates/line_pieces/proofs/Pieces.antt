@@ -1,5 +1,5 @@
 -- What the first bytes of a text say of its bad line.
-use Rattle.std.proofs.Common.{◌≡◌, ℕ, zero, suc, ◌+◌, ◌<◌, ◌≤◌, List, [], ◌∷◌, ◌++◌, length, take, cond, refl, sym, ap, ◌∙◌, subst, arith, ⊎_elim, append_assoc, length-append, false, ◌==◌}
+use Rattle.std.proofs.Common.{◌≡◌, ◌≢◌, ℕ, zero, suc, ◌+◌, ◌<◌, ◌≤◌, List, [], ◌∷◌, ◌++◌, length, take, if◌then◌else◌, refl, sym, ap, ◌∙◌, subst, arith, ⊎_elim, append_assoc, length-append, false, ◌==◌}
 use Rattle.std.proofs.lemmas.Bool.{cases_lt, ne_eqb}
 use Rattle.std.proofs.lemmas.List.{append-nil}
 use Rattle.rmm_spec.proofs.Lines.{AreOneLineEach, IsLineGrammar, IsBadLine-after, first_lines-line}
@@ -45,17 +45,19 @@ behind_good {Grammar} good rest n each fronts bad =
 
 -- ---- whole lines, counted
 
+-- a byte that is no newline ends no line
+no_more : (byte : ℕ) → byte ≢ 10 → ◌≡◌ {A = ℕ} (if byte == 10 then 1 else 0) 0
+no_more byte other = ap (λ b. if b then 1 else 0) (ne_eqb byte 10 other)
+
 newlines-none : (bytes : List ℕ) → HasNoNewline bytes → newlines bytes ≡ 0
 newlines-none [] none = refl
-newlines-none (byte ∷ bytes) none =
-    let other : cond (byte == 10) 1 0 ≡ 0 = ap (λ b. cond b 1 0) (ne_eqb byte 10 none.0) in
-    omega (arith, other, newlines-none bytes none.1)
+newlines-none (byte ∷ bytes) none = omega (arith, no_more byte none.0, newlines-none bytes none.1)
 
 newlines-line : (front rest : List ℕ) → HasNoNewline front → newlines (front ++ 10 ∷ rest) ≡ newlines rest + 1
-newlines-line [] rest none = omega arith
-newlines-line (byte ∷ front) rest none =
-    let other : cond (byte == 10) 1 0 ≡ 0 = ap (λ b. cond b 1 0) (ne_eqb byte 10 none.0) in
-    omega (arith, other, newlines-line front rest none.1)
+newlines-line [] rest none =
+    let one : newlines (10 ∷ rest) ≡ 1 + newlines rest = refl in
+    omega (arith, one)
+newlines-line (byte ∷ front) rest none = omega (arith, no_more byte none.0, newlines-line front rest none.1)
 
 -- whole lines, and the beginning of the next
 pub newlines-lines : (good : List (List (List ℕ))) (rest : List ℕ) → AreOneLineEach good → HasNoNewline rest
