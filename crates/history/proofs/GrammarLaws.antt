@@ -234,11 +234,13 @@ line_too_long history rest more is_history none long =
 InHistories-front : (history : History) (n : ℕ) → IsHistory history → 0 < n → InHistories (lines_text (take n (history_lines history)))
 InHistories-front history zero is_history some = absurd (omega (arith, some))
 InHistories-front history (suc n) is_history some =
-    let front : History = record history { events = take n history.events } in
-    (front, record {
-      is_history = IsHistory-take n history is_history;
-      is_text = ap (λ (ls : List (List (List ℕ))). lines_text (config_parts history.config ∷ ls)) (sym (take-map event_parts n history.events));
-    })
+    let front : History = record history { events = take n history.events } in (
+      front,
+      record {
+        is_history = IsHistory-take n history is_history;
+        is_text = ap (λ (ls : List (List (List ℕ))). lines_text (config_parts history.config ∷ ls)) (take-map event_parts n history.events);
+      },
+    )
 
 -- the bad line stands behind the lines of the history
 pub bad_behind : (history : History) (rest : List ℕ) (line : ℕ) → IsHistory history → HasNoNewline rest

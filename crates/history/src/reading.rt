@@ -50,11 +50,7 @@ fn read_header(alloc: Global, line: &[u8]) -> Result<History, HistoryFault>
 
 /// Reads the line of the next event.
 #[inline(always)]
-fn read_event(
-    history: &mut History,
-    words: &mut [u64; 10],
-    line: &[u8],
-) -> Result<(), HistoryFault>
+fn read_event(history: &mut History, words: &mut [u64; 10], line: &[u8]) -> Result<(), HistoryFault>
     requires { HasNoNewline line.now }
     ensures read { OnOk result (history_text history.new.recorded ≡ history_text history.old.recorded ++ (line.now ++ 10 ∷ [])) }
     ensures fault { IfErr result (λ fault. (more : List ℕ) → IsFaultOf (history_text history.old.recorded ++ (line.now ++ 10 ∷ more)) fault) }
