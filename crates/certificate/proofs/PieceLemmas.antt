@@ -1,12 +1,12 @@
 -- How a reader of a certificate in pieces comes from one piece to the next.
-use Rattle.std.proofs.Common.{◌≡◌, ◌≢◌, ℕ, zero, suc, ◌+◌, ◌<◌, ◌≤◌, List, [], ◌∷◌, ◌++◌, map, length, take, Option, Some, None, Result, Ok, Err, refl, sym, ap, ◌∙◌, subst, arith, lit≤, append_assoc, length-append}
-use Rattle.std.specs.Prelude.{IfOk, IsOk, MatchResult}
+use Rattle.std.proofs.Common.{◌≡◌, ◌≢◌, ℕ, zero, suc, ◌+◌, ◌<◌, ◌≤◌, List, [], ◌∷◌, ◌++◌, map, length, take, drop, Option, Some, None, Result, Ok, Err, true, ◌==◌, eqb-true, refl, sym, ap, ◌∙◌, subst, arith, lit≤, append_assoc, length-append, take-append-drop}
+use Rattle.std.specs.Prelude.{IfOk, IfErr, IsOk, MatchResult}
 use Rattle.std.proofs.lemmas.List.{append-nil, length-map}
 use Rattle.std.proofs.lemmas.List.Splits.{join_with_byte-slice_split}
 use Rattle.line_pieces.proofs.LineLengths.{length-line_text, width-line}
 use Rattle.line_pieces.proofs.Pieces.{IsBadLine-too_long}
 use Rattle.rmm_spec.proofs.CertificateLines.{certificates_by_lines, line_parts-one_line, InCertificates-from_lines}
-use Rattle.rmm_spec.proofs.Lines.{append-cons-not_nil, map_last}
+use Rattle.rmm_spec.proofs.Lines.{append-cons-not_nil, each-right, map_last}
 use Rattle.rmm_spec.proofs.Texts.{AllByRecursion-append}
 use Rattle.rmm_spec.specs.CertificateText.{IsLine, IsCertificate, IsCertificateText, InCertificates, certificate_text, line_parts}
 use Rattle.rmm_spec.specs.Text.{HasNoNewline, IsBadLine, line_text, parts_of}
@@ -64,6 +64,17 @@ take_line zero front later e = absurd (omega (arith, e))
 take_line (suc n) [] later e = let none : n ≡ 0 = omega (arith, e) in ap (λ k. 10 ∷ take k later) none
 take_line (suc n) (byte ∷ front) later e =
     ap (λ bytes. byte ∷ bytes) (take_line n front later (let f : n ≡ length front + 1 = omega (arith, e) in f))
+
+-- the line that ends is told
+pub IsReadTo-ended : (text piece last later begun : List ℕ) (lines : List Line) (kept : Begun) (line : Line) → piece ≡ last ++ 10 ∷ later → begun ≡ []
+    → IsLineOf (parts_of (kept.begun ++ last)) line → kept.count < 1000000 → IsReadTo text lines kept
+    → IsReadTo (text ++ take (length last + 1) piece) (lines ++ line ∷ []) (record { count = kept.count + 1; begun = begun })
+IsReadTo-ended text piece last later begun lines kept line is_piece forgotten of_line room read =
+    let told = lines ++ line ∷ [] in
+    let taken : take (length last + 1) piece ≡ last ++ 10 ∷ [] = ap (take (length last + 1)) is_piece ∙ take_line (length last + 1) last later refl in
+    subst (λ bytes. IsReadTo (text ++ bytes) told (record { count = kept.count + 1; begun = begun })) (sym taken)
+    (subst (λ b. IsReadTo (text ++ (last ++ 10 ∷ [])) told (record { count = kept.count + 1; begun = b })) (sym forgotten)
+    (IsReadTo-line text last lines kept line of_line room read))
 
 -- the number of the next line
 counted : (text : List ℕ) (lines : List Line) (kept : Begun) → kept.count ≡ length lines → IsBadLine InCertificates text (length lines + 1)
@@ -147,9 +158,92 @@ abbrev pub GoesOn : Result Begun ℕ → Result Begun ℕ → ℕ → Option Lin
 GoesOn old new count told rest =
     IfOk old (λ o. IfOk new (λ n. (text : List ℕ) (lines : List Line) → IsReadTo text lines o → IsReadTo (text ++ take count rest) (with_told lines told) n))
 
+-- what a reader answers, by the state that it is left in
+abbrev pub Answer : Type 0
+Answer = Result (ℕ × Option Line) CertFault
+
+abbrev pub Answered : Result Begun ℕ → Answer → Type 0
+Answered new answer = MatchResult new (λ _. IsOk answer) (λ line. answer ≡ Err (BadLine line))
+
+-- what is told where the reader fails
+abbrev pub IsRefused : Result Begun ℕ → Result Begun ℕ → List ℕ → Type 0
+IsRefused old new rest =
+    IfOk old (λ o. IfErr new (λ line. (text more : List ℕ) (lines : List Line) → IsReadTo text lines o → IsBadLine InCertificates (text ++ (rest ++ more)) line))
+
 pub HasRead-next : (old new : Result Begun ℕ) (count : ℕ) (told : Option Line) (front rest : List ℕ) (lines : List Line)
-    → MatchResult new (λ _. IsOk (Ok {E = CertFault} (count, told))) (λ line. Ok (count, told) ≡ Err (BadLine line))
-    → GoesOn old new count told rest → HasRead old front lines → HasRead new (front ++ take count rest) (with_told lines told)
+    → Answered new (Ok (count, told)) → GoesOn old new count told rest → HasRead old front lines → HasRead new (front ++ take count rest) (with_told lines told)
 HasRead-next (Ok old) (Ok new) count told front rest lines answered goes_on read = goes_on front lines read
 HasRead-next (Ok old) (Err line) count told front rest lines answered goes_on read = absurd cc
 HasRead-next (Err line) new count told front rest lines answered goes_on read = absurd read
+
+-- the lines that were read are a certificate
+pub IsCertificate-read : (reader : Result Begun ℕ) (text : List ℕ) (lines : List Line) → HasRead reader text lines → IsCertificate lines
+IsCertificate-read (Ok kept) text lines read = read.is_certificate
+IsCertificate-read (Err line) text lines read = absurd read
+
+-- a further piece is read
+pub IsReadUpTo-next : (text rest later : List ℕ) (lines more : List Line) (old new : Result Begun ℕ) (count : ℕ) (told : Option Line) → later ≡ drop count rest
+    → more ≡ with_told lines told → Answered new (Ok (count, told)) → GoesOn old new count told rest → IsReadUpTo text rest lines old
+    → IsReadUpTo text later more new
+IsReadUpTo-next text rest later lines more old new count told is_later is_more answered goes_on so_far = record {
+  front = so_far.front ++ take count rest;
+  is_text = so_far.is_text ∙ ap (λ r. so_far.front ++ r) (sym (take-append-drop count rest)) ∙ sym (append_assoc so_far.front (take count rest) (drop count rest))
+      ∙ ap (λ r. so_far.front ++ take count rest ++ r) (sym is_later);
+  read = subst (HasRead new (so_far.front ++ take count rest)) (sym is_more) (HasRead-next old new count told so_far.front rest lines answered goes_on so_far.read);
+}
+
+-- a bad line of what was read is the text's
+pub IsFaultOf-refused : (text rest : List ℕ) (lines : List Line) (old new : Result Begun ℕ) (fault : CertFault) → Answered new (Err fault)
+    → IsRefused old new rest → IsReadUpTo text rest lines old → IsFaultOf text fault
+IsFaultOf-refused text rest lines (Ok old) (Ok new) fault answered refused so_far = absurd cc
+IsFaultOf-refused text rest lines (Ok old) (Err line) fault answered refused so_far =
+    let is_bad : fault ≡ BadLine line = cc in
+    let bad = refused so_far.front [] lines so_far.read in
+    subst (IsFaultOf text) (sym is_bad)
+    (subst (λ t. IsBadLine InCertificates t line) (ap (λ r. so_far.front ++ r) (append-nil rest) ∙ sym so_far.is_text) bad)
+IsFaultOf-refused text rest lines (Err line) new fault answered refused so_far = absurd so_far.read
+
+-- memory was refused for a line that was read
+pub IsFaultOf-memory : (text rest : List ℕ) (lines : List Line) (reader : Result Begun ℕ) → IsReadUpTo text rest lines reader → 0 < length lines
+    → IsFaultOf text NoMemory
+IsFaultOf-memory text rest lines (Ok kept) so_far some =
+    let read = so_far.read in (
+      lines,
+      some,
+      record {
+        more = kept.begun ++ rest;
+        is_certificate = read.is_certificate;
+        is_text = so_far.is_text ∙ ap (λ f. f ++ rest) read.is_text ∙ append_assoc (certificate_text lines) kept.begun rest;
+      },
+    )
+IsFaultOf-memory text rest lines (Err line) so_far some = absurd so_far.read
+
+-- nothing is left
+pub over : (rest : List ℕ) → true ≡ (length rest == 0) → rest ≡ []
+over [] ended = refl
+over (byte ∷ rest) ended = absurd (omega (arith, eqb-true (length (byte ∷ rest)) 0 (sym ended)))
+
+-- the whole text is read
+read_whole : (text : List ℕ) (lines : List Line) (kept : Begun) (front : List ℕ) → text ≡ front ++ [] → IsReadTo front lines kept → IsReadTo text lines kept
+read_whole text lines kept front is_text read = subst (λ t. IsReadTo t lines kept) (sym (is_text ∙ append-nil front)) read
+
+pub IsCertificateText-whole : (text rest : List ℕ) (lines : List Line) (reader : Result Begun ℕ) → rest ≡ [] → IsReadUpTo text rest lines reader
+    → IfOk reader (λ kept. (t : List ℕ) (ls : List Line) → IsReadTo t ls kept → IsCertificateText t ls) → IsCertificateText text lines
+IsCertificateText-whole text rest lines (Ok kept) ended so_far whole =
+    whole text lines (read_whole text lines kept so_far.front (so_far.is_text ∙ ap (λ r. so_far.front ++ r) ended) so_far.read)
+IsCertificateText-whole text rest lines (Err line) ended so_far whole = absurd so_far.read
+
+pub IsFaultOf-whole : (text rest : List ℕ) (lines : List Line) (reader : Result Begun ℕ) (fault : CertFault) → rest ≡ [] → IsReadUpTo text rest lines reader
+    → IfOk reader (λ kept. (line : ℕ) × ((fault ≡ BadLine line) × ((t : List ℕ) (ls : List Line) → IsReadTo t ls kept → IsBadLine InCertificates t line)))
+    → IsFaultOf text fault
+IsFaultOf-whole text rest lines (Ok kept) fault ended so_far bad =
+    subst (IsFaultOf text) (sym bad.1.0)
+    (bad.1.1 text lines (read_whole text lines kept so_far.front (so_far.is_text ∙ ap (λ r. so_far.front ++ r) ended) so_far.read))
+IsFaultOf-whole text rest lines (Err line) fault ended so_far bad = absurd so_far.read
+
+-- the last line of a certificate
+pub IsLine-last : (lines : List Line) (line : Line) → IsCertificate (lines ++ line ∷ []) → IsLine line
+IsLine-last lines line is = (each-right IsLine lines (line ∷ []) is.each).0
+
+pub room_before : (lines : List Line) (line : Line) → IsCertificate (lines ++ line ∷ []) → length lines < 1000000
+room_before lines line is = omega (arith, is.count, length-append lines (line ∷ []))

@@ -1,5 +1,5 @@
 -- What is read of a text whose first bytes were given.
-use Rattle.std.specs.Prelude.{⊥, ◌≡◌, ℕ, ◌+◌, List, [], ◌∷◌, ◌++◌, length, Option, Some, None, Result, Ok, Err}
+use Rattle.std.specs.Prelude.{◌≡◌, ℕ, ◌+◌, List, [], ◌∷◌, ◌++◌, length, Option, Some, None, Result, Ok, Err}
 use Rattle.rmm_spec.specs.CertificateText.{IsCertificate, certificate_text}
 use Rattle.rmm_spec.specs.Text.{HasNoNewline}
 use Rattle.rmm_spec.specs.declared.line.Line.{Line}

@@ -1,10 +1,10 @@
 //! Texts, read to certificates.
 
-ghost use Rattle.std.specs.Prelude.{◌≡◌, ◌+◌, ◌<◌, ◌≤◌, ℕ, List, [], ◌++◌, take, Ok, Err, IsOk, IfOk, IfErr, OnOk, OnErr, MatchResult};
+ghost use Rattle.std.specs.Prelude.{◌≡◌, ◌+◌, ◌<◌, ◌≤◌, ℕ, List, [], ◌++◌, length, take, Ok, Err, IsOk, IfOk, IfErr, OnOk, OnErr, MatchResult};
 ghost use Rattle.certificate.specs.Faults.{IsFaultOf};
 ghost use Rattle.certificate.specs.Pieces.{IsReadTo, Takes, with_told};
 ghost use Rattle.certificate.specs.declared.fault.CertFault.TheVariants.{BadLine};
-ghost use Rattle.rmm_spec.specs.CertificateText.{InCertificates, IsCertificateText};
+ghost use Rattle.rmm_spec.specs.CertificateText.{InCertificates, IsCertificate, IsCertificateText};
 ghost use Rattle.rmm_spec.specs.Text.{IsBadLine};
 ghost use Rattle.rmm_spec.specs.declared.line.Line.{Line};
 
@@ -104,12 +104,23 @@ pub fn read(alloc: Global, text: &[u8]) -> Result<Certificate, CertFault>
     let mut rest = text;
     while !rest.is_empty() {
         let (count, line) = reader.next(rest)?;
-        if let Some(line) = line {
-            lines.push(line)?;
-        }
+        append_told(&mut lines, line)?;
         let later = rest.split_at(count).1;
         rest = later;
     }
     reader.finish()?;
     Ok(lines)
+}
+
+/// Appends the line that was told, where one was.
+#[inline(always)]
+fn append_told(lines: &mut Certificate, told: Option<Line>) -> Result<(), AllocError>
+    requires { IsCertificate (with_told lines.old.lines told) }
+    ensures ok { OnOk result (lines.new.lines ≡ with_told lines.old.lines told) }
+    ensures refused { OnErr result (0 < length (with_told lines.old.lines told)) }
+{
+    match told {
+        Some(line) => lines.push(line),
+        None => Ok(()),
+    }
 }
