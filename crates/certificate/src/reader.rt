@@ -1,9 +1,9 @@
 //! Texts, read to certificates.
 
-ghost use Rattle.std.specs.Prelude.{◌≡◌, ◌+◌, ◌<◌, ◌≤◌, ℕ, List, [], ◌++◌, length, take, Ok, Err, IsOk, IfOk, IfErr, OnOk, OnErr, MatchResult};
+ghost use Rattle.std.specs.Prelude.{◌≡◌, ◌≢◌, ◌+◌, ◌<◌, ◌≤◌, ℕ, List, [], ◌++◌, length, take, Ok, Err, IsOk, IfOk, IfErr, OnOk, OnErr, MatchResult};
 ghost use Rattle.certificate.specs.Faults.{IsFaultOf};
 ghost use Rattle.certificate.specs.Pieces.{IsReadTo, Takes, with_told};
-ghost use Rattle.certificate.specs.declared.fault.CertFault.TheVariants.{BadLine};
+ghost use Rattle.certificate.specs.declared.fault.CertFault.TheVariants.{BadLine, NoMemory};
 ghost use Rattle.rmm_spec.specs.CertificateText.{InCertificates, IsCertificate, IsCertificateText};
 ghost use Rattle.rmm_spec.specs.Text.{IsBadLine};
 ghost use Rattle.rmm_spec.specs.declared.line.Line.{Line};
@@ -82,6 +82,7 @@ impl Reader {
         ensures bad { IfOk self (λ kept. IfErr result (λ fault. (line : ℕ) × ((fault ≡ BadLine line) × ((text : List ℕ) (lines : List Line)
             → IsReadTo text lines kept → IsBadLine InCertificates text line)))) }
         ensures failed { IfErr self (λ line. result ≡ Err (BadLine line)) }
+        ensures no_memory { result ≢ Err NoMemory }
     {
         let Reader { beginning, failed } = self;
         if let Some(line) = failed {

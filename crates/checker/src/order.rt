@@ -35,7 +35,8 @@ pub(crate) fn judge_order(
             });
         }
     }
-    Ok(verdict_at_end(replay, history, certificate.len()))
+    let lines = certificate.len();
+    Ok(verdict_at_end(replay, history, lines))
 }
 
 /// The verdict on so many lines, which are all replayed.

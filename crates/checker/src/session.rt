@@ -4,8 +4,7 @@ ghost use Rattle.std.specs.Prelude.{◌≡◌, ◌↔◌, ℕ, List, [], ◌++�
 ghost use Rattle.rmm_spec.specs.HistoryText.{IsHistoryText};
 ghost use Rattle.rmm_spec.specs.Judgement.{Judges};
 
-use crate::failure::{Failure, judge_line};
-use crate::order::verdict_at_end;
+use crate::failure::{Failure, judge_told, verdict_on};
 use crate::replay::Replay;
 use certificate::{CertFault, Reader};
 use history::History;
@@ -56,17 +55,20 @@ impl Session {
         }
         let mut rest = piece;
         while !rest.is_empty() {
-            let Ok((count, line)) = self.certificate.next(rest) else {
+            let Ok((count, told)) = self.certificate.next(rest) else {
                 return Ok(());
             };
-            if let Some(line) = line {
-                let step = self.certificate.count() as u64;
-                let Ok(()) = judge_line(&mut self.replay, &mut self.failed, &self.history, &line, step)
-                else {
-                    self.refused = true;
-                    return Err(AllocError);
-                };
-            }
+            let step = self.certificate.count() as u64;
+            let Ok(()) = judge_told(
+                &mut self.replay,
+                &mut self.failed,
+                &self.history,
+                told,
+                step,
+            ) else {
+                self.refused = true;
+                return Err(AllocError);
+            };
             rest = rest.split_at(count).1;
         }
         Ok(())
@@ -89,14 +91,11 @@ impl Session {
         if refused {
             return Err(AllocError);
         }
-        history.well_formed();
         let lines = certificate.count();
-        if let Err(CertFault::BadLine(line)) = certificate.finish() {
-            return Ok(Verdict::CertificateFault(line));
+        match certificate.finish() {
+            Ok(()) => Ok(verdict_on(&replay, failed, &history, lines)),
+            Err(CertFault::BadLine(line)) => Ok(Verdict::CertificateFault(line)),
+            Err(CertFault::NoMemory) => unreachable!(),
         }
-        Ok(match failed {
-            Some(Failure { step, reason }) => Verdict::No { step, reason },
-            None => verdict_at_end(&replay, &history, lines),
-        })
     }
 }
