@@ -1,5 +1,5 @@
 -- How a reader of a certificate in pieces comes from one piece to the next.
-use Rattle.std.proofs.Common.{◌≡◌, ◌≢◌, ℕ, zero, suc, ◌+◌, ◌<◌, ◌≤◌, List, [], ◌∷◌, ◌++◌, map, length, take, drop, Option, Some, None, Result, Ok, Err, true, ◌==◌, eqb-true, refl, sym, ap, ◌∙◌, subst, arith, lit≤, append_assoc, length-append, take-append-drop}
+use Rattle.std.proofs.Common.{◌≡◌, ◌≢◌, ℕ, zero, suc, ◌+◌, ◌<◌, ◌≤◌, List, [], ◌∷◌, ◌++◌, map, length, take, drop, Option, Result, Ok, Err, true, ◌==◌, eqb-true, refl, sym, ap, ◌∙◌, subst, arith, append_assoc, length-append, take-append-drop}
 use Rattle.std.specs.Prelude.{IfOk, IfErr, IsOk, MatchResult}
 use Rattle.std.proofs.lemmas.List.{append-nil, length-map}
 use Rattle.std.proofs.lemmas.List.Splits.{join_with_byte-slice_split}
@@ -13,7 +13,7 @@ use Rattle.rmm_spec.specs.Text.{HasNoNewline, IsBadLine, line_text, parts_of}
 use Rattle.rmm_spec.specs.declared.line.Line.{Line}
 use Rattle.certificate.proofs.GrammarLemmas.{bad_line, unfinished_line, line_too_many, IsCertificate-push, certificate_text-push}
 use Rattle.certificate.specs.Faults.{IsFaultOf}
-use Rattle.certificate.specs.Pieces.{Begun, IsReadTo, Takes, with_told}
+use Rattle.certificate.specs.Pieces.{Begun, IsReadTo, with_told}
 use Rattle.certificate.specs.Spelling.{IsLineOf, IsNoLine}
 use Rattle.certificate.specs.declared.fault.CertFault.{CertFault}
 use Rattle.certificate.specs.declared.fault.CertFault.TheVariants.{BadLine, NoMemory}
@@ -32,20 +32,6 @@ regroup_line text front begun piece last later more is_text is_piece =
 
 no_newline : (begun last : List ℕ) → HasNoNewline begun → HasNoNewline last → HasNoNewline (begun ++ last)
 no_newline begun last h k = AllByRecursion-append (λ byte. byte ≢ 10) begun last h k
-
--- before the first byte
-pub IsReadTo-none : IsReadTo [] [] (record { count = 0; begun = [] })
-IsReadTo-none = record { is_certificate = record { each = tt; count = lit≤ tt }; counted = refl; unfinished = tt; is_text = refl }
-
--- the next line goes on
-pub IsReadTo-held : (text piece : List ℕ) (lines : List Line) (kept : Begun) → HasNoNewline piece → IsReadTo text lines kept
-    → IsReadTo (text ++ piece) lines (record { count = kept.count; begun = kept.begun ++ piece })
-IsReadTo-held text piece lines kept none read = record {
-  is_certificate = read.is_certificate;
-  counted = read.counted;
-  unfinished = no_newline kept.begun piece read.unfinished none;
-  is_text = ap (λ t. t ++ piece) read.is_text ∙ append_assoc (certificate_text lines) kept.begun piece;
-}
 
 -- the next line ends
 pub IsReadTo-line : (text last : List ℕ) (lines : List Line) (kept : Begun) (line : Line) → IsLineOf (parts_of (kept.begun ++ last)) line → kept.count < 1000000
@@ -127,13 +113,6 @@ IsNoLine-long bytes long line of_line =
       length-line_text (line_parts line),
       width-line line of_line.is_line,
     )
-
--- the text ends behind a newline
-pub IsCertificateText-read : (text : List ℕ) (lines : List Line) (kept : Begun) → kept.begun ≡ [] → IsReadTo text lines kept → IsCertificateText text lines
-IsCertificateText-read text lines kept over read = record {
-  is_certificate = read.is_certificate;
-  is_text = read.is_text ∙ ap (λ b. certificate_text lines ++ b) over ∙ append-nil (certificate_text lines);
-}
 
 -- the text ends within a line
 pub bad_unfinished : (text : List ℕ) (lines : List Line) (kept : Begun) → kept.begun ≢ [] → IsReadTo text lines kept

@@ -155,7 +155,7 @@ impl Certificate {
 
     /// Appends the line of a finished call, as `push` does.
     #[inline(always)]
-    pub(crate) fn keep(&mut self, cpu: u8, number: u32) -> Result<(), AllocError>
+    fn keep(&mut self, cpu: u8, number: u32) -> Result<(), AllocError>
         requires is_line { IsLine (line.Keep cpu number) }
         requires room { length self.old.lines < MOST_LINES }
         ensures ok { OnOk result (self.new.lines ≡ self.old.lines ++ line.Keep cpu number ∷ []) }
@@ -169,7 +169,7 @@ impl Certificate {
 
     /// Appends the line of an unfinished call, as `push` does.
     #[inline(never)]
-    pub(crate) fn claim(&mut self, cpu: u8, number: u32, reply: Reply) -> Result<(), AllocError>
+    fn claim(&mut self, cpu: u8, number: u32, reply: Reply) -> Result<(), AllocError>
         requires is_line { IsLine (line.Unfinished cpu number reply) }
         requires room { length self.old.lines < MOST_LINES }
         ensures ok { OnOk result (self.new.lines ≡ self.old.lines ++ line.Unfinished cpu number reply ∷ []) }

@@ -1,5 +1,5 @@
 -- How a session comes from one line to the next, and to its verdict.
-use Rattle.std.proofs.Common.{◌≡◌, ℕ, ◌+◌, ◌<◌, ◌≤◌, List, [], ◌∷◌, ◌++◌, length, take, drop, Option, Some, None, Result, Ok, Err, true, is_some, refl, sym, ap, ◌∙◌, subst, arith, append_assoc, length-append, take-append-drop, false}
+use Rattle.std.proofs.Common.{◌≡◌, ℕ, ◌+◌, ◌<◌, List, [], ◌∷◌, ◌++◌, length, take, drop, Option, Some, None, Result, Ok, Err, true, is_some, refl, sym, ap, ◌∙◌, subst, arith, append_assoc, take-append-drop, false}
 use Rattle.std.specs.Prelude.{IsOk, IfOk, IfErr}
 use Rattle.std.proofs.lemmas.List.{take_all, append-nil, take-append-le}
 use Rattle.std.proofs.lemmas.Option.{slice_get_within}

@@ -5,7 +5,7 @@ use Rattle.std.proofs.lemmas.List.Concat.{flat_map-append}
 use Rattle.std.proofs.lemmas.List.{append-nil}
 use Rattle.line_pieces.proofs.Pieces.{newlines-lines}
 use Rattle.line_pieces.specs.Newlines.{newlines}
-use Rattle.rmm_spec.specs.HistoryText.{History, IsHistory, InHistories, IsHistoryText, history_text}
+use Rattle.rmm_spec.specs.HistoryText.{InHistories}
 use Rattle.rmm_spec.specs.Text.{HasNoNewline, IsBadLine}
 use Rattle.history.specs.Pieces.{lines_read, next_number, IsReadWell}
 use Rattle.history.specs.View.{Recording}
@@ -41,13 +41,6 @@ of_line P old piece now rest last later same is_rest each =
     of_piece P old piece now rest same
     (λ more. subst P (sym (ap (λ r. now ++ (r ++ more)) is_rest ∙ ap (λ r. now ++ r) (append_assoc last (10 ∷ later) more))) (each (later ++ more)))
 
--- the piece's next line is read
-pub behind_line : (whole now rest last later next : List ℕ) → whole ≡ now ++ rest → rest ≡ last ++ 10 ∷ later → next ≡ now ++ (last ++ 10 ∷ [])
-    → whole ≡ next ++ later
-behind_line whole now rest last later next is_whole is_rest is_next =
-    is_whole ∙ ap (λ r. now ++ r) is_rest ∙ ap (λ r. now ++ r) (sym (append_assoc last (10 ∷ []) later))
-    ∙ sym (append_assoc now (last ++ 10 ∷ []) later) ∙ ap (λ t. t ++ later) (sym is_next)
-
 -- a line that lies whole in the piece
 pub whole_line : (front new begun last : List ℕ) → begun ≡ [] → new ≡ front ++ (last ++ 10 ∷ []) → new ++ begun ≡ front ++ begun ++ (last ++ 10 ∷ [])
 whole_line front new begun last none is_new =
@@ -66,23 +59,10 @@ too_long_held read begun last more is_well none long =
     subst (λ text. IsBadLine InHistories text (next_number read)) (regroup (lines_read read) begun last more)
     (too_long read (begun ++ last) more is_well none long)
 
--- a line that was begun in an earlier piece
-pub held_line : (front new begun last line cleared : List ℕ) → line ≡ begun ++ last → cleared ≡ [] → new ≡ front ++ (line ++ 10 ∷ [])
-    → new ++ cleared ≡ front ++ begun ++ (last ++ 10 ∷ [])
-held_line front new begun last line cleared is_line none is_new =
-    ap (λ c. new ++ c) none ∙ append-nil new ∙ is_new ∙ ap (λ l. front ++ (l ++ 10 ∷ [])) is_line ∙ regroup front begun last (10 ∷ [])
-
 pub of_held_line : (P : List ℕ → Type 0) (front begun last line : List ℕ) → line ≡ begun ++ last → ((more : List ℕ) → P (front ++ (line ++ 10 ∷ more)))
     → (more : List ℕ) → P (front ++ begun ++ (last ++ 10 ∷ more))
 of_held_line P front begun last line is_line each more =
     subst P (ap (λ l. front ++ (l ++ 10 ∷ more)) is_line ∙ regroup front begun last (10 ∷ more)) (each more)
-
--- the text ends behind a newline
-pub IsHistoryText-read : (history : History) (line : List ℕ) → IsHistory history → line ≡ [] → IsHistoryText (history_text history ++ line) history
-IsHistoryText-read history line is_history none = record {
-  is_history = is_history;
-  is_text = ap (λ l. history_text history ++ l) none ∙ append-nil (history_text history);
-}
 
 -- joined pieces: those before one, that one and those behind it
 pub flat_map_at : {X : Type 0} (f : X → List ℕ) (xs : List X) (i : ℕ) (d : X) → i < length xs

@@ -1,11 +1,10 @@
 -- How long the lines of histories and certificates are at most.
-use Rattle.std.proofs.Common.{◌≡◌, ℕ, zero, suc, ◌+◌, ◌*◌, ◌^◌, ◌<◌, ◌≤◌, List, [], ◌∷◌, map, length, arith, lit≤, length-append}
+use Rattle.std.proofs.Common.{ℕ, zero, suc, ◌+◌, ◌*◌, ◌^◌, ◌<◌, ◌≤◌, List, [], ◌∷◌, map, length, arith, lit≤, length-append}
 use Rattle.std.specs.Int.Digits.{digits_of}
 use Rattle.std.proofs.lemmas.Int.Digits.{length-digits_of-le}
 use Rattle.std.proofs.lemmas.List.{length-map}
 use Rattle.rmi_codec.proofs.PartLaws.{word_count-le}
 use Rattle.rmm_spec.specs.declared.command.Command.{Command}
-use Rattle.rmm_spec.specs.declared.event.Event.{Event}
 use Rattle.rmm_spec.specs.declared.event.Event.TheVariants.{Called, Returned}
 use Rattle.rmm_spec.specs.declared.line.Line.{Line}
 use Rattle.rmm_spec.specs.declared.line.Line.TheVariants.{Keep, Unfinished}
@@ -14,7 +13,7 @@ use Rattle.rmm_spec.specs.declared.reply.Reply.TheVariants as reply
 use Rattle.rmm_spec.specs.CertificateText.{IsLine, line_parts}
 use Rattle.rmm_spec.specs.CommandText.{AreWords, IsCommand, IsReply, command_parts, reply_parts}
 use Rattle.rmm_spec.specs.Function.{number_of}
-use Rattle.rmm_spec.specs.HistoryText.{Config, IsConfig, IsEvent, config_parts, event_parts}
+use Rattle.rmm_spec.specs.HistoryText.{Config, IsConfig, config_parts, event_parts}
 use Rattle.rmm_spec.specs.Text.{glyph, numeral, decimal, word, line_text}
 use Rattle.rmm_spec.proofs.Texts.{numeral-zero, numeral_some, length-fixed_hex}
 

@@ -1,13 +1,11 @@
 -- The first line that fails, one more line that passes, and the end.
-use Rattle.std.proofs.Common.{take, length, arith, refl, sym, subst}
-use Rattle.std.proofs.lemmas.List.{take_all}
+use Rattle.std.proofs.Common.{take, arith, refl, sym, subst}
 use Rattle.std.proofs.lemmas.Result.{err_from_is_err_and}
 use Rattle.certificate.specs.LineRef.{line_seen}
 use Rattle.spec_machine.specs.View.{state_of}
 use Rattle.rmm_spec.specs.FirstFault.{Passes}
 use Rattle.checker.specs.Replay.{RefusesMemory}
-use Rattle.checker.proofs.Faults.{FirstFault-from_FailsBy, Progress-next, Progress-whole, FirstFault-missing, Accepts-from_Passes}
-use Rattle.checker.proofs.Judging.{HasOnePlaces-from_history}
+use Rattle.checker.proofs.Faults.{FirstFault-from_FailsBy, Progress-next, Progress-whole}
 use Rattle.checker.proofs.order.judge_order.Goals as goal
 
 pub returns-in-Some-clause-judged : goal.returns-in-Some-clause-judged

@@ -1,5 +1,5 @@
-use Rattle.std.proofs.Common.{◌≡◌, Ok, Err}
-use Rattle.certificate.specs.declared.fault.CertFault.TheVariants.{BadLine, NoMemory}
+use Rattle.std.proofs.Common.{◌≡◌, Err}
+use Rattle.certificate.specs.declared.fault.CertFault.TheVariants.{BadLine}
 use Rattle.checker.proofs.SessionLaws.{Judges-session, bad_line_told}
 use Rattle.checker.proofs.session.Session.finish.Goals as goal
 
