@@ -121,10 +121,12 @@ pub bad_line_told : {T : Type 0} (certificate : Result Begun ℕ) (replay : Repl
     → IfErr certificate (λ l. answer ≡ Err (BadLine l)) → HasJudgedBy certificate replay failed history text → IsBadLine InCertificates text line
 bad_line_told (Ok kept) replay failed history text line (Ok value) is_answer bad stays given = absurd cc
 bad_line_told (Ok kept) replay failed history text line (Err fault) is_answer bad stays given =
-    let same : bad.0 ≡ line = (let told : fault ≡ BadLine bad.0 = bad.1.0 in let answered : fault ≡ BadLine line = cc in let e : BadLine bad.0 ≡ BadLine line = cc in cc) in
+    let told : fault ≡ BadLine bad.0 = bad.1.0 in
+    let answered : fault ≡ BadLine line = cc in
+    let same : bad.0 ≡ line = cc in
     subst (λ n. IsBadLine InCertificates text n) same (bad.1.1 text given.0 given.1.0)
 bad_line_told (Err l) replay failed history text line answer is_answer bad stays given =
-    let same : l ≡ line = (let e : Err {T = T} (BadLine l) ≡ Err (BadLine line) = sym stays ∙ is_answer in cc) in
+    let same : l ≡ line = cc in
     subst (λ n. IsBadLine InCertificates text n) same (subst (λ t. IsBadLine InCertificates t l) (append-nil text) (given []))
 
 -- the text ends, and its lines are judged

@@ -6,8 +6,8 @@ ghost use Rattle.certificate.specs.Pieces.{with_told};
 ghost use Rattle.rmm_spec.specs.Judgement.{JudgesOrder};
 ghost use Rattle.checker.specs.Failure.{AreJudged};
 
-use crate::replay::Replay;
 use crate::order::verdict_at_end;
+use crate::replay::Replay;
 use certificate::{Line, LineRef, MOST_LINES};
 use history::History;
 use rmm_spec::{Reason, Verdict};

@@ -6,7 +6,7 @@ use Rattle.checker.proofs.SessionLaws.{IsFedUpTo-none, HasJudged-next, HasJudged
 use Rattle.checker.proofs.session.Session.feed.Goals as goal
 
 pub loop-rest-init : goal.loop-rest-init
-loop-rest-init c = IsFedUpTo-none c.args.self.now c.args.piece.now c.if-refused.false
+loop-rest-init c = IsFedUpTo-none c.args.self.now c.args.piece.now c.if-self.false
 
 pub loop-rest-preserved : goal.loop-rest-preserved
 loop-rest-preserved c =
