@@ -8,4 +8,3 @@ pub mod Scan
 pub mod Excludes
 pub mod Verdicts
 pub mod Beginnings
-pub mod SessionLaws

@@ -1,5 +1,3 @@
 pub mod Progress
 pub mod Replay
 pub mod Judged
-pub mod Failure
-pub mod Session
