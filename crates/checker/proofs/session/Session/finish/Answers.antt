@@ -12,7 +12,8 @@ returns-in-Ok-clause-judged c = λ bytes text is_history given.
 pub returns-in-Err-BadLine-clause-judged : goal.returns-in-Err-BadLine-clause-judged
 returns-in-Err-BadLine-clause-judged c = λ bytes text is_history given.
     let session = c.args.self in
-    let is_bad : c.finish.result ≡ Err (BadLine c.in-Err-BadLine.line) = cc in (
+    let is_bad : c.finish.result ≡ Err (BadLine c.in-Err-BadLine.line) = cc in
+    rw (← c.in-Err-BadLine.line-is) (
       (session.history.recorded, is_history),
       bad_line_told session.certificate session.replay session.failed session.history.recorded text c.in-Err-BadLine.line c.finish.result is_bad
           c.finish.ensures.bad c.finish.ensures.failed given,
