@@ -1,6 +1,6 @@
 //! What is kept of the lines so far.
 
-ghost use Rattle.std.specs.Prelude.{◌≡◌, ℕ, ◌<◌, ◌↔◌, List, [], length, false, IsTrue, IfOk, OnErr, IfSome, IfNone, MatchOption};
+ghost use Rattle.std.specs.Prelude.{◌≡◌, ℕ, ◌<◌, List, [], length, false, IfOk, OnErr, IfSome, IfNone, MatchOption};
 ghost use Rattle.std.specs.Bool.{MatchBool};
 ghost use Rattle.rmm_spec.specs.declared.command.Command.{Command};
 ghost use Rattle.rmm_spec.specs.declared.line.Line.{Line};
@@ -10,7 +10,7 @@ ghost use Rattle.history.specs.Calls.{ArePlacesOf};
 ghost use Rattle.rmm_spec.specs.HistoryText.{IsHistory};
 ghost use Rattle.rmm_spec.specs.State.{State};
 ghost use Rattle.rmm_spec.specs.Step.{Step};
-ghost use Rattle.rmm_spec.specs.Linearization.{IsCalled, IsFinished, NamesCall, cpu_named, number_named};
+ghost use Rattle.rmm_spec.specs.Linearization.{IsCalled, NamesCall, cpu_named, number_named};
 ghost use Rattle.rmm_spec.specs.FirstFault.{IsFirstMissing};
 ghost use Rattle.checker.specs.Progress.{AreNamedBelow, IsFinishedCallAt, HasNoFinishedCall};
 
@@ -174,16 +174,5 @@ fn finished_call_at(history: &History, place: usize) -> Option<(u8, u32)>
     ensures { MatchOption result (HasNoFinishedCall history.now.recorded.events place) (λ call. IsFinishedCallAt history.now.recorded.events place call.0 call.1) }
 {
     let (cpu, number) = history.called_at(place)?;
-    has_returned(history, cpu, number).then_some((cpu, number))
-}
-
-/// Whether the call of that number of a CPU is there and has returned.
-fn has_returned(history: &History, cpu: u8, number: u32) -> bool
-    requires { IsHistory history.now.recorded }
-    ensures { IsTrue result ↔ IsFinished history.now.recorded.events cpu number }
-{
-    match history.places_of(cpu, number) {
-        Some(places) => places.returned.is_some(),
-        None => false,
-    }
+    history.has_returned(cpu, number).then_some((cpu, number))
 }

@@ -4,7 +4,7 @@ ghost use Rattle.std.specs.Prelude.{◌≡◌, ℕ, ◌+◌, ◌<◌, ◌≤◌,
 ghost use Rattle.rmm_spec.specs.declared.command.Command.{Command};
 ghost use Rattle.rmm_spec.specs.declared.reply.Reply.{Reply};
 ghost use Rattle.rmm_spec.specs.HistoryText.{IsHistory, CanFollow, cpu_of};
-ghost use Rattle.rmm_spec.specs.Linearization.{IsCalled, IsReturned, IsKnown};
+ghost use Rattle.rmm_spec.specs.Linearization.{IsCalled, IsReturned, IsKnown, IsFinished};
 ghost use Rattle.history.specs.Calls.{line_at, ArePlacesOf, IsCallOf};
 ghost use Rattle.history.specs.EventRef.{event_seen};
 ghost use Rattle.rmi_view.specs.Seen.{command_seen, reply_seen, HasFewWords};
@@ -302,6 +302,17 @@ impl History {
             called,
             returned: subhistory.returned(number),
         })
+    }
+
+    /// Whether the call of that number of a CPU is there and has returned.
+    pub fn has_returned(&self, cpu: u8, number: u32) -> bool
+        ensures { IsTrue result ↔ IsFinished self.now.recorded.events cpu number }
+    {
+        self.well_formed();
+        match self.places_of(cpu, number) {
+            Some(places) => places.returned.is_some(),
+            None => false,
+        }
     }
 
     /// The call of that number of a CPU.

@@ -1,23 +1,13 @@
 -- The journal, written as a certificate entry by entry.
-use Rattle.std.proofs.Common.{◌≡◌, ℕ, ◌+◌, ◌≤◌, true, List, [], ◌∷◌, ◌++◌, length, map, Option, Some, None, refl, sym, ap, ◌∙◌, arith, append_assoc, ⊎_elim}
-use Rattle.std.specs.Prelude.{◌↔◌, MatchOption, is_some}
-use Rattle.std.proofs.lemmas.Bool.{false≢true, eq-eqb, ne_eqb, cases_eq}
+use Rattle.std.proofs.Common.{◌≡◌, ℕ, ◌+◌, ◌≤◌, List, [], ◌∷◌, ◌++◌, length, map, sym, ap, ◌∙◌, arith, append_assoc, ⊎_elim}
+use Rattle.std.proofs.lemmas.Bool.{eq-eqb, ne_eqb, cases_eq}
 use Rattle.std.proofs.lemmas.List.{length_push}
 use Rattle.rmm_spec.specs.declared.event.Event.{Event}
 use Rattle.rmm_spec.specs.declared.line.Line.{Line}
 use Rattle.rmm_spec.specs.Cell.{put}
-use Rattle.rmm_spec.specs.declared.reply.Reply.{Reply}
-use Rattle.rmm_spec.specs.Linearization.{IsReturned, IsFinished}
 use Rattle.rmm_spec.specs.Run.{JournalEntry}
 use Rattle.rmm_spec.specs.World.{Commitment, line_for}
 use Rattle.commit_tickets.specs.Listed.{numbered_from}
-
--- a call is finished where the place of its return is found
-pub finished_found : (events : List Event) (cpu number : ℕ) (found : Option ℕ)
-    → MatchOption found (¬ IsFinished events cpu number) (λ place. (given : Reply) × IsReturned events place cpu number given)
-    → (is_some found ≡ true) ↔ IsFinished events cpu number
-finished_found events cpu number None none = (λ is. absurd (false≢true is), λ finished. absurd (none finished))
-finished_found events cpu number (Some place) returned = (λ _. (place, returned.0, returned.1), λ _. refl)
 
 -- ---- all lines
 

@@ -1,9 +1,8 @@
 //! The journal of a run as a certificate.
 
-ghost use Rattle.std.specs.Prelude.{◌≡◌, ◌<◌, ◌≤◌, ◌↔◌, IsTrue, map, length, IfOk, OnErr};
+ghost use Rattle.std.specs.Prelude.{◌≡◌, ◌<◌, ◌≤◌, map, length, IfOk, OnErr};
 ghost use Rattle.std.specs.List.{AllByRecursion};
 ghost use Rattle.rmm_spec.specs.CertificateText.{IsLine};
-ghost use Rattle.rmm_spec.specs.Linearization.{IsFinished};
 ghost use Rattle.rmm_spec.specs.Run as run;
 ghost use Rattle.rmm_spec.specs.World.{line_for};
 ghost use Rattle.commit_tickets.specs.Entries.{entry_of};
@@ -45,20 +44,9 @@ fn line_of(history: &History, entry: JournalEntry, number: u32) -> Line
 {
     reply_has_text(&entry.reply);
     let JournalEntry { cpu, reply, .. } = entry;
-    if is_returned(history, cpu, number) {
+    if history.has_returned(cpu, number) {
         Line::Keep { cpu, number }
     } else {
         Line::Unfinished { cpu, number, reply }
-    }
-}
-
-// Whether the return of a call is recorded.
-fn is_returned(history: &History, cpu: u8, number: u32) -> bool
-    ensures { IsTrue result ↔ IsFinished history.now.recorded.events cpu number }
-{
-    history.well_formed();
-    match history.places_of(cpu, number) {
-        Some(places) => places.returned.is_some(),
-        None => false,
     }
 }
