@@ -18,7 +18,7 @@ use crate::site::Site;
 use crate::token::{Committed, CpuToken};
 use command_core::{applied_decisions_are_local, apply, decide, room};
 use granule_lock::Hold;
-use rmi_view::ReplyRef;
+use rmi_view::copied_reply;
 use rmm_spec::{Command, Reply};
 use std::alloc::Global;
 
@@ -85,11 +85,11 @@ pub fn commit<S: Site>(
     apply(hold, &mut journal.side, &mut token.place, change, room);
     journal.commits.add(&mut token.share, 1);
     let ticket = journal.entries.len();
-    let recorded = ReplyRef::of(&reply).to_reply();
+    let recorded = copied_reply(&reply);
     journal
         .entries
         .push_reserved(JournalEntry::of(cpu, command, recorded));
-    let listed = ReplyRef::of(&reply).to_reply();
+    let listed = copied_reply(&reply);
     token
         .mine
         .push_reserved(Committed::of(ticket, command, listed));

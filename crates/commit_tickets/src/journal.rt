@@ -9,7 +9,7 @@ ghost use Rattle.commit_tickets.specs.Entries.{entry_of};
 use crate::site::Site;
 use command_core::Side;
 use granule_state::Config;
-use rmi_view::CommandRef;
+use rmi_view::copied_command;
 use rmm_spec::{Command, Reply};
 use spec_machine::Machine;
 use std::marker::Model;
@@ -29,10 +29,9 @@ impl JournalEntry {
     pub(crate) fn of(cpu: u8, command: &Command, reply: Reply) -> JournalEntry
         ensures { entry_of result ≡ entry cpu command.now reply }
     {
-        let _few = command.words.len();
         JournalEntry {
             cpu,
-            command: CommandRef::of(command).to_command(),
+            command: copied_command(command),
             reply,
         }
     }

@@ -6,7 +6,7 @@ ghost use Rattle.commit_tickets.specs.View.{TokenView};
 use crate::fault::CommitFault;
 use crate::site::Site;
 use command_core::CpuPlace;
-use rmi_view::CommandRef;
+use rmi_view::copied_command;
 use rmm_spec::{Command, Reply};
 use std::marker::Model;
 use std::sync::ledger::Share;
@@ -23,10 +23,9 @@ impl Committed {
     pub(crate) fn of(ticket: usize, command: &Command, reply: Reply) -> Committed
         ensures { result ≡ record { ticket = ticket; command = command.now; reply = reply } }
     {
-        let _few = command.words.len();
         Committed {
             ticket,
-            command: CommandRef::of(command).to_command(),
+            command: copied_command(command),
             reply,
         }
     }

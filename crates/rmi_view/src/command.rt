@@ -16,7 +16,8 @@ impl<'a> CommandRef<'a> {
     ghost use Rattle.rmi_view.specs.Seen.{command_seen};
 
     pub fn of(command: &'a Command) -> CommandRef<'a>
-        ensures { command_seen result ≡ command.now }
+        ensures seen { command_seen result ≡ command.now }
+        ensures few { length result.words.now ≤ 10 }
     {
         CommandRef {
             function: command.function,
@@ -41,4 +42,13 @@ impl<'a> CommandRef<'a> {
     {
         Call::of(self.function, self.words)
     }
+}
+
+ghost use Rattle.std.specs.Prelude.{◌≡◌};
+
+/// The same command once more.
+pub fn copied_command(command: &Command) -> Command
+    ensures { result ≡ command.now }
+{
+    CommandRef::of(command).to_command()
 }

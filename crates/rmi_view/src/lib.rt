@@ -8,5 +8,5 @@ mod command;
 mod reply;
 mod words;
 
-pub use command::CommandRef;
-pub use reply::ReplyRef;
+pub use command::{CommandRef, copied_command};
+pub use reply::{ReplyRef, copied_reply};

@@ -19,7 +19,8 @@ impl<'a> ReplyRef<'a> {
     ghost use Rattle.rmi_view.specs.Seen.{HasFewWords, reply_seen};
 
     pub fn of(reply: &'a Reply) -> ReplyRef<'a>
-        ensures { reply_seen result ≡ reply.now }
+        ensures seen { reply_seen result ≡ reply.now }
+        ensures few { HasFewWords (reply_seen result) }
     {
         match reply {
             Reply::Ok(words) => ReplyRef::Ok(words.as_slice()),
@@ -53,4 +54,13 @@ impl<'a> ReplyRef<'a> {
             _ => false,
         }
     }
+}
+
+ghost use Rattle.std.specs.Prelude.{◌≡◌};
+
+/// The same reply once more.
+pub fn copied_reply(reply: &Reply) -> Reply
+    ensures { result ≡ reply.now }
+{
+    ReplyRef::of(reply).to_reply()
 }

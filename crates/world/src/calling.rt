@@ -2,11 +2,11 @@
 
 ghost use Rattle.world.specs.Whole.{world_from};
 
-use crate::cpus::copied;
 use crate::phase::Phase;
 use crate::turned::{Kind, Turned};
 use crate::world::World;
 use history::Event;
+use rmi_view::copied_command;
 use std::alloc::AllocError;
 
 #[tactic(auto, unfolding(crate::specs::World::world_of, crate::specs::World::waits_of, crate::specs::Whole::world_from))]
@@ -41,7 +41,7 @@ impl World {
         let event = Event::Called {
             cpu,
             number,
-            command: copied(&command),
+            command: copied_command(&command),
         };
         let Ok(()) = self.history.push(event) else {
             return Err(AllocError);

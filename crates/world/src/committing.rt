@@ -4,10 +4,10 @@ ghost use Rattle.std.specs.Prelude.{◌≡◌};
 ghost use Rattle.world.specs.Whole.{world_from};
 
 use crate::committed::Committed;
-use crate::cpus::{copied, copied_reply};
 use crate::phase::Phase;
 use crate::turned::{Kind, Turned};
 use crate::world::World;
+use rmi_view::{copied_command, copied_reply};
 use std::alloc::{AllocError, Global};
 
 #[tactic(auto, unfolding(crate::specs::World::world_of, crate::specs::World::waits_of, crate::specs::Whole::world_from))]
@@ -43,7 +43,7 @@ impl World {
         else {
             unreachable!()
         };
-        let (number, command) = (*number, copied(command));
+        let (number, command) = (*number, copied_command(command));
         let Ok(()) = self.journal.reserve(1) else {
             return Err(AllocError);
         };
@@ -55,7 +55,7 @@ impl World {
         self.journal.push_reserved(Committed {
             cpu,
             number,
-            command: copied(&command),
+            command: copied_command(&command),
             reply: copied_reply(&reply),
         });
         let phase = Phase::Decided {

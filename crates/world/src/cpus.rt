@@ -10,8 +10,8 @@ use crate::phase::Phase;
 use arrayvec::ArrayVec;
 use command_core::CpuPlace;
 use granule_state::Pa;
-use rmi_view::{CommandRef, ReplyRef};
-use rmm_spec::{Command, Reply};
+use rmi_view::copied_command;
+use rmm_spec::Command;
 
 /// One CPU: what it holds in the order in which it took it, and its program, of which it has called the first commands.
 #[derive(Drop)]
@@ -172,7 +172,7 @@ impl Cpus {
             return None;
         }
         let command = &cpu.program[called];
-        Some(copied(command))
+        Some(copied_command(command))
     }
 
     /// A CPU's next command is called.
@@ -190,24 +190,5 @@ impl Cpus {
         cpu.called += 1;
         cpu.phase = phase;
         cpu.waits = None;
-    }
-}
-
-/// The same command once more.
-pub(crate) fn copied(command: &Command) -> Command
-    ensures { result ≡ command.now }
-{
-    let _few = command.words.len();
-    CommandRef::of(command).to_command()
-}
-
-/// The same reply once more.
-pub(crate) fn copied_reply(reply: &Reply) -> Reply
-    ensures { result ≡ reply.now }
-{
-    match reply {
-        Reply::Ok(words) => ReplyRef::Ok(words.as_slice()).to_reply(),
-        Reply::Err(status, index) => Reply::Err(*status, *index),
-        Reply::Misplaced => Reply::Misplaced,
     }
 }

@@ -8,10 +8,10 @@ ghost use Rattle.world.specs.Next.{go_report, blocking, StandsStill};
 ghost use Rattle.world.specs.World.{world_of, waits_of};
 
 use crate::committed::Committed;
-use crate::cpus::copied_reply;
 use crate::world::World;
 use certificate::Certificate;
 use history::History;
+use rmi_view::copied_reply;
 use rmm_spec::Line;
 use std::alloc::{AllocError, Global};
 use world_laws::{every_run_is_certified, no_wait_cycle, stuck_behind_stopped};

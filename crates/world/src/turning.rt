@@ -2,11 +2,11 @@
 
 ghost use Rattle.world.specs.Whole.{world_from};
 
-use crate::cpus::copied_reply;
 use crate::phase::Phase;
 use crate::turned::{Turned, Will};
 use crate::world::World;
 use command_core::Next;
+use rmi_view::copied_reply;
 use std::alloc::{AllocError, Global};
 
 #[tactic(auto, unfolding(crate::specs::World::world_of, crate::specs::World::waits_of, crate::specs::Whole::world_from))]

@@ -15,7 +15,7 @@ returns-then-not-branch-clause-cause g c =
 
 pub invariant_of-journal-2 : goal.invariant_of-journal-2
 invariant_of-journal-2 g c =
-    let is_added = c.of-2.ensures ∙ ap (entry c.token.inside.cpu c.args.command.now) (c.to_reply-recorded.ensures ∙ c.of.ensures) in
-    let run = IsRun-append _ _ _ c.of-2.result _ _ _ _ _ c.journal.invariant.0 (c.in_ok-offer.ensures.step c.if-not-branch.false) is_added
-    (c.push_reserved.ensures.items ∙ ap (λ (es : List JournalEntry). es ++ c.of-2.result ∷ []) c.reserve.ensures.items) in
+    let is_added = c.of.ensures ∙ ap (entry c.token.inside.cpu c.args.command.now) c.copied_reply-recorded.ensures in
+    let run = IsRun-append _ _ _ c.of.result _ _ _ _ _ c.journal.invariant.0 (c.in_ok-offer.ensures.step c.if-not-branch.false) is_added
+    (c.push_reserved.ensures.items ∙ ap (λ (es : List JournalEntry). es ++ c.of.result ∷ []) c.reserve.ensures.items) in
     (run, c.journal.invariant.1, omega (arith, c.push_reserved.ensures.len, c.reserve.ensures.len, c.add.ensures.total, c.journal.invariant.2))

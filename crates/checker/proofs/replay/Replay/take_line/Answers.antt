@@ -42,11 +42,11 @@ due_unfinished c =
 pub returns-else-is_some-clause-judged : goal.returns-else-is_some-clause-judged
 returns-else-is_some-clause-judged c =
     let named = c.in-Unfinished in
-    IfOk-weaker c.take_reply-in-Unfinished.result _ _ (λ why taken. rw named.is (taken (Unfinished named.cpu named.number named.reply.now) (rw c.of.ensures (due_unfinished c))))
+    IfOk-weaker c.take_reply-in-Unfinished.result _ _ (λ why taken. rw named.is (taken (Unfinished named.cpu named.number named.reply.now) (rw c.of.ensures.seen (due_unfinished c))))
     c.take_reply-in-Unfinished.ensures.judged
 
 pub returns-else-is_some-clause-refused : goal.returns-else-is_some-clause-refused
 returns-else-is_some-clause-refused c =
     let named = c.in-Unfinished in
-    on_err_weaker c.take_reply-in-Unfinished.result (λ refused. rw named.is (refused (Unfinished named.cpu named.number named.reply.now) (rw c.of.ensures (due_unfinished c))))
+    on_err_weaker c.take_reply-in-Unfinished.result (λ refused. rw named.is (refused (Unfinished named.cpu named.number named.reply.now) (rw c.of.ensures.seen (due_unfinished c))))
     c.take_reply-in-Unfinished.ensures.refused

@@ -20,7 +20,7 @@ unfolding views_of
 returns c =
     let old = c.index-cpu.result.now in
     let read = told_there (λ (cpu : Cpu). drop cpu.called cpu.program.items) [] c.args.self.now c.args.cpu old c.requires c.index-cpu.ensures in
-    ap Some c.copied.ensures
+    ap Some c.copied_command.ensures
     ∙ sym (ap (λ commands. slice_get commands 0) read ∙ slice_get-drop old.program.items old.called
     ∙ slice_get_read old.program.items old.program.len old.called c.index-command.result.now old.program.ok.0
     (omega (arith, c.len-count.ensures, c.if-called-count.false)) c.index-command.ensures)

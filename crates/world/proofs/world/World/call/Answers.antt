@@ -29,14 +29,14 @@ returns-in_default-clause-turned c =
 pub push-requires-clause-follows : goal.push-requires-clause-follows
 unfolding world_of world_from
 push-requires-clause-follows c =
-    (call-follows c.args.self.now c.args.cpu c.args.number c.well_formed-2.ensures.config c.requires.cpu c.copied.result c.requires.between
-    (sym c.next_command.ensures ∙ c.in-Some.is ∙ ap Some (sym c.copied.ensures))).0
+    (call-follows c.args.self.now c.args.cpu c.args.number c.well_formed-2.ensures.config c.requires.cpu c.copied_command.result c.requires.between
+    (sym c.next_command.ensures ∙ c.in-Some.is ∙ ap Some (sym c.copied_command.ensures))).0
 
 pub push-requires-clause-line : goal.push-requires-clause-line
 unfolding world_of world_from
 push-requires-clause-line c =
-    (call-follows c.args.self.now c.args.cpu c.args.number c.well_formed-2.ensures.config c.requires.cpu c.copied.result c.requires.between
-    (sym c.next_command.ensures ∙ c.in-Some.is ∙ ap Some (sym c.copied.ensures))).1
+    (call-follows c.args.self.now c.args.cpu c.args.number c.well_formed-2.ensures.config c.requires.cpu c.copied_command.result c.requires.between
+    (sym c.next_command.ensures ∙ c.in-Some.is ∙ ap Some (sym c.copied_command.ensures))).1
 
 pub returns-in_default-push-clause-only_recorded : goal.returns-in_default-push-clause-only_recorded
 unfolding world_of world_from
@@ -58,7 +58,7 @@ invariant_of-self-2-clause-kept c =
     let s = c.args.self.now in
     let more = c.in-Ok.ensures.ok ∙ ap (λ command. record s.history.recorded {
       events = s.history.recorded.events ++ Called c.args.cpu c.args.number command ∷ [];
-    }) c.copied.ensures in
+    }) c.copied_command.ensures in
     (made s c.args.cpu turn.Go (Did turn.Call) c.open_call.new.self c.push.new.self.recorded s.locks _ _ _ c.open_call.ensures.views more refl
     (called s c.args.cpu c.requires.cpu c.args.number c.in-Some.command c.requires.between (sym c.next_command.ensures ∙ c.in-Some.is))).kept
 
@@ -68,7 +68,7 @@ returns-clause-turned c =
     let s = c.args.self.now in
     let more = c.in-Ok.ensures.ok ∙ ap (λ command. record s.history.recorded {
       events = s.history.recorded.events ++ Called c.args.cpu c.args.number command ∷ [];
-    }) c.copied.ensures in
+    }) c.copied_command.ensures in
     (made s c.args.cpu turn.Go (Did turn.Call) c.open_call.new.self c.push.new.self.recorded s.locks _ _ _ c.open_call.ensures.views more refl
     (called s c.args.cpu c.requires.cpu c.args.number c.in-Some.command c.requires.between (sym c.next_command.ensures ∙ c.in-Some.is))).turned
 

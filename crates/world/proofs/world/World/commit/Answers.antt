@@ -35,14 +35,14 @@ unfolding world_from
 step-requires-clause-served c =
     let is_open = sym c.phase.ensures ∙ ap phase_in c.in-Deciding.is in
     let served = subst (λ p. IsTrue (serves_phase p)) is_open (c.args.self.now.kept.fit.each c.args.cpu).open_served in
-    subst (λ called. IsTrue (is_served (call_of called))) (sym c.copied-command.ensures) served
+    subst (λ called. IsTrue (is_served (call_of called))) (sym c.copied_command-command.ensures) served
 
 pub step-requires-clause-settled : goal.step-requires-clause-settled
 unfolding world_of world_from
 step-requires-clause-settled c =
     let w = world_of c.args.self.now in
     let is_open = sym c.phase.ensures ∙ ap phase_in c.in-Deciding.is in
-    (λ i. is_settled ((ap (λ (config : Config). config.granules) c.config-config.ensures) i) (call_of (c.copied-command.ensures i)) (w.place c.args.cpu)
+    (λ i. is_settled ((ap (λ (config : Config). config.granules) c.config-config.ensures) i) (call_of (c.copied_command-command.ensures i)) (w.place c.args.cpu)
     (held_cells w c.args.cpu)) ∙ subst (RecordsIn w c.args.cpu) is_open (records-commit w c.args.cpu c.requires.ready)
 
 pub step-requires-clause-distinct : goal.step-requires-clause-distinct
@@ -83,11 +83,11 @@ unfolding world_of world_from
 returns-in_default-step-clause-only_short c =
     let s = c.args.self.now in
     let w = world_of s in
-    let is_open = sym c.phase.ensures ∙ ap phase_in c.in-Deciding.is ∙ (λ i. Deciding c.in-Deciding.number (sym c.copied-command.ensures i) c.in-Deciding.learnt) in
-    let makes = subst (λ (config : Config). MakesTable config.granules c.args.cpu c.copied-command.result (hold_of w c.args.cpu)) c.config-config.ensures
+    let is_open = sym c.phase.ensures ∙ ap phase_in c.in-Deciding.is ∙ (λ i. Deciding c.in-Deciding.number (sym c.copied_command-command.ensures i) c.in-Deciding.learnt) in
+    let makes = subst (λ (config : Config). MakesTable config.granules c.args.cpu c.copied_command-command.result (hold_of w c.args.cpu)) c.config-config.ensures
     c.in_default-step.ensures.only in
     subst (IsShortIn (event_room s) (commit_room s) w c.args.cpu) (sym is_open)
-    (inr (accepts-reached s.history.recorded.config w (views_of s.cpus).waits c.args.cpu c.copied-command.result s.kept.reached makes))
+    (inr (accepts-reached s.history.recorded.config w (views_of s.cpus).waits c.args.cpu c.copied_command-command.result s.kept.reached makes))
 
 pub returns-in_default-reserve-clause-only_recorded : goal.returns-in_default-reserve-clause-only_recorded
 returns-in_default-reserve-clause-only_recorded c = records-commit (world_of c.args.self.now) c.args.cpu c.requires.ready
@@ -100,18 +100,18 @@ unfolding world_of world_from
 invariant_of-self-2-clause-kept c =
     let s = c.args.self.now in
     (committed s c.args.cpu c.requires.cpu c.step.new.cells c.step.new.side c.step.new.self c.come_to.new.self c.reserve.new.self.items
-    c.push_reserved.new.self.items c.config-config.result _ _ c.copied-command.result c.copied.result _ c.in-Ok-step.reply c.copied_reply.result
-    c.config-config.ensures (sym c.phase.ensures ∙ ap phase_in c.in-Deciding.is) c.copied-command.ensures c.in-Ok-step.ensures.ok c.come_to.ensures.views
-    c.reserve.ensures.items c.copied.ensures c.copied_reply.ensures c.push_reserved.ensures.items).kept
+    c.push_reserved.new.self.items c.config-config.result _ _ c.copied_command-command.result c.copied_command.result _ c.in-Ok-step.reply c.copied_reply.result
+    c.config-config.ensures (sym c.phase.ensures ∙ ap phase_in c.in-Deciding.is) c.copied_command-command.ensures c.in-Ok-step.ensures.ok c.come_to.ensures.views
+    c.reserve.ensures.items c.copied_command.ensures c.copied_reply.ensures c.push_reserved.ensures.items).kept
 
 pub returns-clause-turned : goal.returns-clause-turned
 unfolding world_of world_from
 returns-clause-turned c =
     let s = c.args.self.now in
     (committed s c.args.cpu c.requires.cpu c.step.new.cells c.step.new.side c.step.new.self c.come_to.new.self c.reserve.new.self.items
-    c.push_reserved.new.self.items c.config-config.result _ _ c.copied-command.result c.copied.result _ c.in-Ok-step.reply c.copied_reply.result
-    c.config-config.ensures (sym c.phase.ensures ∙ ap phase_in c.in-Deciding.is) c.copied-command.ensures c.in-Ok-step.ensures.ok c.come_to.ensures.views
-    c.reserve.ensures.items c.copied.ensures c.copied_reply.ensures c.push_reserved.ensures.items).turned
+    c.push_reserved.new.self.items c.config-config.result _ _ c.copied_command-command.result c.copied_command.result _ c.in-Ok-step.reply c.copied_reply.result
+    c.config-config.ensures (sym c.phase.ensures ∙ ap phase_in c.in-Deciding.is) c.copied_command-command.ensures c.in-Ok-step.ensures.ok c.come_to.ensures.views
+    c.reserve.ensures.items c.copied_command.ensures c.copied_reply.ensures c.push_reserved.ensures.items).turned
 
 pub returns-clause-waits : goal.returns-clause-waits
 unfolding waits_of
