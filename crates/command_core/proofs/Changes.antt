@@ -1,5 +1,5 @@
 -- What a change makes of what is held is what it makes of each whole that agrees: so what all of them answer is a local step.
-use Rattle.std.proofs.Common.{◌≡◌, ℕ, true, false, ◌==◌, List, Some, None, Result, Ok, Err, refl, sym, ap, ◌∙◌, subst, eqb-true, eq-eqb}
+use Rattle.std.proofs.Common.{◌≡◌, ℕ, Bool, true, false, ◌==◌, if◌then◌else◌, List, [], ◌∷◌, Some, None, Result, Ok, Err, refl, sym, ap, ◌∙◌, subst, eqb-true, eq-eqb}
 use Rattle.std.specs.Prelude.{IsTrue, Contains}
 use Rattle.std.specs.List.{AllByRecursion}
 use Rattle.std.proofs.lemmas.Bool.{false≢true, and_parts}
@@ -18,10 +18,9 @@ use Rattle.rmm_spec.specs.declared.tag.Tag.TheVariants as tag
 use Rattle.rmm_spec.specs.Applicable.{CanApply}
 use Rattle.rmm_spec.specs.Call.{call_of}
 use Rattle.rmm_spec.specs.Lookup.{has_tag, tag_number, is_granule}
-use Rattle.rmm_spec.specs.State.{RecRecord}
-use Rattle.rmm_spec.specs.Rows.{ok}
+use Rattle.rmm_spec.specs.Rows.{Row, decided, ok, done}
 use Rattle.rmm_spec.specs.Step.{Step, outcome}
-use Rattle.rmm_spec.specs.Cell.{Cell, Undelegated, Delegated, Rd, Rec, RecAux, Data, Rtt, put, tag_of}
+use Rattle.rmm_spec.specs.Cell.{Cell, Rec, RecAux, put, tag_of}
 use Rattle.rmm_spec.specs.Flat.{flat_state}
 use Rattle.rmm_spec.specs.Shape.{Outside, Inside, IsWellShaped}
 use Rattle.rmm_spec.specs.Local.{HeldCell, Hold, granules_held, put_all}
@@ -91,18 +90,11 @@ cells-changed granules cpu hold w (EntriesChanged rd level entries page realm re
 side-changed : (granules cpu : ℕ) (hold : Hold) (w : Whole granules cpu hold) (change : Change) → CanChange cpu hold change
     → side_changed w.cells hold.side change ≡ side_changed (known_cell hold.cells) hold.side change
 unfolding side_changed new_cells
-side-changed granules cpu hold w (RealmMade rd root width level vmid algo) fits = refl
 side-changed granules cpu hold w (RealmDestroyed rd root) fits =
     ap (λ c. side_without_vmid hold.side c) (same_at granules cpu hold w rd fits.held.0)
-side-changed granules cpu hold w (RecMade rd rec mpidr flags aux0 aux1) fits = refl
 side-changed granules cpu hold w (RecDestroyed rec aux0 aux1) fits =
     ap (λ c. side_without_rec hold.side c) (same_at granules cpu hold w rec fits.held.0)
-side-changed granules cpu hold w Unchanged fits = refl
-side-changed granules cpu hold w (Retagged change) fits = refl
-side-changed granules cpu hold w (RecordsChanged realm rec) fits = refl
-side-changed granules cpu hold w (TableMade rd level number rtt entry) fits = refl
-side-changed granules cpu hold w (TableDestroyed rd level number rtt entry) fits = refl
-side-changed granules cpu hold w (EntriesChanged rd level entries page realm rec) fits = refl
+side-changed granules cpu hold w _ fits = refl
 
 -- a place that is put in where it was
 same_place : (granules cpu : ℕ) (hold : Hold) (w : Whole granules cpu hold) → w.places ≡ put w.places cpu hold.place
@@ -111,32 +103,17 @@ same_place granules cpu hold w = sym (put-same w.places cpu hold.place w.placed)
 place-rec : (granules cpu : ℕ) (hold : Hold) (w : Whole granules cpu hold) (address : ℕ) (u : RecUpdate) (c : Cell) → w.cells address ≡ c
     → IsOnCpu cpu hold.place address u → places_of_rec w.places address u c ≡ put w.places cpu (place_with_rec hold.place address u c)
 place-rec granules cpu hold w address (update.Entered on) (Rec rec) is here = ap (λ x. put w.places x (Inside address rec.owner)) here
-place-rec granules cpu hold w address (update.Entered on) Undelegated is here = same_place granules cpu hold w
-place-rec granules cpu hold w address (update.Entered on) Delegated is here = same_place granules cpu hold w
-place-rec granules cpu hold w address (update.Entered on) (Rd realm) is here = same_place granules cpu hold w
-place-rec granules cpu hold w address (update.Entered on) RecAux is here = same_place granules cpu hold w
-place-rec granules cpu hold w address (update.Entered on) Data is here = same_place granules cpu hold w
-place-rec granules cpu hold w address (update.Entered on) (Rtt table) is here = same_place granules cpu hold w
+place-rec granules cpu hold w address (update.Entered on) _ is here = same_place granules cpu hold w
 place-rec granules cpu hold w address update.Exited c is here =
     let runs = (w.shaped.recs.inside cpu address here.0).0 (w.placed ∙ here.1) in
     let cell : c ≡ Rec runs.it = sym is ∙ rec_cell (w.cells address) runs.it runs.is_rec in
     subst (λ x. places_of_rec w.places address update.Exited x ≡ put w.places cpu Outside) (sym cell)
     (rw (runs.is_on) refl)
-place-rec granules cpu hold w address (update.RipasRequested base top ripas) c is here = same_place granules cpu hold w
-place-rec granules cpu hold w address (update.HostCalled imm) c is here = same_place granules cpu hold w
-place-rec granules cpu hold w address update.TurnedOff c is here = same_place granules cpu hold w
-place-rec granules cpu hold w address update.SystemTurnedOff c is here = same_place granules cpu hold w
-place-rec granules cpu hold w address (update.RequestMoved base) c is here = same_place granules cpu hold w
+place-rec granules cpu hold w address _ c is here = same_place granules cpu hold w
 
 places-changed : (granules cpu : ℕ) (hold : Hold) (w : Whole granules cpu hold) (change : Change) → CanChange cpu hold change
     → places_changed w.cells w.places change ≡ put w.places cpu (new_place hold.cells hold.place change)
 unfolding places_changed new_place new_cells
-places-changed granules cpu hold w Unchanged fits = same_place granules cpu hold w
-places-changed granules cpu hold w (Retagged change) fits = same_place granules cpu hold w
-places-changed granules cpu hold w (RealmMade rd root width level vmid algo) fits = same_place granules cpu hold w
-places-changed granules cpu hold w (RealmDestroyed rd root) fits = same_place granules cpu hold w
-places-changed granules cpu hold w (RecMade rd rec mpidr flags aux0 aux1) fits = same_place granules cpu hold w
-places-changed granules cpu hold w (RecDestroyed rec aux0 aux1) fits = same_place granules cpu hold w
 places-changed granules cpu hold w (RecordsChanged realm None) fits = same_place granules cpu hold w
 places-changed granules cpu hold w (RecordsChanged None (Some rec)) fits =
     let same = same_at granules cpu hold w rec.rec fits.held.0 in
@@ -149,6 +126,19 @@ places-changed granules cpu hold w (RecordsChanged (Some realm) (Some rec)) fits
 places-changed granules cpu hold w (TableMade rd level number rtt entry) fits = absurd fits.here
 places-changed granules cpu hold w (TableDestroyed rd level number rtt entry) fits = absurd fits.here
 places-changed granules cpu hold w (EntriesChanged rd level entries page realm rec) fits = absurd fits.here
+places-changed granules cpu hold w _ fits = same_place granules cpu hold w
+
+-- ---- answers
+
+-- what the rows refuse needs nothing of what is held
+pub can-done : (cpu : ℕ) (hold : Hold) (change : Change) (words : List ℕ) (rows : List Row) → CanChange cpu hold change → CanAnswer cpu hold (decided rows (done words change))
+can-done cpu hold change words [] can = can
+can-done cpu hold change words (first ∷ rows) can = by first.holds (can-done cpu hold change words rows can)
+  where
+    by : (b : Bool) → CanAnswer cpu hold (decided rows (done words change))
+        → CanAnswer cpu hold (if b then decided rows (done words change) else Err first.otherwise)
+    by true later = later
+    by false later = tt
 
 -- ---- local steps
 

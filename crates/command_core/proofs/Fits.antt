@@ -1,6 +1,6 @@
 -- A change that a whole can take is one that can be made of what is held, where its new cells are held.
-use Rattle.std.proofs.Common.{◌≡◌, ℕ, ◌*◌, ◌≤◌, true, false, ◌&&◌, ◌==◌, List, length, Option, Some, None, inl, inr, refl, sym, ap, ◌∙◌, subst, arith, eq-eqb}
-use Rattle.std.specs.Prelude.{IsTrue, is_some, nat_le, nat_lt, ◌%◌}
+use Rattle.std.proofs.Common.{◌≡◌, ℕ, ◌*◌, ◌≤◌, true, ◌&&◌, ◌==◌, List, length, Some, None, inl, inr, refl, sym, ap, ◌∙◌, subst, arith, eq-eqb}
+use Rattle.std.specs.Prelude.{IsTrue, nat_le, nat_lt, ◌%◌}
 use Rattle.std.proofs.lemmas.Bool.{false≢true, and_parts, and_from, ltb-true}
 use Rattle.std.proofs.lemmas.Bool.Decides.{nat_tests}
 use Rattle.rmm_spec.specs.declared.change.Change.{Change}
@@ -16,12 +16,12 @@ use Rattle.rmm_spec.specs.Applicable.{IsRealmUpdate, CanUpdateRec, CanRetag, Can
 use Rattle.rmm_spec.specs.State.{State, RealmRecord, RecRecord}
 use Rattle.rmm_spec.specs.Lookup.{tag_number, is_granule, has_tag, realm_at, rec_at}
 use Rattle.rmm_spec.specs.Step.Words.{is_space}
-use Rattle.rmm_spec.specs.Cell.{Cell, Undelegated, Delegated, Rd, Rec, RecAux, Data, Rtt, tag_of}
+use Rattle.rmm_spec.specs.Cell.{Cell, Rd, Rec, tag_of}
 use Rattle.rmm_spec.specs.Flat.{flat_state}
 use Rattle.rmm_spec.specs.Shape.{Side, CpuPlace}
 use Rattle.rmm_spec.specs.Local.{HeldCell, Hold}
 use Rattle.command_core.specs.Seen.{is_held, known_cell}
-use Rattle.command_core.specs.Changed.{hold_of, new_cells, is_plain, counts_in, is_realm_update, fits_realm, is_rec_update, fits_rec, fits_realm_change, fits_rec_change, fits_cells, can_count, can_make, CanMake, CanChange}
+use Rattle.command_core.specs.Changed.{hold_of, new_cells, is_plain, counts_in, is_realm_update, fits_realm, is_rec_update, fits_rec, fits_cells, can_count, can_make, CanMake, CanChange}
 use Rattle.command_core.proofs.Wholes.{Whole, state, same_at, few_recs, realm_at-cell, rec_at-cell}
 
 -- ---- updates

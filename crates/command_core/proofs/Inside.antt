@@ -1,14 +1,12 @@
 -- A command of a CPU inside a REC is answered from that REC and its realm, as they are held, as by every whole that agrees.
-use Rattle.std.proofs.Common.{◌≡◌, ℕ, Bool, true, false, not, ◌&&◌, ◌||◌, ◌==◌, if◌then◌else◌, List, [], ◌∷◌, Option, Some, Err, Result, refl, sym, ap, ◌∙◌, subst, eqb-true}
-use Rattle.std.specs.Prelude.{IsTrue, Contains, is_none, is_some}
+use Rattle.std.proofs.Common.{◌≡◌, ℕ, Bool, true, false, not, ◌&&◌, ◌||◌, ◌==◌, if◌then◌else◌, List, [], ◌∷◌, Some, Err, refl, sym, ap, ◌∙◌, subst, eqb-true}
+use Rattle.std.specs.Prelude.{is_none}
 use Rattle.std.proofs.lemmas.Bool.{false≢true, and_parts, or_parts, not-false}
-use Rattle.rmm_spec.specs.declared.accepted.Accepted.{Accepted}
 use Rattle.rmm_spec.specs.declared.call.Call.{Call}
 use Rattle.rmm_spec.specs.declared.call.Call.TheVariants as call
 use Rattle.rmm_spec.specs.declared.change.Change.TheVariants.{Unchanged, RecordsChanged}
 use Rattle.rmm_spec.specs.declared.change.RealmUpdate.TheVariants as realm_update
 use Rattle.rmm_spec.specs.declared.change.RecUpdate.TheVariants as rec_update
-use Rattle.rmm_spec.specs.declared.reply.Reply.{Reply}
 use Rattle.rmm_spec.specs.declared.reply.Reply.TheVariants as reply
 use Rattle.rmm_spec.specs.declared.tag.Tag.TheVariants as tag
 use Rattle.rmm_spec.specs.Call.{Class, ByHost, ByRealm, ByExit, class_of}
@@ -16,14 +14,15 @@ use Rattle.rmm_spec.specs.State.{State, RecRecord}
 use Rattle.rmm_spec.specs.Lookup.{is_granule, has_tag, realm_at, rec_at}
 use Rattle.rmm_spec.specs.Rows.{Needed}
 use Rattle.rmm_spec.specs.Step.Front.{with_front}
-use Rattle.rmm_spec.specs.Step.Named.{needed}
+use Rattle.rmm_spec.specs.Step.Words.{words_of}
+use Rattle.rmm_spec.specs.Step.Named.{needed, named}
 use Rattle.rmm_spec.specs.Step.RealmCall.{measurement_read, measurement_extend, realm_config, ipa_state_set, host_call, cpu_off, system_off, rec_exit, rec_change, realm_change, ripas_asked}
-use Rattle.rmm_spec.specs.Cell.{Cell, Undelegated, Delegated, Rd, Rec, RecAux, Data, Rtt, tag_of}
+use Rattle.rmm_spec.specs.Cell.{Cell, Rec, tag_of}
 use Rattle.rmm_spec.specs.Shape.{Inside}
 use Rattle.rmm_spec.specs.Local.{HeldCell, Hold}
 use Rattle.world_laws.proofs.Members.{Contains-head, Contains-tail}
 use Rattle.rec_steps.specs.Answers.{call_row}
-use Rattle.command_rows.specs.Answers.{IsInsideBy, realm_answer, class_answer, inside_answer}
+use Rattle.command_rows.specs.Answers.{IsInsideBy, class_answer, inside_answer}
 use Rattle.command_core.specs.Seen.{cell_in, is_held}
 use Rattle.command_core.specs.SeenState.{seen_state}
 use Rattle.command_core.specs.Served.{is_served}
@@ -31,8 +30,8 @@ use Rattle.command_core.specs.Changed.{new_cells, CanAnswer}
 use Rattle.command_core.specs.Named.{has_wrong}
 use Rattle.command_core.specs.Unshaped.{has_other_owner, is_misfit}
 use Rattle.command_core.specs.Settled.{is_settled_inside}
-use Rattle.command_core.proofs.Answered
-use Rattle.command_core.proofs.Answered.{can-done}
+use Rattle.command_core.proofs.Agreeing.{call_row-same}
+use Rattle.command_core.proofs.Changes.{can-done}
 use Rattle.command_core.proofs.Fronts.{named-cell}
 use Rattle.command_core.proofs.SeenStates.{realm-same, rec-same, tag-seen, rec-seen}
 use Rattle.command_core.proofs.Wholes.{Whole, state}
@@ -114,20 +113,6 @@ settled-inside granules rec rd held ByExit fits settled =
 
 -- ---- realm calls
 
--- a REC's call looks up the REC and its realm
-call_row-same : (s t : State) (rec : ℕ) (c : Call) → is_served c ≡ true → rec_at s rec ≡ rec_at t rec
-    → realm_at s (rec_at s rec).owner ≡ realm_at t (rec_at t rec).owner → call_row s rec c ≡ call_row t rec c
-unfolding call_row is_served
-call_row-same s t rec (call.MeasurementRead index) served same realm = Answered.measurement_read-same s t rec index realm
-call_row-same s t rec (call.MeasurementExtend index size values) served same realm = Answered.measurement_extend-same s t rec index size values same
-call_row-same s t rec call.RealmConfig served same realm = Answered.realm_config-same s t rec realm
-call_row-same s t rec (call.IpaStateSet base top ripas) served same realm = Answered.ipa_state_set-same s t rec base top ripas realm
-call_row-same s t rec (call.HostCall imm) served same realm = Answered.host_call-same s t rec imm
-call_row-same s t rec call.CpuOff served same realm = Answered.cpu_off-same s t rec
-call_row-same s t rec call.SystemOff served same realm = Answered.system_off-same s t rec same
-call_row-same s t rec (call.IpaStateGet ipa) served same realm = absurd (false≢true served)
-call_row-same s t rec _ served same realm = refl
-
 can-call : (cpu : ℕ) (hold : Hold) (s : State) (rec : ℕ) (c : Call) → is_served c ≡ true → is_held rec hold.cells ≡ true
     → is_held (rec_at s rec).owner hold.cells ≡ true → CanAnswer cpu hold (call_row s rec c)
 unfolding call_row is_served new_cells measurement_read measurement_extend realm_config ipa_state_set host_call cpu_off system_off
@@ -152,6 +137,10 @@ can-exit : (cpu : ℕ) (hold : Hold) (s : State) (rec rd : ℕ) → hold.place �
 unfolding rec_exit new_cells
 can-exit cpu hold s rec rd place held =
     can-done cpu hold (rec_change rec rec_update.Exited) _ (with_front s call.Exit _) (record { held = (held, tt); here = (rd, place) })
+
+rec_exit-same : (s t : State) (rec : ℕ) → rec_at s rec ≡ rec_at t rec → rec_exit s rec ≡ rec_exit t rec
+unfolding rec_exit words_of named
+rec_exit-same s t rec same = rw same refl
 
 -- ---- any command
 
@@ -201,4 +190,4 @@ fitting-told granules cpu hold rec rd c served place fits settled = record { can
         let realms = ap (λ (r : RecRecord). realm_at s r.owner) recs ∙ realm-same granules cpu hold w (rec_at t rec).owner (owner-held both) in
         let rows = call_row-same s t rec c served recs realms in
         λ i. if is_none (recs i).pending then rows i else Err reply.Misplaced
-    same w ByExit is = Answered.rec_exit-same (state granules cpu hold w) t rec (rec-same granules cpu hold w rec (rec-held is))
+    same w ByExit is = rec_exit-same (state granules cpu hold w) t rec (rec-same granules cpu hold w rec (rec-held is))

@@ -7,7 +7,7 @@ pub mod SeenTables
 pub mod Changes
 pub mod Rising
 pub mod Fronts
-pub mod Answered
+pub mod Agreeing
 pub mod Outside
 pub mod Inside
 pub mod Fits

@@ -13,7 +13,7 @@ use Rattle.rmm_spec.specs.Rows.{Needed}
 use Rattle.rmm_spec.specs.Table.{TableRecord, place_number}
 use Rattle.rmm_spec.specs.Walk.{table_size}
 use Rattle.rmm_spec.specs.Step.Named.{needed, named}
-use Rattle.rmm_spec.specs.Cell.{Cell, Undelegated, Delegated, Rd, Rec, RecAux, Data, Rtt, tag_of, is_aux, table_in, realm_in, rec_in, realms_of, tables_of}
+use Rattle.rmm_spec.specs.Cell.{Cell, Rd, Rec, RecAux, Rtt, tag_of, is_aux, table_in, realm_in, rec_in, realms_of, tables_of}
 use Rattle.rmm_spec.specs.Shape.{CpuPlace, Outside, Inside, HoldsTable}
 use Rattle.rmm_spec.specs.Local.{HeldCell, Hold}
 use Rattle.world_laws.proofs.Locals.{agrees-at}
@@ -92,12 +92,7 @@ root-none granules cpu hold w rd (Some (Rd realm)) found bad =
     other (Some (Rtt t)) root is =
         false≢true (sym (not-true (is_root_place rd realm t.place) is)
         ∙ root-placed granules cpu hold w rd realm t is_realm (ap table_in (whole_cell granules cpu hold w realm.root (Rtt t) root)))
-    other (Some Undelegated) root is = false≢true (no_table Undelegated root)
-    other (Some Delegated) root is = false≢true (no_table Delegated root)
-    other (Some (Rd x)) root is = false≢true (no_table (Rd x) root)
-    other (Some (Rec x)) root is = false≢true (no_table (Rec x) root)
-    other (Some RecAux) root is = false≢true (no_table RecAux root)
-    other (Some Data) root is = false≢true (no_table Data root)
+    other (Some c) root is = false≢true (no_table c root)
 
     by : (not (is_granule granules realm.root) ≡ true) ⊎ (is_other_root rd realm (cell_in realm.root hold.cells) ≡ true) → ⊥
     by (inl none) = no_granule granules cpu hold w realm.root (table_tag (w.cells realm.root) there) none

@@ -1,20 +1,19 @@
 -- A host's command of which all is held that its rows look up is answered from what is held as by every whole that agrees.
-use Rattle.std.proofs.Common.{◌≡◌, ℕ, Bool, true, false, ◌&&◌, ◌||◌, List, [], ◌∷◌, Option, Some, None, Result, refl, sym, ap, ◌∙◌, subst}
-use Rattle.std.specs.Prelude.{is_some, is_none}
+use Rattle.std.proofs.Common.{◌≡◌, ℕ, true, false, ◌&&◌, ◌||◌, List, [], ◌∷◌, Option, Some, None, Result, Err, zero, suc, refl, sym, ap, ◌∙◌, subst}
+use Rattle.std.specs.Prelude.{is_some, is_none, IfSome, slice_get}
 use Rattle.std.specs.List.{list_all}
 use Rattle.std.proofs.lemmas.Bool.{false≢true, and_parts}
 use Rattle.rmm_spec.specs.declared.accepted.Accepted.{Accepted}
 use Rattle.rmm_spec.specs.declared.call.Call.{Call}
 use Rattle.rmm_spec.specs.declared.call.Call.TheVariants as call
-use Rattle.rmm_spec.specs.declared.change.Change.TheVariants.{Retagged, RealmMade, RealmDestroyed, RecMade, RecDestroyed}
-use Rattle.rmm_spec.specs.declared.change.RealmUpdate.TheVariants.{Activated}
+use Rattle.rmm_spec.specs.declared.change.Change.TheVariants.{RealmDestroyed, RecDestroyed}
 use Rattle.rmm_spec.specs.declared.change.RecUpdate.TheVariants.{Entered}
 use Rattle.rmm_spec.specs.declared.reply.Reply.{Reply}
 use Rattle.rmm_spec.specs.declared.tag.Tag.TheVariants as tag
 use Rattle.rmm_spec.specs.Call.{ByHost, class_of}
 use Rattle.rmm_spec.specs.State.{State, RealmRecord, RecRecord}
-use Rattle.rmm_spec.specs.Lookup.{is_granule, realm_at, rec_at, is_vmid_used, has_rec}
-use Rattle.rmm_spec.specs.Rows.{Needed}
+use Rattle.rmm_spec.specs.Lookup.{is_granule, has_tag, realm_at, rec_at, is_vmid_used, has_rec}
+use Rattle.rmm_spec.specs.Rows.{Needed, rec_error}
 use Rattle.rmm_spec.specs.Walk.{has_link}
 use Rattle.rmm_spec.specs.Step.{answer_of}
 use Rattle.rmm_spec.specs.Step.Front.{with_front}
@@ -23,7 +22,7 @@ use Rattle.rmm_spec.specs.Step.Named.{named}
 use Rattle.rmm_spec.specs.Step.Granule.{granule_delegate, granule_undelegate}
 use Rattle.rmm_spec.specs.Step.Realm.{realm_activate}
 use Rattle.rmm_spec.specs.Step.Rec.{rec_create, rec_destroy, rec_enter}
-use Rattle.rmm_spec.specs.Step.RealmCall.{rec_change, realm_change}
+use Rattle.rmm_spec.specs.Step.RealmCall.{rec_change}
 use Rattle.rmm_spec.specs.Cell.{Cell, Rd, Rec, Rtt, table_in, tables_of, realm_in}
 use Rattle.rmm_spec.specs.Shape.{HoldsTable}
 use Rattle.rmm_spec.specs.Local.{HeldCell, Hold}
@@ -35,8 +34,8 @@ use Rattle.command_core.specs.Served.{is_served}
 use Rattle.command_core.specs.Changed.{new_cells, CanAnswer}
 use Rattle.command_core.specs.Named.{words_fit, holds_all}
 use Rattle.command_core.specs.Settled.{is_root_held, are_auxes_held, is_realm_in, is_owner_held, is_complete}
-use Rattle.command_core.proofs.Answered
-use Rattle.command_core.proofs.Answered.{can-done}
+use Rattle.command_core.proofs.Agreeing.{entered, rooted, SameOwner, SameRoot, SameLookUps, outside_answer-same}
+use Rattle.command_core.proofs.Changes.{can-done}
 use Rattle.command_core.proofs.SeenStates.{tag-same, realm-same, rec-same, tag-seen, rec-seen, realm-seen}
 use Rattle.command_core.proofs.SeenTables.{table_cell, links-same}
 use Rattle.command_core.proofs.Wholes.{Whole, state, whole_cell, realm_at-cell, has_rec-counted, is_vmid_used-listed}
@@ -55,38 +54,42 @@ held_by held g c found = ap (λ (o : Option Cell). is_some o) found
 
 -- ---- named granules that are held
 
-delegate-held : (held : List HeldCell) (g : ℕ) → holds_all (named (call.GranuleDelegate g)) held ≡ true → is_held g held ≡ true
-unfolding holds_all named
-delegate-held held g all = (and_parts (is_held g held) true all).0
+-- what holds of each granule that is held holds of each that is named, at any place of the list
+each-named : (held : List HeldCell) (Q : Needed → Type 0) → ((n : Needed) → is_held n.granule held ≡ true → Q n)
+    → (names : List Needed) → holds_all names held ≡ true → (k : ℕ) → IfSome (slice_get names k) Q
+unfolding holds_all
+each-named held Q each [] all k = tt
+each-named held Q each (n ∷ names) all zero = each n (and_parts (is_held n.granule held) (holds_all names held) all).0
+each-named held Q each (n ∷ names) all (suc k) = each-named held Q each names (and_parts (is_held n.granule held) (holds_all names held) all).1 k
 
-undelegate-held : (held : List HeldCell) (g : ℕ) → holds_all (named (call.GranuleUndelegate g)) held ≡ true → is_held g held ≡ true
-unfolding holds_all named
-undelegate-held held g all = (and_parts (is_held g held) true all).0
+held-at : (held : List HeldCell) (c : Call) → holds_all (named c) held ≡ true → (k : ℕ)
+    → IfSome (slice_get (named c) k) (λ (n : Needed). is_held n.granule held ≡ true)
+held-at held c = each-named held (λ n. is_held n.granule held ≡ true) (λ n is. is) (named c)
 
-activate-held : (held : List HeldCell) (rd : ℕ) → holds_all (named (call.RealmActivate rd)) held ≡ true → is_held rd held ≡ true
-unfolding holds_all named
-activate-held held rd all = (and_parts (is_held rd held) true all).0
+-- ---- what is looked up
 
-realm_create-held : (held : List HeldCell) (rd root width level vmid algo : ℕ) → holds_all (named (call.RealmCreate rd root width level vmid algo)) held ≡ true
-    → (is_held rd held ≡ true) × (is_held root held ≡ true)
-unfolding holds_all named
-realm_create-held held rd root width level vmid algo all =
-    let first = and_parts (is_held rd held) (is_held root held && true) all in (first.0, (and_parts (is_held root held) true first.1).0)
+-- a whole and what is held agree on what is named, where all that is named is held
+agreeing : (granules cpu : ℕ) (hold : Hold) (w : Whole granules cpu hold) (c : Call) → holds_all (named c) hold.cells ≡ true
+    → SameOwner (state granules cpu hold w) (seen_state granules hold.cells) (entered c)
+    → SameRoot (state granules cpu hold w) (seen_state granules hold.cells) (rooted c)
+    → SameLookUps (state granules cpu hold w) (seen_state granules hold.cells) c
+agreeing granules cpu hold w c all owner root =
+    let s : State = state granules cpu hold w in
+    let t : State = seen_state granules hold.cells in record {
+      tags = each-named hold.cells (λ n. has_tag s n.granule n.tag ≡ has_tag t n.granule n.tag) (λ n. tag-same granules cpu hold w n.granule n.tag) (named c) all;
+      realms = each-named hold.cells (λ n. realm_at s n.granule ≡ realm_at t n.granule) (λ n. realm-same granules cpu hold w n.granule) (named c) all;
+      recs = each-named hold.cells (λ n. rec_at s n.granule ≡ rec_at t n.granule) (λ n. rec-same granules cpu hold w n.granule) (named c) all;
+      owner = owner;
+      root = root;
+    }
 
-record RecParts (held : List HeldCell) (rd rec aux0 aux1 : ℕ) : Type 0 where
-  of_rd : is_held rd held ≡ true
-  of_rec : is_held rec held ≡ true
-  of_aux0 : is_held aux0 held ≡ true
-  of_aux1 : is_held aux1 held ≡ true
-
-rec_create-held : (held : List HeldCell) (rd rec mpidr flags aux0 aux1 : ℕ) → holds_all (named (call.RecCreate rd rec mpidr flags aux0 aux1)) held ≡ true
-    → RecParts held rd rec aux0 aux1
-unfolding holds_all named
-rec_create-held held rd rec mpidr flags aux0 aux1 all =
-    let first = and_parts (is_held rd held) (is_held rec held && (is_held aux0 held && (is_held aux1 held && true))) all in
-    let second = and_parts (is_held rec held) (is_held aux0 held && (is_held aux1 held && true)) first.1 in
-    let third = and_parts (is_held aux0 held) (is_held aux1 held && true) second.1 in
-    record { of_rd = first.0; of_rec = second.0; of_aux0 = third.0; of_aux1 = (and_parts (is_held aux1 held) true third.1).0 }
+-- what they agree on they answer alike
+told-same : (granules cpu : ℕ) (hold : Hold) (w : Whole granules cpu hold) (c : Call) → is_served c ≡ true
+    → SameLookUps (state granules cpu hold w) (seen_state granules hold.cells) c
+    → outside_answer (is_vmid_used (state granules cpu hold w)) (has_rec (state granules cpu hold w)) (state granules cpu hold w) cpu c ≡ told_outside granules cpu hold c
+told-same granules cpu hold w c served same =
+    (λ i. outside_answer (λ vmid. is_vmid_used-listed granules cpu hold w vmid i) (λ rd. has_rec-counted granules cpu hold w rd i) (state granules cpu hold w) cpu c)
+    ∙ outside_answer-same (is_vmid_listed hold.side) (are_recs_counted hold.side) (state granules cpu hold w) (seen_state granules hold.cells) cpu c served same
 
 -- ---- a named granule is one
 
@@ -126,7 +129,7 @@ root-linked granules cpu hold w rd realm found held = by (cell_in realm.root hol
 
 realm_destroy-told : (granules cpu : ℕ) (hold : Hold) (rd : ℕ) → is_granule granules rd ≡ true → (o : Option Cell) → cell_in rd hold.cells ≡ o
     → is_root_held o hold.cells ≡ true → IsToldOutside granules cpu hold (call.RealmDestroy rd)
-unfolding outside_answer new_cells
+unfolding outside_answer new_cells is_served named holds_all entered rooted
 realm_destroy-told granules cpu hold rd granule (Some (Rd realm)) found root = record {
   can = can-done cpu hold (RealmDestroyed rd (realm_at (seen_state granules hold.cells) rd).root) _ (with_front (seen_state granules hold.cells) (call.RealmDestroy rd) _)
       (record { held = (held, (subst (λ (r : RealmRecord). is_held r.root hold.cells ≡ true) (sym seen) root, tt)); here = tt });
@@ -134,10 +137,10 @@ realm_destroy-told granules cpu hold rd granule (Some (Rd realm)) found root = r
       let s = state granules cpu hold w in
       let t = seen_state granules hold.cells in
       let of_whole : realm_at s rd ≡ realm = realm_at-cell granules w.cells rd realm (whole_cell granules cpu hold w rd (Rd realm) found) in
-      Answered.realm_destroy-same s t rd (has_rec s rd) (are_recs_counted hold.side rd) (tag-same granules cpu hold w rd tag.Rd held) (has_rec-counted granules cpu hold w rd)
+      told-same granules cpu hold w (call.RealmDestroy rd) refl
+      (agreeing granules cpu hold w (call.RealmDestroy rd) (ap (λ b. b && true) held) tt
       (ap (λ (r : RealmRecord). has_link s rd r.start_level 0) of_whole
-      ∙ (root-linked granules cpu hold w rd realm found root ∙ sym (ap (λ (r : RealmRecord). has_link t rd r.start_level 0) seen)))
-      (realm-same granules cpu hold w rd held);
+      ∙ (root-linked granules cpu hold w rd realm found root ∙ sym (ap (λ (r : RealmRecord). has_link t rd r.start_level 0) seen))));
 }
   where
     held : is_held rd hold.cells ≡ true
@@ -149,6 +152,10 @@ realm_destroy-told granules cpu hold rd granule _ found root = absurd (false≢t
 
 -- ---- a REC, its two others and its realm
 
+rec_destroy-running : (s : State) (rec : ℕ) → has_tag s rec tag.Rec ≡ true → is_none (rec_at s rec).cpu ≡ false → rec_destroy s rec ≡ Err rec_error
+unfolding rec_destroy words_of named
+rec_destroy-running s rec tag running = rw (tag, running) refl
+
 rec_destroy-can : (cpu : ℕ) (hold : Hold) (s : State) (rec : ℕ) → is_held rec hold.cells ≡ true → is_held (rec_at s rec).aux0 hold.cells ≡ true
     → is_held (rec_at s rec).aux1 hold.cells ≡ true → CanAnswer cpu hold (rec_destroy s rec)
 unfolding rec_destroy new_cells
@@ -157,11 +164,11 @@ rec_destroy-can cpu hold s rec held aux0 aux1 =
 
 rec_destroy-told : (granules cpu : ℕ) (hold : Hold) (rec : ℕ) → is_granule granules rec ≡ true → (o : Option Cell) → cell_in rec hold.cells ≡ o
     → are_auxes_held o hold.cells ≡ true → IsToldOutside granules cpu hold (call.RecDestroy rec)
-unfolding outside_answer answer_of class_of
+unfolding outside_answer answer_of class_of is_served named holds_all entered rooted
 rec_destroy-told granules cpu hold rec granule (Some (Rec it)) found auxes = record {
   can = by it.cpu refl auxes;
-  same = λ w. Answered.rec_destroy-same (state granules cpu hold w) (seen_state granules hold.cells) rec
-      (tag-same granules cpu hold w rec tag.Rec held) (rec-same granules cpu hold w rec held);
+  same = λ w. told-same granules cpu hold w (call.RecDestroy rec) refl
+      (agreeing granules cpu hold w (call.RecDestroy rec) (ap (λ b. b && true) held) tt tt);
 }
   where
     held : is_held rec hold.cells ≡ true
@@ -174,7 +181,7 @@ rec_destroy-told granules cpu hold rec granule (Some (Rec it)) found auxes = rec
         → CanAnswer cpu hold (rec_destroy (seen_state granules hold.cells) rec)
     by (Some on) runs is =
         subst (CanAnswer cpu hold)
-        (sym (Answered.rec_destroy-running (seen_state granules hold.cells) rec (tag-seen granules hold.cells rec (Rec it) tag.Rec granule found refl)
+        (sym (rec_destroy-running (seen_state granules hold.cells) rec (tag-seen granules hold.cells rec (Rec it) tag.Rec granule found refl)
         (ap (λ (r : RecRecord). is_none r.cpu) seen ∙ ap (λ (o : Option ℕ). is_none o) runs)))
         tt
     by None none is =
@@ -190,16 +197,16 @@ realm-held None is = absurd (false≢true is)
 
 rec_enter-told : (granules cpu : ℕ) (hold : Hold) (rec : ℕ) → is_granule granules rec ≡ true → (o : Option Cell) → cell_in rec hold.cells ≡ o
     → is_owner_held o hold.cells ≡ true → IsToldOutside granules cpu hold (call.RecEnter rec)
-unfolding outside_answer answer_of class_of rec_enter new_cells
+unfolding outside_answer answer_of class_of rec_enter new_cells is_served named holds_all entered rooted
 rec_enter-told granules cpu hold rec granule (Some (Rec it)) found owner = record {
   can = can-done cpu hold (rec_change rec (Entered cpu)) _ (with_front (seen_state granules hold.cells) (call.RecEnter rec) _) (record { held = (held, tt); here = refl });
   same = λ w.
       let s = state granules cpu hold w in
       let t = seen_state granules hold.cells in
-      let same = rec-same granules cpu hold w rec held in
-      Answered.rec_enter-same s t cpu rec (tag-same granules cpu hold w rec tag.Rec held) same
-      (ap (λ (r : RecRecord). realm_at s r.owner) (same ∙ seen)
-      ∙ (realm-same granules cpu hold w it.owner (realm-held (cell_in it.owner hold.cells) owner) ∙ sym (ap (λ (r : RecRecord). realm_at t r.owner) seen)));
+      told-same granules cpu hold w (call.RecEnter rec) refl
+      (agreeing granules cpu hold w (call.RecEnter rec) (ap (λ b. b && true) held)
+      (ap (λ (r : RecRecord). realm_at s r.owner) (rec-same granules cpu hold w rec held ∙ seen)
+      ∙ (realm-same granules cpu hold w it.owner (realm-held (cell_in it.owner hold.cells) owner) ∙ sym (ap (λ (r : RecRecord). realm_at t r.owner) seen))) tt);
 }
   where
     held : is_held rec hold.cells ≡ true
@@ -211,50 +218,48 @@ rec_enter-told granules cpu hold rec granule _ found owner = absurd (false≢tru
 
 -- ---- any command
 
+-- where all that is named is held, and nothing else is looked up or changed
+named-told : (granules cpu : ℕ) (hold : Hold) (c : Call) → is_served c ≡ true → holds_all (named c) hold.cells ≡ true → entered c ≡ None → rooted c ≡ None
+    → CanAnswer cpu hold (told_outside granules cpu hold c) → IsToldOutside granules cpu hold c
+named-told granules cpu hold c served all no_owner no_root can = record {
+  can = can;
+  same = λ w.
+      let s = state granules cpu hold w in
+      let t = seen_state granules hold.cells in
+      told-same granules cpu hold w c served
+      (agreeing granules cpu hold w c all (subst (SameOwner s t) (sym no_owner) tt) (subst (SameRoot s t) (sym no_root) tt));
+}
+
 pub complete-told : (granules cpu : ℕ) (hold : Hold) (c : Call) → is_served c ≡ true → class_of c ≡ ByHost → words_fit granules c ≡ true
     → is_complete c hold.cells ≡ true → IsToldOutside granules cpu hold c
-unfolding is_served class_of is_complete outside_answer answer_of granule_delegate granule_undelegate realm_activate rec_create new_cells
-complete-told granules cpu hold (call.GranuleDelegate g) served host fits complete =
-    let held = delegate-held hold.cells g complete in record {
-      can = can-done cpu hold (Retagged (record { granule = g; tag = tag.Delegated })) _ (with_front (seen_state granules hold.cells) (call.GranuleDelegate g) _)
-          (record { held = (held, tt); here = tt });
-      same = λ w. Answered.granule_delegate-same (state granules cpu hold w) (seen_state granules hold.cells) g (tag-same granules cpu hold w g tag.Undelegated held);
-    }
-complete-told granules cpu hold (call.GranuleUndelegate g) served host fits complete =
-    let held = undelegate-held hold.cells g complete in record {
-      can = can-done cpu hold (Retagged (record { granule = g; tag = tag.Undelegated })) _ (with_front (seen_state granules hold.cells) (call.GranuleUndelegate g) _)
-          (record { held = (held, tt); here = tt });
-      same = λ w. Answered.granule_undelegate-same (state granules cpu hold w) (seen_state granules hold.cells) g (tag-same granules cpu hold w g tag.Delegated held);
-    }
-complete-told granules cpu hold (call.RealmActivate rd) served host fits complete =
-    let held = activate-held hold.cells rd complete in record {
-      can = can-done cpu hold (realm_change rd Activated) _ (with_front (seen_state granules hold.cells) (call.RealmActivate rd) _)
-          (record { held = (held, tt); here = tt });
-      same = λ w. Answered.realm_activate-same (state granules cpu hold w) (seen_state granules hold.cells) rd
-          (tag-same granules cpu hold w rd tag.Rd held) (realm-same granules cpu hold w rd held);
-    }
-complete-told granules cpu hold (call.RealmCreate rd root width level vmid algo) served host fits complete =
-    let held = realm_create-held hold.cells rd root width level vmid algo complete in record {
-      can = can-done cpu hold (RealmMade rd root width level vmid algo) _ (with_front (seen_state granules hold.cells) (call.RealmCreate rd root width level vmid algo) _)
-          (record { held = (held.0, (held.1, tt)); here = tt });
-      same = λ w. Answered.realm_create-same (state granules cpu hold w) (seen_state granules hold.cells) rd root width level vmid algo
-          (is_vmid_used (state granules cpu hold w) vmid) (is_vmid_listed hold.side vmid)
-          (tag-same granules cpu hold w rd tag.Delegated held.0) (tag-same granules cpu hold w root tag.Delegated held.1)
-          (is_vmid_used-listed granules cpu hold w vmid);
-    }
-complete-told granules cpu hold (call.RecCreate rd rec mpidr flags aux0 aux1) served host fits complete =
-    let held = rec_create-held hold.cells rd rec mpidr flags aux0 aux1 complete in record {
-      can = can-done cpu hold (RecMade rd rec mpidr flags aux0 aux1) _ (with_front (seen_state granules hold.cells) (call.RecCreate rd rec mpidr flags aux0 aux1) _)
-          (record { held = (held.of_rec, (held.of_aux0, (held.of_aux1, (held.of_rd, tt)))); here = tt });
-      same = λ w. Answered.rec_create-same (state granules cpu hold w) (seen_state granules hold.cells) rd rec mpidr flags aux0 aux1
-          (tag-same granules cpu hold w rd tag.Rd held.of_rd) (tag-same granules cpu hold w rec tag.Delegated held.of_rec)
-          (tag-same granules cpu hold w aux0 tag.Delegated held.of_aux0) (tag-same granules cpu hold w aux1 tag.Delegated held.of_aux1)
-          (realm-same granules cpu hold w rd held.of_rd);
-    }
+unfolding is_served class_of is_complete outside_answer answer_of granule_delegate granule_undelegate realm_activate rec_create new_cells named entered rooted
 complete-told granules cpu hold (call.RealmDestroy rd) served host fits complete =
     realm_destroy-told granules cpu hold rd (realm_destroy-granule granules rd fits) (cell_in rd hold.cells) refl complete
 complete-told granules cpu hold (call.RecDestroy rec) served host fits complete =
     rec_destroy-told granules cpu hold rec (rec_destroy-granule granules rec fits) (cell_in rec hold.cells) refl complete
 complete-told granules cpu hold (call.RecEnter rec) served host fits complete =
     rec_enter-told granules cpu hold rec (rec_enter-granule granules rec fits) (cell_in rec hold.cells) refl complete
+complete-told granules cpu hold (call.GranuleDelegate g) served host fits complete =
+    let c = call.GranuleDelegate g in
+    named-told granules cpu hold c served complete refl refl
+    (can-done cpu hold _ _ (with_front (seen_state granules hold.cells) c _) (record { held = (held-at hold.cells c complete 0, tt); here = tt }))
+complete-told granules cpu hold (call.GranuleUndelegate g) served host fits complete =
+    let c = call.GranuleUndelegate g in
+    named-told granules cpu hold c served complete refl refl
+    (can-done cpu hold _ _ (with_front (seen_state granules hold.cells) c _) (record { held = (held-at hold.cells c complete 0, tt); here = tt }))
+complete-told granules cpu hold (call.RealmActivate rd) served host fits complete =
+    let c = call.RealmActivate rd in
+    named-told granules cpu hold c served complete refl refl
+    (can-done cpu hold _ _ (with_front (seen_state granules hold.cells) c _) (record { held = (held-at hold.cells c complete 0, tt); here = tt }))
+complete-told granules cpu hold (call.RealmCreate rd root width level vmid algo) served host fits complete =
+    let c = call.RealmCreate rd root width level vmid algo in
+    let at = held-at hold.cells c complete in
+    named-told granules cpu hold c served complete refl refl
+    (can-done cpu hold _ _ (with_front (seen_state granules hold.cells) c _) (record { held = (at 0, (at 1, tt)); here = tt }))
+complete-told granules cpu hold (call.RecCreate rd rec mpidr flags aux0 aux1) served host fits complete =
+    let c = call.RecCreate rd rec mpidr flags aux0 aux1 in
+    let at = held-at hold.cells c complete in
+    named-told granules cpu hold c served complete refl refl
+    (can-done cpu hold _ _ (with_front (seen_state granules hold.cells) c _)
+    (record { held = (at 1, (at 2, (at 3, (at 0, tt)))); here = tt }))
 complete-told granules cpu hold _ served host fits complete = absurd cc

@@ -1,5 +1,5 @@
 -- Cells in a list of their own: where one is found, and what the list is with another in its place or one more.
-use Rattle.std.proofs.Common.{◌≡◌, ℕ, zero, suc, ◌<◌, ◌≤◌, Bool, true, false, not, ◌&&◌, ◌||◌, ◌==◌, cond, ltb, if◌then◌else◌, List, [], ◌∷◌, ◌++◌, map, length, get_or, position, Option, Some, None, refl, sym, ap, ◌∙◌, subst, arith, eqb-true}
+use Rattle.std.proofs.Common.{◌≡◌, ℕ, zero, suc, ◌<◌, ◌≤◌, Bool, true, false, not, ◌||◌, ◌==◌, cond, ltb, if◌then◌else◌, List, [], ◌∷◌, ◌++◌, map, length, get_or, position, Some, None, refl, sym, ap, ◌∙◌, subst, arith, eqb-true}
 use Rattle.std.specs.Prelude.{IsTrue, is_some, slice_set}
 use Rattle.std.specs.List.{list_any, position_or_len}
 use Rattle.std.proofs.lemmas.Bool.{false≢true, and_parts, and_from, not-true}

@@ -5,7 +5,6 @@ use Rattle.rmm_spec.specs.declared.accepted.Accepted.{Accepted}
 use Rattle.rmm_spec.specs.declared.accepted.Accepted.TheVariants.{Done, Reaches}
 use Rattle.rmm_spec.specs.declared.call.Call.{Call}
 use Rattle.rmm_spec.specs.declared.call.Call.TheVariants as call
-use Rattle.rmm_spec.specs.declared.change.Change.{Change}
 use Rattle.rmm_spec.specs.declared.change.Change.TheVariants.{Unchanged}
 use Rattle.rmm_spec.specs.declared.command.Command.{Command}
 use Rattle.rmm_spec.specs.declared.reply.Reply.{Reply}
@@ -15,11 +14,11 @@ use Rattle.rmm_spec.specs.State.{State}
 use Rattle.rmm_spec.specs.Rows.{input_error}
 use Rattle.rmm_spec.specs.Step.{outcome}
 use Rattle.rmm_spec.specs.Step.Named.{named}
-use Rattle.rmm_spec.specs.Shape.{Side, CpuPlace, Outside, Inside}
+use Rattle.rmm_spec.specs.Shape.{CpuPlace, Outside, Inside}
 use Rattle.rmm_spec.specs.Local.{HeldCell, Hold, LocalStep}
 use Rattle.rmm_sound.proofs.Runs.{done_applies}
 use Rattle.world_laws.proofs.Placed.{is_inside-outside, is_inside-inside}
-use Rattle.world_laws.proofs.Refusals.{inside-is_local, outside-is_local}
+use Rattle.world_laws.proofs.Refusals.{outside-is_local}
 use Rattle.shape_laws.specs.Whole.{side_changed}
 use Rattle.shape_laws.proofs.Ties.{well_shaped-is_sound}
 use Rattle.command_rows.specs.Answers.{host_answer, outside_answer, inside_answer}
@@ -27,7 +26,7 @@ use Rattle.command_rows.proofs.Outcomes.{outcome-outside, outcome-inside}
 use Rattle.command_core.specs.SeenState.{seen_state}
 use Rattle.command_core.specs.Sides.{is_vmid_listed, are_recs_counted}
 use Rattle.command_core.specs.Served.{is_served}
-use Rattle.command_core.specs.Changed.{new_cells, new_place, hold_of, hold_changed, CanAnswer, Answers, IsAnswer, can_make, CanMakeAnswer}
+use Rattle.command_core.specs.Changed.{new_cells, new_place, hold_changed, CanAnswer, Answers, IsAnswer, can_make, CanMakeAnswer}
 use Rattle.command_core.specs.Named.{has_wrong, words_fit}
 use Rattle.command_core.specs.Unshaped.{is_misfit, is_unshaped_outside, is_unshaped}
 use Rattle.command_core.specs.Settled.{is_complete, is_settled_outside, is_settled_inside, is_settled}

@@ -8,7 +8,7 @@ use Rattle.std.proofs.lemmas.Option.{none-some, same_Some}
 use Rattle.rmm_spec.specs.declared.tag.Tag.{Tag}
 use Rattle.rmm_spec.specs.Lookup.{tag_number, is_granule}
 use Rattle.rmm_spec.specs.Rows.{Needed}
-use Rattle.rmm_spec.specs.Cell.{Cell, Undelegated, Delegated, Rd, Rec, RecAux, Data, Rtt, tag_of, is_data}
+use Rattle.rmm_spec.specs.Cell.{Cell, Rd, Rec, tag_of, is_data}
 use Rattle.rmm_spec.specs.Local.{HeldCell, granules_held}
 use Rattle.rmm_spec.specs.Locks.{is_named, names_part, depth, IsStray, IsRisingTake}
 use Rattle.rmm_spec.proofs.TagLaws.{tag_number-injective}
@@ -186,11 +186,7 @@ named_part : (above : Option Cell) (next : ℕ) → has_part above next ≡ true
 named_part None next part = absurd (false≢true part)
 named_part (Some (Rd realm)) next part = (Rd realm, refl, part, refl)
 named_part (Some (Rec rec)) next part = (Rec rec, refl, part, refl)
-named_part (Some Undelegated) next part = absurd (false≢true part)
-named_part (Some Delegated) next part = absurd (false≢true part)
-named_part (Some RecAux) next part = absurd (false≢true part)
-named_part (Some Data) next part = absurd (false≢true part)
-named_part (Some (Rtt table)) next part = absurd (false≢true part)
+named_part (Some _) next part = absurd (false≢true part)
 
 -- what isn't named is an auxiliary granule of the REC above
 aux_stray : (held : List HeldCell) (above : ℕ) (o : Option Cell) → cell_in above held ≡ o → (h : HeldCell) (b : Bool) → b ≡ false
@@ -199,12 +195,7 @@ aux_stray held above o is h true unnamed part = absurd (false≢true (sym unname
 aux_stray held above None is h false unnamed part = absurd (false≢true part)
 aux_stray held above (Some (Rec rec)) is h false unnamed part =
     record { is_part = inr (held_at above (Rec rec), rec, found-contains held above (Rec rec) is, refl, part) }
-aux_stray held above (Some (Rd realm)) is h false unnamed part = absurd (false≢true part)
-aux_stray held above (Some Undelegated) is h false unnamed part = absurd (false≢true part)
-aux_stray held above (Some Delegated) is h false unnamed part = absurd (false≢true part)
-aux_stray held above (Some RecAux) is h false unnamed part = absurd (false≢true part)
-aux_stray held above (Some Data) is h false unnamed part = absurd (false≢true part)
-aux_stray held above (Some (Rtt table)) is h false unnamed part = absurd (false≢true part)
+aux_stray held above (Some _) is h false unnamed part = absurd (false≢true part)
 
 pub downward-rises : (granules : ℕ) (names : List Needed) (held : List HeldCell) (above next : ℕ) → IsTrue (are_distinct (granules_held held))
     → is_downward granules names held above next ≡ true → IsRisingTake granules names held next

@@ -1,11 +1,11 @@
 -- What the held cells tell of tags, realms and RECs is what each whole has that agrees with them.
 use Rattle.std.proofs.Common.{◌≡◌, ℕ, Bool, true, false, ◌&&◌, ◌==◌, if◌then◌else◌, List, Some, refl, ap, ◌∙◌, eq-eqb}
-use Rattle.std.specs.Prelude.{IsTrue, is_some, unwrap_or}
+use Rattle.std.specs.Prelude.{IsTrue, unwrap_or}
 use Rattle.std.proofs.lemmas.Bool.{and_from}
 use Rattle.rmm_spec.specs.declared.tag.Tag.{Tag}
 use Rattle.rmm_spec.specs.State.{RealmRecord, RecRecord}
 use Rattle.rmm_spec.specs.Lookup.{tag_number, is_granule, has_tag, realm_at, rec_at, no_realm, no_rec}
-use Rattle.rmm_spec.specs.Cell.{Cell, Undelegated, Delegated, Rd, Rec, RecAux, Data, Rtt, tag_of, realm_in, rec_in}
+use Rattle.rmm_spec.specs.Cell.{Cell, Undelegated, Rd, Rec, tag_of, realm_in, rec_in}
 use Rattle.rmm_spec.specs.Flat.{flat_state}
 use Rattle.rmm_spec.specs.Local.{HeldCell, Hold}
 use Rattle.command_core.specs.Seen.{cell_in, is_held, known_cell}

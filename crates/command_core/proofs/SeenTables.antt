@@ -1,6 +1,6 @@
 -- What a held table tells of entries and links is what each whole has that agrees with it.
-use Rattle.std.proofs.Common.{◌≡◌, ℕ, zero, suc, ◌+◌, ◌-◌, ◌*◌, ◌/◌, ◌%◌, ◌<◌, Bool, true, false, ◌&&◌, ◌==◌, if◌then◌else◌, List, [], ◌∷◌, get_or, length, Option, Some, None, nat_lt, refl, sym, ap, ◌∙◌, subst, arith, add-one}
-use Rattle.std.specs.Prelude.{IsTrue, Contains, is_some, slice_get, unwrap_or}
+use Rattle.std.proofs.Common.{◌≡◌, ℕ, zero, suc, ◌+◌, ◌-◌, ◌*◌, ◌/◌, ◌%◌, ◌<◌, Bool, true, false, ◌&&◌, ◌==◌, if◌then◌else◌, List, [], ◌∷◌, get_or, length, Option, Some, None, nat_lt, refl, sym, ap, ◌∙◌, arith}
+use Rattle.std.specs.Prelude.{IsTrue, Contains, is_some, slice_get}
 use Rattle.std.specs.List.{fold}
 use Rattle.std.specs.Option.{option_and_then}
 use Rattle.std.proofs.lemmas.Bool.{false≢true}
@@ -8,20 +8,20 @@ use Rattle.std.proofs.lemmas.Bool.Decides.{nat_tests}
 use Rattle.std.proofs.lemmas.List.Folds.{fold_stays}
 use Rattle.std.proofs.lemmas.Option.{same_Some, slice_get-get_or}
 use Rattle.rmm_spec.specs.declared.entry.Entry.{Entry}
-use Rattle.rmm_spec.specs.declared.entry.Entry.TheVariants.{Unassigned, Assigned, Table, UnassignedNs, AssignedNs}
-use Rattle.rmm_spec.specs.State.{State, RealmRecord}
+use Rattle.rmm_spec.specs.declared.entry.Entry.TheVariants.{Table, UnassignedNs}
+use Rattle.rmm_spec.specs.State.{State}
 use Rattle.rmm_spec.specs.Lookup.{any_below}
 use Rattle.rmm_spec.specs.Table.{TableRecord, place_number}
 use Rattle.rmm_spec.specs.TableCells.{leaf_of}
 use Rattle.rmm_spec.specs.Walk.{is_table, linked_entry, entry_at, reach, has_link, table_number}
-use Rattle.rmm_spec.specs.Cell.{Cell, Undelegated, Delegated, Rd, Rec, RecAux, Data, Rtt, table_in, tables_of, realm_in}
-use Rattle.rmm_spec.specs.Flat.{flat_state, is_table_of}
+use Rattle.rmm_spec.specs.Cell.{Cell, Rtt, table_in, tables_of}
+use Rattle.rmm_spec.specs.Flat.{is_table_of}
 use Rattle.rmm_spec.specs.Shape.{HoldsTable}
 use Rattle.rmm_spec.specs.Local.{HeldCell, Hold, granules_held}
 use Rattle.world_laws.proofs.Members.{Contains-nil, Contains-other}
 use Rattle.world_laws.proofs.Placed.{any_below-from}
 use Rattle.command_core.specs.Seen.{cell_in, is_held}
-use Rattle.command_core.specs.SeenState.{table_held, found_or, table_placed, entry_in, entry_held, link_of, linked_or, table_seen, leaf_seen, seen_state}
+use Rattle.command_core.specs.SeenState.{table_held, found_or, table_placed, entry_in, entry_held, link_of, table_seen, leaf_seen, seen_state}
 use Rattle.command_core.proofs.SeenCells.{held-contains}
 use Rattle.command_core.proofs.Searches.{any_below-same}
 use Rattle.command_core.proofs.Tables.{HoldsTable-from_test, one_granule, entry_at-table}
@@ -31,18 +31,12 @@ use Rattle.command_core.proofs.Wholes.{Whole, state, whole_cell}
 
 -- what an entry links to, and its leaf, are the entry
 linked-own : (e : Entry) → linked_entry (link_of e) (if is_table e then None else Some e) ≡ e
-linked-own (Unassigned ripas) = refl
-linked-own (Assigned ripas granule) = refl
 linked-own (Table granule) = refl
-linked-own UnassignedNs = refl
-linked-own (AssignedNs page) = refl
+linked-own _ = refl
 
 unlinked-own : (e : Entry) → is_table e ≡ false → linked_entry None (if is_table e then None else Some e) ≡ e
-unlinked-own (Unassigned ripas) leaf = refl
-unlinked-own (Assigned ripas granule) leaf = refl
 unlinked-own (Table granule) leaf = absurd (false≢true (sym leaf))
-unlinked-own UnassignedNs leaf = refl
-unlinked-own (AssignedNs page) leaf = refl
+unlinked-own _ leaf = refl
 
 -- below a table that is held stands what it links to
 table-below : (held : List HeldCell) (rd level number : ℕ) (e : Entry) → entry_held held rd level number ≡ Some e
@@ -78,12 +72,7 @@ found-first p (h ∷ gs) g has passes = by (p h) refl (λ there. found-first p g
 
 pub table_cell : (c : Cell) (t : TableRecord) → table_in c ≡ Some t → c ≡ Rtt t
 table_cell (Rtt other) t is = ap Rtt (same_Some other t is)
-table_cell Undelegated t is = absurd cc
-table_cell Delegated t is = absurd cc
-table_cell (Rd realm) t is = absurd cc
-table_cell (Rec rec) t is = absurd cc
-table_cell RecAux t is = absurd cc
-table_cell Data t is = absurd cc
+table_cell _ t is = absurd cc
 
 -- a table that is held is the whole's
 table-whole : (granules cpu : ℕ) (hold : Hold) (w : Whole granules cpu hold) (g rd level number : ℕ)
@@ -149,10 +138,7 @@ entry-same granules cpu hold w g number t found above =
         let less : t.place.level < 3 = w.shaped.tables.kinds g (number % 512) t of_realm.0 (Table child) there of_realm.1 is in
         let test : nat_lt t.place.level 3 ≡ true = grind (arith, nat_tests, less) in
         absurd (false≢true (sym last ∙ test))
-    leaf (Unassigned ripas) is last = refl
-    leaf (Assigned ripas granule) is last = refl
-    leaf UnassignedNs is last = refl
-    leaf (AssignedNs page) is last = refl
+    leaf _ is last = refl
 
 -- whether a root that is held links to a table
 pub links-same : (granules cpu : ℕ) (hold : Hold) (w : Whole granules cpu hold) (g : ℕ) (t : TableRecord) → cell_in g hold.cells ≡ Some (Rtt t)

@@ -6,7 +6,7 @@ use Rattle.std.proofs.lemmas.Bool.Decides.{nat_tests}
 use Rattle.std.proofs.lemmas.Option.{none-some, same_Some}
 use Rattle.rmm_spec.specs.State.{State, RealmRecord, RecRecord}
 use Rattle.rmm_spec.specs.Lookup.{tag_number, is_granule, any_below, has_vmid, is_vmid_used, is_owned_by, has_rec, rec_inside, runs_on, no_realm, realm_at, no_rec, rec_at}
-use Rattle.rmm_spec.specs.Cell.{Cell, Undelegated, Delegated, Rd, Rec, RecAux, Data, Rtt, tag_of, realm_in, rec_in, realms_of, recs_of}
+use Rattle.rmm_spec.specs.Cell.{Cell, Undelegated, Rd, Rec, tag_of, realm_in, rec_in, realms_of, recs_of}
 use Rattle.rmm_spec.specs.Flat.{flat_state}
 use Rattle.rmm_spec.specs.Shape.{CpuPlace, Inside, IsWellShaped, count_below}
 use Rattle.rmm_spec.specs.Local.{Hold, Agrees}
@@ -42,21 +42,11 @@ tagged_granule granules cpu hold w g other =
 
 pub realm_cell : (c : Cell) → is_some (realm_in c) ≡ true → (realm : RealmRecord) × (c ≡ Rd realm)
 realm_cell (Rd realm) is = (realm, refl)
-realm_cell Undelegated is = absurd (false≢true is)
-realm_cell Delegated is = absurd (false≢true is)
-realm_cell (Rec rec) is = absurd (false≢true is)
-realm_cell RecAux is = absurd (false≢true is)
-realm_cell Data is = absurd (false≢true is)
-realm_cell (Rtt table) is = absurd (false≢true is)
+realm_cell _ is = absurd (false≢true is)
 
 pub rec_cell : (c : Cell) (rec : RecRecord) → rec_in c ≡ Some rec → c ≡ Rec rec
 rec_cell (Rec other) rec is = ap Rec (same_Some other rec is)
-rec_cell Undelegated rec is = absurd (none-some rec is)
-rec_cell Delegated rec is = absurd (none-some rec is)
-rec_cell (Rd realm) rec is = absurd (none-some rec is)
-rec_cell RecAux rec is = absurd (none-some rec is)
-rec_cell Data rec is = absurd (none-some rec is)
-rec_cell (Rtt table) rec is = absurd (none-some rec is)
+rec_cell _ rec is = absurd (none-some rec is)
 
 pub realm_at-cell : (granules : ℕ) (cells : ℕ → Cell) (rd : ℕ) (realm : RealmRecord) → cells rd ≡ Rd realm → realm_at (flat_state granules cells) rd ≡ realm
 unfolding realm_at flat_state

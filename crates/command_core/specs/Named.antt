@@ -7,8 +7,8 @@ use Rattle.rmm_spec.specs.Lookup.{tag_number, is_granule}
 use Rattle.rmm_spec.specs.Rows.{Needed}
 use Rattle.rmm_spec.specs.Step.Words.{words_of}
 use Rattle.rmm_spec.specs.Step.Named.{named}
-use Rattle.rmm_spec.specs.Cell.{Cell, Undelegated, Delegated, Rd, Rec, RecAux, Data, Rtt, tag_of, is_data}
-use Rattle.rmm_spec.specs.Locks.{is_named, names_part, depth}
+use Rattle.rmm_spec.specs.Cell.{Cell, Rd, Rec, tag_of, is_data}
+use Rattle.rmm_spec.specs.Locks.{is_named, depth}
 use Rattle.rmm_spec.specs.Local.{HeldCell, granules_held}
 use Rattle.command_core.specs.Seen.{cell_in, is_held}
 

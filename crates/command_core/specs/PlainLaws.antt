@@ -1,7 +1,7 @@
 -- A list of cells that stands by itself meets the laws on held cells.
-use Rattle.std.proofs.Common.{◌≡◌, ℕ, ◌≤◌, List, [], ◌∷◌, length, map, refl, sym, ap, ◌∙◌, subst, arith}
+use Rattle.std.proofs.Common.{◌≡◌, ◌≤◌, List, [], ◌∷◌, length, map, refl, sym, ap, ◌∙◌, subst, arith}
 use Rattle.std.specs.Prelude.{IsTrue}
-use Rattle.rmm_spec.specs.Local.{HeldCell, granules_held}
+use Rattle.rmm_spec.specs.Local.{granules_held}
 use Rattle.command_core.specs.Seen.{are_distinct}
 use Rattle.command_core.specs.Plain.{held_of, plain_cells}
 use Rattle.command_core.specs.declared.plain_held.PlainCell.{PlainCell}

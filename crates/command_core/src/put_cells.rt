@@ -2,9 +2,7 @@
 
 ghost use Rattle.std.specs.Prelude.{◌≡◌, ℕ, IsTrue, Some, is_some, [], ◌∷◌, ◌++◌, option_map, option_copied, unwrap_or};
 ghost use Rattle.rmm_spec.specs.declared.change.RealmUpdate.TheVariants.{RecCounted};
-ghost use Rattle.rmm_spec.specs.Change as spec_change;
 ghost use Rattle.rmm_spec.specs.Cell as whole;
-ghost use Rattle.rmm_spec.specs.Step.Words.{is_space};
 ghost use Rattle.world_laws.specs.Replaced.{held_at, replaced_cells, replaced_all};
 ghost use Rattle.shape_laws.specs.Whole.{root_table, cell_with_tag, cell_with_realm, cell_with_rec};
 ghost use Rattle.command_core.specs.Changed.{new_cells, realm_cells, rec_cells, AreHeld, AreAllHeld, is_plain, counts_in, fits_realm, fits_rec, fits_realm_change, fits_rec_change, fits_cells};
@@ -15,7 +13,7 @@ use crate::change_room::Room;
 use crate::held::Held;
 use granule_cells::Cell;
 use granule_state::Pa;
-use realm_desc::{HashAlgorithm, Realm, Rec, Space};
+use realm_desc::{Realm, Rec};
 use rmm_spec::{Change, RealmChange, RealmUpdate, RecChange, RecUpdate, Tag};
 use rtt_table::Table;
 
@@ -38,7 +36,7 @@ pub(crate) fn put_cells<H: Held>(held: &mut H, change: &Change, room: Room)
             vmid,
             algo,
         } => {
-            let realm = new_realm(root, width, level, vmid, algo);
+            let realm = Realm::from_words(root, width, level, vmid, algo);
             put_realm(held, rd, realm, root, root_in(room));
         }
         Change::RealmDestroyed { rd, root } => free_realm(held, rd, root),
@@ -81,21 +79,6 @@ fn plain_cell(tag: Tag) -> Cell
         Tag::Data => Cell::Data,
         Tag::Rd | Tag::Rec | Tag::Rtt => unreachable!(),
     }
-}
-
-// A realm that was just made, from the words of the command that makes it.
-fn new_realm(root: u64, width: u8, level: u8, vmid: u8, algo: u8) -> Realm
-    requires space { IsTrue (is_space width level) }
-    requires algo { algo ≡ 0 }
-    ensures { result ≡ spec_change.new_realm root width level vmid algo }
-{
-    let Some(space) = Space::of(u64::from(width), u64::from(level)) else {
-        unreachable!()
-    };
-    let Some(algorithm) = HashAlgorithm::of(u64::from(algo)) else {
-        unreachable!()
-    };
-    Realm::new(Pa::new(root), space, vmid, algorithm)
 }
 
 // The root that the room has.

@@ -4,6 +4,7 @@ ghost use Rattle.std.specs.Prelude.{◌≡◌, ◌==◌, ◌&&◌, nat_lt, IsTru
 ghost use Rattle.rmm_spec.specs.declared.change.RealmUpdate.TheVariants.{Activated, TurnedOff, RecCounted};
 ghost use Rattle.rmm_spec.specs.Lookup as spec;
 ghost use Rattle.rmm_spec.specs.Change.{new_realm, realm_updated};
+ghost use Rattle.rmm_spec.specs.Step.Words.{is_space};
 ghost use Rattle.rmm_spec.specs.Walk.{full, half, is_protected};
 ghost use Rattle.realm_desc.specs.View.{width_of, level_of, algorithm_number};
 
@@ -67,6 +68,21 @@ impl Realm {
             ),
             rems: [Rem::start(); 4],
         }
+    }
+
+    /// A realm that was just made, from the words of the command that makes it.
+    pub fn from_words(root: u64, width: u8, level: u8, vmid: u8, algo: u8) -> Self
+        requires space { IsTrue (is_space width level) }
+        requires algo { algo ≡ 0 }
+        ensures { result ≡ new_realm root width level vmid algo }
+    {
+        let Some(space) = Space::of(u64::from(width), u64::from(level)) else {
+            unreachable!()
+        };
+        let Some(algorithm) = HashAlgorithm::of(u64::from(algo)) else {
+            unreachable!()
+        };
+        Realm::new(Pa::new(root), space, vmid, algorithm)
     }
 
     /// Whether it may still be built, and may not run.

@@ -1,13 +1,11 @@
 //! Granules, realms and RECs as a change leaves them.
 
-ghost use Rattle.std.specs.Prelude.{◌≡◌, IsTrue};
-ghost use Rattle.rmm_spec.specs.Change.{new_realm};
-ghost use Rattle.rmm_spec.specs.Step.Words.{is_space};
+ghost use Rattle.std.specs.Prelude.{◌≡◌};
 
 use crate::by_granule::set_kept;
 use crate::machine::Machine;
 use granule_state::Pa;
-use realm_desc::{HashAlgorithm, Realm, Rec, Space};
+use realm_desc::{Realm, Rec};
 use rmm_spec::{RealmChange, RecChange, Tag};
 use std::alloc::AllocError;
 
@@ -40,7 +38,7 @@ impl Machine {
         ensures ok { OnOk result (state_of self.new ≡ changed (state_of self.old) (change.RealmMade rd root width level vmid algo)) }
         ensures err { OnErr result (state_of self.new ≡ state_of self.old) }
     {
-        let realm = new_realm(root, width, level, vmid, algo);
+        let realm = Realm::from_words(root, width, level, vmid, algo);
         self.store.put_root(rd, level, root)?;
         self.store.set_tag(rd, Tag::Rd);
         self.store.set_tag(root, Tag::Rtt);
@@ -123,19 +121,4 @@ fn vmid_of(realm: &Realm) -> u8
     ensures { result ≡ realm.now.vmid }
 {
     realm.vmid
-}
-
-// A realm that was just made, from the words of the command that makes it.
-fn new_realm(root: u64, width: u8, level: u8, vmid: u8, algo: u8) -> Realm
-    requires space { IsTrue (is_space width level) }
-    requires algo { algo ≡ 0 }
-    ensures { result ≡ new_realm root width level vmid algo }
-{
-    let Some(space) = Space::of(u64::from(width), u64::from(level)) else {
-        unreachable!()
-    };
-    let Some(algorithm) = HashAlgorithm::of(u64::from(algo)) else {
-        unreachable!()
-    };
-    Realm::new(Pa::new(root), space, vmid, algorithm)
 }

@@ -22,6 +22,7 @@ mod store;
 mod stored_changes;
 mod stored_tables;
 
+pub use granule_cells::{Cell, CpuPlace, Side};
 pub use machine::Machine;
 pub use owner_report::OwnerRow;
 pub use rmm_spec::{Accepted, Command, FunctionId, Reply};

@@ -1,0 +1,63 @@
+-- Two states that agree on what a served command looks up answer it alike, whichever command it is.
+use Rattle.std.proofs.Common.{◌≡◌, ℕ, Bool, true, Option, Some, None}
+use Rattle.std.specs.Prelude.{IfSome, slice_get}
+use Rattle.rmm_spec.specs.declared.call.Call.{Call}
+use Rattle.rmm_spec.specs.declared.call.Call.TheVariants as call
+use Rattle.rmm_spec.specs.Call.{class_of}
+use Rattle.rmm_spec.specs.State.{State}
+use Rattle.rmm_spec.specs.Lookup.{has_tag, realm_at, rec_at}
+use Rattle.rmm_spec.specs.Rows.{Needed}
+use Rattle.rmm_spec.specs.Walk.{has_link}
+use Rattle.rmm_spec.specs.Step.{answer_of}
+use Rattle.rmm_spec.specs.Step.Words.{words_of}
+use Rattle.rmm_spec.specs.Step.Named.{named}
+use Rattle.rmm_spec.specs.Step.Granule.{granule_delegate, granule_undelegate}
+use Rattle.rmm_spec.specs.Step.Realm.{realm_activate}
+use Rattle.rmm_spec.specs.Step.Rec.{rec_create, rec_destroy, rec_enter}
+use Rattle.rmm_spec.specs.Step.RealmCall.{measurement_read, measurement_extend, realm_config, ipa_state_set, host_call, cpu_off, system_off}
+use Rattle.rec_steps.specs.Answers.{call_row}
+use Rattle.command_rows.specs.Answers.{outside_answer}
+use Rattle.command_core.specs.Served.{is_served}
+
+-- ---- what is looked up
+
+-- the REC whose realm is read
+unfoldable pub entered : Call → Option ℕ
+entered (call.RecEnter rec) = Some rec
+entered _ = None
+
+-- the realm of which it is read whether its root links to a table
+unfoldable pub rooted : Call → Option ℕ
+rooted (call.RealmDestroy rd) = Some rd
+rooted _ = None
+
+abbrev pub SameOwner : State → State → Option ℕ → Type 0
+SameOwner s t rec = IfSome rec (λ r. realm_at s (rec_at s r).owner ≡ realm_at t (rec_at t r).owner)
+
+abbrev pub SameRoot : State → State → Option ℕ → Type 0
+SameRoot s t rd = IfSome rd (λ r. has_link s r (realm_at s r).start_level 0 ≡ has_link t r (realm_at t r).start_level 0)
+
+-- of each granule that is named the tag, the realm and the REC are the same in both
+pub record SameLookUps (s t : State) (c : Call) : Type 0 where
+  pub tags : (k : ℕ) → IfSome (slice_get (named c) k) (λ (n : Needed). has_tag s n.granule n.tag ≡ has_tag t n.granule n.tag)
+  pub realms : (k : ℕ) → IfSome (slice_get (named c) k) (λ (n : Needed). realm_at s n.granule ≡ realm_at t n.granule)
+  pub recs : (k : ℕ) → IfSome (slice_get (named c) k) (λ (n : Needed). rec_at s n.granule ≡ rec_at t n.granule)
+  pub owner : SameOwner s t (entered c)
+  pub root : SameRoot s t (rooted c)
+
+-- ---- answers
+
+pub outside_answer-same : (vmids recs : ℕ → Bool) (s t : State) (cpu : ℕ) (c : Call) → is_served c ≡ true → SameLookUps s t c
+    → outside_answer vmids recs s cpu c ≡ outside_answer vmids recs t cpu c
+unfolding outside_answer answer_of class_of words_of named granule_delegate granule_undelegate realm_activate rec_create rec_destroy rec_enter is_served entered rooted
+outside_answer-same vmids recs s t cpu (call.GranuleDelegate granule) served same = let tag = same.tags 0 in cc
+outside_answer-same vmids recs s t cpu _ served same =
+    let first = same.tags 0 in let second = same.tags 1 in let third = same.tags 2 in let fourth = same.tags 3 in
+    let realm = same.realms 0 in let rec = same.recs 0 in let owner = same.owner in let root = same.root in cc
+
+-- a realm's call looks up the REC and its realm
+pub call_row-same : (s t : State) (rec : ℕ) (c : Call) → is_served c ≡ true → rec_at s rec ≡ rec_at t rec
+    → realm_at s (rec_at s rec).owner ≡ realm_at t (rec_at t rec).owner → call_row s rec c ≡ call_row t rec c
+unfolding call_row is_served words_of named measurement_read measurement_extend realm_config ipa_state_set host_call cpu_off system_off
+call_row-same s t rec (call.MeasurementRead index) served same realm = cc
+call_row-same s t rec _ served same realm = cc
