@@ -13,7 +13,7 @@ use Rattle.rmm_spec.specs.Text.{HasNoNewline, IsBadLine, line_text, parts_of}
 use Rattle.rmm_spec.specs.declared.line.Line.{Line}
 use Rattle.certificate.proofs.GrammarLemmas.{bad_line, unfinished_line, line_too_many, IsCertificate-push, certificate_text-push}
 use Rattle.certificate.specs.Faults.{IsFaultOf}
-use Rattle.certificate.specs.Pieces.{Begun, IsReadTo, with_told}
+use Rattle.certificate.specs.Pieces.{Begun, HasRead, IsReadTo, with_told}
 use Rattle.certificate.specs.Spelling.{IsLineOf, IsNoLine}
 use Rattle.certificate.specs.declared.fault.CertFault.{CertFault}
 use Rattle.certificate.specs.declared.fault.CertFault.TheVariants.{BadLine, NoMemory}
@@ -122,10 +122,6 @@ bad_unfinished text lines kept some read =
 
 -- ---- a whole text
 
--- the reader hasn't failed, and has read the text to these lines
-abbrev pub HasRead : Result Begun ℕ → List ℕ → List Line → Type 0
-HasRead reader text lines = MatchResult reader (λ kept. IsReadTo text lines kept) (λ _. ⊥)
-
 -- some first bytes of the text are read
 pub record IsReadUpTo (text rest : List ℕ) (lines : List Line) (reader : Result Begun ℕ) : Type 0 where
   pub front : List ℕ
@@ -171,31 +167,54 @@ IsReadUpTo-next text rest later lines more old new count told is_later is_more a
   read = subst (HasRead new (so_far.front ++ take count rest)) (sym is_more) (HasRead-next old new count told so_far.front rest lines answered goes_on so_far.read);
 }
 
--- a bad line of what was read is the text's
-pub IsFaultOf-refused : (text rest : List ℕ) (lines : List Line) (old new : Result Begun ℕ) (fault : CertFault) → Answered new (Err fault)
-    → IsRefused old new rest → IsReadUpTo text rest lines old → IsFaultOf text fault
-IsFaultOf-refused text rest lines (Ok old) (Ok new) fault answered refused so_far = absurd cc
-IsFaultOf-refused text rest lines (Ok old) (Err line) fault answered refused so_far =
+-- nothing of a piece is read
+pub IsReadUpTo-piece : (text piece : List ℕ) (lines : List Line) (reader : Result Begun ℕ) → HasRead reader text lines
+    → IsReadUpTo (text ++ piece) piece lines reader
+IsReadUpTo-piece text piece lines reader read = record { front = text; is_text = refl; read = read }
+
+-- and then all of it
+pub HasRead-piece : (text rest : List ℕ) (lines : List Line) (reader : Result Begun ℕ) → rest ≡ [] → IsReadUpTo text rest lines reader
+    → HasRead reader text lines
+HasRead-piece text rest lines reader ended so_far =
+    subst (λ t. HasRead reader t lines) (sym (so_far.is_text ∙ ap (λ r. so_far.front ++ r) ended ∙ append-nil so_far.front)) so_far.read
+
+-- more may follow
+IsReadUpTo-more : (text piece rest more : List ℕ) (lines : List Line) (reader : Result Begun ℕ) → IsReadUpTo (text ++ piece) rest lines reader
+    → IsReadUpTo (text ++ (piece ++ more)) (rest ++ more) lines reader
+IsReadUpTo-more text piece rest more lines reader so_far = record {
+  front = so_far.front;
+  is_text = sym (append_assoc text piece more) ∙ ap (λ t. t ++ more) so_far.is_text ∙ append_assoc so_far.front rest more;
+  read = so_far.read;
+}
+
+-- a bad line of what was read is the text's, whatever follows
+pub IsFaultOf-refused : (text piece rest more : List ℕ) (lines : List Line) (old new : Result Begun ℕ) (fault : CertFault) → Answered new (Err fault)
+    → IsRefused old new rest → IsReadUpTo (text ++ piece) rest lines old → IsFaultOf (text ++ (piece ++ more)) fault
+unfolding IsReadUpTo-more
+IsFaultOf-refused text piece rest more lines (Ok old) (Ok new) fault answered refused so_far = absurd cc
+IsFaultOf-refused text piece rest more lines (Ok old) (Err line) fault answered refused so_far =
     let is_bad : fault ≡ BadLine line = cc in
-    let bad = refused so_far.front [] lines so_far.read in
-    subst (IsFaultOf text) (sym is_bad)
-    (subst (λ t. IsBadLine InCertificates t line) (ap (λ r. so_far.front ++ r) (append-nil rest) ∙ sym so_far.is_text) bad)
-IsFaultOf-refused text rest lines (Err line) new fault answered refused so_far = absurd so_far.read
+    let longer = IsReadUpTo-more text piece rest more lines (Ok old) so_far in
+    subst (IsFaultOf (text ++ (piece ++ more))) (sym is_bad)
+    (subst (λ t. IsBadLine InCertificates t line) (sym longer.is_text) (refused so_far.front more lines so_far.read))
+IsFaultOf-refused text piece rest more lines (Err line) new fault answered refused so_far = absurd so_far.read
 
 -- memory was refused for a line that was read
-pub IsFaultOf-memory : (text rest : List ℕ) (lines : List Line) (reader : Result Begun ℕ) → IsReadUpTo text rest lines reader → 0 < length lines
-    → IsFaultOf text NoMemory
-IsFaultOf-memory text rest lines (Ok kept) so_far some =
+pub IsFaultOf-memory : (text piece rest more : List ℕ) (lines : List Line) (reader : Result Begun ℕ) → IsReadUpTo (text ++ piece) rest lines reader
+    → 0 < length lines → IsFaultOf (text ++ (piece ++ more)) NoMemory
+unfolding IsReadUpTo-more
+IsFaultOf-memory text piece rest more lines (Ok kept) so_far some =
+    let longer = IsReadUpTo-more text piece rest more lines (Ok kept) so_far in
     let read = so_far.read in (
       lines,
       some,
       record {
-        more = kept.begun ++ rest;
+        more = kept.begun ++ (rest ++ more);
         is_certificate = read.is_certificate;
-        is_text = so_far.is_text ∙ ap (λ f. f ++ rest) read.is_text ∙ append_assoc (certificate_text lines) kept.begun rest;
+        is_text = longer.is_text ∙ ap (λ f. f ++ (rest ++ more)) read.is_text ∙ append_assoc (certificate_text lines) kept.begun (rest ++ more);
       },
     )
-IsFaultOf-memory text rest lines (Err line) so_far some = absurd so_far.read
+IsFaultOf-memory text piece rest more lines (Err line) so_far some = absurd so_far.read
 
 -- nothing is left
 pub over : (rest : List ℕ) → true ≡ (length rest == 0) → rest ≡ []
@@ -203,22 +222,23 @@ over [] ended = refl
 over (byte ∷ rest) ended = absurd (omega (arith, eqb-true (length (byte ∷ rest)) 0 (sym ended)))
 
 -- the whole text is read
-read_whole : (text : List ℕ) (lines : List Line) (kept : Begun) (front : List ℕ) → text ≡ front ++ [] → IsReadTo front lines kept → IsReadTo text lines kept
-read_whole text lines kept front is_text read = subst (λ t. IsReadTo t lines kept) (sym (is_text ∙ append-nil front)) read
-
-pub IsCertificateText-whole : (text rest : List ℕ) (lines : List Line) (reader : Result Begun ℕ) → rest ≡ [] → IsReadUpTo text rest lines reader
+pub IsCertificateText-whole : (text : List ℕ) (lines : List Line) (reader : Result Begun ℕ) → HasRead reader text lines
     → IfOk reader (λ kept. (t : List ℕ) (ls : List Line) → IsReadTo t ls kept → IsCertificateText t ls) → IsCertificateText text lines
-IsCertificateText-whole text rest lines (Ok kept) ended so_far whole =
-    whole text lines (read_whole text lines kept so_far.front (so_far.is_text ∙ ap (λ r. so_far.front ++ r) ended) so_far.read)
-IsCertificateText-whole text rest lines (Err line) ended so_far whole = absurd so_far.read
+IsCertificateText-whole text lines (Ok kept) read whole = whole text lines read
+IsCertificateText-whole text lines (Err line) read whole = absurd read
 
-pub IsFaultOf-whole : (text rest : List ℕ) (lines : List Line) (reader : Result Begun ℕ) (fault : CertFault) → rest ≡ [] → IsReadUpTo text rest lines reader
+pub IsFaultOf-whole : (text : List ℕ) (lines : List Line) (reader : Result Begun ℕ) (fault : CertFault) → HasRead reader text lines
     → IfOk reader (λ kept. (line : ℕ) × ((fault ≡ BadLine line) × ((t : List ℕ) (ls : List Line) → IsReadTo t ls kept → IsBadLine InCertificates t line)))
     → IsFaultOf text fault
-IsFaultOf-whole text rest lines (Ok kept) fault ended so_far bad =
-    subst (IsFaultOf text) (sym bad.1.0)
-    (bad.1.1 text lines (read_whole text lines kept so_far.front (so_far.is_text ∙ ap (λ r. so_far.front ++ r) ended) so_far.read))
-IsFaultOf-whole text rest lines (Err line) fault ended so_far bad = absurd so_far.read
+IsFaultOf-whole text lines (Ok kept) fault read bad = subst (IsFaultOf text) (sym bad.1.0) (bad.1.1 text lines read)
+IsFaultOf-whole text lines (Err line) fault read bad = absurd read
+
+-- before the first byte
+pub HasRead-new : (reader : Result Begun ℕ) (lines : List Line) → reader ≡ Ok (record { count = 0; begun = [] }) → lines ≡ [] → HasRead reader [] lines
+HasRead-new reader lines is_new none =
+    subst (λ r. HasRead r [] lines) (sym is_new)
+    (subst (HasRead (Ok (record { count = 0; begun = [] })) []) (sym none)
+    (record { is_certificate = record { each = tt; count = omega arith }; counted = refl; unfinished = tt; is_text = refl }))
 
 -- the last line of a certificate
 pub IsLine-last : (lines : List Line) (line : Line) → IsCertificate (lines ++ line ∷ []) → IsLine line

@@ -1,5 +1,5 @@
 -- What is read of a text whose first bytes were given.
-use Rattle.std.specs.Prelude.{◌≡◌, ℕ, ◌+◌, List, [], ◌∷◌, ◌++◌, length, Option, Some, None, Result, Ok, Err}
+use Rattle.std.specs.Prelude.{◌≡◌, ℕ, ◌+◌, List, [], ◌∷◌, ◌++◌, length, Option, Some, None, Result, Ok, Err, MatchResult}
 use Rattle.rmm_spec.specs.CertificateText.{IsCertificate, certificate_text}
 use Rattle.rmm_spec.specs.Text.{HasNoNewline}
 use Rattle.rmm_spec.specs.declared.line.Line.{Line}
@@ -20,6 +20,10 @@ pub record IsReadTo (text : List ℕ) (lines : List Line) (kept : Begun) : Type 
 abbrev pub begun_or_fault : Begun → Option ℕ → Result Begun ℕ
 begun_or_fault kept None = Ok kept
 begun_or_fault kept (Some line) = Err line
+
+-- the reader hasn't failed, and has read the text to these lines
+abbrev pub HasRead : Result Begun ℕ → List ℕ → List Line → Type 0
+HasRead reader text lines = MatchResult reader (λ kept. IsReadTo text lines kept) (λ _. ⊥)
 
 -- a piece's first bytes, so many: up to the first newline and with it, where there is one and a line is told, else all
 abbrev pub Takes : List ℕ → ℕ → Option Line → Type 0

@@ -1,5 +1,5 @@
 //! Certificates: the order in which a run's calls are claimed to have taken effect.
-//! A text is read in one pass to the lines that it stands for, or to its first bad line.
+//! A text is read in one pass, whole or in pieces, to the lines that it stands for, or to its first bad line.
 //! It promises that reader and writer are inverse on the grammar, `specs/CertificateText.antt` of `rmm_spec`: see `laws.rt`.
 //! A line takes 8 bytes and no allocation of its own; the rare unfinished line keeps its number and its reply beside.
 //! The checker depends on it.
@@ -16,7 +16,7 @@ mod writing;
 
 pub use certificate::{Certificate, LineRef, MOST_LINES};
 pub use fault::CertFault;
-pub use laws::{read_back, rewritten};
+pub use laws::{read_back, read_pieces, rewritten};
 pub use line::is_line;
 pub use reader::{Reader, read};
 pub use rmm_spec::{Line, Reply};

@@ -2,7 +2,7 @@
 
 ghost use Rattle.std.specs.Prelude.{◌≡◌, ◌≢◌, ◌+◌, ◌<◌, ◌≤◌, ℕ, List, [], ◌++◌, length, take, Ok, Err, IsOk, IfOk, IfErr, OnOk, OnErr, MatchResult};
 ghost use Rattle.certificate.specs.Faults.{IsFaultOf};
-ghost use Rattle.certificate.specs.Pieces.{IsReadTo, Takes, with_told};
+ghost use Rattle.certificate.specs.Pieces.{HasRead, IsReadTo, Takes, with_told};
 ghost use Rattle.certificate.specs.declared.fault.CertFault.TheVariants.{BadLine, NoMemory};
 ghost use Rattle.rmm_spec.specs.CertificateText.{InCertificates, IsCertificate, IsCertificateText};
 ghost use Rattle.rmm_spec.specs.Text.{IsBadLine};
@@ -102,15 +102,29 @@ pub fn read(alloc: Global, text: &[u8]) -> Result<Certificate, CertFault>
 {
     let mut reader = Reader::new();
     let mut lines = Certificate::new(alloc);
-    let mut rest = text;
+    read_lines(&mut reader, &mut lines, text)?;
+    reader.finish()?;
+    Ok(lines)
+}
+
+/// Appends each line that ends in the piece.
+pub(crate) fn read_lines(
+    reader: &mut Reader,
+    lines: &mut Certificate,
+    piece: &[u8],
+) -> Result<(), CertFault>
+    requires { (text : List ℕ) × HasRead reader.old text lines.old.lines }
+    ensures read { OnOk result ((text : List ℕ) → HasRead reader.old text lines.old.lines → HasRead reader.new (text ++ piece.now) lines.new.lines) }
+    ensures fault { IfErr result (λ fault. (text more : List ℕ) → HasRead reader.old text lines.old.lines → IsFaultOf (text ++ (piece.now ++ more)) fault) }
+{
+    let mut rest = piece;
     while !rest.is_empty() {
         let (count, line) = reader.next(rest)?;
-        append_told(&mut lines, line)?;
+        append_told(lines, line)?;
         let later = rest.split_at(count).1;
         rest = later;
     }
-    reader.finish()?;
-    Ok(lines)
+    Ok(())
 }
 
 /// Appends the line that was told, where one was.

@@ -1,9 +1,10 @@
 -- What one more event leaves of the events that are held.
-use Rattle.std.proofs.Common.{◌≡◌, ℕ, ◌+◌, ◌<◌, ◌≤◌, List, [], ◌∷◌, ◌++◌, length, get_or, slice_get, Some, take, drop, refl, sym, ap, ◌∙◌, subst, arith, length-append}
-use Rattle.std.proofs.lemmas.Option.{slice_get-map, slice_get_read}
-use Rattle.std.specs.Option.{option_map}
-use Rattle.std.proofs.lemmas.List.{length-map, map_push, take-append-le, drop-append-le, length-drop}
+use Rattle.std.proofs.Common.{◌≡◌, ℕ, zero, suc, ◌+◌, ◌/◌, ◌<◌, ◌≤◌, List, [], ◌∷◌, ◌++◌, length, get_or, slice_get, Option, Some, None, if◌then◌else◌, take, drop, refl, sym, ap, ◌∙◌, subst, arith, length-append, ⊎_elim}
+use Rattle.std.proofs.lemmas.Bool.{cases_eq, eq-eqb, ne_eqb}
+use Rattle.std.proofs.lemmas.Option.{none-some, same_Some, slice_get_read}
+use Rattle.std.proofs.lemmas.List.{take-append-le, drop-append-le, length-drop}
 use Rattle.std.specs.List.{AllByRecursion}
+use Rattle.std.specs.Prelude.{IfNone}
 use Rattle.arrayvec.specs.ArrayVec.{ArrayVec}
 use Rattle.rmm_spec.specs.declared.command.Command.{Command}
 use Rattle.rmm_spec.specs.declared.event.Event.{Event}
@@ -12,12 +13,16 @@ use Rattle.rmm_spec.specs.declared.function_id.FunctionId.{FunctionId}
 use Rattle.rmm_spec.specs.declared.reply.Reply.TheVariants as reply
 use Rattle.rmm_spec.proofs.Lines.{each-weaker}
 use Rattle.rmm_spec.proofs.Texts.{AllByRecursion-append}
-use Rattle.rmm_spec.specs.HistoryText.{IsEvent}
+use Rattle.rmm_spec.proofs.Places.{subhistory_of-same, subhistory_of-other}
+use Rattle.rmm_spec.specs.Cell.{put}
+use Rattle.rmm_spec.specs.HistoryText.{IsEvent, cpu_of, rank, subhistory_of}
 use Rattle.rmi_codec.proofs.PartLaws.{word_count-le}
-use Rattle.history.specs.Entry.{stretch, words_at, HasFewWords, event_of, events_in, HasWithin, HasWords, HasStored, IsHeld}
+use Rattle.history.specs.Entry.{stretch, words_at, HasFewWords, event_of, entry_cpu, events_after, events_in, HasWithin, HasWords, HasStored, IsHeld}
 use Rattle.history.specs.declared.entry.Entry.{Entry}
 use Rattle.history.specs.declared.entry.Entry.TheVariants as of
 use Rattle.history.specs.declared.entry.Stretch.{Stretch}
+use Rattle.history.specs.Spelling.{call_number}
+use Rattle.history.proofs.SubhistoryLaws.{half_rank}
 
 -- words at the end leave those of a stretch as they are
 words_at-append : (words more : List ℕ) (place : Stretch) → HasWithin (length words) place → words_at (words ++ more) place ≡ words_at words place
@@ -28,28 +33,73 @@ words_at-append words more place within =
     (ap (λ ws. take place.count ws) (drop-append-le place.first words more before) ∙ take-append-le place.count (drop place.first words) more enough)
 
 -- they leave the event of an entry as it is
-event_of-append : (words more : List ℕ) (entry : Entry) → HasWords (length words) entry → event_of (words ++ more) entry ≡ event_of words entry
-event_of-append words more (of.Called cpu function count number first) has =
+event_of-append : (words more : List ℕ) (number : ℕ) (entry : Entry) → HasWords (length words) entry
+    → event_of (words ++ more) number entry ≡ event_of words number entry
+event_of-append words more number (of.Called cpu function count first) has =
     ap (λ (ws : ArrayVec ℕ). seen.Called cpu number (record { function = function; words = ws })) (words_at-append words more (stretch first count) has)
-event_of-append words more (of.Answered cpu count number first) has =
+event_of-append words more number (of.Answered cpu count first) has =
     ap (λ (ws : ArrayVec ℕ). seen.Returned cpu number (reply.Ok ws)) (words_at-append words more (stretch first count) has)
-event_of-append words more (of.Refused cpu number status index) has = refl
-event_of-append words more (of.Misplaced cpu number) has = refl
+event_of-append words more number (of.Refused cpu status index) has = refl
+event_of-append words more number (of.Misplaced cpu) has = refl
 
-events_in-append : (words more : List ℕ) (entries : List Entry) → AllByRecursion (HasWords (length words)) entries
-    → events_in (words ++ more) entries ≡ events_in words entries
-events_in-append words more [] each = refl
-events_in-append words more (entry ∷ entries) each =
-    let first = event_of-append words more entry each.0 in
-    let rest = events_in-append words more entries each.1 in
+events_after-append : (had : ℕ → ℕ) (words more : List ℕ) (entries : List Entry) → AllByRecursion (HasWords (length words)) entries
+    → events_after had (words ++ more) entries ≡ events_after had words entries
+events_after-append had words more [] each = refl
+events_after-append had words more (entry ∷ entries) each =
+    let first = event_of-append words more (had (entry_cpu entry) / 2) entry each.0 in
+    let rest = events_after-append (put had (entry_cpu entry) (had (entry_cpu entry) + 1)) words more entries each.1 in
     cc (first, rest)
+
+-- there is an event for each entry
+length-events_after : (had : ℕ → ℕ) (words : List ℕ) (entries : List Entry) → length (events_after had words entries) ≡ length entries
+length-events_after had words [] = refl
+length-events_after had words (entry ∷ entries) =
+    omega (arith, length-events_after (put had (entry_cpu entry) (had (entry_cpu entry) + 1)) words entries)
+
+pub length-events_in : (words : List ℕ) (entries : List Entry) → length (events_in words entries) ≡ length entries
+length-events_in words entries = length-events_after (λ cpu. 0) words entries
+
+pub cpu_of-event_of : (words : List ℕ) (number : ℕ) (entry : Entry) → cpu_of (event_of words number entry) ≡ entry_cpu entry
+cpu_of-event_of words number (of.Called cpu function count first) = refl
+cpu_of-event_of words number (of.Answered cpu count first) = refl
+cpu_of-event_of words number (of.Refused cpu status index) = refl
+cpu_of-event_of words number (of.Misplaced cpu) = refl
+
+-- an event at the front is one more that its CPU had
+counted-front : (had : ℕ → ℕ) (cpu of_entry : ℕ) (event : Event) (events : List Event) → cpu_of event ≡ of_entry
+    → put had of_entry (had of_entry + 1) cpu + length (subhistory_of cpu events) ≡ had cpu + length (subhistory_of cpu (event ∷ events))
+counted-front had cpu of_entry event events is =
+    ⊎_elim
+    (λ (same : cpu ≡ of_entry).
+    let longer = subhistory_of-same cpu event events (is ∙ sym same) in
+    let here : put had of_entry (had of_entry + 1) cpu ≡ had cpu + 1 =
+    ap (λ b. if b then had of_entry + 1 else had cpu) (eq-eqb cpu of_entry same) ∙ ap (λ c. had c + 1) (sym same) in
+    omega (arith, here, ap length longer))
+    (λ (other : cpu ≡ of_entry → ⊥).
+    let as_long = subhistory_of-other cpu event events (ne_eqb (cpu_of event) cpu (λ e. other (sym e ∙ is))) in
+    let there : put had of_entry (had of_entry + 1) cpu ≡ had cpu = ap (λ b. if b then had of_entry + 1 else had cpu) (ne_eqb cpu of_entry other) in
+    omega (arith, there, ap length as_long))
+    (cases_eq cpu of_entry)
+
+-- the last entry's number is told by how many events its CPU has before it
+events_after-push : (had : ℕ → ℕ) (words : List ℕ) (entries : List Entry) (entry : Entry) → events_after had words (entries ++ entry ∷ [])
+    ≡ events_after had words entries
+    ++ event_of words ((had (entry_cpu entry) + length (subhistory_of (entry_cpu entry) (events_after had words entries))) / 2) entry ∷ []
+events_after-push had words [] entry =
+    ap (λ (n : ℕ). event_of words (n / 2) entry ∷ []) (let none : had (entry_cpu entry) ≡ had (entry_cpu entry) + 0 = omega arith in none)
+events_after-push had words (first ∷ entries) entry =
+    let event = event_of words (had (entry_cpu first) / 2) first in
+    let next = put had (entry_cpu first) (had (entry_cpu first) + 1) in
+    let counted = counted-front had (entry_cpu entry) (entry_cpu first) event (events_after next words entries) (cpu_of-event_of words (had (entry_cpu first) / 2) first) in
+    ap (λ es. event ∷ es) (events_after-push next words entries entry)
+    ∙ ap (λ (n : ℕ). event ∷ (events_after next words entries ++ event_of words (n / 2) entry ∷ [])) counted
 
 -- more words leave each entry its own
 HasWords-more : (count more : ℕ) (entry : Entry) → HasWords count entry → HasWords (count + more) entry
-HasWords-more size more (of.Called cpu function count number first) has = (omega (arith, has.0), has.1)
-HasWords-more size more (of.Answered cpu count number first) has = (omega (arith, has.0), has.1)
-HasWords-more size more (of.Refused cpu number status index) has = tt
-HasWords-more size more (of.Misplaced cpu number) has = tt
+HasWords-more size more (of.Called cpu function count first) has = (omega (arith, has.0), has.1)
+HasWords-more size more (of.Answered cpu count first) has = (omega (arith, has.0), has.1)
+HasWords-more size more (of.Refused cpu status index) has = tt
+HasWords-more size more (of.Misplaced cpu) has = tt
 
 -- the entries are held after one more event was of
 pub IsHeld-stored : (words new_words : List ℕ) (entries new_entries : List Entry) (event : Event) → IsHeld words entries
@@ -68,31 +118,89 @@ IsHeld-stored words new_words entries new_entries event held stored =
       few_words = omega (arith, held.few_words, longer, one_more, is_entered.few);
     }
 
--- the events after one more was of
+-- the events after one more was of, which is its CPU's next
 pub events_in-stored : (words new_words : List ℕ) (entries new_entries : List Entry) (event : Event) → IsHeld words entries
-    → HasStored words entries new_words new_entries event → events_in new_words new_entries ≡ events_in words entries ++ event ∷ []
-events_in-stored words new_words entries new_entries event held stored =
+    → HasStored words entries new_words new_entries event → rank event ≡ length (subhistory_of (cpu_of event) (events_in words entries))
+    → events_in new_words new_entries ≡ events_in words entries ++ event ∷ []
+events_in-stored words new_words entries new_entries event held stored ranked =
     let is_entered = stored.is_entered in
-    ap (events_in new_words) stored.is_last ∙ map_push (event_of new_words) entries stored.entry ∙ ap (λ e. events_in new_words entries ++ e ∷ []) is_entered.is_event
-    ∙ ap (λ ws. events_in ws entries ++ event ∷ []) is_entered.appended
-    ∙ ap (λ es. es ++ event ∷ []) (events_in-append words is_entered.more entries held.each)
+    let entry = stored.entry in
+    let same_events : events_in new_words entries ≡ events_in words entries =
+    ap (λ ws. events_in ws entries) is_entered.appended ∙ events_after-append (λ cpu. 0) words is_entered.more entries held.each in
+    let same_cpu : entry_cpu entry ≡ cpu_of event = sym (cpu_of-event_of new_words (call_number event) entry) ∙ ap cpu_of is_entered.is_event in
+    let counted : 0 + length (subhistory_of (entry_cpu entry) (events_in new_words entries)) ≡ rank event =
+    omega (
+      arith,
+      ap (λ c. length (subhistory_of c (events_in new_words entries))) same_cpu,
+      ap (λ es. length (subhistory_of (cpu_of event) es)) same_events,
+      ranked,
+    ) in
+    let number : (0 + length (subhistory_of (entry_cpu entry) (events_in new_words entries))) / 2 ≡ call_number event =
+    ap (λ n. n / 2) counted ∙ half_rank event in
+    ap (events_in new_words) stored.is_last ∙ events_after-push (λ cpu. 0) new_words entries entry
+    ∙ ap (λ (n : ℕ). events_in new_words entries ++ event_of new_words n entry ∷ []) number
+    ∙ ap (λ e. events_in new_words entries ++ e ∷ []) is_entered.is_event
+    ∙ ap (λ es. es ++ event ∷ []) same_events
 
--- the event of an entry that stands at a place
-pub slice_get-events_in : (words : List ℕ) (entries : List Entry) (events : List Event) (place : ℕ) (found : Entry) → events_in words entries ≡ events
-    → place < length events → found ≡ get_or entries place found → slice_get events place ≡ Some (event_of words found)
-slice_get-events_in words entries events place found events_are within is_found =
-    let within_entries : place < length entries = omega (arith, within, ap length events_are, length-map entries (event_of words)) in
-    ap (λ es. slice_get es place) (sym events_are) ∙ slice_get-map (event_of words) entries place
-    ∙ ap (option_map (event_of words)) (slice_get_read entries (length entries) place found refl within_entries is_found)
+-- an entry at a place stands for the event there, of some number
+slice_get-events_after : (had : ℕ → ℕ) (words : List ℕ) (entries : List Entry) (place : ℕ) (found : Entry) → slice_get entries place ≡ Some found
+    → (number : ℕ) × (slice_get (events_after had words entries) place ≡ Some (event_of words number found))
+slice_get-events_after had words [] place found is = absurd (none-some found is)
+slice_get-events_after had words (entry ∷ entries) zero found is =
+    let number = had (entry_cpu entry) / 2 in
+    (number, ap (λ (e : Entry). Some (event_of words number e)) (same_Some entry found is))
+slice_get-events_after had words (entry ∷ entries) (suc place) found is =
+    slice_get-events_after (put had (entry_cpu entry) (had (entry_cpu entry) + 1)) words entries place found is
+
+pub IfNone_then : {X : Type 0} (found : Option X) {P Q : Type 0} → IfNone found P → (P → Q) → IfNone found Q
+IfNone_then None holds f = f holds
+IfNone_then (Some x) holds f = tt
+
+HasWords-slice_get : (size : ℕ) (entries : List Entry) (place : ℕ) (found : Entry) → AllByRecursion (HasWords size) entries → slice_get entries place ≡ Some found
+    → HasWords size found
+HasWords-slice_get size [] place found each is = absurd (none-some found is)
+HasWords-slice_get size (entry ∷ entries) zero found each is = subst (HasWords size) (same_Some entry found is) each.0
+HasWords-slice_get size (entry ∷ entries) (suc place) found each is = HasWords-slice_get size entries place found each.1 is
+
+-- an entry that stands at a place
+pub record IsEntryAt (words : List ℕ) (events : List Event) (place : ℕ) (found : Entry) : Type 0 where
+  pub has_words : HasWords (length words) found
+  pub number : ℕ
+  pub is_event : slice_get events place ≡ Some (event_of words number found)
+
+pub IsEntryAt-read : (words : List ℕ) (entries : List Entry) (events : List Event) (place : ℕ) (found : Entry) → IsHeld words entries
+    → events_in words entries ≡ events → place < length events → found ≡ get_or entries place found → IsEntryAt words events place found
+IsEntryAt-read words entries events place found held events_are within is_found =
+    let within_entries : place < length entries = omega (arith, within, ap length events_are, length-events_in words entries) in
+    let read = slice_get_read entries (length entries) place found refl within_entries is_found in
+    let at = slice_get-events_after (λ cpu. 0) words entries place found read in
+    record {
+      has_words = HasWords-slice_get (length words) entries place found held.each read;
+      number = at.0;
+      is_event = ap (λ es. slice_get es place) (sym events_are) ∙ at.1;
+    }
+
+call_number-event_of : (words : List ℕ) (number : ℕ) (entry : Entry) → call_number (event_of words number entry) ≡ number
+call_number-event_of words number (of.Called cpu function count first) = refl
+call_number-event_of words number (of.Answered cpu count first) = refl
+call_number-event_of words number (of.Refused cpu status index) = refl
+call_number-event_of words number (of.Misplaced cpu) = refl
+
+-- its event with the number that the event there has
+pub event_of-numbered : (words : List ℕ) (events : List Event) (place number : ℕ) (found : Entry) → IsEntryAt words events place found
+    → ((event : Event) → slice_get events place ≡ Some event → call_number event ≡ number) → slice_get events place ≡ Some (event_of words number found)
+event_of-numbered words events place number found at numbered =
+    let same : at.number ≡ number = sym (call_number-event_of words at.number found) ∙ numbered (event_of words at.number found) at.is_event in
+    at.is_event ∙ ap (λ (n : ℕ). Some (event_of words n found)) same
 
 -- An entry that is no call's stands for no call.
-pub event_of-no_call : (words : List ℕ) (found : Entry)
-    → ((cpu : ℕ) (function : FunctionId) (count number first : ℕ) → found ≡ of.Called cpu function count number first → ⊥)
-    → (cpu number : ℕ) (command : Command) → event_of words found ≡ seen.Called cpu number command → ⊥
-event_of-no_call words (of.Called cpu function count number first) not_called = λ _ _ _ _. not_called cpu function count number first refl
-event_of-no_call words (of.Answered cpu count number first) not_called = λ c n command is_called. absurd (cc)
-event_of-no_call words (of.Refused cpu number status index) not_called = λ c n command is_called. absurd (cc)
-event_of-no_call words (of.Misplaced cpu number) not_called = λ c n command is_called. absurd (cc)
+pub event_of-no_call : (words : List ℕ) (of_call : ℕ) (found : Entry)
+    → ((cpu : ℕ) (function : FunctionId) (count first : ℕ) → found ≡ of.Called cpu function count first → ⊥)
+    → (cpu number : ℕ) (command : Command) → event_of words of_call found ≡ seen.Called cpu number command → ⊥
+event_of-no_call words of_call (of.Called cpu function count first) not_called = λ _ _ _ _. not_called cpu function count first refl
+event_of-no_call words of_call (of.Answered cpu count first) not_called = λ c n command is_called. absurd (cc)
+event_of-no_call words of_call (of.Refused cpu status index) not_called = λ c n command is_called. absurd (cc)
+event_of-no_call words of_call (of.Misplaced cpu) not_called = λ c n command is_called. absurd (cc)
 
 -- an event that may be recorded has no more words than an entry
 pub few_words : (cpus : ℕ) (event : Event) → IsEvent cpus event → HasFewWords event

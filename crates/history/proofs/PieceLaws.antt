@@ -1,7 +1,5 @@
 -- What the first bytes of a text say of its bad line, before the header and behind it.
-use Rattle.std.proofs.Common.{◌≡◌, ℕ, suc, ◌<◌, List, [], ◌∷◌, ◌++◌, length, get_or, take, drop, Option, Some, None, sym, ap, ◌∙◌, subst, arith, append_assoc, take-append-drop, drop-cons}
-use Rattle.std.specs.List.{flat_map}
-use Rattle.std.proofs.lemmas.List.Concat.{flat_map-append}
+use Rattle.std.proofs.Common.{◌≡◌, ℕ, ◌<◌, List, [], ◌∷◌, ◌++◌, length, Option, Some, None, sym, ap, ◌∙◌, subst, arith, append_assoc}
 use Rattle.std.proofs.lemmas.List.{append-nil}
 use Rattle.line_pieces.proofs.Pieces.{newlines-lines}
 use Rattle.line_pieces.specs.Newlines.{newlines}
@@ -63,10 +61,3 @@ pub of_held_line : (P : List ℕ → Type 0) (front begun last line : List ℕ) 
     → (more : List ℕ) → P (front ++ begun ++ (last ++ 10 ∷ more))
 of_held_line P front begun last line is_line each more =
     subst P (ap (λ l. front ++ (l ++ 10 ∷ more)) is_line ∙ regroup front begun last (10 ∷ more)) (each more)
-
--- joined pieces: those before one, that one and those behind it
-pub flat_map_at : {X : Type 0} (f : X → List ℕ) (xs : List X) (i : ℕ) (d : X) → i < length xs
-    → flat_map f (take i xs) ++ (f (get_or xs i d) ++ flat_map f (drop (suc i) xs)) ≡ flat_map f xs
-flat_map_at f xs i d within =
-    ap (λ r. flat_map f (take i xs) ++ r) (sym (ap (flat_map f) (drop-cons xs i d within)))
-    ∙ sym (flat_map-append f (take i xs) (drop i xs)) ∙ ap (flat_map f) (take-append-drop i xs)

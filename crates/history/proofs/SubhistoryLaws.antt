@@ -1,8 +1,8 @@
 -- Laws on the index, one event longer.
-use Rattle.std.proofs.Common.{◌≡◌, ℕ, zero, suc, ◌+◌, ◌<◌, ◌≤◌, Bool, true, false, eqb, List, [], ◌∷◌, ◌++◌, length, get_or, set, Option, Some, None, if◌then◌else◌, refl, arith, sym, ap, ◌∙◌, subst, ⊎_elim}
+use Rattle.std.proofs.Common.{◌≡◌, ℕ, zero, suc, ◌+◌, ◌/◌, ◌<◌, ◌≤◌, Bool, true, false, eqb, List, [], ◌∷◌, ◌++◌, length, get_or, set, Option, Some, None, if◌then◌else◌, refl, arith, sym, ap, ◌∙◌, subst, ⊎_elim}
 use Rattle.std.specs.Prelude.{slice_get, is_some, IsSome, IsTrue, MatchOption, ◌↔◌}
-use Rattle.std.proofs.lemmas.Bool.{cases_Bool, cases_order, cases_eq, eqb-true, eq-eqb}
-use Rattle.std.proofs.lemmas.Option.{none-some}
+use Rattle.std.proofs.lemmas.Bool.{cases_Bool, cases_lt, cases_order, cases_eq, eqb-true, eq-eqb}
+use Rattle.std.proofs.lemmas.Option.{none-some, same_Some}
 use Rattle.std.proofs.lemmas.List.{length_push, get_or_push, get_or_append_left, get_or-set_same, get_or-set_other, length-set, take_at}
 use Rattle.rmm_spec.specs.declared.command.Command.{Command}
 use Rattle.rmm_spec.specs.declared.event.Event.{Event}
@@ -10,10 +10,11 @@ use Rattle.rmm_spec.specs.declared.event.Event.TheVariants.{Called, Returned}
 use Rattle.rmm_spec.specs.declared.reply.Reply.{Reply}
 use Rattle.rmm_spec.specs.HistoryText.{Config, IsHistory, IsEvent, CanFollow, Stand, start, stand_after, stand_from, subhistory_of, cpu_of, IsRecord, rank}
 use Rattle.rmm_spec.specs.Linearization.{IsCalled, IsReturned, IsKnown, IsFinished}
-use Rattle.rmm_spec.proofs.Places.{open_count, stand_of_record, rank-slice_get, length-stand_from, below-IsKnown, below-IsFinished}
+use Rattle.rmm_spec.proofs.Places.{open_count, stand_of_record, rank-slice_get, length-stand_from, length-subhistory_of-lt, length-subhistory_of-take, one_place, below-IsKnown, below-IsFinished}
 use Rattle.rmm_spec.proofs.Records.{subhistory_of-push_same, subhistory_of-push_other, stand_from-push_at, IsHistory-push}
 use Rattle.history.specs.declared.subhistory.Subhistory.{Subhistory}
 use Rattle.history.specs.Calls.{ArePlacesOf}
+use Rattle.history.specs.Spelling.{call_number}
 use Rattle.history.specs.Index.{HasRank, IsSubhistory, IsIndexed}
 
 -- what stands at a place stays there
@@ -230,6 +231,59 @@ return_at events cpu number place has = of_event has.event has.is_event has.of_c
     of_event (Returned c n given) is_event same ranked =
         let number_is : n ≡ number = omega (arith, ranked) in
         (given, is_event ∙ ap (λ (x : ℕ). Some (Returned x n given)) same ∙ ap (λ (x : ℕ). Some (Returned cpu x given)) number_is)
+
+-- the places of a CPU's events rise
+pub places-rise : (events : List Event) (cpu : ℕ) (subhistory : Subhistory) → IsSubhistory events cpu subhistory → IsRecord (subhistory_of cpu events)
+    → (i j : ℕ) → i ≤ j → j < length subhistory.places.items → get_or subhistory.places.items i 0 ≤ get_or subhistory.places.items j 0
+places-rise events cpu subhistory had is_record i j order within =
+    let before : i < length subhistory.places.items = omega (arith, order, within) in
+    let first = had.each i before in
+    let last = had.each j within in
+    let first_place = get_or subhistory.places.items i 0 in
+    let last_place = get_or subhistory.places.items j 0 in
+    ⊎_elim
+    (λ (falls : last_place < first_place).
+    absurd (omega (
+      arith,
+      order,
+      rank-slice_get cpu events first_place first.event is_record first.is_event first.of_cpu,
+      first.is_ranked,
+      rank-slice_get cpu events last_place last.event is_record last.is_event last.of_cpu,
+      last.is_ranked,
+      length-subhistory_of-lt cpu events last_place first_place last.event last.is_event last.of_cpu falls,
+    )))
+    (λ (rises : first_place ≤ last_place). rises)
+    (cases_lt last_place first_place)
+
+-- the place of each of its events is among them
+pub place_of_event : (events : List Event) (cpu place : ℕ) (event : Event) (subhistory : Subhistory) → IsSubhistory events cpu subhistory
+    → IsRecord (subhistory_of cpu events) → slice_get events place ≡ Some event → cpu_of event ≡ cpu
+    → (ranked : ℕ) × (ranked < length subhistory.places.items) × (get_or subhistory.places.items ranked 0 ≡ place)
+place_of_event events cpu place event subhistory had is_record is_event of_cpu =
+    let within : rank event < length subhistory.places.items =
+    omega (
+      arith,
+      rank-slice_get cpu events place event is_record is_event of_cpu,
+      length-subhistory_of-take cpu events place event is_event of_cpu,
+      had.counted,
+    ) in
+    let found = had.each (rank event) within in (
+      rank event,
+      within,
+      one_place cpu events (get_or subhistory.places.items (rank event) 0) place found.event event is_record found.is_event is_event found.of_cpu of_cpu
+          found.is_ranked,
+    )
+
+-- half of an event's rank is the number of its call
+pub half_rank : (event : Event) → rank event / 2 ≡ call_number event
+half_rank (Called cpu number command) = omega arith
+half_rank (Returned cpu number given) = omega arith
+
+pub call_number-ranked : (events : List Event) (cpu ranked place : ℕ) (event : Event) → HasRank events cpu ranked place → slice_get events place ≡ Some event
+    → call_number event ≡ ranked / 2
+call_number-ranked events cpu ranked place event has is_event =
+    let same : has.event ≡ event = same_Some has.event event (sym has.is_event ∙ is_event) in
+    sym (half_rank event) ∙ ap (λ (n : ℕ). n / 2) (ap rank (sym same) ∙ has.is_ranked)
 
 -- what a subhistory has for the ranks of a call and of its return are their places
 pub ArePlacesOf-subhistory : (events : List Event) (cpu number : ℕ) (subhistory : Subhistory) (called : ℕ) (returned : Option ℕ) → IsSubhistory events cpu subhistory → IsRecord (subhistory_of cpu events)

@@ -1,13 +1,18 @@
 //! The events of a history, in less memory than a vector of them.
 
-ghost use Rattle.std.specs.Prelude.{◌≡◌, ℕ, ◌+◌, ◌-◌, ◌^◌, ◌<◌, ◌≤◌, ◌++◌, ◌∷◌, [], length, vec_len, vec_capacity, IsOk, IfOk, OnOk, OnErr};
-ghost use Rattle.history.specs.Entry.{words_at, room_of, HasFewWords, HasWithin, HasStored, IsEntered};
+ghost use Rattle.std.specs.Prelude.{◌≡◌, ℕ, ◌+◌, ◌-◌, ◌^◌, ◌<◌, ◌≤◌, ◌++◌, ◌∷◌, [], length, vec_len, vec_capacity, IsOk, IfOk, OnOk, OnErr, IfSome, IfNone, ◌≢◌};
+ghost use Rattle.rmm_spec.specs.declared.command.Command.{Command};
+ghost use Rattle.rmm_spec.specs.declared.event.Event.TheVariants as event;
+ghost use Rattle.rmm_spec.specs.declared.reply.Reply.{Reply};
+ghost use Rattle.rmi_view.specs.Seen as seen;
+ghost use Rattle.rmi_view.specs.Seen.{command_seen, reply_seen};
+ghost use Rattle.history.specs.Entry.{words_at, room_of, entry_cpu, event_of, HasFewWords, HasWithin, HasWords, HasStored, IsEntered};
 ghost use Rattle.history.specs.EventRef.{event_seen};
 ghost use Rattle.history.specs.Room.{spare};
 
 use crate::event_ref::EventRef;
-use rmi_view::ReplyRef;
-use rmm_spec::FunctionId;
+use rmi_view::{CommandRef, ReplyRef};
+use rmm_spec::{Event, FunctionId, Reply};
 use std::alloc::AllocError;
 
 /// Where the words of an event stand.
@@ -17,35 +22,31 @@ pub struct Stretch {
     pub count: u8,
 }
 
-/// An event without its words, which stand among the words of all events.
+/// An event without its words, which stand among the words of all events, and without its number, which its place tells.
 #[derive(Clone, Copy)]
 pub enum Entry {
     Called {
         cpu: u8,
         function: FunctionId,
         count: u8,
-        number: u32,
         first: u32,
     },
     Answered {
         cpu: u8,
         count: u8,
-        number: u32,
         first: u32,
     },
     Refused {
         cpu: u8,
-        number: u32,
         status: u8,
         index: u8,
     },
     Misplaced {
         cpu: u8,
-        number: u32,
     },
 }
 
-const _: () = prove!(size_of::<Entry>() == 12);
+const _: () = prove!(size_of::<Entry>() == 8);
 
 /// Takes memory for one event more, where it isn't there.
 pub fn reserve_event(entries: &mut Vec<Entry>, words: &mut Vec<u64>) -> Result<(), AllocError>
@@ -91,37 +92,22 @@ fn enter(words: &mut Vec<u64>, event: EventRef<'_>) -> Result<Entry, AllocError>
     ensures capacity { vec_capacity words.old ≤ vec_capacity words.new }
 {
     match event {
-        EventRef::Called {
-            cpu,
-            number,
-            command,
-        } => {
+        EventRef::Called { cpu, command, .. } => {
             let Stretch { first, count } = append(words, command.words)?;
             Ok(Entry::Called {
                 cpu,
                 function: command.function,
                 count,
-                number,
                 first,
             })
         }
-        EventRef::Returned { cpu, number, reply } => match reply {
+        EventRef::Returned { cpu, reply, .. } => match reply {
             ReplyRef::Ok(given) => {
                 let Stretch { first, count } = append(words, given)?;
-                Ok(Entry::Answered {
-                    cpu,
-                    count,
-                    number,
-                    first,
-                })
+                Ok(Entry::Answered { cpu, count, first })
             }
-            ReplyRef::Err(status, index) => Ok(Entry::Refused {
-                cpu,
-                number,
-                status,
-                index,
-            }),
-            ReplyRef::Misplaced => Ok(Entry::Misplaced { cpu, number }),
+            ReplyRef::Err(status, index) => Ok(Entry::Refused { cpu, status, index }),
+            ReplyRef::Misplaced => Ok(Entry::Misplaced { cpu }),
         },
     }
 }
@@ -146,6 +132,90 @@ fn append(words: &mut Vec<u64>, more: &[u64]) -> Result<Stretch, AllocError>
         first,
         count: more.len() as u8,
     })
+}
+
+/// The event of an entry, of the call with that number.
+pub fn event_of(words: &[u64], number: u32, entry: Entry) -> Event
+    requires { HasWords (length words.now) entry }
+    ensures { result ≡ event_of words.now number entry }
+{
+    match entry {
+        Entry::Called {
+            cpu,
+            function,
+            count,
+            first,
+        } => {
+            let words = words_at(words, Stretch { first, count });
+            Event::Called {
+                cpu,
+                number,
+                command: CommandRef { function, words }.to_command(),
+            }
+        }
+        Entry::Answered { cpu, count, first } => {
+            let words = words_at(words, Stretch { first, count });
+            let reply = ReplyRef::Ok(words).to_reply();
+            Event::Returned { cpu, number, reply }
+        }
+        Entry::Refused { cpu, status, index } => {
+            let reply = Reply::Err(status, index);
+            Event::Returned { cpu, number, reply }
+        }
+        Entry::Misplaced { cpu } => {
+            let reply = Reply::Misplaced;
+            Event::Returned { cpu, number, reply }
+        }
+    }
+}
+
+/// The command of an entry, where it is a call's.
+pub fn command_of(words: &[u64], entry: Entry) -> Option<CommandRef<'_>>
+    requires { HasWords (length words.now) entry }
+    ensures some { IfSome result (λ command. (number : ℕ) → event_of words.now number entry ≡ event.Called (entry_cpu entry) number (command_seen command)) }
+    ensures few { IfSome result (λ command. length command.words.now ≤ 10) }
+    ensures none { IfNone result ((number cpu other : ℕ) (command : Command) → event_of words.now number entry ≢ event.Called cpu other command) }
+{
+    match entry {
+        Entry::Called {
+            function,
+            count,
+            first,
+            ..
+        } => Some(CommandRef {
+            function,
+            words: words_at(words, Stretch { first, count }),
+        }),
+        _ => None,
+    }
+}
+
+/// The reply of an entry, where it is a return's.
+pub fn reply_of(words: &[u64], entry: Entry) -> Option<ReplyRef<'_>>
+    requires { HasWords (length words.now) entry }
+    ensures some { IfSome result (λ given. (number : ℕ) → event_of words.now number entry ≡ event.Returned (entry_cpu entry) number (reply_seen given)) }
+    ensures few { IfSome result (λ given. seen.HasFewWords (reply_seen given)) }
+    ensures none { IfNone result ((number cpu other : ℕ) (given : Reply) → event_of words.now number entry ≢ event.Returned cpu other given) }
+{
+    match entry {
+        Entry::Called { .. } => None,
+        Entry::Answered { count, first, .. } => {
+            Some(ReplyRef::Ok(words_at(words, Stretch { first, count })))
+        }
+        Entry::Refused { status, index, .. } => Some(ReplyRef::Err(status, index)),
+        Entry::Misplaced { .. } => Some(ReplyRef::Misplaced),
+    }
+}
+
+pub fn entry_cpu(entry: Entry) -> u8
+    ensures { result ≡ entry_cpu entry }
+{
+    match entry {
+        Entry::Called { cpu, .. }
+        | Entry::Answered { cpu, .. }
+        | Entry::Refused { cpu, .. }
+        | Entry::Misplaced { cpu } => cpu,
+    }
 }
 
 /// The words that stand there.

@@ -2,16 +2,18 @@
 
 ghost use Rattle.std.specs.Prelude.{◌≡◌, ℕ, ◌+◌, ◌<◌, ◌≤◌, ◌↔◌, [], ◌∷◌, ◌++◌, length, slice_get, Some, IsTrue, IsOk, IfOk, IfSome, IfNone, OnOk, OnErr};
 ghost use Rattle.rmm_spec.specs.declared.command.Command.{Command};
+ghost use Rattle.rmm_spec.specs.declared.event.Event.{Event};
 ghost use Rattle.rmm_spec.specs.declared.reply.Reply.{Reply};
 ghost use Rattle.rmm_spec.specs.HistoryText.{IsHistory, CanFollow, cpu_of};
 ghost use Rattle.rmm_spec.specs.Linearization.{IsCalled, IsReturned, IsKnown, IsFinished};
 ghost use Rattle.history.specs.Calls.{line_at, ArePlacesOf, IsCallOf};
 ghost use Rattle.history.specs.EventRef.{event_seen};
+ghost use Rattle.history.specs.Spelling.{call_number};
 ghost use Rattle.rmi_view.specs.Seen.{command_seen, reply_seen, HasFewWords};
 ghost use Rattle.history.specs.Index.{IsSubhistory};
 ghost use Rattle.history.specs.Next.{HasText, Continues};
 
-use crate::entry::{Entry, Stretch, reserve_event, store, words_at};
+use crate::entry::{Entry, command_of, entry_cpu, event_of, reply_of, reserve_event, store};
 use crate::event_ref::EventRef;
 use crate::subhistory::{Subhistory, copies, make_room_at};
 use granule_state::Config;
@@ -119,7 +121,7 @@ impl History {
     pub fn is_empty(&self) -> bool
         ensures { IsTrue result ↔ (self.now.recorded.events ≡ []) }
     {
-        self.entries.is_empty()
+        self.len() == 0
     }
 
     /// The event at a place.
@@ -127,45 +129,18 @@ impl History {
         requires { place < length self.now.recorded.events }
         ensures { slice_get self.now.recorded.events place ≡ Some result }
     {
-        match self.entries[place] {
-            Entry::Called {
-                cpu,
-                function,
-                count,
-                number,
-                first,
-            } => {
-                let words = words_at(&self.words, Stretch { first, count });
-                Event::Called {
-                    cpu,
-                    number,
-                    command: CommandRef { function, words }.to_command(),
-                }
-            }
-            Entry::Answered {
-                cpu,
-                count,
-                number,
-                first,
-            } => {
-                let words = words_at(&self.words, Stretch { first, count });
-                let reply = ReplyRef::Ok(words).to_reply();
-                Event::Returned { cpu, number, reply }
-            }
-            Entry::Refused {
-                cpu,
-                number,
-                status,
-                index,
-            } => {
-                let reply = Reply::Err(status, index);
-                Event::Returned { cpu, number, reply }
-            }
-            Entry::Misplaced { cpu, number } => {
-                let reply = Reply::Misplaced;
-                Event::Returned { cpu, number, reply }
-            }
-        }
+        event_of(&self.words, self.number_at(place), self.entries[place])
+    }
+
+    /// The number of the call of the event at a place.
+    fn number_at(&self, place: usize) -> u32
+        requires { place < length self.now.recorded.events }
+        ensures { (event : Event) → slice_get self.now.recorded.events place ≡ Some event → call_number event ≡ result }
+    {
+        let Some(subhistory) = self.subhistory(entry_cpu(self.entries[place])) else {
+            unreachable!()
+        };
+        (subhistory.rank_of(place as u32) / 2) as u32
     }
 
     /// The CPU and the number of the call at a place, where the event there is a call.
@@ -174,10 +149,10 @@ impl History {
         ensures some { IfSome result (λ call. (command : Command) × IsCalled self.now.recorded.events place call.0 call.1 command) }
         ensures none { IfNone result ((cpu number : ℕ) (command : Command) → ¬ IsCalled self.now.recorded.events place cpu number command) }
     {
-        let Entry::Called { cpu, number, .. } = self.entries[place] else {
+        let Entry::Called { cpu, .. } = self.entries[place] else {
             return None;
         };
-        Some((cpu, number))
+        Some((cpu, self.number_at(place)))
     }
 
     /// The command of the call at a place, where the event there is a call.
@@ -187,18 +162,7 @@ impl History {
         ensures few { IfSome result (λ command. length command.words.now ≤ 10) }
         ensures none { IfNone result ((cpu number : ℕ) (command : Command) → ¬ IsCalled self.now.recorded.events place cpu number command) }
     {
-        match self.entries[place] {
-            Entry::Called {
-                function,
-                count,
-                first,
-                ..
-            } => Some(CommandRef {
-                function,
-                words: words_at(&self.words, Stretch { first, count }),
-            }),
-            _ => None,
-        }
+        command_of(&self.words, self.entries[place])
     }
 
     /// The reply of the return at a place, where the event there is a return.
@@ -208,15 +172,7 @@ impl History {
         ensures few { IfSome result (λ given. HasFewWords (reply_seen given)) }
         ensures none { IfNone result ((cpu number : ℕ) (given : Reply) → ¬ IsReturned self.now.recorded.events place cpu number given) }
     {
-        match self.entries[place] {
-            Entry::Called { .. } => None,
-            Entry::Answered { count, first, .. } => Some(ReplyRef::Ok(words_at(
-                &self.words,
-                Stretch { first, count },
-            ))),
-            Entry::Refused { status, index, .. } => Some(ReplyRef::Err(status, index)),
-            Entry::Misplaced { .. } => Some(ReplyRef::Misplaced),
-        }
+        reply_of(&self.words, self.entries[place])
     }
 
     /// The law that every value keeps.

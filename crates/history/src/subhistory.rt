@@ -55,6 +55,19 @@ impl Subhistory {
         self.places.push_reserved(place);
     }
 
+    /// The rank of the event at a place.
+    pub fn rank_of(&self, place: u32) -> usize
+        requires rising { (i j : ℕ) → i ≤ j → j < length self.now.places.items → slice_index self.now.places.items i ≤ slice_index self.now.places.items j }
+        requires found { (ranked : ℕ) × (ranked < length self.now.places.items) × (slice_index self.now.places.items ranked ≡ place) }
+        ensures within { result < length self.now.places.items }
+        ensures place { slice_index self.now.places.items result ≡ place }
+    {
+        match self.places.binary_search(&place) {
+            Ok(rank) => rank,
+            Err(_) => unreachable!(),
+        }
+    }
+
     /// The place of a call.
     pub fn called(&self, number: u32) -> Option<u32>
         ensures { let rank = number + number in MatchOption result (length self.now.places.items ≤ rank)

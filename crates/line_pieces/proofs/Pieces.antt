@@ -1,6 +1,9 @@
 -- What the first bytes of a text say of its bad line.
-use Rattle.std.proofs.Common.{◌≡◌, ◌≢◌, ℕ, zero, suc, ◌+◌, ◌<◌, ◌≤◌, List, [], ◌∷◌, ◌++◌, length, take, if◌then◌else◌, refl, sym, ap, ◌∙◌, subst, arith, ⊎_elim, append_assoc, length-append, ◌==◌}
+use Rattle.std.proofs.Common.{◌≡◌, ◌≢◌, ℕ, zero, suc, ◌+◌, ◌<◌, ◌≤◌, List, [], ◌∷◌, ◌++◌, length, get_or, take, drop, if◌then◌else◌, refl, sym, ap, ◌∙◌, subst, arith, ⊎_elim, append_assoc, length-append, take-append-drop, drop-cons, ◌==◌}
+use Rattle.std.specs.List.{flat_map}
 use Rattle.std.proofs.lemmas.Bool.{cases_lt, ne_eqb}
+use Rattle.std.proofs.lemmas.List.{append-nil}
+use Rattle.std.proofs.lemmas.List.Concat.{flat_map-append}
 use Rattle.rmm_spec.proofs.Lines.{AreOneLineEach, IsLineGrammar, IsBadLine-after, first_lines-line}
 use Rattle.rmm_spec.specs.Text.{HasNoNewline, IsBadLine, first_lines, line_text, lines_text}
 use Rattle.line_pieces.specs.Newlines.{newlines}
@@ -67,3 +70,26 @@ newlines-lines (line ∷ good) rest each none =
     ap newlines (append_assoc (line_text line) (10 ∷ lines_text good) rest)
     ∙ newlines-line (line_text line) (lines_text good ++ rest) each.0.has_no_newline in
     omega (arith, cut, newlines-lines good rest each.1 none)
+
+-- ---- pieces, joined
+
+-- those before one, that one and those behind it
+pub flat_map_at : {X : Type 0} (f : X → List ℕ) (xs : List X) (i : ℕ) (d : X) → i < length xs
+    → flat_map f (take i xs) ++ (f (get_or xs i d) ++ flat_map f (drop (suc i) xs)) ≡ flat_map f xs
+flat_map_at f xs i d within =
+    ap (λ r. flat_map f (take i xs) ++ r) (sym (ap (flat_map f) (drop-cons xs i d within)))
+    ∙ sym (flat_map-append f (take i xs) (drop i xs)) ∙ ap (flat_map f) (take-append-drop i xs)
+
+-- those up to one, and that one
+flat_map-suc : {X : Type 0} (f : X → List ℕ) (xs : List X) (i : ℕ) (d : X) → i < length xs
+    → flat_map f (take i xs) ++ f (get_or xs i d) ≡ flat_map f (take (suc i) xs)
+flat_map-suc f [] i d within = absurd (omega (arith, within))
+flat_map-suc f (x ∷ xs) zero d within = sym (append-nil (f x))
+flat_map-suc f (x ∷ xs) (suc i) d within =
+    append_assoc (f x) (flat_map f (take i xs)) (f (get_or xs i d))
+    ∙ ap (λ r. f x ++ r) (flat_map-suc f xs i d (let h : i < length xs = omega (arith, within) in h))
+
+pub flat_map-next : {X : Type 0} (f : X → List ℕ) (xs : List X) (i : ℕ) (d : X) → i < length xs
+    → flat_map f (take i xs) ++ f (get_or xs i d) ≡ flat_map f (take (i + 1) xs)
+flat_map-next f xs i d within =
+    flat_map-suc f xs i d within ∙ ap (λ n. flat_map f (take n xs)) (let e : suc i ≡ i + 1 = omega arith in e)

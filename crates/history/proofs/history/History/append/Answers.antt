@@ -1,10 +1,9 @@
 use Rattle.std.proofs.Common.{arith, ◌≡◌, ◌<◌, length, false, true, refl}
-use Rattle.std.proofs.lemmas.List.{length-map}
-use Rattle.history.specs.Entry.{event_of, events_in, room_of}
+use Rattle.history.specs.Entry.{events_in, room_of}
 use Rattle.history.specs.Room.{spare}
 use Rattle.history.specs.EventRef.{event_seen}
-use Rattle.history.proofs.SubhistoryLaws.{IsIndexed-push, IsIndexed-refused, has_subhistory}
-use Rattle.history.proofs.EntryLaws.{IsHeld-stored, events_in-stored, few_words}
+use Rattle.history.proofs.SubhistoryLaws.{IsIndexed-push, IsIndexed-refused, has_subhistory, next_rank}
+use Rattle.history.proofs.EntryLaws.{IsHeld-stored, events_in-stored, length-events_in, few_words}
 use Rattle.history.proofs.RoomLaws.{least_spare-limit, room_left, room_at}
 use Rattle.history.proofs.history.History.append.Goals as goal
 
@@ -58,7 +57,7 @@ pub store-requires-clause-words : goal.store-requires-clause-words
 store-requires-clause-words c =
     let inside = c.self.inside in
     let line = rw (← c.self.view_is) at c.requires.line in
-    omega (arith, line, c.self.invariant.held.few_words, length-map inside.entries.items (event_of inside.words.items))
+    omega (arith, line, c.self.invariant.held.few_words, length-events_in inside.words.items inside.entries.items)
 
 pub invariant_of-self-2 : goal.invariant_of-self-2
 invariant_of-self-2 c =
@@ -66,9 +65,10 @@ invariant_of-self-2 c =
     let follows = rw (← c.self.view_is) at c.requires.follows in
     let line = rw (← c.self.view_is) at c.requires.line in
     let stored = c.in_ok-store.ensures.ok in
-    let events = events_in-stored inside.words.items _ inside.entries.items _ _ c.self.invariant.held stored in
+    let ranked = next_rank (events_in inside.words.items inside.entries.items) (event_seen c.args.event) follows.record_goes_on in
+    let events = events_in-stored inside.words.items _ inside.entries.items _ _ c.self.invariant.held stored ranked in
     let counted : c.len-place.result ≡ length (events_in inside.words.items inside.entries.items) =
-    omega (arith, c.len-place.ensures, length-map inside.entries.items (event_of inside.words.items), inside.entries.ok.0) in
+    omega (arith, c.len-place.ensures, length-events_in inside.words.items inside.entries.items, inside.entries.ok.0) in
     let entered = rw (c.make_room.ensures.kept, counted, c.cpu_of.ensures) at c.enter.ensures.entered in
     record {
       held = IsHeld-stored inside.words.items _ inside.entries.items _ _ c.self.invariant.held stored;
@@ -80,7 +80,9 @@ invariant_of-self-2 c =
 pub returns-clause-ok : goal.returns-clause-ok
 returns-clause-ok c =
     let inside = c.self.inside in
-    rw (← c.self.view_is) (rw (events_in-stored inside.words.items _ inside.entries.items _ _ c.self.invariant.held c.in_ok-store.ensures.ok) refl)
+    let follows = rw (← c.self.view_is) at c.requires.follows in
+    let ranked = next_rank (events_in inside.words.items inside.entries.items) (event_seen c.args.event) follows.record_goes_on in
+    rw (← c.self.view_is) (rw (events_in-stored inside.words.items _ inside.entries.items _ _ c.self.invariant.held c.in_ok-store.ensures.ok ranked) refl)
 
 pub invariant_of-self-in_err-store : goal.invariant_of-self-in_err-store
 invariant_of-self-in_err-store c =
@@ -94,3 +96,9 @@ invariant_of-self-in_err-store c =
       indexed = IsIndexed-refused inside.config events inside.subhistories c.cpu_of.result c.index-self-cpu_of.result _ c.self.invariant.indexed within
           c.make_room.ensures.kept;
     })
+
+pub overflow_cast-place : goal.overflow_cast-place
+overflow_cast-place c =
+    let inside = c.self.inside in
+    let line = rw (← c.self.view_is) at c.requires.line in
+    omega (arith, line, c.len-place.ensures, length-events_in inside.words.items inside.entries.items, inside.entries.ok.0)

@@ -1,0 +1,46 @@
+-- The entry at the place has its words, and stands for the event there.
+use Rattle.std.proofs.Common.{length, Some, ap, sym, ◌∙◌, subst, arith}
+use Rattle.std.proofs.lemmas.Option.{IfSome_then, same_Some}
+use Rattle.rmm_spec.specs.declared.event.Event.{Event}
+use Rattle.history.specs.Entry.{entry_cpu}
+use Rattle.history.proofs.EntryLaws.{IsEntryAt, IsEntryAt-read, IfNone_then, length-events_in}
+use Rattle.history.proofs.history.History.command_at.Goals as goal
+
+pub index-requires : goal.index-requires
+index-requires c =
+    let inside = c.self.inside in
+    omega (
+      arith,
+      c.requires,
+      ap (λ recording. length recording.recorded.events) c.self.view_is,
+      length-events_in inside.words.items inside.entries.items,
+    )
+
+pub command_of-requires : goal.command_of-requires
+command_of-requires c =
+    let inside = c.self.inside in
+    let at =
+    subst (λ ws. IsEntryAt ws c.args.self.now.recorded.events c.args.place c.index.result.now) (sym c.deref.ensures.value)
+    (IsEntryAt-read inside.words.items inside.entries.items c.args.self.now.recorded.events c.args.place c.index.result.now c.self.invariant.held
+    (ap (λ recording. recording.recorded.events) c.self.view_is) c.requires c.index.ensures) in
+    at.has_words
+
+pub returns-clause-some : goal.returns-clause-some
+returns-clause-some c =
+    let inside = c.self.inside in
+    let at =
+    subst (λ ws. IsEntryAt ws c.args.self.now.recorded.events c.args.place c.index.result.now) (sym c.deref.ensures.value)
+    (IsEntryAt-read inside.words.items inside.entries.items c.args.self.now.recorded.events c.args.place c.index.result.now c.self.invariant.held
+    (ap (λ recording. recording.recorded.events) c.self.view_is) c.requires c.index.ensures) in
+    IfSome_then c.command_of.result c.command_of.ensures.some
+    (λ command is. (entry_cpu c.index.result.now, at.number, at.is_event ∙ ap (λ (e : Event). Some e) (is at.number)))
+
+pub returns-clause-none : goal.returns-clause-none
+returns-clause-none c =
+    let inside = c.self.inside in
+    let at =
+    subst (λ ws. IsEntryAt ws c.args.self.now.recorded.events c.args.place c.index.result.now) (sym c.deref.ensures.value)
+    (IsEntryAt-read inside.words.items inside.entries.items c.args.self.now.recorded.events c.args.place c.index.result.now c.self.invariant.held
+    (ap (λ recording. recording.recorded.events) c.self.view_is) c.requires c.index.ensures) in
+    IfNone_then c.command_of.result c.command_of.ensures.none
+    (λ none cpu number command is. none at.number cpu number command (same_Some _ _ (sym at.is_event ∙ is)))
