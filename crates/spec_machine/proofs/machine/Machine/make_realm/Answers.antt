@@ -8,7 +8,7 @@ unfolding state_of changed
 invariant_of-self-2 c =
     let a = c.args in
     let m = a.self.now in
-    rw (c.set_realm.ensures.state, c.set_tag-2.ensures.state, c.set_tag.ensures.state, c.in_ok-put_root.ensures.ok, c.new_realm-realm.ensures, c.from.ensures, c.new.ensures, c.give-2.ensures, c.give.ensures)
+    rw (c.set_realm.ensures.state, c.set_tag-2.ensures.state, c.set_tag.ensures.state, c.in_ok-put_root.ensures.ok, c.from_words-realm.ensures, c.from.ensures, c.new.ensures, c.give-2.ensures, c.give.ensures)
     (record {
       kept = realm_made-kept m a.rd a.root a.width a.level a.vmid a.algo (omega arith) c.requires;
       inside = m.inside;
