@@ -1,7 +1,6 @@
 -- How a reader of a certificate, with its lines so far, comes to the certificate of a text or to its bad line.
-use Rattle.std.proofs.Common.{◌≡◌, ◌≢◌, ℕ, ◌+◌, ◌<◌, ◌≤◌, List, [], ◌∷◌, ◌++◌, map, length, Bool, false, Result, Err, sym, ap, ◌∙◌, subst, arith, append_assoc, length-append, ⊎_elim}
-use Rattle.std.specs.Prelude.{IsTrue, ◌↔◌, IfErr}
-use Rattle.std.proofs.lemmas.Bool.{cases_lt, false≢true}
+use Rattle.std.proofs.Common.{◌≡◌, ◌≢◌, ℕ, ◌+◌, ◌<◌, List, [], ◌∷◌, ◌++◌, map, length, Result, Err, sym, ap, ◌∙◌, subst, arith, append_assoc, length-append}
+use Rattle.std.specs.Prelude.{IfErr}
 use Rattle.std.proofs.lemmas.List.{append-nil, length-map, map_push}
 use Rattle.std.proofs.lemmas.List.Splits.{join_with_byte-slice_split}
 use Rattle.certificate.specs.Faults.{IsFaultOf}
@@ -67,28 +66,6 @@ certificate_text-push lines next text bytes rest later is_text rest_is of_line =
     ∙ ap (λ r. certificate_text lines ++ r) (sym (append_assoc (line_text (line_parts next)) (10 ∷ []) later))
     ∙ sym (append_assoc (certificate_text lines) (line_text (line_parts next) ++ 10 ∷ []) later)
     ∙ ap (λ t. t ++ later) (sym (ap lines_text (map_push line_parts lines next) ∙ lines_text-push (map line_parts lines) (line_parts next)))
-
--- a certificate without room has all its lines
-pub full_lines : (lines : List Line) (answer : Bool) → IsCertificate lines → IsTrue answer ↔ (length lines < 1000000) → answer ≡ false → length lines ≡ 1000000
-full_lines lines answer is_certificate says full =
-    let few = is_certificate.count in
-    ⊎_elim
-    (λ (room : length lines < 1000000). absurd (false≢true (sym full ∙ says.1 room)))
-    (λ (past : 1000000 ≤ length lines). omega (arith, few))
-    (cases_lt (length lines) 1000000)
-
--- memory can be refused for a line that follows those that were read
-pub BeginsWith-next : (lines : List Line) (next : Line) (text bytes rest later : List ℕ) → IsCertificate lines → length lines < 1000000 → text ≡ certificate_text lines ++ rest
-    → rest ≡ bytes ++ 10 ∷ later → IsLineOf (parts_of bytes) next → IsFaultOf text NoMemory
-BeginsWith-next lines next text bytes rest later is_certificate room is_text rest_is of_line = (
-  lines ++ next ∷ [],
-  omega (arith, length-append lines (next ∷ [])),
-  record {
-    more = later;
-    is_certificate = IsCertificate-push lines next is_certificate of_line.is_line room;
-    is_text = certificate_text-push lines next text bytes rest later is_text rest_is of_line;
-  },
-)
 
 -- memory can be refused for the writing of a certificate that has a line
 pub BeginsWith-written : (lines : List Line) (text : List ℕ) → IsCertificateText text lines → 0 < length (certificate_text lines) → IsFaultOf text NoMemory

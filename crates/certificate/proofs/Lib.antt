@@ -1,4 +1,5 @@
 mod HeldLemmas
 mod SpellingLemmas
 mod GrammarLemmas
+pub mod PieceLemmas
 pub mod WriteLemmas

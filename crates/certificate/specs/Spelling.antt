@@ -1,5 +1,5 @@
 -- The parts of a line of a certificate.
-use Rattle.std.specs.Prelude.{◌≡◌, ℕ, List, [], ◌∷◌, ◌++◌}
+use Rattle.std.specs.Prelude.{◌≡◌, ℕ, List}
 use Rattle.rmm_spec.specs.CertificateText.{IsLine, line_parts}
 use Rattle.rmm_spec.specs.declared.line.Line.{Line}
 
@@ -11,9 +11,3 @@ pub record IsLineOf (parts : List (List ℕ)) (line : Line) : Type 0 where
 -- no line of a certificate has these parts
 abbrev pub IsNoLine : List (List ℕ) → Type 0
 IsNoLine parts = (line : Line) → IsLineOf parts line → ⊥
-
--- the line that the parts spell was appended
-pub record HasTaken (old new : List Line) (parts : List (List ℕ)) : Type 0 where
-  pub line : Line
-  pub is_line : IsLineOf parts line
-  pub taken : new ≡ old ++ line ∷ []

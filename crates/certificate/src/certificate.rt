@@ -64,6 +64,27 @@ pub enum LineRef<'a> {
     },
 }
 
+impl<'a> LineRef<'a> {
+    ghost use Rattle.certificate.specs.LineRef.{line_seen};
+
+    /// A line, seen where it lies.
+    pub fn of(line: &'a Line) -> LineRef<'a>
+        ensures { line_seen result ≡ line.now }
+    {
+        match line {
+            Line::Keep { cpu, number } => LineRef::Keep {
+                cpu: *cpu,
+                number: *number,
+            },
+            Line::Unfinished { cpu, number, reply } => LineRef::Unfinished {
+                cpu: *cpu,
+                number: *number,
+                reply,
+            },
+        }
+    }
+}
+
 impl Certificate {
     ghost use Rattle.certificate.specs.LineRef.{line_seen};
     ghost use Rattle.rmm_spec.specs.declared.line.Line.TheVariants as line;
@@ -134,7 +155,7 @@ impl Certificate {
 
     /// Appends the line of a finished call, as `push` does.
     #[inline(always)]
-    pub(crate) fn keep(&mut self, cpu: u8, number: u32) -> Result<(), AllocError>
+    fn keep(&mut self, cpu: u8, number: u32) -> Result<(), AllocError>
         requires is_line { IsLine (line.Keep cpu number) }
         requires room { length self.old.lines < MOST_LINES }
         ensures ok { OnOk result (self.new.lines ≡ self.old.lines ++ line.Keep cpu number ∷ []) }
@@ -148,7 +169,7 @@ impl Certificate {
 
     /// Appends the line of an unfinished call, as `push` does.
     #[inline(never)]
-    pub(crate) fn claim(&mut self, cpu: u8, number: u32, reply: Reply) -> Result<(), AllocError>
+    fn claim(&mut self, cpu: u8, number: u32, reply: Reply) -> Result<(), AllocError>
         requires is_line { IsLine (line.Unfinished cpu number reply) }
         requires room { length self.old.lines < MOST_LINES }
         ensures ok { OnOk result (self.new.lines ≡ self.old.lines ++ line.Unfinished cpu number reply ∷ []) }

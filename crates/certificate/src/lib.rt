@@ -5,17 +5,19 @@
 //! The checker depends on it.
 #![tactic(auto)]
 
+mod beginning;
 mod certificate;
 mod fault;
 mod laws;
 mod line;
 mod reader;
+mod spelled;
 mod writing;
 
 pub use certificate::{Certificate, LineRef, MOST_LINES};
 pub use fault::CertFault;
 pub use laws::{read_back, rewritten};
 pub use line::is_line;
-pub use reader::read;
+pub use reader::{Reader, read};
 pub use rmm_spec::{Line, Reply};
 pub use writing::write;

@@ -1,54 +1,98 @@
 //! Texts, read to certificates.
 
-ghost use Rattle.std.specs.Prelude.{◌≡◌, ◌<◌, length, false, IsTrue, IfOk, IfErr, OnErr};
+ghost use Rattle.std.specs.Prelude.{◌≡◌, ◌≢◌, ◌+◌, ◌<◌, ◌≤◌, ℕ, List, [], ◌++◌, length, take, Ok, Err, IsOk, IfOk, IfErr, OnOk, OnErr, MatchResult};
 ghost use Rattle.certificate.specs.Faults.{IsFaultOf};
-ghost use Rattle.certificate.specs.Spelling.{HasTaken, IsLineOf, IsNoLine};
+ghost use Rattle.certificate.specs.Pieces.{IsReadTo, Takes, with_told};
+ghost use Rattle.certificate.specs.declared.fault.CertFault.TheVariants.{BadLine, NoMemory};
+ghost use Rattle.rmm_spec.specs.CertificateText.{InCertificates, IsCertificate, IsCertificateText};
+ghost use Rattle.rmm_spec.specs.Text.{IsBadLine};
 ghost use Rattle.rmm_spec.specs.declared.line.Line.{Line};
-ghost use Rattle.rmm_spec.specs.CertificateText.{IsCertificateText};
-ghost use Rattle.rmm_spec.specs.Text.{parts_of};
 
+use crate::beginning::Beginning;
 use crate::certificate::{Certificate, MOST_LINES};
 use crate::fault::CertFault;
-use crate::line::{CALLS, CPUS};
-use rmi_codec::{Head, Parts, head_from, next_line, reply_from};
+use rmm_spec::Line;
 use std::alloc::{AllocError, Global};
+use std::marker::Model;
 
-// Appends the line that the bytes spell, where they spell one. The words of a reply are read to the buffer.
-fn take_line(
-    lines: &mut Certificate,
-    words: &mut [u64; 10],
-    bytes: &[u8],
-) -> Result<bool, AllocError>
-    requires { length lines.old.lines < MOST_LINES }
-    ensures taken { IfOk result (λ done. IsTrue done → HasTaken lines.old.lines lines.new.lines (parts_of bytes.now)) }
-    ensures refused { IfOk result (λ done. done ≡ false → IsNoLine (parts_of bytes.now)) }
-    ensures no_memory { OnErr result ((line : Line) × IsLineOf (parts_of bytes.now) line) }
-{
-    let mut parts = Parts::of(bytes);
-    let Some(
-        Head {
-            letter,
-            cpu,
-            number,
-        },
-    ) = head_from(&mut parts, CPUS, CALLS)
-    else {
-        return Ok(false);
-    };
-    match letter {
-        b'k' => match parts.next_part() {
-            None => lines.keep(cpu, number)?,
-            Some(_) => return Ok(false),
-        },
-        b'u' => {
-            let Ok(reply) = reply_from(words, parts) else {
-                return Ok(false);
-            };
-            lines.claim(cpu, number, reply.to_reply())?;
+/// Reads a certificate's lines from a text that comes in pieces, in one pass and without memory. Contracts see how many lines
+/// were told and the beginning of the next, at most 256 bytes, or the number of the bad line by which the reader has failed.
+#[derive(Drop)]
+pub struct Reader {
+    beginning: Beginning,
+    failed: Option<u64>,
+}
+
+impl Model for Reader {
+    ghost use Rattle.std.specs.Prelude.{ℕ, Result};
+    ghost use Rattle.certificate.specs.Pieces.{Begun, begun_or_fault};
+
+    ghost Value = { Result Begun ℕ };
+
+    ghost view = { λ reader. begun_or_fault reader.beginning reader.failed };
+}
+
+impl Reader {
+    /// No byte yet.
+    pub fn new() -> Reader
+        ensures { result ≡ Ok (record { count = 0; begun = [] }) }
+    {
+        Reader {
+            beginning: Beginning::new(),
+            failed: None,
         }
-        _ => return Ok(false),
     }
-    Ok(true)
+
+    /// How many lines were told.
+    pub fn count(&self) -> usize
+        ensures count { IfOk self.now (λ kept. result ≡ kept.count) }
+        ensures most { result ≤ MOST_LINES }
+    {
+        self.beginning.count()
+    }
+
+    /// Takes the piece's bytes up to the next newline and with it, and tells how many and the line that it ends; or all, where
+    /// there is no newline. A line is told to be bad as soon as it is whatever follows, and at the latest with its newline.
+    /// A reader that has failed tells the same line from then on.
+    pub fn next(&mut self, piece: &[u8]) -> Result<(usize, Option<Line>), CertFault>
+        ensures answered { MatchResult self.new (λ _. IsOk result) (λ line. result ≡ Err (BadLine line)) }
+        ensures taken { IfOk result (λ told. Takes piece.now told.0 told.1) }
+        ensures read { IfOk self.old (λ old. IfOk result (λ told. IfOk self.new (λ new. (text : List ℕ) (lines : List Line)
+            → IsReadTo text lines old → IsReadTo (text ++ take told.0 piece.now) (with_told lines told.1) new))) }
+        ensures bad { IfOk self.old (λ old. IfErr self.new (λ line. (text more : List ℕ) (lines : List Line)
+            → IsReadTo text lines old → IsBadLine InCertificates (text ++ (piece.now ++ more)) line)) }
+        ensures failed { IfErr self.old (λ line. self.new ≡ Err line) }
+    {
+        if let Some(line) = self.failed {
+            return Err(CertFault::BadLine(line));
+        }
+        match self.beginning.take(piece) {
+            Ok(told) => Ok(told),
+            Err(line) => {
+                self.failed = Some(line);
+                Err(CertFault::BadLine(line))
+            }
+        }
+    }
+
+    /// The text ends here. A last line without a newline is bad.
+    pub fn finish(self) -> Result<(), CertFault>
+        ensures whole { IfOk self (λ kept. OnOk result ((text : List ℕ) (lines : List Line)
+            → IsReadTo text lines kept → IsCertificateText text lines)) }
+        ensures bad { IfOk self (λ kept. IfErr result (λ fault. (line : ℕ) × ((fault ≡ BadLine line) × ((text : List ℕ) (lines : List Line)
+            → IsReadTo text lines kept → IsBadLine InCertificates text line)))) }
+        ensures failed { IfErr self (λ line. result ≡ Err (BadLine line)) }
+        ensures no_memory { result ≢ Err NoMemory }
+    {
+        let Reader { beginning, failed } = self;
+        if let Some(line) = failed {
+            return Err(CertFault::BadLine(line));
+        }
+        match beginning.finish() {
+            Ok(()) => Ok(()),
+            Err(line) => Err(CertFault::BadLine(line)),
+        }
+    }
 }
 
 /// Reads a certificate. The empty text is the one without lines, and a line past the most that there may be is bad.
@@ -56,21 +100,28 @@ pub fn read(alloc: Global, text: &[u8]) -> Result<Certificate, CertFault>
     ensures found { IfOk result (λ certificate. IsCertificateText text.now certificate.lines) }
     ensures fault { IfErr result (IsFaultOf text.now) }
 {
+    let mut reader = Reader::new();
     let mut lines = Certificate::new(alloc);
-    let mut words = [0; 10];
     let mut rest = text;
     while !rest.is_empty() {
-        let bad_line = CertFault::BadLine(lines.len() as u64 + 1);
-        if !lines.has_room() {
-            return Err(bad_line);
-        }
-        let Some((bytes, later)) = next_line(rest) else {
-            return Err(bad_line);
-        };
-        if !take_line(&mut lines, &mut words, bytes)? {
-            return Err(bad_line);
-        }
+        let (count, line) = reader.next(rest)?;
+        append_told(&mut lines, line)?;
+        let later = rest.split_at(count).1;
         rest = later;
     }
+    reader.finish()?;
     Ok(lines)
+}
+
+/// Appends the line that was told, where one was.
+#[inline(always)]
+fn append_told(lines: &mut Certificate, told: Option<Line>) -> Result<(), AllocError>
+    requires { IsCertificate (with_told lines.old.lines told) }
+    ensures ok { OnOk result (lines.new.lines ≡ with_told lines.old.lines told) }
+    ensures refused { OnErr result (0 < length (with_told lines.old.lines told)) }
+{
+    match told {
+        Some(line) => lines.push(line),
+        None => Ok(()),
+    }
 }

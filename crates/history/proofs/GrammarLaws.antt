@@ -1,19 +1,22 @@
 -- How a reader of a history, with its lines so far, comes to the history of a text or to its bad line.
-use Rattle.std.proofs.Common.{◌≡◌, ◌≢◌, ℕ, ◌+◌, ◌<◌, ◌≤◌, List, [], ◌∷◌, ◌++◌, map, length, refl, sym, ap, ◌∙◌, subst, arith, ⊎_elim, append_assoc, Bool, false, ◌==◌, Result, Err}
+use Rattle.std.proofs.Common.{◌≡◌, ◌≢◌, ℕ, zero, suc, ◌+◌, ◌<◌, ◌≤◌, List, [], ◌∷◌, ◌++◌, map, length, take, refl, sym, ap, ◌∙◌, subst, arith, ⊎_elim, append_assoc, Bool, false, ◌==◌, Result, Err}
 use Rattle.std.specs.Prelude.{IsTrue, ◌↔◌, IfErr}
 use Rattle.std.specs.List.{AllByRecursion}
 use Rattle.std.proofs.lemmas.Bool.{cases_lt, false≢true}
-use Rattle.std.proofs.lemmas.List.{append-nil, length-map, map_push, length_push}
+use Rattle.std.proofs.lemmas.List.{append-nil, length-map, map_push, length_push, take-map}
 use Rattle.std.proofs.lemmas.List.Sums.{length-filter, count_by-le-length}
 use Rattle.std.proofs.lemmas.List.Splits.{join_with_byte-slice_split}
 use Rattle.rmm_spec.specs.declared.event.Event.{Event}
 use Rattle.rmm_spec.specs.declared.event.Event.TheVariants.{Called, Returned}
+use Rattle.line_pieces.proofs.LineLengths.{length-line_text, width-called, width-returned, width-config}
+use Rattle.line_pieces.proofs.Pieces.{IsBadLine-too_long, behind_good, newlines-lines}
+use Rattle.line_pieces.specs.Newlines.{newlines}
 use Rattle.rmm_spec.specs.Text.{IsBadLine, line_text, lines_text, parts_of, HasNoNewline}
-use Rattle.rmm_spec.specs.HistoryText.{Config, History, IsHistory, InHistories, IsHistoryText, CanFollow, cpu_of, config_parts, event_parts, history_text, rank}
-use Rattle.rmm_spec.proofs.Lines.{AreOneLineEach, IsLineGrammar, IsBadLine-line, IsBadLine-unfinished, IsBadLine-full, IsOneLine-from_parts, AreOneLineEach-map, map_cut, lines_text-push, IsBadLine-end}
+use Rattle.rmm_spec.specs.HistoryText.{Config, History, IsHistory, IsEvent, InHistories, IsHistoryText, CanFollow, cpu_of, config_parts, event_parts, history_text, rank}
+use Rattle.rmm_spec.proofs.Lines.{AreOneLineEach, IsLineGrammar, IsBadLine-line, IsBadLine-unfinished, IsBadLine-full, append-cons-not_nil, IsOneLine-from_parts, AreOneLineEach-map, map_cut, lines_text-push, IsBadLine-end}
 use Rattle.rmm_spec.proofs.Texts.{config_parts-are_parts, config_parts-injective, event_parts-are_parts, event_parts-some, event_parts-injective}
 use Rattle.rmm_spec.proofs.Records.{CanFollow-from_push, IsHistory-push}
-use Rattle.rmm_spec.proofs.HistoryGrammar.{not-IsBadLine-history}
+use Rattle.rmm_spec.proofs.HistoryGrammar.{IsHistory-take, not-IsBadLine-history}
 use Rattle.history.specs.Faults.{BeginsWith, IsFaultOf, IsFaultOfRewriting}
 use Rattle.history.specs.declared.fault.HistoryFault.{HistoryFault}
 use Rattle.history.specs.declared.fault.HistoryFault.TheVariants.{BadLine, NoMemory}
@@ -58,20 +61,35 @@ unfinished_header (byte ∷ text) none =
     IsBadLine-unfinished histories_by_lines [] (byte ∷ text) (byte ∷ text) tt refl none (λ ended. cc) (λ none_before. absurd (omega (arith, none_before)))
 
 -- the first line is whole, and no header
-pub bad_header : (text front more : List ℕ) → text ≡ front ++ 10 ∷ more → HasNoNewline front → IsNoHeader (parts_of front) → IsBadLine InHistories text 1
-bad_header text front more is_text none no_header =
-    IsBadLine-line histories_by_lines [] text front more tt is_text none (λ none_before. absurd (omega (arith, none_before)))
+pub bad_header : (front more : List ℕ) → HasNoNewline front → IsNoHeader (parts_of front) → IsBadLine InHistories (front ++ 10 ∷ more) 1
+bad_header front more none no_header =
+    IsBadLine-line histories_by_lines [] (front ++ 10 ∷ more) front more tt refl none (λ none_before. absurd (omega (arith, none_before)))
     (λ taken.
     let same : parts_of front ∷ [] ≡ config_parts taken.history.config ∷ map event_parts taken.history.events = taken.spelled in
     let spelled : parts_of front ≡ config_parts taken.history.config = cc in
     no_header taken.history.config (record { is_config = taken.is_history.config; spelled = spelled }))
 
--- the text of a history without events, and what is left
-pub history_text-header : (config : Config) (text front more : List ℕ) → text ≡ front ++ 10 ∷ more → IsHeaderOf (parts_of front) config
-    → text ≡ history_text (record { config = config; events = [] }) ++ more
-history_text-header config text front more is_text is_header =
-    let spelled : line_text (config_parts config) ≡ front = ap line_text (sym is_header.spelled) ∙ join_with_byte-slice_split 32 front in
-    is_text ∙ ap (λ b. b ++ 10 ∷ more) (sym spelled) ∙ sym (append_assoc (line_text (config_parts config)) (10 ∷ []) more)
+-- the first line is longer than a header, whatever follows
+pub header_too_long : (rest more : List ℕ) → HasNoNewline rest → 256 < length rest → IsBadLine InHistories (rest ++ more) 1
+header_too_long rest more none long =
+    let some : 0 < length rest = omega (arith, long) in
+    IsBadLine-too_long histories_by_lines [] rest more tt none some (λ none_before. absurd (omega (arith, none_before)))
+    (λ line taken.
+    let same : line ∷ [] ≡ config_parts taken.history.config ∷ map event_parts taken.history.events = taken.spelled in
+    let spelled : line ≡ config_parts taken.history.config = cc in
+    omega (
+      arith,
+      long,
+      ap (λ l. length (line_text l)) spelled,
+      length-line_text (config_parts taken.history.config),
+      width-config taken.history.config taken.is_history.config,
+    ))
+
+-- the text of a history without events
+pub history_text-header : (config : Config) (front : List ℕ) → IsHeaderOf (parts_of front) config
+    → history_text (record { config = config; events = [] }) ≡ front ++ 10 ∷ []
+history_text-header config front is_header =
+    ap (λ b. b ++ 10 ∷ []) (ap line_text (sym is_header.spelled) ∙ join_with_byte-slice_split 32 front)
 
 -- ---- the events
 
@@ -109,12 +127,12 @@ counted history text bad =
     subst (λ n. IsBadLine InHistories text n) n bad
 
 -- the next line is whole, and no event's that may follow
-pub bad_line : (history : History) (rest front more : List ℕ) → IsHistory history → rest ≡ front ++ 10 ∷ more → HasNoNewline front
-    → (HasNext history (parts_of front) → ⊥) → IsBadLine InHistories (history_text history ++ rest) (length history.events + 2)
-bad_line history rest front more is_history rest_is none no_next =
-    counted history (history_text history ++ rest)
-    (IsBadLine-line histories_by_lines (history_lines history) (history_text history ++ rest) front more (history_lines-one_line history)
-    (ap (λ r. history_text history ++ r) rest_is) none (λ _. InHistories-from_lines history is_history)
+pub bad_line : (history : History) (front more : List ℕ) → IsHistory history → HasNoNewline front
+    → (HasNext history (parts_of front) → ⊥) → IsBadLine InHistories (history_text history ++ (front ++ 10 ∷ more)) (length history.events + 2)
+bad_line history front more is_history none no_next =
+    counted history (history_text history ++ (front ++ 10 ∷ more))
+    (IsBadLine-line histories_by_lines (history_lines history) (history_text history ++ (front ++ 10 ∷ more)) front more (history_lines-one_line history)
+    refl none (λ _. InHistories-from_lines history is_history)
     (λ taken. no_next (HasNext-lines history (parts_of front) is_history taken)))
 
 -- the text ends within a line
@@ -126,12 +144,12 @@ unfinished_line history rest is_history none some =
     refl none some (λ _. InHistories-from_lines history is_history))
 
 -- all lines are there, and the text goes on
-pub line_too_many : (history : History) (rest : List ℕ) → IsHistory history → rest ≢ [] → length history.events + 1 ≡ 1000000
-    → IsBadLine InHistories (history_text history ++ rest) (length history.events + 2)
-line_too_many history rest is_history some full =
-    counted history (history_text history ++ rest)
-    (IsBadLine-full histories_by_lines (history_lines history) (history_text history ++ rest) rest (history_lines-one_line history)
-    refl some (λ _. InHistories-from_lines history is_history)
+pub line_too_many : (history : History) (front more : List ℕ) → IsHistory history → length history.events + 1 ≡ 1000000
+    → IsBadLine InHistories (history_text history ++ (front ++ 10 ∷ more)) (length history.events + 2)
+line_too_many history front more is_history full =
+    counted history (history_text history ++ (front ++ 10 ∷ more))
+    (IsBadLine-full histories_by_lines (history_lines history) (history_text history ++ (front ++ 10 ∷ more)) (front ++ 10 ∷ more)
+    (history_lines-one_line history) refl (append-cons-not_nil front 10 more) (λ _. InHistories-from_lines history is_history)
     (λ line taken. let next = HasNext-lines history line is_history taken in let room = next.room in absurd (omega (arith, room))))
 
 -- a history without room has all its lines
@@ -185,8 +203,58 @@ HasNext-continues history line event is_event room goes_on = record {
   spelled = sym is_event.spelled;
 }
 
+-- the line of an event that may follow is shorter than what is kept of a line
+short_event : (history : History) → IsHistory history → (event : Event) → IsEvent history.config.cpus event → call_number event < 1000000
+    → length (line_text (event_parts event)) ≤ 190
+short_event history is_history (Called cpu number command) is_event below =
+    let few : cpu < 8 = (let limits = is_history.config in omega (arith, is_event.0, limits.most_cpus)) in
+    omega (arith, length-line_text (event_parts (Called cpu number command)), width-called cpu number command few below is_event.1)
+short_event history is_history (Returned cpu number given) is_event below =
+    let few : cpu < 8 = (let limits = is_history.config in omega (arith, is_event.0, limits.most_cpus)) in
+    omega (arith, length-line_text (event_parts (Returned cpu number given)), width-returned cpu number given few below is_event.1)
+
+-- the next line is longer than an event's, whatever follows
+pub line_too_long : (history : History) (rest more : List ℕ) → IsHistory history → HasNoNewline rest → 256 < length rest
+    → IsBadLine InHistories (history_text history ++ (rest ++ more)) (length history.events + 2)
+line_too_long history rest more is_history none long =
+    let some : 0 < length rest = omega (arith, long) in
+    counted history (history_text history ++ (rest ++ more))
+    (IsBadLine-too_long histories_by_lines (history_lines history) rest more (history_lines-one_line history) none some
+    (λ _. InHistories-from_lines history is_history)
+    (λ line taken.
+    let next = HasNext-lines history line is_history taken in
+    omega (
+      arith,
+      long,
+      ap (λ l. length (line_text l)) next.spelled,
+      short_event history is_history next.event next.can_follow.is_event (call_number-lt history next.event next.can_follow next.room),
+    )))
+
+-- the first lines of a history, its header among them, are a history's
+InHistories-front : (history : History) (n : ℕ) → IsHistory history → 0 < n → InHistories (lines_text (take n (history_lines history)))
+InHistories-front history zero is_history some = absurd (omega (arith, some))
+InHistories-front history (suc n) is_history some =
+    let front : History = record history { events = take n history.events } in (
+      front,
+      record {
+        is_history = IsHistory-take n history is_history;
+        is_text = ap (λ (ls : List (List (List ℕ))). lines_text (config_parts history.config ∷ ls)) (take-map event_parts n history.events);
+      },
+    )
+
+-- the bad line stands behind the lines of the history
+pub bad_behind : (history : History) (rest : List ℕ) (line : ℕ) → IsHistory history → HasNoNewline rest
+    → IsBadLine InHistories (history_text history ++ rest) line → newlines (history_text history ++ rest) < line
+bad_behind history rest line is_history none bad =
+    let each = history_lines-one_line history in
+    omega (
+      arith,
+      newlines-lines (history_lines history) rest each none,
+      behind_good (history_lines history) rest line each (λ n some. InHistories-front history n is_history some) bad,
+    )
+
 -- the text with the next event, and what is left
-pub history_text-push : (history : History) (event : Event) (rest front more : List ℕ) → rest ≡ front ++ 10 ∷ more → IsEventOf history.config.cpus (parts_of front) event
+history_text-push : (history : History) (event : Event) (rest front more : List ℕ) → rest ≡ front ++ 10 ∷ more → IsEventOf history.config.cpus (parts_of front) event
     → history_text history ++ rest ≡ history_text (record history { events = history.events ++ event ∷ [] }) ++ more
 history_text-push history event rest front more rest_is is_event =
     let spelled : line_text (event_parts event) ≡ front = ap line_text (sym is_event.spelled) ∙ join_with_byte-slice_split 32 front in
@@ -197,14 +265,24 @@ history_text-push history event rest front more rest_is is_event =
     ∙ ap (λ t. t ++ more) (sym (ap (λ (ls : List (List (List ℕ))). lines_text (config_parts history.config ∷ ls)) (map_push event_parts history.events event)
     ∙ lines_text-push lines (event_parts event)))
 
--- the next line is an event's that may follow
-pub BeginsWith-next : (history : History) (rest front more : List ℕ) → IsHistory history → rest ≡ front ++ 10 ∷ more → (next : HasNext history (parts_of front))
-    → BeginsWith (history_text history ++ rest) (record history { events = history.events ++ next.event ∷ [] })
-BeginsWith-next history rest front more is_history rest_is next = record {
-  more = more;
-  is_history = IsHistory-push history next.event is_history next.can_follow next.room;
-  is_text = history_text-push history next.event rest front more rest_is (record { is_event = next.can_follow.is_event; spelled = sym next.spelled });
-}
+-- the text with the next event
+pub history_text-line : (history : History) (event : Event) (front : List ℕ) → IsEventOf history.config.cpus (parts_of front) event
+    → history_text (record history { events = history.events ++ event ∷ [] }) ≡ history_text history ++ (front ++ 10 ∷ [])
+history_text-line history event front is_event =
+    sym (history_text-push history event (front ++ 10 ∷ []) front [] refl is_event ∙ append-nil (history_text (record history { events = history.events ++ event ∷ [] })))
+
+-- memory can be refused for the next line's event, where it may follow
+pub IsFaultOf-next : (history : History) (front more : List ℕ) → IsHistory history → HasNext history (parts_of front)
+    → IsFaultOf (history_text history ++ (front ++ 10 ∷ more)) NoMemory
+IsFaultOf-next history front more is_history next = (
+  record history { events = history.events ++ next.event ∷ [] },
+  omega (arith, length_push history.events next.event),
+  record {
+    more = more;
+    is_history = IsHistory-push history next.event is_history next.can_follow next.room;
+    is_text = history_text-push history next.event (front ++ 10 ∷ more) front more refl (record { is_event = next.can_follow.is_event; spelled = sym next.spelled });
+  },
+)
 
 pub IsFaultOfRewriting-read : (text : List ℕ) (fault : HistoryFault) → IsFaultOf text fault → IsFaultOfRewriting text fault
 IsFaultOfRewriting-read text (BadLine line) bad = bad

@@ -4,3 +4,4 @@ pub mod GrammarLaws
 pub mod SpellingLaws
 mod EntryLaws
 pub mod WriteLaws
+mod PieceLaws

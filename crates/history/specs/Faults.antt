@@ -1,6 +1,5 @@
 -- What a fault says of the text.
-use Rattle.std.specs.Prelude.{◌≡◌, ℕ, ◌<◌, List, [], ◌∷◌, ◌++◌, length}
-use Rattle.rmm_spec.specs.declared.event.Event.{Event}
+use Rattle.std.specs.Prelude.{◌≡◌, ℕ, ◌<◌, List, ◌++◌, length}
 use Rattle.rmm_spec.specs.Text.{IsBadLine}
 use Rattle.rmm_spec.specs.HistoryText.{History, IsHistory, InHistories, history_text}
 use Rattle.history.specs.declared.fault.HistoryFault.{HistoryFault}
@@ -16,11 +15,6 @@ pub record BeginsWith (text : List ℕ) (history : History) : Type 0 where
 abbrev pub IsFaultOf : List ℕ → HistoryFault → Type 0
 IsFaultOf text (BadLine line) = IsBadLine InHistories text line
 IsFaultOf text NoMemory = (history : History) × (0 < length history.events) × BeginsWith text history
-
--- of a reader that has read a history: memory was refused for the event behind it
-abbrev pub IsFaultAfter : History → List ℕ → HistoryFault → Type 0
-IsFaultAfter history text (BadLine line) = IsBadLine InHistories text line
-IsFaultAfter history text NoMemory = (event : Event) × BeginsWith text (record history { events = history.events ++ event ∷ [] })
 
 -- of a reader and a writer: memory may have been refused for the writing of a history without events too
 abbrev pub IsFaultOfRewriting : List ℕ → HistoryFault → Type 0

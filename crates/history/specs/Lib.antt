@@ -7,3 +7,4 @@ pub mod Next
 pub mod Calls
 pub mod Spelling
 pub mod Faults
+pub mod Pieces

@@ -1,13 +1,14 @@
 //! The laws of the reader and the writer: each is the contract of a function that calls both.
 
 ghost use Rattle.std.specs.Prelude.{◌≡◌, ℕ, Err, IfOk, IfErr};
-ghost use Rattle.rmm_spec.specs.HistoryText.{InHistories};
-ghost use Rattle.history.specs.Faults.{IsFaultOfRewriting};
+ghost use Rattle.std.specs.List.{flat_map};
+ghost use Rattle.rmm_spec.specs.HistoryText.{InHistories, IsHistoryText};
+ghost use Rattle.history.specs.Faults.{IsFaultOf, IsFaultOfRewriting};
 ghost use Rattle.history.specs.declared.fault.HistoryFault.TheVariants.{BadLine};
 
 use crate::fault::HistoryFault;
 use crate::history::History;
-use crate::reading::read;
+use crate::reader::{Reader, read};
 use crate::writing::write;
 use std::alloc::{AllocError, Global};
 
@@ -35,4 +36,16 @@ pub fn rewritten(alloc: Global, text: &[u8]) -> Result<Vec<u8>, HistoryFault>
     let mut again = Vec::new(alloc);
     write(&history, &mut again)?;
     Ok(again)
+}
+
+/// A text that comes in pieces is read as it is whole, however it is cut.
+pub fn read_pieces(alloc: Global, pieces: &[&[u8]]) -> Result<History, HistoryFault>
+    ensures found { IfOk result (λ history. IsHistoryText (flat_map (λ piece. piece.now) pieces.now) history.recorded) }
+    ensures fault { IfErr result (IsFaultOf (flat_map (λ piece. piece.now) pieces.now)) }
+{
+    let mut reader = Reader::new(alloc);
+    for piece in pieces {
+        reader.feed(piece)?;
+    }
+    reader.finish()
 }

@@ -5,12 +5,14 @@
 //! The checker, the world and the recorder of events depend on it.
 #![tactic(auto)]
 
+mod beginning;
 mod entry;
 mod event_ref;
 mod fault;
 mod history;
 mod laws;
 mod line;
+mod reader;
 mod reading;
 mod subhistory;
 mod writing;
@@ -18,7 +20,7 @@ mod writing;
 pub use fault::HistoryFault;
 pub use granule_state::Config;
 pub use history::{Answer, Call, History, MOST_LINES, Places};
-pub use laws::{read_back, rewritten};
-pub use reading::read;
+pub use laws::{read_back, read_pieces, rewritten};
+pub use reader::{Reader, read};
 pub use rmm_spec::{Command, Event, Reply};
 pub use writing::write;

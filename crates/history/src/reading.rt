@@ -1,73 +1,69 @@
-//! Texts, read to histories.
+//! Lines, read to a history.
 
-ghost use Rattle.std.specs.Prelude.{◌≡◌, ◌+◌, ◌<◌, [], ◌∷◌, ◌++◌, length, false, IsTrue, IfOk, IfErr, IfSome, IfNone, OnErr};
-ghost use Rattle.rmm_spec.specs.HistoryText.{IsEvent, InHistories, IsHistoryText, history_text};
-ghost use Rattle.rmm_spec.specs.Text.{IsBadLine, parts_of};
+ghost use Rattle.std.specs.Prelude.{◌≡◌, ◌+◌, ◌<◌, ℕ, List, [], ◌∷◌, ◌++◌, length, false, IsTrue, IfOk, IfErr, OnOk, OnErr};
+ghost use Rattle.rmm_spec.specs.HistoryText.{IsEvent, history_text};
+ghost use Rattle.rmm_spec.specs.Text.{HasNoNewline, parts_of};
 ghost use Rattle.history.specs.EventRef.{event_seen};
-ghost use Rattle.history.specs.Faults.{IsFaultOf, IsFaultAfter};
+ghost use Rattle.history.specs.Faults.{IsFaultOf};
 ghost use Rattle.history.specs.Next.{Continues, HasNext, HasRecorded};
+ghost use Rattle.history.specs.Pieces.{lines_read};
 
 use crate::event_ref::EventRef;
 use crate::fault::HistoryFault;
 use crate::history::{History, MOST_LINES};
 use crate::line::header_from;
-use rmi_codec::{Head, Parts, command_from, head_from, next_line, reply_from};
+use rmi_codec::{Head, Parts, command_from, head_from, reply_from};
 use std::alloc::{AllocError, Global};
 
-/// Reads a history. A line that would be its 1,000,001st is bad, and so is the first of a text without any.
-pub fn read(alloc: Global, text: &[u8]) -> Result<History, HistoryFault>
-    ensures found { IfOk result (λ history. IsHistoryText text.now history.recorded) }
-    ensures fault { IfErr result (IsFaultOf text.now) }
-{
-    let Some((mut history, mut rest)) = read_header(alloc, text) else {
-        return Err(HistoryFault::BadLine(1));
-    };
-    let mut words = [0; 10];
-    while !rest.is_empty() {
-        rest = read_event(&mut history, &mut words, rest)?;
-    }
-    history.well_formed();
-    Ok(history)
-}
-
-/// Reads the first line, where it is a header, and gives the text after it.
-fn read_header(alloc: Global, text: &[u8]) -> Option<(History, &[u8])>
-    ensures read { IfSome result (λ start. text.now ≡ history_text start.0.recorded ++ start.1.now) }
-    ensures bad { IfNone result (IsBadLine InHistories text.now 1) }
-{
-    let Some((line, rest)) = next_line(text) else {
-        return None;
-    };
-    let Some(config) = header_from(line) else {
-        return None;
-    };
-    let history = History::new(alloc, config);
-    Some((history, rest))
-}
-
-/// Reads the line after those that are read, and gives the text after it. Its words are read to the buffer.
-fn read_event<'a>(
-    history: &mut History,
+/// Reads the line after those that are read, the header where none is. Its words are read to the buffer.
+#[inline(always)]
+pub(crate) fn read_line(
+    alloc: Global,
+    history: &mut Option<History>,
     words: &mut [u64; 10],
-    rest: &'a [u8],
-) -> Result<&'a [u8], HistoryFault>
-    requires { 0 < length rest.now }
-    ensures read { IfOk result (λ more. history_text history.old.recorded ++ rest.now ≡ history_text history.new.recorded ++ more.now) }
-    ensures shorter { IfOk result (λ more. length more.now < length rest.now) }
-    ensures fault { IfErr result (IsFaultAfter history.old.recorded (history_text history.old.recorded ++ rest.now)) }
+    line: &[u8],
+) -> Result<(), HistoryFault>
+    requires { HasNoNewline line.now }
+    ensures read { OnOk result (lines_read history.new ≡ lines_read history.old ++ (line.now ++ 10 ∷ [])) }
+    ensures fault { IfErr result (λ fault. (more : List ℕ) → IsFaultOf (lines_read history.old ++ (line.now ++ 10 ∷ more)) fault) }
+{
+    match history {
+        None => {
+            *history = Some(read_header(alloc, line)?);
+            Ok(())
+        }
+        Some(history) => read_event(history, words, line),
+    }
+}
+
+/// A history without events, of the machine that the header names.
+fn read_header(alloc: Global, line: &[u8]) -> Result<History, HistoryFault>
+    requires { HasNoNewline line.now }
+    ensures read { IfOk result (λ history. history_text history.recorded ≡ line.now ++ 10 ∷ []) }
+    ensures fault { IfErr result (λ fault. (more : List ℕ) → IsFaultOf (line.now ++ 10 ∷ more) fault) }
+{
+    match header_from(line) {
+        Some(config) => Ok(History::new(alloc, config)),
+        None => Err(HistoryFault::BadLine(1)),
+    }
+}
+
+/// Reads the line of the next event.
+#[inline(always)]
+fn read_event(history: &mut History, words: &mut [u64; 10], line: &[u8]) -> Result<(), HistoryFault>
+    requires { HasNoNewline line.now }
+    ensures read { OnOk result (history_text history.new.recorded ≡ history_text history.old.recorded ++ (line.now ++ 10 ∷ [])) }
+    ensures fault { IfErr result (λ fault. (more : List ℕ) → IsFaultOf (history_text history.old.recorded ++ (line.now ++ 10 ∷ more)) fault) }
 {
     history.well_formed();
     let bad_line = HistoryFault::BadLine(history.len() as u64 + 2);
     if !history.has_room() {
         return Err(bad_line);
     }
-    let Some((line, more)) = next_line(rest) else {
-        return Err(bad_line);
-    };
     if !record_line(history, words, line)? {
         return Err(bad_line);
     }
-    Ok(more)
+    Ok(())
 }
 
 /// Records the event that a line spells, where one is spelled that can be next.

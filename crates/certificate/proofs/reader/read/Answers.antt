@@ -1,47 +1,47 @@
-use Rattle.std.proofs.Common.{◌≡◌, ◌≢◌, ◌<◌, ◌==◌, List, ℕ, [], false, true, length, subst}
+use Rattle.std.proofs.Common.{refl, drop}
 use Rattle.std.proofs.lemmas.Result.{err_from_is_err_and}
-use Rattle.certificate.proofs.GrammarLemmas.{BeginsWith-next, bad_line, full_lines, unfinished_line, line_too_many, IsCertificate-push, certificate_text-push}
+use Rattle.certificate.proofs.PieceLemmas.{IsReadUpTo-next, IsFaultOf-refused, IsFaultOf-memory, IsFaultOf-whole, IsCertificateText-whole, IsCertificate-read, over}
+use Rattle.certificate.specs.Pieces.{with_told}
 use Rattle.certificate.proofs.reader.read.Goals as goal
 
--- the text goes on where the loop does
-goes_on : (rest : List ℕ) → false ≡ (length rest == 0) → rest ≢ []
-goes_on rest some over = let e : false ≡ true = subst (λ r. false ≡ (length r == 0)) over some in cc
+pub returns-in_err-count-clause-fault : goal.returns-in_err-count-clause-fault
+returns-in_err-count-clause-fault c =
+    let p = err_from_is_err_and c.from_residual.result c.from_residual.ensures.1 in
+    rw (p.1, p.2)
+    (IsFaultOf-refused c.args.text.now c.loop-rest.rest.now c.loop-rest.lines.lines c.loop-rest.reader c.next.new.self c.in_err-count.field-0.0
+    c.in_err-count.ensures.answered c.in_err-count.ensures.bad c.loop-rest.invariant)
 
-pub returns-then-not-has_room-clause-fault : goal.returns-then-not-has_room-clause-fault
-returns-then-not-has_room-clause-fault c =
-    rw c.len.ensures.count
-    (line_too_many c.loop-rest.lines.lines _ c.loop-rest.rest.now c.loop-rest.invariant.well_formed c.loop-rest.invariant.text (goes_on _ c.loop-rest-test.ensures)
-    (full_lines c.loop-rest.lines.lines c.has_room.result c.loop-rest.invariant.well_formed c.has_room.ensures c.if-not-has_room.true))
+pub append_told-requires : goal.append_told-requires
+append_told-requires c =
+    let after =
+    IsReadUpTo-next c.args.text.now c.loop-rest.rest.now (drop c.in_ok-count.count c.loop-rest.rest.now) c.loop-rest.lines.lines
+    (with_told c.loop-rest.lines.lines c.in_ok-count.line) c.loop-rest.reader c.next.new.self c.in_ok-count.count c.in_ok-count.line refl refl
+    c.in_ok-count.ensures.answered c.in_ok-count.ensures.read c.loop-rest.invariant in
+    IsCertificate-read c.next.new.self after.front (with_told c.loop-rest.lines.lines c.in_ok-count.line) after.read
 
-pub returns-in_default-clause-fault : goal.returns-in_default-clause-fault
-returns-in_default-clause-fault c =
-    rw c.len.ensures.count
-    (unfinished_line c.loop-rest.lines.lines _ c.loop-rest.rest.now c.loop-rest.invariant.well_formed c.loop-rest.invariant.text c.in_default.ensures.unfinished (goes_on _ c.loop-rest-test.ensures))
-
-pub returns-then-not-branch-clause-fault : goal.returns-then-not-branch-clause-fault
-returns-then-not-branch-clause-fault c =
-    rw c.len.ensures.count
-    (bad_line c.loop-rest.lines.lines _ c.in-Some.bytes.now c.loop-rest.rest.now c.in-Some.later.now c.loop-rest.invariant.well_formed c.loop-rest.invariant.text
-    c.in-Some.ensures.line c.in-Some.ensures.no_newline (c.in_ok-take_line.ensures.refused c.if-not-branch.true))
+pub returns-in_err-append_told-clause-fault : goal.returns-in_err-append_told-clause-fault
+returns-in_err-append_told-clause-fault c =
+    let after =
+    IsReadUpTo-next c.args.text.now c.loop-rest.rest.now (drop c.in_ok-count.count c.loop-rest.rest.now) c.loop-rest.lines.lines
+    (with_told c.loop-rest.lines.lines c.in_ok-count.line) c.loop-rest.reader c.next.new.self c.in_ok-count.count c.in_ok-count.line refl refl
+    c.in_ok-count.ensures.answered c.in_ok-count.ensures.read c.loop-rest.invariant in
+    let p = err_from_is_err_and c.from_residual-in_err-append_told.result c.from_residual-in_err-append_told.ensures.1 in
+    rw (p.1, p.2) (IsFaultOf-memory c.args.text.now _ _ c.next.new.self after c.in_err-append_told.ensures.refused)
 
 pub loop-rest-preserved : goal.loop-rest-preserved
 loop-rest-preserved c =
-    let room : length c.loop-rest.lines.lines < 1000000 =
-    c.has_room.ensures.0 c.if-not-has_room.false in
-    let taken = c.in_ok-take_line.ensures.taken c.if-not-branch.false in
-    record {
-      text = rw taken.taken
-          (certificate_text-push c.loop-rest.lines.lines taken.line _ c.in-Some.bytes.now c.loop-rest.rest.now c.in-Some.later.now
-          c.loop-rest.invariant.text c.in-Some.ensures.line taken.is_line);
-      well_formed = rw taken.taken
-          (IsCertificate-push c.loop-rest.lines.lines taken.line c.loop-rest.invariant.well_formed taken.is_line.is_line room);
-    }
+    IsReadUpTo-next c.args.text.now c.loop-rest.rest.now c.split_at.result.1.now c.loop-rest.lines.lines c.append_told.new.lines.lines c.loop-rest.reader
+    c.next.new.self c.in_ok-count.count c.in_ok-count.line c.split_at.ensures.back c.in_ok-append_told.ensures.ok c.in_ok-count.ensures.answered
+    c.in_ok-count.ensures.read c.loop-rest.invariant
 
-pub returns-in_err-take_line-clause-fault : goal.returns-in_err-take_line-clause-fault
-returns-in_err-take_line-clause-fault c =
-    let p = err_from_is_err_and c.from_residual.result c.from_residual.ensures.1 in
-    let spelled = c.in_err-take_line.ensures.no_memory in
+pub returns-in_err-finish-clause-fault : goal.returns-in_err-finish-clause-fault
+returns-in_err-finish-clause-fault c =
+    let p = err_from_is_err_and c.from_residual-in_err-finish.result c.from_residual-in_err-finish.ensures.1 in
     rw (p.1, p.2)
-    (BeginsWith-next c.loop-rest.lines.lines spelled.0 _ c.in-Some.bytes.now c.loop-rest.rest.now c.in-Some.later.now
-    c.loop-rest.invariant.well_formed (c.has_room.ensures.0 c.if-not-has_room.false)
-    c.loop-rest.invariant.text c.in-Some.ensures.line spelled.1)
+    (IsFaultOf-whole c.args.text.now c.loop-rest.rest.now c.loop-rest.lines.lines c.loop-rest.reader c.in_err-finish.field-0.0
+    (over c.loop-rest.rest.now c.loop-rest-test.ensures) c.loop-rest.invariant c.in_err-finish.ensures.bad)
+
+pub returns-clause-found : goal.returns-clause-found
+returns-clause-found c =
+    IsCertificateText-whole c.args.text.now c.loop-rest.rest.now c.loop-rest.lines.lines c.loop-rest.reader
+    (over c.loop-rest.rest.now c.loop-rest-test.ensures) c.loop-rest.invariant c.in_ok-finish.ensures.whole

@@ -1,0 +1,72 @@
+-- What the first bytes of a text say of its bad line, before the header and behind it.
+use Rattle.std.proofs.Common.{◌≡◌, ℕ, suc, ◌<◌, List, [], ◌∷◌, ◌++◌, length, get_or, take, drop, Option, Some, None, sym, ap, ◌∙◌, subst, arith, append_assoc, take-append-drop, drop-cons}
+use Rattle.std.specs.List.{flat_map}
+use Rattle.std.proofs.lemmas.List.Concat.{flat_map-append}
+use Rattle.std.proofs.lemmas.List.{append-nil}
+use Rattle.line_pieces.proofs.Pieces.{newlines-lines}
+use Rattle.line_pieces.specs.Newlines.{newlines}
+use Rattle.rmm_spec.specs.HistoryText.{InHistories}
+use Rattle.rmm_spec.specs.Text.{HasNoNewline, IsBadLine}
+use Rattle.history.specs.Pieces.{lines_read, next_number, IsReadWell}
+use Rattle.history.specs.View.{Recording}
+use Rattle.history.proofs.GrammarLaws.{header_too_long, line_too_long, bad_behind}
+
+-- what stands behind the whole lines is longer than a line, whatever follows
+pub too_long : (read : Option Recording) (rest more : List ℕ) → IsReadWell read → HasNoNewline rest → 256 < length rest
+    → IsBadLine InHistories (lines_read read ++ (rest ++ more)) (next_number read)
+too_long None rest more is_well none long = header_too_long rest more none long
+too_long (Some recording) rest more is_well none long = line_too_long recording.recorded rest more is_well none long
+
+-- no whole line is bad
+pub well_begun : (read : Option Recording) (rest : List ℕ) (line : ℕ) → IsReadWell read → HasNoNewline rest
+    → IsBadLine InHistories (lines_read read ++ rest) line → newlines (lines_read read ++ rest) < line
+well_begun None rest line is_well none bad = omega (arith, newlines-lines [] rest tt none, bad.counted)
+well_begun (Some recording) rest line is_well none bad = bad_behind recording.recorded rest line is_well none bad
+
+-- the line that was begun has its last bytes, and more follows
+pub regroup : (lines begun last more : List ℕ) → lines ++ (begun ++ last ++ more) ≡ lines ++ begun ++ (last ++ more)
+regroup lines begun last more =
+    ap (λ r. lines ++ r) (append_assoc begun last more) ∙ sym (append_assoc lines begun (last ++ more))
+
+-- what holds of the bytes so far with all that may follow holds of a whole piece
+pub of_piece : (P : List ℕ → Type 0) (old piece now rest : List ℕ) → old ++ piece ≡ now ++ rest → ((more : List ℕ) → P (now ++ (rest ++ more)))
+    → (more : List ℕ) → P (old ++ (piece ++ more))
+of_piece P old piece now rest same each more =
+    subst P (sym (sym (append_assoc old piece more) ∙ ap (λ t. t ++ more) same ∙ append_assoc now rest more)) (each more)
+
+-- so too where it holds of the piece's next line
+pub of_line : (P : List ℕ → Type 0) (old piece now rest last later : List ℕ) → old ++ piece ≡ now ++ rest → rest ≡ last ++ 10 ∷ later
+    → ((more : List ℕ) → P (now ++ (last ++ 10 ∷ more))) → (more : List ℕ) → P (old ++ (piece ++ more))
+of_line P old piece now rest last later same is_rest each =
+    of_piece P old piece now rest same
+    (λ more. subst P (sym (ap (λ r. now ++ (r ++ more)) is_rest ∙ ap (λ r. now ++ r) (append_assoc last (10 ∷ later) more))) (each (later ++ more)))
+
+-- a line that lies whole in the piece
+pub whole_line : (front new begun last : List ℕ) → begun ≡ [] → new ≡ front ++ (last ++ 10 ∷ []) → new ++ begun ≡ front ++ begun ++ (last ++ 10 ∷ [])
+whole_line front new begun last none is_new =
+    subst (λ b. new ++ b ≡ front ++ b ++ (last ++ 10 ∷ [])) (sym none)
+    (append-nil new ∙ is_new ∙ ap (λ f. f ++ (last ++ 10 ∷ [])) (sym (append-nil front)))
+
+pub of_whole_line : (P : List ℕ → Type 0) (front begun last : List ℕ) → begun ≡ [] → ((more : List ℕ) → P (front ++ (last ++ 10 ∷ more)))
+    → (more : List ℕ) → P (front ++ begun ++ (last ++ 10 ∷ more))
+of_whole_line P front begun last none each more =
+    subst (λ b. P (front ++ b ++ (last ++ 10 ∷ more))) (sym none) (subst (λ f. P (f ++ (last ++ 10 ∷ more))) (sym (append-nil front)) (each more))
+
+-- a line that was begun and is too long with more of its bytes
+pub too_long_held : (read : Option Recording) (begun last more : List ℕ) → IsReadWell read → HasNoNewline (begun ++ last) → 256 < length (begun ++ last)
+    → IsBadLine InHistories (lines_read read ++ begun ++ (last ++ more)) (next_number read)
+too_long_held read begun last more is_well none long =
+    subst (λ text. IsBadLine InHistories text (next_number read)) (regroup (lines_read read) begun last more)
+    (too_long read (begun ++ last) more is_well none long)
+
+pub of_held_line : (P : List ℕ → Type 0) (front begun last line : List ℕ) → line ≡ begun ++ last → ((more : List ℕ) → P (front ++ (line ++ 10 ∷ more)))
+    → (more : List ℕ) → P (front ++ begun ++ (last ++ 10 ∷ more))
+of_held_line P front begun last line is_line each more =
+    subst P (ap (λ l. front ++ (l ++ 10 ∷ more)) is_line ∙ regroup front begun last (10 ∷ more)) (each more)
+
+-- joined pieces: those before one, that one and those behind it
+pub flat_map_at : {X : Type 0} (f : X → List ℕ) (xs : List X) (i : ℕ) (d : X) → i < length xs
+    → flat_map f (take i xs) ++ (f (get_or xs i d) ++ flat_map f (drop (suc i) xs)) ≡ flat_map f xs
+flat_map_at f xs i d within =
+    ap (λ r. flat_map f (take i xs) ++ r) (sym (ap (flat_map f) (drop-cons xs i d within)))
+    ∙ sym (flat_map-append f (take i xs) (drop i xs)) ∙ ap (flat_map f) (take-append-drop i xs)

@@ -1,0 +1,20 @@
+use Rattle.std.proofs.Common.{◌∙◌, ◌∷◌}
+use Rattle.std.proofs.lemmas.Result.{err_from_is_err_and}
+use Rattle.history.proofs.PieceLaws.{too_long_held, of_held_line}
+use Rattle.history.specs.Faults.{IsFaultOf}
+use Rattle.history.specs.Pieces.{lines_read}
+use Rattle.history.proofs.beginning.Beginning.end_held_line.Goals as goal
+
+pub returns-then-not-extend-clause-fault : goal.returns-then-not-extend-clause-fault
+returns-then-not-extend-clause-fault c =
+    rw (← c.self.view_is, c.next_number.ensures.number) (λ more.
+    too_long_held c.self.inside.history c.self.inside.line c.args.last.now (10 ∷ more) c.next_number.ensures.well_formed c.extend.ensures.no_newline
+    (c.extend.ensures.too_long c.if-not-extend.true))
+
+pub returns-in_err-read_line-clause-fault : goal.returns-in_err-read_line-clause-fault
+returns-in_err-read_line-clause-fault c =
+    let inside = c.self.inside in
+    let p = err_from_is_err_and c.from_residual.result c.from_residual.ensures.1 in
+    rw (p.1, p.2, ← c.self.view_is)
+    (of_held_line (λ text. IsFaultOf text c.in_err-read_line.field-0.0) (lines_read inside.history) inside.line c.args.last.now c.bytes-line.result.now
+    (c.bytes-line.ensures.bytes ∙ c.extend.ensures.kept c.if-not-extend.false) c.in_err-read_line.ensures.fault)

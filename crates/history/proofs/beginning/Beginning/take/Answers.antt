@@ -1,0 +1,18 @@
+use Rattle.std.proofs.lemmas.Result.{IfErr-weaker, err_from_is_err_and}
+use Rattle.history.proofs.PieceLaws.{of_piece, of_line}
+use Rattle.history.specs.Faults.{IsFaultOf}
+use Rattle.history.proofs.beginning.Beginning.take.Goals as goal
+
+pub returns-in_err-end_line-clause-fault : goal.returns-in_err-end_line-clause-fault
+returns-in_err-end_line-clause-fault c =
+    let p = err_from_is_err_and c.from_residual.result c.from_residual.ensures.1 in
+    rw (p.1, p.2)
+    (of_line (λ text. IsFaultOf text c.in_err-end_line.field-0.0) c.args.self.now c.args.piece.now c.loop-last.self c.loop-last.rest.now
+    c.in-Some.last.now c.in-Some.more.now c.loop-last.invariant c.in-Some.ensures.line c.in_err-end_line.ensures.fault)
+
+pub returns-clause-fault : goal.returns-clause-fault
+returns-clause-fault c =
+    IfErr-weaker c.hold.result _ _
+    (λ fault each.
+    of_piece (λ text. IsFaultOf text fault) c.args.self.now c.args.piece.now c.loop-last.self c.loop-last.rest.now c.loop-last.invariant each)
+    c.hold.ensures.fault

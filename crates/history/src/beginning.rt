@@ -1,0 +1,143 @@
+//! The beginning of a history's text.
+
+ghost use Rattle.std.specs.Prelude.{⊤, ◌≡◌, ◌<◌, ℕ, List, [], ◌∷◌, ◌++◌, IfOk, IfErr, OnOk};
+ghost use Rattle.line_pieces.specs.Newlines.{newlines};
+ghost use Rattle.rmm_spec.specs.HistoryText.{InHistories, IsHistoryText};
+ghost use Rattle.rmm_spec.specs.Text.{HasNoNewline, IsBadLine};
+ghost use Rattle.history.specs.Faults.{IsFaultOf};
+ghost use Rattle.history.specs.Pieces.{IsReadWell, next_number};
+
+use crate::fault::HistoryFault;
+use crate::history::History;
+use crate::reading::read_line;
+use line_pieces::UnfinishedLine;
+use rmi_codec::next_line;
+use std::alloc::Global;
+use std::marker::Model;
+
+/// The first bytes of a text: whole lines, none of them bad, and the beginning of the next.
+#[derive(Drop)]
+pub(crate) struct Beginning {
+    alloc: Global,
+    // nothing before the header
+    history: Option<History>,
+    line: UnfinishedLine,
+    // the buffer for the words of a line
+    words: [u64; 10],
+}
+
+impl Model for Beginning {
+    ghost use Rattle.std.specs.Prelude.{ℕ, List, ◌++◌};
+    ghost use Rattle.history.specs.Pieces.{lines_read};
+
+    ghost Value = { List ℕ };
+
+    ghost view = { λ beginning. lines_read beginning.history ++ beginning.line };
+}
+
+impl Beginning {
+    /// No byte yet.
+    pub(crate) fn new(alloc: Global) -> Beginning
+        ensures { result ≡ [] }
+    {
+        Beginning {
+            alloc,
+            history: None,
+            line: UnfinishedLine::new(),
+            words: [0; 10],
+        }
+    }
+
+    /// Reads what comes next. A line that lies whole in the piece is read where it lies.
+    pub(crate) fn take(&mut self, piece: &[u8]) -> Result<(), HistoryFault>
+        ensures taken { OnOk result (self.new ≡ self.old ++ piece.now) }
+        ensures fault { IfErr result (λ fault. (more : List ℕ) → IsFaultOf (self.old ++ (piece.now ++ more)) fault) }
+    {
+        let mut rest = piece;
+        while let Some((last, more)) = next_line(rest) {
+            self.end_line(last)?;
+            rest = more;
+        }
+        self.hold(rest)
+    }
+
+    /// Reads the line that these bytes end.
+    #[inline(always)]
+    fn end_line(&mut self, last: &[u8]) -> Result<(), HistoryFault>
+        requires { HasNoNewline last.now }
+        ensures read { OnOk result (self.new ≡ self.old ++ (last.now ++ 10 ∷ [])) }
+        ensures fault { IfErr result (λ fault. (more : List ℕ) → IsFaultOf (self.old ++ (last.now ++ 10 ∷ more)) fault) }
+    {
+        if self.line.is_empty() {
+            return read_line(self.alloc, &mut self.history, &mut self.words, last);
+        }
+        self.end_held_line(last)
+    }
+
+    /// Reads the line that was begun in an earlier piece.
+    #[inline(never)]
+    fn end_held_line(&mut self, last: &[u8]) -> Result<(), HistoryFault>
+        requires { HasNoNewline last.now }
+        ensures read { OnOk result (self.new ≡ self.old ++ (last.now ++ 10 ∷ [])) }
+        ensures fault { IfErr result (λ fault. (more : List ℕ) → IsFaultOf (self.old ++ (last.now ++ 10 ∷ more)) fault) }
+    {
+        if !self.line.extend(last) {
+            return Err(HistoryFault::BadLine(next_number(&self.history)));
+        }
+        let line = self.line.bytes();
+        read_line(self.alloc, &mut self.history, &mut self.words, line)?;
+        self.line.clear();
+        Ok(())
+    }
+
+    /// Keeps the bytes behind the last newline.
+    fn hold(&mut self, rest: &[u8]) -> Result<(), HistoryFault>
+        requires { HasNoNewline rest.now }
+        ensures held { OnOk result (self.new ≡ self.old ++ rest.now) }
+        ensures fault { IfErr result (λ fault. (more : List ℕ) → IsFaultOf (self.old ++ (rest.now ++ more)) fault) }
+    {
+        if !self.line.extend(rest) {
+            return Err(HistoryFault::BadLine(next_number(&self.history)));
+        }
+        Ok(())
+    }
+
+    /// The law that no whole line is bad.
+    pub(crate) fn well_begun(&self)
+        ensures { (line : ℕ) → IsBadLine InHistories self.now line → newlines self.now < line }
+    {
+        let _no_newline = self.line.bytes();
+        let _well_formed = next_number(&self.history);
+    }
+
+    /// The history of the text, where it ends here.
+    pub(crate) fn finish(self) -> Result<History, HistoryFault>
+        ensures found { IfOk result (λ history. IsHistoryText self history.recorded) }
+        ensures fault { IfErr result (IsFaultOf self) }
+    {
+        let _no_newline = self.line.bytes();
+        let Beginning { history, line, .. } = self;
+        let Some(history) = history else {
+            return Err(HistoryFault::BadLine(1));
+        };
+        history.well_formed();
+        if !line.is_empty() {
+            return Err(HistoryFault::BadLine(history.len() as u64 + 2));
+        }
+        Ok(history)
+    }
+}
+
+/// The number of the line behind those that are read.
+fn next_number(history: &Option<History>) -> u64
+    ensures number { result ≡ next_number history.now }
+    ensures well_formed { IsReadWell history.now }
+{
+    match history {
+        None => 1,
+        Some(history) => {
+            history.well_formed();
+            history.len() as u64 + 2
+        }
+    }
+}
