@@ -8,3 +8,4 @@ pub mod Scan
 pub mod Excludes
 pub mod Verdicts
 pub mod Beginnings
+pub mod SessionLaws

@@ -59,6 +59,7 @@ impl Replay {
         ensures judged { IfOk result (λ why. JudgesLine why self.old self.new history.now.recorded (line_seen line.entry)) }
         ensures kept { IfOk result (λ why. IfSome why (λ reason. state_of self.new.machine ≡ state_of self.old.machine)) }
         ensures refused { OnErr result (IsRefusedMemory self.old history.now.recorded (line_seen line.entry)) }
+        ensures same_events { length self.new.named.items ≡ length self.old.named.items }
     {
         let Some(places) = places_named(history, &line) else {
             return Ok(Some(Reason::Unknown));
@@ -105,6 +106,7 @@ impl Replay {
         ensures kept { IfOk result (λ why. IfSome why (λ reason. state_of self.new.machine ≡ state_of self.old.machine)) }
         ensures refused { OnErr result ((line : Line) → IsDue self.old history.now.recorded line cpu called (reply_seen reply.entry)
             → IsRefusedMemory self.old history.now.recorded line) }
+        ensures same_events { length self.new.named.items ≡ length self.old.named.items }
     {
         let Some(command) = history.command_at(called as usize) else {
             unreachable!()
@@ -127,6 +129,7 @@ impl Replay {
             ((next : State) → ¬ Step (state_of self.old.machine) cpu (command_seen command.entry) (reply_seen reply.entry) next)) }
         ensures kept { IfOk result (λ given. given ≡ false → state_of self.new.machine ≡ state_of self.old.machine) }
         ensures refused { OnErr result (NeedsMemory self.old cpu (command_seen command.entry)) }
+        ensures same_events { length self.new.named.items ≡ length self.old.named.items }
     {
         let given = self.machine.offer_seen(cpu, command, reply)?;
         if given {
