@@ -9,3 +9,4 @@ pub mod Excludes
 pub mod Verdicts
 pub mod Beginnings
 pub mod SessionLaws
+pub mod Offers

@@ -1,5 +1,5 @@
 -- How a session comes from one line to the next, and to its verdict.
-use Rattle.std.proofs.Common.{◌≡◌, ℕ, ◌+◌, ◌<◌, List, [], ◌∷◌, ◌++◌, length, take, drop, Option, Some, None, Result, Ok, Err, true, is_some, refl, sym, ap, ◌∙◌, subst, arith, append_assoc, take-append-drop, false}
+use Rattle.std.proofs.Common.{◌≡◌, ℕ, ◌+◌, ◌<◌, ◌≤◌, List, [], ◌∷◌, ◌++◌, length, take, drop, Option, Some, None, Result, Ok, Err, true, is_some, refl, sym, ap, ◌∙◌, subst, arith, append_assoc, take-append-drop, false}
 use Rattle.std.specs.Prelude.{IsOk, IfOk, IfErr}
 use Rattle.std.proofs.lemmas.List.{take_all, append-nil, take-append-le}
 use Rattle.std.proofs.lemmas.Option.{slice_get_within}
@@ -10,14 +10,15 @@ use Rattle.certificate.specs.declared.fault.CertFault.TheVariants.{BadLine}
 use Rattle.rmm_spec.specs.declared.line.Line.{Line}
 use Rattle.rmm_spec.specs.declared.verdict.Reason.{Reason}
 use Rattle.rmm_spec.specs.declared.verdict.Verdict.{Verdict}
-use Rattle.rmm_spec.specs.CertificateText.{InCertificates, IsCertificateText}
+use Rattle.rmm_spec.specs.CertificateText.{InCertificates, IsCertificateText, certificate_text}
 use Rattle.rmm_spec.specs.FirstFault.{FailsAt, FailsBy, Passes}
 use Rattle.rmm_spec.specs.HistoryText.{History, IsHistoryText}
 use Rattle.rmm_spec.specs.Judgement.{Judges, JudgesOrder}
 use Rattle.rmm_spec.specs.State.{State}
 use Rattle.rmm_spec.specs.Text.{IsBadLine}
 use Rattle.checker.specs.Failure.{AreJudged}
-use Rattle.checker.specs.Session.{HasJudged, HasJudgedBy}
+use Rattle.line_pieces.specs.Newlines.{newlines}
+use Rattle.checker.specs.Session.{AreOffersFor, BeginsJudged, HasJudged, HasJudgedBy, offers_of}
 use Rattle.checker.specs.declared.session.Session.{Session}
 use Rattle.checker.proofs.Verdicts.{Judges-from_order}
 use Rattle.checker.specs.declared.failure.Failure.{Failure}
@@ -43,7 +44,8 @@ FailsAt-push history lines next step why fails =
 pub AreJudged-failed : (replay : Replay) (failed : Option Failure) (history : History) (lines : List Line) (next : Line) → is_some failed ≡ true
     → AreJudged replay failed history lines → AreJudged replay failed history (lines ++ next ∷ [])
 AreJudged-failed replay None history lines next some judged = absurd cc
-AreJudged-failed replay (Some failure) history lines next some judged = FailsAt-push history lines next failure.step failure.reason judged
+AreJudged-failed replay (Some failure) history lines next some judged =
+    (FailsAt-push history lines next failure.step failure.reason judged.0, judged.1)
 
 -- the line behind lines that pass fails
 pub FailsAt-last : (history : History) (lines : List Line) (next : Line) (step : ℕ) (why : Reason) (old : State) → step ≡ length lines + 1
@@ -78,18 +80,30 @@ not_ok : (answer : Answer) → IsOk answer → ((told : ℕ × Option Line) → 
 not_ok (Ok told) is none = none told refl
 not_ok (Err fault) is none = absurd cc
 
+-- more bytes come behind what is judged
+BeginsJudged-more : (replay : Replay) (failed : Option Failure) (history : History) (text more : List ℕ) → BeginsJudged replay failed history text
+    → BeginsJudged replay failed history (text ++ more)
+BeginsJudged-more replay failed history text more (lines, (rest, (is_text, judged))) =
+    (lines, (rest ++ more, (ap (λ t. t ++ more) is_text ∙ append_assoc (certificate_text lines) rest more, judged)))
+
 -- no value was told: the line is bad whatever follows
 pub HasJudged-bad : (old new : Result Begun ℕ) (answer : Answer) (replay : Replay) (failed : Option Failure) (history : History) (text rest : List ℕ)
     → ((told : ℕ × Option Line) → answer ≡ Ok told → ⊥) → Answered new answer → IsRefused old new rest → IfErr old (λ l. new ≡ Err l)
     → HasJudgedBy old replay failed history text → HasJudgedBy new replay failed history (text ++ rest)
 HasJudged-bad (Ok old) (Ok new) answer replay failed history text rest none answered refused stays given = absurd (not_ok answer answered none)
-HasJudged-bad (Ok old) (Err l) answer replay failed history text rest none answered refused stays given = λ more.
-    subst (λ t. IsBadLine InCertificates t l) (sym (append_assoc text rest more)) (refused text more given.0 given.1.0)
+HasJudged-bad (Ok old) (Err l) answer replay failed history text rest none answered refused stays given =
+    let lines = given.0 in
+    let read = given.1.0 in (
+      λ more. subst (λ t. IsBadLine InCertificates t l) (sym (append_assoc text rest more)) (refused text more lines read),
+      BeginsJudged-more replay failed history text rest (lines, (old.begun, (read.is_text, given.1.1))),
+    )
 HasJudged-bad (Err l) (Ok new) answer replay failed history text rest none answered refused stays given = absurd cc
-HasJudged-bad (Err l) (Err m) answer replay failed history text rest none answered refused stays given = λ more.
-    let same : m ≡ l = cc in
-    subst (λ t. IsBadLine InCertificates t m) (sym (append_assoc text rest more))
-    (subst (λ n. IsBadLine InCertificates (text ++ (rest ++ more)) n) (sym same) (given (rest ++ more)))
+HasJudged-bad (Err l) (Err m) answer replay failed history text rest none answered refused stays given =
+    let same : m ≡ l = cc in (
+      λ more. subst (λ t. IsBadLine InCertificates t m) (sym (append_assoc text rest more))
+          (subst (λ n. IsBadLine InCertificates (text ++ (rest ++ more)) n) (sym same) (given.0 (rest ++ more))),
+      BeginsJudged-more replay failed history text rest given.1,
+    )
 
 -- the session was given the piece up to its rest, and memory wasn't refused
 pub record IsFedUpTo (old new : Session) (piece rest : List ℕ) : Type 0 where
@@ -98,6 +112,7 @@ pub record IsFedUpTo (old new : Session) (piece rest : List ℕ) : Type 0 where
   pub judged : (text : List ℕ) → HasJudged old text → HasJudged new (text ++ front)
   pub same_history : new.history.recorded ≡ old.history.recorded
   pub going : new.refused ≡ false
+  pub offers : offers_of new ≤ offers_of old + newlines front
 
 pub IsFedUpTo-none : (session : Session) (piece : List ℕ) → session.refused ≡ false → IsFedUpTo session session piece piece
 IsFedUpTo-none session piece going = record {
@@ -106,6 +121,7 @@ IsFedUpTo-none session piece going = record {
   judged = λ text given. subst (HasJudged session) (sym (append-nil text)) given;
   same_history = refl;
   going = going;
+  offers = omega arith;
 }
 
 -- the bytes that a piece begins with, and what is left of it
@@ -127,7 +143,7 @@ bad_line_told (Ok kept) replay failed history text line (Err fault) is_answer ba
     subst (λ n. IsBadLine InCertificates text n) same (bad.1.1 text given.0 given.1.0)
 bad_line_told (Err l) replay failed history text line answer is_answer bad stays given =
     let same : l ≡ line = cc in
-    subst (λ n. IsBadLine InCertificates text n) same (subst (λ t. IsBadLine InCertificates t l) (append-nil text) (given []))
+    subst (λ n. IsBadLine InCertificates text n) same (subst (λ t. IsBadLine InCertificates t l) (append-nil text) (given.0 []))
 
 -- the text ends, and its lines are judged
 pub Judges-session : {T : Type 0} (certificate : Result Begun ℕ) (replay : Replay) (failed : Option Failure) (history : History) (history_bytes text : List ℕ)
@@ -141,4 +157,15 @@ Judges-session (Ok kept) replay failed history history_bytes text verdict count 
     Judges-from_order verdict history_bytes text history given.0 is_history (whole text given.0 read)
     (judge given.0 (counted ∙ read.counted) given.1.1)
 Judges-session (Err l) replay failed history history_bytes text verdict count value answer is_answer whole stays counted judge is_history given =
+    absurd (let e : Ok value ≡ Err (BadLine l) = sym is_answer ∙ stays in cc)
+
+-- the text ends, and so many offers were made for its lines
+pub AreOffersFor-session : {T : Type 0} (certificate : Result Begun ℕ) (replay : Replay) (failed : Option Failure) (history : History) (text : List ℕ)
+    (verdict : Verdict) (count : ℕ) (value : T) (answer : Result T CertFault) → answer ≡ Ok value
+    → IfErr certificate (λ l. answer ≡ Err (BadLine l)) → IfOk certificate (λ kept. count ≡ kept.count)
+    → ((order : List Line) → count ≡ length order → AreJudged replay failed history order → AreOffersFor verdict replay.machine.offers)
+    → HasJudgedBy certificate replay failed history text → AreOffersFor verdict replay.machine.offers
+AreOffersFor-session (Ok kept) replay failed history text verdict count value answer is_answer stays counted judge given =
+    judge given.0 (counted ∙ given.1.0.counted) given.1.1
+AreOffersFor-session (Err l) replay failed history text verdict count value answer is_answer stays counted judge given =
     absurd (let e : Ok value ≡ Err (BadLine l) = sym is_answer ∙ stays in cc)

@@ -5,6 +5,7 @@ ghost use Rattle.rmm_spec.specs.declared.line.Line.{Line};
 ghost use Rattle.certificate.specs.Pieces.{with_told};
 ghost use Rattle.rmm_spec.specs.Judgement.{JudgesOrder};
 ghost use Rattle.checker.specs.Failure.{AreJudged};
+ghost use Rattle.checker.specs.Session.{AreOffersFor};
 
 use crate::order::verdict_at_end;
 use crate::replay::Replay;
@@ -32,6 +33,7 @@ fn judge_line(
     ensures judged { OnOk result ((lines : List Line) → step ≡ length lines + 1 → AreJudged replay.old failed.old history.now.recorded lines
         → AreJudged replay.new failed.new history.now.recorded (lines ++ line.now ∷ [])) }
     ensures counted { length replay.new.named.items ≡ length replay.old.named.items }
+    ensures offers { replay.new.machine.offers ≤ replay.old.machine.offers + 1 }
 {
     if failed.is_some() {
         return Ok(());
@@ -56,6 +58,7 @@ pub(crate) fn judge_told(
         → AreJudged replay.old failed.old history.now.recorded lines
         → AreJudged replay.new failed.new history.now.recorded (with_told lines told)) }
     ensures counted { length replay.new.named.items ≡ length replay.old.named.items }
+    ensures offers { replay.new.machine.offers ≤ replay.old.machine.offers + length (with_told [] told) }
 {
     match told {
         Some(line) => judge_line(replay, failed, history, &line, step),
@@ -72,8 +75,10 @@ pub(crate) fn verdict_on(
 ) -> Verdict
     requires counted { length replay.now.named.items ≡ length history.now.recorded.events }
     requires few { lines ≤ MOST_LINES }
-    ensures { (order : List Line) → lines ≡ length order → AreJudged replay.now failed history.now.recorded order
+    ensures judged { (order : List Line) → lines ≡ length order → AreJudged replay.now failed history.now.recorded order
         → JudgesOrder result history.now.recorded order }
+    ensures offers { (order : List Line) → lines ≡ length order → AreJudged replay.now failed history.now.recorded order
+        → AreOffersFor result replay.now.machine.offers }
 {
     history.well_formed();
     match failed {

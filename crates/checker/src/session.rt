@@ -1,6 +1,7 @@
 //! A certificate, judged as its text comes.
 
-ghost use Rattle.std.specs.Prelude.{◌≡◌, ◌↔◌, ℕ, List, [], ◌++◌, length, false, IsTrue, IsErr, IfOk, OnOk};
+ghost use Rattle.std.specs.Prelude.{◌≡◌, ◌↔◌, ◌≤◌, ◌+◌, ℕ, List, [], ◌++◌, length, false, IsTrue, IsErr, IfOk, OnOk};
+ghost use Rattle.line_pieces.specs.Newlines.{newlines};
 ghost use Rattle.rmm_spec.specs.HistoryText.{IsHistoryText};
 ghost use Rattle.rmm_spec.specs.Judgement.{Judges};
 
@@ -25,13 +26,14 @@ pub struct Session {
 }
 
 impl Session {
-    ghost use Rattle.checker.specs.Session.{HasJudged};
+    ghost use Rattle.checker.specs.Session.{HasJudged, AreOffersFor, offers_of};
 
     /// No byte yet.
     pub fn new(alloc: Global, history: History) -> Result<Session, AllocError>
         ensures judged { IfOk result (λ session. HasJudged session []) }
         ensures history { IfOk result (λ session. session.history.recorded ≡ history.recorded) }
         ensures going { IfOk result (λ session. session.refused ≡ false) }
+        ensures offers { IfOk result (λ session. offers_of session ≡ 0) }
     {
         let replay = Replay::new(alloc, &history)?;
         Ok(Session {
@@ -49,6 +51,7 @@ impl Session {
         ensures history { self.new.history.recorded ≡ self.old.history.recorded }
         ensures answered { IsErr result ↔ IsTrue self.new.refused }
         ensures failed { IsTrue self.old.refused → IsTrue self.new.refused }
+        ensures offers { offers_of self.new ≤ offers_of self.old + newlines piece.now }
     {
         if self.refused {
             return Err(AllocError);
@@ -74,11 +77,20 @@ impl Session {
         Ok(())
     }
 
+    /// How many offers were made to the machine, up to the greatest number: at most one for each whole line, and none behind
+    /// the first line that fails.
+    pub fn offers(&self) -> u64
+        ensures { result ≡ offers_of self.now }
+    {
+        self.replay.machine.offers()
+    }
+
     /// The verdict on the text, which ends here.
     pub fn finish(self) -> Result<Verdict, AllocError>
         ensures judged { IfOk result (λ verdict. (history text : List ℕ) → IsHistoryText history self.history.recorded → HasJudged self text
             → Judges verdict history text) }
         ensures answered { IsErr result ↔ IsTrue self.refused }
+        ensures offers { IfOk result (λ verdict. (text : List ℕ) → HasJudged self text → AreOffersFor verdict (offers_of self)) }
     {
         let Session {
             history,
