@@ -10,3 +10,4 @@ pub mod Verdicts
 pub mod Beginnings
 pub mod SessionLaws
 pub mod Offers
+pub mod Cuts

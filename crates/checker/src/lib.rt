@@ -8,6 +8,7 @@
 mod failure;
 mod judged;
 mod judgement;
+mod laws;
 mod order;
 mod replay;
 mod report;
@@ -15,6 +16,7 @@ mod session;
 
 pub use judged::{JudgedOrder, judged_order};
 pub use judgement::check;
+pub use laws::check_pieces;
 pub use report::verdict_text;
 pub use rmm_spec::{Reason, Verdict};
 pub use session::Session;
