@@ -5,7 +5,7 @@ usage: speed.py [--load LOAD] [LINES ..]
 
 Without words it takes 10000, 100000 and 1000000 lines. Each size is measured under each load of generate.py, or under
 the one named. The files are generated anew, and each time is the least of twenty runs, taken in turns. Memory is the greatest
-resident size of one run of the checker, and beside it that size over the history's lines.
+resident size of one further run of the checker under `/usr/bin/time`, and beside it that size over the history's lines.
 """
 import argparse
 import os
@@ -24,13 +24,17 @@ RUNS = 20
 
 
 def run(words):
-    """What the words print, how long they take in seconds, and the most memory that they have resident, in bytes."""
+    """What the words print, how long they take in seconds, and their exit status."""
     begin = time.perf_counter()
-    child = subprocess.Popen(words, stdout=subprocess.PIPE)
-    printed = child.stdout.read().decode()
-    _, status, usage = os.wait4(child.pid, 0)
-    child.returncode = os.waitstatus_to_exitcode(status)
-    return printed, time.perf_counter() - begin, usage.ru_maxrss * 1024, child.returncode
+    child = subprocess.run(words, stdout=subprocess.PIPE)
+    return child.stdout.decode(), time.perf_counter() - begin, child.returncode
+
+
+def memory_of(words):
+    """The most memory that the words have resident, in bytes. A child's count begins with what its parent has resident when
+    it starts, so the parent here is a small program and not this one."""
+    measured = subprocess.run(["/usr/bin/time", "-f", "%M", *words], stdout=subprocess.DEVNULL, stderr=subprocess.PIPE, check=True)
+    return int(measured.stderr.split()[-1]) * 1024
 
 
 def row(load, lines, folder):
@@ -38,17 +42,17 @@ def row(load, lines, folder):
     subprocess.run([sys.executable, os.path.join(HERE, "generate.py"), load, str(lines), prefix], check=True)
     files = [f"{prefix}.history", f"{prefix}.certificate"]
     check_time = count_time = float("inf")
-    memory = 0
     for _ in range(RUNS):
-        _, taken, _, _ = run(["wc", "-l", *files])
+        _, taken, _ = run(["wc", "-l", *files])
         count_time = min(count_time, taken)
-        printed, taken, resident, status = run([PROGRAM, "check", *files])
+        printed, taken, status = run([PROGRAM, "check", *files])
         if status != 0 or not printed.startswith("yes "):
             sys.exit(f"{lines} lines of {load}: {printed!r} with status {status}")
-        check_time, memory = min(check_time, taken), max(memory, resident)
+        check_time = min(check_time, taken)
+    memory = memory_of([PROGRAM, "check", *files])
     size = sum(os.path.getsize(file) for file in files)
     return (f"| {load} | {lines:,} | {size / 1e6:.1f} MB | {count_time * 1e3:.1f} ms | {check_time * 1e3:.1f} ms "
-            f"| {check_time / count_time:.1f} | {check_time / lines * 1e9:.0f} ns | {memory / 1e6:.0f} MB "
+            f"| {check_time / count_time:.1f} | {check_time / lines * 1e9:.0f} ns | {memory / 1e6:.1f} MB "
             f"| {memory / lines:.0f} |")
 
 

@@ -8,3 +8,6 @@ pub mod Scan
 pub mod Excludes
 pub mod Verdicts
 pub mod Beginnings
+pub mod SessionLaws
+pub mod Offers
+pub mod Cuts

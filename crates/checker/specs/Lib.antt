@@ -1,3 +1,5 @@
 pub mod Progress
 pub mod Replay
 pub mod Judged
+pub mod Failure
+pub mod Session

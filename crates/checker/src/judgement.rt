@@ -9,8 +9,7 @@ ghost use Rattle.rmm_spec.specs.CertificateText.{IsCertificateText};
 ghost use Rattle.rmm_spec.specs.Linearization.{IsLinearization};
 ghost use Rattle.rmm_spec.specs.Judgement.{Judges};
 
-use crate::judged::judged_order;
-use certificate::CertFault;
+use crate::session::Session;
 use history::HistoryFault;
 use rmm_spec::Verdict;
 use std::alloc::{AllocError, Global};
@@ -30,10 +29,7 @@ pub fn check(alloc: Global, history: &[u8], certificate: &[u8]) -> Result<Verdic
         Err(HistoryFault::BadLine(line)) => return Ok(Verdict::HistoryFault(line)),
         Err(HistoryFault::NoMemory) => return Err(AllocError),
     };
-    let certificate = match certificate::read(alloc, certificate) {
-        Ok(certificate) => certificate,
-        Err(CertFault::BadLine(line)) => return Ok(Verdict::CertificateFault(line)),
-        Err(CertFault::NoMemory) => return Err(AllocError),
-    };
-    Ok(judged_order(alloc, &history, &certificate)?.verdict)
+    let mut session = Session::new(alloc, history)?;
+    session.feed(certificate)?;
+    session.finish()
 }

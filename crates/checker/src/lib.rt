@@ -5,13 +5,18 @@
 //! What judges, explains and measures runs depends on it.
 #![tactic(auto)]
 
+mod failure;
 mod judged;
 mod judgement;
+mod laws;
 mod order;
 mod replay;
 mod report;
+mod session;
 
 pub use judged::{JudgedOrder, judged_order};
 pub use judgement::check;
+pub use laws::check_pieces;
 pub use report::verdict_text;
 pub use rmm_spec::{Reason, Verdict};
+pub use session::Session;

@@ -1,14 +1,16 @@
 //! The verdict on an order.
 
-ghost use Rattle.std.specs.Prelude.{[], IfOk, OnErr};
+ghost use Rattle.std.specs.Prelude.{◌≡◌, ◌≤◌, List, [], length, IfOk, OnErr};
+ghost use Rattle.rmm_spec.specs.declared.line.Line.{Line};
 ghost use Rattle.rmm_spec.specs.HistoryText.{IsHistory};
 ghost use Rattle.rmm_spec.specs.Judgement.{JudgesOrder};
 ghost use Rattle.spec_machine.specs.View.{state_of};
 ghost use Rattle.checker.specs.Judged.{IsLeftBy};
 ghost use Rattle.checker.specs.Replay.{IsReplayOf, RefusesMemory};
+ghost use Rattle.checker.specs.Session.{AreOffersFor};
 
 use crate::replay::Replay;
-use certificate::Certificate;
+use certificate::{Certificate, MOST_LINES};
 use history::History;
 use rmm_spec::{Reason, Verdict};
 use std::alloc::AllocError;
@@ -34,12 +36,27 @@ pub(crate) fn judge_order(
             });
         }
     }
-    let lines = certificate.len() as u64;
-    Ok(match replay.first_missing(history) {
+    let lines = certificate.len();
+    Ok(verdict_at_end(replay, history, lines))
+}
+
+/// The verdict on so many lines, which are all replayed.
+pub(crate) fn verdict_at_end(replay: &Replay, history: &History, lines: usize) -> Verdict
+    requires is_history { IsHistory history.now.recorded }
+    requires counted { length replay.now.named.items ≡ length history.now.recorded.events }
+    requires few { lines ≤ MOST_LINES }
+    ensures judged { (order : List Line) → lines ≡ length order → IsReplayOf replay.now history.now.recorded order
+        → JudgesOrder result history.now.recorded order }
+    ensures left { (order : List Line) → lines ≡ length order → IsReplayOf replay.now history.now.recorded order
+        → IsLeftBy result history.now.recorded order (state_of replay.now.machine) }
+    ensures offers { replay.now.machine.offers ≤ lines → AreOffersFor result replay.now.machine.offers }
+{
+    let lines = lines as u64;
+    match replay.first_missing(history) {
         Some((cpu, number)) => Verdict::No {
             step: lines + 1,
             reason: Reason::Missing(cpu, number),
         },
         None => Verdict::Yes(lines),
-    })
+    }
 }

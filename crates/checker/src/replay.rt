@@ -1,6 +1,6 @@
 //! What is kept of the lines so far.
 
-ghost use Rattle.std.specs.Prelude.{◌≡◌, ℕ, ◌<◌, List, [], length, false, IfOk, OnErr, IfSome, IfNone, MatchOption};
+ghost use Rattle.std.specs.Prelude.{◌≡◌, ℕ, ◌+◌, ◌<◌, ◌≤◌, List, [], length, false, IfOk, OnErr, IfSome, IfNone, MatchOption};
 ghost use Rattle.std.specs.Bool.{MatchBool};
 ghost use Rattle.rmm_spec.specs.declared.command.Command.{Command};
 ghost use Rattle.rmm_spec.specs.declared.line.Line.{Line};
@@ -36,7 +36,8 @@ impl Replay {
 
     /// Before the first line.
     pub(crate) fn new(alloc: Global, history: &History) -> Result<Replay, AllocError>
-        ensures { IfOk result (λ replay. IsReplayOf replay history.now.recorded []) }
+        ensures replay { IfOk result (λ replay. IsReplayOf replay history.now.recorded []) }
+        ensures offers { IfOk result (λ replay. replay.machine.offers ≡ 0) }
     {
         let machine = Machine::new(alloc, history.config())?;
         let named = vec![in alloc; false; history.len()]?;
@@ -59,6 +60,8 @@ impl Replay {
         ensures judged { IfOk result (λ why. JudgesLine why self.old self.new history.now.recorded (line_seen line.entry)) }
         ensures kept { IfOk result (λ why. IfSome why (λ reason. state_of self.new.machine ≡ state_of self.old.machine)) }
         ensures refused { OnErr result (IsRefusedMemory self.old history.now.recorded (line_seen line.entry)) }
+        ensures same_events { length self.new.named.items ≡ length self.old.named.items }
+        ensures offers { self.new.machine.offers ≤ self.old.machine.offers + 1 }
     {
         let Some(places) = places_named(history, &line) else {
             return Ok(Some(Reason::Unknown));
@@ -105,6 +108,8 @@ impl Replay {
         ensures kept { IfOk result (λ why. IfSome why (λ reason. state_of self.new.machine ≡ state_of self.old.machine)) }
         ensures refused { OnErr result ((line : Line) → IsDue self.old history.now.recorded line cpu called (reply_seen reply.entry)
             → IsRefusedMemory self.old history.now.recorded line) }
+        ensures same_events { length self.new.named.items ≡ length self.old.named.items }
+        ensures offers { self.new.machine.offers ≤ self.old.machine.offers + 1 }
     {
         let Some(command) = history.command_at(called as usize) else {
             unreachable!()
@@ -127,6 +132,8 @@ impl Replay {
             ((next : State) → ¬ Step (state_of self.old.machine) cpu (command_seen command.entry) (reply_seen reply.entry) next)) }
         ensures kept { IfOk result (λ given. given ≡ false → state_of self.new.machine ≡ state_of self.old.machine) }
         ensures refused { OnErr result (NeedsMemory self.old cpu (command_seen command.entry)) }
+        ensures same_events { length self.new.named.items ≡ length self.old.named.items }
+        ensures offers { self.new.machine.offers ≤ self.old.machine.offers + 1 }
     {
         let given = self.machine.offer_seen(cpu, command, reply)?;
         if given {

@@ -7,3 +7,4 @@ pub mod Single
 pub mod Stored
 pub mod View
 pub mod Lending
+pub mod Offers

@@ -30,6 +30,8 @@ pub struct Machine {
     pub(crate) rec_counts: Vec<usize>,
     pub(crate) owners: Owners,
     pub(crate) running: Running,
+    // how many offers were made
+    offers: u64,
     ghost kept: { IsKept (stored store) vmids.items rec_counts.items } by { kept-single (stored store) vmids.items rec_counts.items },
     ghost inside: { AreRunning (stored store) running.recs.items },
     ghost owned: { AreOwners (stored store) owners.realms.items } by { owners-single (stored store) owners.realms.items kept.sound },
@@ -41,13 +43,15 @@ impl Machine {
     ghost use Rattle.rmm_spec.specs.State.{State, opening};
     ghost use Rattle.rmm_spec.specs.Step.{Step, outcome};
     ghost use Rattle.spec_machine.specs.Memory.{makes_table};
+    ghost use Rattle.spec_machine.specs.Offers.{one_more};
     ghost use Rattle.rmi_view.specs.Seen.{command_seen, reply_seen};
     ghost use Rattle.spec_machine.specs.View.{state_of};
 
     /// A machine of that size in which every granule is the host's.
     #[tactic(auto, unfolding(crate::specs::View::state_of))]
     pub fn new(alloc: Global, config: Config) -> Result<Machine, AllocError>
-        ensures { IfOk result (λ machine. state_of machine ≡ opening config) }
+        ensures opening { IfOk result (λ machine. state_of machine ≡ opening config) }
+        ensures offers { IfOk result (λ machine. machine.offers ≡ 0) }
     {
         let granules = config.granules() as usize;
         let store = Store::new(alloc, config)?;
@@ -61,7 +65,15 @@ impl Machine {
             rec_counts,
             owners,
             running,
+            offers: 0,
         })
+    }
+
+    /// How many offers were made, whatever was answered, up to the greatest number. The state doesn't have it.
+    pub fn offers(&self) -> u64
+        ensures { result ≡ self.now.offers }
+    {
+        self.offers
     }
 
     /// What the specification answers to the command of this CPU: the reply of the first condition that fails, with which
@@ -84,12 +96,38 @@ impl Machine {
         ensures err { OnErr result (state_of self.new ≡ state_of self.old) }
         ensures only_tables { OnErr result (IsTrue (makes_table command.now.function)) }
         ensures only_accepted { OnErr result (IsOk (outcome (state_of self.old) cpu (call_of command.now))) }
+        ensures offers { self.new.offers ≡ one_more self.old.offers }
     {
         self.offer_seen(cpu, CommandRef::of(command), ReplyRef::of(reply))
     }
 
     /// Takes one step, as `offer` does, with a command and a reply that lie elsewhere.
+    #[tactic(auto, unfolding(crate::specs::View::state_of))]
     pub fn offer_seen(
+        &mut self,
+        cpu: u8,
+        command: CommandRef<'_>,
+        reply: ReplyRef<'_>,
+    ) -> Result<bool, AllocError>
+        ensures step { IfOk result (λ given. IsTrue given
+            → Step (state_of self.old) cpu (command_seen command.entry) (reply_seen reply.entry) (state_of self.new)) }
+        ensures only { IfOk result (λ given. given ≡ false
+            → (next : State) → ¬ Step (state_of self.old) cpu (command_seen command.entry) (reply_seen reply.entry) next) }
+        ensures kept { IfOk result (λ given. given ≡ false → state_of self.new ≡ state_of self.old) }
+        ensures err { OnErr result (state_of self.new ≡ state_of self.old) }
+        ensures only_tables { OnErr result (IsTrue (makes_table command.entry.function)) }
+        ensures only_accepted { OnErr result (IsOk (outcome (state_of self.old) cpu (call_of (command_seen command.entry)))) }
+        ensures offers { self.new.offers ≡ one_more self.old.offers }
+    {
+        let offers = self.offers.saturating_add(1);
+        let given = self.take_step(cpu, command, reply);
+        self.offers = offers;
+        given
+    }
+
+    // Takes one step, and may lose count of the offers.
+    #[inline(always)]
+    fn take_step(
         &mut self,
         cpu: u8,
         command: CommandRef<'_>,

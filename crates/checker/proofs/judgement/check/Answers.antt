@@ -1,7 +1,10 @@
--- The bad line of either text, and the verdict on what they stand for.
+-- The history's bad line, and the session's verdict on the certificate.
+use Rattle.std.proofs.Common.{◌≡◌, [], sym, ◌∙◌, subst}
+use Rattle.std.proofs.lemmas.Result.{IfOk-weaker}
+use Rattle.rmm_spec.specs.HistoryText.{IsHistoryText}
 use Rattle.rmm_spec.specs.declared.verdict.Verdict.TheVariants as verdict
 use Rattle.history.proofs.GrammarLaws.{BeginsWith-whole}
-use Rattle.checker.proofs.Verdicts.{Judges-from_order, Judges-valid, OnErr-always}
+use Rattle.checker.proofs.Verdicts.{Judges-valid, OnErr-always}
 use Rattle.checker.proofs.judgement.check.Goals as goal
 
 pub returns-in-Err-BadLine-clause-valid : goal.returns-in-Err-BadLine-clause-valid
@@ -10,30 +13,36 @@ returns-in-Err-BadLine-clause-valid c =
     rw c.in-Err-BadLine.line-is
     (Judges-valid (verdict.HistoryFault c.in-Err-BadLine.line) c.args.history.now c.args.certificate.now bad)
 
-pub returns-in-Err-BadLine-read-clause-valid : goal.returns-in-Err-BadLine-read-clause-valid
-returns-in-Err-BadLine-read-clause-valid c =
-    let bad = rw c.in-Err-BadLine-read.field-0-is at c.in-Err-BadLine-read.ensures.fault in
-    rw c.in-Err-BadLine-read.line-is
-    (Judges-valid (verdict.CertificateFault c.in-Err-BadLine-read.line) c.args.history.now c.args.certificate.now ((c.in-Ok.history.recorded, c.in-Ok.ensures.found), bad))
+-- the session's history is the one that was read
+same_history : (c : goal.After-finish) → IsHistoryText c.args.history.now c.feed.new.self.history.recorded
+same_history c =
+    subst (IsHistoryText c.args.history.now) (sym (c.feed.ensures.history ∙ c.in_ok-session.ensures.history)) c.in-Ok.ensures.found
 
 pub returns-clause-judged : goal.returns-clause-judged
 returns-clause-judged c =
-    Judges-from_order _ c.args.history.now c.args.certificate.now c.in-Ok.history.recorded c.in-Ok-read.certificate.lines c.in-Ok.ensures.found c.in-Ok-read.ensures.found
-    c.in_ok-judged_order.ensures.judged
+    let given = c.in_ok-feed.ensures.judged [] c.in_ok-session.ensures.judged in
+    IfOk-weaker c.finish.result _ _ (λ v judged. judged c.args.history.now c.args.certificate.now (same_history c) given) c.finish.ensures.judged
 
 pub returns-clause-valid : goal.returns-clause-valid
 returns-clause-valid c =
-    Judges-valid _ c.args.history.now c.args.certificate.now
-    (Judges-from_order _ c.args.history.now c.args.certificate.now c.in-Ok.history.recorded c.in-Ok-read.certificate.lines c.in-Ok.ensures.found c.in-Ok-read.ensures.found
-    c.in_ok-judged_order.ensures.judged)
+    let given = c.in_ok-feed.ensures.judged [] c.in_ok-session.ensures.judged in
+    IfOk-weaker c.finish.result _ _
+    (λ v judged.
+    Judges-valid v c.args.history.now c.args.certificate.now (judged c.args.history.now c.args.certificate.now (same_history c) given))
+    c.finish.ensures.judged
 
 pub returns-in-Err-NoMemory-clause-refused : goal.returns-in-Err-NoMemory-clause-refused
 returns-in-Err-NoMemory-clause-refused c =
     let fault = rw c.in-Err-NoMemory.field-0-is at c.in-Err-NoMemory.ensures.fault in
     (fault.0, fault.2)
 
-pub returns-in-Err-NoMemory-read-clause-refused : goal.returns-in-Err-NoMemory-read-clause-refused
-returns-in-Err-NoMemory-read-clause-refused c = (c.in-Ok.history.recorded, BeginsWith-whole c.args.history.now _ c.in-Ok.ensures.found)
+pub returns-in_err-session-clause-refused : goal.returns-in_err-session-clause-refused
+returns-in_err-session-clause-refused c =
+    OnErr-always c.from_residual.result (c.in-Ok.history.recorded, BeginsWith-whole c.args.history.now _ c.in-Ok.ensures.found)
 
-pub returns-in_err-judged_order-clause-refused : goal.returns-in_err-judged_order-clause-refused
-returns-in_err-judged_order-clause-refused c = OnErr-always c.from_residual.result (c.in-Ok.history.recorded, BeginsWith-whole c.args.history.now _ c.in-Ok.ensures.found)
+pub returns-in_err-feed-clause-refused : goal.returns-in_err-feed-clause-refused
+returns-in_err-feed-clause-refused c =
+    OnErr-always c.from_residual-in_err-feed.result (c.in-Ok.history.recorded, BeginsWith-whole c.args.history.now _ c.in-Ok.ensures.found)
+
+pub returns-clause-refused : goal.returns-clause-refused
+returns-clause-refused c = OnErr-always c.finish.result (c.in-Ok.history.recorded, BeginsWith-whole c.args.history.now _ c.in-Ok.ensures.found)

@@ -1,13 +1,11 @@
 -- The first line that fails, one more line that passes, and the end.
-use Rattle.std.proofs.Common.{take, length, arith, refl, sym, subst}
-use Rattle.std.proofs.lemmas.List.{take_all}
+use Rattle.std.proofs.Common.{take, arith, refl, sym, subst}
 use Rattle.std.proofs.lemmas.Result.{err_from_is_err_and}
 use Rattle.certificate.specs.LineRef.{line_seen}
 use Rattle.spec_machine.specs.View.{state_of}
 use Rattle.rmm_spec.specs.FirstFault.{Passes}
 use Rattle.checker.specs.Replay.{RefusesMemory}
-use Rattle.checker.proofs.Faults.{FirstFault-from_FailsBy, Progress-next, Progress-whole, FirstFault-missing, Accepts-from_Passes}
-use Rattle.checker.proofs.Judging.{HasOnePlaces-from_history}
+use Rattle.checker.proofs.Faults.{FirstFault-from_FailsBy, Progress-next, Progress-whole}
 use Rattle.checker.proofs.order.judge_order.Goals as goal
 
 pub returns-in-Some-clause-judged : goal.returns-in-Some-clause-judged
@@ -36,33 +34,19 @@ loop-i-preserved c =
     Progress-next c.args.history.now.recorded c.args.certificate.now.lines c.loop-i.i (line_seen c.line.result) _ _ _ c.line.ensures
     (passes (take c.loop-i.i c.args.certificate.now.lines) c.loop-i.invariant)
 
-pub returns-in-Some-first_missing-clause-judged : goal.returns-in-Some-first_missing-clause-judged
-returns-in-Some-first_missing-clause-judged c =
-    let all = Progress-whole c.args.history.now.recorded c.args.certificate.now.lines c.loop-i.i _ _ _ (omega (arith, c.len-i-end.ensures.count)) c.loop-i.invariant in
-    let missing = rw c.in-Some-first_missing.is at c.first_missing.ensures c.args.certificate.now.lines all in
-    rw c.len-lines.ensures.count
-    (FirstFault-missing c.args.history.now.recorded c.args.certificate.now.lines _ _ _ all.passes missing)
-
-pub returns-in-None-clause-judged : goal.returns-in-None-clause-judged
-returns-in-None-clause-judged c =
-    let all = Progress-whole c.args.history.now.recorded c.args.certificate.now.lines c.loop-i.i _ _ _ (omega (arith, c.len-i-end.ensures.count)) c.loop-i.invariant in
-    let named = rw c.in-None.is at c.first_missing.ensures c.args.certificate.now.lines all in
-    rw c.len-lines.ensures.count
-    (Accepts-from_Passes c.args.history.now.recorded c.requires.is_history (HasOnePlaces-from_history c.args.history.now.recorded c.requires.is_history) c.args.certificate.now.lines _ all.passes named)
+pub returns-clause-judged : goal.returns-clause-judged
+returns-clause-judged c =
+    let lines = c.args.certificate.now.lines in
+    let all = Progress-whole c.args.history.now.recorded lines c.loop-i.i _ _ _ (omega (arith, c.len-i-end.ensures.count)) c.loop-i.invariant in
+    c.verdict_at_end.ensures.judged lines c.len-lines.ensures.count all
 
 pub returns-in-Some-clause-left : goal.returns-in-Some-clause-left
 returns-in-Some-clause-left c =
     let kept = rw c.in-Some.is at c.in_ok-reason.ensures.kept in
     (c.loop-i.i, refl, subst (Passes c.args.history.now.recorded (take c.loop-i.i c.args.certificate.now.lines)) (sym kept) c.loop-i.invariant.passes)
 
-pub returns-in-Some-first_missing-clause-left : goal.returns-in-Some-first_missing-clause-left
-returns-in-Some-first_missing-clause-left c =
-    let all = Progress-whole c.args.history.now.recorded c.args.certificate.now.lines c.loop-i.i _ _ _ (omega (arith, c.len-i-end.ensures.count)) c.loop-i.invariant in
+pub returns-clause-left : goal.returns-clause-left
+returns-clause-left c =
     let lines = c.args.certificate.now.lines in
-    rw c.len-lines.ensures.count
-    (length lines, refl, rw (take_all (length lines) lines (omega arith)) all.passes)
-
-pub returns-in-None-clause-left : goal.returns-in-None-clause-left
-returns-in-None-clause-left c =
-    let all = Progress-whole c.args.history.now.recorded c.args.certificate.now.lines c.loop-i.i _ _ _ (omega (arith, c.len-i-end.ensures.count)) c.loop-i.invariant in
-    all.passes
+    let all = Progress-whole c.args.history.now.recorded lines c.loop-i.i _ _ _ (omega (arith, c.len-i-end.ensures.count)) c.loop-i.invariant in
+    c.verdict_at_end.ensures.left lines c.len-lines.ensures.count all

@@ -1,0 +1,14 @@
+-- What is judged of some lines.
+use Rattle.std.specs.Prelude.{◌≤◌, List, length, Option, MatchOption}
+use Rattle.rmm_spec.specs.declared.line.Line.{Line}
+use Rattle.rmm_spec.specs.FirstFault.{FailsAt}
+use Rattle.rmm_spec.specs.HistoryText.{History}
+use Rattle.checker.specs.Replay.{IsReplayOf}
+use Rattle.checker.specs.declared.failure.Failure.{Failure}
+use Rattle.checker.specs.declared.replay.Replay.{Replay}
+
+-- The lines are replayed, or one of them is the first that fails. At most one offer was made for each line up to it.
+abbrev pub AreJudged : Replay → Option Failure → History → List Line → Type 0
+AreJudged replay failed history lines =
+    MatchOption failed (IsReplayOf replay history lines × (replay.machine.offers ≤ length lines))
+    (λ failure. FailsAt history lines failure.step failure.reason × (replay.machine.offers ≤ failure.step))
