@@ -28,12 +28,20 @@ pub(crate) fn read_line(
     ensures fault { IfErr result (λ fault. (more : List ℕ) → IsFaultOf (lines_read history.old ++ (line.now ++ 10 ∷ more)) fault) }
 {
     match history {
-        None => {
-            *history = Some(read_header(alloc, line)?);
-            Ok(())
-        }
+        None => begin(alloc, history, line),
         Some(history) => read_event(history, words, line),
     }
+}
+
+/// Reads the header. A history is large, and no later line is to pay for the place of one.
+#[inline(never)]
+fn begin(alloc: Global, history: &mut Option<History>, line: &[u8]) -> Result<(), HistoryFault>
+    requires { HasNoNewline line.now }
+    ensures read { OnOk result (lines_read history.new ≡ line.now ++ 10 ∷ []) }
+    ensures fault { IfErr result (λ fault. (more : List ℕ) → IsFaultOf (line.now ++ 10 ∷ more) fault) }
+{
+    *history = Some(read_header(alloc, line)?);
+    Ok(())
 }
 
 /// A history without events, of the machine that the header names.
@@ -67,6 +75,7 @@ fn read_event(history: &mut History, words: &mut [u64; 10], line: &[u8]) -> Resu
 }
 
 /// Records the event that a line spells, where one is spelled that can be next.
+#[inline(always)]
 fn record_line(
     history: &mut History,
     words: &mut [u64; 10],

@@ -8,6 +8,7 @@ use crate::decimal::next_decimal;
 use crate::parts::Parts;
 
 /// Takes a decimal below a limit off the parts.
+#[inline(always)]
 pub fn number_below(parts: &mut Parts<'_>, limit: u32) -> Option<u32>
     ensures below { IfSome result (λ n. n < limit) }
     ensures found { IfSome result (λ n. parts.old ≡ decimal n ∷ parts.new) }

@@ -1,7 +1,7 @@
-use Rattle.std.proofs.Common.{ℕ, List, ◌++◌, refl, drop}
+use Rattle.std.proofs.Common.{◌++◌, refl, drop}
 use Rattle.std.proofs.lemmas.Result.{err_from_is_err_and}
 use Rattle.certificate.proofs.PieceLemmas.{IsReadUpTo-next, HasRead-piece, IsFaultOf-refused, IsFaultOf-memory, IsCertificate-read, over}
-use Rattle.certificate.specs.Pieces.{HasRead, with_told}
+use Rattle.certificate.specs.Pieces.{with_told}
 use Rattle.certificate.proofs.reader.read_lines.Goals as goal
 
 pub returns-in_err-count-clause-fault : goal.returns-in_err-count-clause-fault
