@@ -20,7 +20,7 @@ use crate::named_call::named_call;
 use certificate::{Certificate, LineRef};
 use checker::Reason;
 use history::History;
-use rmi_view::ReplyRef;
+use rmi_view::copied_reply;
 use rmm_spec::Reply;
 use spec_machine::Machine;
 use std::alloc::{AllocError, Global};
@@ -189,18 +189,7 @@ fn claimed_by(history: &History, line: LineRef<'_>) -> Reply
 {
     match line {
         LineRef::Keep { cpu, number } => reply_of(history, cpu, number),
-        LineRef::Unfinished { reply, .. } => copy_of(reply),
-    }
-}
-
-// The same reply once more.
-fn copy_of(reply: &Reply) -> Reply
-    ensures { result ≡ reply.now }
-{
-    match reply {
-        Reply::Ok(words) => ReplyRef::Ok(words.as_slice()).to_reply(),
-        Reply::Err(status, index) => Reply::Err(*status, *index),
-        Reply::Misplaced => Reply::Misplaced,
+        LineRef::Unfinished { reply, .. } => copied_reply(reply),
     }
 }
 

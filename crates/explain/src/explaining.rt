@@ -1,10 +1,10 @@
 //! Explains the verdict on two texts.
 
-ghost use Rattle.std.specs.Prelude.{◌≡◌, ◌++◌, [], length, IfOk, IfSome, OnErr};
+ghost use Rattle.std.specs.Prelude.{◌≡◌, ◌++◌, [], length, is_some, IfOk, IfSome, OnErr};
 ghost use Rattle.std.specs.List.{filter};
 ghost use Rattle.history.specs.Faults.{BeginsWith};
 ghost use Rattle.explain.specs.Explained.{IsExplained, IsFirstLine, IsLineIn, verdict_of};
-ghost use Rattle.explain.specs.Run.{IsRunOf};
+ghost use Rattle.explain.specs.Run.{IsRunOf, has_run};
 ghost use Rattle.explain.specs.Told.{is_call};
 ghost use Rattle.rmm_spec.specs.HistoryText.{History as Recorded};
 ghost use Rattle.rmm_spec.specs.Text.{first_lines};
@@ -33,6 +33,7 @@ pub fn explain_run<'a>(
     ensures judged { IfOk result (λ told. Judges (verdict_of told.explanation) history.now certificate.now) }
     ensures explained { IfOk result (λ told. IsExplained told.explanation history.now certificate.now) }
     ensures run { IfOk result (λ told. IfSome told.run (IsRunOf history.now certificate.now)) }
+    ensures kept { IfOk result (λ told. is_some told.run ≡ has_run told.explanation) }
     ensures refused { OnErr result ((h : Recorded) × BeginsWith history.now h) }
 {
     let recorded = match history::read(alloc, history) {
