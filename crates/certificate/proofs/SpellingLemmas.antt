@@ -1,9 +1,11 @@
 -- Which parts are a line's, as a reader comes to know of them part by part.
-use Rattle.std.proofs.Common.{◌≡◌, ◌∙◌, ℕ, ◌<◌, List, [], ◌∷◌, arith, sym}
+use Rattle.std.proofs.Common.{◌≡◌, ◌∙◌, ℕ, ◌<◌, List, [], ◌∷◌, Option, Some, None, arith, sym}
+use Rattle.std.specs.Prelude.{IfNone}
 use Rattle.certificate.specs.Spelling.{IsLineOf, IsNoLine}
 use Rattle.rmi_codec.specs.Head.{HasNoHead, head_parts}
 use Rattle.rmm_spec.specs.CertificateText.{line_parts}
 use Rattle.rmm_spec.specs.CommandText.{IsReply, reply_parts}
+use Rattle.rmm_spec.specs.declared.line.Line.{Line}
 use Rattle.rmm_spec.specs.declared.line.Line.TheVariants.{Keep, Unfinished}
 use Rattle.rmm_spec.specs.declared.reply.Reply.{Reply}
 
@@ -14,15 +16,30 @@ IsNoLine-head parts none (Keep cpu number) of_line = none 107 cpu number [] of_l
 IsNoLine-head parts none (Unfinished cpu number reply) of_line =
     none 117 cpu number (reply_parts reply) of_line.is_line.0 of_line.is_line.1 of_line.spelled
 
--- a head with another letter than `k` and `u`
-pub IsNoLine-letter : (parts : List (List ℕ)) (letter cpu number : ℕ) (more : List (List ℕ)) → parts ≡ head_parts letter cpu number more
-    → (letter ≡ 107 → ⊥) → (letter ≡ 117 → ⊥) → IsNoLine parts
+-- a head with another letter than `k`
+pub IsNoKept-letter : (parts : List (List ℕ)) (letter cpu number : ℕ) (more : List (List ℕ)) → parts ≡ head_parts letter cpu number more
+    → (letter ≡ 107 → ⊥) → (c n : ℕ) → IsLineOf parts (Keep c n) → ⊥
 unfolding line_parts
-IsNoLine-letter parts letter cpu number more cut no_kept no_unfinished (Keep c n) of_line =
-    let same : head_parts letter cpu number more ≡ head_parts 107 c n [] = sym cut ∙ of_line.spelled in no_kept (let e : letter ≡ 107 = cc in e)
-IsNoLine-letter parts letter cpu number more cut no_kept no_unfinished (Unfinished c n reply) of_line =
+IsNoKept-letter parts letter cpu number more cut other c n of_line =
+    let same : head_parts letter cpu number more ≡ head_parts 107 c n [] = sym cut ∙ of_line.spelled in other (let e : letter ≡ 107 = cc in e)
+
+-- a head with another letter than `u`
+pub IsNoUnfinished-letter : (parts : List (List ℕ)) (letter cpu number : ℕ) (more : List (List ℕ)) → parts ≡ head_parts letter cpu number more
+    → (letter ≡ 117 → ⊥) → (c n : ℕ) (reply : Reply) → IsLineOf parts (Unfinished c n reply) → ⊥
+unfolding line_parts
+IsNoUnfinished-letter parts letter cpu number more cut other c n reply of_line =
     let same : head_parts letter cpu number more ≡ head_parts 117 c n (reply_parts reply) = sym cut ∙ of_line.spelled in
-    no_unfinished (let e : letter ≡ 117 = cc in e)
+    other (let e : letter ≡ 117 = cc in e)
+
+-- a line of neither kind
+pub IsNoLine-both : (parts : List (List ℕ)) (found : Option Line) → ((c n : ℕ) → IsLineOf parts (Keep c n) → ⊥)
+    → IfNone found ((c n : ℕ) (reply : Reply) → IsLineOf parts (Unfinished c n reply) → ⊥) → IfNone found (IsNoLine parts)
+IsNoLine-both parts None no_kept no_claimed = λ line of_line. neither line of_line
+  where
+    neither : (line : Line) → IsLineOf parts line → ⊥
+    neither (Keep c n) of_line = no_kept c n of_line
+    neither (Unfinished c n reply) of_line = no_claimed c n reply of_line
+IsNoLine-both parts (Some found) no_kept no_claimed = tt
 
 -- a fourth part of a kept line
 pub IsNoLine-keep : (parts : List (List ℕ)) (cpu number : ℕ) (fourth : List ℕ) (more over : List (List ℕ)) → parts ≡ head_parts 107 cpu number more

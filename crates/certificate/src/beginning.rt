@@ -1,14 +1,15 @@
 //! The beginning of a certificate's text.
 
-ghost use Rattle.std.specs.Prelude.{◌≡◌, ◌+◌, ◌<◌, ◌≤◌, ℕ, List, [], ◌++◌, take, IfOk, IfErr, IfSome, IfNone};
+ghost use Rattle.std.specs.Prelude.{◌≡◌, ◌+◌, ◌<◌, ◌≤◌, ℕ, List, [], ◌∷◌, ◌++◌, Some, take, IfOk, IfErr, IfSome, IfNone};
 ghost use Rattle.certificate.specs.Pieces.{IsReadTo, Takes, with_told};
 ghost use Rattle.certificate.specs.Spelling.{IsLineOf, IsNoLine};
 ghost use Rattle.rmm_spec.specs.CertificateText.{InCertificates, IsCertificateText};
 ghost use Rattle.rmm_spec.specs.Text.{HasNoNewline, IsBadLine, parts_of};
 ghost use Rattle.rmm_spec.specs.declared.line.Line.{Line};
+ghost use Rattle.rmm_spec.specs.declared.line.Line.TheVariants as line;
 
 use crate::certificate::MOST_LINES;
-use crate::spelled::line_from;
+use crate::spelled::{kept_from, line_from};
 use line_pieces::UnfinishedLine;
 use rmi_codec::next_line;
 use rmm_spec::Line;
@@ -54,9 +55,33 @@ impl Beginning {
         self.count
     }
 
+    /// Takes the line at the piece's front, where it lies there whole and keeps a call, and tells its bytes and that call.
+    /// Else nothing is taken. Nearly all lines are such, and this one has no place for a reply.
+    #[inline(always)]
+    pub(crate) fn take_kept(&mut self, piece: &[u8]) -> Option<(usize, u8, u32)>
+        ensures taken { IfSome result (λ kept. Takes piece.now kept.0 (Some (line.Keep kept.1 kept.2))) }
+        ensures read { IfSome result (λ kept. (text : List ℕ) (lines : List Line) → IsReadTo text lines self.old
+            → IsReadTo (text ++ take kept.0 piece.now) (lines ++ line.Keep kept.1 kept.2 ∷ []) self.new) }
+        ensures none { IfNone result (self.new ≡ self.old) }
+    {
+        if !self.line.is_empty() {
+            return None;
+        }
+        if self.count >= MOST_LINES {
+            return None;
+        }
+        let Some((last, _later)) = next_line(piece) else {
+            return None;
+        };
+        let Some((cpu, number)) = kept_from(last) else {
+            return None;
+        };
+        self.count += 1;
+        Some((last.len() + 1, cpu, number))
+    }
+
     /// Takes the bytes up to the next newline and with it, and tells how many and the line that it ends; or all, where
     /// there is none. Where a line is bad, its number is told.
-    #[inline(always)]
     pub(crate) fn take(&mut self, piece: &[u8]) -> Result<(usize, Option<Line>), u64>
         ensures taken { IfOk result (λ told. Takes piece.now told.0 told.1) }
         ensures read { IfOk result (λ told. (text : List ℕ) (lines : List Line) → IsReadTo text lines self.old
@@ -94,7 +119,6 @@ impl Beginning {
 }
 
 /// The line that ends with these bytes, where it is one. What was begun of it is then forgotten.
-#[inline(always)]
 fn ended_line(begun: &mut UnfinishedLine, words: &mut [u64; 10], last: &[u8]) -> Option<Line>
     requires { HasNoNewline last.now }
     ensures found { IfSome result (IsLineOf (parts_of (begun.old ++ last.now))) }
@@ -108,7 +132,6 @@ fn ended_line(begun: &mut UnfinishedLine, words: &mut [u64; 10], last: &[u8]) ->
 }
 
 /// The line that was begun in an earlier piece.
-#[inline(never)]
 fn begun_line(begun: &mut UnfinishedLine, words: &mut [u64; 10], last: &[u8]) -> Option<Line>
     requires { HasNoNewline last.now }
     ensures found { IfSome result (IsLineOf (parts_of (begun.old ++ last.now))) }

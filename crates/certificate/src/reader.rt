@@ -66,6 +66,23 @@ impl Reader {
         if let Some(line) = self.failed {
             return Err(CertFault::BadLine(line));
         }
+        if let Some((count, cpu, number)) = self.beginning.take_kept(piece) {
+            return Ok((count, Some(Line::Keep { cpu, number })));
+        }
+        self.next_other(piece)
+    }
+
+    /// Takes bytes as `next` does, in any case.
+    #[inline(never)]
+    fn next_other(&mut self, piece: &[u8]) -> Result<(usize, Option<Line>), CertFault>
+        requires { IsOk self.old }
+        ensures answered { MatchResult self.new (λ _. IsOk result) (λ line. result ≡ Err (BadLine line)) }
+        ensures taken { IfOk result (λ told. Takes piece.now told.0 told.1) }
+        ensures read { IfOk self.old (λ old. IfOk result (λ told. IfOk self.new (λ new. (text : List ℕ) (lines : List Line)
+            → IsReadTo text lines old → IsReadTo (text ++ take told.0 piece.now) (with_told lines told.1) new))) }
+        ensures bad { IfOk self.old (λ old. IfErr self.new (λ line. (text more : List ℕ) (lines : List Line)
+            → IsReadTo text lines old → IsBadLine InCertificates (text ++ (piece.now ++ more)) line)) }
+    {
         match self.beginning.take(piece) {
             Ok(told) => Ok(told),
             Err(line) => {

@@ -1,35 +1,5 @@
-use Rattle.std.proofs.Common.{rules, sym, ◌∙◌}
-use Rattle.rmi_codec.proofs.ResultLaws.{IsOkAnd-not_Ok}
-use Rattle.rmi_view.specs.Seen.{reply_seen}
-use Rattle.certificate.proofs.SpellingLemmas.{IsNoLine-head, IsNoLine-letter, IsNoLine-keep, IsNoLine-unfinished, IsLineOf-keep, IsLineOf-unfinished}
+use Rattle.certificate.proofs.SpellingLemmas.{IsNoLine-both}
 use Rattle.certificate.proofs.spelled.line_from.Goals as goal
 
-pub returns-in_default-clause-none : goal.returns-in_default-clause-none
-returns-in_default-clause-none c = IsNoLine-head _ (rw c.of-parts.ensures at c.in_default.ensures.none)
-
-pub returns-in_default-letter-clause-none : goal.returns-in_default-letter-clause-none
-returns-in_default-letter-clause-none c =
-    IsNoLine-letter _ _ _ _ c.head_from.new.parts (sym c.of-parts.ensures ∙ c.in-Some.ensures.found) (search rules) (search rules)
-
-pub returns-in_default-reply_from-clause-none : goal.returns-in_default-reply_from-clause-none
-returns-in_default-reply_from-clause-none c =
-    let cut = rw c.in-117.is at (sym c.of-parts.ensures ∙ c.in-Some.ensures.found) in
-    IsNoLine-unfinished _ _ _ c.head_from.new.parts cut
-    (λ reply is_reply is_text. IsOkAnd-not_Ok c.reply_from.result _ (c.reply_from.ensures.only reply is_reply is_text) c.in_default-reply_from.not-Ok)
-
-pub returns-in-Some-next_part-clause-none : goal.returns-in-Some-next_part-clause-none
-returns-in-Some-next_part-clause-none c =
-    let cut = rw c.in-107.is at (sym c.of-parts.ensures ∙ c.in-Some.ensures.found) in
-    IsNoLine-keep _ _ _ c.in-Some-next_part.field-0.now c.head_from.new.parts _ cut c.in-Some-next_part.ensures.next
-
-pub returns-in-None-clause-found : goal.returns-in-None-clause-found
-returns-in-None-clause-found c =
-    let cut = rw c.in-107.is at (sym c.of-parts.ensures ∙ c.in-Some.ensures.found) in
-    IsLineOf-keep _ _ _ c.head_from.new.parts cut c.in-None.ensures.over c.in-Some.ensures.cpu c.in-Some.ensures.number
-
-pub returns-in-Ok-clause-found : goal.returns-in-Ok-clause-found
-returns-in-Ok-clause-found c =
-    let cut = rw c.in-117.is at (sym c.of-parts.ensures ∙ c.in-Some.ensures.found) in
-    rw c.to_reply.ensures
-    (IsLineOf-unfinished _ _ _ c.head_from.new.parts (reply_seen c.in-Ok.reply) cut c.in-Ok.ensures.found.1 c.in-Some.ensures.cpu c.in-Some.ensures.number
-    c.in-Ok.ensures.found.0)
+pub returns-clause-none : goal.returns-clause-none
+returns-clause-none c = IsNoLine-both _ c.claimed_from.result c.in_default.ensures.none c.claimed_from.ensures.none
