@@ -1,1 +1,4 @@
 mod Written
+mod ReadSoFar
+mod HistoryTexts
+mod KnownReads

@@ -15,10 +15,18 @@ OnVerdict (Err fault.ReadHistory) P = ⊤
 OnVerdict (Err fault.ReadCertificate) P = ⊤
 OnVerdict (Err fault.NoMemory) P = ⊤
 
--- a verdict on the two texts, of whose line the sink took a beginning
-pub record BreaksOff (history certificate before after : List ℕ) (held_before held_after : Option (List ℕ)) : Type 0 where
-  pub verdict : Verdict
+-- a verdict on two texts that are those of the history and the certificate
+pub record JudgesThose (verdict : Verdict) (IsHistory IsCertificate : List ℕ → Type 0) : Type 0 where
+  pub history : List ℕ
+  pub certificate : List ℕ
+  pub is_history : IsHistory history
+  pub is_certificate : IsCertificate certificate
   pub judged : Judges verdict history certificate
+
+-- a verdict on those texts, of whose line the sink took a beginning
+pub record BreaksOff (IsHistory IsCertificate : List ℕ → Type 0) (before after : List ℕ) (held_before held_after : Option (List ℕ)) : Type 0 where
+  pub verdict : Verdict
+  pub judged : JudgesThose verdict IsHistory IsCertificate
   pub begun : HoldsBeginning (verdict_line verdict) before after held_before held_after
 
 -- how many failures of each device

@@ -1,31 +1,33 @@
 //! A source over a reader: what the program reads its files by.
 
-ghost use Rattle.std.specs.Prelude.{◌≡◌, [], IsTrue};
-ghost use Rattle.std.specs.Io.KnownBytes.{Keeps, prepend_known};
+ghost use Rattle.std.specs.Prelude.{◌≡◌, ◌≤◌, ◌^◌, IsTrue};
+ghost use Rattle.std.specs.Io.{ReadsAtMost};
+ghost use Rattle.std.specs.Io.KnownBytes.{Consumes, ReadConsumes};
 
 use crate::source::{MOST_BYTES, ReadError, Source};
-use std::alloc::Global;
+use std::io;
 use std::io::{ErrorKind, Read};
 
-/// A reader, and every byte that it gave.
+/// A reader, with no buffer before it.
 #[derive(Drop)]
 pub struct FileSource<R> {
     reader: R,
-    given: Vec<u8>,
+    given: usize,
     is_ended: bool,
     failures: u64,
+    ghost few: { given ≤ 2 ^ 40 },
 }
 
 impl<R: Read> FileSource<R> {
     /// Nothing is read yet.
-    pub fn new(alloc: Global, reader: R) -> FileSource<R>
-        ensures given { ⟦<FileSource<R> as Source>⟧.given result ≡ [] }
-        ensures text { Keeps (R.remaining reader) (⟦<FileSource<R> as Source>⟧.text result) }
+    pub fn new(reader: R) -> FileSource<R>
+        ensures given { ⟦<FileSource<R> as Source>⟧.given result ≡ 0 }
+        ensures left { ⟦<FileSource<R> as Source>⟧.left result ≡ R.remaining reader }
         ensures failures { ⟦<FileSource<R> as Source>⟧.failures result ≡ 0 }
     {
         FileSource {
             reader,
-            given: Vec::new(alloc),
+            given: 0,
             is_ended: false,
             failures: 0,
         }
@@ -33,23 +35,26 @@ impl<R: Read> FileSource<R> {
 }
 
 impl<R: Read> Source for FileSource<R> {
-    ghost given = { λ source. source.given.items };
+    ghost gives = { λ old bytes new. Consumes (R.remaining old.reader) (R.remaining new.reader) bytes };
+
+    ghost given = { λ source. source.given };
 
     ghost is_ended = { λ source. IsTrue source.is_ended };
 
-    ghost text = { λ source. prepend_known source.given.items (R.remaining source.reader) };
+    ghost left = { λ source. R.remaining source.reader };
 
     ghost failures = { λ source. source.failures };
 
-    // All that is left comes at once. A count of failures that can't rise has no memory left.
-    fn read_more(&mut self) -> Result<bool, ReadError> {
+    // A count of failures that can't rise has no memory left.
+    fn read_more(&mut self, piece: &mut [u8]) -> Result<usize, ReadError> {
         let Some(failures) = self.failures.checked_add(1) else {
             return Err(ReadError::NoMemory);
         };
-        match self.reader.read_to_end(&mut self.given) {
-            Ok(count) if self.given.len() <= MOST_BYTES => {
+        match read_some(&mut self.reader, piece) {
+            Ok(count) if count <= MOST_BYTES - self.given => {
+                self.given += count;
                 self.is_ended = count == 0;
-                Ok(count > 0)
+                Ok(count)
             }
             Err(error) if error.kind() == ErrorKind::OutOfMemory => Err(ReadError::NoMemory),
             _ => {
@@ -58,8 +63,19 @@ impl<R: Read> Source for FileSource<R> {
             }
         }
     }
+}
 
-    fn bytes(&self) -> &[u8] {
-        self.given.as_slice()
+// One read, made again where a signal interrupts it.
+#[tactic(auto, using(crate::proofs::KnownReads::kept_then_read))]
+fn read_some<R: Read>(reader: &mut R, piece: &mut [u8]) -> io::Result<usize>
+    ensures within { ReadsAtMost result piece.new }
+    ensures bytes { ReadConsumes (R.remaining reader.old) (R.remaining reader.new) result piece.new }
+{
+    for _ in 0..u64::MAX {
+        match reader.read(piece) {
+            Err(error) if error.kind() == ErrorKind::Interrupted => {}
+            answer => return answer,
+        }
     }
+    Err(io::Error::from(ErrorKind::Interrupted))
 }

@@ -1,17 +1,20 @@
 //! The verdict on two texts, from any two sources, and its line to any sink.
 
-ghost use Rattle.std.specs.Prelude.{◌≡◌, ◌≢◌, ◌⊎◌, ◌+◌, ◌<◌, ◌++◌, length, IfOk, IfErr, IfSome, OnOk, OnErr, Err};
-ghost use Rattle.std.specs.Io.{StartsWith};
-ghost use Rattle.std.specs.Io.KnownBytes.{Appends, Keeps};
+ghost use Rattle.std.specs.Prelude.{◌≡◌, ◌≢◌, ◌⊎◌, ◌+◌, ◌<◌, ℕ, List, [], ◌++◌, length, IfOk, IfErr, IfSome, OnOk, OnErr, Err};
+ghost use Rattle.std.specs.Io.KnownBytes.{Appends};
+ghost use Rattle.rmm_spec.specs.HistoryText.{IsHistoryText};
 ghost use Rattle.rmm_spec.specs.Judgement.{Judges};
 ghost use Rattle.rmm_spec.specs.VerdictText.{verdict_line};
 ghost use Rattle.judging.specs.declared.judgement.JudgeFault.TheVariants.{NoMemory, Write};
-ghost use Rattle.judging.specs.Judgement.{BreaksOff, OnVerdict, failures_of};
+ghost use Rattle.judging.specs.Judgement.{BreaksOff, JudgesThose, OnVerdict, failures_of};
 ghost use Rattle.judging.specs.Sink.{HoldsBeginning};
+ghost use Rattle.judging.specs.Source.{Gives, GivesWhole};
 
 use crate::sink::{Sink, WriteError, write_whole};
-use crate::source::{ReadError, Source, read_whole};
-use checker::Verdict;
+use crate::source::{ReadError, Source};
+use crate::taker::{Taker, Unread, read_whole};
+use checker::{Session, Verdict};
+use history::{History, HistoryFault, Reader};
 use std::alloc::{AllocError, Global};
 use thiserror::Error;
 
@@ -52,25 +55,25 @@ pub fn judge<H: Source, C: Source, K: Sink>(
     certificate: &mut C,
     sink: &mut K,
 ) -> Result<Verdict, JudgeFault>
-    // The history is read to its end before the certificate is begun, and no source loses what it gave.
+    // The history is read to its end before the certificate is begun, and nothing is done to a source but that it is read.
     ensures order { H.is_ended history.new ⊎ (certificate.new ≡ certificate.old) }
-    ensures history_kept { StartsWith (H.given history.new) (H.given history.old) }
-    ensures certificate_kept { StartsWith (C.given certificate.new) (C.given certificate.old) }
+    ensures history_read { (text : List ℕ) × Gives H.gives history.old text history.new }
+    ensures certificate_read { (text : List ℕ) × Gives C.gives certificate.old text certificate.new }
 
-    // Both texts were read to their ends, and what the sink took is the line of the verdict on them.
+    // Both texts were read to their ends, and what the sink took is the line of the verdict on them. Where it is known what was
+    // left of a source's text, that was judged.
     ensures ends { OnVerdict result (H.is_ended history.new × C.is_ended certificate.new) }
-    ensures judged { IfOk result (λ verdict. Judges verdict (H.given history.new) (C.given certificate.new)) }
+    ensures judged { IfOk result (λ verdict. JudgesThose verdict
+        (GivesWhole H.gives (H.left history.old) history.old history.new)
+        (GivesWhole C.gives (C.left certificate.old) certificate.old certificate.new)) }
     ensures written { IfOk result (λ verdict. K.taken sink.new ≡ K.taken sink.old ++ verdict_line verdict) }
     ensures held { IfOk result (λ verdict. Appends (K.contents sink.old) (K.contents sink.new) (verdict_line verdict)) }
-    ensures torn { result ≡ Err JudgeFault.Write → BreaksOff (H.given history.new) (C.given certificate.new)
+    ensures torn { result ≡ Err JudgeFault.Write → BreaksOff
+        (GivesWhole H.gives (H.left history.old) history.old history.new)
+        (GivesWhole C.gives (C.left certificate.old) certificate.old certificate.new)
         (K.taken sink.old) (K.taken sink.new) (K.contents sink.old) (K.contents sink.new) }
     ensures silent { IfErr result (λ fault. fault ≢ JudgeFault.Write → K.taken sink.new ≡ K.taken sink.old) }
     ensures untouched { IfErr result (λ fault. fault ≢ JudgeFault.Write → K.contents sink.new ≡ K.contents sink.old) }
-
-    // Where a source's text is known, it is the one that was judged.
-    ensures history { OnVerdict result (IfSome (H.text history.old) (λ whole. H.given history.new ≡ whole)) }
-    ensures certificate { OnVerdict result
-        (IfSome (C.text certificate.old) (λ whole. C.given certificate.new ≡ whole)) }
 
     // A device is blamed for a failure of its own in this call, and no failure is passed over.
     ensures history_failures { H.failures history.new ≡ H.failures history.old + (failures_of result).history }
@@ -91,31 +94,69 @@ fn read_verdict<H: Source, C: Source>(
     certificate: &mut C,
 ) -> Result<Verdict, JudgeFault>
     ensures order { H.is_ended history.new ⊎ (certificate.new ≡ certificate.old) }
-    ensures history_kept { StartsWith (H.given history.new) (H.given history.old) }
-    ensures certificate_kept { StartsWith (C.given certificate.new) (C.given certificate.old) }
+    ensures history_read { (text : List ℕ) × Gives H.gives history.old text history.new }
+    ensures certificate_read { (text : List ℕ) × Gives C.gives certificate.old text certificate.new }
     ensures ends { OnOk result (H.is_ended history.new × C.is_ended certificate.new) }
-    ensures judged { IfOk result (λ verdict. Judges verdict (H.given history.new) (C.given certificate.new)) }
-    ensures history { OnOk result (IfSome (H.text history.old) (λ whole. H.given history.new ≡ whole)) }
-    ensures certificate { OnOk result
-        (IfSome (C.text certificate.old) (λ whole. C.given certificate.new ≡ whole)) }
+    ensures judged { IfOk result (λ verdict. JudgesThose verdict
+        (GivesWhole H.gives (H.left history.old) history.old history.new)
+        (GivesWhole C.gives (C.left certificate.old) certificate.old certificate.new)) }
     ensures history_failures { H.failures history.new ≡ H.failures history.old + (failures_of result).history }
     ensures certificate_failures { C.failures certificate.new
         ≡ C.failures certificate.old + (failures_of result).certificate }
     ensures unwritten { IfErr result (λ fault. fault ≢ JudgeFault.Write) }
 {
-    if let Err(error) = read_whole(history) {
+    let mut reader = Reader::new(alloc);
+    if let Err(error) = read_whole(history, &mut reader) {
         return Err(match error {
             ReadError::Device => JudgeFault::ReadHistory,
             ReadError::NoMemory => JudgeFault::NoMemory,
         });
     }
-    if let Err(error) = read_whole(certificate) {
-        return Err(match error {
-            ReadError::Device => JudgeFault::ReadCertificate,
-            ReadError::NoMemory => JudgeFault::NoMemory,
-        });
+    match reader.finish() {
+        Ok(recorded) => judge_certificate(alloc, recorded, certificate),
+        Err(HistoryFault::BadLine(line)) => {
+            read_certificate(certificate, &mut Unread)?;
+            Ok(Verdict::HistoryFault(line))
+        }
+        Err(HistoryFault::NoMemory) => Err(JudgeFault::NoMemory),
     }
-    Ok(checker::check(alloc, history.bytes(), certificate.bytes())?)
+}
+
+// The verdict on what a certificate's source gives, for a history that was read.
+fn judge_certificate<C: Source>(
+    alloc: Global,
+    history: History,
+    certificate: &mut C,
+) -> Result<Verdict, JudgeFault>
+    ensures read { (text : List ℕ) × Gives C.gives certificate.old text certificate.new }
+    ensures end { OnOk result (C.is_ended certificate.new) }
+    ensures judged { IfOk result (λ verdict. (bytes : List ℕ) → IsHistoryText bytes history.recorded → (text : List ℕ)
+        × (GivesWhole C.gives (C.left certificate.old) certificate.old certificate.new text × Judges verdict bytes text)) }
+    ensures failures { C.failures certificate.new ≡ C.failures certificate.old + (failures_of result).certificate }
+    ensures faults { IfErr result (λ fault. (fault ≡ JudgeFault.ReadCertificate) ⊎ (fault ≡ JudgeFault.NoMemory)) }
+{
+    let mut session = Session::new(alloc, history)?;
+    read_certificate(certificate, &mut session)?;
+    Ok(session.finish()?)
+}
+
+// Reads the certificate's source to its end.
+fn read_certificate<C: Source, T: Taker>(
+    certificate: &mut C,
+    taker: &mut T,
+) -> Result<(), JudgeFault>
+    ensures read { (text : List ℕ) × (Gives C.gives certificate.old text certificate.new
+        × OnOk result (IfSome (C.left certificate.old) (λ whole. text ≡ whole)
+        × ((before : List ℕ) → T.has_taken taker.old before [] → T.has_taken taker.new before text))) }
+    ensures end { OnOk result (C.is_ended certificate.new) }
+    ensures failures { C.failures certificate.new ≡ C.failures certificate.old + (failures_of result).certificate }
+    ensures faults { IfErr result (λ fault. (fault ≡ JudgeFault.ReadCertificate) ⊎ (fault ≡ JudgeFault.NoMemory)) }
+{
+    match read_whole(certificate, taker) {
+        Ok(()) => Ok(()),
+        Err(ReadError::Device) => Err(JudgeFault::ReadCertificate),
+        Err(ReadError::NoMemory) => Err(JudgeFault::NoMemory),
+    }
 }
 
 // The verdict's line.

@@ -1,7 +1,7 @@
 //! Judges what two devices give, and writes the verdict's line to a third: no words, no paths, and no files of its own.
-//! `judge` reads the history to its end and then the certificate, answers `checker`'s verdict and hands its line to the sink.
+//! `judge` reads the history to its end and then the certificate, in pieces and keeping neither, and hands `checker`'s verdict to the sink.
 //! It blames a device only for a failure of its own, and after any fault but `Write` the sink is as it was.
-//! `FileSource` and `OutputSink` are the devices over std's readers and writers; `ends_with` is the table of its exit statuses.
+//! `FileSource` and `OutputSink` are the devices over std's readers and writers; `ends_with` is the table of its exit statuses and lines.
 //! `scenarios` depends on it, and so the program `rmmcheck`.
 #![tactic(auto)]
 
@@ -12,11 +12,12 @@ mod judgement;
 mod output;
 mod sink;
 mod source;
+mod taker;
 
-pub use ending::ends_with;
+pub use ending::{Ending, ends_with};
 pub use fault::{Fault, Paths};
 pub use file::FileSource;
 pub use judgement::{JudgeFault, judge};
 pub use output::OutputSink;
 pub use sink::{Sink, WriteError};
-pub use source::{MOST_BYTES, ReadError, Source};
+pub use source::{MOST_BYTES, MOST_PIECE, ReadError, Source};

@@ -1,9 +1,8 @@
 //! A device that gives a text.
 
-ghost use Rattle.std.specs.Prelude.{◌≡◌, ℕ, ◌+◌, List, Option, None, Ok, true, false, OnOk, IfSome};
-ghost use Rattle.std.specs.Io.{StartsWith};
-ghost use Rattle.std.specs.Io.KnownBytes.{Keeps};
-ghost use Rattle.judging.specs.Source.{Grows, read_failures};
+ghost use Rattle.std.specs.Prelude.{◌≡◌, ℕ, ◌+◌, ◌<◌, ◌≤◌, ◌^◌, List, Option, None, Ok, length, take, IfOk};
+ghost use Rattle.std.specs.Io.KnownBytes.{Consumes, IsAtEnd};
+ghost use Rattle.judging.specs.Source.{read_failures};
 
 use thiserror::Error;
 
@@ -19,42 +18,37 @@ pub enum ReadError {
 /// The length that no source passes.
 pub const MOST_BYTES: usize = 1 << 40;
 
-/// A device that gives one text of up to `MOST_BYTES`, from its beginning on. What it gave it keeps.
+/// The most bytes that are asked for at once.
+pub const MOST_PIECE: usize = 4096;
+
+/// A device that gives one text of up to `MOST_BYTES` in pieces, from its beginning on, and keeps none of it.
 pub trait Source {
-    /// The bytes that it has given so far.
-    ghost given: { Self → List ℕ };
+    /// It goes from one state to another and gives these bytes.
+    ghost gives: { Self → List ℕ → Self → Type 0 };
+
+    /// How many bytes it has given so far.
+    ghost given: { Self → ℕ };
 
     /// It has reported that nothing follows what it gave.
     ghost is_ended: { Self → Type 0 };
 
-    /// The whole text, where it is known.
-    ghost text: { Self → Option (List ℕ) } = { λ _. None };
+    /// What it has yet to give, where that is known.
+    ghost left: { Self → Option (List ℕ) } = { λ _. None };
 
     /// How often the device has failed.
     ghost failures: { Self → ℕ };
 
-    /// Asks the device for more. `Ok(false)` reports the end. After an `Err` there may be more bytes than before.
-    fn read_more(&mut self) -> Result<bool, ReadError>
-        ensures kept { StartsWith (given self.new) (given self.old) }
-        ensures more { result ≡ Ok true → Grows (given self.old) (given self.new) }
-        ensures end { result ≡ Ok false → is_ended self.new }
-        ensures text { Keeps (text self.old) (text self.new) }
-        ensures whole { result ≡ Ok false → IfSome (text self.new) (λ whole. given self.new ≡ whole) }
+    /// Asks the device for the next bytes, and returns how many of the buffer's first they are. `Ok(0)` reports the end.
+    /// After an `Err` the device may have given bytes that are lost.
+    fn read_more(&mut self, piece: &mut [u8]) -> Result<usize, ReadError>
+        requires some { 0 < length piece.old }
+        requires few { length piece.old ≤ 4096 }
+        ensures gives { (bytes : List ℕ) × (gives self.old bytes self.new × IfOk result (λ count. bytes ≡ take count piece.new)) }
+        ensures within { IfOk result (λ count. count ≤ length piece.new) }
+        ensures given { IfOk result (λ count. given self.new ≡ given self.old + count) }
+        ensures most { IfOk result (λ count. given self.new ≤ 2 ^ 40) }
+        ensures end { result ≡ Ok 0 → is_ended self.new }
+        ensures left { IfOk result (λ count. Consumes (left self.old) (left self.new) (take count piece.new)) }
+        ensures whole { result ≡ Ok 0 → IsAtEnd (left self.new) }
         ensures failures { failures self.new ≡ failures self.old + read_failures result };
-
-    /// What it gave, one behind the other.
-    fn bytes(&self) -> &[u8]
-        ensures { result.now ≡ given self.now };
-}
-
-/// Reads a source to its end.
-pub(crate) fn read_whole<S: Source>(source: &mut S) -> Result<(), ReadError>
-    ensures kept { StartsWith (S.given source.new) (S.given source.old) }
-    ensures end { OnOk result (S.is_ended source.new) }
-    ensures text { Keeps (S.text source.old) (S.text source.new) }
-    ensures whole { OnOk result (IfSome (S.text source.new) (λ whole. S.given source.new ≡ whole)) }
-    ensures failures { S.failures source.new ≡ S.failures source.old + read_failures result }
-{
-    while source.read_more()? {}
-    Ok(())
 }

@@ -72,21 +72,18 @@ impl Sink for TornSink {
 }
 
 // A text that fails once it was read so often.
-fn source(alloc: Global, bytes: &'static [u8], reads: usize) -> FileSource<TestFile> {
-    FileSource::new(
-        alloc,
-        TestFile {
-            bytes,
-            reads,
-            failure: ErrorKind::Other,
-        },
-    )
+fn source(bytes: &'static [u8], reads: usize) -> FileSource<TestFile> {
+    FileSource::new(TestFile {
+        bytes,
+        reads,
+        failure: ErrorKind::Other,
+    })
 }
 
 // A judgement over a history and a certificate that are read so often before they fail, and what the sink took.
 fn judged(alloc: Global, history: usize, certificate: usize, mut sink: TornSink) -> Outcome {
-    let mut history = source(alloc, HISTORY, history);
-    let mut certificate = source(alloc, CERTIFICATE, certificate);
+    let mut history = source(HISTORY, history);
+    let mut certificate = source(CERTIFICATE, certificate);
     Outcome {
         result: judge(alloc, &mut history, &mut certificate, &mut sink),
         failures: sink.failures,

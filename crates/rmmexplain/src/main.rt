@@ -91,7 +91,7 @@ fn print_report<R: Print + AllocGlobal>(
     let mut text = Vec::new(rt.alloc());
     report(rt.alloc(), &explanation, &mut text)?;
     match io::writer(rt).write_all(text.as_slice()) {
-        Ok(()) => Ok(ends_with(Ok(explanation.verdict()))),
+        Ok(()) => Ok(ends_with(Ok(explanation.verdict())).status),
         Err(_) => Err(Fault::CannotWrite),
     }
 }
@@ -107,7 +107,7 @@ fn write_page<R: Files + AllocGlobal>(
     let mut page = Vec::new(rt.alloc());
     append_page(rt.alloc(), &told, &mut page)?;
     match fs::write(rt, path.as_str(), page.as_slice()) {
-        Ok(()) => Ok(ends_with(Ok(told.explanation.verdict()))),
+        Ok(()) => Ok(ends_with(Ok(told.explanation.verdict())).status),
         Err(_) => Err(Fault::CannotWrite),
     }
 }

@@ -107,8 +107,8 @@ fn check_files<'a, R: Files + Print + AllocGlobal>(
     let Ok(certificate) = fs::open(rt, paths.certificate) else {
         return Err(ProgramFault::Device(Fault::CannotRead(paths.certificate)));
     };
-    let mut history = FileSource::new(rt.alloc(), history);
-    let mut certificate = FileSource::new(rt.alloc(), certificate);
+    let mut history = FileSource::new(history);
+    let mut certificate = FileSource::new(certificate);
     let mut sink = OutputSink::new(rt.alloc(), io::writer(rt));
     match judge(rt.alloc(), &mut history, &mut certificate, &mut sink) {
         Ok(verdict) => Ok(verdict),
@@ -150,8 +150,8 @@ fn end<R: Eprint>(rt: &R, outcome: Result<Verdict, ProgramFault<'_>>) -> u8
         let _ = rt.eprintln(fault);
     }
     match outcome {
-        Ok(verdict) => ends_with(Ok(verdict)),
-        Err(ProgramFault::Device(fault)) => ends_with(Err(fault)),
+        Ok(verdict) => ends_with(Ok(verdict)).status,
+        Err(ProgramFault::Device(fault)) => ends_with(Err(fault)).status,
         Err(ProgramFault::Arguments) => 2,
         Err(ProgramFault::NoThread | ProgramFault::Disagrees) => 3,
     }
