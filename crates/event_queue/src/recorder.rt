@@ -14,7 +14,7 @@ use crate::book::{Counts, PagePass, Queue, Seats};
 use crate::cpu_pass::CpuPass;
 use crate::full::Full;
 use crate::scribe_pass::ScribePass;
-use history::History;
+use history::{History, MOST_LINES};
 use rmm_spec::{Command, Reply};
 use std::alloc::{AllocError, Global};
 use std::marker::Model;
@@ -95,9 +95,9 @@ impl Recorder {
     }
 
     /// Moves events from the queue to the end of the history, and returns how many. It takes at most as many as the queue
-    /// may hold, and stops where the queue is empty or the history's text has no room for another line. Where memory is
-    /// refused, what was taken stands in the history, and was all that it had room for in memory. No more of that room is
-    /// used up than what was taken.
+    /// may hold, and stops where the queue is empty or the history's text has no room for another line; where that has room,
+    /// an event more is sure to take no memory then. Where memory is refused, what was taken stands in the history, and was all
+    /// that it had room for in memory. No more of that room is used up than what was taken.
     pub fn drain<R: Wait>(
         &self,
         rt: &R,
@@ -108,6 +108,8 @@ impl Recorder {
         ensures taken { (taken : List Event) × (scribe.new ≡ record scribe.old { events = scribe.old.events ++ taken })
             × (length taken ≤ self.now.capacity) × IfOk result (λ count. count ≡ length taken)
             × OnErr result (history.old.room ≤ length taken) }
+        ensures stopped { IfOk result (λ count. count < self.now.capacity
+            → length history.new.recorded.events + 1 < MOST_LINES → 1 ≤ history.new.room) }
         ensures left { history.old.room + length scribe.old.events ≤ history.new.room + length scribe.new.events }
         ensures history { history.new.recorded ≡ record history.old.recorded { events = scribe.new.events } }
     {
@@ -132,7 +134,8 @@ impl Recorder {
         pass.compare(&self.queue, note);
     }
 
-    /// Moves the oldest event to the end of the history, and returns whether there was one, and a line for it.
+    /// Moves the oldest event to the end of the history, and returns whether there was one, and a line for it. Where there was
+    /// a line alone, there is room in memory too.
     fn move_one<R: Wait>(
         &self,
         rt: &R,
@@ -142,6 +145,7 @@ impl Recorder {
         requires { CanDrain self.now.queue scribe.old history.old.recorded }
         ensures moved { IfOk result (λ moved. IsTrue moved → (event : Event) × (scribe.new ≡ record scribe.old { events = scribe.old.events ++ event ∷ [] })) }
         ensures stays { IfOk result (λ moved. moved ≡ false → scribe.new ≡ scribe.old) }
+        ensures stopped { IfOk result (λ moved. moved ≡ false → length history.new.recorded.events + 1 < MOST_LINES → 1 ≤ history.new.room) }
         ensures err { OnErr result (scribe.new ≡ scribe.old) }
         ensures succeeds { 1 ≤ history.old.room → IsOk result }
         ensures left { history.old.room + length scribe.old.events ≤ history.new.room + length scribe.new.events }
