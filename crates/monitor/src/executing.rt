@@ -18,7 +18,7 @@ use crate::refused::Refused;
 use commit_tickets::{CommitFault, CpuToken, Done, Site, commit};
 use event_queue::CpuPass;
 use granule_lock::{Hold, free_all, lock_for};
-use rmi_view::{CommandRef, ReplyRef};
+use rmi_view::{copied_command, copied_reply};
 use rmm_spec::Command;
 use std::alloc::Global;
 use std::sync::Wait;
@@ -49,7 +49,7 @@ impl<S: Site> Monitor<S> {
         if token.is_stopped() {
             return Err(Refused::Stopped);
         }
-        let recorded = CommandRef::of(&command).to_command();
+        let recorded = copied_command(&command);
         if self.recorder.call(rt, pass, recorded).is_err() {
             return Err(Refused::Full);
         }
@@ -135,7 +135,7 @@ impl<S: Site> Monitor<S> {
             × (pass.new ≡ unreturned pass.old)) }
         ensures moment { FullAtSomeMoment self.now.capacity pass.new result }
     {
-        let reply = ReplyRef::of(&done.reply).to_reply();
+        let reply = copied_reply(&done.reply);
         if self.recorder.returned(rt, pass, reply).is_ok() {
             return Ok(done);
         }

@@ -10,6 +10,7 @@ use commit_tickets::{CpuToken, Journal, Site};
 use event_queue::{CpuPass, History, Recorder, ScribePass};
 use granule_lock::Granules;
 use granule_state::Config;
+use history::MOST_LINES;
 use std::alloc::{AllocError, Global};
 use std::marker::Model;
 use std::sync::ledger::Blank;
@@ -79,9 +80,9 @@ impl<S: Site> Monitor<S> {
     }
 
     /// Moves events from the queue to the end of the history, and returns how many. It takes at most as many as the queue
-    /// may hold, and stops where the queue is empty or the history's text has no room for another line. Where memory is
-    /// refused, what was taken stands in the history, and was all that it had room for in memory. No more of that room is
-    /// used up than what was taken.
+    /// may hold, and stops where the queue is empty or the history's text has no room for another line; where that has room,
+    /// an event more is sure to take no memory then. Where memory is refused, what was taken stands in the history, and was all
+    /// that it had room for in memory. No more of that room is used up than what was taken.
     pub fn drain<R: Wait>(
         &self,
         rt: &R,
@@ -92,6 +93,8 @@ impl<S: Site> Monitor<S> {
         ensures taken { (taken : List Event) × (scribe.new ≡ record scribe.old { events = scribe.old.events ++ taken })
             × (length taken ≤ self.now.capacity) × IfOk result (λ count. count ≡ length taken)
             × OnErr result (history.old.room ≤ length taken) }
+        ensures stopped { IfOk result (λ count. count < self.now.capacity
+            → length history.new.recorded.events + 1 < MOST_LINES → 1 ≤ history.new.room) }
         ensures left { history.old.room + length scribe.old.events ≤ history.new.room + length scribe.new.events }
         ensures history { history.new.recorded ≡ record history.old.recorded { events = scribe.new.events } }
     {
