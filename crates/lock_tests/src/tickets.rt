@@ -8,9 +8,9 @@ ghost use Rattle.granule_lock.specs.HeldCells.{hold_cells};
 ghost use Rattle.granule_lock.specs.Locked.{AreGranules};
 
 use arrayvec::ArrayVec;
-use command_core::{Held, Next, next_lock};
+use command_core::{CpuPlace, Held, Next, next_lock};
 use commit_tickets::{CommitFault, Committed, CpuToken, Done, Journal, Site, commit};
-use granule_lock::{Granules, Hold, free_all};
+use granule_lock::{Granules, Hold, free_all, lock_for};
 use granule_state::{Config, Pa};
 use rmm_spec::{Command, FunctionId, Reply, Tag};
 use std::alloc::Global;
@@ -191,5 +191,40 @@ fn both_delegate_one_granule(rt: HostRuntime) -> Result<(), Fail> {
     let [first, second, third] = answers;
     assert!(rt; is_done(&first, 0, &ok()) && is_done(&second, 1, &Reply::Err(1, 0)));
     assert!(rt; is_done(&third, 2, &ok()) && listed);
+    Ok(())
+}
+
+/// Locks one granule of four for its delegation, while each other one is held elsewhere. Returns whether that one alone was
+/// taken.
+#[tactic(auto, unfolding(rmm_spec::specs::Lookup::is_granule))]
+fn locks_beside<R: Wait>(rt: &R, alloc: Global, config: Config) -> Result<bool, Fail>
+    requires { config.granules ≡ 4 }
+{
+    let granules = Granules::new(alloc, &config)?;
+    let first = hold_of(rt, &granules, 0);
+    let third = hold_of(rt, &granules, 0x2000);
+    let fourth = hold_of(rt, &granules, 0x3000);
+    let command = delegate(0x1000);
+    let mut hold = Hold::new();
+    lock_for(
+        rt,
+        &granules,
+        &config,
+        &CpuPlace::Outside,
+        &command,
+        &mut hold,
+    );
+    let is_alone = matches!(hold.held(), [only] if *only == Pa::new(0x1000));
+    give_home(rt, &granules, hold);
+    give_home(rt, &granules, first);
+    give_home(rt, &granules, third);
+    give_home(rt, &granules, fourth);
+    Ok(is_alone)
+}
+
+#[test]
+fn plan_asks_for_nothing_else(rt: HostRuntime) -> Result<(), Fail> {
+    let config = Config::new(4, 1).ok_or("a machine of this size")?;
+    assert!(rt; locks_beside(&rt, rt.alloc(), config)?);
     Ok(())
 }
