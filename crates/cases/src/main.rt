@@ -8,6 +8,7 @@
 mod answers;
 mod case;
 mod case_text;
+mod cuts;
 mod functions;
 mod owners;
 mod parts;

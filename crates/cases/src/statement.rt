@@ -21,6 +21,10 @@ pub(crate) enum Word {
     Header,
     /// The checker's line on the two texts.
     Verdict,
+    /// Whether the two texts' verdict is the same in pieces, however they are cut.
+    Cuts,
+    /// How many offers a session makes of the certificate.
+    Offers,
     /// The report on the two texts.
     Report,
     /// Whether the page on the two texts has a text.
@@ -51,6 +55,8 @@ impl Word {
             "try" => Word::Try,
             "header" => Word::Header,
             "verdict" => Word::Verdict,
+            "cuts" => Word::Cuts,
+            "offers" => Word::Offers,
             "report" => Word::Report,
             "page" => Word::Page,
             "owners" => Word::Owners,
