@@ -1,12 +1,13 @@
 //! Texts, read to certificates.
 
-ghost use Rattle.std.specs.Prelude.{◌≡◌, ◌≢◌, ◌+◌, ◌<◌, ◌≤◌, ℕ, List, [], ◌++◌, length, take, Ok, Err, IsOk, IfOk, IfErr, OnOk, OnErr, MatchResult};
+ghost use Rattle.std.specs.Prelude.{◌≡◌, ◌≢◌, ◌+◌, ◌<◌, ◌≤◌, ℕ, List, [], ◌∷◌, ◌++◌, length, take, Some, None, Ok, Err, IsOk, IfOk, IfErr, OnOk, OnErr, IfSome, IfNone, MatchResult};
 ghost use Rattle.certificate.specs.Faults.{IsFaultOf};
 ghost use Rattle.certificate.specs.Pieces.{HasRead, IsReadTo, Takes, with_told};
 ghost use Rattle.certificate.specs.declared.fault.CertFault.TheVariants.{BadLine, NoMemory};
 ghost use Rattle.rmm_spec.specs.CertificateText.{InCertificates, IsCertificate, IsCertificateText};
 ghost use Rattle.rmm_spec.specs.Text.{IsBadLine};
 ghost use Rattle.rmm_spec.specs.declared.line.Line.{Line};
+ghost use Rattle.rmm_spec.specs.declared.line.Line.TheVariants as line;
 
 use crate::beginning::Beginning;
 use crate::certificate::{Certificate, MOST_LINES};
@@ -70,6 +71,23 @@ impl Reader {
             return Ok((count, Some(Line::Keep { cpu, number })));
         }
         self.next_other(piece)
+    }
+
+    /// Takes the line at the piece's front as `next` does, where it lies there whole and keeps a call, and tells its bytes and
+    /// that call. Else nothing is taken. Nearly all lines are such, and this one has no place for a reply.
+    #[inline(always)]
+    pub fn next_kept(&mut self, piece: &[u8]) -> Option<(usize, u8, u32)>
+        ensures answered { IfSome result (λ kept. IsOk self.new) }
+        ensures taken { IfSome result (λ kept. Takes piece.now kept.0 (Some (line.Keep kept.1 kept.2))) }
+        ensures read { IfSome result (λ kept. IfOk self.old (λ old. IfOk self.new (λ new. (text : List ℕ) (lines : List Line)
+            → IsReadTo text lines old → IsReadTo (text ++ take kept.0 piece.now) (lines ++ line.Keep kept.1 kept.2 ∷ []) new))) }
+        ensures none { IfNone result (self.new ≡ self.old) }
+        ensures failed { IfErr self.old (λ line. result ≡ None) }
+    {
+        if self.failed.is_some() {
+            return None;
+        }
+        self.beginning.take_kept(piece)
     }
 
     /// Takes bytes as `next` does, in any case.

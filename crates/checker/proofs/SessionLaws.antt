@@ -1,5 +1,5 @@
 -- How a session comes from one line to the next, and to its verdict.
-use Rattle.std.proofs.Common.{◌≡◌, ℕ, ◌+◌, ◌<◌, ◌≤◌, List, [], ◌∷◌, ◌++◌, length, take, drop, Option, Some, None, Result, Ok, Err, true, is_some, refl, sym, ap, ◌∙◌, subst, arith, append_assoc, take-append-drop, false}
+use Rattle.std.proofs.Common.{◌≡◌, ℕ, ◌+◌, ◌<◌, ◌≤◌, List, [], ◌∷◌, ◌++◌, length, take, drop, Option, Some, None, Result, Ok, Err, true, is_some, refl, sym, ap, ◌∙◌, subst, arith, append_assoc, length-append, take-append-drop, false}
 use Rattle.std.specs.Prelude.{IsOk, IfOk, IfErr}
 use Rattle.std.proofs.lemmas.List.{take_all, append-nil, take-append-le}
 use Rattle.std.proofs.lemmas.Option.{slice_get_within}
@@ -74,6 +74,20 @@ HasJudged-next (Ok old) (Ok new) count step told before after failed fails histo
 HasJudged-next (Ok old) (Err l) count step told before after failed fails history text rest answered goes_on stays counted judge given = absurd cc
 HasJudged-next (Err l) (Ok new) count step told before after failed fails history text rest answered goes_on stays counted judge given = absurd cc
 HasJudged-next (Err l) (Err m) count step told before after failed fails history text rest answered goes_on stays counted judge given = absurd cc
+
+-- the kept line that was told is judged
+pub HasJudged-kept : {T : Type 0} (old new : Result Begun ℕ) (count step : ℕ) (line : Line) (answer : Option T) (told : T) (before after : Replay)
+    (failed fails : Option Failure) (history : History) (text rest : List ℕ) → answer ≡ Some told → IfErr old (λ _. answer ≡ None) → IsOk new
+    → GoesOn old new count (Some line) rest → IfOk new (λ kept. step ≡ kept.count)
+    → ((lines : List Line) → step ≡ length lines + 1 → AreJudged before failed history lines → AreJudged after fails history (lines ++ line ∷ []))
+    → HasJudgedBy old before failed history text → HasJudgedBy new after fails history (text ++ take count rest)
+HasJudged-kept (Ok old) (Ok new) count step line answer told before after failed fails history text rest is_told none is_ok goes_on counted judge given =
+    let read = goes_on text given.0 given.1.0 in
+    (given.0 ++ line ∷ [], (read, judge given.0 (counted ∙ read.counted ∙ length-append given.0 (line ∷ [])) given.1.1))
+HasJudged-kept (Ok old) (Err l) count step line answer told before after failed fails history text rest is_told none is_ok goes_on counted judge given =
+    absurd cc
+HasJudged-kept (Err l) new count step line answer told before after failed fails history text rest is_told none is_ok goes_on counted judge given =
+    absurd (let e : Some told ≡ None = sym is_told ∙ none in cc)
 
 -- an answer is a value or none
 not_ok : (answer : Answer) → IsOk answer → ((told : ℕ × Option Line) → answer ≡ Ok told → ⊥) → ⊥

@@ -2,6 +2,7 @@
 
 ghost use Rattle.std.specs.Prelude.{◌≡◌, ◌≤◌, ◌+◌, List, [], ◌∷◌, ◌++◌, length, OnOk};
 ghost use Rattle.rmm_spec.specs.declared.line.Line.{Line};
+ghost use Rattle.certificate.specs.LineRef.{line_seen};
 ghost use Rattle.certificate.specs.Pieces.{with_told};
 ghost use Rattle.rmm_spec.specs.Judgement.{JudgesOrder};
 ghost use Rattle.checker.specs.Failure.{AreJudged};
@@ -22,16 +23,17 @@ pub(crate) struct Failure {
 }
 
 /// Judges the next line, unless one before it fails.
-fn judge_line(
+#[inline(always)]
+pub(crate) fn judge_line(
     replay: &mut Replay,
     failed: &mut Option<Failure>,
     history: &History,
-    line: &Line,
+    line: LineRef<'_>,
     step: u64,
 ) -> Result<(), AllocError>
     requires { length replay.old.named.items ≡ length history.now.recorded.events }
     ensures judged { OnOk result ((lines : List Line) → step ≡ length lines + 1 → AreJudged replay.old failed.old history.now.recorded lines
-        → AreJudged replay.new failed.new history.now.recorded (lines ++ line.now ∷ [])) }
+        → AreJudged replay.new failed.new history.now.recorded (lines ++ line_seen line.entry ∷ [])) }
     ensures counted { length replay.new.named.items ≡ length replay.old.named.items }
     ensures offers { replay.new.machine.offers ≤ replay.old.machine.offers + 1 }
 {
@@ -39,13 +41,14 @@ fn judge_line(
         return Ok(());
     }
     history.well_formed();
-    if let Some(reason) = replay.take_line(history, LineRef::of(line))? {
+    if let Some(reason) = replay.take_line(history, line)? {
         *failed = Some(Failure { step, reason });
     }
     Ok(())
 }
 
 /// Judges the line that was told, where one was.
+#[inline(never)]
 pub(crate) fn judge_told(
     replay: &mut Replay,
     failed: &mut Option<Failure>,
@@ -61,7 +64,7 @@ pub(crate) fn judge_told(
     ensures offers { replay.new.machine.offers ≤ replay.old.machine.offers + length (with_told [] told) }
 {
     match told {
-        Some(line) => judge_line(replay, failed, history, &line, step),
+        Some(line) => judge_line(replay, failed, history, LineRef::of(&line), step),
         None => Ok(()),
     }
 }

@@ -5,9 +5,9 @@ ghost use Rattle.line_pieces.specs.Newlines.{newlines};
 ghost use Rattle.rmm_spec.specs.HistoryText.{IsHistoryText};
 ghost use Rattle.rmm_spec.specs.Judgement.{Judges};
 
-use crate::failure::{Failure, judge_told, verdict_on};
+use crate::failure::{Failure, judge_line, judge_told, verdict_on};
 use crate::replay::Replay;
-use certificate::{CertFault, Reader};
+use certificate::{CertFault, LineRef, Reader};
 use history::History;
 use rmm_spec::Verdict;
 use std::alloc::{AllocError, Global};
@@ -58,6 +58,21 @@ impl Session {
         }
         let mut rest = piece;
         while !rest.is_empty() {
+            if let Some((kept, cpu, number)) = self.certificate.next_kept(rest) {
+                let place = self.certificate.count() as u64;
+                let Ok(()) = judge_line(
+                    &mut self.replay,
+                    &mut self.failed,
+                    &self.history,
+                    LineRef::Keep { cpu, number },
+                    place,
+                ) else {
+                    self.refused = true;
+                    return Err(AllocError);
+                };
+                rest = rest.split_at(kept).1;
+                continue;
+            }
             let Ok((count, told)) = self.certificate.next(rest) else {
                 return Ok(());
             };
