@@ -11,3 +11,5 @@ mod certificates;
 mod codec;
 #[cfg(test)]
 mod histories;
+#[cfg(test)]
+mod pieces;

@@ -1,0 +1,108 @@
+//! Texts that come in pieces.
+
+use certificate::{CertFault, Certificate};
+use history::{History, HistoryFault, Reader};
+use std::alloc::Global;
+use std::test::Fail;
+
+// Each text behind the number of its bad line, or behind 0.
+const HISTORIES: &[u8] =
+    b"0rmh1 4096 8\nc 7 0 c4000151 fff000\nc 0 0 c4000152 ffffffffffffffff\nr 7 0 ok 0 a\nr 0 0 err 255 10\n\
+      |0rmh1 4 1\n|1|1\n|1rmh1 4 1|1rmh1 4 1\r\n|1\0rmh1 4 1\n|2rmh1 4 1\n\n|2rmh1 4 1\n\0|2rmh1 4 1\nc 0 0 c4000151 1000\
+      |2rmh1 4 1\nc 0 0 c4000151 1000\0\n|4rmh1 4 1\nc 0 0 c4000151 1000\nr 0 0 ok\nr 0 1 ok\nc 0 1 c4000151 1000\n";
+
+const CERTIFICATES: &[u8] = b"0k 7 999999\nu 0 10 ok ffffffffffffffff\nk 1 0\nu 3 1 misplaced\n\
+      |0|1\n|1k 0 0|1k 8 0\n|1k 0 0\r\n|1\0|2k 0 0\n\0\n|2k 0 0\nk 0 00\nk 0 1\n|3k 1 0\nk 1 1\nu 0 0 ok 1|2k 1 0\nu 0 0 ok 1 \n";
+
+fn bad_line_of_history(read: Result<History, HistoryFault>) -> Result<u64, Fail> {
+    match read {
+        Ok(_history) => Ok(0),
+        Err(HistoryFault::BadLine(line)) => Ok(line),
+        Err(HistoryFault::NoMemory) => Err(Fail::from("no memory")),
+    }
+}
+
+fn bad_line_of_certificate(read: Result<Certificate, CertFault>) -> Result<u64, Fail> {
+    match read {
+        Ok(_certificate) => Ok(0),
+        Err(CertFault::BadLine(line)) => Ok(line),
+        Err(CertFault::NoMemory) => Err(Fail::from("no memory")),
+    }
+}
+
+// The bad line that both readers tell of their text in these pieces.
+fn bad_line(alloc: Global, is_history: bool, pieces: &[&[u8]]) -> Result<u64, Fail> {
+    if is_history {
+        bad_line_of_history(history::read_pieces(alloc, pieces))
+    } else {
+        bad_line_of_certificate(certificate::read_pieces(alloc, pieces))
+    }
+}
+
+// Whether the text has that bad line where it is cut at each single place, and where each byte is a piece.
+fn is_cut_alike(alloc: Global, is_history: bool, expected: u64, text: &[u8]) -> Result<bool, Fail> {
+    let mut bytes = Vec::new(alloc);
+    for place in 0..text.len() {
+        let (front, back) = text.split_at(place);
+        if bad_line(alloc, is_history, &[front, b"".as_slice(), back])? != expected {
+            return Ok(false);
+        }
+        bytes.push(&text[place..place + 1])?;
+    }
+    Ok(
+        bad_line(alloc, is_history, &[text])? == expected
+            && bad_line(alloc, is_history, bytes.as_slice())? == expected,
+    )
+}
+
+fn are_cut_alike(alloc: Global, is_history: bool, rows: &[u8]) -> Result<bool, Fail> {
+    for row in rows.split(|byte| *byte == b'|') {
+        let Some((digit, text)) = row.split_first() else {
+            return Err(Fail::from("no number"));
+        };
+        if !is_cut_alike(alloc, is_history, u64::from(*digit & 15), text)? {
+            return Ok(false);
+        }
+    }
+    Ok(true)
+}
+
+#[test]
+fn reads_a_text_as_it_is_whole_however_it_is_cut(rt: HostRuntime) -> Result<(), Fail> {
+    assert!(rt; are_cut_alike(rt.alloc(), true, HISTORIES)?);
+    assert!(rt; are_cut_alike(rt.alloc(), false, CERTIFICATES)?);
+    Ok(())
+}
+
+// A line without its newline is bad as soon as more than 256 bytes of it have come.
+#[test]
+fn tells_a_line_that_is_too_long(rt: HostRuntime) -> Result<(), Fail> {
+    for (count, is_told) in [(255, false), (256, false), (257, true), (1_000_000, true)] {
+        let line = vec![in rt.alloc(); b'c'; count]?;
+        let mut reader = Reader::new(rt.alloc());
+        reader.feed(b"rmh1 4 1\n")?;
+        assert!(rt; reader.feed(line.as_slice()).is_err() == is_told);
+        assert!(rt; matches!(reader.feed(b"\n"), Err(HistoryFault::BadLine(2))));
+        assert!(rt; bad_line_of_history(reader.finish())? == 2);
+
+        let mut reader = certificate::Reader::new();
+        let (taken, told) = reader.next(b"k 0 0\n")?;
+        assert!(rt; taken == 6 && told.is_some());
+        assert!(rt; reader.next(line.as_slice()).is_err() == is_told);
+        assert!(rt; matches!(reader.next(b"\n"), Err(CertFault::BadLine(2))));
+        assert!(rt; matches!(reader.finish(), Err(CertFault::BadLine(2))));
+    }
+    Ok(())
+}
+
+#[test]
+fn tells_the_same_fault_from_then_on(rt: HostRuntime) -> Result<(), Fail> {
+    let mut reader = Reader::new(rt.alloc());
+    reader.feed(b"rmh1 4 1\nc 0 0")?;
+    for _ in 0..3 {
+        assert!(rt; matches!(reader.feed(b" x\n"), Err(HistoryFault::BadLine(2))));
+    }
+    assert!(rt; matches!(reader.feed(b""), Err(HistoryFault::BadLine(2))));
+    assert!(rt; bad_line_of_history(reader.finish())? == 2);
+    Ok(())
+}
