@@ -1,5 +1,5 @@
 -- Where the table is held at which a whole's walk ends, the held cells tell that it ends there.
-use Rattle.std.proofs.Common.{◌≡◌, ℕ, zero, suc, ◌+◌, ◌-◌, ◌*◌, ◌/◌, ◌%◌, ◌<◌, ◌≤◌, Bool, true, false, not, ◌&&◌, ◌||◌, ◌==◌, if◌then◌else◌, List, Option, Some, None, ◌⊎◌, inl, inr, refl, sym, ap, ◌∙◌, subst, arith, eqb-true, eq-eqb}
+use Rattle.std.proofs.Common.{◌≡◌, ℕ, zero, suc, ◌-◌, ◌/◌, ◌%◌, ◌<◌, ◌≤◌, Bool, true, false, not, ◌&&◌, ◌||◌, ◌==◌, List, Option, Some, None, ◌⊎◌, inl, inr, refl, sym, ap, ◌∙◌, subst, arith, eq-eqb}
 use Rattle.std.specs.Prelude.{IsTrue, is_some}
 use Rattle.std.specs.Option.{option_and_then}
 use Rattle.std.proofs.lemmas.Bool.{false≢true, cases_order, and_from}
@@ -7,11 +7,10 @@ use Rattle.std.proofs.lemmas.Bool.Decides.{nat_tests}
 use Rattle.std.proofs.lemmas.Option.{none-some}
 use Rattle.rmm_spec.specs.declared.entry.Entry.{Entry}
 use Rattle.rmm_spec.specs.declared.entry.Entry.TheVariants.{Unassigned, Assigned, Table, UnassignedNs, AssignedNs}
-use Rattle.rmm_spec.specs.State.{State}
 use Rattle.rmm_spec.specs.Walk.{is_table, entry_at, entry_for, entry_number, table_number, reach}
 use Rattle.rmm_spec.specs.Cell.{tables_of}
-use Rattle.rmm_spec.specs.Flat.{flat_state, table_granule}
-use Rattle.rmm_spec.specs.Shape.{Side, HoldsTable}
+use Rattle.rmm_spec.specs.Flat.{flat_state}
+use Rattle.rmm_spec.specs.Shape.{Side}
 use Rattle.rmm_spec.specs.Local.{HeldCell}
 use Rattle.rmm_spec.proofs.WalkLaws.{table_number-suc, reach-le, reach-covers, reach-deepest}
 use Rattle.rmm_sound.proofs.Cases.{nothing_there}
