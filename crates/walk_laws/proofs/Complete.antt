@@ -1,12 +1,20 @@
--- Where the table is held at which a whole's walk ends, the held cells tell that it ends there.
-use Rattle.std.proofs.Common.{◌≡◌, ℕ, zero, suc, ◌-◌, ◌/◌, ◌%◌, ◌<◌, ◌≤◌, Bool, true, false, not, ◌&&◌, ◌||◌, ◌==◌, List, Option, Some, None, ◌⊎◌, inl, inr, refl, sym, ap, ◌∙◌, subst, arith, eq-eqb}
+-- Where the table is held at which a whole's walk ends, the held cells tell that it ends there: so what a command keeps to its
+-- commit settles it.
+use Rattle.std.proofs.Common.{◌≡◌, ℕ, zero, suc, ◌-◌, ◌/◌, ◌%◌, ◌<◌, ◌≤◌, Bool, true, false, not, ◌&&◌, ◌||◌, ◌==◌, List, ◌∷◌, [], Option, Some, None, ◌⊎◌, inl, inr, refl, sym, ap, ◌∙◌, subst, arith, eq-eqb}
 use Rattle.std.specs.Prelude.{IsTrue, is_some}
+use Rattle.std.specs.List.{AllByRecursion, list_all}
 use Rattle.std.specs.Option.{option_and_then}
-use Rattle.std.proofs.lemmas.Bool.{false≢true, cases_order, and_from}
+use Rattle.std.proofs.lemmas.Bool.{false≢true, cases_order, and_from, and_parts, or_right}
 use Rattle.std.proofs.lemmas.Bool.Decides.{nat_tests}
 use Rattle.std.proofs.lemmas.Option.{none-some}
+use Rattle.rmm_spec.specs.declared.call.Call.{Call}
+use Rattle.rmm_spec.specs.declared.call.Call.TheVariants as call
 use Rattle.rmm_spec.specs.declared.entry.Entry.{Entry}
 use Rattle.rmm_spec.specs.declared.entry.Entry.TheVariants.{Unassigned, Assigned, Table, UnassignedNs, AssignedNs}
+use Rattle.rmm_spec.specs.declared.tag.Tag.TheVariants as tag
+use Rattle.rmm_spec.specs.Lookup.{tag_number}
+use Rattle.rmm_spec.specs.Rows.{Needed}
+use Rattle.rmm_spec.specs.Step.Named.{named}
 use Rattle.rmm_spec.specs.Walk.{is_table, entry_at, entry_for, entry_number, table_number, reach}
 use Rattle.rmm_spec.specs.Cell.{tables_of}
 use Rattle.rmm_spec.specs.Flat.{flat_state}
@@ -18,11 +26,12 @@ use Rattle.rmm_sound.proofs.Entries.{entry-link, link_there}
 use Rattle.rmm_sound.proofs.Walked.{table_number-entry}
 use Rattle.shape_laws.proofs.Finds.{table_granule-holds}
 use Rattle.walk_laws.specs.Held.{is_held}
-use Rattle.walk_laws.specs.SeenState.{table_held, table_placed, entry_in, entry_held, link_of, linked_or, table_seen, seen_state}
-use Rattle.walk_laws.specs.Walking.{Way, is_walk_held}
-use Rattle.walk_laws.proofs.Seen.{held-placed}
+use Rattle.walk_laws.specs.SeenState.{is_of_realm, table_behind, table_held, table_placed, entry_in, entry_held, link_of, linked_or, table_seen, seen_state}
+use Rattle.walk_laws.specs.Walking.{Way, way_of, keeps_realm, part_below, is_walk_held, end_entry, is_part_held, is_told, are_told, is_refused_early, seen_answer, is_way_settled, is_walk_settled, is_kept}
+use Rattle.walk_laws.proofs.Found.{placed-holds, behind-some}
+use Rattle.walk_laws.proofs.Seen.{walk-end, held-placed}
 use Rattle.walk_laws.proofs.Tables.{placed-found, entry-there, entry-same}
-use Rattle.walk_laws.proofs.Wholes.{Whole, state, sound}
+use Rattle.walk_laws.proofs.Wholes.{Whole, state, sound, held-contains, table-is_held}
 
 -- ---- tables that are told of
 
@@ -213,3 +222,73 @@ end-held {granules} {side} {held} w way g last found has =
     by : (b : Bool) → (level == way.max) ≡ b → (b || not (is_table (entry_for (seen_state granules held) way.rd level way.ipa))) ≡ true
     by true same = refl
     by false apart = ap not (leaf apart)
+
+-- ---- commands
+
+-- the realm that a command names is the one that it walks in
+abbrev IsWayRealm : ℕ → Needed → Type 0
+IsWayRealm rd n = (tag_number n.tag == tag_number tag.Rd) ≡ true → n.granule ≡ rd
+
+abbrev AreWayRealms : Call → Option Way → Type 0
+AreWayRealms c None = Unit {0}
+AreWayRealms c (Some w) = AllByRecursion (IsWayRealm w.rd) (named c)
+
+-- no other granule is named as a realm
+way-realms : (c : Call) → AreWayRealms c (way_of c)
+unfolding way_of named
+way-realms (call.RttCreate rd rtt ipa level) = (λ is. refl, (λ is. absurd (false≢true is), tt))
+way-realms (call.RttDestroy rd ipa level) = (λ is. refl, tt)
+way-realms (call.RttReadEntry rd ipa level) = (λ is. refl, tt)
+way-realms (call.DataCreate rd granule ipa source flags digest) = (λ is. refl, (λ is. absurd (false≢true is), (λ is. absurd (false≢true is), tt)))
+way-realms (call.DataCreateUnknown rd granule ipa) = (λ is. refl, (λ is. absurd (false≢true is), tt))
+way-realms (call.DataDestroy rd ipa) = (λ is. refl, tt)
+way-realms (call.RttMapUnprotected rd ipa page) = (λ is. refl, tt)
+way-realms (call.RttUnmapUnprotected rd ipa) = (λ is. refl, tt)
+way-realms (call.RttInitRipas rd base top) = (λ is. refl, tt)
+way-realms (call.RttSetRipas rd rec base top) = (λ is. refl, (λ is. absurd (false≢true is), tt))
+way-realms _ = tt
+
+-- a realm is told of by a table that is placed
+placed-behind : (held : List HeldCell) (rd level number f : ℕ) → table_placed held rd level number ≡ Some f → is_some (table_behind held rd) ≡ true
+placed-behind held rd level number f placed =
+    let holds = placed-holds held rd level number f placed in
+    let passes : is_of_realm rd (table_held held f) ≡ true = ap (is_of_realm rd) holds.is_held ∙ eq-eqb holds.table.place.rd rd holds.is_realm in
+    let found = behind-some held rd f (held-contains held f (table-is_held held f holds.table holds.is_held)) passes in
+    ap (λ (o : Option ℕ). is_some o) found.1
+
+-- what is kept is told of
+kept-told : (keeps : Bool) (held : List HeldCell) (rd : ℕ) → is_some (table_behind held rd) ≡ true → (names : List Needed) → AllByRecursion (IsWayRealm rd) names
+    → list_all (λ (n : Needed). is_held n.granule held || (not keeps && tag_number n.tag == tag_number tag.Rd)) names ≡ true
+    → list_all (is_told keeps held) names ≡ true
+kept-told keeps held rd behind [] realms kept = refl
+kept-told keeps held rd behind (n ∷ names) realms kept =
+    let parts = and_parts (is_held n.granule held || (not keeps && tag_number n.tag == tag_number tag.Rd))
+    (list_all (λ (m : Needed). is_held m.granule held || (not keeps && tag_number m.tag == tag_number tag.Rd)) names) kept in
+    and_from (is_told keeps held n) (list_all (is_told keeps held) names) (by (is_held n.granule held) parts.0) (kept-told keeps held rd behind names realms.1 parts.1)
+  where
+    by : (b : Bool) → (b || (not keeps && tag_number n.tag == tag_number tag.Rd)) ≡ true
+        → (b || (not keeps && tag_number n.tag == tag_number tag.Rd && is_some (table_behind held n.granule))) ≡ true
+    by true is = refl
+    by false is =
+        let own = and_parts (not keeps) (tag_number n.tag == tag_number tag.Rd) is in
+        and_from (not keeps && tag_number n.tag == tag_number tag.Rd) (is_some (table_behind held n.granule)) is
+        (subst (λ x. is_some (table_behind held x) ≡ true) (sym (realms.0 own.1)) behind)
+
+-- what a command keeps to its commit settles it
+pub kept-settled : {granules : ℕ} {side : Side} {held : List HeldCell} (w : Whole granules side held) (c : Call) (way : Way) (g : ℕ) → way_of c ≡ Some way → way.max ≤ 3
+    → (state w).table way.rd (reach (state w) way.rd way.ipa way.max) (table_number (reach (state w) way.rd way.ipa way.max) way.ipa) ≡ Some g → IsTrue (is_held g held)
+    → is_kept c held ≡ true → is_part_held (part_below c (entry_for (state w) way.rd (reach (state w) way.rd way.ipa way.max) way.ipa)) held ≡ true
+    → is_walk_settled granules c held ≡ true
+unfolding is_walk_settled are_told is_kept
+kept-settled {granules} {side} {held} w c way g walks last found has kept part =
+    let ends = end-held w way g last found has in
+    let end = walk-end w way ends in
+    let realms = subst (AreWayRealms c) walks (way-realms c) in
+    let told = kept-told (keeps_realm c) held way.rd (placed-behind held way.rd _ _ end.granule end.placed) (named c) realms kept in
+    let below : is_part_held (part_below c (end_entry granules held way)) held ≡ true =
+    subst (λ e. is_part_held (part_below c e) held ≡ true) end.same.entry part in
+    let settled : is_way_settled granules c held (way_of c) ≡ true =
+    subst (λ o. is_way_settled granules c held o ≡ true) (sym walks)
+    (and_from (is_walk_held granules held way) (is_part_held (part_below c (end_entry granules held way)) held) ends below) in
+    and_from (list_all (is_told (keeps_realm c) held) (named c)) (is_refused_early (seen_answer granules c held) || is_way_settled granules c held (way_of c)) told
+    (or_right (is_refused_early (seen_answer granules c held)) (is_way_settled granules c held (way_of c)) settled)

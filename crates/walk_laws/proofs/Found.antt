@@ -66,6 +66,12 @@ pub behind-table : (held : List HeldCell) (rd g : ℕ) → table_behind held rd 
 unfolding table_behind
 behind-table held rd g is = found-passes (λ granule. is_of_realm rd (table_held held granule)) (granules_held held) g is
 
+-- where a held table is of the realm, one is found
+pub behind-some : (held : List HeldCell) (rd g : ℕ) → Contains (granules_held held) g → is_of_realm rd (table_held held g) ≡ true
+    → (f : ℕ) × (table_behind held rd ≡ Some f)
+unfolding table_behind
+behind-some held rd g has passes = found-some (λ granule. is_of_realm rd (table_held held granule)) (granules_held held) g has passes
+
 -- tests that say the same of each number find the same
 pub any_below-same : (n : ℕ) (p q : ℕ → Bool) → ((k : ℕ) → k < n → p k ≡ q k) → any_below n p ≡ any_below n q
 any_below-same zero p q each = refl

@@ -115,3 +115,7 @@ is_way_settled granules c held (Some w) = is_walk_held granules held w && is_par
 unfoldable pub is_walk_settled : ℕ → Call → List HeldCell → Bool
 is_walk_settled granules c held =
     are_told c held && (is_refused_early (seen_answer granules c held) || is_way_settled granules c held (way_of c))
+
+-- whether each named granule is held, but for the realm where the command doesn't keep it
+unfoldable pub is_kept : Call → List HeldCell → Bool
+is_kept c held = list_all (λ (n : Needed). is_held n.granule held || (not (keeps_realm c) && tag_number n.tag == tag_number Rd)) (named c)

@@ -1,6 +1,6 @@
 //! What walks rest on: each law is the contract of a function that does nothing.
 
-ghost use Rattle.std.specs.Prelude.{◌≡◌, ℕ, ◌+◌, ◌≤◌, ◌||◌, true, List, Ok, is_some};
+ghost use Rattle.std.specs.Prelude.{◌≡◌, ℕ, ◌+◌, ◌≤◌, ◌||◌, true, List, Some, Ok, is_some};
 ghost use Rattle.rmm_spec.specs.declared.accepted.Accepted.TheVariants.{Reaches};
 ghost use Rattle.rmm_spec.specs.declared.accepted.Stretch.{Stretch};
 ghost use Rattle.rmm_spec.specs.declared.call.Call.{Call};
@@ -10,7 +10,7 @@ ghost use Rattle.rmm_spec.specs.declared.tag.Tag.{Tag};
 ghost use Rattle.rmm_spec.specs.Applicable.{CanApply};
 ghost use Rattle.rmm_spec.specs.Call.{call_of};
 ghost use Rattle.rmm_spec.specs.Lookup.{has_tag, rec_at};
-ghost use Rattle.rmm_spec.specs.Walk.{entry_size, table_number, walk};
+ghost use Rattle.rmm_spec.specs.Walk.{entry_size, walk};
 ghost use Rattle.rmm_spec.specs.Step.{answer_of};
 ghost use Rattle.rmm_spec.specs.Step.RealmCall.{ipa_state_get};
 ghost use Rattle.rmm_spec.specs.Step.Ripas.{IsReached};
@@ -21,8 +21,8 @@ ghost use Rattle.rmm_spec.specs.Local.{HeldCell, Hold, Agrees, put_all};
 ghost use Rattle.shape_laws.specs.Whole.{cells_changed};
 ghost use Rattle.walk_laws.specs.Held.{is_held};
 ghost use Rattle.walk_laws.specs.SeenState.{table_behind, seen_state};
-ghost use Rattle.walk_laws.specs.Walking.{Way, way, way_of, is_walk_held, is_refused_early, seen_answer, is_walk_settled};
-ghost use Rattle.walk_laws.specs.Same.{SameSpace, SameWalk};
+ghost use Rattle.walk_laws.specs.Walking.{Way, way, way_of, part_below, is_walk_held, is_part_held, is_refused_early, seen_answer, is_walk_settled, is_kept};
+ghost use Rattle.walk_laws.specs.Same.{SameSpace, SameWalk, HoldsEnd};
 ghost use Rattle.walk_laws.specs.TableCells.{table_cells, holds_change};
 ghost use Rattle.walk_laws.specs.Settled.{IsLocalAnswer};
 ghost use Rattle.walk_laws.specs.Misfits.{is_misfit_walk};
@@ -74,15 +74,17 @@ pub fn table_changes_are_held()
         → holds_change held change ≡ true → cells_changed granules cells change ≡ put_all cells (table_cells held change) }
 {}
 
-/// Where the table is held at which the walk of a well-shaped whole ends, what is held tells that it ends there: so no more is
-/// taken for it.
+/// Where the table is held at which the walk of a well-shaped whole ends, what is held tells that it ends there. So what a
+/// command's plan keeps to the commit settles it: what it names, but for a realm that it frees, that table, and a part below.
 pub fn held_ends_settle()
-    ensures { (granules : ℕ) (side : Side) (held : List HeldCell) (cells : ℕ → Cell) (places : ℕ → CpuPlace) (way : Way)
-        → IsWellShaped granules side places cells → Agrees cells held → way.max ≤ 3
-        → is_some ((flat_state granules cells).table way.rd (walk (flat_state granules cells) way.rd way.ipa way.max).level
-        (table_number (walk (flat_state granules cells) way.rd way.ipa way.max).level way.ipa)) ≡ true
-        → is_held (walk (flat_state granules cells) way.rd way.ipa way.max).granule held ≡ true
+    ensures walk { (granules : ℕ) (side : Side) (held : List HeldCell) (cells : ℕ → Cell) (places : ℕ → CpuPlace) (way : Way)
+        → IsWellShaped granules side places cells → Agrees cells held → way.max ≤ 3 → HoldsEnd (flat_state granules cells) held way
         → is_walk_held granules held way ≡ true }
+    ensures command { (granules : ℕ) (side : Side) (held : List HeldCell) (cells : ℕ → Cell) (places : ℕ → CpuPlace) (c : Call) (way : Way)
+        → IsWellShaped granules side places cells → Agrees cells held → way_of c ≡ Some way → way.max ≤ 3
+        → HoldsEnd (flat_state granules cells) held way → is_kept c held ≡ true
+        → is_part_held (part_below c (walk (flat_state granules cells) way.rd way.ipa way.max).entry) held ≡ true
+        → is_walk_settled granules c held ≡ true }
 {}
 
 /// Cells that are a misfit for a walk are those of no well-shaped whole.
