@@ -1,0 +1,11 @@
+pub mod Wholes
+pub mod Found
+pub mod Tables
+pub mod Seen
+pub mod Looks
+pub mod Told
+pub mod Steps
+pub mod Accepted
+pub mod Settled
+pub mod Misfits
+pub mod Complete
