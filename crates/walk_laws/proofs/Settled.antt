@@ -145,11 +145,6 @@ hosts (call.RttInitRipas rd base top) walks = record { host = refl; alike = λ s
 hosts (call.RttSetRipas rd rec base top) walks = record { host = refl; alike = λ s cpu. refl }
 hosts _ walks = absurd (false≢true walks)
 
--- what is settled at a walk's end walks
-way-there : (granules : ℕ) (c : Call) (held : List HeldCell) (o : Option Way) → is_way_settled granules c held o ≡ true → is_some o ≡ true
-way-there granules c held None settled = absurd (false≢true settled)
-way-there granules c held (Some w) settled = refl
-
 -- each whole that agrees with a hold gives the outcome
 abbrev IsOutcome : ℕ → ℕ → Command → Hold → Result Accepted Reply → Type 0
 IsOutcome granules cpu command hold answer = (cells : ℕ → Cell) (places : ℕ → CpuPlace) → IsWellShaped granules hold.side places cells → Agrees cells hold.cells

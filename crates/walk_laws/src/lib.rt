@@ -2,7 +2,7 @@
 //! It promises that a held table tells where a walk ends, also while its realm is free; that what is held then settles the
 //! command; and that its change of the held cells is a local step.
 //! What is told is a state written down from the held cells; one law over what rows look up serves all these commands.
-//! No crate depends on it yet; the monitor's core will, once it serves these commands.
+//! It is made for the monitor's core, which decides on held cells.
 #![tactic(auto)]
 
 mod laws;
