@@ -1,0 +1,5 @@
+pub mod Held
+pub mod SeenState
+pub mod Walking
+pub mod TableCells
+pub mod Misfits

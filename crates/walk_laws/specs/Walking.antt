@@ -1,0 +1,117 @@
+-- The commands that walk a realm's tables: where each walks, and where what is held settles it. Then the table at which its walk
+-- ends is held, and what it names, and a part below that it takes out; its realm may be free by then. A refusal by the rows before
+-- the walk needs no table. This project's own.
+use Rattle.std.specs.Prelude.{ℕ, ◌-◌, Bool, true, false, not, ◌&&◌, ◌||◌, ◌==◌, List, Option, Some, None, is_some, unwrap_or, Result, Ok, Err}
+use Rattle.std.specs.List.{list_all}
+use Rattle.rmm_spec.specs.declared.accepted.Accepted.{Accepted}
+use Rattle.rmm_spec.specs.declared.call.Call.{Call}
+use Rattle.rmm_spec.specs.declared.call.Call.TheVariants as call
+use Rattle.rmm_spec.specs.declared.entry.Entry.{Entry}
+use Rattle.rmm_spec.specs.declared.entry.Entry.TheVariants.{Assigned, Table}
+use Rattle.rmm_spec.specs.declared.reply.Reply.{Reply}
+use Rattle.rmm_spec.specs.declared.reply.Reply.TheVariants as reply
+use Rattle.rmm_spec.specs.declared.tag.Tag.TheVariants.{Rd}
+use Rattle.rmm_spec.specs.State.{State}
+use Rattle.rmm_spec.specs.Lookup.{tag_number}
+use Rattle.rmm_spec.specs.Walk.{table_number, is_table, entry_for, reach}
+use Rattle.rmm_spec.specs.Rows.{Needed}
+use Rattle.rmm_spec.specs.Step.{answer_of}
+use Rattle.rmm_spec.specs.Step.Named.{named}
+use Rattle.rmm_spec.specs.Local.{HeldCell}
+use Rattle.walk_laws.specs.Held.{is_held}
+use Rattle.walk_laws.specs.SeenState.{table_behind, table_placed, seen_state}
+
+-- ---- what each command walks for
+
+-- a walk in the tables of a realm, for an address, down to a level
+pub record Way : Type 0 where
+  pub rd : ℕ
+  pub ipa : ℕ
+  pub max : ℕ
+
+abbrev pub way : ℕ → ℕ → ℕ → Way
+way rd ipa max = record { rd = rd; ipa = ipa; max = max }
+
+-- where a host's command walks, if it does
+unfoldable pub way_of : Call → Option Way
+way_of (call.RttCreate rd rtt ipa level) = Some (way rd ipa (level - 1))
+way_of (call.RttDestroy rd ipa level) = Some (way rd ipa (level - 1))
+way_of (call.RttReadEntry rd ipa level) = Some (way rd ipa level)
+way_of (call.DataCreate rd granule ipa source flags digest) = Some (way rd ipa 3)
+way_of (call.DataCreateUnknown rd granule ipa) = Some (way rd ipa 3)
+way_of (call.DataDestroy rd ipa) = Some (way rd ipa 3)
+way_of (call.RttMapUnprotected rd ipa page) = Some (way rd ipa 3)
+way_of (call.RttUnmapUnprotected rd ipa) = Some (way rd ipa 3)
+way_of (call.RttInitRipas rd base top) = Some (way rd base 3)
+way_of (call.RttSetRipas rd rec base top) = Some (way rd base 3)
+way_of _ = None
+
+-- whether a command reads more of its realm than the address space, and changes its record: it keeps the realm to its commit
+unfoldable pub keeps_realm : Call → Bool
+keeps_realm (call.DataCreate rd granule ipa source flags digest) = true
+keeps_realm (call.RttInitRipas rd base top) = true
+keeps_realm _ = false
+
+-- the granule below the walk's end that a command takes out, by the entry there: a table that it reads first, or a page
+unfoldable pub part_below : Call → Entry → Option ℕ
+part_below (call.RttDestroy rd ipa level) (Table granule) = Some granule
+part_below (call.DataDestroy rd ipa) (Assigned ripas granule) = Some granule
+part_below call entry = None
+
+-- ---- where a walk ends
+
+-- Whether the walk that the held cells tell of ends at a table that is held: at the last level that is asked for, or at an
+-- entry that is no link. Where it isn't, the table at its end is the next one to look at.
+unfoldable pub is_walk_held : ℕ → List HeldCell → Way → Bool
+is_walk_held granules held w =
+    let s : State = seen_state granules held in
+    let level = reach s w.rd w.ipa w.max in
+    is_some (table_placed held w.rd level (table_number level w.ipa))
+    && (level == w.max || not (is_table (entry_for s w.rd level w.ipa)))
+
+-- the entry for the address at which that walk ends
+abbrev pub end_entry : ℕ → List HeldCell → Way → Entry
+end_entry granules held w =
+    entry_for (seen_state granules held) w.rd (reach (seen_state granules held) w.rd w.ipa w.max) w.ipa
+
+-- whether the part below, if the command takes one out, is held
+abbrev pub is_part_held : Option ℕ → List HeldCell → Bool
+is_part_held None held = true
+is_part_held (Some granule) held = is_held granule held
+
+-- ---- what is told of named granules
+
+-- whether a granule's tag is told: it is held, or it is the realm of a table that is held
+abbrev pub is_told : Bool → List HeldCell → Needed → Bool
+is_told keeps held n =
+    is_held n.granule held || (not keeps && tag_number n.tag == tag_number Rd && is_some (table_behind held n.granule))
+
+unfoldable pub are_told : Call → List HeldCell → Bool
+are_told c held = list_all (is_told (keeps_realm c) held) (named c)
+
+-- ---- what settles a command
+
+-- whether a reply is ERROR_RTT, which rows over tables alone give
+abbrev pub is_table_error : Reply → Bool
+is_table_error (reply.Ok words) = false
+is_table_error (reply.Err status index) = status == 4
+is_table_error reply.Misplaced = false
+
+-- whether the rows before the walk refuse
+abbrev pub is_refused_early : Result Accepted Reply → Bool
+is_refused_early (Ok accepted) = false
+is_refused_early (Err refusal) = not (is_table_error refusal)
+
+-- what a host's command is answered in the state that the held cells tell of: none that walks asks for the CPU
+abbrev pub seen_answer : ℕ → Call → List HeldCell → Result Accepted Reply
+seen_answer granules c held = answer_of (seen_state granules held) 0 c
+
+-- whether the walk's end is held, with what is taken out below it
+abbrev pub is_way_settled : ℕ → Call → List HeldCell → Option Way → Bool
+is_way_settled granules c held None = false
+is_way_settled granules c held (Some w) = is_walk_held granules held w && is_part_held (part_below c (end_entry granules held w)) held
+
+-- whether what is held settles a host's command that walks
+unfoldable pub is_walk_settled : ℕ → Call → List HeldCell → Bool
+is_walk_settled granules c held =
+    are_told c held && (is_refused_early (seen_answer granules c held) || is_way_settled granules c held (way_of c))

@@ -1,0 +1,10 @@
+//! The laws on commands that walk a realm's tables with few cells held: each is the contract of a function that does nothing.
+//! It promises that a held table tells where a walk ends, also while its realm is free; that what is held then settles the
+//! command; and that its change of the held cells is a local step.
+//! What is told is a state written down from the held cells; one law over what rows look up serves all these commands.
+//! The monitor's core depends on it.
+#![tactic(auto)]
+
+mod laws;
+
+pub use laws::{nothing};
