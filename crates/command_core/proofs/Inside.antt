@@ -24,12 +24,13 @@ use Rattle.world_laws.proofs.Members.{Contains-head, Contains-tail}
 use Rattle.rec_steps.specs.Answers.{call_row}
 use Rattle.command_rows.specs.Answers.{IsInsideBy, class_answer, inside_answer}
 use Rattle.command_core.specs.Seen.{cell_in, is_held}
-use Rattle.command_core.specs.SeenState.{seen_state}
+use Rattle.walk_laws.specs.SeenState.{seen_state}
 use Rattle.command_core.specs.Served.{is_served}
 use Rattle.command_core.specs.Changed.{new_cells, CanAnswer}
 use Rattle.command_core.specs.Named.{has_wrong}
-use Rattle.command_core.specs.Unshaped.{has_other_owner, is_misfit}
-use Rattle.command_core.specs.Settled.{is_settled_inside}
+use Rattle.command_core.specs.Walks.{way_inside}
+use Rattle.command_core.specs.Unshaped.{has_other_owner, is_misplaced, is_misfit_way, is_misfit}
+use Rattle.command_core.specs.Settled.{is_read_over, is_settled_inside}
 use Rattle.command_core.proofs.Agreeing.{call_row-same}
 use Rattle.command_core.proofs.Changes.{can-done}
 use Rattle.command_core.proofs.Fronts.{named-cell}
@@ -47,8 +48,8 @@ record Fits (granules rec rd : ℕ) (held : List HeldCell) : Type 0 where
   right : has_wrong (names rec rd) held ≡ false
   owner : has_other_owner rd (cell_in rec held) ≡ false
 
-fitting : (granules rec rd : ℕ) (held : List HeldCell) → is_misfit granules rec rd held ≡ false → Fits granules rec rd held
-unfolding is_misfit
+fitting : (granules rec rd : ℕ) (held : List HeldCell) → is_misplaced granules rec rd held ≡ false → Fits granules rec rd held
+unfolding is_misplaced
 fitting granules rec rd held fits =
     let locks = is_granule granules rec && is_granule granules rd && not (rec == rd) in
     let first = or_parts (not locks || has_wrong (names rec rd) held) (has_other_owner rd (cell_in rec held)) fits in
@@ -57,7 +58,7 @@ fitting granules rec rd held fits =
     let fourth = and_parts (is_granule granules rec) (is_granule granules rd) third.0 in
     record { of_rec = fourth.0; of_rd = fourth.1; right = second.1; owner = first.1 }
 
-pub fitting-granule : (granules rec rd : ℕ) (held : List HeldCell) → is_misfit granules rec rd held ≡ false → is_granule granules rec ≡ true
+pub fitting-granule : (granules rec rd : ℕ) (held : List HeldCell) → is_misplaced granules rec rd held ≡ false → is_granule granules rec ≡ true
 fitting-granule granules rec rd held fits = (fitting granules rec rd held fits).of_rec
 
 rec-tag : (c : Cell) → tag_of c ≡ tag.Rec → (it : RecRecord) × (c ≡ Rec it)
@@ -71,7 +72,7 @@ record FittingRec (granules rec rd : ℕ) (held : List HeldCell) : Type 0 where
   owner : it.owner ≡ rd
   tagged : has_tag (seen_state granules held) rec tag.Rec ≡ true
 
-fitting-rec : (granules rec rd : ℕ) (held : List HeldCell) → is_misfit granules rec rd held ≡ false → is_held rec held ≡ true → FittingRec granules rec rd held
+fitting-rec : (granules rec rd : ℕ) (held : List HeldCell) → is_misplaced granules rec rd held ≡ false → is_held rec held ≡ true → FittingRec granules rec rd held
 fitting-rec granules rec rd held fits holds =
     let parts = fitting granules rec rd held fits in
     let at = named-cell (names rec rd) held parts.right (needed rec tag.Rec) (Contains-head (needed rec tag.Rec) (needed rd tag.Rd ∷ [])) holds in
@@ -85,7 +86,7 @@ fitting-rec granules rec rd held fits holds =
       tagged = tag-seen granules held rec at.cell tag.Rec parts.of_rec at.found at.tagged;
     }
 
-fitting-realm : (granules rec rd : ℕ) (held : List HeldCell) → is_misfit granules rec rd held ≡ false → is_held rd held ≡ true
+fitting-realm : (granules rec rd : ℕ) (held : List HeldCell) → is_misplaced granules rec rd held ≡ false → is_held rd held ≡ true
     → has_tag (seen_state granules held) rd tag.Rd ≡ true
 fitting-realm granules rec rd held fits holds =
     let parts = fitting granules rec rd held fits in
@@ -97,19 +98,37 @@ or_right : (b c : Bool) → b ≡ false → (b || c) ≡ true → c ≡ true
 or_right false c fails is = is
 or_right true c fails is = absurd (false≢true (sym fails))
 
+pub fitting-place : (granules : ℕ) (c : Call) (rec rd : ℕ) (held : List HeldCell) → is_misfit granules c rec rd held ≡ false → is_misplaced granules rec rd held ≡ false
+fitting-place granules c rec rd held fits = (or_parts (is_misplaced granules rec rd held) (is_misfit_way granules held (way_inside c rec rd held)) fits).0
+
+-- what a realm's call holds where it is settled, and its walk is over
+record ReadHeld (granules : ℕ) (c : Call) (rec rd : ℕ) (held : List HeldCell) : Type 0 where
+  of_rec : is_held rec held ≡ true
+  of_rd : is_held rd held ≡ true
+  over : is_read_over granules held (way_inside c rec rd held) ≡ true
+
+read-held : (granules : ℕ) (c : Call) (rec rd : ℕ) (held : List HeldCell) → is_misfit granules c rec rd held ≡ false
+    → is_settled_inside ByRealm granules c rec rd held ≡ true → ReadHeld granules c rec rd held
+read-held granules c rec rd held fits settled =
+    let all = or_right (is_misfit granules c rec rd held) (is_held rec held && is_held rd held && is_read_over granules held (way_inside c rec rd held)) fits settled in
+    let parts = and_parts (is_held rec held && is_held rd held) (is_read_over granules held (way_inside c rec rd held)) all in
+    let both = and_parts (is_held rec held) (is_held rd held) parts.0 in
+    record { of_rec = both.0; of_rd = both.1; over = parts.1 }
+
 -- a command whose place fits may be given there
-pub settled-inside : (granules rec rd : ℕ) (held : List HeldCell) (k : Class) → is_misfit granules rec rd held ≡ false
-    → is_settled_inside k granules rec rd held ≡ true → IsInsideBy k (seen_state granules held) rec
-settled-inside granules rec rd held ByHost fits settled = tt
-settled-inside granules rec rd held ByRealm fits settled =
-    let both = and_parts (is_held rec held) (is_held rd held) (or_right (is_misfit granules rec rd held) (is_held rec held && is_held rd held) fits settled) in
-    let one = fitting-rec granules rec rd held fits both.0 in
-    let realm = fitting-realm granules rec rd held fits both.1 in (
+pub settled-inside : (granules : ℕ) (c : Call) (rec rd : ℕ) (held : List HeldCell) (k : Class) → is_misfit granules c rec rd held ≡ false
+    → is_settled_inside k granules c rec rd held ≡ true → IsInsideBy k (seen_state granules held) rec
+settled-inside granules c rec rd held ByHost fits settled = tt
+settled-inside granules c rec rd held ByRealm fits settled =
+    let both = read-held granules c rec rd held fits settled in
+    let placed = fitting-place granules c rec rd held fits in
+    let one = fitting-rec granules rec rd held placed both.of_rec in
+    let realm = fitting-realm granules rec rd held placed both.of_rd in (
       one.tagged,
       subst (λ x. has_tag (seen_state granules held) x tag.Rd ≡ true) (sym (ap (λ (r : RecRecord). r.owner) one.seen ∙ one.owner)) realm,
     )
-settled-inside granules rec rd held ByExit fits settled =
-    (fitting-rec granules rec rd held fits (or_right (is_misfit granules rec rd held) (is_held rec held) fits settled)).tagged
+settled-inside granules c rec rd held ByExit fits settled =
+    (fitting-rec granules rec rd held (fitting-place granules c rec rd held fits) (or_right (is_misfit granules c rec rd held) (is_held rec held) fits settled)).tagged
 
 -- ---- realm calls
 
@@ -150,37 +169,36 @@ pub record IsToldInside (granules cpu : ℕ) (hold : Hold) (rec : ℕ) (c : Call
   pub same : (w : Whole granules cpu hold) → inside_answer (state granules cpu hold w) rec c ≡ inside_answer (seen_state granules hold.cells) rec c
 
 pub fitting-told : (granules cpu : ℕ) (hold : Hold) (rec rd : ℕ) (c : Call) → is_served c ≡ true → hold.place ≡ Inside rec rd
-    → is_misfit granules rec rd hold.cells ≡ false → is_settled_inside (class_of c) granules rec rd hold.cells ≡ true → IsToldInside granules cpu hold rec c
+    → is_misfit granules c rec rd hold.cells ≡ false → is_settled_inside (class_of c) granules c rec rd hold.cells ≡ true → IsToldInside granules cpu hold rec c
 unfolding inside_answer
 fitting-told granules cpu hold rec rd c served place fits settled = record { can = can (class_of c) settled; same = λ w. same w (class_of c) settled }
   where
     t : State
     t = seen_state granules hold.cells
 
-    rec-held : is_settled_inside ByExit granules rec rd hold.cells ≡ true → is_held rec hold.cells ≡ true
-    rec-held is = or_right (is_misfit granules rec rd hold.cells) (is_held rec hold.cells) fits is
+    rec-held : is_settled_inside ByExit granules c rec rd hold.cells ≡ true → is_held rec hold.cells ≡ true
+    rec-held is = or_right (is_misfit granules c rec rd hold.cells) (is_held rec hold.cells) fits is
 
-    both-held : is_settled_inside ByRealm granules rec rd hold.cells ≡ true → (is_held rec hold.cells ≡ true) × (is_held rd hold.cells ≡ true)
-    both-held is = and_parts (is_held rec hold.cells) (is_held rd hold.cells)
-        (or_right (is_misfit granules rec rd hold.cells) (is_held rec hold.cells && is_held rd hold.cells) fits is)
+    both-held : is_settled_inside ByRealm granules c rec rd hold.cells ≡ true → (is_held rec hold.cells ≡ true) × (is_held rd hold.cells ≡ true)
+    both-held is = let both = read-held granules c rec rd hold.cells fits is in (both.of_rec, both.of_rd)
 
     owner-held : (is_held rec hold.cells ≡ true) × (is_held rd hold.cells ≡ true) → is_held (rec_at t rec).owner hold.cells ≡ true
     owner-held both =
-        let one = fitting-rec granules rec rd hold.cells fits both.0 in
+        let one = fitting-rec granules rec rd hold.cells (fitting-place granules c rec rd hold.cells fits) both.0 in
         subst (λ x. is_held x hold.cells ≡ true) (sym (ap (λ (r : RecRecord). r.owner) one.seen ∙ one.owner)) both.1
 
     can-wait : (b : Bool) → CanAnswer cpu hold (call_row t rec c) → CanAnswer cpu hold (if b then call_row t rec c else Err reply.Misplaced)
     can-wait true later = later
     can-wait false later = tt
 
-    can : (k : Class) → is_settled_inside k granules rec rd hold.cells ≡ true → CanAnswer cpu hold (class_answer k t rec c)
+    can : (k : Class) → is_settled_inside k granules c rec rd hold.cells ≡ true → CanAnswer cpu hold (class_answer k t rec c)
     can ByHost is = tt
     can ByRealm is =
         let both = both-held is in
         can-wait (is_none (rec_at t rec).pending) (can-call cpu hold t rec c served both.0 (owner-held both))
     can ByExit is = can-exit cpu hold t rec rd place (rec-held is)
 
-    same : (w : Whole granules cpu hold) (k : Class) → is_settled_inside k granules rec rd hold.cells ≡ true
+    same : (w : Whole granules cpu hold) (k : Class) → is_settled_inside k granules c rec rd hold.cells ≡ true
         → class_answer k (state granules cpu hold w) rec c ≡ class_answer k t rec c
     same w ByHost is = refl
     same w ByRealm is =

@@ -28,7 +28,7 @@ use Rattle.rmm_spec.specs.Shape.{HoldsTable}
 use Rattle.rmm_spec.specs.Local.{HeldCell, Hold}
 use Rattle.command_rows.specs.Answers.{outside_answer}
 use Rattle.command_core.specs.Seen.{cell_in, is_held}
-use Rattle.command_core.specs.SeenState.{seen_state}
+use Rattle.walk_laws.specs.SeenState.{seen_state}
 use Rattle.command_core.specs.Sides.{is_vmid_listed, are_recs_counted}
 use Rattle.command_core.specs.Served.{is_served}
 use Rattle.command_core.specs.Changed.{new_cells, CanAnswer}

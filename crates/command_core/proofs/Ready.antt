@@ -1,5 +1,5 @@
 -- Where what is held settles a command, it allows a local step, whatever the side table has and whichever CPU it is.
-use Rattle.std.proofs.Common.{◌≡◌, ℕ, ◌≤◌, Bool, true, false, not, ◌||◌, if◌then◌else◌, List, Result, Ok, Err, inl, inr, refl, sym, ap, ◌∙◌, subst}
+use Rattle.std.proofs.Common.{◌≡◌, ℕ, ◌≤◌, Bool, true, false, not, ◌||◌, if◌then◌else◌, List, Option, Some, None, Result, Ok, Err, inl, inr, refl, sym, ap, ◌∙◌, subst}
 use Rattle.std.proofs.lemmas.Bool.{false≢true}
 use Rattle.rmm_spec.specs.declared.accepted.Accepted.{Accepted}
 use Rattle.rmm_spec.specs.declared.accepted.Accepted.TheVariants.{Done, Reaches}
@@ -13,6 +13,8 @@ use Rattle.rmm_spec.specs.Call.{Class, ByHost, ByRealm, ByExit, call_of, class_o
 use Rattle.rmm_spec.specs.State.{State}
 use Rattle.rmm_spec.specs.Rows.{input_error}
 use Rattle.rmm_spec.specs.Step.{outcome}
+use Rattle.std.specs.List.{list_all}
+use Rattle.rmm_spec.specs.Step.Words.{words_of}
 use Rattle.rmm_spec.specs.Step.Named.{named}
 use Rattle.rmm_spec.specs.Shape.{CpuPlace, Outside, Inside}
 use Rattle.rmm_spec.specs.Local.{HeldCell, Hold, LocalStep}
@@ -23,13 +25,15 @@ use Rattle.shape_laws.specs.Whole.{side_changed}
 use Rattle.shape_laws.proofs.Ties.{well_shaped-is_sound}
 use Rattle.command_rows.specs.Answers.{host_answer, outside_answer, inside_answer}
 use Rattle.command_rows.proofs.Outcomes.{outcome-outside, outcome-inside}
-use Rattle.command_core.specs.SeenState.{seen_state}
+use Rattle.walk_laws.specs.SeenState.{seen_state}
 use Rattle.command_core.specs.Sides.{is_vmid_listed, are_recs_counted}
 use Rattle.command_core.specs.Served.{is_served}
 use Rattle.command_core.specs.Changed.{new_cells, new_place, hold_changed, CanAnswer, Answers, IsAnswer, can_make, CanMakeAnswer}
 use Rattle.command_core.specs.Named.{has_wrong, words_fit}
 use Rattle.command_core.specs.Unshaped.{is_misfit, is_unshaped_outside, is_unshaped}
-use Rattle.command_core.specs.Settled.{is_complete, is_settled_outside, is_settled_inside, is_settled}
+use Rattle.command_core.specs.Settled.{is_all_held, is_settled_outside, is_settled_inside, is_settled}
+use Rattle.walk_laws.specs.Walking.{Way, way_of}
+use Rattle.command_core.specs.Walks.{way_taken}
 use Rattle.command_core.specs.Plan.{AllowsStep, IsReady}
 use Rattle.command_core.specs.Decided.{rows_answer, made_answer, settled_answer}
 use Rattle.command_core.proofs.Changes.{is_answer}
@@ -75,6 +79,20 @@ made-answered granules cpu command hold (Ok (Done words change)) can each = by (
 
 -- ---- outside of RECs
 
+-- no served command walks
+no_walk : (c : Call) → is_served c ≡ true → way_of c ≡ None
+unfolding is_served way_of
+no_walk (call.GranuleDelegate g) served = refl
+no_walk _ served = cc
+
+no_way : (c : Call) → is_served c ≡ true → way_taken c ≡ None
+unfolding way_taken
+no_way c served = by (list_all (λ allowed. allowed) (words_of c))
+  where
+    by : (b : Bool) → (if b then way_of c else None) ≡ None
+    by true = no_walk c served
+    by false = refl
+
 -- a host's command that is settled and meets no unshaped cells is refused in front, or all is held that its rows look up
 settled_by : (fits wrong unshaped complete : Bool) → unshaped ≡ false → (not fits || wrong || unshaped || complete) ≡ true
     → (not fits || wrong) ≡ false → (fits ≡ true) × (complete ≡ true)
@@ -87,7 +105,8 @@ settled_by false wrong unshaped complete shaped is front = absurd (false≢true 
 host-ready : (granules cpu : ℕ) (command : Command) (hold : Hold) → is_served (call_of command) ≡ true → class_of (call_of command) ≡ ByHost → hold.place ≡ Outside
     → is_unshaped_outside granules (call_of command) hold.cells ≡ false
     → (not (words_fit granules (call_of command)) || has_wrong (named (call_of command)) hold.cells
-    || is_unshaped_outside granules (call_of command) hold.cells || is_complete (call_of command) hold.cells) ≡ true
+    || is_unshaped_outside granules (call_of command) hold.cells
+    || is_all_held granules (call_of command) hold.cells (way_taken (call_of command))) ≡ true
     → IsAnswer granules cpu command hold (made_answer granules hold.cells hold.side (told_outside granules cpu hold (call_of command)))
 host-ready granules cpu command hold served host place shaped settled =
     by (not (words_fit granules (call_of command)) || has_wrong (named (call_of command)) hold.cells) refl
@@ -100,8 +119,9 @@ host-ready granules cpu command hold served host place shaped settled =
         (refused granules cpu command hold input_error refusal.1)
     by false front =
         let parts = settled_by (words_fit granules (call_of command)) (has_wrong (named (call_of command)) hold.cells)
-        (is_unshaped_outside granules (call_of command) hold.cells) (is_complete (call_of command) hold.cells) shaped settled front in
-        let told = complete-told granules cpu hold (call_of command) served host parts.0 parts.1 in
+        (is_unshaped_outside granules (call_of command) hold.cells) (is_all_held granules (call_of command) hold.cells (way_taken (call_of command))) shaped settled front in
+        let complete = subst (λ (o : Option Way). is_all_held granules (call_of command) hold.cells o ≡ true) (no_way (call_of command) served) parts.1 in
+        let told = complete-told granules cpu hold (call_of command) served host parts.0 complete in
         made-answered granules cpu command hold (told_outside granules cpu hold (call_of command)) told.can
         (λ w. sym (outcome-outside (state granules cpu hold w) cpu (call_of command)
         (is_inside-outside granules hold.side w.places w.cells w.shaped cpu (w.placed ∙ place))) ∙ told.same w)
@@ -126,7 +146,7 @@ settled-answered granules cpu command hold served settled = by (is_unshaped gran
     c = call_of command
 
     told : CpuPlace → Result Accepted Reply
-    told p = made_answer granules hold.cells hold.side (rows_answer granules cpu c hold.cells hold.side p)
+    told p = made_answer granules hold.cells hold.side (rows_answer granules cpu c hold.cells (Some hold.side) p)
 
     outside : (k : Class) → class_of c ≡ k → hold.place ≡ Outside → is_unshaped_outside granules c hold.cells ≡ false
         → is_settled_outside k granules c hold.cells ≡ true → IsAnswer granules cpu command hold (told Outside)
@@ -140,8 +160,8 @@ settled-answered granules cpu command hold served settled = by (is_unshaped gran
         (sym (other-answer (is_vmid_listed hold.side) (are_recs_counted hold.side) (seen_state granules hold.cells) cpu c ByExit exit (λ same. cc)))
         (refused granules cpu command hold reply.Misplaced (outside-is_local granules cpu command hold (inr exit) place))
 
-    inside : (rec rd : ℕ) → hold.place ≡ Inside rec rd → is_misfit granules rec rd hold.cells ≡ false
-        → is_settled_inside (class_of c) granules rec rd hold.cells ≡ true → IsAnswer granules cpu command hold (told (Inside rec rd))
+    inside : (rec rd : ℕ) → hold.place ≡ Inside rec rd → is_misfit granules c rec rd hold.cells ≡ false
+        → is_settled_inside (class_of c) granules c rec rd hold.cells ≡ true → IsAnswer granules cpu command hold (told (Inside rec rd))
     inside rec rd place fits is =
         let answer = fitting-told granules cpu hold rec rd c served place fits is in
         made-answered granules cpu command hold (inside_answer (seen_state granules hold.cells) rec c) answer.can

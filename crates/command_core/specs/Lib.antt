@@ -1,10 +1,11 @@
 pub mod Seen
-pub mod SeenState
 pub mod Plain
 pub mod PlainLaws
 pub mod Served
 pub mod Changed
 pub mod Named
+pub mod Walks
+pub mod Ways
 pub mod Unshaped
 pub mod Settled
 pub mod Plan

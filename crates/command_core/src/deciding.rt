@@ -59,30 +59,32 @@ fn settled_answer<H: Held>(
     ensures answer { result ≡ spec.settled_answer config.now.granules cpu call.now (H.cells held.now) (side_of side.now) (place_of place.now) }
     ensures makes { CanMakeAnswer (hold_of (H.cells held.now) (side_of side.now) (place_of place.now)) result }
 {
-    if is_unshaped(config, call, place, held) {
+    let sight = HeldSight {
+        config,
+        held,
+        side: Some(side),
+    };
+    if is_unshaped(&sight, call, place) {
         return Err(Reply::Misplaced);
     }
-    let answer = rows_answer(config, call, cpu, place, held, side);
+    let answer = rows_answer(&sight, call, cpu, place);
     made_answer(config, config.granules(), held, side, answer)
 }
 
 // What the command's rows answer in the state that the held cells tell of.
 fn rows_answer<H: Held>(
-    config: &Config,
+    sight: &HeldSight<'_, H>,
     call: &Call,
     cpu: u8,
     place: &CpuPlace,
-    held: &H,
-    side: &Side,
 ) -> Result<Accepted, Reply>
-    requires settled { IsTrue (is_settled config.now.granules call.now (place_of place.now) (H.cells held.now)) }
-    requires shaped { is_unshaped config.now.granules call.now (place_of place.now) (H.cells held.now) ≡ false }
-    ensures { result ≡ spec.rows_answer config.now.granules cpu call.now (H.cells held.now) (side_of side.now) (place_of place.now) }
+    requires settled { IsTrue (is_settled sight.now.config.now.granules call.now (place_of place.now) (H.cells sight.now.held.now)) }
+    requires shaped { is_unshaped sight.now.config.now.granules call.now (place_of place.now) (H.cells sight.now.held.now) ≡ false }
+    ensures { result ≡ spec.rows_answer sight.now.config.now.granules cpu call.now (H.cells sight.now.held.now) (option_map side_of (option_copied sight.now.side)) (place_of place.now) }
 {
-    let sight = HeldSight { config, held, side };
     match *place {
-        CpuPlace::Outside => answer_outside(&sight, cpu, call),
-        CpuPlace::Inside { rec, .. } => answer_inside(&sight, rec.address(), call),
+        CpuPlace::Outside => answer_outside(sight, cpu, call),
+        CpuPlace::Inside { rec, .. } => answer_inside(sight, rec.address(), call),
     }
 }
 

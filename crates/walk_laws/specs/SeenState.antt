@@ -1,13 +1,15 @@
 -- What the cells that are held tell of the flat state. An address of which no cell is held, or that is no granule, is undelegated
 -- and has nothing; but a table that is held tells that its realm stands, and how wide its address space is. A table that is held
 -- tells all its entries; where the table above isn't held, a held one tells its own place. This project's own.
-use Rattle.std.specs.Prelude.{ℕ, ◌-◌, ◌/◌, ◌%◌, Bool, false, ◌==◌, if◌then◌else◌, List, Option, Some, None, is_some, option_map, slice_get}
+use Rattle.std.specs.Prelude.{ℕ, ◌-◌, ◌/◌, ◌%◌, Bool, false, ◌==◌, if◌then◌else◌, List, Option, Some, None, is_some, slice_get}
 use Rattle.std.specs.List.{fold}
 use Rattle.std.specs.Option.{option_and_then}
 use Rattle.rmm_spec.specs.declared.entry.Entry.{Entry}
 use Rattle.rmm_spec.specs.declared.entry.Entry.TheVariants.{Unassigned, Assigned, Table, UnassignedNs, AssignedNs}
 use Rattle.rmm_spec.specs.State.{State, RealmRecord}
-use Rattle.rmm_spec.specs.Lookup.{is_granule, no_realm}
+use Rattle.rmm_spec.specs.Lookup.{is_granule}
+use Rattle.rmm_spec.specs.Change.{new_realm}
+use Rattle.rmm_spec.specs.Step.Words.{is_space}
 use Rattle.rmm_spec.specs.Table.{TableRecord}
 use Rattle.rmm_spec.specs.TableCells.{leaf_of}
 use Rattle.rmm_spec.specs.Cell.{Cell, Undelegated, Rd, tags_of, realms_of, recs_of, table_in}
@@ -44,12 +46,17 @@ abbrev pub start_of : ℕ → ℕ
 start_of width = if width == 0x27 then 1 else 0
 
 -- a realm of which only the address space is known
-abbrev pub realm_of_width : ℕ → RealmRecord
-realm_of_width width = record no_realm { width = width; start_level = start_of width }
+abbrev pub blank_realm : ℕ → RealmRecord
+blank_realm width = new_realm 0 width (start_of width) 0 0
+
+-- the one of that width, if realms can have it
+abbrev pub realm_of_width : ℕ → Option RealmRecord
+realm_of_width width = if is_space width (start_of width) then Some (blank_realm width) else None
 
 -- the realm that a held table is of
 unfoldable pub realm_behind : List HeldCell → ℕ → Option RealmRecord
-realm_behind held rd = option_map (λ (table : TableRecord). realm_of_width table.place.width) (option_and_then (table_held held) (table_behind held rd))
+realm_behind held rd =
+    option_and_then (λ (table : TableRecord). realm_of_width table.place.width) (option_and_then (table_held held) (table_behind held rd))
 
 -- ---- records
 
