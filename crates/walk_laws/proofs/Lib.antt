@@ -1,1 +1,10 @@
-
+pub mod Wholes
+pub mod Found
+pub mod Tables
+pub mod Seen
+pub mod Looks
+pub mod Told
+pub mod Steps
+pub mod Accepted
+pub mod Settled
+pub mod Misfits

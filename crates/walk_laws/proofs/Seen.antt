@@ -1,0 +1,199 @@
+-- What the held cells tell of tags, realms, RECs and walks is what each whole has that agrees with them.
+use Rattle.std.proofs.Common.{◌≡◌, ℕ, suc, ◌+◌, ◌-◌, ◌*◌, ◌/◌, ◌%◌, ◌<◌, ◌≤◌, Bool, true, false, not, ◌&&◌, ◌||◌, ◌==◌, if◌then◌else◌, List, Option, Some, None, ◌⊎◌, inl, inr, refl, sym, ap, ◌∙◌, subst, arith, eqb-true}
+use Rattle.std.specs.Prelude.{IsTrue, is_some, unwrap_or, option_map}
+use Rattle.std.specs.Option.{option_and_then}
+use Rattle.std.proofs.lemmas.Bool.{false≢true, and_parts, or_cases, not-true}
+use Rattle.rmm_spec.specs.declared.tag.Tag.{Tag}
+use Rattle.rmm_spec.specs.declared.tag.Tag.TheVariants as tag
+use Rattle.rmm_spec.specs.State.{State, RealmRecord}
+use Rattle.rmm_spec.specs.Lookup.{tag_number, is_granule, has_tag, realm_at, rec_at, no_realm, no_rec}
+use Rattle.rmm_spec.specs.Table.{TableRecord, place_number}
+use Rattle.rmm_spec.specs.Walk.{is_table, is_live, entry_at, entry_for, entry_number, table_number, reach, is_in_use}
+use Rattle.rmm_spec.specs.Cell.{Cell, Undelegated, Rd, tag_of, realm_in, rec_in, table_in, tables_of, realms_of}
+use Rattle.rmm_spec.specs.Flat.{flat_state, is_table_of}
+use Rattle.rmm_spec.specs.Shape.{Side, HoldsTable}
+use Rattle.rmm_spec.specs.Local.{HeldCell}
+use Rattle.rmm_spec.proofs.WalkLaws.{reach-le}
+use Rattle.rmm_sound.proofs.Entries.{value_there}
+use Rattle.rmm_sound.proofs.Spaces.{space_cases}
+use Rattle.rmm_sound.proofs.Walked.{table_number-entry}
+use Rattle.world_laws.proofs.Placed.{cell_is_granule}
+use Rattle.shape_laws.proofs.Cells.{cell-realm}
+use Rattle.shape_laws.proofs.Finds.{holds-is_table_of}
+use Rattle.walk_laws.specs.Held.{cell_in, is_held}
+use Rattle.walk_laws.specs.Same.{SameSpace, SameWalk}
+use Rattle.walk_laws.specs.SeenState.{table_held, is_of_realm, table_behind, start_of, realm_of_width, realm_behind, cell_or, cell_seen, table_placed, seen_state}
+use Rattle.walk_laws.specs.Walking.{Way, is_walk_held}
+use Rattle.walk_laws.proofs.Found.{behind-table, placed-some, any_below-same}
+use Rattle.walk_laws.proofs.Tables.{placed-found, entry-same, reach-end}
+use Rattle.walk_laws.proofs.Wholes.{Whole, state, sound, whole_cell, whole_table, held-contains}
+
+-- ---- granules that are held
+
+-- what is told of a granule that is held is the whole's
+cell-same : {granules : ℕ} {side : Side} {held : List HeldCell} (w : Whole granules side held) (g : ℕ) → IsTrue (is_held g held) → w.cells g ≡ cell_seen granules held g
+cell-same {granules} {side} {held} w g has = by (is_granule granules g) refl
+  where
+    known : (o : Option Cell) → cell_in g held ≡ o → IsTrue (is_some o) → w.cells g ≡ cell_or o (realm_behind held g)
+    known None found there = absurd (false≢true there)
+    known (Some c) found there = whole_cell w g c found
+
+    by : (b : Bool) → is_granule granules g ≡ b → w.cells g ≡ (if b then cell_or (cell_in g held) (realm_behind held g) else Undelegated)
+    by true granule = known (cell_in g held) refl has
+    by false outside = w.shaped.outside.undelegated g outside
+
+pub tag-same : {granules : ℕ} {side : Side} {held : List HeldCell} (w : Whole granules side held) (g : ℕ) (t : Tag) → IsTrue (is_held g held)
+    → has_tag (state w) g t ≡ has_tag (seen_state granules held) g t
+unfolding has_tag flat_state seen_state
+tag-same {granules} {side} {held} w g t has =
+    ap (λ (c : Cell). is_granule granules g && tag_number (tag_of c) == tag_number t) (cell-same w g has)
+
+pub realm-same : {granules : ℕ} {side : Side} {held : List HeldCell} (w : Whole granules side held) (rd : ℕ) → IsTrue (is_held rd held)
+    → realm_at (state w) rd ≡ realm_at (seen_state granules held) rd
+unfolding realm_at flat_state seen_state
+realm-same {granules} {side} {held} w rd has = ap (λ (c : Cell). unwrap_or (realm_in c) no_realm) (cell-same w rd has)
+
+pub rec-same : {granules : ℕ} {side : Side} {held : List HeldCell} (w : Whole granules side held) (rec : ℕ) → IsTrue (is_held rec held)
+    → rec_at (state w) rec ≡ rec_at (seen_state granules held) rec
+unfolding rec_at flat_state seen_state
+rec-same {granules} {side} {held} w rec has = ap (λ (c : Cell). unwrap_or (rec_in c) no_rec) (cell-same w rec has)
+
+-- ---- the realm behind a held table
+
+-- it stands, and its address space is what the table says
+record IsBehind (granules : ℕ) (cells : ℕ → Cell) (held : List HeldCell) (rd : ℕ) : Type 0 where
+  realm : RealmRecord
+  is_realm : cells rd ≡ Rd realm
+  is_lock : is_granule granules rd ≡ true
+  told : realm_behind held rd ≡ Some (realm_of_width realm.width)
+  start : realm.start_level ≡ start_of realm.width
+
+realm-there : {granules : ℕ} {side : Side} {held : List HeldCell} (w : Whole granules side held) (rd g : ℕ) (t : TableRecord)
+    → table_behind held rd ≡ Some g → table_held held g ≡ Some t → t.place.rd ≡ rd → IsBehind granules w.cells held rd
+unfolding realm_behind
+realm-there {granules} {side} {held} w rd g t found table same =
+    let owner = w.shaped.tables.placed g t (whole_table w g t table) in
+    let at : realms_of w.cells rd ≡ Some owner.0 = ap (realms_of w.cells) (sym same) ∙ owner.1 in
+    let cell = cell-realm (w.cells rd) owner.0 at in
+    let width : RealmRecord → ℕ = λ r. r.width in
+    let known : TableRecord → RealmRecord = λ table. realm_of_width table.place.width in
+    record {
+      realm = owner.0;
+      is_realm = cell;
+      is_lock = cell_is_granule granules side w.places w.cells w.shaped rd
+          (λ none. false≢true (ap (λ (c : Cell). is_some (realm_in c)) (sym none ∙ cell)));
+      told = ap (λ o. option_map known (option_and_then (table_held held) o)) found
+          ∙ (ap (option_map known) table ∙ ap (λ n. Some (realm_of_width n)) owner.2.width);
+      start = elim (space_cases owner.0.width owner.0.start_level (w.shaped.realms.spaces rd owner.0 at)) [
+        | inl small ↦ small.1 ∙ ap start_of (sym small.0)
+        | inr large ↦ large.1 ∙ ap start_of (sym large.0)
+      ];
+    }
+
+behind : {granules : ℕ} {side : Side} {held : List HeldCell} (w : Whole granules side held) (rd : ℕ) → IsTrue (is_some (table_behind held rd))
+    → IsBehind granules w.cells held rd
+behind {granules} {side} {held} w rd there =
+    let g = value_there (table_behind held rd) there in
+    by g.0 g.1 (table_held held g.0) refl (behind-table held rd g.0 g.1)
+  where
+    by : (g : ℕ) → table_behind held rd ≡ Some g → (o : Option TableRecord) → table_held held g ≡ o → is_of_realm rd o ≡ true → IsBehind granules w.cells held rd
+    by g found None table of_realm = absurd (false≢true of_realm)
+    by g found (Some t) table of_realm = realm-there w rd g t found table (eqb-true t.place.rd rd of_realm)
+
+-- where its granule isn't held, the realm that is told of is made up
+behind-seen : (granules : ℕ) (cells : ℕ → Cell) (held : List HeldCell) (rd : ℕ) (b : IsBehind granules cells held rd) → is_held rd held ≡ false
+    → cell_seen granules held rd ≡ Rd (realm_of_width b.realm.width)
+behind-seen granules cells held rd b free = rw (b.is_lock, b.told) (by (cell_in rd held) free)
+  where
+    by : (o : Option Cell) → is_some o ≡ false → cell_or o (Some (realm_of_width b.realm.width)) ≡ Rd (realm_of_width b.realm.width)
+    by None none = refl
+    by (Some c) some = absurd (false≢true (sym some))
+
+-- ---- the realm by either
+
+-- a realm is told of where its granule or one of its tables is held
+pub told-tag : {granules : ℕ} {side : Side} {held : List HeldCell} (w : Whole granules side held) (rd : ℕ) (t : Tag)
+    → (is_held rd held || is_some (table_behind held rd)) ≡ true → has_tag (state w) rd t ≡ has_tag (seen_state granules held) rd t
+unfolding has_tag flat_state seen_state
+told-tag {granules} {side} {held} w rd t told = by (is_held rd held) refl told
+  where
+    by : (b : Bool) → is_held rd held ≡ b → (b || is_some (table_behind held rd)) ≡ true
+        → (is_granule granules rd && tag_number (tag_of (w.cells rd)) == tag_number t)
+        ≡ (is_granule granules rd && tag_number (tag_of (cell_seen granules held rd)) == tag_number t)
+    by true has there = tag-same w rd t has
+    by false free there =
+        let b = behind w rd there in
+        ap (λ (c : Cell). is_granule granules rd && tag_number (tag_of c) == tag_number t) b.is_realm
+        ∙ sym (ap (λ (c : Cell). is_granule granules rd && tag_number (tag_of c) == tag_number t) (behind-seen granules w.cells held rd b free))
+
+pub told-space : {granules : ℕ} {side : Side} {held : List HeldCell} (w : Whole granules side held) (rd : ℕ)
+    → (is_held rd held || is_some (table_behind held rd)) ≡ true → SameSpace (state w) (seen_state granules held) rd
+unfolding realm_at flat_state seen_state
+told-space {granules} {side} {held} w rd told = by (is_held rd held) refl told
+  where
+    by : (b : Bool) → is_held rd held ≡ b → (b || is_some (table_behind held rd)) ≡ true → SameSpace (state w) (seen_state granules held) rd
+    by true has there = let same = realm-same w rd has in
+        record { width = ap (λ (r : RealmRecord). r.width) same; start = ap (λ (r : RealmRecord). r.start_level) same }
+    by false free there =
+        let b = behind w rd there in
+        let seen = behind-seen granules w.cells held rd b free in
+        let width : Cell → ℕ = λ c. (unwrap_or (realm_in c) no_realm).width in
+        let start : Cell → ℕ = λ c. (unwrap_or (realm_in c) no_realm).start_level in
+        record { width = ap width b.is_realm ∙ sym (ap width seen); start = ap start b.is_realm ∙ (b.start ∙ sym (ap start seen)) }
+
+-- ---- walks
+
+-- the table at the end of a walk that is held, in held cells and in the whole
+pub record WalkEnd (s t : State) (held : List HeldCell) (way : Way) : Type 0 where
+  pub granule : ℕ
+  pub placed : table_placed held way.rd (reach t way.rd way.ipa way.max) (table_number (reach t way.rd way.ipa way.max) way.ipa) ≡ Some granule
+  pub last : reach t way.rd way.ipa way.max ≤ 3
+  pub same : SameWalk s t way
+
+pub walk-end : {granules : ℕ} {side : Side} {held : List HeldCell} (w : Whole granules side held) (way : Way) → is_walk_held granules held way ≡ true
+    → WalkEnd (state w) (seen_state granules held) held way
+unfolding is_walk_held
+walk-end {granules} {side} {held} w way is =
+    let t = seen_state granules held in
+    let level = reach t way.rd way.ipa way.max in
+    let parts = and_parts (is_some (table_placed held way.rd level (table_number level way.ipa))) (level == way.max || not (is_table (entry_for t way.rd level way.ipa))) is in
+    let g = value_there (table_placed held way.rd level (table_number level way.ipa)) parts.0 in
+    let found = placed-found w way.rd level (table_number level way.ipa) g.0 g.1 in
+    let owner = (sound w).tables.owned way.rd level (table_number level way.ipa) g.0 found in
+    let number : entry_number level way.ipa / 512 ≡ table_number level way.ipa = sym (table_number-entry level way.ipa owner.2.last) in
+    let entry = entry-same w g.0 way.rd level (entry_number level way.ipa) (ap (table_placed held way.rd level) number ∙ g.1) in
+    let ends : (level ≡ way.max) ⊎ (is_table (entry_for (state w) way.rd level way.ipa) ≡ false) =
+    elim (or_cases (level == way.max) (not (is_table (entry_for t way.rd level way.ipa))) parts.1) [
+      | inl last ↦ inl (eqb-true level way.max last)
+      | inr leaf ↦ inr (ap is_table entry ∙ not-true (is_table (entry_for t way.rd level way.ipa)) leaf)
+    ] in
+    let reached = reach-end (state w) (sound w) way.rd way.ipa level way.max g.0 found (reach-le t way.rd way.ipa way.max) ends in
+    record {
+      granule = g.0;
+      placed = g.1;
+      last = owner.2.last;
+      same = record { level = reached; entry = ap (λ l. entry_for (state w) way.rd l way.ipa) reached ∙ entry };
+    }
+
+-- ---- tables below
+
+-- a table of the whole that is held is found at its place
+pub held-placed : {granules : ℕ} {side : Side} {held : List HeldCell} (w : Whole granules side held) (g rd level number : ℕ) → IsTrue (is_held g held)
+    → HoldsTable (tables_of w.cells) g rd level number → (f : ℕ) × (table_placed held rd level number ≡ Some f)
+held-placed {granules} {side} {held} w g rd level number has holds =
+    placed-some held rd level number g (held-contains held g has)
+    (ap (is_table_of rd level number) (by (cell_in g held) refl has) ∙ holds-is_table_of (tables_of w.cells) g rd level number holds)
+  where
+    by : (o : Option Cell) → cell_in g held ≡ o → IsTrue (is_some o) → option_and_then table_in o ≡ tables_of w.cells g
+    by None found there = absurd (false≢true there)
+    by (Some c) found there = ap table_in (sym (whole_cell w g c found))
+
+-- whether a table that is held is in use is told as the whole has it
+pub in_use-same : {granules : ℕ} {side : Side} {held : List HeldCell} (w : Whole granules side held) (g rd level number : ℕ)
+    → table_placed held rd level number ≡ Some g → is_in_use (state w) rd level number ≡ is_in_use (seen_state granules held) rd level number
+unfolding is_in_use
+in_use-same {granules} {side} {held} w g rd level number is =
+    any_below-same 512 (λ k. is_live (entry_at (state w) rd level (512 * number + k))) (λ k. is_live (entry_at (seen_state granules held) rd level (512 * number + k)))
+    (λ k within.
+    let over : (512 * number + k) / 512 ≡ number = omega (arith, within) in
+    ap is_live (entry-same w g rd level (512 * number + k) (ap (table_placed held rd level) over ∙ is)))

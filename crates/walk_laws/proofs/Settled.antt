@@ -1,0 +1,273 @@
+-- Where what is held settles a command that walks, what is answered is a local step.
+use Rattle.std.proofs.Common.{◌≡◌, ℕ, suc, ◌+◌, ◌*◌, ◌/◌, ◌<◌, ◌≤◌, Bool, true, false, not, ◌&&◌, ◌||◌, if◌then◌else◌, List, [], ◌∷◌, Option, Some, None, Result, Ok, Err, nat_lt, inl, inr, refl, sym, ap, ◌∙◌, subst, arith}
+use Rattle.std.specs.Prelude.{IsTrue, is_some}
+use Rattle.std.proofs.lemmas.Bool.{false≢true, and_parts, or_cases, not-true}
+use Rattle.rmm_spec.specs.declared.accepted.Accepted.{Accepted}
+use Rattle.rmm_spec.specs.declared.accepted.Accepted.TheVariants.{Done, Reaches}
+use Rattle.rmm_spec.specs.declared.accepted.Stretch.{Stretch}
+use Rattle.rmm_spec.specs.declared.accepted.StretchUse.TheVariants.{Init, Requested}
+use Rattle.rmm_spec.specs.declared.call.Call.{Call}
+use Rattle.rmm_spec.specs.declared.call.Call.TheVariants as call
+use Rattle.rmm_spec.specs.declared.change.Change.TheVariants.{Unchanged}
+use Rattle.rmm_spec.specs.declared.command.Command.{Command}
+use Rattle.rmm_spec.specs.declared.reply.Reply.{Reply}
+use Rattle.rmm_spec.specs.Call.{ByHost, call_of, class_of}
+use Rattle.rmm_spec.specs.State.{State}
+use Rattle.rmm_spec.specs.Lookup.{realm_at, rec_at, ripas_number}
+use Rattle.rmm_spec.specs.Rows.{Row, decided, input, done}
+use Rattle.rmm_spec.specs.Walk.{entry_size, table_size, entry_number, table_number, entry_at, entry_for, reach, walk, half, is_table, is_assigned, is_unassigned, entry_ripas}
+use Rattle.rmm_spec.specs.Step.{answer_of, outcome}
+use Rattle.rmm_spec.specs.Step.Front.{with_front}
+use Rattle.rmm_spec.specs.Step.Words.{words_of}
+use Rattle.rmm_spec.specs.Step.Named.{named}
+use Rattle.rmm_spec.specs.Step.RealmCall.{ipa_state_get}
+use Rattle.rmm_spec.specs.Step.Ripas.{can_be_set, has_room, IsReached, reached_change}
+use Rattle.rmm_spec.specs.Cell.{Cell}
+use Rattle.rmm_spec.specs.Flat.{flat_state}
+use Rattle.rmm_spec.specs.Shape.{Side, CpuPlace, Outside, IsWellShaped}
+use Rattle.rmm_spec.specs.Local.{HeldCell, Hold, Agrees, LocalStep}
+use Rattle.rmm_spec.proofs.Behind.{behind}
+use Rattle.rmm_spec.proofs.WalkLaws.{reach-le, walk_ends_unlinked, first_reached, table_size-entries}
+use Rattle.rmm_sound.proofs.ByRows.{AllHold, decided-accepted}
+use Rattle.rmm_sound.proofs.Entries.{value_there}
+use Rattle.rmm_sound.proofs.Spaces.{entry_size-pos, unscaled_le}
+use Rattle.rmm_sound.proofs.Walked.{entry_starts, table_number-entry, unassigned_kind}
+use Rattle.world_laws.proofs.Locals.{unchanged-is_local}
+use Rattle.world_laws.proofs.Refusals.{Step-refused, outcome-host}
+use Rattle.walk_laws.specs.Held.{is_held}
+use Rattle.walk_laws.specs.Same.{SameSpace, SameWalk}
+use Rattle.walk_laws.specs.SeenState.{table_behind, table_placed, seen_state}
+use Rattle.walk_laws.specs.Settled.{IsLocalAnswer}
+use Rattle.walk_laws.specs.TableCells.{holds_change}
+use Rattle.walk_laws.specs.Walking.{Way, way, way_of, is_walk_held, are_told, is_table_error, is_refused_early, seen_answer, is_way_settled, is_walk_settled}
+use Rattle.walk_laws.proofs.Accepted.{IsSettledBy, settled-by, end-placed, accepted-held}
+use Rattle.walk_laws.proofs.Looks.{ipa_state_get-same}
+use Rattle.walk_laws.proofs.Seen.{rec-same, told-space, walk-end}
+use Rattle.walk_laws.proofs.Steps.{done-local, reached-local}
+use Rattle.walk_laws.proofs.Tables.{entry-same}
+use Rattle.walk_laws.proofs.Told.{walk-told, early-told}
+use Rattle.walk_laws.proofs.Wholes.{Whole, state}
+
+-- ---- stretches
+
+-- a stretch's entries are those of the held table at its base
+pub reached-told : {granules : ℕ} {side : Side} {held : List HeldCell} (w : Whole granules side held) (stretch : Stretch) (top g : ℕ) → stretch.level ≤ 3
+    → table_placed held stretch.rd stretch.level (table_number stretch.level stretch.base) ≡ Some g → IsReached (seen_state granules held) stretch top
+    → IsReached (state w) stretch top
+reached-told {granules} {side} {held} w stretch top g last placed reached = record {
+  count = reached.count;
+  some = reached.some;
+  is_end = reached.is_end;
+  within = reached.within;
+  in_table = reached.in_table;
+  each = λ k below. subst (λ e. IsTrue (can_be_set stretch.purpose e)) (sym (entry-same w g stretch.rd stretch.level (first + k)
+      (ap (table_placed held stretch.rd stretch.level) (in_table k below) ∙ placed))) (reached.each k below);
+}
+  where
+    first : ℕ
+    first = entry_number stretch.level stretch.base
+
+    size : ℕ
+    size = entry_size stretch.level
+
+    number : ℕ
+    number = table_number stretch.level stretch.base
+
+    in_table : (k : ℕ) → k < reached.count → (first + k) / 512 ≡ number
+    in_table k below =
+        let starts : first * size ≤ stretch.base = entry_starts stretch.level stretch.base in
+        let whole : table_size stretch.level ≡ 512 * size = table_size-entries stretch.level last in
+        let bound : top ≤ (number + 1) * (512 * size) = subst (λ n. top ≤ (number + 1) * n) whole reached.in_table in
+        let end : top ≡ stretch.base + reached.count * size = reached.is_end in
+        let scaled : (first + reached.count) * size ≤ ((number + 1) * 512) * size = omega (arith, starts, bound, end) in
+        let most = unscaled_le (first + reached.count) ((number + 1) * 512) size scaled (entry_size-pos stretch.level) in
+        let above : number ≡ first / 512 = table_number-entry stretch.level stretch.base last in
+        omega (arith, most, above, below)
+
+-- what a stretch is of, where a command leads to one
+abbrev IsStretchOf : State → Option Way → Accepted → Type 0
+IsStretchOf t None a = Unit {0}
+IsStretchOf t (Some w) (Done words change) = Unit {0}
+IsStretchOf t (Some w) (Reaches stretch) = (stretch.rd ≡ w.rd) × (stretch.base ≡ w.ipa) × (stretch.level ≡ reach t w.rd w.ipa w.max) × (stretch.level ≤ 3)
+
+rows-stretch : (t : State) (cpu : ℕ) (c : Call) → IsStretchOf t (way_of c) (behind t cpu c).1
+unfolding behind way_of
+rows-stretch t cpu (call.RttInitRipas rd base top) = (refl, refl, refl, reach-le t rd base 3)
+rows-stretch t cpu (call.RttSetRipas rd rec base top) = (refl, refl, refl, reach-le t rd base 3)
+rows-stretch t cpu _ = tt
+
+-- the end of its first entry may be chosen
+abbrev IsFirstReached : State → Accepted → Type 0
+IsFirstReached t (Done words change) = Unit {0}
+IsFirstReached t (Reaches stretch) = IsReached t stretch (stretch.base + entry_size stretch.level)
+
+rows-first : (t : State) (cpu : ℕ) (c : Call) → AllHold (with_front t c (behind t cpu c).0) → IsFirstReached t (behind t cpu c).1
+unfolding behind words_of named
+rows-first t cpu (call.RttInitRipas rd base top) (pages, (ordered, (rd_tag, (within, (new, (room, _)))))) =
+    let end = walk t rd base 3 in
+    let parts = and_parts (is_unassigned end.entry) (has_room base top end.level) room in
+    let kind = unassigned_kind end.entry parts.0 in
+    let can : IsTrue (can_be_set Init end.entry) = λ i. not (kind.1 i) && not (kind.0 i) in
+    first_reached t (record { rd = rd; base = base; top = top; level = end.level; purpose = Init }) (reach-le t rd base 3) parts.1 can
+rows-first t cpu (call.RttSetRipas rd rec base top) (rd_tag, (rec_tag, (owned, (idle, (asked, (fits, (room, _))))))) =
+    first_reached t (record { rd = rd; base = base; top = top; level = reach t rd base 3; purpose = Requested rec _ }) (reach-le t rd base 3) room
+    (ap not (walk_ends_unlinked t rd base))
+rows-first t cpu _ rows = tt
+
+pub first-reached : (t : State) (cpu : ℕ) (c : Call) (stretch : Stretch) → answer_of t cpu c ≡ Ok (Reaches stretch)
+    → IsReached t stretch (stretch.base + entry_size stretch.level)
+first-reached t cpu c stretch is =
+    let rows = behind t cpu c in
+    let all = decided-accepted (with_front t c rows.0) rows.1 (Reaches stretch) (sym rows.2 ∙ is) in
+    subst (IsFirstReached t) all.1 (rows-first t cpu c all.0)
+
+-- ---- any command
+
+-- a command that walks is a host's, and is answered alike on each CPU
+record IsHosts (c : Call) : Type 0 where
+  host : class_of c ≡ ByHost
+  alike : (s : State) (cpu : ℕ) → answer_of s cpu c ≡ answer_of s 0 c
+
+hosts : (c : Call) → is_some (way_of c) ≡ true → IsHosts c
+unfolding class_of way_of answer_of
+hosts (call.RttCreate rd rtt ipa level) walks = record { host = refl; alike = λ s cpu. refl }
+hosts (call.RttDestroy rd ipa level) walks = record { host = refl; alike = λ s cpu. refl }
+hosts (call.RttReadEntry rd ipa level) walks = record { host = refl; alike = λ s cpu. refl }
+hosts (call.DataCreate rd granule ipa source flags digest) walks = record { host = refl; alike = λ s cpu. refl }
+hosts (call.DataCreateUnknown rd granule ipa) walks = record { host = refl; alike = λ s cpu. refl }
+hosts (call.DataDestroy rd ipa) walks = record { host = refl; alike = λ s cpu. refl }
+hosts (call.RttMapUnprotected rd ipa page) walks = record { host = refl; alike = λ s cpu. refl }
+hosts (call.RttUnmapUnprotected rd ipa) walks = record { host = refl; alike = λ s cpu. refl }
+hosts (call.RttInitRipas rd base top) walks = record { host = refl; alike = λ s cpu. refl }
+hosts (call.RttSetRipas rd rec base top) walks = record { host = refl; alike = λ s cpu. refl }
+hosts _ walks = absurd (false≢true walks)
+
+way-there : (granules : ℕ) (c : Call) (held : List HeldCell) (o : Option Way) → is_way_settled granules c held o ≡ true → is_some o ≡ true
+way-there granules c held None settled = absurd (false≢true settled)
+way-there granules c held (Some w) settled = refl
+
+-- each whole that agrees with a hold gives the outcome
+abbrev IsOutcome : ℕ → ℕ → Command → Hold → Result Accepted Reply → Type 0
+IsOutcome granules cpu command hold answer = (cells : ℕ → Cell) (places : ℕ → CpuPlace) → IsWellShaped granules hold.side places cells → Agrees cells hold.cells
+    → places cpu ≡ hold.place → outcome (flat_state granules cells) cpu (call_of command) ≡ answer
+
+refused-local : (granules cpu : ℕ) (command : Command) (hold : Hold) (given : Reply) → IsOutcome granules cpu command hold (Err given)
+    → LocalStep granules cpu command given hold hold
+refused-local granules cpu command hold given each =
+    unchanged-is_local granules cpu command given hold (λ cells places shaped agrees placed.
+    Step-refused (flat_state granules cells) cpu command given (each cells places shaped agrees placed))
+
+stretch-placed : (granules cpu : ℕ) (c : Call) (held : List HeldCell) (stretch : Stretch) → is_way_settled granules c held (way_of c) ≡ true
+    → answer_of (seen_state granules held) cpu c ≡ Ok (Reaches stretch)
+    → (stretch.level ≤ 3) × (is_some (table_placed held stretch.rd stretch.level (table_number stretch.level stretch.base)) ≡ true)
+stretch-placed granules cpu c held stretch settled is =
+    by (way_of c) (settled-by granules c held (way_of c) settled) (subst (IsStretchOf t (way_of c)) all.1 (rows-stretch t cpu c))
+  where
+    t : State
+    t = seen_state granules held
+
+    all : AllHold (with_front t c (behind t cpu c).0) × ((behind t cpu c).1 ≡ Reaches stretch)
+    all = decided-accepted (with_front t c (behind t cpu c).0) (behind t cpu c).1 (Reaches stretch) (sym (behind t cpu c).2 ∙ is)
+
+    by : (o : Option Way) → IsSettledBy granules c held o → IsStretchOf t o (Reaches stretch)
+        → (stretch.level ≤ 3) × (is_some (table_placed held stretch.rd stretch.level (table_number stretch.level stretch.base)) ≡ true)
+    by None none of = absurd none
+    by (Some w) ends of =
+        let placed = end-placed granules held w ends.0 in (
+          of.3,
+          subst (λ l. is_some (table_placed held stretch.rd l (table_number l stretch.base)) ≡ true) (sym of.2)
+              (subst (λ x. is_some (table_placed held stretch.rd (reach t w.rd w.ipa w.max) (table_number (reach t w.rd w.ipa w.max) x)) ≡ true) (sym of.1)
+              (subst (λ x. is_some (table_placed held x (reach t w.rd w.ipa w.max) (table_number (reach t w.rd w.ipa w.max) w.ipa)) ≡ true) (sym of.0) placed)),
+        )
+
+-- what each whole answers as it is told is a local step
+answered-local : (granules cpu : ℕ) (command : Command) (hold : Hold) (a : Result Accepted Reply) → are_told (call_of command) hold.cells ≡ true
+    → is_way_settled granules (call_of command) hold.cells (way_of (call_of command)) ≡ true → answer_of (seen_state granules hold.cells) cpu (call_of command) ≡ a
+    → IsOutcome granules cpu command hold a → IsLocalAnswer granules cpu command hold a
+answered-local granules cpu command hold (Err given) told settled is each = refused-local granules cpu command hold given each
+answered-local granules cpu command hold (Ok (Done words change)) told settled is each =
+    let holds = accepted-held granules hold.cells cpu (call_of command) (Done words change) told settled is in
+    (holds, done-local granules cpu command words.items hold change holds each)
+answered-local granules cpu command hold (Ok (Reaches stretch)) told settled is each = λ top.
+    let holds = accepted-held granules hold.cells cpu (call_of command) (Reaches stretch) told settled is top in
+    let at = stretch-placed granules cpu (call_of command) hold.cells stretch settled is in
+    let g = value_there (table_placed hold.cells stretch.rd stretch.level (table_number stretch.level stretch.base)) at.1 in (
+      holds,
+      λ reached. reached-local granules cpu command stretch top hold holds (λ cells places shaped agrees placed.
+          let w : Whole granules hold.side hold.cells = record { cells = cells; places = places; shaped = shaped; agrees = agrees } in
+          (each cells places shaped agrees placed, reached-told w stretch top g.0 at.0 g.1 reached)),
+    )
+
+early-error : (a : Result Accepted Reply) → is_refused_early a ≡ true → (given : Reply) × (a ≡ Err given) × (is_table_error given ≡ false)
+early-error (Ok accepted) early = absurd (false≢true early)
+early-error (Err given) early = (given, refl, not-true (is_table_error given) early)
+
+pub settled-local : (granules cpu : ℕ) (command : Command) (hold : Hold) → is_some (way_of (call_of command)) ≡ true → hold.place ≡ Outside
+    → is_walk_settled granules (call_of command) hold.cells ≡ true → IsLocalAnswer granules cpu command hold (seen_answer granules (call_of command) hold.cells)
+unfolding is_walk_settled
+settled-local granules cpu command hold walks place settled =
+    elim (or_cases (is_refused_early (seen_answer granules c hold.cells)) (is_way_settled granules c hold.cells (way_of c)) parts.1) [
+      | inl early ↦ refused (early-error (seen_answer granules c hold.cells) early)
+      | inr ends ↦ answered-local granules cpu command hold (seen_answer granules c hold.cells) parts.0 ends ((hosts c walks).alike t cpu)
+          (λ cells places shaped agrees placed.
+          let w : Whole granules hold.side hold.cells = record { cells = cells; places = places; shaped = shaped; agrees = agrees } in
+          outcome-host granules hold.side places cells shaped cpu c (hosts c walks).host (placed ∙ place)
+          ∙ (walk-told w cpu c parts.0 ends ∙ (hosts c walks).alike t cpu))
+    ]
+  where
+    c : Call
+    c = call_of command
+
+    t : State
+    t = seen_state granules hold.cells
+
+    parts : (are_told c hold.cells ≡ true) × ((is_refused_early (seen_answer granules c hold.cells) || is_way_settled granules c hold.cells (way_of c)) ≡ true)
+    parts = and_parts (are_told c hold.cells) (is_refused_early (seen_answer granules c hold.cells) || is_way_settled granules c hold.cells (way_of c)) settled
+
+    refused : (given : Reply) × (seen_answer granules c hold.cells ≡ Err given) × (is_table_error given ≡ false)
+        → IsLocalAnswer granules cpu command hold (seen_answer granules c hold.cells)
+    refused early =
+        subst (IsLocalAnswer granules cpu command hold) (sym early.1)
+        (refused-local granules cpu command hold early.0 (λ cells places shaped agrees placed.
+        let w : Whole granules hold.side hold.cells = record { cells = cells; places = places; shaped = shaped; agrees = agrees } in
+        outcome-host granules hold.side places cells shaped cpu c (hosts c walks).host (placed ∙ place)
+        ∙ early-told w cpu c early.0 parts.0 walks ((hosts c walks).alike t cpu ∙ early.1) early.2))
+
+-- ---- the realm's call that walks
+
+-- what rows refuse they refuse whatever is done
+refused-rows : (rows : List Row) (a b : Accepted) (given : Reply) → decided rows a ≡ Err given → decided rows b ≡ Err given
+refused-rows [] a b given is = absurd (let bad : Ok a ≡ Err given = is in cc)
+refused-rows (first ∷ rows) a b given is = by first.holds is (refused-rows rows a b given)
+  where
+    by : (holds : Bool) → (if holds then decided rows a else Err first.otherwise) ≡ Err given → (decided rows a ≡ Err given → decided rows b ≡ Err given)
+        → (if holds then decided rows b else Err first.otherwise) ≡ Err given
+    by true same rest = rest same
+    by false same rest = same
+
+abbrev get_rows : State → ℕ → ℕ → List Row
+get_rows s rec ipa = with_front s (call.IpaStateGet ipa) (input (nat_lt ipa (half (realm_at s (rec_at s rec).owner))) ∷ [])
+
+abbrev get_done : State → ℕ → ℕ → Accepted
+get_done s rec ipa = done (ripas_number (entry_ripas (walk s (rec_at s rec).owner ipa 3).entry) ∷ []) Unchanged
+
+get-refused : (s t : State) (rec rd ipa : ℕ) (given : Reply) → (rec_at s rec).owner ≡ rd → (rec_at t rec).owner ≡ rd → SameSpace s t rd
+    → ipa_state_get t rec ipa ≡ Err given → ipa_state_get s rec ipa ≡ Err given
+unfolding ipa_state_get words_of named
+get-refused s t rec rd ipa given of_s of_t space is =
+    let rows : get_rows s rec ipa ≡ get_rows t rec ipa = rw (of_s, of_t, space.width) refl in
+    ap (λ r. decided r (get_done s rec ipa)) rows ∙ refused-rows (get_rows t rec ipa) (get_done t rec ipa) (get_done s rec ipa) given is
+
+pub get-told : {granules : ℕ} {side : Side} {held : List HeldCell} (w : Whole granules side held) (rec rd ipa : ℕ) → is_held rec held ≡ true
+    → (rec_at (seen_state granules held) rec).owner ≡ rd → (is_held rd held || is_some (table_behind held rd)) ≡ true
+    → (is_walk_held granules held (way rd ipa 3) || is_refused_early (ipa_state_get (seen_state granules held) rec ipa)) ≡ true
+    → ipa_state_get (state w) rec ipa ≡ ipa_state_get (seen_state granules held) rec ipa
+get-told {granules} {side} {held} w rec rd ipa has owner told settled =
+    let t = seen_state granules held in
+    let space = told-space w rd told in
+    let of_s : (rec_at (state w) rec).owner ≡ rd = ap (λ r. r.owner) (rec-same w rec has) ∙ owner in
+    elim (or_cases (is_walk_held granules held (way rd ipa 3)) (is_refused_early (ipa_state_get t rec ipa)) settled) [
+      | inl ends ↦ ipa_state_get-same (state w) t rec rd ipa of_s owner space (walk-end w (way rd ipa 3) ends).same
+      | inr early ↦ (let refusal = early-error (ipa_state_get t rec ipa) early in
+          get-refused (state w) t rec rd ipa refusal.0 of_s owner space refusal.1 ∙ sym refusal.1)
+    ]

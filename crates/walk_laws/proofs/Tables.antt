@@ -1,0 +1,182 @@
+-- What a held table tells of entries and walks is what each whole has that agrees with it.
+use Rattle.std.proofs.Common.{◌≡◌, ℕ, zero, suc, ◌+◌, ◌-◌, ◌*◌, ◌/◌, ◌%◌, ◌<◌, ◌≤◌, Bool, true, false, ◌==◌, if◌then◌else◌, List, Option, Some, None, slice_get, nat_lt, ◌⊎◌, inl, inr, refl, sym, ap, ◌∙◌, subst, arith, add-one}
+use Rattle.std.specs.Prelude.{IsTrue, is_some}
+use Rattle.std.specs.Option.{option_and_then}
+use Rattle.std.proofs.lemmas.Bool.{false≢true, cases_order}
+use Rattle.std.proofs.lemmas.Bool.Decides.{nat_tests}
+use Rattle.std.proofs.lemmas.Option.{none-some, same_Some}
+use Rattle.rmm_spec.specs.declared.entry.Entry.{Entry}
+use Rattle.rmm_spec.specs.declared.entry.Entry.TheVariants.{Unassigned, Assigned, Table, UnassignedNs, AssignedNs}
+use Rattle.rmm_spec.specs.State.{State, RealmRecord}
+use Rattle.rmm_spec.specs.Table.{TableRecord, place_number}
+use Rattle.rmm_spec.specs.TableCells.{leaf_of}
+use Rattle.rmm_spec.specs.Walk.{is_table, linked_entry, entry_at, entry_for, entry_number, table_number, reach}
+use Rattle.rmm_spec.specs.Sound.{IsSound}
+use Rattle.rmm_spec.specs.Cell.{Cell, tables_of, realms_of}
+use Rattle.rmm_spec.specs.Flat.{flat_state, table_granule}
+use Rattle.rmm_spec.specs.Shape.{Side, HoldsTable}
+use Rattle.rmm_spec.specs.Local.{HeldCell}
+use Rattle.rmm_spec.proofs.WalkLaws.{table_number-suc, reach-covers, reach-le}
+use Rattle.rmm_sound.proofs.Cases.{both_ways}
+use Rattle.rmm_sound.proofs.Entries.{value_there, entry-leaf, entry-link}
+use Rattle.rmm_sound.proofs.Walked.{table_number-entry}
+use Rattle.shape_laws.proofs.Finds.{table_granule-holds, holds-found}
+use Rattle.shape_laws.proofs.Ties.{entry_leaf, entry_leaf-some, leaf-found, link_or_leaf, entry_there, number-again, at_place, IsTied-shaped}
+use Rattle.walk_laws.specs.SeenState.{table_held, table_placed, entry_in, entry_held, link_of, table_seen, leaf_seen, seen_state}
+use Rattle.walk_laws.proofs.Found.{placed-holds}
+use Rattle.walk_laws.proofs.Wholes.{Whole, state, sound, whole_table}
+
+-- ---- tables
+
+-- the held table of a place is the whole's
+pub whole_holds : {granules : ℕ} {side : Side} {held : List HeldCell} (w : Whole granules side held) (g rd level number : ℕ)
+    → HoldsTable (table_held held) g rd level number → HoldsTable (tables_of w.cells) g rd level number
+whole_holds {granules} {side} {held} w g rd level number holds = record {
+  table = holds.table;
+  is_held = whole_table w g holds.table holds.is_held;
+  is_realm = holds.is_realm;
+  is_level = holds.is_level;
+  is_number = holds.is_number;
+}
+
+pub whole_found : {granules : ℕ} {side : Side} {held : List HeldCell} (w : Whole granules side held) (g rd level number : ℕ)
+    → HoldsTable (tables_of w.cells) g rd level number → table_granule granules (tables_of w.cells) rd level number ≡ Some g
+whole_found {granules} {side} {held} w g rd level number holds =
+    holds-found granules (tables_of w.cells) g rd level number (IsTied-shaped granules side w.places w.cells w.shaped).tables.found holds
+
+-- and found at its place
+pub placed-found : {granules : ℕ} {side : Side} {held : List HeldCell} (w : Whole granules side held) (rd level number g : ℕ)
+    → table_placed held rd level number ≡ Some g → (state w).table rd level number ≡ Some g
+unfolding flat_state
+placed-found {granules} {side} {held} w rd level number g is =
+    whole_found w g rd level number (whole_holds w g rd level number (placed-holds held rd level number g is))
+
+-- ---- entries
+
+-- an entry of a table of the whole is the flat state's
+entry-whole : {granules : ℕ} {side : Side} {held : List HeldCell} (w : Whole granules side held) (g rd level number : ℕ) (e : Entry)
+    → (holds : HoldsTable (tables_of w.cells) g rd level (number / 512)) → slice_get holds.table.entries (number % 512) ≡ Some e
+    → entry_at (state w) rd level number ≡ e
+unfolding flat_state
+entry-whole {granules} {side} {held} w g rd level number e holds at = elim (link_or_leaf e) [
+  | inl link ↦ entry-link (state w) (sound w) rd level number link.0 (whole_found w link.0 rd (suc level) number
+      (subst (λ n. HoldsTable (tables_of w.cells) link.0 rd (suc level) n) (number-again number)
+      (at_place (λ a b c. HoldsTable (tables_of w.cells) link.0 a (suc b) (512 * c + number % 512)) holds
+      (w.shaped.tables.links g (number % 512) link.0 holds.table holds.is_held (at ∙ ap Some link.1))))) ∙ sym link.1
+  | inr leaf ↦ entry-leaf (state w) (sound w) rd level number e
+      (leaf-found granules (tables_of w.cells) rd level number g holds.table (whole_found w g rd level (number / 512) holds) holds.is_held
+      ∙ entry_leaf-some holds.table.entries (number % 512) e at leaf)
+]
+
+-- what an entry links to, and its leaf, are the entry
+linked-own : (e : Entry) → linked_entry (link_of e) (if is_table e then None else Some e) ≡ e
+linked-own (Unassigned ripas) = refl
+linked-own (Assigned ripas granule) = refl
+linked-own (Table granule) = refl
+linked-own UnassignedNs = refl
+linked-own (AssignedNs page) = refl
+
+unlinked-own : (e : Entry) → is_table e ≡ false → linked_entry None (if is_table e then None else Some e) ≡ e
+unlinked-own (Table granule) leaf = absurd (false≢true (sym leaf))
+unlinked-own (Unassigned ripas) leaf = refl
+unlinked-own (Assigned ripas granule) leaf = refl
+unlinked-own UnassignedNs leaf = refl
+unlinked-own (AssignedNs page) leaf = refl
+
+-- below a table that is held stands what it links to
+table-below : (held : List HeldCell) (rd level number : ℕ) (e : Entry) → entry_held held rd level number ≡ Some e
+    → table_seen held rd (level + 1) number ≡ link_of e
+unfolding table_seen
+table-below held rd level number e is =
+    let below : (level + 1 == 0) ≡ false = grind (arith, nat_tests) in
+    let above : level + 1 - 1 ≡ level = omega arith in
+    rw (below, above, is) refl
+
+-- an entry of a held table is that of the state that the cells tell of
+entry-seen : (granules : ℕ) (held : List HeldCell) (rd level number : ℕ) (e : Entry) → entry_held held rd level number ≡ Some e
+    → (nat_lt level 3 ≡ false → is_table e ≡ false) → entry_at (seen_state granules held) rd level number ≡ e
+unfolding entry_at seen_state leaf_seen
+entry-seen granules held rd level number e is last = by (nat_lt level 3) refl
+  where
+    by : (b : Bool) → nat_lt level 3 ≡ b
+        → linked_entry (if b then table_seen held rd (level + 1) number else None) (option_and_then leaf_of (entry_held held rd level number)) ≡ e
+    by true less =
+        (λ i. linked_entry (table-below held rd level number e is i) (option_and_then leaf_of (is i))) ∙ linked-own e
+    by false end = ap (λ (o : Option Entry). linked_entry None (option_and_then leaf_of o)) is ∙ unlinked-own e (last end)
+
+-- no link stands at the last level
+last-unlinked : {granules : ℕ} {side : Side} {held : List HeldCell} (w : Whole granules side held) (g i rd level number : ℕ) (e : Entry)
+    → (holds : HoldsTable (tables_of w.cells) g rd level number) → slice_get holds.table.entries i ≡ Some e → nat_lt level 3 ≡ false → is_table e ≡ false
+last-unlinked {granules} {side} {held} w g i rd level number (Table child) holds at end =
+    let owner = w.shaped.tables.placed g holds.table holds.is_held in
+    let less : holds.table.place.level < 3 = w.shaped.tables.kinds g i holds.table owner.0 (Table child) holds.is_held owner.1 at in
+    let same = holds.is_level in
+    let below : level < 3 = omega (arith, less, same) in
+    let test : nat_lt level 3 ≡ true = grind (arith, nat_tests, below) in
+    absurd (false≢true (sym end ∙ test))
+last-unlinked {granules} {side} {held} w g i rd level number (Unassigned ripas) holds at end = refl
+last-unlinked {granules} {side} {held} w g i rd level number (Assigned ripas granule) holds at end = refl
+last-unlinked {granules} {side} {held} w g i rd level number UnassignedNs holds at end = refl
+last-unlinked {granules} {side} {held} w g i rd level number (AssignedNs page) holds at end = refl
+
+-- an entry whose table is held is told as the whole has it
+pub entry-same : {granules : ℕ} {side : Side} {held : List HeldCell} (w : Whole granules side held) (g rd level number : ℕ)
+    → table_placed held rd level (number / 512) ≡ Some g
+    → entry_at (state w) rd level number ≡ entry_at (seen_state granules held) rd level number
+unfolding entry_held whole_holds
+entry-same {granules} {side} {held} w g rd level number is =
+    let here = placed-holds held rd level (number / 512) g is in
+    let holds = whole_holds w g rd level (number / 512) here in
+    let low : number % 512 < 512 = omega arith in
+    let e = entry_there here.table.entries (number % 512) (w.shaped.tables.whole g here.table holds.is_held) low in
+    let found : entry_held held rd level number ≡ Some e.0 =
+    ap (option_and_then (λ (granule : ℕ). entry_in (number % 512) (table_held held granule))) is
+    ∙ (ap (entry_in (number % 512)) here.is_held ∙ e.1) in
+    entry-whole w g rd level number e.0 holds e.1
+    ∙ sym (entry-seen granules held rd level number e.0 found (last-unlinked w g (number % 512) rd level (number / 512) e.0 holds e.1))
+
+-- ---- walks
+
+-- a table that covers an address stands, over others, below one of a higher level that does
+climb : (s : State) → IsSound s → (rd ipa level : ℕ) (r : RealmRecord) → s.realm rd ≡ Some r → r.start_level ≤ level
+    → (k deep : ℕ) → deep ≡ suc (k + level) → IsTrue (is_some (s.table rd deep (table_number deep ipa)))
+    → IsTrue (is_some (s.table rd (suc level) (table_number (suc level) ipa)))
+climb s ok rd ipa level r realm under zero deep same there =
+    let first : deep ≡ suc level = omega (arith, same) in
+    subst (λ d. IsTrue (is_some (s.table rd d (table_number d ipa)))) first there
+climb s ok rd ipa level r realm under (suc k) deep same there =
+    let up = suc (k + level) in
+    let t = value_there (s.table rd deep (table_number deep ipa)) there in
+    let owner = ok.tables.owned rd deep (table_number deep ipa) t.0 t.1 in
+    let down : deep ≡ suc up = omega (arith, same) in
+    let last : up ≤ 3 = omega (arith, owner.2.last, same) in
+    let at : s.table rd (suc up) (table_number (suc up) ipa) ≡ Some t.0 = subst (λ d. s.table rd d (table_number d ipa) ≡ Some t.0) down t.1 in
+    let above = ok.tables.below rd up (table_number (suc up) ipa) t.0 r at realm (omega arith) in
+    let number : table_number (suc up) ipa / 512 ≡ table_number up ipa = ap (λ n. n / 512) (table_number-suc up ipa) ∙ sym (table_number-entry up ipa last) in
+    climb s ok rd ipa level r realm under k up refl (subst (λ n. IsTrue (is_some (s.table rd up n))) number above)
+
+-- the walk ends at a table that covers the address, where its level is the last or its entry no link
+pub reach-end : (s : State) → IsSound s → (rd ipa level max g : ℕ) → s.table rd level (table_number level ipa) ≡ Some g → level ≤ max
+    → (level ≡ max) ⊎ (is_table (entry_for s rd level ipa) ≡ false) → reach s rd ipa max ≡ level
+reach-end s ok rd ipa level max g found within ends =
+    let reached = reach-covers s rd ipa level max (ap is_some found) within in
+    let most = reach-le s rd ipa max in
+    elim ends [
+      | inl last ↦ omega (arith, last, reached.0, most)
+      | inr unlinked ↦ by (cases_order level (reach s rd ipa max)) unlinked reached
+    ]
+  where
+    by : (level ≡ reach s rd ipa max) ⊎ ((level < reach s rd ipa max) ⊎ (reach s rd ipa max < level)) → is_table (entry_for s rd level ipa) ≡ false
+        → (level ≤ reach s rd ipa max) × (is_some (s.table rd (reach s rd ipa max) (table_number (reach s rd ipa max) ipa)) ≡ true)
+        → reach s rd ipa max ≡ level
+    by (inl same) unlinked reached = sym same
+    by (inr (inr more)) unlinked reached = absurd (omega (arith, more, reached.0))
+    by (inr (inl less)) unlinked reached =
+        let deep = reach s rd ipa max in
+        let owner = ok.tables.owned rd level (table_number level ipa) g found in
+        let counted : deep ≡ suc ((deep - suc level) + level) = omega (arith, less) in
+        let below = climb s ok rd ipa level owner.0 owner.1 owner.2.below_root (deep - suc level) deep counted reached.1 in
+        let child = value_there (s.table rd (suc level) (table_number (suc level) ipa)) below in
+        let link = entry-link s ok rd level (entry_number level ipa) child.0
+        (subst (λ n. s.table rd (suc level) n ≡ Some child.0) (table_number-suc level ipa) child.1) in
+        both_ways (ap is_table link) unlinked

@@ -1,0 +1,227 @@
+-- What is held settles a command that walks: each whole that agrees answers it as the state does that the held cells tell of.
+use Rattle.std.proofs.Common.{◌≡◌, ℕ, suc, ◌-◌, ◌/◌, ◌%◌, ◌<◌, ◌≤◌, Bool, true, false, not, ◌&&◌, ◌||◌, ◌==◌, List, [], ◌∷◌, Option, Some, None, Result, Ok, Err, nat_lt, ◌⊎◌, inl, inr, refl, sym, ap, ◌∙◌, subst, arith, eqb-true}
+use Rattle.std.specs.Prelude.{IsTrue, is_some}
+use Rattle.std.specs.List.{AllByRecursion, list_all}
+use Rattle.std.proofs.lemmas.Bool.{false≢true, and_parts, or_cases, not-true, ltb-true}
+use Rattle.std.proofs.lemmas.Option.{same_Some}
+use Rattle.rmm_spec.specs.declared.accepted.Accepted.{Accepted}
+use Rattle.rmm_spec.specs.declared.call.Call.{Call}
+use Rattle.rmm_spec.specs.declared.call.Call.TheVariants as call
+use Rattle.rmm_spec.specs.declared.entry.Entry.{Entry}
+use Rattle.rmm_spec.specs.declared.entry.Entry.TheVariants.{Unassigned, Assigned, Table, UnassignedNs, AssignedNs}
+use Rattle.rmm_spec.specs.declared.reply.Reply.{Reply}
+use Rattle.rmm_spec.specs.declared.tag.Tag.{Tag}
+use Rattle.rmm_spec.specs.declared.tag.Tag.TheVariants as tag
+use Rattle.rmm_spec.specs.State.{State}
+use Rattle.rmm_spec.specs.Lookup.{tag_number, realm_at}
+use Rattle.rmm_spec.specs.Rows.{Needed}
+use Rattle.rmm_spec.specs.Walk.{is_table, entry_for, entry_number, table_number, reach, is_in_use}
+use Rattle.rmm_spec.specs.Cell.{tables_of}
+use Rattle.rmm_spec.specs.Flat.{flat_state}
+use Rattle.rmm_spec.specs.Shape.{Side, HoldsTable}
+use Rattle.rmm_spec.specs.Step.{answer_of}
+use Rattle.rmm_spec.specs.Step.Named.{needed, named}
+use Rattle.rmm_spec.specs.Local.{HeldCell}
+use Rattle.rmm_spec.proofs.WalkLaws.{table_number-suc}
+use Rattle.rmm_sound.proofs.Cases.{both_ways}
+use Rattle.rmm_sound.proofs.Entries.{link_there}
+use Rattle.rmm_sound.proofs.Walked.{table_number-entry}
+use Rattle.shape_laws.proofs.Finds.{table_granule-holds}
+use Rattle.walk_laws.specs.Held.{is_held}
+use Rattle.walk_laws.specs.SeenState.{table_behind, seen_state}
+use Rattle.walk_laws.specs.Walking.{Way, way, way_of, keeps_realm, part_below, is_walk_held, end_entry, is_part_held, is_told, are_told, is_table_error, is_refused_early, is_way_settled}
+use Rattle.walk_laws.proofs.Looks.{SameRec, SameNamed, SameFront, is_linked, SameUse, SameLooks, FrontsAlike, LooksAlike, answer-same, refused-same}
+use Rattle.walk_laws.proofs.Seen.{WalkEnd, tag-same, realm-same, rec-same, told-tag, told-space, walk-end, held-placed, in_use-same}
+use Rattle.walk_laws.proofs.Tables.{placed-found}
+use Rattle.walk_laws.proofs.Wholes.{Whole, state, sound}
+
+-- ---- named granules
+
+-- a granule that is told of is held, or it is the realm of a held table
+told-cases : (keeps : Bool) (held : List HeldCell) (n : Needed) → is_told keeps held n ≡ true
+    → (is_held n.granule held ≡ true)
+    ⊎ ((keeps ≡ false) × ((tag_number n.tag == tag_number tag.Rd) ≡ true) × (is_some (table_behind held n.granule) ≡ true))
+told-cases keeps held n told = by (is_held n.granule held) refl told
+  where
+    by : (b : Bool) → is_held n.granule held ≡ b → (b || (not keeps && tag_number n.tag == tag_number tag.Rd && is_some (table_behind held n.granule))) ≡ true
+        → (is_held n.granule held ≡ true)
+        ⊎ ((keeps ≡ false) × ((tag_number n.tag == tag_number tag.Rd) ≡ true) × (is_some (table_behind held n.granule) ≡ true))
+    by true has is = inl has
+    by false free is =
+        let parts = and_parts (not keeps && tag_number n.tag == tag_number tag.Rd) (is_some (table_behind held n.granule)) is in
+        let front = and_parts (not keeps) (tag_number n.tag == tag_number tag.Rd) parts.0 in
+        inr (not-true keeps front.0, front.1, parts.1)
+
+-- what is told of and is no realm is held
+pub told-held : (keeps : Bool) (held : List HeldCell) (n : Needed) → (tag_number n.tag == tag_number tag.Rd) ≡ false → is_told keeps held n ≡ true → is_held n.granule held ≡ true
+told-held keeps held n other told = elim (told-cases keeps held n told) [
+  | inl has ↦ has
+  | inr behind ↦ absurd (false≢true (sym other ∙ behind.1))
+]
+
+-- and so is a realm that is kept
+pub told-kept : (held : List HeldCell) (n : Needed) → is_told true held n ≡ true → is_held n.granule held ≡ true
+told-kept held n told = elim (told-cases true held n told) [
+  | inl has ↦ has
+  | inr behind ↦ absurd (false≢true (sym behind.0))
+]
+
+-- a realm that is told of is held, or a table of it
+told-either : (keeps : Bool) (held : List HeldCell) (n : Needed) → is_told keeps held n ≡ true
+    → (is_held n.granule held || is_some (table_behind held n.granule)) ≡ true
+told-either keeps held n told = elim (told-cases keeps held n told) [
+  | inl has ↦ rw has refl
+  | inr behind ↦ by (is_held n.granule held) behind.2
+]
+  where
+    by : (b : Bool) → is_some (table_behind held n.granule) ≡ true → (b || is_some (table_behind held n.granule)) ≡ true
+    by true there = refl
+    by false there = there
+
+named-same : {granules : ℕ} {side : Side} {held : List HeldCell} (w : Whole granules side held) (keeps : Bool) (n : Needed) → is_told keeps held n ≡ true
+    → SameNamed (state w) (seen_state granules held) n
+named-same {granules} {side} {held} w keeps n told = (told-tag w n.granule n.tag (told-either keeps held n told), by n.tag (λ other. told-held keeps held n other told))
+  where
+    by : (asked : Tag) → ((tag_number asked == tag_number tag.Rd) ≡ false → is_held n.granule held ≡ true)
+        → SameRec (state w) (seen_state granules held) n.granule asked
+    by tag.Rec has = rec-same w n.granule (has refl)
+    by tag.Undelegated has = tt
+    by tag.Delegated has = tt
+    by tag.Rd has = tt
+    by tag.RecAux has = tt
+    by tag.Data has = tt
+    by tag.Rtt has = tt
+
+names-same : {granules : ℕ} {side : Side} {held : List HeldCell} (w : Whole granules side held) (keeps : Bool) (names : List Needed) → list_all (is_told keeps held) names ≡ true
+    → AllByRecursion (SameNamed (state w) (seen_state granules held)) names
+names-same {granules} {side} {held} w keeps [] told = tt
+names-same {granules} {side} {held} w keeps (n ∷ names) told =
+    let parts = and_parts (is_told keeps held n) (list_all (is_told keeps held) names) told in
+    (named-same w keeps n parts.0, names-same w keeps names parts.1)
+
+-- ---- the realm that is walked
+
+-- the first that a command names is told of
+pub first-told : (told : Needed → Bool) (n : Needed) (names : List Needed) → list_all told (n ∷ names) ≡ true → told n ≡ true
+first-told told n names all = (and_parts (told n) (list_all told names) all).0
+
+abbrev IsHeadTold : (Needed → Bool) → List Needed → Type 0
+IsHeadTold told [] = Unit {0}
+IsHeadTold told (n ∷ names) = told n ≡ true
+
+head-told : (told : Needed → Bool) (names : List Needed) → list_all told names ≡ true → IsHeadTold told names
+head-told told [] all = tt
+head-told told (n ∷ names) all = first-told told n names all
+
+head : (c : Call) (held : List HeldCell) → are_told c held ≡ true → IsHeadTold (is_told (keeps_realm c) held) (named c)
+unfolding are_told
+head c held told = head-told (is_told (keeps_realm c) held) (named c) told
+
+abbrev IsWayTold : Call → List HeldCell → Option Way → Type 0
+IsWayTold c held None = Unit {0}
+IsWayTold c held (Some w) = is_told (keeps_realm c) held (needed w.rd tag.Rd) ≡ true
+
+way-told : (c : Call) (held : List HeldCell) → are_told c held ≡ true → IsWayTold c held (way_of c)
+unfolding named way_of
+way-told (call.RttCreate rd rtt ipa level) held told = head (call.RttCreate rd rtt ipa level) held told
+way-told (call.RttDestroy rd ipa level) held told = head (call.RttDestroy rd ipa level) held told
+way-told (call.RttReadEntry rd ipa level) held told = head (call.RttReadEntry rd ipa level) held told
+way-told (call.DataCreate rd granule ipa source flags digest) held told = head (call.DataCreate rd granule ipa source flags digest) held told
+way-told (call.DataCreateUnknown rd granule ipa) held told = head (call.DataCreateUnknown rd granule ipa) held told
+way-told (call.DataDestroy rd ipa) held told = head (call.DataDestroy rd ipa) held told
+way-told (call.RttMapUnprotected rd ipa page) held told = head (call.RttMapUnprotected rd ipa page) held told
+way-told (call.RttUnmapUnprotected rd ipa) held told = head (call.RttUnmapUnprotected rd ipa) held told
+way-told (call.RttInitRipas rd base top) held told = head (call.RttInitRipas rd base top) held told
+way-told (call.RttSetRipas rd rec base top) held told = head (call.RttSetRipas rd rec base top) held told
+way-told _ held told = tt
+
+front-same : {granules : ℕ} {side : Side} {held : List HeldCell} (w : Whole granules side held) (c : Call) (route : Way) → are_told c held ≡ true
+    → is_told (keeps_realm c) held (needed route.rd tag.Rd) ≡ true → SameFront (state w) (seen_state granules held) c route
+unfolding are_told
+front-same {granules} {side} {held} w c route told realm = record {
+  names = names-same w (keeps_realm c) (named c) told;
+  space = told-space w route.rd (told-either (keeps_realm c) held (needed route.rd tag.Rd) realm);
+  realm = λ keeps. elim (told-cases (keeps_realm c) held (needed route.rd tag.Rd) realm) [
+    | inl has ↦ realm-same w route.rd has
+    | inr free ↦ both_ways keeps free.0
+  ];
+}
+
+-- ---- a table below
+
+link_below : (rd ipa level child : ℕ) (e : Entry) → e ≡ Table child → part_below (call.RttDestroy rd ipa level) e ≡ Some child
+unfolding part_below
+link_below rd ipa level child e is = ap (λ (x : Entry). part_below (call.RttDestroy rd ipa level) x) is
+
+-- the table that is to be taken out is held, so it is told whether it is in use
+used-told : {granules : ℕ} {side : Side} {held : List HeldCell} (w : Whole granules side held) (rd ipa level : ℕ)
+    → WalkEnd (state w) (seen_state granules held) held (way rd ipa (level - 1))
+    → is_part_held (part_below (call.RttDestroy rd ipa level) (end_entry granules held (way rd ipa (level - 1)))) held ≡ true
+    → SameUse (state w) (seen_state granules held) (call.RttDestroy rd ipa level)
+unfolding flat_state
+used-told {granules} {side} {held} w rd ipa level end part above linked =
+    let t = seen_state granules held in
+    let up = level - 1 in
+    let parts = and_parts (reach t rd ipa up == up) (is_table (entry_for t rd (reach t rd ipa up) ipa)) linked in
+    let at : reach t rd ipa up ≡ up = eqb-true (reach t rd ipa up) up parts.0 in
+    let under : (realm_at t rd).start_level < level = ltb-true (realm_at t rd).start_level level above in
+    let deep : suc up ≡ level = omega (arith, under) in
+    let last : up ≤ 3 = subst (λ l. l ≤ 3) at end.last in
+    let number : table_number up ipa ≡ entry_number up ipa / 512 = table_number-entry up ipa last in
+    let here = placed-found w rd (reach t rd ipa up) (table_number (reach t rd ipa up) ipa) end.granule end.placed in
+    let table : IsTrue (is_some ((state w).table rd up (entry_number up ipa / 512))) =
+    subst (λ n. IsTrue (is_some ((state w).table rd up n))) number
+    (subst (λ l. IsTrue (is_some ((state w).table rd l (table_number l ipa)))) at (ap (λ (o : Option ℕ). is_some o) here)) in
+    let seen : entry_for (state w) rd up ipa ≡ entry_for t rd (reach t rd ipa up) ipa =
+    ap (λ l. entry_for (state w) rd l ipa) (sym (end.same.level ∙ at)) ∙ end.same.entry in
+    let link = link_there (state w) (sound w) rd up (entry_number up ipa) table (ap is_table seen ∙ parts.1) in
+    let child : end_entry granules held (way rd ipa up) ≡ Table link.0 = sym seen ∙ link.2 in
+    let has : is_held link.0 held ≡ true =
+    subst (λ (o : Option ℕ). is_part_held o held ≡ true) (link_below rd ipa level link.0 (end_entry granules held (way rd ipa up)) child) part in
+    let holds = table_granule-holds granules (tables_of w.cells) rd (suc up) (entry_number up ipa) link.0 link.1 in
+    let placed = held-placed w link.0 rd level (table_number level ipa) has
+    (subst (λ l. HoldsTable (tables_of w.cells) link.0 rd l (table_number l ipa)) deep
+    (subst (λ n. HoldsTable (tables_of w.cells) link.0 rd (suc up) n) (sym (table_number-suc up ipa)) holds)) in
+    in_use-same w placed.0 rd level (table_number level ipa) placed.1
+
+use-told : {granules : ℕ} {side : Side} {held : List HeldCell} (w : Whole granules side held) (c : Call)
+    → ((route : Way) → way_of c ≡ Some route → WalkEnd (state w) (seen_state granules held) held route × (is_part_held (part_below c (end_entry granules held route)) held ≡ true))
+    → SameUse (state w) (seen_state granules held) c
+unfolding way_of
+use-told {granules} {side} {held} w (call.RttDestroy rd ipa level) ends = let end = ends (way rd ipa (level - 1)) refl in used-told w rd ipa level end.0 end.1
+use-told {granules} {side} {held} w _ ends = tt
+
+-- ---- answers
+
+-- where the walk's end is held, with what is taken out below it, all that is looked up is told
+looks-told : {granules : ℕ} {side : Side} {held : List HeldCell} (w : Whole granules side held) (c : Call) → are_told c held ≡ true
+    → is_way_settled granules c held (way_of c) ≡ true → LooksAlike (state w) (seen_state granules held) c (way_of c)
+looks-told {granules} {side} {held} w c told settled = by (way_of c) refl settled (way-told c held told)
+  where
+    by : (o : Option Way) → way_of c ≡ o → is_way_settled granules c held o ≡ true → IsWayTold c held o → LooksAlike (state w) (seen_state granules held) c o
+    by None walks is of_rd = absurd (false≢true is)
+    by (Some route) walks is of_rd =
+        let parts = and_parts (is_walk_held granules held route) (is_part_held (part_below c (end_entry granules held route)) held) is in
+        let end = walk-end w route parts.0 in
+        record {
+          front = front-same w c route told of_rd;
+          walk = end.same;
+          used = use-told w c (λ other is_other.
+              let same : route ≡ other = same_Some route other (sym walks ∙ is_other) in
+              subst (λ (r : Way). WalkEnd (state w) (seen_state granules held) held r × (is_part_held (part_below c (end_entry granules held r)) held ≡ true)) same (end, parts.1));
+        }
+
+-- a settled walk is answered by each whole as it is told
+pub walk-told : {granules : ℕ} {side : Side} {held : List HeldCell} (w : Whole granules side held) (cpu : ℕ) (c : Call) → are_told c held ≡ true
+    → is_way_settled granules c held (way_of c) ≡ true → answer_of (state w) cpu c ≡ answer_of (seen_state granules held) cpu c
+walk-told {granules} {side} {held} w cpu c told settled = answer-same (state w) (seen_state granules held) cpu c (looks-told w c told settled)
+
+-- and so is a refusal before the walk
+pub early-told : {granules : ℕ} {side : Side} {held : List HeldCell} (w : Whole granules side held) (cpu : ℕ) (c : Call) (given : Reply) → are_told c held ≡ true
+    → is_some (way_of c) ≡ true → answer_of (seen_state granules held) cpu c ≡ Err given → is_table_error given ≡ false → answer_of (state w) cpu c ≡ Err given
+early-told {granules} {side} {held} w cpu c given told walks is plain =
+    refused-same (state w) (seen_state granules held) cpu c given (by (way_of c) walks (way-told c held told)) is plain
+  where
+    by : (o : Option Way) → is_some o ≡ true → IsWayTold c held o → FrontsAlike (state w) (seen_state granules held) c o
+    by None none of_rd = absurd (false≢true none)
+    by (Some route) there of_rd = front-same w c route told of_rd
