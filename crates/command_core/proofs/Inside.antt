@@ -136,26 +136,26 @@ can-call : (cpu : ℕ) (hold : Hold) (s : State) (rec : ℕ) (c : Call) → is_s
     → is_held (rec_at s rec).owner hold.cells ≡ true → CanAnswer cpu hold (call_row s rec c)
 unfolding call_row is_served new_cells measurement_read measurement_extend realm_config ipa_state_set host_call cpu_off system_off
 can-call cpu hold s rec (call.MeasurementRead index) served held owner =
-    can-done cpu hold Unchanged _ (with_front s (call.MeasurementRead index) _) (record { held = tt; here = tt })
+    can-done cpu hold Unchanged _ (with_front s (call.MeasurementRead index) _) (record { held = tt; tables = tt; here = tt })
 can-call cpu hold s rec (call.MeasurementExtend index size values) served held owner =
-    can-done cpu hold (realm_change (rec_at s rec).owner (realm_update.MeasurementExtended index size values)) _ (with_front s (call.MeasurementExtend index size values) _) (record { held = (owner, tt); here = tt })
+    can-done cpu hold (realm_change (rec_at s rec).owner (realm_update.MeasurementExtended index size values)) _ (with_front s (call.MeasurementExtend index size values) _) (record { held = (owner, tt); tables = tt; here = tt })
 can-call cpu hold s rec call.RealmConfig served held owner =
-    can-done cpu hold Unchanged _ (with_front s call.RealmConfig _) (record { held = tt; here = tt })
+    can-done cpu hold Unchanged _ (with_front s call.RealmConfig _) (record { held = tt; tables = tt; here = tt })
 can-call cpu hold s rec (call.IpaStateSet base top ripas) served held owner =
-    can-done cpu hold (rec_change rec (rec_update.RipasRequested base top (ripas_asked ripas))) _ (with_front s (call.IpaStateSet base top ripas) _) (record { held = (held, tt); here = tt })
+    can-done cpu hold (rec_change rec (rec_update.RipasRequested base top (ripas_asked ripas))) _ (with_front s (call.IpaStateSet base top ripas) _) (record { held = (held, tt); tables = tt; here = tt })
 can-call cpu hold s rec (call.HostCall imm) served held owner =
-    can-done cpu hold (rec_change rec (rec_update.HostCalled imm)) _ (with_front s (call.HostCall imm) _) (record { held = (held, tt); here = tt })
+    can-done cpu hold (rec_change rec (rec_update.HostCalled imm)) _ (with_front s (call.HostCall imm) _) (record { held = (held, tt); tables = tt; here = tt })
 can-call cpu hold s rec call.CpuOff served held owner =
-    can-done cpu hold (rec_change rec rec_update.TurnedOff) _ (with_front s call.CpuOff _) (record { held = (held, tt); here = tt })
+    can-done cpu hold (rec_change rec rec_update.TurnedOff) _ (with_front s call.CpuOff _) (record { held = (held, tt); tables = tt; here = tt })
 can-call cpu hold s rec call.SystemOff served held owner =
-    can-done cpu hold (RecordsChanged (Some (record { rd = (rec_at s rec).owner; update = realm_update.TurnedOff })) (Some (record { rec = rec; update = rec_update.SystemTurnedOff }))) _ (with_front s call.SystemOff _) (record { held = (owner, (held, tt)); here = tt })
+    can-done cpu hold (RecordsChanged (Some (record { rd = (rec_at s rec).owner; update = realm_update.TurnedOff })) (Some (record { rec = rec; update = rec_update.SystemTurnedOff }))) _ (with_front s call.SystemOff _) (record { held = (owner, (held, tt)); tables = tt; here = tt })
 can-call cpu hold s rec (call.IpaStateGet ipa) served held owner = absurd (false≢true served)
 can-call cpu hold s rec _ served held owner = tt
 
 can-exit : (cpu : ℕ) (hold : Hold) (s : State) (rec rd : ℕ) → hold.place ≡ Inside rec rd → is_held rec hold.cells ≡ true → CanAnswer cpu hold (rec_exit s rec)
 unfolding rec_exit new_cells
 can-exit cpu hold s rec rd place held =
-    can-done cpu hold (rec_change rec rec_update.Exited) _ (with_front s call.Exit _) (record { held = (held, tt); here = (rd, place) })
+    can-done cpu hold (rec_change rec rec_update.Exited) _ (with_front s call.Exit _) (record { held = (held, tt); tables = tt; here = (rd, place) })
 
 rec_exit-same : (s t : State) (rec : ℕ) → rec_at s rec ≡ rec_at t rec → rec_exit s rec ≡ rec_exit t rec
 unfolding rec_exit words_of named

@@ -13,6 +13,9 @@ pub mod Inside
 pub mod Fits
 pub mod NoWholes
 pub mod Owned
+pub mod Stretches
+pub mod Made
+pub mod Walked
 pub mod Ready
 pub mod Steps
 pub mod PlainCells

@@ -132,7 +132,7 @@ realm_destroy-told : (granules cpu : ℕ) (hold : Hold) (rd : ℕ) → is_granul
 unfolding outside_answer new_cells is_served named holds_all entered rooted
 realm_destroy-told granules cpu hold rd granule (Some (Rd realm)) found root = record {
   can = can-done cpu hold (RealmDestroyed rd (realm_at (seen_state granules hold.cells) rd).root) _ (with_front (seen_state granules hold.cells) (call.RealmDestroy rd) _)
-      (record { held = (held, (subst (λ (r : RealmRecord). is_held r.root hold.cells ≡ true) (sym seen) root, tt)); here = tt });
+      (record { held = (held, (subst (λ (r : RealmRecord). is_held r.root hold.cells ≡ true) (sym seen) root, tt)); tables = tt; here = tt });
   same = λ w.
       let s = state granules cpu hold w in
       let t = seen_state granules hold.cells in
@@ -160,7 +160,7 @@ rec_destroy-can : (cpu : ℕ) (hold : Hold) (s : State) (rec : ℕ) → is_held 
     → is_held (rec_at s rec).aux1 hold.cells ≡ true → CanAnswer cpu hold (rec_destroy s rec)
 unfolding rec_destroy new_cells
 rec_destroy-can cpu hold s rec held aux0 aux1 =
-    can-done cpu hold (RecDestroyed rec (rec_at s rec).aux0 (rec_at s rec).aux1) _ (with_front s (call.RecDestroy rec) _) (record { held = (held, (aux0, (aux1, tt))); here = tt })
+    can-done cpu hold (RecDestroyed rec (rec_at s rec).aux0 (rec_at s rec).aux1) _ (with_front s (call.RecDestroy rec) _) (record { held = (held, (aux0, (aux1, tt))); tables = tt; here = tt })
 
 rec_destroy-told : (granules cpu : ℕ) (hold : Hold) (rec : ℕ) → is_granule granules rec ≡ true → (o : Option Cell) → cell_in rec hold.cells ≡ o
     → are_auxes_held o hold.cells ≡ true → IsToldOutside granules cpu hold (call.RecDestroy rec)
@@ -199,7 +199,7 @@ rec_enter-told : (granules cpu : ℕ) (hold : Hold) (rec : ℕ) → is_granule g
     → is_owner_held o hold.cells ≡ true → IsToldOutside granules cpu hold (call.RecEnter rec)
 unfolding outside_answer answer_of class_of rec_enter new_cells is_served named holds_all entered rooted
 rec_enter-told granules cpu hold rec granule (Some (Rec it)) found owner = record {
-  can = can-done cpu hold (rec_change rec (Entered cpu)) _ (with_front (seen_state granules hold.cells) (call.RecEnter rec) _) (record { held = (held, tt); here = refl });
+  can = can-done cpu hold (rec_change rec (Entered cpu)) _ (with_front (seen_state granules hold.cells) (call.RecEnter rec) _) (record { held = (held, tt); tables = tt; here = refl });
   same = λ w.
       let s = state granules cpu hold w in
       let t = seen_state granules hold.cells in
@@ -242,24 +242,24 @@ complete-told granules cpu hold (call.RecEnter rec) served host fits complete =
 complete-told granules cpu hold (call.GranuleDelegate g) served host fits complete =
     let c = call.GranuleDelegate g in
     named-told granules cpu hold c served complete refl refl
-    (can-done cpu hold _ _ (with_front (seen_state granules hold.cells) c _) (record { held = (held-at hold.cells c complete 0, tt); here = tt }))
+    (can-done cpu hold _ _ (with_front (seen_state granules hold.cells) c _) (record { held = (held-at hold.cells c complete 0, tt); tables = tt; here = tt }))
 complete-told granules cpu hold (call.GranuleUndelegate g) served host fits complete =
     let c = call.GranuleUndelegate g in
     named-told granules cpu hold c served complete refl refl
-    (can-done cpu hold _ _ (with_front (seen_state granules hold.cells) c _) (record { held = (held-at hold.cells c complete 0, tt); here = tt }))
+    (can-done cpu hold _ _ (with_front (seen_state granules hold.cells) c _) (record { held = (held-at hold.cells c complete 0, tt); tables = tt; here = tt }))
 complete-told granules cpu hold (call.RealmActivate rd) served host fits complete =
     let c = call.RealmActivate rd in
     named-told granules cpu hold c served complete refl refl
-    (can-done cpu hold _ _ (with_front (seen_state granules hold.cells) c _) (record { held = (held-at hold.cells c complete 0, tt); here = tt }))
+    (can-done cpu hold _ _ (with_front (seen_state granules hold.cells) c _) (record { held = (held-at hold.cells c complete 0, tt); tables = tt; here = tt }))
 complete-told granules cpu hold (call.RealmCreate rd root width level vmid algo) served host fits complete =
     let c = call.RealmCreate rd root width level vmid algo in
     let at = held-at hold.cells c complete in
     named-told granules cpu hold c served complete refl refl
-    (can-done cpu hold _ _ (with_front (seen_state granules hold.cells) c _) (record { held = (at 0, (at 1, tt)); here = tt }))
+    (can-done cpu hold _ _ (with_front (seen_state granules hold.cells) c _) (record { held = (at 0, (at 1, tt)); tables = tt; here = tt }))
 complete-told granules cpu hold (call.RecCreate rd rec mpidr flags aux0 aux1) served host fits complete =
     let c = call.RecCreate rd rec mpidr flags aux0 aux1 in
     let at = held-at hold.cells c complete in
     named-told granules cpu hold c served complete refl refl
     (can-done cpu hold _ _ (with_front (seen_state granules hold.cells) c _)
-    (record { held = (at 1, (at 2, (at 3, (at 0, tt)))); here = tt }))
+    (record { held = (at 1, (at 2, (at 3, (at 0, tt)))); tables = tt; here = tt }))
 complete-told granules cpu hold _ served host fits complete = absurd cc

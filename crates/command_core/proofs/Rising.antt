@@ -9,7 +9,7 @@ use Rattle.rmm_spec.specs.declared.entry.Entry.{Entry}
 use Rattle.rmm_spec.specs.declared.tag.Tag.{Tag}
 use Rattle.rmm_spec.specs.Lookup.{tag_number, is_granule}
 use Rattle.rmm_spec.specs.Rows.{Needed}
-use Rattle.rmm_spec.specs.Cell.{Cell, Rd, Rec, tag_of, is_data}
+use Rattle.rmm_spec.specs.Cell.{Cell, Rd, Rec, tag_of, is_data, Rtt}
 use Rattle.rmm_spec.specs.Local.{HeldCell, granules_held}
 use Rattle.rmm_spec.specs.Locks.{is_named, leads_to, names_part, depth, IsStray, IsRisingTake}
 use Rattle.rmm_spec.proofs.TagLaws.{tag_number-injective}

@@ -20,6 +20,7 @@ use Rattle.rmm_spec.specs.Shape.{CpuPlace, Outside, Inside}
 use Rattle.rmm_spec.specs.Local.{HeldCell, granules_held}
 use Rattle.rmm_spec.specs.Locks.{is_named, needs, needs_outside, IsRisingTake}
 use Rattle.world_laws.proofs.Members.{Contains-head, Contains-tail, Contains-from_slice_get}
+use Rattle.command_core.proofs.Walked.{taken-way}
 use Rattle.command_core.specs.declared.next.Next.{Next}
 use Rattle.command_core.specs.declared.next.Next.TheVariants.{Take, Free, Ready}
 use Rattle.command_core.specs.Seen.{cell_in, is_held, are_distinct}
@@ -287,15 +288,6 @@ unfolding way_of
 needs-walk None c w is = refl
 needs-walk (Some rd) (call.RecEnter rec) w is = absurd (none-some w is)
 needs-walk (Some rd) _ w is = refl
-
--- where it walks, the command is one that does
-taken-way : (c : Call) (w : Way) → way_taken c ≡ Some w → way_of c ≡ Some w
-unfolding way_taken
-taken-way c w is = by (list_all (λ allowed. allowed) (words_of c)) is
-  where
-    by : (b : Bool) → (if b then way_of c else None) ≡ Some w → way_of c ≡ Some w
-    by true way = way
-    by false way = absurd (none-some w way)
 
 outside-steps : (granules : ℕ) (c : Call) (learnt : Option ℕ) (held : List HeldCell) → IsTrue (are_distinct (granules_held held))
     → list_all (λ (n : Needed). is_granule granules n.granule) (named c) ≡ true → is_unshaped_outside granules c held ≡ false

@@ -10,6 +10,8 @@ pub mod Unshaped
 pub mod Settled
 pub mod Plan
 pub mod Sides
+pub mod Furthest
 pub mod Decided
 pub mod Next
 pub mod Rooms
+pub mod NewCells

@@ -2,13 +2,14 @@
 -- what it holds. This project's own.
 use Rattle.std.specs.Prelude.{ℕ, Bool, true, false, not, ◌&&◌, ◌||◌, ◌==◌, nat_lt, nat_le, if◌then◌else◌, List, Option, Some, None, length, slice_get}
 use Rattle.std.specs.List.{fold, list_any, list_all}
+use Rattle.rmm_spec.specs.declared.entry.Entry.{Entry}
 use Rattle.rmm_spec.specs.declared.call.Call.{Call}
 use Rattle.rmm_spec.specs.Lookup.{tag_number, is_granule}
 use Rattle.rmm_spec.specs.Rows.{Needed}
 use Rattle.rmm_spec.specs.Step.Words.{words_of}
 use Rattle.rmm_spec.specs.Step.Named.{named}
-use Rattle.rmm_spec.specs.Cell.{Cell, Rd, Rec, tag_of, is_data}
-use Rattle.rmm_spec.specs.Locks.{is_named, depth}
+use Rattle.rmm_spec.specs.Cell.{Cell, Rd, Rec, tag_of, is_data, Rtt}
+use Rattle.rmm_spec.specs.Locks.{is_named, depth, leads_to}
 use Rattle.rmm_spec.specs.Local.{HeldCell, granules_held}
 use Rattle.walk_laws.specs.Walking.{is_told}
 use Rattle.command_core.specs.Seen.{cell_in, is_held}

@@ -1,9 +1,11 @@
 //! What the tables that are held tell of walks and entries.
 
-ghost use Rattle.std.specs.Prelude.{◌≡◌, if◌then◌else◌, Some, None, is_some, option_map, IfSome, IsTrue};
+ghost use Rattle.std.specs.Prelude.{◌≡◌, if◌then◌else◌, Some, None, is_some, option_map, option_copied, IfSome, IsTrue};
+ghost use Rattle.rmm_spec.specs.Flat.{is_table_of};
 ghost use Rattle.rmm_spec.specs.Step.Words.{is_space};
 ghost use Rattle.rmm_spec.specs.Table.{place_number};
 ghost use Rattle.rmm_spec.specs.Update.{is_same_entry};
+ghost use Rattle.shape_laws.specs.Whole as whole_spec;
 ghost use Rattle.walk_laws.specs.SeenState as spec;
 
 use crate::held::Held;
@@ -11,7 +13,7 @@ use crate::held_sight::HeldSight;
 use command_words::is_space;
 use granule_cells::Cell;
 use granule_state::Pa;
-use rmm_spec::{Entry, Place};
+use rmm_spec::{Entry, EntryChange, Place};
 use rtt_table::Table;
 use table_entries::{is_live, is_table, linked, table_number};
 
@@ -70,6 +72,51 @@ fn known_width(width: u8) -> Option<u8>
     }
 }
 
+/// The number of the table whose entries are changed.
+pub(crate) fn table_changed(change: EntryChange) -> u64
+    ensures { result ≡ whole_spec.table_changed change }
+{
+    match change {
+        EntryChange::Replaced { number, .. } => number / 512,
+        EntryChange::RipasSet { first, .. } => first / 512,
+    }
+}
+
+/// The table that is held in a granule.
+pub(crate) fn table_in<H: Held>(held: &H, granule: Pa) -> Option<&Table>
+    ensures { option_copied result ≡ spec.table_held (H.cells held.now) granule }
+{
+    match held.cell(granule) {
+        Some(Cell::Rtt(table)) => Some(table),
+        _ => None,
+    }
+}
+
+// Whether the table of that place is held in a granule.
+fn is_placed<H: Held>(held: &H, granule: Pa, rd: u64, level: u8, number: u64) -> bool
+    ensures { result ≡ is_table_of rd level number (spec.table_held (H.cells held.now) granule) }
+{
+    match table_in(held, granule) {
+        Some(table) => is_at(&table.place(), rd, level, number),
+        None => false,
+    }
+}
+
+/// The granule of the first held table of that place.
+#[tactic(auto, unfolding(walk_laws::specs::SeenState::table_placed))]
+pub(crate) fn placed<H: Held>(held: &H, rd: u64, level: u8, number: u64) -> Option<u64>
+    ensures { result ≡ spec.table_placed (H.cells held.now) rd level number }
+{
+    held.held().iter().fold(
+        None,
+        |found, granule| found_or(
+            found,
+            *granule,
+            is_placed(held, *granule, rd, level, number),
+        ),
+    )
+}
+
 impl<'a, H: Held> HeldSight<'a, H> {
     ghost use Rattle.std.specs.Prelude.{◌≡◌, ◌<◌, ◌≤◌, ◌^◌, ◌+◌, nat_lt, None, if◌then◌else◌, option_copied, option_map, IfSome, IsTrue};
     ghost use Rattle.rmm_spec.specs.Step.Words.{is_space};
@@ -80,42 +127,11 @@ impl<'a, H: Held> HeldSight<'a, H> {
     ghost use Rattle.walk_laws.specs.SeenState as spec;
     ghost use Rattle.walk_laws.specs.SeenState.{seen_state};
 
-    /// The table that is held in a granule.
-    pub(crate) fn table_in(&self, granule: Pa) -> Option<&Table>
-        ensures { option_copied result ≡ spec.table_held (H.cells self.now.held.now) granule }
-    {
-        match self.held.cell(granule) {
-            Some(Cell::Rtt(table)) => Some(table),
-            _ => None,
-        }
-    }
-
-    // Whether the table of that place is held in a granule.
-    fn is_placed(&self, granule: Pa, rd: u64, level: u8, number: u64) -> bool
-        ensures { result ≡ is_table_of rd level number (spec.table_held (H.cells self.now.held.now) granule) }
-    {
-        match self.table_in(granule) {
-            Some(table) => is_at(&table.place(), rd, level, number),
-            None => false,
-        }
-    }
-
-    /// The granule of the first held table of that place.
-    #[tactic(auto, unfolding(walk_laws::specs::SeenState::table_placed))]
-    pub(crate) fn placed(&self, rd: u64, level: u8, number: u64) -> Option<u64>
-        ensures { result ≡ spec.table_placed (H.cells self.now.held.now) rd level number }
-    {
-        self.held.held().iter().fold(
-            None,
-            |found, granule| found_or(found, *granule, self.is_placed(*granule, rd, level, number)),
-        )
-    }
-
     // Whether a table of the realm is held in a granule.
     fn is_of_realm(&self, granule: Pa, rd: u64) -> bool
         ensures { result ≡ spec.is_of_realm rd (spec.table_held (H.cells self.now.held.now) granule) }
     {
-        match self.table_in(granule) {
+        match table_in(self.held, granule) {
             Some(table) => table.place().rd == rd,
             None => false,
         }
@@ -138,7 +154,7 @@ impl<'a, H: Held> HeldSight<'a, H> {
             ≡ option_and_then (λ (t : TableRecord). spec.realm_of_width t.place.width) (spec.table_held (H.cells self.now.held.now) granule) }
         ensures space { IfSome result (λ w. IsTrue (is_space w (spec.start_of w))) }
     {
-        match self.table_in(Pa::new(granule)) {
+        match table_in(self.held, Pa::new(granule)) {
             Some(table) => known_width(table.place().width),
             None => None,
         }
@@ -161,7 +177,7 @@ impl<'a, H: Held> HeldSight<'a, H> {
         requires { place < 512 }
         ensures { result ≡ spec.entry_in place (spec.table_held (H.cells self.now.held.now) granule) }
     {
-        match self.table_in(granule) {
+        match table_in(self.held, granule) {
             Some(table) => Some(table.entry(place)),
             None => None,
         }
@@ -172,7 +188,7 @@ impl<'a, H: Held> HeldSight<'a, H> {
     fn entry_held(&self, rd: u64, level: u8, number: u64) -> Option<Entry>
         ensures { result ≡ spec.entry_held (H.cells self.now.held.now) rd level number }
     {
-        match self.placed(rd, level, number / ENTRIES) {
+        match placed(self.held, rd, level, number / ENTRIES) {
             Some(granule) => self.entry_in(Pa::new(granule), (number % ENTRIES) as usize),
             None => None,
         }
@@ -184,11 +200,11 @@ impl<'a, H: Held> HeldSight<'a, H> {
         ensures { result ≡ spec.table_seen (H.cells self.now.held.now) rd level number }
     {
         if level == 0 {
-            return self.placed(rd, level, number);
+            return placed(self.held, rd, level, number);
         }
         match self.entry_held(rd, level - 1, number) {
             Some(entry) => link_of(entry),
-            None => self.placed(rd, level, number),
+            None => placed(self.held, rd, level, number),
         }
     }
 

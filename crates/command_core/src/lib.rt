@@ -8,6 +8,7 @@
 mod applying;
 mod change_room;
 mod deciding;
+mod furthest;
 mod held;
 mod held_sight;
 mod held_tables;

@@ -1,12 +1,13 @@
 //! Whether the tables that a walk meets among the held cells are ones that no shaped whole has.
 
-ghost use Rattle.std.specs.Prelude.{◌≡◌, ◌<◌, ◌^◌, ◌+◌, ◌*◌, option_map, option_copied};
+ghost use Rattle.std.specs.Prelude.{◌≡◌, ◌==◌, ◌*◌, option_map, option_copied};
 ghost use Rattle.rmm_spec.specs.Walk as walk;
 ghost use Rattle.walk_laws.specs.Misfits as spec;
 ghost use Rattle.command_core.specs.Seen.{cell_of};
 
 use crate::held::Held;
 use crate::held_sight::HeldSight;
+use crate::held_tables::table_in;
 use crate::taking::is_granule;
 use granule_cells::Cell;
 use granule_state::{Ipa, Pa};
@@ -14,9 +15,9 @@ use rmm_spec::{Entry, Place};
 use rtt_table::{Table, index_of};
 use table_entries::table_number;
 
-// How many bytes a table of the level covers.
+/// How many bytes a table of the level covers.
 #[tactic(auto, unfolding(rmm_spec::specs::Walk::table_size))]
-fn table_size(level: u64) -> u64
+pub(crate) fn table_size(level: u64) -> u64
     ensures { result ≡ walk.table_size level }
 {
     1 << (12 + 9 * 4u64.saturating_sub(level))
@@ -95,7 +96,7 @@ impl<'a, H: Held> HeldSight<'a, H> {
     fn is_misfit_table(&self, granule: Pa, ipa: u64) -> bool
         ensures { result ≡ spec.is_misfit_table self.now.config.now.granules (H.cells self.now.held.now) ipa (table_held (H.cells self.now.held.now) granule) }
     {
-        match self.table_in(granule) {
+        match table_in(self.held, granule) {
             Some(table) => self.is_misfit_part(table, index_of(table.place().level, Ipa::new(ipa))),
             None => false,
         }

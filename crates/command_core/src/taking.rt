@@ -1,7 +1,6 @@
 //! What may be taken next, told by the cells that are held.
 
-ghost use Rattle.std.specs.Prelude.{◌≡◌, ◌==◌, option_map, option_copied};
-ghost use Rattle.rmm_spec.specs.Locks.{depth};
+ghost use Rattle.std.specs.Prelude.{◌≡◌, ◌<◌, option_map, option_copied};
 ghost use Rattle.rmm_spec.specs.Locks as locks;
 ghost use Rattle.rmm_spec.specs.Lookup as lookup;
 ghost use Rattle.rmm_spec.specs.Cell as whole;

@@ -7,7 +7,7 @@ ghost use Rattle.command_core.specs.Ways.{part_seen};
 
 use crate::held::Held;
 use crate::held_sight::HeldSight;
-use crate::held_tables::found_or;
+use crate::held_tables::{found_or, placed, table_in};
 use crate::ways::{Way, keeps_realm, part_below};
 use command_rows::answer_outside;
 use command_words::{Name, is_tag, named};
@@ -44,7 +44,7 @@ impl<'a, H: Held> HeldSight<'a, H> {
         ensures { result ≡ spec.end_table self.now.config.now.granules (H.cells self.now.held.now) (way_seen way.now) }
     {
         let level = self.end_level(way);
-        self.placed(way.rd, level, table_number(level, way.ipa))
+        placed(self.held, way.rd, level, table_number(level, way.ipa))
     }
 
     // The entry at which it ends.
@@ -144,7 +144,7 @@ impl<'a, H: Held> HeldSight<'a, H> {
     fn is_above(&self, granule: Pa, rd: u64, level: u8) -> bool
         ensures { result ≡ spec.is_above rd level (seen.table_held (H.cells self.now.held.now) granule) }
     {
-        match self.table_in(granule) {
+        match table_in(self.held, granule) {
             Some(table) => table.place().rd == rd && table.place().level < level,
             None => false,
         }
@@ -199,7 +199,7 @@ impl<'a, H: Held> HeldSight<'a, H> {
         }
         let level = self.end_level(way);
         let number = table_number(level, way.ipa);
-        let above = self.placed(way.rd, level.saturating_sub(1), number / 512);
+        let above = placed(self.held, way.rd, level.saturating_sub(1), number / 512);
         part_at(above, number, self.table(way.rd, level, number))
     }
 

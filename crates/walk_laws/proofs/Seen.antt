@@ -1,12 +1,13 @@
 -- What the held cells tell of tags, realms, RECs and walks is what each whole has that agrees with them.
 use Rattle.std.proofs.Common.{◌≡◌, ℕ, suc, ◌+◌, ◌-◌, ◌*◌, ◌/◌, ◌%◌, ◌<◌, ◌≤◌, Bool, true, false, not, ◌&&◌, ◌||◌, ◌==◌, if◌then◌else◌, List, Option, Some, None, ◌⊎◌, inl, inr, refl, sym, ap, ◌∙◌, subst, arith, eqb-true}
-use Rattle.std.specs.Prelude.{IsTrue, is_some, unwrap_or, option_map}
+use Rattle.std.specs.Prelude.{IsTrue, is_some, unwrap_or}
 use Rattle.std.specs.Option.{option_and_then}
 use Rattle.std.proofs.lemmas.Bool.{false≢true, and_parts, or_cases, not-true}
 use Rattle.rmm_spec.specs.declared.tag.Tag.{Tag}
 use Rattle.rmm_spec.specs.declared.tag.Tag.TheVariants as tag
 use Rattle.rmm_spec.specs.State.{State, RealmRecord}
 use Rattle.rmm_spec.specs.Lookup.{tag_number, is_granule, has_tag, realm_at, rec_at, no_realm, no_rec}
+use Rattle.rmm_spec.specs.Step.Words.{is_space}
 use Rattle.rmm_spec.specs.Table.{TableRecord, place_number}
 use Rattle.rmm_spec.specs.Walk.{is_table, is_live, entry_at, entry_for, entry_number, table_number, reach, is_in_use}
 use Rattle.rmm_spec.specs.Cell.{Cell, Undelegated, Rd, tag_of, realm_in, rec_in, table_in, tables_of, realms_of}
@@ -22,7 +23,7 @@ use Rattle.shape_laws.proofs.Cells.{cell-realm}
 use Rattle.shape_laws.proofs.Finds.{holds-is_table_of}
 use Rattle.walk_laws.specs.Held.{cell_in, is_held}
 use Rattle.walk_laws.specs.Same.{SameSpace, SameWalk}
-use Rattle.walk_laws.specs.SeenState.{table_held, is_of_realm, table_behind, start_of, realm_of_width, realm_behind, cell_or, cell_seen, table_placed, seen_state}
+use Rattle.walk_laws.specs.SeenState.{table_held, is_of_realm, table_behind, start_of, blank_realm, realm_of_width, realm_behind, cell_or, cell_seen, table_placed, seen_state}
 use Rattle.walk_laws.specs.Walking.{Way, is_walk_held}
 use Rattle.walk_laws.proofs.Found.{behind-table, placed-some, any_below-same}
 use Rattle.walk_laws.proofs.Tables.{placed-found, entry-same, reach-end}
@@ -65,7 +66,7 @@ record IsBehind (granules : ℕ) (cells : ℕ → Cell) (held : List HeldCell) (
   realm : RealmRecord
   is_realm : cells rd ≡ Rd realm
   is_lock : is_granule granules rd ≡ true
-  told : realm_behind held rd ≡ Some (realm_of_width realm.width)
+  told : realm_behind held rd ≡ Some (blank_realm realm.width)
   start : realm.start_level ≡ start_of realm.width
 
 realm-there : {granules : ℕ} {side : Side} {held : List HeldCell} (w : Whole granules side held) (rd g : ℕ) (t : TableRecord)
@@ -75,19 +76,22 @@ realm-there {granules} {side} {held} w rd g t found table same =
     let owner = w.shaped.tables.placed g t (whole_table w g t table) in
     let at : realms_of w.cells rd ≡ Some owner.0 = ap (realms_of w.cells) (sym same) ∙ owner.1 in
     let cell = cell-realm (w.cells rd) owner.0 at in
-    let width : RealmRecord → ℕ = λ r. r.width in
-    let known : TableRecord → RealmRecord = λ table. realm_of_width table.place.width in
+    let space = w.shaped.realms.spaces rd owner.0 at in
+    let start : owner.0.start_level ≡ start_of owner.0.width = elim (space_cases owner.0.width owner.0.start_level space) [
+      | inl small ↦ small.1 ∙ ap start_of (sym small.0)
+      | inr large ↦ large.1 ∙ ap start_of (sym large.0)
+    ] in
+    let fits : is_space owner.0.width (start_of owner.0.width) ≡ true = sym (ap (is_space owner.0.width) start) ∙ space in
+    let known : TableRecord → Option RealmRecord = λ table. realm_of_width table.place.width in
     record {
       realm = owner.0;
       is_realm = cell;
       is_lock = cell_is_granule granules side w.places w.cells w.shaped rd
           (λ none. false≢true (ap (λ (c : Cell). is_some (realm_in c)) (sym none ∙ cell)));
-      told = ap (λ o. option_map known (option_and_then (table_held held) o)) found
-          ∙ (ap (option_map known) table ∙ ap (λ n. Some (realm_of_width n)) owner.2.width);
-      start = elim (space_cases owner.0.width owner.0.start_level (w.shaped.realms.spaces rd owner.0 at)) [
-        | inl small ↦ small.1 ∙ ap start_of (sym small.0)
-        | inr large ↦ large.1 ∙ ap start_of (sym large.0)
-      ];
+      told = ap (λ o. option_and_then known (option_and_then (table_held held) o)) found
+          ∙ (ap (option_and_then known) table ∙ (ap realm_of_width owner.2.width
+          ∙ ap (λ b. if b then Some (blank_realm owner.0.width) else None) fits));
+      start = start;
     }
 
 behind : {granules : ℕ} {side : Side} {held : List HeldCell} (w : Whole granules side held) (rd : ℕ) → IsTrue (is_some (table_behind held rd))
@@ -102,10 +106,10 @@ behind {granules} {side} {held} w rd there =
 
 -- where its granule isn't held, the realm that is told of is made up
 behind-seen : (granules : ℕ) (cells : ℕ → Cell) (held : List HeldCell) (rd : ℕ) (b : IsBehind granules cells held rd) → is_held rd held ≡ false
-    → cell_seen granules held rd ≡ Rd (realm_of_width b.realm.width)
+    → cell_seen granules held rd ≡ Rd (blank_realm b.realm.width)
 behind-seen granules cells held rd b free = rw (b.is_lock, b.told) (by (cell_in rd held) free)
   where
-    by : (o : Option Cell) → is_some o ≡ false → cell_or o (Some (realm_of_width b.realm.width)) ≡ Rd (realm_of_width b.realm.width)
+    by : (o : Option Cell) → is_some o ≡ false → cell_or o (Some (blank_realm b.realm.width)) ≡ Rd (blank_realm b.realm.width)
     by None none = refl
     by (Some c) some = absurd (false≢true (sym some))
 
