@@ -1,32 +1,29 @@
 -- Where the walk's end is held, with what goes with it, all is held that an accepted command changes.
-use Rattle.std.proofs.Common.{◌≡◌, ℕ, suc, ◌+◌, ◌-◌, ◌/◌, ◌<◌, ◌≤◌, Bool, true, false, not, ◌&&◌, ◌||◌, ◌==◌, List, [], ◌∷◌, Option, Some, None, Ok, nat_lt, nat_le, inl, inr, refl, sym, ap, ◌∙◌, subst, arith, eqb-true}
-use Rattle.std.specs.Prelude.{IsTrue, is_some}
+use Rattle.std.proofs.Common.{◌≡◌, ℕ, ◌-◌, ◌/◌, ◌<◌, ◌≤◌, Bool, true, false, not, ◌&&◌, ◌||◌, ◌==◌, List, [], ◌∷◌, Option, Some, None, Ok, refl, sym, ap, ◌∙◌, subst, arith, eqb-true}
+use Rattle.std.specs.Prelude.{is_some}
 use Rattle.std.specs.List.{list_all}
-use Rattle.std.proofs.lemmas.Bool.{false≢true, and_parts, and_from, ltb-true, leb-true, not-true}
+use Rattle.std.proofs.lemmas.Bool.{false≢true, and_parts, and_from, ltb-true, leb-true}
 use Rattle.rmm_spec.specs.declared.accepted.Accepted.{Accepted}
 use Rattle.rmm_spec.specs.declared.accepted.Accepted.TheVariants.{Done, Reaches}
-use Rattle.rmm_spec.specs.declared.accepted.Stretch.{Stretch}
-use Rattle.rmm_spec.specs.declared.accepted.StretchUse.TheVariants.{Init, Requested}
 use Rattle.rmm_spec.specs.declared.call.Call.{Call}
 use Rattle.rmm_spec.specs.declared.call.Call.TheVariants as call
 use Rattle.rmm_spec.specs.declared.entry.Entry.{Entry}
-use Rattle.rmm_spec.specs.declared.entry.Entry.TheVariants.{Unassigned, Assigned, Table, UnassignedNs, AssignedNs}
+use Rattle.rmm_spec.specs.declared.entry.Entry.TheVariants.{Assigned, Table}
 use Rattle.rmm_spec.specs.declared.tag.Tag.TheVariants as tag
-use Rattle.rmm_spec.specs.State.{State}
-use Rattle.rmm_spec.specs.Lookup.{tag_number, realm_at}
+use Rattle.rmm_spec.specs.Lookup.{realm_at}
 use Rattle.rmm_spec.specs.Rows.{Needed}
-use Rattle.rmm_spec.specs.Walk.{entry_size, entry_address, is_table, is_assigned, is_unassigned, entry_for, entry_number, table_number, reach, walk}
+use Rattle.rmm_spec.specs.Walk.{entry_address, is_table, is_assigned, entry_for, entry_number, table_number, reach, walk}
 use Rattle.rmm_spec.specs.Step.{answer_of}
 use Rattle.rmm_spec.specs.Step.Front.{with_front}
 use Rattle.rmm_spec.specs.Step.Words.{words_of}
 use Rattle.rmm_spec.specs.Step.Named.{needed, named}
-use Rattle.rmm_spec.specs.Step.Ripas.{can_be_set, has_room, IsReached, reached_change}
+use Rattle.rmm_spec.specs.Step.Ripas.{reached_change}
 use Rattle.rmm_spec.specs.Local.{HeldCell}
 use Rattle.rmm_spec.proofs.Behind.{behind}
-use Rattle.rmm_spec.proofs.WalkLaws.{reach-le, walk_ends_unlinked, first_reached}
+use Rattle.rmm_spec.proofs.WalkLaws.{reach-le}
 use Rattle.rmm_sound.proofs.ByRows.{AllHold, decided-accepted}
 use Rattle.rmm_sound.proofs.Ends.{table_number-above}
-use Rattle.rmm_sound.proofs.Walked.{table_number-entry, unassigned_kind}
+use Rattle.rmm_sound.proofs.Walked.{table_number-entry}
 use Rattle.walk_laws.specs.Held.{is_held}
 use Rattle.walk_laws.specs.SeenState.{table_placed, seen_state}
 use Rattle.walk_laws.specs.Walking.{Way, way, way_of, keeps_realm, part_below, is_walk_held, end_entry, is_part_held, is_told, are_told, is_way_settled}
@@ -60,18 +57,21 @@ above-placed held rd ipa level end placed at below last =
 page-placed : (held : List HeldCell) (rd ipa level : ℕ) → IsPlaced held rd level (table_number level ipa) → level ≤ 3 → IsPlaced held rd level (entry_number level ipa / 512)
 page-placed held rd ipa level placed last = subst (IsPlaced held rd level) (table_number-entry level ipa last) placed
 
+-- and where that is of the last level
 last-placed : (held : List HeldCell) (rd ipa end : ℕ) → IsPlaced held rd end (table_number end ipa) → (end == 3) ≡ true → IsPlaced held rd 3 (entry_number 3 ipa / 512)
 last-placed held rd ipa end placed ends =
     page-placed held rd ipa 3 (subst (λ l. IsPlaced held rd l (table_number l ipa)) (eqb-true end 3 ends) placed) (omega arith)
 
 -- ---- parts
 
+-- the child that RTT_DESTROY takes out is held
 link-held : (rd ipa level : ℕ) (held : List HeldCell) (e : Entry) → is_part_held (part_below (call.RttDestroy rd ipa level) e) held ≡ true → is_table e ≡ true
     → is_held (entry_address e) held ≡ true
 unfolding part_below
 link-held rd ipa level held (Table child) part link = part
 link-held rd ipa level held _ part link = absurd (false≢true link)
 
+-- the page that DATA_DESTROY takes out is held
 page-held : (rd ipa : ℕ) (held : List HeldCell) (e : Entry) → is_part_held (part_below (call.DataDestroy rd ipa) e) held ≡ true → is_assigned e ≡ true
     → is_held (entry_address e) held ≡ true
 unfolding part_below
@@ -92,6 +92,7 @@ second-told told a n names all = (and_parts (told n) (list_all told names) (and_
 and4 : (a b c d : Bool) → a ≡ true → b ≡ true → c ≡ true → d ≡ true → (a && b && c && d) ≡ true
 and4 a b c d first second third fourth = rw (first, second, third, fourth) refl
 
+-- one lemma a command that changes something: its rows say where the walk ends
 rtt_create-held : (granules : ℕ) (held : List HeldCell) (cpu rd rtt ipa level : ℕ) → are_told (call.RttCreate rd rtt ipa level) held ≡ true
     → is_walk_held granules held (way rd ipa (level - 1)) ≡ true
     → AllHold (with_front (seen_state granules held) (call.RttCreate rd rtt ipa level) (behind (seen_state granules held) cpu (call.RttCreate rd rtt ipa level)).0)
@@ -188,18 +189,22 @@ set_ripas-held granules held cpu rd rec base top told walked end =
     (told-held false held (needed rec tag.Rec) refl (second-told (is_told false held) (needed rd tag.Rd) (needed rec tag.Rec) [] told)) refl)
     (page-placed held rd base (reach t rd base 3) (end-placed granules held (way rd base 3) walked) (reach-le t rd base 3))
 
+-- reading changes nothing
 read_entry-held : (granules : ℕ) (held : List HeldCell) (cpu rd ipa level : ℕ) → IsHeldChange held (behind (seen_state granules held) cpu (call.RttReadEntry rd ipa level)).1
 unfolding behind holds_change
 read_entry-held granules held cpu rd ipa level = refl
 
+-- a walk's end is held, with what is taken out below it
 abbrev pub IsSettledBy : ℕ → Call → List HeldCell → Option Way → Type 0
 IsSettledBy granules c held None = ⊥
 IsSettledBy granules c held (Some w) = (is_walk_held granules held w ≡ true) × (is_part_held (part_below c (end_entry granules held w)) held ≡ true)
 
+-- what settles a walk, in its two parts
 pub settled-by : (granules : ℕ) (c : Call) (held : List HeldCell) (o : Option Way) → is_way_settled granules c held o ≡ true → IsSettledBy granules c held o
 settled-by granules c held None settled = false≢true settled
 settled-by granules c held (Some w) settled = and_parts (is_walk_held granules held w) (is_part_held (part_below c (end_entry granules held w)) held) settled
 
+-- of each command whose rows all hold
 rows-held : (granules : ℕ) (held : List HeldCell) (cpu : ℕ) (c : Call) → are_told c held ≡ true → IsSettledBy granules c held (way_of c)
     → AllHold (with_front (seen_state granules held) c (behind (seen_state granules held) cpu c).0) → IsHeldChange held (behind (seen_state granules held) cpu c).1
 unfolding way_of

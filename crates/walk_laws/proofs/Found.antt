@@ -1,6 +1,6 @@
 -- Searches: the first granule that is held and passes does pass, and one is found where some that is held passes.
 use Rattle.std.proofs.Common.{◌≡◌, ℕ, zero, suc, ◌<◌, Bool, true, false, ◌||◌, if◌then◌else◌, List, [], ◌∷◌, Option, Some, None, refl, sym, ap, ◌∙◌, arith}
-use Rattle.std.specs.Prelude.{Contains, is_some}
+use Rattle.std.specs.Prelude.{Contains}
 use Rattle.std.specs.List.{fold}
 use Rattle.std.proofs.lemmas.Bool.{false≢true}
 use Rattle.std.proofs.lemmas.List.Folds.{fold_stays}
@@ -12,8 +12,9 @@ use Rattle.rmm_spec.specs.Shape.{HoldsTable}
 use Rattle.rmm_spec.specs.Local.{HeldCell, granules_held}
 use Rattle.rmm_sound.proofs.Cases.{spot_hit}
 use Rattle.world_laws.proofs.Members.{Contains-nil, Contains-other}
-use Rattle.walk_laws.specs.SeenState.{found_or, first_held, table_held, is_of_realm, table_behind, table_placed}
+use Rattle.walk_laws.specs.SeenState.{found_or, table_held, is_of_realm, table_behind, table_placed}
 
+-- what is found passes
 found-passes : (p : ℕ → Bool) (gs : List ℕ) (g : ℕ) → fold (found_or p) None gs ≡ Some g → p g ≡ true
 found-passes p [] g is = absurd (none-some g is)
 found-passes p (h ∷ gs) g is = by (p h) refl (found-passes p gs g) is
@@ -24,6 +25,7 @@ found-passes p (h ∷ gs) g is = by (p h) refl (found-passes p gs g) is
         ap p (sym same) ∙ passes
     by false fails rest found = rest found
 
+-- where one that is held passes, one is found
 found-some : (p : ℕ → Bool) (gs : List ℕ) (g : ℕ) → Contains gs g → p g ≡ true → (f : ℕ) × (fold (found_or p) None gs ≡ Some f)
 found-some p [] g has passes = absurd (Contains-nil g has)
 found-some p (h ∷ gs) g has passes = by (p h) refl (λ there. found-some p gs g there passes)
@@ -45,12 +47,14 @@ HoldsTable-test tables g rd level number passes = by (tables g) refl passes
         spot_hit rd level number t.place.rd t.place.level (place_number t.place) test
         (λ here at first. record { table = t; is_held = is; is_realm = here; is_level = at; is_number = first })
 
+-- the table that is found at a place is of that place
 pub placed-holds : (held : List HeldCell) (rd level number g : ℕ) → table_placed held rd level number ≡ Some g → HoldsTable (table_held held) g rd level number
 unfolding table_placed
 placed-holds held rd level number g is =
     HoldsTable-test (table_held held) g rd level number
     (found-passes (λ granule. is_table_of rd level number (table_held held granule)) (granules_held held) g is)
 
+-- where a held table is of the place, one is found
 pub placed-some : (held : List HeldCell) (rd level number g : ℕ) → Contains (granules_held held) g → is_table_of rd level number (table_held held g) ≡ true
     → (f : ℕ) × (table_placed held rd level number ≡ Some f)
 unfolding table_placed

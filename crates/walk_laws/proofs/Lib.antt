@@ -8,3 +8,4 @@ pub mod Steps
 pub mod Accepted
 pub mod Settled
 pub mod Misfits
+pub mod Complete

@@ -1,7 +1,7 @@
 -- Two states that agree on what the rows of a command look up answer it alike; and where they agree on all but tables, one refuses
 -- before the walk what the other does.
 use Rattle.std.proofs.Common.{◌≡◌, ℕ, zero, suc, ◌-◌, Bool, true, false, not, ◌&&◌, ◌==◌, if◌then◌else◌, List, [], ◌∷◌, Option, Some, None, Result, Ok, Err, nat_lt, refl, sym, ap, ◌∙◌}
-use Rattle.std.specs.Prelude.{IsTrue, is_some}
+use Rattle.std.specs.Prelude.{is_some}
 use Rattle.std.specs.List.{AllByRecursion, list_all}
 use Rattle.std.proofs.lemmas.Bool.{false≢true, and_parts}
 use Rattle.std.proofs.lemmas.Option.{none-some}
@@ -9,7 +9,6 @@ use Rattle.rmm_spec.specs.declared.accepted.Accepted.{Accepted}
 use Rattle.rmm_spec.specs.declared.call.Call.{Call}
 use Rattle.rmm_spec.specs.declared.call.Call.TheVariants as call
 use Rattle.rmm_spec.specs.declared.change.Change.TheVariants.{TableDestroyed}
-use Rattle.rmm_spec.specs.declared.entry.Entry.{Entry}
 use Rattle.rmm_spec.specs.declared.reply.Reply.{Reply}
 use Rattle.rmm_spec.specs.declared.tag.Tag.{Tag}
 use Rattle.rmm_spec.specs.declared.tag.Tag.TheVariants as tag
@@ -88,10 +87,12 @@ used-same s t rd ipa level used = by (nat_lt (realm_at t rd).start_level level) 
     by true above false unlinked = rw unlinked refl
     by false above b linked = rw above refl
 
+-- the same of all that a command looks up, if it walks
 abbrev pub LooksAlike : State → State → Call → Option Way → Type 0
 LooksAlike s t c None = ⊥
 LooksAlike s t c (Some w) = SameLooks s t c w
 
+-- each command in turn, by what it looks up
 pub answer-same : (s t : State) (cpu : ℕ) (c : Call) → LooksAlike s t c (way_of c) → answer_of s cpu c ≡ answer_of t cpu c
 unfolding answer_of way_of keeps_realm named words_of rtt_create rtt_destroy rtt_read_entry data_create data_create_unknown data_destroy rtt_map_unprotected rtt_unmap_unprotected rtt_init_ripas rtt_set_ripas
 answer-same s t cpu (call.RttCreate rd rtt ipa level) looks =
@@ -134,6 +135,7 @@ abbrev tables_last : List Row → Bool
 tables_last [] = true
 tables_last (first ∷ rows) = if is_table_error first.otherwise then list_all (λ (r : Row). is_table_error r.otherwise) rows else tables_last rows
 
+-- such a reply is the answer
 early-decided : (rows : List Row) (a : Accepted) (given : Reply) → early rows ≡ Some given → decided rows a ≡ Err given
 early-decided [] a given is = absurd (none-some given is)
 early-decided (first ∷ rows) a given is = by (is_table_error first.otherwise) first.holds is (early-decided rows a given)
@@ -148,6 +150,7 @@ early-decided (first ∷ rows) a given is = by (is_table_error first.otherwise) 
         refused None = Ok a
         refused (Some given) = Err given
 
+-- a result has one refusal
 same_Err : (a b : Reply) → (the_error : Result Accepted Reply) → the_error ≡ Err a → the_error ≡ Err b → a ≡ b
 same_Err a b the_error first second = let same : Err a ≡ Err b = sym first ∙ second in cc
 
@@ -164,6 +167,7 @@ tables-decided (first ∷ rows) a given all is =
     by true error same rest = rest same
     by false error same rest = ap is_table_error (sym (same_Err first.otherwise given (Err first.otherwise) refl same)) ∙ error
 
+-- and a refusal that is no ERROR_RTT is such a reply
 decided-early : (rows : List Row) (a : Accepted) (given : Reply) → tables_last rows ≡ true → decided rows a ≡ Err given → is_table_error given ≡ false
     → early rows ≡ Some given
 decided-early [] a given last is plain = absurd (let bad : Ok a ≡ Err given = is in cc)
@@ -198,22 +202,26 @@ unfolding behind named words_of way_of has_tag realm_at rec_at is_vmid_used has_
 early-tables s t cpu (call.RealmDestroy rd) walks = absurd (false≢true walks)
 early-tables s t cpu _ walks = refl
 
+-- the state with the tables of another walks as that
 reach-tables : (s t : State) (rd ipa max : ℕ) → reach (with_tables_of s t) rd ipa max ≡ reach t rd ipa max
 unfolding reach
 reach-tables s t rd ipa zero = refl
 reach-tables s t rd ipa (suc l) = ap (λ n. if is_some (t.table rd (suc l) (table_number (suc l) ipa)) then suc l else n) (reach-tables s t rd ipa l)
 
+-- and ends where that does
 walk-tables : (s t : State) (w : Way) → SameWalk (with_tables_of s t) t w
 unfolding entry_at
 walk-tables s t w =
     let same = reach-tables s t w.rd w.ipa w.max in
     record { level = same; entry = ap (λ l. entry_for t w.rd l w.ipa) same }
 
+-- and has the same tables in use
 use-tables : (s t : State) (c : Call) → SameUse (with_tables_of s t) t c
 unfolding is_in_use entry_at
 use-tables s t (call.RttDestroy rd ipa level) = λ above linked. refl
 use-tables s t _ = tt
 
+-- what is named is as it was
 names-tables : (s t : State) (names : List Needed) → AllByRecursion (SameNamed s t) names → AllByRecursion (SameNamed (with_tables_of s t) t) names
 unfolding has_tag rec_at
 names-tables s t [] same = tt
@@ -228,6 +236,7 @@ names-tables s t (n ∷ names) same = ((same.0.0, by n.tag same.0.1), names-tabl
     by tag.Data is = tt
     by tag.Rtt is = tt
 
+-- so is all that is looked up before the walk
 front-tables : (s t : State) (c : Call) (w : Way) → SameFront s t c w → SameFront (with_tables_of s t) t c w
 unfolding realm_at
 front-tables s t c w front = record {
@@ -236,6 +245,7 @@ front-tables s t c w front = record {
   realm = front.realm;
 }
 
+-- the same of what it looks up before it walks
 abbrev pub FrontsAlike : State → State → Call → Option Way → Type 0
 FrontsAlike s t c None = ⊥
 FrontsAlike s t c (Some w) = SameFront s t c w

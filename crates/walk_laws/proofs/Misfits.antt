@@ -1,6 +1,6 @@
 -- Cells that a walk meets and no shaped whole has: there is no whole that agrees with them.
-use Rattle.std.proofs.Common.{◌≡◌, ℕ, suc, ◌+◌, ◌*◌, ◌/◌, ◌%◌, ◌<◌, Bool, true, false, not, ◌&&◌, ◌||◌, ◌==◌, List, Option, Some, None, slice_get, inl, inr, ◌⊎◌, refl, sym, ap, ◌∙◌, subst, eq-eqb}
-use Rattle.std.specs.Prelude.{IsTrue, is_some}
+use Rattle.std.proofs.Common.{◌≡◌, ℕ, suc, ◌+◌, ◌*◌, true, not, ◌&&◌, ◌||◌, ◌==◌, List, Option, Some, None, slice_get, inl, inr, refl, sym, ap, ◌∙◌, subst, eq-eqb}
+use Rattle.std.specs.Prelude.{is_some}
 use Rattle.std.specs.List.{list_any}
 use Rattle.std.proofs.lemmas.Bool.{false≢true, or_cases, not-true, and_from}
 use Rattle.std.proofs.lemmas.Option.{same_Some}
@@ -23,6 +23,7 @@ use Rattle.walk_laws.proofs.Wholes.{Whole, whole_cell, whole_table}
 
 -- ---- places
 
+-- a place has each part of a place
 place-from : (rd level number width : ℕ) (t : TableRecord) → t.place.rd ≡ rd → t.place.level ≡ level → t.place.base ≡ number * table_size level
     → t.place.width ≡ width → is_place rd level number width t.place ≡ true
 place-from rd level number width t first second third fourth =
@@ -79,6 +80,7 @@ other-none {granules} {side} {held} w g rd level number realm at holds bad =
 
 -- ---- pages
 
+-- a page of the whole is at a granule, and is DATA where it is held
 page-none : {granules : ℕ} {side : Side} {held : List HeldCell} (w : Whole granules side held) (page : ℕ) → is_data (w.cells page) ≡ true
     → (not (is_granule granules page) || is_other_page (cell_in page held)) ≡ true → ⊥
 page-none {granules} {side} {held} w page is_one bad =
@@ -93,6 +95,7 @@ page-none {granules} {side} {held} w page is_one bad =
 
 -- ---- what a held table names
 
+-- what an entry of the whole names is no misfit
 part-none : {granules : ℕ} {side : Side} {held : List HeldCell} (w : Whole granules side held) (g : ℕ) (t : TableRecord) (index : ℕ) (o : Option Entry)
     → tables_of w.cells g ≡ Some t → slice_get t.entries index ≡ o → is_misfit_part granules held t index o ≡ true → ⊥
 part-none {granules} {side} {held} w g t index (Some (Table child)) at entry bad =
@@ -107,6 +110,7 @@ part-none {granules} {side} {held} w g t index (Some UnassignedNs) at entry bad 
 part-none {granules} {side} {held} w g t index (Some (AssignedNs page)) at entry bad = false≢true bad
 part-none {granules} {side} {held} w g t index None at entry bad = false≢true bad
 
+-- nor is what a held table names for the address
 table-none : {granules : ℕ} {side : Side} {held : List HeldCell} (w : Whole granules side held) (ipa g : ℕ) (o : Option TableRecord) → table_held held g ≡ o
     → is_misfit_table granules held ipa o ≡ true → ⊥
 table-none {granules} {side} {held} w ipa g None found bad = false≢true bad
@@ -116,6 +120,7 @@ table-none {granules} {side} {held} w ipa g (Some t) found bad =
 
 -- ---- a realm's root
 
+-- nor is the root of a held realm
 root-none : {granules : ℕ} {side : Side} {held : List HeldCell} (w : Whole granules side held) (rd : ℕ) (o : Option Cell) → cell_in rd held ≡ o
     → is_misfit_root granules held rd o ≡ true → ⊥
 root-none {granules} {side} {held} w rd (Some (Rd realm)) found bad =
@@ -125,6 +130,7 @@ root-none {granules} {side} {held} w rd _ found bad = false≢true bad
 
 -- ---- walks
 
+-- a walk meets no misfit in a whole
 pub misfit-none : {granules : ℕ} {side : Side} {held : List HeldCell} (w : Whole granules side held) (rd ipa : ℕ) → is_misfit_walk granules held rd ipa ≡ true → ⊥
 unfolding is_misfit_walk
 misfit-none {granules} {side} {held} w rd ipa bad =

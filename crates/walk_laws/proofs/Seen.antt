@@ -1,14 +1,13 @@
 -- What the held cells tell of tags, realms, RECs and walks is what each whole has that agrees with them.
-use Rattle.std.proofs.Common.{◌≡◌, ℕ, suc, ◌+◌, ◌-◌, ◌*◌, ◌/◌, ◌%◌, ◌<◌, ◌≤◌, Bool, true, false, not, ◌&&◌, ◌||◌, ◌==◌, if◌then◌else◌, List, Option, Some, None, ◌⊎◌, inl, inr, refl, sym, ap, ◌∙◌, subst, arith, eqb-true}
+use Rattle.std.proofs.Common.{◌≡◌, ℕ, ◌+◌, ◌*◌, ◌/◌, ◌≤◌, Bool, true, false, not, ◌&&◌, ◌||◌, ◌==◌, if◌then◌else◌, List, Option, Some, None, ◌⊎◌, inl, inr, refl, sym, ap, ◌∙◌, arith, eqb-true}
 use Rattle.std.specs.Prelude.{IsTrue, is_some, unwrap_or}
 use Rattle.std.specs.Option.{option_and_then}
 use Rattle.std.proofs.lemmas.Bool.{false≢true, and_parts, or_cases, not-true}
 use Rattle.rmm_spec.specs.declared.tag.Tag.{Tag}
-use Rattle.rmm_spec.specs.declared.tag.Tag.TheVariants as tag
 use Rattle.rmm_spec.specs.State.{State, RealmRecord}
 use Rattle.rmm_spec.specs.Lookup.{tag_number, is_granule, has_tag, realm_at, rec_at, no_realm, no_rec}
 use Rattle.rmm_spec.specs.Step.Words.{is_space}
-use Rattle.rmm_spec.specs.Table.{TableRecord, place_number}
+use Rattle.rmm_spec.specs.Table.{TableRecord}
 use Rattle.rmm_spec.specs.Walk.{is_table, is_live, entry_at, entry_for, entry_number, table_number, reach, is_in_use}
 use Rattle.rmm_spec.specs.Cell.{Cell, Undelegated, Rd, tag_of, realm_in, rec_in, table_in, tables_of, realms_of}
 use Rattle.rmm_spec.specs.Flat.{flat_state, is_table_of}
@@ -43,17 +42,20 @@ cell-same {granules} {side} {held} w g has = by (is_granule granules g) refl
     by true granule = known (cell_in g held) refl has
     by false outside = w.shaped.outside.undelegated g outside
 
+-- its tag
 pub tag-same : {granules : ℕ} {side : Side} {held : List HeldCell} (w : Whole granules side held) (g : ℕ) (t : Tag) → IsTrue (is_held g held)
     → has_tag (state w) g t ≡ has_tag (seen_state granules held) g t
 unfolding has_tag flat_state seen_state
 tag-same {granules} {side} {held} w g t has =
     ap (λ (c : Cell). is_granule granules g && tag_number (tag_of c) == tag_number t) (cell-same w g has)
 
+-- the realm there
 pub realm-same : {granules : ℕ} {side : Side} {held : List HeldCell} (w : Whole granules side held) (rd : ℕ) → IsTrue (is_held rd held)
     → realm_at (state w) rd ≡ realm_at (seen_state granules held) rd
 unfolding realm_at flat_state seen_state
 realm-same {granules} {side} {held} w rd has = ap (λ (c : Cell). unwrap_or (realm_in c) no_realm) (cell-same w rd has)
 
+-- the REC there
 pub rec-same : {granules : ℕ} {side : Side} {held : List HeldCell} (w : Whole granules side held) (rec : ℕ) → IsTrue (is_held rec held)
     → rec_at (state w) rec ≡ rec_at (seen_state granules held) rec
 unfolding rec_at flat_state seen_state
@@ -69,6 +71,7 @@ record IsBehind (granules : ℕ) (cells : ℕ → Cell) (held : List HeldCell) (
   told : realm_behind held rd ≡ Some (blank_realm realm.width)
   start : realm.start_level ≡ start_of realm.width
 
+-- the realm of a held table stands
 realm-there : {granules : ℕ} {side : Side} {held : List HeldCell} (w : Whole granules side held) (rd g : ℕ) (t : TableRecord)
     → table_behind held rd ≡ Some g → table_held held g ≡ Some t → t.place.rd ≡ rd → IsBehind granules w.cells held rd
 unfolding realm_behind
@@ -94,6 +97,7 @@ realm-there {granules} {side} {held} w rd g t found table same =
       start = start;
     }
 
+-- and so does the one whose table is found
 behind : {granules : ℕ} {side : Side} {held : List HeldCell} (w : Whole granules side held) (rd : ℕ) → IsTrue (is_some (table_behind held rd))
     → IsBehind granules w.cells held rd
 behind {granules} {side} {held} w rd there =
@@ -130,6 +134,7 @@ told-tag {granules} {side} {held} w rd t told = by (is_held rd held) refl told
         ap (λ (c : Cell). is_granule granules rd && tag_number (tag_of c) == tag_number t) b.is_realm
         ∙ sym (ap (λ (c : Cell). is_granule granules rd && tag_number (tag_of c) == tag_number t) (behind-seen granules w.cells held rd b free))
 
+-- and how wide its address space is
 pub told-space : {granules : ℕ} {side : Side} {held : List HeldCell} (w : Whole granules side held) (rd : ℕ)
     → (is_held rd held || is_some (table_behind held rd)) ≡ true → SameSpace (state w) (seen_state granules held) rd
 unfolding realm_at flat_state seen_state
@@ -154,6 +159,7 @@ pub record WalkEnd (s t : State) (held : List HeldCell) (way : Way) : Type 0 whe
   pub last : reach t way.rd way.ipa way.max ≤ 3
   pub same : SameWalk s t way
 
+-- where a walk ends at a held table, the whole has its end there
 pub walk-end : {granules : ℕ} {side : Side} {held : List HeldCell} (w : Whole granules side held) (way : Way) → is_walk_held granules held way ≡ true
     → WalkEnd (state w) (seen_state granules held) held way
 unfolding is_walk_held

@@ -1,5 +1,5 @@
 -- Where what is held settles a command that walks, what is answered is a local step.
-use Rattle.std.proofs.Common.{◌≡◌, ℕ, suc, ◌+◌, ◌*◌, ◌/◌, ◌<◌, ◌≤◌, Bool, true, false, not, ◌&&◌, ◌||◌, if◌then◌else◌, List, [], ◌∷◌, Option, Some, None, Result, Ok, Err, nat_lt, inl, inr, refl, sym, ap, ◌∙◌, subst, arith}
+use Rattle.std.proofs.Common.{◌≡◌, ℕ, ◌+◌, ◌*◌, ◌/◌, ◌<◌, ◌≤◌, Bool, true, false, not, ◌&&◌, ◌||◌, if◌then◌else◌, List, [], ◌∷◌, Option, Some, None, Result, Ok, Err, nat_lt, inl, inr, refl, sym, ap, ◌∙◌, subst, arith}
 use Rattle.std.specs.Prelude.{IsTrue, is_some}
 use Rattle.std.proofs.lemmas.Bool.{false≢true, and_parts, or_cases, not-true}
 use Rattle.rmm_spec.specs.declared.accepted.Accepted.{Accepted}
@@ -15,13 +15,13 @@ use Rattle.rmm_spec.specs.Call.{ByHost, call_of, class_of}
 use Rattle.rmm_spec.specs.State.{State}
 use Rattle.rmm_spec.specs.Lookup.{realm_at, rec_at, ripas_number}
 use Rattle.rmm_spec.specs.Rows.{Row, decided, input, done}
-use Rattle.rmm_spec.specs.Walk.{entry_size, table_size, entry_number, table_number, entry_at, entry_for, reach, walk, half, is_table, is_assigned, is_unassigned, entry_ripas}
+use Rattle.rmm_spec.specs.Walk.{entry_size, table_size, entry_number, table_number, reach, walk, half, is_unassigned, entry_ripas}
 use Rattle.rmm_spec.specs.Step.{answer_of, outcome}
 use Rattle.rmm_spec.specs.Step.Front.{with_front}
 use Rattle.rmm_spec.specs.Step.Words.{words_of}
 use Rattle.rmm_spec.specs.Step.Named.{named}
 use Rattle.rmm_spec.specs.Step.RealmCall.{ipa_state_get}
-use Rattle.rmm_spec.specs.Step.Ripas.{can_be_set, has_room, IsReached, reached_change}
+use Rattle.rmm_spec.specs.Step.Ripas.{can_be_set, has_room, IsReached}
 use Rattle.rmm_spec.specs.Cell.{Cell}
 use Rattle.rmm_spec.specs.Flat.{flat_state}
 use Rattle.rmm_spec.specs.Shape.{Side, CpuPlace, Outside, IsWellShaped}
@@ -35,10 +35,9 @@ use Rattle.rmm_sound.proofs.Walked.{entry_starts, table_number-entry, unassigned
 use Rattle.world_laws.proofs.Locals.{unchanged-is_local}
 use Rattle.world_laws.proofs.Refusals.{Step-refused, outcome-host}
 use Rattle.walk_laws.specs.Held.{is_held}
-use Rattle.walk_laws.specs.Same.{SameSpace, SameWalk}
+use Rattle.walk_laws.specs.Same.{SameSpace}
 use Rattle.walk_laws.specs.SeenState.{table_behind, table_placed, seen_state}
 use Rattle.walk_laws.specs.Settled.{IsLocalAnswer}
-use Rattle.walk_laws.specs.TableCells.{holds_change}
 use Rattle.walk_laws.specs.Walking.{Way, way, way_of, is_walk_held, are_told, is_table_error, is_refused_early, seen_answer, is_way_settled, is_walk_settled}
 use Rattle.walk_laws.proofs.Accepted.{IsSettledBy, settled-by, end-placed, accepted-held}
 use Rattle.walk_laws.proofs.Looks.{ipa_state_get-same}
@@ -90,6 +89,7 @@ IsStretchOf t None a = Unit {0}
 IsStretchOf t (Some w) (Done words change) = Unit {0}
 IsStretchOf t (Some w) (Reaches stretch) = (stretch.rd ≡ w.rd) × (stretch.base ≡ w.ipa) × (stretch.level ≡ reach t w.rd w.ipa w.max) × (stretch.level ≤ 3)
 
+-- RTT_INIT_RIPAS and RTT_SET_RIPAS alone lead to one
 rows-stretch : (t : State) (cpu : ℕ) (c : Call) → IsStretchOf t (way_of c) (behind t cpu c).1
 unfolding behind way_of
 rows-stretch t cpu (call.RttInitRipas rd base top) = (refl, refl, refl, reach-le t rd base 3)
@@ -101,6 +101,7 @@ abbrev IsFirstReached : State → Accepted → Type 0
 IsFirstReached t (Done words change) = Unit {0}
 IsFirstReached t (Reaches stretch) = IsReached t stretch (stretch.base + entry_size stretch.level)
 
+-- since the entry has room and may be set
 rows-first : (t : State) (cpu : ℕ) (c : Call) → AllHold (with_front t c (behind t cpu c).0) → IsFirstReached t (behind t cpu c).1
 unfolding behind words_of named
 rows-first t cpu (call.RttInitRipas rd base top) (pages, (ordered, (rd_tag, (within, (new, (room, _)))))) =
@@ -114,6 +115,7 @@ rows-first t cpu (call.RttSetRipas rd rec base top) (rd_tag, (rec_tag, (owned, (
     (ap not (walk_ends_unlinked t rd base))
 rows-first t cpu _ rows = tt
 
+-- so an end can be chosen wherever a stretch is answered
 pub first-reached : (t : State) (cpu : ℕ) (c : Call) (stretch : Stretch) → answer_of t cpu c ≡ Ok (Reaches stretch)
     → IsReached t stretch (stretch.base + entry_size stretch.level)
 first-reached t cpu c stretch is =
@@ -128,6 +130,7 @@ pub record IsHosts (c : Call) : Type 0 where
   pub host : class_of c ≡ ByHost
   pub alike : (s : State) (cpu : ℕ) → answer_of s cpu c ≡ answer_of s 0 c
 
+-- each of the ten
 pub hosts : (c : Call) → is_some (way_of c) ≡ true → IsHosts c
 unfolding class_of way_of answer_of
 hosts (call.RttCreate rd rtt ipa level) walks = record { host = refl; alike = λ s cpu. refl }
@@ -142,6 +145,7 @@ hosts (call.RttInitRipas rd base top) walks = record { host = refl; alike = λ s
 hosts (call.RttSetRipas rd rec base top) walks = record { host = refl; alike = λ s cpu. refl }
 hosts _ walks = absurd (false≢true walks)
 
+-- what is settled at a walk's end walks
 way-there : (granules : ℕ) (c : Call) (held : List HeldCell) (o : Option Way) → is_way_settled granules c held o ≡ true → is_some o ≡ true
 way-there granules c held None settled = absurd (false≢true settled)
 way-there granules c held (Some w) settled = refl
@@ -151,12 +155,14 @@ abbrev IsOutcome : ℕ → ℕ → Command → Hold → Result Accepted Reply �
 IsOutcome granules cpu command hold answer = (cells : ℕ → Cell) (places : ℕ → CpuPlace) → IsWellShaped granules hold.side places cells → Agrees cells hold.cells
     → places cpu ≡ hold.place → outcome (flat_state granules cells) cpu (call_of command) ≡ answer
 
+-- a refusal of every whole changes nothing
 refused-local : (granules cpu : ℕ) (command : Command) (hold : Hold) (given : Reply) → IsOutcome granules cpu command hold (Err given)
     → LocalStep granules cpu command given hold hold
 refused-local granules cpu command hold given each =
     unchanged-is_local granules cpu command given hold (λ cells places shaped agrees placed.
     Step-refused (flat_state granules cells) cpu command given (each cells places shaped agrees placed))
 
+-- the table of a stretch is held
 pub stretch-placed : (granules cpu : ℕ) (c : Call) (held : List HeldCell) (stretch : Stretch) → is_way_settled granules c held (way_of c) ≡ true
     → answer_of (seen_state granules held) cpu c ≡ Ok (Reaches stretch)
     → (stretch.level ≤ 3) × (is_some (table_placed held stretch.rd stretch.level (table_number stretch.level stretch.base)) ≡ true)
@@ -198,10 +204,12 @@ answered-local granules cpu command hold (Ok (Reaches stretch)) told settled is 
           (each cells places shaped agrees placed, reached-told w stretch top g.0 at.0 g.1 reached)),
     )
 
+-- what is refused before the walk
 pub early-error : (a : Result Accepted Reply) → is_refused_early a ≡ true → (given : Reply) × (a ≡ Err given) × (is_table_error given ≡ false)
 early-error (Ok accepted) early = absurd (false≢true early)
 early-error (Err given) early = (given, refl, not-true (is_table_error given) early)
 
+-- any command that walks
 pub settled-local : (granules cpu : ℕ) (command : Command) (hold : Hold) → is_some (way_of (call_of command)) ≡ true → hold.place ≡ Outside
     → is_walk_settled granules (call_of command) hold.cells ≡ true → IsLocalAnswer granules cpu command hold (seen_answer granules (call_of command) hold.cells)
 unfolding is_walk_settled
@@ -245,12 +253,15 @@ refused-rows (first ∷ rows) a b given is = by first.holds is (refused-rows row
     by true same rest = rest same
     by false same rest = same
 
+-- the rows of IPA_STATE_GET
 abbrev get_rows : State → ℕ → ℕ → List Row
 get_rows s rec ipa = with_front s (call.IpaStateGet ipa) (input (nat_lt ipa (half (realm_at s (rec_at s rec).owner))) ∷ [])
 
+-- and what it tells
 abbrev get_done : State → ℕ → ℕ → Accepted
 get_done s rec ipa = done (ripas_number (entry_ripas (walk s (rec_at s rec).owner ipa 3).entry) ∷ []) Unchanged
 
+-- an address that is refused in one is refused in the other
 get-refused : (s t : State) (rec rd ipa : ℕ) (given : Reply) → (rec_at s rec).owner ≡ rd → (rec_at t rec).owner ≡ rd → SameSpace s t rd
     → ipa_state_get t rec ipa ≡ Err given → ipa_state_get s rec ipa ≡ Err given
 unfolding ipa_state_get words_of named
@@ -258,6 +269,7 @@ get-refused s t rec rd ipa given of_s of_t space is =
     let rows : get_rows s rec ipa ≡ get_rows t rec ipa = rw (of_s, of_t, space.width) refl in
     ap (λ r. decided r (get_done s rec ipa)) rows ∙ refused-rows (get_rows t rec ipa) (get_done t rec ipa) (get_done s rec ipa) given is
 
+-- it is told as the whole tells it
 pub get-told : {granules : ℕ} {side : Side} {held : List HeldCell} (w : Whole granules side held) (rec rd ipa : ℕ) → is_held rec held ≡ true
     → (rec_at (seen_state granules held) rec).owner ≡ rd → (is_held rd held || is_some (table_behind held rd)) ≡ true
     → (is_walk_held granules held (way rd ipa 3) || is_refused_early (ipa_state_get (seen_state granules held) rec ipa)) ≡ true

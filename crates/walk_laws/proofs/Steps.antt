@@ -1,13 +1,13 @@
 -- What a change of tables makes of the cells that are held is what it makes of each whole that agrees: so it is a local step.
-use Rattle.std.proofs.Common.{◌≡◌, ℕ, ◌-◌, ◌/◌, ◌%◌, Bool, true, false, ◌&&◌, ◌==◌, List, [], ◌∷◌, ◌++◌, Option, Some, None, Ok, ◌⊎◌, inl, inr, refl, sym, ap, ◌∙◌, subst}
-use Rattle.std.specs.Prelude.{IsTrue, Contains, is_some, slice_set}
+use Rattle.std.proofs.Common.{◌≡◌, ℕ, ◌-◌, ◌/◌, ◌%◌, true, false, ◌&&◌, ◌==◌, List, [], ◌∷◌, ◌++◌, Option, Some, None, Ok, ◌⊎◌, inl, inr, refl, sym, ap, ◌∙◌, subst}
+use Rattle.std.specs.Prelude.{IsTrue, is_some, slice_set}
 use Rattle.std.specs.List.{AllByRecursion}
 use Rattle.std.proofs.lemmas.Bool.{false≢true, and_parts}
 use Rattle.std.proofs.lemmas.List.Elements.{All-contains, All-from_recursion}
 use Rattle.rmm_spec.specs.declared.accepted.Accepted.TheVariants.{Reaches}
 use Rattle.rmm_spec.specs.declared.accepted.Stretch.{Stretch}
 use Rattle.rmm_spec.specs.declared.change.Change.{Change}
-use Rattle.rmm_spec.specs.declared.change.Change.TheVariants.{Unchanged, Retagged, RealmMade, RealmDestroyed, RecMade, RecDestroyed, RecordsChanged, TableMade, TableDestroyed, EntriesChanged}
+use Rattle.rmm_spec.specs.declared.change.Change.TheVariants.{Unchanged, TableMade, TableDestroyed, EntriesChanged}
 use Rattle.rmm_spec.specs.declared.change.EntryChange.{EntryChange}
 use Rattle.rmm_spec.specs.declared.change.EntryChange.TheVariants.{Replaced, RipasSet}
 use Rattle.rmm_spec.specs.declared.change.RealmChange.{RealmChange}
@@ -17,7 +17,7 @@ use Rattle.rmm_spec.specs.declared.change.RecUpdate.TheVariants as update
 use Rattle.rmm_spec.specs.declared.change.TagChange.{TagChange}
 use Rattle.rmm_spec.specs.declared.command.Command.{Command}
 use Rattle.rmm_spec.specs.declared.entry.Entry.{Entry}
-use Rattle.rmm_spec.specs.declared.entry.Entry.TheVariants.{Assigned, Table}
+use Rattle.rmm_spec.specs.declared.entry.Entry.TheVariants.{Table}
 use Rattle.rmm_spec.specs.declared.reply.Reply.{Reply}
 use Rattle.rmm_spec.specs.declared.tag.Tag.{Tag}
 use Rattle.rmm_spec.specs.declared.tag.Tag.TheVariants as tag
@@ -25,13 +25,12 @@ use Rattle.rmm_spec.specs.Applicable.{CanApply, CanChangeEntries, CanChangeRealm
 use Rattle.rmm_spec.specs.Call.{call_of}
 use Rattle.rmm_spec.specs.Lookup.{tag_number}
 use Rattle.rmm_spec.specs.Rows.{ok, done}
-use Rattle.rmm_spec.specs.Walk.{entry_at}
 use Rattle.rmm_spec.specs.Step.{Step, outcome}
 use Rattle.rmm_spec.specs.Step.Ripas.{IsReached, reached_change}
 use Rattle.rmm_spec.specs.Cell.{Cell, Delegated, Rtt, put, tag_of, tables_of}
 use Rattle.rmm_spec.specs.Flat.{flat_state, table_granule}
 use Rattle.rmm_spec.specs.Shape.{Side, CpuPlace, IsWellShaped}
-use Rattle.rmm_spec.specs.Local.{HeldCell, Hold, granules_held, Agrees, put_all, LocalStep}
+use Rattle.rmm_spec.specs.Local.{HeldCell, Hold, Agrees, put_all, LocalStep}
 use Rattle.rmm_sound.proofs.Entries.{leaf_there}
 use Rattle.rmm_sound.proofs.Runs.{done_applies, reached_applies}
 use Rattle.world_laws.specs.Replaced.{held_at}
@@ -41,7 +40,7 @@ use Rattle.shape_laws.specs.Whole.{cell_with_tag, cell_with_realm, cell_with_rec
 use Rattle.shape_laws.proofs.Accepted.{done-keeps_shape, reached-keeps_shape}
 use Rattle.shape_laws.proofs.Cells.{tag-cell, cell-table}
 use Rattle.walk_laws.specs.Held.{is_held, known_cell}
-use Rattle.walk_laws.specs.SeenState.{table_held, table_placed}
+use Rattle.walk_laws.specs.SeenState.{table_placed}
 use Rattle.walk_laws.specs.TableCells.{tag_cells, realm_cells, rec_cells, entry_cells, made_cells, table_cells, tables_changed, holds_page, holds_realm, is_moved, holds_rec, holds_change}
 use Rattle.walk_laws.proofs.Found.{placed-holds}
 use Rattle.walk_laws.proofs.Tables.{whole_holds, placed-found}
@@ -49,13 +48,16 @@ use Rattle.walk_laws.proofs.Wholes.{Whole, state, sound, same_at, held-contains,
 
 -- ---- lists of cells
 
+-- cells are put in one list after the other
 put_all-append : (xs ys : List HeldCell) (cells : ℕ → Cell) → put_all cells (xs ++ ys) ≡ put_all (put_all cells xs) ys
 put_all-append [] ys cells = refl
 put_all-append (h ∷ xs) ys cells = put_all-append xs ys (put cells h.granule h.cell)
 
+-- each cell that is put in has its place
 abbrev AreHeld : List HeldCell → List HeldCell → Type 0
 AreHeld held changes = AllByRecursion (λ (h : HeldCell). IsTrue (is_held h.granule held)) changes
 
+-- in two lists, one after the other
 AreHeld-append : (held xs ys : List HeldCell) → AreHeld held xs → AreHeld held ys → AreHeld held (xs ++ ys)
 AreHeld-append held [] ys first second = second
 AreHeld-append held (h ∷ xs) ys first second = (first.0, AreHeld-append held xs ys first.1 second)
@@ -72,12 +74,14 @@ table-found : {granules : ℕ} {side : Side} {held : List HeldCell} (w : Whole g
 unfolding flat_state
 table-found {granules} {side} {held} w rd level number g is = placed-found w rd level number g is
 
+-- a held table is a table of the whole
 table-tag : {granules : ℕ} {side : Side} {held : List HeldCell} (w : Whole granules side held) (rd level number g : ℕ)
     → table_placed held rd level number ≡ Some g → tag_of (w.cells g) ≡ tag.Rtt
 table-tag {granules} {side} {held} w rd level number g is =
     let holds = whole_holds w g rd level number (placed-holds held rd level number g is) in
     ap tag_of (cell-table (w.cells g) holds.table holds.is_held)
 
+-- a table is put in
 made-changed : {granules : ℕ} {side : Side} {held : List HeldCell} (w : Whole granules side held) (rd level number rtt : ℕ) (entry : Entry) (o : Option ℕ)
     → table_placed held rd (level - 1) (number / 512) ≡ o → is_some o ≡ true
     → cells_changed granules w.cells (TableMade rd level number rtt entry) ≡ put_all w.cells (made_cells held rd level number rtt entry o)
@@ -89,6 +93,7 @@ made-changed {granules} {side} {held} w rd level number rtt entry (Some above) i
     ∙ ap (λ c. put (put w.cells above (cell_with_entries linked c)) rtt (Rtt (copied_table rd level number (width_in c) entry)))
     (same_at w above (placed-is_held held rd (level - 1) (number / 512) above is))
 
+-- a table is taken out
 destroyed-changed : {granules : ℕ} {side : Side} {held : List HeldCell} (w : Whole granules side held) (rd level number rtt : ℕ) (entry : Entry) (o : Option ℕ)
     → table_placed held rd (level - 1) (number / 512) ≡ o → is_some o ≡ true
     → cells_changed granules w.cells (TableDestroyed rd level number rtt entry)
@@ -123,6 +128,7 @@ abbrev IsPage : (ℕ → Cell) → Option TagChange → Type 0
 IsPage cells None = Unit {0}
 IsPage cells (Some change) = (tag_of (cells change.granule) ≡ tag.Delegated) ⊎ (tag_of (cells change.granule) ≡ tag.Data)
 
+-- by what the change requires of the page
 page-tag : {granules : ℕ} {side : Side} {held : List HeldCell} (w : Whole granules side held) (rd level : ℕ) (entries : EntryChange) (page : Option TagChange)
     → CanChangeEntries (state w) rd level entries page → IsPage w.cells page
 page-tag {granules} {side} {held} w rd level entries None can = tt
@@ -144,12 +150,14 @@ page-kept cells (Some change) g t is tagged first second =
       | inr taken ↦ tags-apart cells g change.granule t tag.Data tagged taken second
     ])
 
+-- a cell that isn't the realm's is kept
 realm-kept : (cells old : ℕ → Cell) (realm : Option RealmChange) (g : ℕ) → ((change : RealmChange) → realm ≡ Some change → g ≡ change.rd → ⊥)
     → cells g ≡ old g → cells_with_realm_change cells realm g ≡ old g
 realm-kept cells old None g apart same = same
 realm-kept cells old (Some change) g apart same =
     put-other cells change.rd (cell_with_realm change.update (cells change.rd)) g (apart change refl) ∙ same
 
+-- nor the REC's
 rec-kept : (cells old : ℕ → Cell) (rec : Option RecChange) (g : ℕ) → ((change : RecChange) → rec ≡ Some change → g ≡ change.rec → ⊥)
     → cells g ≡ old g → cells_with_rec_change cells rec g ≡ old g
 rec-kept cells old None g apart same = same
@@ -162,11 +170,13 @@ page-put : {granules : ℕ} {side : Side} {held : List HeldCell} (w : Whole gran
 page-put {granules} {side} {held} w None has = refl
 page-put {granules} {side} {held} w (Some change) has = ap (λ c. put w.cells change.granule (cell_with_tag change.tag c)) (same_at w change.granule has)
 
+-- the realm's cell
 realm-put : (cells : ℕ → Cell) (held : List HeldCell) (realm : Option RealmChange) → ((change : RealmChange) → realm ≡ Some change → cells change.rd ≡ known_cell held change.rd)
     → cells_with_realm_change cells realm ≡ put_all cells (realm_cells held realm)
 realm-put cells held None same = refl
 realm-put cells held (Some change) same = ap (λ c. put cells change.rd (cell_with_realm change.update c)) (same change refl)
 
+-- the REC's cell
 rec-put : (cells : ℕ → Cell) (held : List HeldCell) (rec : Option RecChange) → ((change : RecChange) → rec ≡ Some change → cells change.rec ≡ known_cell held change.rec)
     → cells_with_rec_change cells rec ≡ put_all cells (rec_cells held rec)
 rec-put cells held None same = refl
@@ -179,16 +189,19 @@ realm-tag {granules} {side} {held} w None can change is = absurd cc
 realm-tag {granules} {side} {held} w (Some other) can change is =
     subst (λ (c : RealmChange). tag_of (w.cells c.rd) ≡ tag.Rd) (let same : other ≡ change = cc in same) (tag-cell granules w.cells other.rd tag.Rd can.0)
 
+-- and of the REC
 rec-tag : {granules : ℕ} {side : Side} {held : List HeldCell} (w : Whole granules side held) (rec : Option RecChange) → CanChangeRec (state w) rec
     → (change : RecChange) → rec ≡ Some change → tag_of (w.cells change.rec) ≡ tag.Rec
 rec-tag {granules} {side} {held} w None can change is = absurd cc
 rec-tag {granules} {side} {held} w (Some other) can change is =
     subst (λ (c : RecChange). tag_of (w.cells c.rec) ≡ tag.Rec) (let same : other ≡ change = cc in same) (tag-cell granules w.cells other.rec tag.Rec can.0)
 
+-- the realm is held
 realm-held : (held : List HeldCell) (realm : Option RealmChange) → holds_realm held realm ≡ true → (change : RealmChange) → realm ≡ Some change → is_held change.rd held ≡ true
 realm-held held None has change is = absurd cc
 realm-held held (Some other) has change is = subst (λ (c : RealmChange). is_held c.rd held ≡ true) (let same : other ≡ change = cc in same) has
 
+-- the REC is held
 rec-held : (held : List HeldCell) (rec : Option RecChange) → holds_rec held rec ≡ true → (change : RecChange) → rec ≡ Some change → is_held change.rec held ≡ true
 rec-held held None has change is = absurd cc
 rec-held held (Some other) has change is =
@@ -201,6 +214,7 @@ record HoldsParts (held : List HeldCell) (page : Option TagChange) (realm : Opti
   of_rec : holds_rec held rec ≡ true
   of_table : is_some table ≡ true
 
+-- by the test of what is held
 held-parts : (held : List HeldCell) (page : Option TagChange) (realm : Option RealmChange) (rec : Option RecChange) (table : Option ℕ)
     → (holds_page held page && holds_realm held realm && holds_rec held rec && is_some table) ≡ true → HoldsParts held page realm rec table
 held-parts held page realm rec table holds =
@@ -209,6 +223,7 @@ held-parts held page realm rec table holds =
     let second = and_parts (holds_page held page) (holds_realm held realm) third.0 in
     record { of_page = second.0; of_realm = second.1; of_rec = third.1; of_table = last.1 }
 
+-- entries are changed, with what goes with them
 entries-put : {granules : ℕ} {side : Side} {held : List HeldCell} (w : Whole granules side held) (rd level : ℕ) (entries : EntryChange)
     (page : Option TagChange) (realm : Option RealmChange) (rec : Option RecChange) → CanApply (state w) (EntriesChanged rd level entries page realm rec)
     → (o : Option ℕ) → table_placed held rd level (table_changed entries) ≡ o → HoldsParts held page realm rec o
@@ -263,6 +278,7 @@ entries-put {granules} {side} {held} w rd level entries page realm rec can (Some
 
 -- ---- any change of a walk
 
+-- each kind of change that a walk makes
 pub cells-changed : {granules : ℕ} {side : Side} {held : List HeldCell} (w : Whole granules side held) (change : Change) → CanApply (state w) change
     → holds_change held change ≡ true → cells_changed granules w.cells change ≡ put_all w.cells (table_cells held change)
 unfolding table_cells holds_change cells_changed
@@ -278,16 +294,19 @@ cells-changed {granules} {side} {held} w (EntriesChanged rd level entries page r
     (held-parts held page realm rec (table_placed held rd level (table_changed entries)) holds)
 cells-changed {granules} {side} {held} w _ can holds = absurd (false≢true holds)
 
+-- the table whose entries are changed is held
 entry-held : (held : List HeldCell) (change : List Entry → List Entry) (rd level number : ℕ) (o : Option ℕ) → table_placed held rd level number ≡ o
     → AreHeld held (entry_cells held change o)
 entry-held held change rd level number None is = tt
 entry-held held change rd level number (Some g) is = (placed-is_held held rd level number g is, tt)
 
+-- and so are both tables where one is made
 made-held : (held : List HeldCell) (rd level number rtt : ℕ) (entry : Entry) (o : Option ℕ) → table_placed held rd (level - 1) (number / 512) ≡ o
     → is_held rtt held ≡ true → AreHeld held (made_cells held rd level number rtt entry o)
 made-held held rd level number rtt entry None is has = tt
 made-held held rd level number rtt entry (Some g) is has = (placed-is_held held rd (level - 1) (number / 512) g is, (has, tt))
 
+-- all cells that are put in are held
 pub cells-held : (held : List HeldCell) (change : Change) → holds_change held change ≡ true → AreHeld held (table_cells held change)
 unfolding table_cells holds_change
 cells-held held (TableMade rd level number rtt entry) holds =
@@ -319,6 +338,7 @@ cells-held held _ holds = tt
 
 -- ---- beside the cells
 
+-- the side table stays
 side-kept : (held : List HeldCell) (cells : ℕ → Cell) (side : Side) (change : Change) → holds_change held change ≡ true → side_changed cells side change ≡ side
 unfolding side_changed holds_change
 side-kept held cells side Unchanged holds = refl
@@ -327,6 +347,7 @@ side-kept held cells side (TableDestroyed rd level number rtt entry) holds = ref
 side-kept held cells side (EntriesChanged rd level entries page realm rec) holds = refl
 side-kept held cells side _ holds = absurd (false≢true holds)
 
+-- a request that is moved on moves no CPU
 rec-places : (held : List HeldCell) (cells : ℕ → Cell) (places : ℕ → CpuPlace) (rec : Option RecChange) → holds_rec held rec ≡ true
     → places_with_rec_change cells places rec ≡ places
 rec-places held cells places None holds = refl
@@ -336,6 +357,7 @@ rec-places held cells places (Some change) holds = by change.update (and_parts (
     by (update.RequestMoved base) moved = refl
     by _ moved = absurd (false≢true moved)
 
+-- and CPUs stay where they are
 places-kept : (held : List HeldCell) (cells : ℕ → Cell) (places : ℕ → CpuPlace) (change : Change) → holds_change held change ≡ true
     → places_changed cells places change ≡ places
 unfolding places_changed holds_change
@@ -373,6 +395,7 @@ change-local granules cpu command given hold change holds each =
           (subst (λ side. IsWellShaped granules side (places_changed cells places change) (cells_changed granules cells change)) kept_side one.1)),
     ))
 
+-- what is done
 pub done-local : (granules cpu : ℕ) (command : Command) (words : List ℕ) (hold : Hold) (change : Change) → holds_change hold.cells change ≡ true
     → ((cells : ℕ → Cell) (places : ℕ → CpuPlace) → IsWellShaped granules hold.side places cells → Agrees cells hold.cells → places cpu ≡ hold.place
     → outcome (flat_state granules cells) cpu (call_of command) ≡ Ok (done words change))
@@ -384,6 +407,7 @@ done-local granules cpu command words hold change holds each =
     let kept = done-keeps_shape granules (record { cells = cells; side = hold.side; places = places }) cpu command words change shaped is in
     (done_applies (flat_state granules cells) cpu command words change (sound w) is, kept.0, kept.1))
 
+-- an end of a stretch that is chosen
 pub reached-local : (granules cpu : ℕ) (command : Command) (stretch : Stretch) (top : ℕ) (hold : Hold) → holds_change hold.cells (reached_change stretch top) ≡ true
     → ((cells : ℕ → Cell) (places : ℕ → CpuPlace) → IsWellShaped granules hold.side places cells → Agrees cells hold.cells → places cpu ≡ hold.place
     → (outcome (flat_state granules cells) cpu (call_of command) ≡ Ok (Reaches stretch)) × IsReached (flat_state granules cells) stretch top)

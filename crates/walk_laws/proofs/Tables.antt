@@ -1,18 +1,16 @@
 -- What a held table tells of entries and walks is what each whole has that agrees with it.
-use Rattle.std.proofs.Common.{◌≡◌, ℕ, zero, suc, ◌+◌, ◌-◌, ◌*◌, ◌/◌, ◌%◌, ◌<◌, ◌≤◌, Bool, true, false, ◌==◌, if◌then◌else◌, List, Option, Some, None, slice_get, nat_lt, ◌⊎◌, inl, inr, refl, sym, ap, ◌∙◌, subst, arith, add-one}
+use Rattle.std.proofs.Common.{◌≡◌, ℕ, zero, suc, ◌+◌, ◌-◌, ◌*◌, ◌/◌, ◌%◌, ◌<◌, ◌≤◌, Bool, true, false, ◌==◌, if◌then◌else◌, List, Option, Some, None, slice_get, nat_lt, ◌⊎◌, inl, inr, refl, sym, ap, ◌∙◌, subst, arith}
 use Rattle.std.specs.Prelude.{IsTrue, is_some}
 use Rattle.std.specs.Option.{option_and_then}
 use Rattle.std.proofs.lemmas.Bool.{false≢true, cases_order}
 use Rattle.std.proofs.lemmas.Bool.Decides.{nat_tests}
-use Rattle.std.proofs.lemmas.Option.{none-some, same_Some}
 use Rattle.rmm_spec.specs.declared.entry.Entry.{Entry}
 use Rattle.rmm_spec.specs.declared.entry.Entry.TheVariants.{Unassigned, Assigned, Table, UnassignedNs, AssignedNs}
 use Rattle.rmm_spec.specs.State.{State, RealmRecord}
-use Rattle.rmm_spec.specs.Table.{TableRecord, place_number}
 use Rattle.rmm_spec.specs.TableCells.{leaf_of}
 use Rattle.rmm_spec.specs.Walk.{is_table, linked_entry, entry_at, entry_for, entry_number, table_number, reach}
 use Rattle.rmm_spec.specs.Sound.{IsSound}
-use Rattle.rmm_spec.specs.Cell.{Cell, tables_of, realms_of}
+use Rattle.rmm_spec.specs.Cell.{Cell, tables_of}
 use Rattle.rmm_spec.specs.Flat.{flat_state, table_granule}
 use Rattle.rmm_spec.specs.Shape.{Side, HoldsTable}
 use Rattle.rmm_spec.specs.Local.{HeldCell}
@@ -20,8 +18,8 @@ use Rattle.rmm_spec.proofs.WalkLaws.{table_number-suc, reach-covers, reach-le}
 use Rattle.rmm_sound.proofs.Cases.{both_ways}
 use Rattle.rmm_sound.proofs.Entries.{value_there, entry-leaf, entry-link}
 use Rattle.rmm_sound.proofs.Walked.{table_number-entry}
-use Rattle.shape_laws.proofs.Finds.{table_granule-holds, holds-found}
-use Rattle.shape_laws.proofs.Ties.{entry_leaf, entry_leaf-some, leaf-found, link_or_leaf, entry_there, number-again, at_place, IsTied-shaped}
+use Rattle.shape_laws.proofs.Finds.{holds-found}
+use Rattle.shape_laws.proofs.Ties.{entry_leaf-some, leaf-found, link_or_leaf, entry_there, number-again, at_place, IsTied-shaped}
 use Rattle.walk_laws.specs.SeenState.{table_held, table_placed, entry_in, entry_held, link_of, table_seen, leaf_seen, seen_state}
 use Rattle.walk_laws.proofs.Found.{placed-holds}
 use Rattle.walk_laws.proofs.Wholes.{Whole, state, sound, whole_table}
@@ -39,6 +37,7 @@ whole_holds {granules} {side} {held} w g rd level number holds = record {
   is_number = holds.is_number;
 }
 
+-- a table of the whole is found at its place
 pub whole_found : {granules : ℕ} {side : Side} {held : List HeldCell} (w : Whole granules side held) (g rd level number : ℕ)
     → HoldsTable (tables_of w.cells) g rd level number → table_granule granules (tables_of w.cells) rd level number ≡ Some g
 whole_found {granules} {side} {held} w g rd level number holds =
@@ -76,6 +75,7 @@ linked-own (Table granule) = refl
 linked-own UnassignedNs = refl
 linked-own (AssignedNs page) = refl
 
+-- so is an entry that is no link by itself
 unlinked-own : (e : Entry) → is_table e ≡ false → linked_entry None (if is_table e then None else Some e) ≡ e
 unlinked-own (Table granule) leaf = absurd (false≢true (sym leaf))
 unlinked-own (Unassigned ripas) leaf = refl
@@ -119,12 +119,18 @@ last-unlinked {granules} {side} {held} w g i rd level number (Assigned ripas gra
 last-unlinked {granules} {side} {held} w g i rd level number UnassignedNs holds at end = refl
 last-unlinked {granules} {side} {held} w g i rd level number (AssignedNs page) holds at end = refl
 
--- an entry whose table is held is told as the whole has it
-pub entry-same : {granules : ℕ} {side : Side} {held : List HeldCell} (w : Whole granules side held) (g rd level number : ℕ)
-    → table_placed held rd level (number / 512) ≡ Some g
-    → entry_at (state w) rd level number ≡ entry_at (seen_state granules held) rd level number
+-- the entry of a held table, as it is told and as the whole has it
+pub record HeldEntry (granules : ℕ) (cells : ℕ → Cell) (held : List HeldCell) (rd level number : ℕ) : Type 0 where
+  pub entry : Entry
+  pub found : entry_held held rd level number ≡ Some entry
+  pub whole : entry_at (flat_state granules cells) rd level number ≡ entry
+  pub seen : entry_at (seen_state granules held) rd level number ≡ entry
+
+-- each held table has it
+pub entry-there : {granules : ℕ} {side : Side} {held : List HeldCell} (w : Whole granules side held) (g rd level number : ℕ)
+    → table_placed held rd level (number / 512) ≡ Some g → HeldEntry granules w.cells held rd level number
 unfolding entry_held whole_holds
-entry-same {granules} {side} {held} w g rd level number is =
+entry-there {granules} {side} {held} w g rd level number is =
     let here = placed-holds held rd level (number / 512) g is in
     let holds = whole_holds w g rd level (number / 512) here in
     let low : number % 512 < 512 = omega arith in
@@ -132,8 +138,18 @@ entry-same {granules} {side} {held} w g rd level number is =
     let found : entry_held held rd level number ≡ Some e.0 =
     ap (option_and_then (λ (granule : ℕ). entry_in (number % 512) (table_held held granule))) is
     ∙ (ap (entry_in (number % 512)) here.is_held ∙ e.1) in
-    entry-whole w g rd level number e.0 holds e.1
-    ∙ sym (entry-seen granules held rd level number e.0 found (last-unlinked w g (number % 512) rd level (number / 512) e.0 holds e.1))
+    record {
+      entry = e.0;
+      found = found;
+      whole = entry-whole w g rd level number e.0 holds e.1;
+      seen = entry-seen granules held rd level number e.0 found (last-unlinked w g (number % 512) rd level (number / 512) e.0 holds e.1);
+    }
+
+-- an entry whose table is held is told as the whole has it
+pub entry-same : {granules : ℕ} {side : Side} {held : List HeldCell} (w : Whole granules side held) (g rd level number : ℕ)
+    → table_placed held rd level (number / 512) ≡ Some g
+    → entry_at (state w) rd level number ≡ entry_at (seen_state granules held) rd level number
+entry-same {granules} {side} {held} w g rd level number is = let e = entry-there w g rd level number is in e.whole ∙ sym e.seen
 
 -- ---- walks
 

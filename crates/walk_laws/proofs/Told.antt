@@ -1,21 +1,19 @@
 -- What is held settles a command that walks: each whole that agrees answers it as the state does that the held cells tell of.
-use Rattle.std.proofs.Common.{◌≡◌, ℕ, suc, ◌-◌, ◌/◌, ◌%◌, ◌<◌, ◌≤◌, Bool, true, false, not, ◌&&◌, ◌||◌, ◌==◌, List, [], ◌∷◌, Option, Some, None, Result, Ok, Err, nat_lt, ◌⊎◌, inl, inr, refl, sym, ap, ◌∙◌, subst, arith, eqb-true}
+use Rattle.std.proofs.Common.{◌≡◌, ℕ, suc, ◌-◌, ◌/◌, ◌<◌, ◌≤◌, Bool, true, false, not, ◌&&◌, ◌||◌, ◌==◌, List, [], ◌∷◌, Option, Some, None, Err, ◌⊎◌, inl, inr, refl, sym, ap, ◌∙◌, subst, arith, eqb-true}
 use Rattle.std.specs.Prelude.{IsTrue, is_some}
 use Rattle.std.specs.List.{AllByRecursion, list_all}
-use Rattle.std.proofs.lemmas.Bool.{false≢true, and_parts, or_cases, not-true, ltb-true}
+use Rattle.std.proofs.lemmas.Bool.{false≢true, and_parts, not-true, ltb-true}
 use Rattle.std.proofs.lemmas.Option.{same_Some}
-use Rattle.rmm_spec.specs.declared.accepted.Accepted.{Accepted}
 use Rattle.rmm_spec.specs.declared.call.Call.{Call}
 use Rattle.rmm_spec.specs.declared.call.Call.TheVariants as call
 use Rattle.rmm_spec.specs.declared.entry.Entry.{Entry}
-use Rattle.rmm_spec.specs.declared.entry.Entry.TheVariants.{Unassigned, Assigned, Table, UnassignedNs, AssignedNs}
+use Rattle.rmm_spec.specs.declared.entry.Entry.TheVariants.{Table}
 use Rattle.rmm_spec.specs.declared.reply.Reply.{Reply}
 use Rattle.rmm_spec.specs.declared.tag.Tag.{Tag}
 use Rattle.rmm_spec.specs.declared.tag.Tag.TheVariants as tag
-use Rattle.rmm_spec.specs.State.{State}
 use Rattle.rmm_spec.specs.Lookup.{tag_number, realm_at}
 use Rattle.rmm_spec.specs.Rows.{Needed}
-use Rattle.rmm_spec.specs.Walk.{is_table, entry_for, entry_number, table_number, reach, is_in_use}
+use Rattle.rmm_spec.specs.Walk.{is_table, entry_for, entry_number, table_number, reach}
 use Rattle.rmm_spec.specs.Cell.{tables_of}
 use Rattle.rmm_spec.specs.Flat.{flat_state}
 use Rattle.rmm_spec.specs.Shape.{Side, HoldsTable}
@@ -29,9 +27,9 @@ use Rattle.rmm_sound.proofs.Walked.{table_number-entry}
 use Rattle.shape_laws.proofs.Finds.{table_granule-holds}
 use Rattle.walk_laws.specs.Held.{is_held}
 use Rattle.walk_laws.specs.SeenState.{table_behind, seen_state}
-use Rattle.walk_laws.specs.Walking.{Way, way, way_of, keeps_realm, part_below, is_walk_held, end_entry, is_part_held, is_told, are_told, is_table_error, is_refused_early, is_way_settled}
-use Rattle.walk_laws.proofs.Looks.{SameRec, SameNamed, SameFront, is_linked, SameUse, SameLooks, FrontsAlike, LooksAlike, answer-same, refused-same}
-use Rattle.walk_laws.proofs.Seen.{WalkEnd, tag-same, realm-same, rec-same, told-tag, told-space, walk-end, held-placed, in_use-same}
+use Rattle.walk_laws.specs.Walking.{Way, way, way_of, keeps_realm, part_below, is_walk_held, end_entry, is_part_held, is_told, are_told, is_table_error, is_way_settled}
+use Rattle.walk_laws.proofs.Looks.{SameRec, SameNamed, SameFront, SameUse, FrontsAlike, LooksAlike, answer-same, refused-same}
+use Rattle.walk_laws.proofs.Seen.{WalkEnd, realm-same, rec-same, told-tag, told-space, walk-end, held-placed, in_use-same}
 use Rattle.walk_laws.proofs.Tables.{placed-found}
 use Rattle.walk_laws.proofs.Wholes.{Whole, state, sound}
 
@@ -78,6 +76,7 @@ told-either keeps held n told = elim (told-cases keeps held n told) [
     by true there = refl
     by false there = there
 
+-- a named granule that is told of is the same in each whole
 named-same : {granules : ℕ} {side : Side} {held : List HeldCell} (w : Whole granules side held) (keeps : Bool) (n : Needed) → is_told keeps held n ≡ true
     → SameNamed (state w) (seen_state granules held) n
 named-same {granules} {side} {held} w keeps n told = (told-tag w n.granule n.tag (told-either keeps held n told), by n.tag (λ other. told-held keeps held n other told))
@@ -92,6 +91,7 @@ named-same {granules} {side} {held} w keeps n told = (told-tag w n.granule n.tag
     by tag.Data has = tt
     by tag.Rtt has = tt
 
+-- all of them
 names-same : {granules : ℕ} {side : Side} {held : List HeldCell} (w : Whole granules side held) (keeps : Bool) (names : List Needed) → list_all (is_told keeps held) names ≡ true
     → AllByRecursion (SameNamed (state w) (seen_state granules held)) names
 names-same {granules} {side} {held} w keeps [] told = tt
@@ -105,22 +105,27 @@ names-same {granules} {side} {held} w keeps (n ∷ names) told =
 pub first-told : (told : Needed → Bool) (n : Needed) (names : List Needed) → list_all told (n ∷ names) ≡ true → told n ≡ true
 first-told told n names all = (and_parts (told n) (list_all told names) all).0
 
+-- the first of some, if there is one
 abbrev IsHeadTold : (Needed → Bool) → List Needed → Type 0
 IsHeadTold told [] = Unit {0}
 IsHeadTold told (n ∷ names) = told n ≡ true
 
+-- where all are told of, the first is
 head-told : (told : Needed → Bool) (names : List Needed) → list_all told names ≡ true → IsHeadTold told names
 head-told told [] all = tt
 head-told told (n ∷ names) all = first-told told n names all
 
+-- the first that a command names
 head : (c : Call) (held : List HeldCell) → are_told c held ≡ true → IsHeadTold (is_told (keeps_realm c) held) (named c)
 unfolding are_told
 head c held told = head-told (is_told (keeps_realm c) held) (named c) told
 
+-- the realm that a command walks in, if it walks
 abbrev IsWayTold : Call → List HeldCell → Option Way → Type 0
 IsWayTold c held None = Unit {0}
 IsWayTold c held (Some w) = is_told (keeps_realm c) held (needed w.rd tag.Rd) ≡ true
 
+-- it is the first that the command names
 way-told : (c : Call) (held : List HeldCell) → are_told c held ≡ true → IsWayTold c held (way_of c)
 unfolding named way_of
 way-told (call.RttCreate rd rtt ipa level) held told = head (call.RttCreate rd rtt ipa level) held told
@@ -135,6 +140,7 @@ way-told (call.RttInitRipas rd base top) held told = head (call.RttInitRipas rd 
 way-told (call.RttSetRipas rd rec base top) held told = head (call.RttSetRipas rd rec base top) held told
 way-told _ held told = tt
 
+-- so what rows look up before the walk is the same
 front-same : {granules : ℕ} {side : Side} {held : List HeldCell} (w : Whole granules side held) (c : Call) (route : Way) → are_told c held ≡ true
     → is_told (keeps_realm c) held (needed route.rd tag.Rd) ≡ true → SameFront (state w) (seen_state granules held) c route
 unfolding are_told
@@ -149,6 +155,7 @@ front-same {granules} {side} {held} w c route told realm = record {
 
 -- ---- a table below
 
+-- the child below a link
 link_below : (rd ipa level child : ℕ) (e : Entry) → e ≡ Table child → part_below (call.RttDestroy rd ipa level) e ≡ Some child
 unfolding part_below
 link_below rd ipa level child e is = ap (λ (x : Entry). part_below (call.RttDestroy rd ipa level) x) is

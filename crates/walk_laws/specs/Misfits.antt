@@ -5,7 +5,6 @@ use Rattle.std.specs.List.{list_any}
 use Rattle.rmm_spec.specs.declared.entry.Entry.{Entry}
 use Rattle.rmm_spec.specs.declared.entry.Entry.TheVariants.{Assigned, Table}
 use Rattle.rmm_spec.specs.declared.place.Place.{Place}
-use Rattle.rmm_spec.specs.State.{RealmRecord}
 use Rattle.rmm_spec.specs.Lookup.{is_granule}
 use Rattle.rmm_spec.specs.Walk.{table_size}
 use Rattle.rmm_spec.specs.Table.{TableRecord, entry_index, place_number}

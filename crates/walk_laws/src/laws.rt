@@ -1,6 +1,6 @@
 //! What walks rest on: each law is the contract of a function that does nothing.
 
-ghost use Rattle.std.specs.Prelude.{◌≡◌, ℕ, ◌+◌, ◌||◌, true, List, Ok, is_some};
+ghost use Rattle.std.specs.Prelude.{◌≡◌, ℕ, ◌+◌, ◌≤◌, ◌||◌, true, List, Ok, is_some};
 ghost use Rattle.rmm_spec.specs.declared.accepted.Accepted.TheVariants.{Reaches};
 ghost use Rattle.rmm_spec.specs.declared.accepted.Stretch.{Stretch};
 ghost use Rattle.rmm_spec.specs.declared.call.Call.{Call};
@@ -10,7 +10,7 @@ ghost use Rattle.rmm_spec.specs.declared.tag.Tag.{Tag};
 ghost use Rattle.rmm_spec.specs.Applicable.{CanApply};
 ghost use Rattle.rmm_spec.specs.Call.{call_of};
 ghost use Rattle.rmm_spec.specs.Lookup.{has_tag, rec_at};
-ghost use Rattle.rmm_spec.specs.Walk.{entry_size};
+ghost use Rattle.rmm_spec.specs.Walk.{entry_size, table_number, walk};
 ghost use Rattle.rmm_spec.specs.Step.{answer_of};
 ghost use Rattle.rmm_spec.specs.Step.RealmCall.{ipa_state_get};
 ghost use Rattle.rmm_spec.specs.Step.Ripas.{IsReached};
@@ -72,6 +72,17 @@ pub fn table_changes_are_held()
     ensures { (granules : ℕ) (side : Side) (held : List HeldCell) (cells : ℕ → Cell) (places : ℕ → CpuPlace) (change : Change)
         → IsWellShaped granules side places cells → Agrees cells held → CanApply (flat_state granules cells) change
         → holds_change held change ≡ true → cells_changed granules cells change ≡ put_all cells (table_cells held change) }
+{}
+
+/// Where the table is held at which the walk of a well-shaped whole ends, what is held tells that it ends there: so no more is
+/// taken for it.
+pub fn held_ends_settle()
+    ensures { (granules : ℕ) (side : Side) (held : List HeldCell) (cells : ℕ → Cell) (places : ℕ → CpuPlace) (way : Way)
+        → IsWellShaped granules side places cells → Agrees cells held → way.max ≤ 3
+        → is_some ((flat_state granules cells).table way.rd (walk (flat_state granules cells) way.rd way.ipa way.max).level
+        (table_number (walk (flat_state granules cells) way.rd way.ipa way.max).level way.ipa)) ≡ true
+        → is_held (walk (flat_state granules cells) way.rd way.ipa way.max).granule held ≡ true
+        → is_walk_held granules held way ≡ true }
 {}
 
 /// Cells that are a misfit for a walk are those of no well-shaped whole.

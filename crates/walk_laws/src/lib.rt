@@ -7,4 +7,7 @@
 
 mod laws;
 
-pub use laws::{first_ends_are_reached, held_tables_tell_walks, misfit_walks_have_no_whole, realm_reads_are_told, settled_walks_are_local, table_changes_are_held};
+pub use laws::{
+    first_ends_are_reached, held_ends_settle, held_tables_tell_walks, misfit_walks_have_no_whole,
+    realm_reads_are_told, settled_walks_are_local, table_changes_are_held,
+};

@@ -1,0 +1,216 @@
+-- Where the table is held at which a whole's walk ends, the held cells tell that it ends there.
+use Rattle.std.proofs.Common.{◌≡◌, ℕ, zero, suc, ◌+◌, ◌-◌, ◌*◌, ◌/◌, ◌%◌, ◌<◌, ◌≤◌, Bool, true, false, not, ◌&&◌, ◌||◌, ◌==◌, if◌then◌else◌, List, Option, Some, None, ◌⊎◌, inl, inr, refl, sym, ap, ◌∙◌, subst, arith, eqb-true, eq-eqb}
+use Rattle.std.specs.Prelude.{IsTrue, is_some}
+use Rattle.std.specs.Option.{option_and_then}
+use Rattle.std.proofs.lemmas.Bool.{false≢true, cases_order, and_from}
+use Rattle.std.proofs.lemmas.Bool.Decides.{nat_tests}
+use Rattle.std.proofs.lemmas.Option.{none-some}
+use Rattle.rmm_spec.specs.declared.entry.Entry.{Entry}
+use Rattle.rmm_spec.specs.declared.entry.Entry.TheVariants.{Unassigned, Assigned, Table, UnassignedNs, AssignedNs}
+use Rattle.rmm_spec.specs.State.{State}
+use Rattle.rmm_spec.specs.Walk.{is_table, entry_at, entry_for, entry_number, table_number, reach}
+use Rattle.rmm_spec.specs.Cell.{tables_of}
+use Rattle.rmm_spec.specs.Flat.{flat_state, table_granule}
+use Rattle.rmm_spec.specs.Shape.{Side, HoldsTable}
+use Rattle.rmm_spec.specs.Local.{HeldCell}
+use Rattle.rmm_spec.proofs.WalkLaws.{table_number-suc, reach-le, reach-covers, reach-deepest}
+use Rattle.rmm_sound.proofs.Cases.{nothing_there}
+use Rattle.rmm_sound.proofs.Entries.{entry-link, link_there}
+use Rattle.rmm_sound.proofs.Walked.{table_number-entry}
+use Rattle.shape_laws.proofs.Finds.{table_granule-holds}
+use Rattle.walk_laws.specs.Held.{is_held}
+use Rattle.walk_laws.specs.SeenState.{table_held, table_placed, entry_in, entry_held, link_of, linked_or, table_seen, seen_state}
+use Rattle.walk_laws.specs.Walking.{Way, is_walk_held}
+use Rattle.walk_laws.proofs.Seen.{held-placed}
+use Rattle.walk_laws.proofs.Tables.{placed-found, entry-there, entry-same}
+use Rattle.walk_laws.proofs.Wholes.{Whole, state, sound}
+
+-- ---- tables that are told of
+
+-- below a first level, by the entry above
+seen-below : (held : List HeldCell) (rd up number : ℕ) → table_seen held rd (suc up) number ≡ linked_or (entry_held held rd up number) (table_placed held rd (suc up) number)
+unfolding table_seen
+seen-below held rd up number =
+    let below : (suc up == 0) ≡ false = grind (arith, nat_tests) in
+    let above : suc up - 1 ≡ up = omega arith in
+    rw (below, above) refl
+
+-- at the first level by place alone
+seen-first : (held : List HeldCell) (rd number : ℕ) → table_seen held rd 0 number ≡ table_placed held rd 0 number
+unfolding table_seen
+seen-first held rd number = refl
+
+-- what isn't placed has no entries
+unplaced-entry : (held : List HeldCell) (rd level number : ℕ) → table_placed held rd level (number / 512) ≡ None → entry_held held rd level number ≡ None
+unfolding entry_held
+unplaced-entry held rd level number none = ap (option_and_then (λ (granule : ℕ). entry_in (number % 512) (table_held held granule))) none
+
+-- what has a link is a link
+link-of_table : (e : Entry) (child : ℕ) → link_of e ≡ Some child → is_table e ≡ true
+link-of_table (Table granule) child is = refl
+link-of_table (Unassigned ripas) child is = absurd (none-some child is)
+link-of_table (Assigned ripas granule) child is = absurd (none-some child is)
+link-of_table UnassignedNs child is = absurd (none-some child is)
+link-of_table (AssignedNs page) child is = absurd (none-some child is)
+
+-- an entry that links has a table below
+no_link : {granules : ℕ} {side : Side} {held : List HeldCell} (w : Whole granules side held) (rd ipa level g : ℕ) → level ≤ 3
+    → (state w).table rd level (table_number level ipa) ≡ Some g → (state w).table rd (suc level) (table_number (suc level) ipa) ≡ None
+    → is_table (entry_for (state w) rd level ipa) ≡ false
+no_link {granules} {side} {held} w rd ipa level g last here none = by (is_table (entry_for (state w) rd level ipa)) refl
+  where
+    table : IsTrue (is_some ((state w).table rd level (entry_number level ipa / 512)))
+    table = ap (λ (o : Option ℕ). is_some o) (ap ((state w).table rd level) (sym (table_number-entry level ipa last)) ∙ here)
+
+    by : (b : Bool) → is_table (entry_for (state w) rd level ipa) ≡ b → b ≡ false
+    by false is = refl
+    by true is =
+        let link = link_there (state w) (sound w) rd level (entry_number level ipa) table is in
+        nothing_there none (ap ((state w).table rd (suc level)) (table_number-suc level ipa) ∙ link.1)
+
+-- ---- the walk's end
+
+record IsEnd (granules : ℕ) (side : Side) (held : List HeldCell) (w : Whole granules side held) (rd ipa max level g : ℕ) : Type 0 where
+  is_level : reach (flat_state granules w.cells) rd ipa max ≡ level
+  last : max ≤ 3
+  found : (flat_state granules w.cells).table rd level (table_number level ipa) ≡ Some g
+  has : IsTrue (is_held g held)
+
+-- the end is found among the held tables
+end-placed : {granules : ℕ} {side : Side} {held : List HeldCell} (w : Whole granules side held) (rd ipa max level g : ℕ) → IsEnd granules side held w rd ipa max level g
+    → (f : ℕ) × (table_placed held rd level (table_number level ipa) ≡ Some f)
+unfolding flat_state
+end-placed {granules} {side} {held} w rd ipa max level g end =
+    held-placed w g rd level (table_number level ipa) end.has
+    (table_granule-holds granules (tables_of w.cells) rd level (table_number level ipa) g end.found)
+
+-- nothing is told of below
+none-deeper : {granules : ℕ} {side : Side} {held : List HeldCell} (w : Whole granules side held) (rd ipa max level g : ℕ) → IsEnd granules side held w rd ipa max level g
+    → (up : ℕ) → level ≤ up → suc up ≤ max → table_seen held rd (suc up) (table_number (suc up) ipa) ≡ None
+none-deeper {granules} {side} {held} w rd ipa max level g end up under within =
+    seen-below held rd up (table_number (suc up) ipa)
+    ∙ (by (table_placed held rd (suc up) (table_number (suc up) ipa)) refl (table_placed held rd up (table_number (suc up) ipa / 512)) refl)
+  where
+    deepest : (deeper : ℕ) → level < deeper → deeper ≤ max → (state w).table rd deeper (table_number deeper ipa) ≡ None
+    deepest deeper less most = reach-deepest (state w) rd ipa max deeper (subst (λ l. l < deeper) (sym end.is_level) less) most
+
+    last : up ≤ 3
+    last = let most = end.last in omega (arith, most, within)
+
+    number : table_number (suc up) ipa / 512 ≡ table_number up ipa
+    number = ap (λ n. n / 512) (table_number-suc up ipa) ∙ sym (table_number-entry up ipa last)
+
+    none : (state w).table rd (suc up) (table_number (suc up) ipa) ≡ None
+    none = deepest (suc up) (omega (arith, under)) within
+
+    unlinked : (f : ℕ) → table_placed held rd up (table_number (suc up) ipa / 512) ≡ Some f → (o : Option ℕ) → table_placed held rd (suc up) (table_number (suc up) ipa) ≡ o
+        → linked_or (entry_held held rd up (table_number (suc up) ipa)) o ≡ None
+    unlinked f placed o is =
+        let e = entry-there w f rd up (table_number (suc up) ipa) placed in
+        let here = placed-found w rd up (table_number up ipa) f (ap (table_placed held rd up) (sym number) ∙ placed) in
+        let leaf = no_link w rd ipa up f last here none in
+        let whole : entry_for (state w) rd up ipa ≡ e.entry = ap (entry_at (state w) rd up) (sym (table_number-suc up ipa)) ∙ e.whole in
+        ap (λ x. linked_or x o) e.found ∙ of_leaf (link_of e.entry) refl (ap is_table (sym whole) ∙ leaf)
+      where
+        of_leaf : (l : Option ℕ) → link_of (entry-there w f rd up (table_number (suc up) ipa) placed).entry ≡ l
+            → is_table (entry-there w f rd up (table_number (suc up) ipa) placed).entry ≡ false → l ≡ None
+        of_leaf None link leaf = refl
+        of_leaf (Some child) link leaf =
+            absurd (false≢true (sym leaf ∙ link-of_table (entry-there w f rd up (table_number (suc up) ipa) placed).entry child link))
+
+    by : (o : Option ℕ) → table_placed held rd (suc up) (table_number (suc up) ipa) ≡ o → (p : Option ℕ) → table_placed held rd up (table_number (suc up) ipa / 512) ≡ p
+        → linked_or (entry_held held rd up (table_number (suc up) ipa)) o ≡ None
+    by (Some f) is p placed = nothing_there none (placed-found w rd (suc up) (table_number (suc up) ipa) f is)
+    by None is None placed = ap (λ x. linked_or x None) (unplaced-entry held rd up (table_number (suc up) ipa) placed)
+    by None is (Some f) placed = unlinked f placed None is
+
+-- the end itself is told of
+end-seen : {granules : ℕ} {side : Side} {held : List HeldCell} (w : Whole granules side held) (rd ipa max g : ℕ) (level : ℕ) → IsEnd granules side held w rd ipa max level g
+    → is_some (table_seen held rd level (table_number level ipa)) ≡ true
+end-seen {granules} {side} {held} w rd ipa max g zero end =
+    ap (λ (o : Option ℕ). is_some o) (seen-first held rd (table_number 0 ipa) ∙ (end-placed w rd ipa max 0 g end).1)
+end-seen {granules} {side} {held} w rd ipa max g (suc up) end =
+    ap (λ (o : Option ℕ). is_some o) (seen-below held rd up (table_number (suc up) ipa)) ∙ by (table_placed held rd up (table_number (suc up) ipa / 512)) refl
+  where
+    placed : (f : ℕ) × (table_placed held rd (suc up) (table_number (suc up) ipa) ≡ Some f)
+    placed = end-placed w rd ipa max (suc up) g end
+
+    by : (p : Option ℕ) → table_placed held rd up (table_number (suc up) ipa / 512) ≡ p
+        → is_some (linked_or (entry_held held rd up (table_number (suc up) ipa)) (table_placed held rd (suc up) (table_number (suc up) ipa))) ≡ true
+    by None is = ap is_some (ap (λ e. linked_or e (table_placed held rd (suc up) (table_number (suc up) ipa))) (unplaced-entry held rd up (table_number (suc up) ipa) is) ∙ placed.1)
+    by (Some f) is =
+        let e = entry-there w f rd up (table_number (suc up) ipa) is in
+        let link : e.entry ≡ Table g = sym e.whole ∙ entry-link (state w) (sound w) rd up (table_number (suc up) ipa) g end.found in
+        ap (λ x. is_some (linked_or x (table_placed held rd (suc up) (table_number (suc up) ipa)))) e.found ∙ ap (λ x. is_some (link_of x)) link
+
+-- the tables of the state that is told of
+seen_table : (granules : ℕ) (held : List HeldCell) (rd level number : ℕ) → (seen_state granules held).table rd level number ≡ table_seen held rd level number
+unfolding seen_state
+seen_table granules held rd level number = refl
+
+-- so the walk that the held cells tell of ends there
+end-reached : {granules : ℕ} {side : Side} {held : List HeldCell} (w : Whole granules side held) (rd ipa max level g : ℕ) → IsEnd granules side held w rd ipa max level g
+    → reach (seen_state granules held) rd ipa max ≡ level
+end-reached {granules} {side} {held} w rd ipa max level g end =
+    let t = seen_state granules held in
+    let there = ap (λ (o : Option ℕ). is_some o) (seen_table granules held rd level (table_number level ipa)) ∙ end-seen w rd ipa max g level end in
+    let within : level ≤ max = subst (λ l. l ≤ max) end.is_level (reach-le (state w) rd ipa max) in
+    let reached = reach-covers t rd ipa level max there within in
+    by (cases_order level (reach t rd ipa max)) reached.0 reached.1
+  where
+    by : (level ≡ reach (seen_state granules held) rd ipa max) ⊎ ((level < reach (seen_state granules held) rd ipa max) ⊎ (reach (seen_state granules held) rd ipa max < level))
+        → level ≤ reach (seen_state granules held) rd ipa max
+        → is_some ((seen_state granules held).table rd (reach (seen_state granules held) rd ipa max) (table_number (reach (seen_state granules held) rd ipa max) ipa)) ≡ true
+        → reach (seen_state granules held) rd ipa max ≡ level
+    by (inl same) least there = sym same
+    by (inr (inr more)) least there = absurd (omega (arith, more, least))
+    by (inr (inl less)) least there =
+        let deep = reach (seen_state granules held) rd ipa max in
+        let up = deep - 1 in
+        let is : suc up ≡ deep = omega (arith, less) in
+        let most = reach-le (seen_state granules held) rd ipa max in
+        let none = none-deeper w rd ipa max level g end up (omega (arith, less)) (omega (arith, is, most)) in
+        absurd (false≢true (ap (λ (o : Option ℕ). is_some o) (sym (subst (λ d. table_seen held rd d (table_number d ipa) ≡ None) is none))
+        ∙ (ap (λ (o : Option ℕ). is_some o) (sym (seen_table granules held rd deep (table_number deep ipa))) ∙ there)))
+
+-- so the walk is held
+pub end-held : {granules : ℕ} {side : Side} {held : List HeldCell} (w : Whole granules side held) (way : Way) (g : ℕ) → way.max ≤ 3
+    → (state w).table way.rd (reach (state w) way.rd way.ipa way.max) (table_number (reach (state w) way.rd way.ipa way.max) way.ipa) ≡ Some g → IsTrue (is_held g held)
+    → is_walk_held granules held way ≡ true
+unfolding is_walk_held
+end-held {granules} {side} {held} w way g last found has =
+    subst (λ l. (is_some (table_placed held way.rd l (table_number l way.ipa)) && (l == way.max || not (is_table (entry_for (seen_state granules held) way.rd l way.ipa)))) ≡ true)
+    (sym (end-reached w way.rd way.ipa way.max level g end))
+    (and_from (is_some (table_placed held way.rd level (table_number level way.ipa)))
+    (level == way.max || not (is_table (entry_for (seen_state granules held) way.rd level way.ipa)))
+    (ap (λ (o : Option ℕ). is_some o) placed.1) (by (level == way.max) refl))
+  where
+    level : ℕ
+    level = reach (state w) way.rd way.ipa way.max
+
+    end : IsEnd granules side held w way.rd way.ipa way.max level g
+    end = record { is_level = refl; last = last; found = found; has = has }
+
+    placed : (f : ℕ) × (table_placed held way.rd level (table_number level way.ipa) ≡ Some f)
+    placed = end-placed w way.rd way.ipa way.max level g end
+
+    within : level ≤ way.max
+    within = reach-le (state w) way.rd way.ipa way.max
+
+    low : level ≤ 3
+    low = omega (arith, within, last)
+
+    number : entry_number level way.ipa / 512 ≡ table_number level way.ipa
+    number = sym (table_number-entry level way.ipa low)
+
+    leaf : (level == way.max) ≡ false → is_table (entry_for (seen_state granules held) way.rd level way.ipa) ≡ false
+    leaf apart =
+        let differ : level ≡ way.max → ⊥ = λ same. false≢true (sym apart ∙ eq-eqb level way.max same) in
+        let next : level < suc level = omega arith in
+        let none = reach-deepest (state w) way.rd way.ipa way.max (suc level) next (omega (arith, differ, within)) in
+        ap is_table (sym (entry-same w placed.0 way.rd level (entry_number level way.ipa) (ap (table_placed held way.rd level) number ∙ placed.1)))
+        ∙ no_link w way.rd way.ipa level g low found none
+
+    by : (b : Bool) → (level == way.max) ≡ b → (b || not (is_table (entry_for (seen_state granules held) way.rd level way.ipa))) ≡ true
+    by true same = refl
+    by false apart = ap not (leaf apart)
