@@ -43,4 +43,3 @@ made-answered granules cpu command hold (Ok (Done words change)) can each = by (
         let s = state granules cpu hold w in
         let applies = done_applies s cpu command words.items change (well_shaped-is_sound granules hold.side w.places w.cells w.shaped) (each w) in
         false≢true (sym unfit ∙ applied-fits granules cpu hold w change applies can))
-

@@ -48,13 +48,13 @@ pub fn decide<H: Held>(
 
 // The answer of what is settled.
 #[tactic(auto, unfolding(crate::specs::Decided::settled_answer))]
-fn settled_answer<H: Held>(
-    config: &Config,
+fn settled_answer<'a, H: Held>(
+    config: &'a Config,
     call: &Call,
     cpu: u8,
     place: &CpuPlace,
-    held: &H,
-    side: &Side,
+    held: &'a H,
+    side: &'a Side,
 ) -> Result<Accepted, Reply>
     requires { IsTrue (is_settled config.now.granules call.now (place_of place.now) (H.cells held.now)) }
     ensures answer { result ≡ spec.settled_answer config.now.granules cpu call.now (H.cells held.now) (side_of side.now) (place_of place.now) }

@@ -276,6 +276,23 @@ fn next_for<H: Held>(
     }
 }
 
+fn next_held<'a, H: Held>(
+    config: &'a Config,
+    call: &Call,
+    place: &CpuPlace,
+    learnt: Option<Pa>,
+    held: &'a H,
+) -> Next
+    ensures { result ≡ spec.next config.now.granules call.now (place_of place.now) learnt (H.cells held.now) }
+{
+    let sight = HeldSight {
+        config,
+        held,
+        side: None,
+    };
+    next_for(&sight, call, place, learnt)
+}
+
 /// What a CPU at this place does next for a served command, whatever it holds. What it has learnt is what the last free of
 /// this call learnt, and nothing before the first.
 pub fn next_lock<H: Held>(
@@ -290,10 +307,5 @@ pub fn next_lock<H: Held>(
     ensures settled { is_settled config.now.granules (call_of command.now) (place_of place.now) (H.cells held.now) ≡ is_ready result }
     ensures planned { IsPlanned config.now.granules command.now (place_of place.now) learnt (H.cells held.now) result }
 {
-    let sight = HeldSight {
-        config,
-        held,
-        side: None,
-    };
-    next_for(&sight, &command.call(), place, learnt)
+    next_held(config, &command.call(), place, learnt, held)
 }

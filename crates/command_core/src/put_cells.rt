@@ -224,7 +224,7 @@ struct NewCell {
 
 // What becomes of a realm, where it is changed.
 fn realm_after<H: Held>(held: &H, change: Option<RealmChange>) -> Option<NewCell>
-    requires { IsTrue (fits_realm_change (H.cells held) change) }
+    requires { IsTrue (fits_realm_change (H.cells held.now) change) }
     ensures { new_cell result ≡ realm_cells (H.cells held.now) change }
 {
     match change {
@@ -238,7 +238,7 @@ fn realm_after<H: Held>(held: &H, change: Option<RealmChange>) -> Option<NewCell
 
 // What becomes of a REC, where it is changed.
 fn rec_after<H: Held>(held: &H, change: Option<RecChange>) -> Option<NewCell>
-    requires { IsTrue (fits_rec_change (H.cells held) change) }
+    requires { IsTrue (fits_rec_change (H.cells held.now) change) }
     ensures { new_cell result ≡ rec_cells (H.cells held.now) change }
 {
     match change {
@@ -382,7 +382,7 @@ fn place_below(rd: u64, level: u8, number: u64, width: u8) -> Place
 
 // The width of the table in a granule.
 fn width_in<H: Held>(held: &H, granule: u64) -> u8
-    requires { IsTrue (is_some (table_held (H.cells held) granule)) }
+    requires { IsTrue (is_some (table_held (H.cells held.now) granule)) }
     ensures { result ≡ spec_whole.width_in (known_cell (H.cells held.now) granule) }
 {
     let Some(table) = table_in(held, Pa::new(granule)) else {

@@ -151,7 +151,12 @@ fn is_settled_inside<H: Held>(sight: &HeldSight<'_, H>, call: &Call, rec: Pa, rd
 
 /// Whether what is held settles a command.
 #[tactic(auto, unfolding(crate::specs::Settled::is_settled))]
-pub(crate) fn is_settled<H: Held>(config: &Config, call: &Call, place: &CpuPlace, held: &H) -> bool
+pub(crate) fn is_settled<'a, H: Held>(
+    config: &'a Config,
+    call: &Call,
+    place: &CpuPlace,
+    held: &'a H,
+) -> bool
     ensures { result ≡ spec.is_settled config.now.granules call.now (place_of place.now) (H.cells held.now) }
 {
     let sight = HeldSight {
