@@ -28,7 +28,7 @@ use Rattle.command_rows.proofs.Outcomes.{outcome-outside, outcome-inside}
 use Rattle.walk_laws.specs.SeenState.{seen_state}
 use Rattle.rmm_spec.specs.Step.Ripas.{reached_change}
 use Rattle.rmm_spec.specs.declared.change.Change.{Change}
-use Rattle.command_core.proofs.Walked.{walk-ready, taken-way}
+use Rattle.command_core.proofs.Walked.{walk-ready, taken-way, untaken-way}
 use Rattle.command_core.proofs.Made.{refused, no_whole, made-answered}
 use Rattle.command_core.specs.Furthest.{furthest}
 use Rattle.command_core.specs.Sides.{is_vmid_listed, are_recs_counted}
@@ -93,7 +93,7 @@ host-ready granules cpu command hold served host place shaped settled =
             → IsAnswer granules cpu command hold (made_answer granules hold.cells hold.side (told_outside granules cpu hold (call_of command)))
         all_held (Some way) is fit over = walk-ready granules cpu command hold way (taken-way (call_of command) way is) place over
         all_held None is fit complete =
-            let told = complete-told granules cpu hold (call_of command) served host fit complete in
+            let told = complete-told granules cpu hold (call_of command) (untaken-way granules (call_of command) fit is) host fit complete in
             made-answered granules cpu command hold (told_outside granules cpu hold (call_of command)) told.can
             (λ w. sym (outcome-outside (state granules cpu hold w) cpu (call_of command)
             (is_inside-outside granules hold.side w.places w.cells w.shaped cpu (w.placed ∙ place))) ∙ told.same w)
@@ -135,7 +135,7 @@ settled-answered granules cpu command hold served settled = by (is_unshaped gran
     inside : (rec rd : ℕ) → hold.place ≡ Inside rec rd → is_misfit granules c rec rd hold.cells ≡ false
         → is_settled_inside (class_of c) granules c rec rd hold.cells ≡ true → IsAnswer granules cpu command hold (told (Inside rec rd))
     inside rec rd place fits is =
-        let answer = fitting-told granules cpu hold rec rd c served place fits is in
+        let answer = fitting-told granules cpu hold rec rd c place fits is in
         made-answered granules cpu command hold (inside_answer (seen_state granules hold.cells) rec c) answer.can
         (λ w.
         let s = state granules cpu hold w in

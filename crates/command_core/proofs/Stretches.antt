@@ -1,6 +1,7 @@
 -- The end that is chosen for a stretch is one that its rows allow, and the greatest.
-use Rattle.std.proofs.Common.{◌≡◌, ℕ, zero, suc, ◌+◌, ◌-◌, ◌*◌, ◌/◌, ◌<◌, ◌≤◌, min, Bool, true, false, ◌&&◌, ◌==◌, if◌then◌else◌, refl, sym, ap, ◌∙◌, subst, arith, eqb-true, eq-eqb, mul-le-mul_right, div-mul-le_self}
+use Rattle.std.proofs.Common.{◌≡◌, ℕ, zero, suc, ◌+◌, ◌-◌, ◌*◌, ◌/◌, ◌<◌, ◌≤◌, min, Bool, true, false, ◌&&◌, ◌==◌, if◌then◌else◌, refl, sym, ap, ◌∙◌, subst, arith, eqb-true, eq-eqb, add-one, mul-le-mul_right, div-mul-le_self}
 use Rattle.std.proofs.lemmas.Bool.{false≢true, and_parts}
+use Rattle.std.proofs.lemmas.Bool.Decides.{nat_tests}
 use Rattle.std.proofs.lemmas.Nat.{le-div, pow_pos}
 use Rattle.rmm_spec.specs.declared.accepted.Stretch.{Stretch}
 use Rattle.rmm_spec.specs.State.{State}
@@ -59,6 +60,40 @@ leading-most (suc n) p c within each = by (c == suc n) refl
         let apart : (c ≡ suc n → ⊥) = λ same. false≢true (sym is ∙ eq-eqb c (suc n) same) in
         longer (leading n p == n && p n) refl (leading-most n p c (omega (arith, apart, within)) each)
 
+-- one number more passes
+pub leading-more : (n : ℕ) (p : ℕ → Bool) → leading n p ≡ n → p n ≡ true → leading (n + 1) p ≡ n + 1
+leading-more n p all next =
+    let whole : (leading n p == n && p n) ≡ true = rw (eq-eqb (leading n p) n all) next in
+    rw (← add-one n) (rw whole refl)
+
+by_and : (b c : Bool) → c ≡ false → (b && c) ≡ false
+by_and true c fails = fails
+by_and false c fails = refl
+
+-- the first that doesn't pass ends the run
+pub leading-ends : (n : ℕ) (p : ℕ → Bool) (k : ℕ) → k < n → leading k p ≡ k → p k ≡ false → k ≡ leading n p
+leading-ends zero p k within all stops = absurd (omega (arith, within))
+leading-ends (suc n) p k within all stops = by (k == n) refl
+  where
+    ended : (leading n p == n && p n) ≡ false → k ≡ leading n p → k ≡ (if leading n p == n && p n then suc n else leading n p)
+    ended fails is = rw fails is
+
+    short : k ≡ leading n p → k < n → (leading n p == n && p n) ≡ false
+    short is less =
+        let apart : (leading n p == n) ≡ false = grind (arith, nat_tests, is, less) in
+        rw apart refl
+
+    by : (b : Bool) → (k == n) ≡ b → k ≡ (if leading n p == n && p n then suc n else leading n p)
+    by true same =
+        let at = eqb-true k n same in
+        let is : k ≡ leading n p = subst (λ x. k ≡ leading x p) at (sym all) in
+        let fails : (leading n p == n && p n) ≡ false = subst (λ x. (leading n p == n && p x) ≡ false) at (by_and (leading n p == n) (p k) stops) in
+        ended fails is
+    by false apart =
+        let other : (k ≡ n → ⊥) = λ same. false≢true (sym apart ∙ eq-eqb k n same) in
+        let less : k < n = omega (arith, other, within) in
+        let is = leading-ends n p k less all stops in
+        ended (short is less) is
 -- ---- stretches
 
 unit-some : (level : ℕ) → 0 < entry_size level

@@ -16,7 +16,7 @@ use Rattle.rmm_spec.specs.declared.reply.Reply.{Reply}
 use Rattle.rmm_spec.specs.declared.reply.Reply.TheVariants.{Misplaced}
 use Rattle.rmm_spec.specs.Call.{call_of, class_of}
 use Rattle.rmm_spec.specs.State.{State}
-use Rattle.rmm_spec.specs.Rows.{ok, done}
+use Rattle.rmm_spec.specs.Rows.{ok, done, Needed}
 use Rattle.rmm_spec.specs.Walk.{entry_size, table_number}
 use Rattle.rmm_spec.specs.Step.{answer_of, outcome}
 use Rattle.rmm_spec.specs.Step.Ripas.{IsReached, stretch_change, reached_change}
@@ -27,7 +27,7 @@ use Rattle.rmm_sound.proofs.Runs.{reached_applies}
 use Rattle.world_laws.proofs.Refusals.{outcome-host}
 use Rattle.shape_laws.specs.Whole.{side_changed}
 use Rattle.shape_laws.proofs.Ties.{well_shaped-is_sound}
-use Rattle.command_rows.specs.Answers.{outside_answer}
+use Rattle.command_rows.specs.Answers.{outside_answer, IsOwned}
 use Rattle.walk_laws.specs.SeenState.{table_placed, seen_state}
 use Rattle.walk_laws.specs.TableCells.{holds_change, tables_changed}
 use Rattle.walk_laws.specs.Walking.{Way, way_of, keeps_realm, are_told, is_table_error, is_refused_early, seen_answer, is_way_settled}
@@ -38,6 +38,9 @@ use Rattle.walk_laws.proofs.Told.{walk-told, early-told}
 use Rattle.std.specs.List.{list_all}
 use Rattle.rmm_spec.specs.Step.Words.{words_of}
 use Rattle.std.proofs.lemmas.Option.{none-some}
+use Rattle.rmm_spec.specs.Lookup.{is_granule}
+use Rattle.rmm_spec.specs.Step.Named.{named}
+use Rattle.command_core.specs.Named.{words_fit}
 use Rattle.command_core.specs.Changed.{new_cells, new_place, hold_changed, CanChange, IsAnswer, can_make}
 use Rattle.command_core.specs.Decided.{made_answer}
 use Rattle.command_core.specs.Furthest.{furthest}
@@ -59,6 +62,13 @@ taken-way c w is = by (list_all (λ allowed. allowed) (words_of c)) is
     by : (b : Bool) → (if b then way_of c else None) ≡ Some w → way_of c ≡ Some w
     by true way = way
     by false way = absurd (none-some w way)
+
+-- where the words are allowed and it walks nowhere, it is one that never does
+pub untaken-way : (granules : ℕ) (c : Call) → words_fit granules c ≡ true → way_taken c ≡ None → way_of c ≡ None
+unfolding way_taken words_fit
+untaken-way granules c fits none =
+    let allowed = (and_parts (list_all (λ allowed. allowed) (words_of c)) (list_all (λ (n : Needed). is_granule granules n.granule) (named c)) fits).0 in
+    subst (λ b. (if b then way_of c else None) ≡ None) allowed none
 
 -- ---- what is changed
 
@@ -137,10 +147,16 @@ ends-answered granules cpu command hold (Ok (Reaches stretch)) told settled is e
 -- ---- any walk
 
 -- the side table tells nothing that a walk asks
-outside-walk : (vmids recs : ℕ → Bool) (s : State) (cpu : ℕ) (c : Call) → is_some (way_of c) ≡ true → answer_of s cpu c ≡ outside_answer vmids recs s cpu c
+pub outside-walk : (vmids recs : ℕ → Bool) (s : State) (cpu : ℕ) (c : Call) → is_some (way_of c) ≡ true → answer_of s cpu c ≡ outside_answer vmids recs s cpu c
 unfolding outside_answer way_of class_of
 outside-walk vmids recs s cpu (call.RttCreate rd rtt ipa level) walks = refl
 outside-walk vmids recs s cpu _ walks = cc
+
+-- no command that walks enters a REC
+pub owned-walk : (s : State) (c : Call) → is_some (way_of c) ≡ true → IsOwned s c
+unfolding way_of
+owned-walk s (call.RecEnter rec) walks = absurd (false≢true walks)
+owned-walk s _ walks = tt
 
 pub walk-ready : (granules cpu : ℕ) (command : Command) (hold : Hold) (way : Way) → way_of (call_of command) ≡ Some way → hold.place ≡ Outside
     → is_walk_over granules (call_of command) hold.cells way ≡ true
