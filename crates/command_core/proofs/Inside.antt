@@ -26,6 +26,7 @@ use Rattle.command_rows.specs.Answers.{IsInsideBy, class_answer, inside_answer}
 use Rattle.walk_laws.specs.Walking.{way, is_walk_held, is_refused_early}
 use Rattle.walk_laws.proofs.Settled.{get-told}
 use Rattle.rmm_spec.specs.Walk.{half, is_protected}
+use Rattle.rmm_spec.specs.declared.accepted.Accepted.{Accepted}
 use Rattle.command_core.specs.Seen.{cell_in, is_held}
 use Rattle.walk_laws.specs.SeenState.{seen_state, table_behind}
 use Rattle.command_core.specs.Changed.{new_cells, CanAnswer}
@@ -191,12 +192,12 @@ or_second false c is = is
 refused-get : (t : State) (rec rd ipa : ℕ) (realm : RealmRecord) → (rec_at t rec).owner ≡ rd → realm_at t rd ≡ realm → is_protected realm ipa ≡ false
     → is_refused_early (ipa_state_get t rec ipa) ≡ true
 unfolding ipa_state_get words_of named
-refused-get t rec rd ipa realm owner at unprotected = rw (owner, at) (by (is_page ipa) (nat_lt ipa (half realm)) unprotected)
+refused-get t rec rd ipa realm owner at unprotected = rw (owner, at) (by _ (is_page ipa) (nat_lt ipa (half realm)) unprotected)
   where
-    by : (b d : Bool) → (b && d) ≡ false → is_refused_early (if b then (if d then Ok _ else Err input_error) else Err input_error) ≡ true
-    by true true is = absurd (false≢true (sym is))
-    by true false is = refl
-    by false d is = refl
+    by : (a : Accepted) (b d : Bool) → (b && d) ≡ false → is_refused_early (if b then (if d then Ok a else Err input_error) else Err input_error) ≡ true
+    by a true true is = absurd (false≢true (sym is))
+    by a true false is = refl
+    by a false d is = refl
 
 row-told : (granules cpu : ℕ) (hold : Hold) (rec rd : ℕ) (c : Call) (w : Whole granules cpu hold) → is_misfit granules c rec rd hold.cells ≡ false
     → is_settled_inside ByRealm granules c rec rd hold.cells ≡ true

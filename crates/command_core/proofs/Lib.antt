@@ -18,5 +18,6 @@ pub mod Made
 pub mod Walked
 pub mod Ready
 pub mod Steps
+pub mod Puts
 pub mod PlainCells
 pub mod NewRoots

@@ -223,12 +223,12 @@ parts-steps granules c (Some rd) held distinct locks shaped incomplete = plain-s
 -- the first that is held and passes is held
 first-held : (p : ℕ → Bool) (gs : List ℕ) (g : ℕ) → fold (found_or p) None gs ≡ Some g → Contains gs g
 first-held p [] g is = absurd (none-some g is)
-first-held p (x ∷ gs) g is = by (p x) refl is
+first-held p (x ∷ gs) g is = by (p x) is (first-held p gs g)
   where
-    by : (b : Bool) → p x ≡ b → fold (found_or p) (if b then Some x else None) gs ≡ Some g → Contains (x ∷ gs) g
-    by true passes found =
+    by : (b : Bool) → fold (found_or p) (if b then Some x else None) gs ≡ Some g → (fold (found_or p) None gs ≡ Some g → Contains gs g) → Contains (x ∷ gs) g
+    by true found rest =
         subst (Contains (x ∷ gs)) (same_Some x g (sym (fold_stays (found_or p) (Some x) (λ y. refl) gs) ∙ found)) (Contains-head x gs)
-    by false fails found = Contains-tail x gs g (first-held p gs g found)
+    by false found rest = Contains-tail x gs g (rest found)
 
 -- what the plan frees is held
 spare-held : (granules : ℕ) (keeps : Bool) (held : List HeldCell) (w : Way) (g : ℕ) → spare granules keeps held w ≡ Some g → Contains (granules_held held) g

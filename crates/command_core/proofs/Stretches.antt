@@ -1,6 +1,6 @@
 -- The end that is chosen for a stretch is one that its rows allow, and the greatest.
 use Rattle.std.proofs.Common.{◌≡◌, ℕ, zero, suc, ◌+◌, ◌-◌, ◌*◌, ◌/◌, ◌<◌, ◌≤◌, min, Bool, true, false, ◌&&◌, ◌==◌, if◌then◌else◌, refl, sym, ap, ◌∙◌, subst, arith, eqb-true, eq-eqb, add-one, mul-le-mul_right, div-mul-le_self}
-use Rattle.std.proofs.lemmas.Bool.{false≢true, and_parts}
+use Rattle.std.proofs.lemmas.Bool.{false≢true, and_parts, and_from}
 use Rattle.std.proofs.lemmas.Bool.Decides.{nat_tests}
 use Rattle.std.proofs.lemmas.Nat.{le-div, pow_pos}
 use Rattle.rmm_spec.specs.declared.accepted.Stretch.{Stretch}
@@ -21,44 +21,41 @@ leading-le (suc n) p = by (leading n p == n && p n) (leading-le n p)
 
 leading-each : (n : ℕ) (p : ℕ → Bool) (k : ℕ) → k < leading n p → p k ≡ true
 leading-each zero p k less = absurd (omega (arith, less))
-leading-each (suc n) p k less = by (leading n p == n && p n) refl less
+leading-each (suc n) p k less = by (leading n p == n && p n) refl less (leading-each n p k)
   where
-    here : (c : Bool) → (k == n) ≡ c → (leading n p ≡ n) × (p n ≡ true) → k < suc n → p k ≡ true
-    here true same parts within = ap p (eqb-true k n same) ∙ parts.1
-    here false apart parts within =
+    here : (c : Bool) → (k == n) ≡ c → leading n p ≡ n → p n ≡ true → k < suc n → (k < leading n p → p k ≡ true) → p k ≡ true
+    here true same all next within rest = ap p (eqb-true k n same) ∙ next
+    here false apart all next within rest =
         let below : (k ≡ n → ⊥) = λ same. false≢true (sym apart ∙ eq-eqb k n same) in
-        let all = parts.0 in
-        leading-each n p k (omega (arith, below, within, all))
+        rest (omega (arith, below, within, all))
 
-    by : (b : Bool) → (leading n p == n && p n) ≡ b → k < (if b then suc n else leading n p) → p k ≡ true
-    by true both within =
+    by : (b : Bool) → (leading n p == n && p n) ≡ b → k < (if b then suc n else leading n p) → (k < leading n p → p k ≡ true) → p k ≡ true
+    by true both within rest =
         let parts = and_parts (leading n p == n) (p n) both in
-        here (k == n) refl (eqb-true (leading n p) n parts.0, parts.1) within
-    by false stops within = leading-each n p k within
+        here (k == n) refl (eqb-true (leading n p) n parts.0) parts.1 within rest
+    by false stops within rest = rest within
 
 -- where so many pass, the run is as long
 leading-most : (n : ℕ) (p : ℕ → Bool) (c : ℕ) → c ≤ n → ((k : ℕ) → k < c → p k ≡ true) → c ≤ leading n p
 leading-most zero p c within each = omega (arith, within)
-leading-most (suc n) p c within each = by (c == suc n) refl
+leading-most (suc n) p c within each = by (c == suc n) refl (leading-most n p)
   where
-    longer : (b : Bool) → (leading n p == n && p n) ≡ b → c ≤ leading n p → c ≤ (if b then suc n else leading n p)
-    longer true is rest = let few = leading-le n p in omega (arith, rest, few)
-    longer false is rest = rest
+    longer : (b : Bool) → c ≤ leading n p → c ≤ (if b then suc n else leading n p)
+    longer true rest = let few = leading-le n p in omega (arith, rest, few)
+    longer false rest = rest
 
-    whole : c ≡ suc n → (leading n p == n && p n) ≡ true
-    whole same =
-        let rest : n ≤ leading n p = leading-most n p n (omega arith) (λ k less. each k (omega (arith, less, same))) in
-        let few = leading-le n p in
-        let all : leading n p ≡ n = omega (arith, rest, few) in
-        rw (eq-eqb (leading n p) n all) (each n (omega (arith, same)))
-
-    by : (b : Bool) → (c == suc n) ≡ b → c ≤ (if leading n p == n && p n then suc n else leading n p)
-    by true is =
+    by : (b : Bool) → (c == suc n) ≡ b → ((d : ℕ) → d ≤ n → ((k : ℕ) → k < d → p k ≡ true) → d ≤ leading n p)
+        → c ≤ (if leading n p == n && p n then suc n else leading n p)
+    by true is rest =
         let same = eqb-true c (suc n) is in
-        subst (λ b. c ≤ (if b then suc n else leading n p)) (sym (whole same)) (omega (arith, same))
-    by false is =
+        let long : n ≤ leading n p = rest n (omega arith) (λ k less. each k (omega (arith, less, same))) in
+        let few = leading-le n p in
+        let all : leading n p ≡ n = omega (arith, long, few) in
+        let whole : (leading n p == n && p n) ≡ true = and_from (leading n p == n) (p n) (eq-eqb (leading n p) n all) (each n (omega (arith, same))) in
+        subst (λ b. c ≤ (if b then suc n else leading n p)) (sym whole) (omega (arith, same))
+    by false is rest =
         let apart : (c ≡ suc n → ⊥) = λ same. false≢true (sym is ∙ eq-eqb c (suc n) same) in
-        longer (leading n p == n && p n) refl (leading-most n p c (omega (arith, apart, within)) each)
+        longer (leading n p == n && p n) (rest c (omega (arith, apart, within)) each)
 
 -- one number more passes
 pub leading-more : (n : ℕ) (p : ℕ → Bool) → leading n p ≡ n → p n ≡ true → leading (n + 1) p ≡ n + 1
@@ -73,7 +70,7 @@ by_and false c fails = refl
 -- the first that doesn't pass ends the run
 pub leading-ends : (n : ℕ) (p : ℕ → Bool) (k : ℕ) → k < n → leading k p ≡ k → p k ≡ false → k ≡ leading n p
 leading-ends zero p k within all stops = absurd (omega (arith, within))
-leading-ends (suc n) p k within all stops = by (k == n) refl
+leading-ends (suc n) p k within all stops = by (k == n) refl (λ less. leading-ends n p k less all stops)
   where
     ended : (leading n p == n && p n) ≡ false → k ≡ leading n p → k ≡ (if leading n p == n && p n then suc n else leading n p)
     ended fails is = rw fails is
@@ -83,17 +80,17 @@ leading-ends (suc n) p k within all stops = by (k == n) refl
         let apart : (leading n p == n) ≡ false = grind (arith, nat_tests, is, less) in
         rw apart refl
 
-    by : (b : Bool) → (k == n) ≡ b → k ≡ (if leading n p == n && p n then suc n else leading n p)
-    by true same =
+    by : (b : Bool) → (k == n) ≡ b → (k < n → k ≡ leading n p) → k ≡ (if leading n p == n && p n then suc n else leading n p)
+    by true same rest =
         let at = eqb-true k n same in
-        let is : k ≡ leading n p = subst (λ x. k ≡ leading x p) at (sym all) in
-        let fails : (leading n p == n && p n) ≡ false = subst (λ x. (leading n p == n && p x) ≡ false) at (by_and (leading n p == n) (p k) stops) in
+        let is : k ≡ leading n p = sym (ap (λ x. leading x p) (sym at) ∙ all) in
+        let fails : (leading n p == n && p n) ≡ false = by_and (leading n p == n) (p n) (ap p (sym at) ∙ stops) in
         ended fails is
-    by false apart =
+    by false apart rest =
         let other : (k ≡ n → ⊥) = λ same. false≢true (sym apart ∙ eq-eqb k n same) in
         let less : k < n = omega (arith, other, within) in
-        let is = leading-ends n p k less all stops in
-        ended (short is less) is
+        ended (short (rest less) less) (rest less)
+
 -- ---- stretches
 
 unit-some : (level : ℕ) → 0 < entry_size level

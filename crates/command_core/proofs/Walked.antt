@@ -40,6 +40,7 @@ use Rattle.rmm_spec.specs.Step.Words.{words_of}
 use Rattle.std.proofs.lemmas.Option.{none-some}
 use Rattle.rmm_spec.specs.Lookup.{is_granule}
 use Rattle.rmm_spec.specs.Step.Named.{named}
+use Rattle.command_core.specs.Sides.{is_vmid_listed, are_recs_counted}
 use Rattle.command_core.specs.Named.{words_fit}
 use Rattle.command_core.specs.Changed.{new_cells, new_place, hold_changed, CanChange, IsAnswer, can_make}
 use Rattle.command_core.specs.Decided.{made_answer}
@@ -164,7 +165,7 @@ pub walk-ready : (granules cpu : ℕ) (command : Command) (hold : Hold) (way : W
 unfolding is_walk_over
 walk-ready granules cpu command hold way is place over =
     subst (λ (a : Result Accepted Reply). IsAnswer granules cpu command hold (made_answer granules hold.cells hold.side a))
-    (outside-walk _ _ (seen_state granules hold.cells) cpu (call_of command) walks)
+    (outside-walk (is_vmid_listed hold.side) (are_recs_counted hold.side) (seen_state granules hold.cells) cpu (call_of command) walks)
     (by (or_cases (is_refused_early (seen_answer granules c hold.cells))
     (is_way_settled granules c hold.cells (Some way) && is_none (spare granules (keeps_realm c) hold.cells way)) parts.1))
   where
