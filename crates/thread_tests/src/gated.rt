@@ -1,18 +1,13 @@
 //! Two CPUs on threads of their own, one of which a gate holds up.
 
-ghost use Rattle.std.specs.Prelude.{◌≡◌, IsTrue, IfOk, IfSome};
-ghost use Rattle.rmm_spec.specs.Call.{call_of};
-ghost use Rattle.rmm_spec.specs.CommandText.{IsCommand};
-ghost use Rattle.command_core.specs.Served.{is_served};
+ghost use Rattle.std.specs.Prelude.{◌≡◌, ◌<◌, [], ◌∷◌, ◌++◌, length, IfOk};
 ghost use Rattle.event_queue.specs.View.{CanDrain};
-ghost use Rattle.monitor.specs.Cpus.{ArePairs};
+ghost use Rattle.monitor.specs.Cpus.{AreCpus};
 ghost use Rattle.monitor.specs.Executed.{ArePaired};
 
-use crate::monitored::{Answer, ok};
-use command_core::served;
+use crate::commands::{Answer, answer_to, ok};
 use granule_state::Config;
 use monitor::{CpuPass, CpuToken, Gate, History, Monitor, ScribePass, Site};
-use rmi_codec::read_command;
 use rmm_spec::{Command, Reply};
 use std::alloc::{AllocError, Global};
 use std::marker::Brand;
@@ -73,18 +68,6 @@ impl Gate for Turnstile {
     }
 }
 
-/// The command of a text, if it is a served one's.
-fn served_command(text: &str) -> Option<Command>
-    ensures command { IfSome result (λ command. IsCommand command) }
-    ensures served { IfSome result (λ command. IsTrue (is_served (call_of command))) }
-{
-    let command = read_command(text).ok()?;
-    if !served(&command) {
-        return None;
-    }
-    Some(command)
-}
-
 /// A CPU's token and pass.
 #[derive(Drop)]
 struct Cpu<S: Site> {
@@ -104,11 +87,15 @@ impl<S: Site> Cpu<S> {
     ) -> Option<Answer>
         requires { ArePaired monitor.now self.token self.pass }
     {
-        let command = served_command(text)?;
-        if self.pass.next_number() > 999_999 {
-            return None;
-        }
-        Some(monitor.execute(rt, alloc, &mut self.token, &mut self.pass, gate, command))
+        answer_to(
+            rt,
+            alloc,
+            monitor,
+            &mut self.token,
+            &mut self.pass,
+            gate,
+            text,
+        )
     }
 
     /// The same once CPU 0 is held up.
@@ -133,17 +120,55 @@ impl<S: Site> Cpu<S> {
 }
 
 /// The CPU of the last token and the last pass.
-fn last_cpu<S: Site>(
-    monitor: &Monitor<S>,
-    tokens: &mut Vec<CpuToken<S>>,
-    passes: &mut Vec<CpuPass>,
-) -> Result<Cpu<S>, Fail>
-    requires { ArePairs monitor.now tokens.old.items passes.old.items }
-    ensures { IfOk result (λ cpu. ArePaired monitor.now cpu.token cpu.pass × ArePairs monitor.now tokens.new.items passes.new.items) }
+fn last_cpu<S: Site>(tokens: &mut Vec<CpuToken<S>>, passes: &mut Vec<CpuPass>) -> Cpu<S>
+    requires token { 0 < length tokens.old.items }
+    requires pass { 0 < length passes.old.items }
+    ensures token { tokens.old.items ≡ tokens.new.items ++ result.token ∷ [] }
+    ensures pass { passes.old.items ≡ passes.new.items ++ result.pass ∷ [] }
 {
-    let token = tokens.pop().ok_or("a token")?;
-    let pass = passes.pop().ok_or("a pass")?;
-    Ok(Cpu { token, pass })
+    let Some(token) = tokens.pop() else {
+        unreachable!()
+    };
+    let Some(pass) = passes.pop() else {
+        unreachable!()
+    };
+    Cpu { token, pass }
+}
+
+/// CPU 0 and CPU 1.
+fn two_cpus<S: Site>(
+    _monitor: &Monitor<S>,
+    mut tokens: Vec<CpuToken<S>>,
+    mut passes: Vec<CpuPass>,
+) -> (Cpu<S>, Cpu<S>)
+    requires cpus { AreCpus _monitor.now tokens.items passes.items }
+    requires two { _monitor.now.config.cpus ≡ 2 }
+    ensures first { ArePaired _monitor.now result.0.token result.0.pass }
+    ensures second { ArePaired _monitor.now result.1.token result.1.pass }
+{
+    let second = last_cpu(&mut tokens, &mut passes);
+    let first = last_cpu(&mut tokens, &mut passes);
+    (first, second)
+}
+
+/// A monitor of two CPUs with a queue for 16 events, the pass of its scribe, and both CPUs.
+fn of_two_cpus<S: Site>(
+    alloc: Global,
+    blank: Blank,
+    config: Config,
+) -> Result<(Monitor<S>, ScribePass, Cpu<S>, Cpu<S>), AllocError>
+    requires name { blank.name ≡ S.name }
+    requires parts { blank.parts ≡ S.parts }
+    requires one_each { blank.parts ≡ config.cpus }
+    requires granules { config.granules ≡ S.granules }
+    requires two { config.cpus ≡ 2 }
+    ensures first { IfOk result (λ made. ArePaired made.0 made.2.token made.2.pass) }
+    ensures second { IfOk result (λ made. ArePaired made.0 made.3.token made.3.pass) }
+    ensures scribe { IfOk result (λ made. made.1 ≡ record { queue = made.0.queue; cpus = config.cpus; events = [] }) }
+{
+    let (monitor, tokens, passes, scribe) = Monitor::<S>::new(alloc, blank, config, 16)?;
+    let (first, second) = two_cpus(&monitor, tokens, passes);
+    Ok((monitor, scribe, first, second))
 }
 
 /// Both CPUs on threads of their own: CPU 0 delegates granule 1000, and CPU 1 is asked once CPU 0 is held up.
@@ -177,15 +202,14 @@ fn delegate_apart<S: Site + Send + Sync, R: Threads + Wait + Sync>(
     alloc: Global,
     blank: Blank,
     config: Config,
-) -> Result<(Option<Answer>, Option<Answer>, bool), Fail>
+) -> Result<(Option<Answer>, Option<Answer>, bool), AllocError>
     requires name { blank.name ≡ S.name }
     requires parts { blank.parts ≡ S.parts }
     requires one_each { blank.parts ≡ config.cpus }
     requires granules { config.granules ≡ S.granules }
+    requires two { config.cpus ≡ 2 }
 {
-    let (monitor, mut tokens, mut passes, _scribe) = Monitor::<S>::new(alloc, blank, config, 16)?;
-    let second = last_cpu(&monitor, &mut tokens, &mut passes)?;
-    let first = last_cpu(&monitor, &mut tokens, &mut passes)?;
+    let (monitor, _scribe, first, second) = of_two_cpus::<S>(alloc, blank, config)?;
     let gate = Turnstile::new();
     let (first, second) = ask_both(
         rt,
@@ -277,15 +301,14 @@ fn delegate_same<S: Site + Send + Sync, R: Threads + Wait + Sync>(
     alloc: Global,
     blank: Blank,
     config: Config,
-) -> Result<(Option<Answer>, Option<Answer>, bool), Fail>
+) -> Result<(Option<Answer>, Option<Answer>, bool), AllocError>
     requires name { blank.name ≡ S.name }
     requires parts { blank.parts ≡ S.parts }
     requires one_each { blank.parts ≡ config.cpus }
     requires granules { config.granules ≡ S.granules }
+    requires two { config.cpus ≡ 2 }
 {
-    let (monitor, mut tokens, mut passes, scribe) = Monitor::<S>::new(alloc, blank, config, 16)?;
-    let second = last_cpu(&monitor, &mut tokens, &mut passes)?;
-    let first = last_cpu(&monitor, &mut tokens, &mut passes)?;
+    let (monitor, scribe, first, second) = of_two_cpus::<S>(alloc, blank, config)?;
     let history = History::new(alloc, config);
     let (gate, answered) = (Turnstile::new(), AtomicBool::new(false));
     let ((first, second), stayed_out) = thread::join(

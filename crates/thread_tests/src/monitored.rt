@@ -1,30 +1,19 @@
 //! Runs of a monitor on one thread, with stated answers.
 
-ghost use Rattle.std.specs.Prelude.{◌≡◌, ◌<◌, [], IsTrue, IfOk};
-ghost use Rattle.rmm_spec.specs.Call.{call_of};
-ghost use Rattle.rmm_spec.specs.CommandText.{IsCommand};
-ghost use Rattle.command_core.specs.Served.{is_served};
+ghost use Rattle.std.specs.Prelude.{◌≡◌, ◌<◌, ◌≤◌};
 ghost use Rattle.event_queue.specs.View.{CanDrain};
 ghost use Rattle.monitor.specs.Cpus.{AreCpus};
 
-use arrayvec::ArrayVec;
-use command_core::served;
+use crate::commands::{Answer, answer_to};
 use granule_state::Config;
 use history::History;
 use monitor::{CpuPass, CpuToken, Done, Monitor, Open, Refused, ScribePass, Site, fit_a_history};
-use rmi_codec::{push_decimal, read_command, write_reply};
-use rmm_spec::{Command, Reply};
+use rmi_codec::{push_decimal, write_reply};
 use std::alloc::{AllocError, Global};
 use std::marker::Brand;
 use std::sync::Wait;
 use std::sync::ledger::Blank;
 use std::test::Fail;
-
-pub type Answer = Result<Done, Refused>;
-
-pub fn ok() -> Reply {
-    Reply::Ok(ArrayVec::new())
-}
 
 fn write_done(done: &Done, out: &mut Vec<u8>) -> Result<(), AllocError> {
     push_decimal(out, done.ticket as u64)?;
@@ -46,19 +35,7 @@ fn write_answer(answer: &Answer, out: &mut Vec<u8>) -> Result<(), AllocError> {
     }
 }
 
-/// The command of a text, which is served.
-fn command_from(text: &str) -> Result<Command, Fail>
-    ensures command { IfOk result (λ command. IsCommand command) }
-    ensures served { IfOk result (λ command. IsTrue (is_served (call_of command))) }
-{
-    let command = read_command(text)?;
-    if !served(&command) {
-        return Err("a command that is served".into());
-    }
-    Ok(command)
-}
-
-/// What a CPU is answered.
+/// What a CPU is answered, or nothing where the text isn't a served command's.
 fn ask<S: Site, R: Wait>(
     rt: &R,
     alloc: Global,
@@ -67,36 +44,76 @@ fn ask<S: Site, R: Wait>(
     passes: &mut [CpuPass],
     cpu: usize,
     text: &str,
-) -> Result<Answer, Fail>
+) -> Option<Answer>
     requires cpus { AreCpus monitor.now tokens.old passes.old }
     requires cpu { cpu < monitor.now.config.cpus }
     ensures { AreCpus monitor.now tokens.new passes.new }
 {
-    let command = command_from(text)?;
     let (token, pass) = (&mut tokens[cpu], &mut passes[cpu]);
-    if pass.next_number() > 999_999 {
-        return Err("a number of a call".into());
-    }
-    Ok(monitor.execute(rt, alloc, token, pass, &Open, command))
+    answer_to(rt, alloc, monitor, token, pass, &Open, text)
 }
 
-/// The same, and the answer's line is appended.
+/// The CPU and the command of a step that is a call.
+fn call_in(step: &str) -> Option<(u8, &str)> {
+    let (cpu, command) = step.split_once(": ")?;
+    Some((cpu.parse::<u8>().ok()?, command))
+}
+
+/// A CPU calls, and its answer's line is appended.
 fn tell<S: Site, R: Wait>(
     rt: &R,
     alloc: Global,
     monitor: &Monitor<S>,
     tokens: &mut [CpuToken<S>],
     passes: &mut [CpuPass],
-    cpu: usize,
-    text: &str,
+    step: &str,
+    out: &mut Vec<u8>,
+) -> Result<(), Fail>
+    requires { AreCpus monitor.now tokens.old passes.old }
+    ensures { AreCpus monitor.now tokens.new passes.new }
+{
+    let (cpu, command) = call_in(step).ok_or("a CPU and its command")?;
+    if cpu >= monitor.config().cpus() {
+        return Err("a CPU of the monitor".into());
+    }
+    let answer = ask(
+        rt,
+        alloc,
+        monitor,
+        tokens,
+        passes,
+        usize::from(cpu),
+        command,
+    );
+    Ok(write_answer(&answer.ok_or("a command that is served")?, out)?)
+}
+
+/// Each line is a CPU's call, whose answer's line is appended, or `drain`.
+fn take_steps<S: Site, R: Wait>(
+    rt: &R,
+    alloc: Global,
+    monitor: &Monitor<S>,
+    tokens: &mut [CpuToken<S>],
+    passes: &mut [CpuPass],
+    scribe: &mut ScribePass,
+    history: &mut History,
+    steps: &str,
     out: &mut Vec<u8>,
 ) -> Result<(), Fail>
     requires cpus { AreCpus monitor.now tokens.old passes.old }
-    requires cpu { cpu < monitor.now.config.cpus }
-    ensures { AreCpus monitor.now tokens.new passes.new }
+    requires drain { CanDrain monitor.now.queue scribe.old history.old.recorded }
+    ensures cpus { AreCpus monitor.now tokens.new passes.new }
+    ensures drain { CanDrain monitor.now.queue scribe.new history.new.recorded }
+    ensures config { history.new.recorded.config ≡ history.old.recorded.config }
 {
-    let answer = ask(rt, alloc, monitor, tokens, passes, cpu, text)?;
-    Ok(write_answer(&answer, out)?)
+    for step in steps.lines() {
+        if step == "drain" {
+            monitor.drain(rt, scribe, history)?;
+        } else {
+            tell(rt, alloc, monitor, tokens, passes, step, out)?;
+        }
+    }
+    Ok(())
 }
 
 /// Closes the run, and appends the texts of its history and certificate.
@@ -123,85 +140,60 @@ fn close<S: Site, R: Wait>(
     Ok(())
 }
 
-/// One CPU delegates a granule and calls once more, with room for one event, and nobody drains before the close.
-fn fill_queue<S: Site, R: Wait>(
+/// Runs a monitor from its start to its close.
+fn run_steps<S: Site, R: Wait>(
     rt: &R,
     alloc: Global,
     blank: Blank,
     config: Config,
+    capacity: usize,
+    steps: &str,
     out: &mut Vec<u8>,
 ) -> Result<(), Fail>
     requires name { blank.name ≡ S.name }
     requires parts { blank.parts ≡ S.parts }
     requires one_each { blank.parts ≡ config.cpus }
     requires granules { config.granules ≡ S.granules }
+    requires capacity { (1 ≤ capacity) × (capacity ≤ 65536) }
 {
-    let (monitor, mut tokens, mut passes, scribe) = Monitor::<S>::new(alloc, blank, config, 1)?;
-    let _cpus = config.cpus();
+    let (monitor, mut tokens, mut passes, mut scribe) = Monitor::<S>::new(
+        alloc, blank, config, capacity,
+    )?;
+    let mut history = History::new(alloc, config);
     let (held, recorded) = (tokens.as_mut_slice(), passes.as_mut_slice());
-    tell(rt, alloc, &monitor, held, recorded, 0, "c4000151 1000", out)?;
-    tell(rt, alloc, &monitor, held, recorded, 0, "c4000151 1000", out)?;
-    let history = History::new(alloc, config);
+    take_steps(
+        rt,
+        alloc,
+        &monitor,
+        held,
+        recorded,
+        &mut scribe,
+        &mut history,
+        steps,
+        out,
+    )?;
     close(rt, alloc, monitor, tokens, passes, scribe, history, out)
 }
 
+/// One CPU delegates a granule and calls once more, with room for one event, and nobody drains before the close.
 #[test]
 fn full_queue_stops_token(rt: HostRuntime) -> Result<(), Fail> {
     let config = Config::new(4, 1).ok_or("a machine of this size")?;
     let mut out = Vec::new(rt.alloc());
-    fill_queue::<Brand, _>(&rt, rt.alloc(), Blank::new(1), config, &mut out)?;
+    let steps = "0: c4000151 1000\n0: c4000151 1000\n";
+    run_steps::<Brand, _>(&rt, rt.alloc(), Blank::new(1), config, 1, steps, &mut out)?;
     let text = b"unrecorded 0 ok\nstopped\nrmh1 4 1\nc 0 0 c4000151 1000\nu 0 0 ok\n";
     assert!(rt; out.as_slice() == text.as_slice());
     Ok(())
 }
 
-/// CPU 1 delegates a granule, and CPU 0 takes it back.
-fn tell_both<S: Site, R: Wait>(
-    rt: &R,
-    alloc: Global,
-    monitor: &Monitor<S>,
-    tokens: &mut [CpuToken<S>],
-    passes: &mut [CpuPass],
-    out: &mut Vec<u8>,
-) -> Result<(), Fail>
-    requires cpus { AreCpus monitor.now tokens.old passes.old }
-    requires two { monitor.now.config.cpus ≡ 2 }
-    ensures { AreCpus monitor.now tokens.new passes.new }
-{
-    tell(rt, alloc, monitor, tokens, passes, 1, "c4000151 1000", out)?;
-    tell(rt, alloc, monitor, tokens, passes, 0, "c4000152 1000", out)
-}
-
 /// Two CPUs delegate one granule, and the first takes it back. What the first command recorded is drained at once, and the rest at the close.
-fn delegate_by_two<S: Site, R: Wait>(
-    rt: &R,
-    alloc: Global,
-    blank: Blank,
-    config: Config,
-    out: &mut Vec<u8>,
-) -> Result<(), Fail>
-    requires name { blank.name ≡ S.name }
-    requires parts { blank.parts ≡ S.parts }
-    requires one_each { blank.parts ≡ config.cpus }
-    requires granules { config.granules ≡ S.granules }
-    requires two { config.cpus ≡ 2 }
-{
-    let (monitor, mut tokens, mut passes, mut scribe) = Monitor::<S>::new(
-        alloc, blank, config, 16,
-    )?;
-    let (held, recorded) = (tokens.as_mut_slice(), passes.as_mut_slice());
-    let mut history = History::new(alloc, config);
-    tell(rt, alloc, &monitor, held, recorded, 0, "c4000151 1000", out)?;
-    monitor.drain(rt, &mut scribe, &mut history)?;
-    tell_both(rt, alloc, &monitor, held, recorded, out)?;
-    close(rt, alloc, monitor, tokens, passes, scribe, history, out)
-}
-
 #[test]
 fn three_tickets(rt: HostRuntime) -> Result<(), Fail> {
     let config = Config::new(4, 2).ok_or("a machine of this size")?;
     let mut out = Vec::new(rt.alloc());
-    delegate_by_two::<Brand, _>(&rt, rt.alloc(), Blank::new(2), config, &mut out)?;
+    let steps = "0: c4000151 1000\ndrain\n1: c4000151 1000\n0: c4000152 1000\n";
+    run_steps::<Brand, _>(&rt, rt.alloc(), Blank::new(2), config, 16, steps, &mut out)?;
     let text = "\
 0 ok
 1 err 1 0

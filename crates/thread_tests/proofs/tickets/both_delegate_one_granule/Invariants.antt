@@ -1,4 +1,4 @@
-use Rattle.lock_tests.proofs.tickets.both_delegate_one_granule.Given as goal
+use Rattle.thread_tests.proofs.tickets.both_delegate_one_granule.Given as goal
 
 abbrev pub ghosts-commits_of_two-S-Ledger : goal.ghosts-commits_of_two-S-Ledger
 ghosts-commits_of_two-S-Ledger g a = record { name = a.blank.name; parts = a.blank.parts }

@@ -94,53 +94,90 @@ fn delegate_on<S: Site>(
     }
 }
 
-/// Delegates a granule on the cells of one machine, and then on those of another. Returns both answers, how many commits the
-/// journal and the token have, and the tags of the two cells.
+/// Takes a granule, delegates it and gives it home. Returns the answer, and the tag of the cell that is given home.
+fn delegate_taken<S: Site, R: Wait>(
+    rt: &R,
+    alloc: Global,
+    granules: &Granules,
+    config: &Config,
+    journal: &mut Journal<S>,
+    token: &mut CpuToken<S>,
+    address: u64,
+) -> (Answer, Option<Tag>)
+    requires size { config.now.granules ≡ S.granules }
+    requires granules { granules.now.granules ≡ S.granules }
+    requires granule { IsTrue (is_granule S.granules address) }
+{
+    let mut hold = hold_of(rt, granules, address);
+    let answer = delegate_on(alloc, config, journal, token, &mut hold, address);
+    let tag = tag_of(&hold, address);
+    give_home(rt, granules, hold);
+    (answer, tag)
+}
+
+fn tag_of(hold: &Hold, address: u64) -> Option<Tag> {
+    Some(hold.cell(Pa::new(address))?.tag())
+}
+
+/// Delegates a granule on the cells of one machine, and then on those of another. Returns both answers with the cells' tags, and
+/// how many commits the journal and the token have.
 #[tactic(auto, unfolding(rmm_spec::specs::Lookup::is_granule))]
 fn delegate_twice<S: Site, R: Wait>(
     rt: &R,
     alloc: Global,
     blank: Blank,
     config: Config,
-) -> Result<(Answer, Answer, usize, usize, Option<Tag>, Option<Tag>), Fail>
+) -> Result<((Answer, Option<Tag>), (Answer, Option<Tag>), (usize, usize)), Fail>
     requires name { blank.name ≡ S.name }
     requires parts { blank.parts ≡ S.parts }
     requires one_each { blank.parts ≡ config.cpus }
     requires granules { config.granules ≡ S.granules }
     requires four { config.granules ≡ 4 }
 {
-    let (mut journal, mut tokens) = Journal::<S>::new(alloc, blank, config)?;
-    let mut token = tokens.pop().ok_or("a token")?;
     let granules = Granules::new(alloc, &config)?;
     let others = Granules::new(alloc, &config)?;
-    let mut hold = hold_of(rt, &granules, 0x1000);
-    let first = delegate_on(alloc, &config, &mut journal, &mut token, &mut hold, 0x1000);
-    let mut other = hold_of(rt, &others, 0x1000);
-    let second = delegate_on(alloc, &config, &mut journal, &mut token, &mut other, 0x1000);
-    let tag = hold.cell(Pa::new(0x1000)).map(|cell| cell.tag());
-    let other_tag = other.cell(Pa::new(0x1000)).map(|cell| cell.tag());
-    give_home(rt, &granules, hold);
-    give_home(rt, &others, other);
-    Ok((
-        first,
-        second,
-        journal.len(),
-        token.mine().len(),
-        tag,
-        other_tag,
-    ))
+    let (mut journal, mut tokens) = Journal::<S>::new(alloc, blank, config)?;
+    let mut token = tokens.pop().ok_or("a token")?;
+    let first = delegate_taken(
+        rt,
+        alloc,
+        &granules,
+        &config,
+        &mut journal,
+        &mut token,
+        0x1000,
+    );
+    let second = delegate_taken(
+        rt,
+        alloc,
+        &others,
+        &config,
+        &mut journal,
+        &mut token,
+        0x1000,
+    );
+    Ok((first, second, (journal.len(), token.mine().len())))
 }
 
 #[test]
 fn other_cells_disagree(rt: HostRuntime) -> Result<(), Fail> {
     let config = Config::new(4, 1).ok_or("a machine of this size")?;
     let seen = delegate_twice::<Brand, _>(&rt, rt.alloc(), Blank::new(1), config)?;
-    let (first, second, commits, mine, tag, other_tag) = seen;
+    let ((first, tag), (second, other_tag), counts) = seen;
     assert!(rt; is_done(&first, 0, &ok()));
     assert!(rt; matches!(second, Some(Err(CommitFault::Disagrees))));
-    assert!(rt; commits == 1 && mine == 1);
+    assert!(rt; counts == (1, 1));
     assert!(rt; tag == Some(Tag::Delegated) && other_tag == Some(Tag::Undelegated));
     Ok(())
+}
+
+/// Whether CPU 0 is stopped after two of three commits, of which CPU 1 has the second.
+fn are_listed<S: Site>(journal: &Journal<S>, first: &CpuToken<S>, second: &CpuToken<S>) -> bool {
+    journal.len() == 3
+        && first.cpu() == 0
+        && first.is_stopped()
+        && first.mine().len() == 2
+        && is_one_delegate(second.mine(), 1, 0x1000, &Reply::Err(1, 0))
 }
 
 /// Three commits of two CPUs, the first of which is stopped after its first. Returns the answers, and whether the journal and
@@ -164,24 +201,36 @@ fn commits_of_two<S: Site, R: Wait>(
     let mut second = tokens.pop().ok_or("a token for CPU 1")?;
     let mut first = tokens.pop().ok_or("a token for CPU 0")?;
     let granules = Granules::new(alloc, &config)?;
-    let mut low = hold_of(rt, &granules, 0x1000);
-    let mut high = hold_of(rt, &granules, 0x2000);
-    let answers = [
-        delegate_on(alloc, &config, &mut journal, &mut first, &mut low, 0x1000),
-        delegate_on(alloc, &config, &mut journal, &mut second, &mut low, 0x1000),
-        {
-            first.stop();
-            delegate_on(alloc, &config, &mut journal, &mut first, &mut high, 0x2000)
-        },
-    ];
-    give_home(rt, &granules, low);
-    give_home(rt, &granules, high);
-    let listed = journal.len() == 3
-        && first.cpu() == 0
-        && first.is_stopped()
-        && first.mine().len() == 2
-        && is_one_delegate(second.mine(), 1, 0x1000, &Reply::Err(1, 0));
-    Ok((answers, listed))
+    let (low, _) = delegate_taken(
+        rt,
+        alloc,
+        &granules,
+        &config,
+        &mut journal,
+        &mut first,
+        0x1000,
+    );
+    let (again, _) = delegate_taken(
+        rt,
+        alloc,
+        &granules,
+        &config,
+        &mut journal,
+        &mut second,
+        0x1000,
+    );
+    first.stop();
+    let (high, _) = delegate_taken(
+        rt,
+        alloc,
+        &granules,
+        &config,
+        &mut journal,
+        &mut first,
+        0x2000,
+    );
+    let listed = are_listed(&journal, &first, &second);
+    Ok(([low, again, high], listed))
 }
 
 #[test]

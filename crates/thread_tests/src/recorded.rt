@@ -84,37 +84,96 @@ fn drains<R: Wait>(
     matches!(recorder.drain(rt, scribe, history), Ok(taken) if taken == count)
 }
 
+/// Both CPUs call, CPU 0 first. Returns whether each call is recorded as its CPU's first.
+fn both_call<R: Wait>(
+    rt: &R,
+    recorder: &Recorder,
+    first: &mut CpuPass,
+    second: &mut CpuPass,
+) -> bool
+    requires first { first.old.queue ≡ recorder.now.queue }
+    requires second { second.old.queue ≡ recorder.now.queue }
+    ensures first { (first.new.queue ≡ first.old.queue) × (first.new.cpu ≡ first.old.cpu) }
+    ensures second { (second.new.queue ≡ second.old.queue) × (second.new.cpu ≡ second.old.cpu) }
+{
+    let first_calls = calls(rt, recorder, first, 0, "c4000151 1000");
+    let second_calls = calls(rt, recorder, second, 0, "c4000151 2000");
+    first_calls && second_calls
+}
+
+/// A CPU returns between two drains. Returns whether it returned, and the drains took so many events.
+fn returns_between<R: Wait>(
+    rt: &R,
+    recorder: &Recorder,
+    pass: &mut CpuPass,
+    scribe: &mut ScribePass,
+    history: &mut History,
+    counts: (usize, usize),
+) -> bool
+    requires pass { pass.old.queue ≡ recorder.now.queue }
+    requires scribe { CanDrain recorder.now.queue scribe.old history.old.recorded }
+    ensures pass { (pass.new.queue ≡ pass.old.queue) × (pass.new.cpu ≡ pass.old.cpu) }
+    ensures can { CanDrain recorder.now.queue scribe.new history.new.recorded }
+    ensures cpus { scribe.new.cpus ≡ scribe.old.cpus }
+{
+    let (before, after) = counts;
+    let are_taken = drains(rt, recorder, scribe, history, before);
+    let is_returned = returns(rt, recorder, pass);
+    drains(rt, recorder, scribe, history, after) && are_taken && is_returned
+}
+
 #[test]
 fn refused_return_stops_its_pass(rt: HostRuntime) -> Result<(), Fail> {
     let mut history = empty(rt.alloc(), 4, 2)?;
     let (recorder, mut first, mut second, mut scribe) = of_two_cpus(rt.alloc())?;
-    let first_calls = calls(&rt, &recorder, &mut first, 0, "c4000151 1000");
-    let second_calls = calls(&rt, &recorder, &mut second, 0, "c4000151 2000");
-    let first_returns = returns(&rt, &recorder, &mut first);
-    let two_drained = drains(&rt, &recorder, &mut scribe, &mut history, 2);
-    let second_returns = returns(&rt, &recorder, &mut second);
-    let one_drained = drains(&rt, &recorder, &mut scribe, &mut history, 1);
-    assert!(rt; first_calls && second_calls && two_drained && one_drained);
-    assert!(rt; !first_returns && first.is_stopped() && first.is_open());
-    assert!(rt; second_returns && !second.is_stopped() && !second.is_open());
+    assert!(rt; both_call(&rt, &recorder, &mut first, &mut second));
+    assert!(rt; !returns(&rt, &recorder, &mut first) && first.is_stopped() && first.is_open());
+    assert!(rt;
+        returns_between(
+            &rt,
+            &recorder,
+            &mut second,
+            &mut scribe,
+            &mut history,
+            (2, 1)
+        )
+    );
+    assert!(rt; !second.is_stopped() && !second.is_open());
     let text = "rmh1 4 2\nc 0 0 c4000151 1000\nc 1 0 c4000151 2000\nr 1 0 ok\n";
     assert!(rt; has_text(rt.alloc(), &history, text)?);
     Ok(())
+}
+
+/// Makes both lists whole in the history. Returns whether the events are few enough for one.
+fn drains_rest<R: Wait>(
+    rt: &R,
+    recorder: &Recorder,
+    first: CpuPass,
+    second: CpuPass,
+    mut scribe: ScribePass,
+    history: &mut History,
+) -> Result<bool, AllocError>
+    requires first { (first.queue ≡ recorder.now.queue) × (first.cpu ≡ 0) }
+    requires second { (second.queue ≡ recorder.now.queue) × (second.cpu ≡ 1) }
+    requires scribe { CanDrain recorder.now.queue scribe history.old.recorded }
+    requires two { scribe.cpus ≡ 2 }
+{
+    let mut passes = [first, second];
+    if !fit_a_history(&passes) {
+        return Ok(false);
+    }
+    recorder.drain_rest(rt, &mut scribe, &mut passes, history)?;
+    Ok(true)
 }
 
 #[test]
 fn rest_makes_each_list_whole(rt: HostRuntime) -> Result<(), Fail> {
     let mut history = empty(rt.alloc(), 4, 2)?;
     let (recorder, mut first, mut second, mut scribe) = of_two_cpus(rt.alloc())?;
-    let first_calls = calls(&rt, &recorder, &mut first, 0, "c4000151 1000");
-    let second_calls = calls(&rt, &recorder, &mut second, 0, "c4000151 2000");
-    let two_drained = drains(&rt, &recorder, &mut scribe, &mut history, 2);
-    let second_returns = returns(&rt, &recorder, &mut second);
-    let first_returns = returns(&rt, &recorder, &mut first);
-    let mut passes = [first, second];
-    assert!(rt; first_calls && second_calls && two_drained && second_returns && first_returns);
-    assert!(rt; fit_a_history(&passes));
-    recorder.drain_rest(&rt, &mut scribe, &mut passes, &mut history)?;
+    assert!(rt; both_call(&rt, &recorder, &mut first, &mut second));
+    assert!(rt; drains(&rt, &recorder, &mut scribe, &mut history, 2));
+    assert!(rt; returns(&rt, &recorder, &mut second) && returns(&rt, &recorder, &mut first));
+    assert!(rt; drains_rest(&rt, &recorder, first, second, scribe, &mut history)?);
     let text = "rmh1 4 2\nc 0 0 c4000151 1000\nc 1 0 c4000151 2000\nr 1 0 ok\nr 0 0 ok\n";
     assert!(rt; has_text(rt.alloc(), &history, text)?);
     Ok(())

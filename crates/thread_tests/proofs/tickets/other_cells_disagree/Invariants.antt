@@ -1,4 +1,4 @@
-use Rattle.lock_tests.proofs.tickets.other_cells_disagree.Given as goal
+use Rattle.thread_tests.proofs.tickets.other_cells_disagree.Given as goal
 
 abbrev pub ghosts-delegate_twice-S-Ledger : goal.ghosts-delegate_twice-S-Ledger
 ghosts-delegate_twice-S-Ledger g a = record { name = a.blank.name; parts = a.blank.parts }
