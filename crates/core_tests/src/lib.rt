@@ -1,10 +1,14 @@
-//! Nothing but tests, of what stands below the locks: realms and RECs, and the monitor's core.
+//! Nothing but tests, of what stands below the locks: texts as values, realms and RECs, the monitor's core, and worlds of turns.
 //! Expected lines and digests come from outside, worked out by hand from the profile or by another program.
-//! `descriptors` has realms and RECs by their calls; `held_cells` held cells and which commands are served; `plans` what a CPU
-//! does next; `decisions` what it is answered; `unshaped` cells that no shape has.
-//! Nothing depends on it.
+//! `codec`, `histories` and `certificates` show what no text alone shows, and that enough memory is enough; `descriptors` realms and
+//! RECs by their calls; `held_cells`, `plans`, `decisions` and `unshaped` what a CPU does with held cells; `worlds` CPUs in turn.
+//! What only compares texts is data of the program `cases`. Nothing depends on it.
 #![tactic(auto)]
 
+#[cfg(test)]
+mod certificates;
+#[cfg(test)]
+mod codec;
 #[cfg(test)]
 mod decisions;
 #[cfg(test)]
@@ -12,6 +16,10 @@ mod descriptors;
 #[cfg(test)]
 mod held_cells;
 #[cfg(test)]
+mod histories;
+#[cfg(test)]
 mod plans;
 #[cfg(test)]
 mod unshaped;
+#[cfg(test)]
+mod worlds;
