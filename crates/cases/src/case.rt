@@ -9,7 +9,7 @@ use crate::parts::{command_read, reply_read, wrong_event, wrong_header, wrong_li
 use crate::script::Script;
 use crate::statement::{Statement, Word};
 use anyhow::{Result, bail};
-use std::alloc::{AllocError, Global};
+use std::alloc::Global;
 
 /// The inputs that its statements gave so far.
 #[derive(Drop)]
@@ -38,27 +38,29 @@ impl Case {
             Word::Header => self.header = statement.part(alloc)?,
             Word::Script => {
                 self.script = Script::on(alloc, statement.argument)?;
-                self.script.add(alloc, statement.block.as_str())?;
-                let run = self.script_so_far(alloc)?;
-                self.take_run(run);
+                self.add_steps(alloc, statement.block.as_str())?;
             }
-            Word::Step => {
-                self.script.add(alloc, statement.text(alloc)?.as_str())?;
-                let run = self.script_so_far(alloc)?;
-                self.take_run(run);
-            }
-            Word::Try => {
-                let mut run = self.script_so_far(alloc)?;
-                run.add(alloc, statement.text(alloc)?.as_str())?;
-                self.take_run(run);
-            }
+            Word::Step => self.add_steps(alloc, statement.text(alloc)?.as_str())?,
+            Word::Try => self.try_steps(alloc, statement.text(alloc)?.as_str())?,
             _ => {}
         }
         Ok(())
     }
 
-    fn script_so_far(&self, alloc: Global) -> Result<Script, AllocError> {
-        self.script.copy(alloc)
+    // Adds to the script, and takes its run.
+    fn add_steps(&mut self, alloc: Global, steps: &str) -> Result<()> {
+        self.script.add(alloc, steps)?;
+        let run = self.script.copy(alloc)?;
+        self.take_run(run);
+        Ok(())
+    }
+
+    // Takes the run of the script with these steps behind it.
+    fn try_steps(&mut self, alloc: Global, steps: &str) -> Result<()> {
+        let mut run = self.script.copy(alloc)?;
+        run.add(alloc, steps)?;
+        self.take_run(run);
+        Ok(())
     }
 
     // The texts of a script.
@@ -74,30 +76,54 @@ impl Case {
 
     /// What the public calls answer to the statement.
     pub(crate) fn answer(&self, alloc: Global, statement: &Statement<'_>) -> Result<String> {
-        let history = self.history.as_str();
-        let certificate = self.certificate.as_str();
         let part = statement.part(alloc)?;
-        let part = part.as_str();
         match statement.word {
+            Word::Read => self.read(alloc, part.as_str()),
+            Word::Rewrite => self.rewritten(alloc, part.as_str()),
+            Word::Command | Word::Reply | Word::Header | Word::Event | Word::Line => {
+                self.answer_on_part(alloc, statement.word, part.as_str())
+            }
+            _ => self.answer_on_run(alloc, statement.word, part.as_str()),
+        }
+    }
+
+    // What is answered on the history and the certificate together.
+    fn answer_on_run(&self, alloc: Global, word: Word, piece: &str) -> Result<String> {
+        let (history, certificate) = (self.history.as_str(), self.certificate.as_str());
+        match word {
             Word::Report => reported(alloc, history, certificate),
-            Word::Page => page_has(alloc, history, certificate, part),
+            Word::Page => page_has(alloc, history, certificate, piece),
             Word::Owners => owners(alloc, history),
-            Word::Read => match part {
-                "history" => read_history(alloc, history),
-                "certificate" => read_certificate(alloc, certificate),
-                _ => bail!("neither the history nor the certificate is read"),
-            },
-            Word::Rewrite => match part {
-                "history" => rewritten_history(alloc, history),
-                "certificate" => rewritten_certificate(alloc, certificate),
-                _ => bail!("neither the history nor the certificate is rewritten"),
-            },
+            _ => verdict(alloc, history, certificate),
+        }
+    }
+
+    // What is read of the one of the two that is named.
+    fn read(&self, alloc: Global, name: &str) -> Result<String> {
+        match name {
+            "history" => read_history(alloc, self.history.as_str()),
+            "certificate" => read_certificate(alloc, self.certificate.as_str()),
+            _ => bail!("neither the history nor the certificate is read"),
+        }
+    }
+
+    // Whether the one of the two that is named comes back.
+    fn rewritten(&self, alloc: Global, name: &str) -> Result<String> {
+        match name {
+            "history" => rewritten_history(alloc, self.history.as_str()),
+            "certificate" => rewritten_certificate(alloc, self.certificate.as_str()),
+            _ => bail!("neither the history nor the certificate is rewritten"),
+        }
+    }
+
+    // What is answered on a part of a text.
+    fn answer_on_part(&self, alloc: Global, word: Word, part: &str) -> Result<String> {
+        match word {
             Word::Command => command_read(alloc, part),
             Word::Reply => reply_read(alloc, part),
             Word::Header => Ok(wrong_header(alloc, part)?),
             Word::Event => Ok(wrong_event(alloc, part, self.header.as_str())?),
-            Word::Line => Ok(wrong_line(alloc, part)?),
-            _ => verdict(alloc, history, certificate),
+            _ => Ok(wrong_line(alloc, part)?),
         }
     }
 }

@@ -41,27 +41,33 @@ pub(crate) enum Word {
     Line,
 }
 
+const WORDS: [(&str, Word); 16] = [
+    ("history", Word::History),
+    ("certificate", Word::Certificate),
+    ("script", Word::Script),
+    ("step", Word::Step),
+    ("try", Word::Try),
+    ("header", Word::Header),
+    ("verdict", Word::Verdict),
+    ("report", Word::Report),
+    ("page", Word::Page),
+    ("owners", Word::Owners),
+    ("read", Word::Read),
+    ("rewrite", Word::Rewrite),
+    ("command", Word::Command),
+    ("reply", Word::Reply),
+    ("event", Word::Event),
+    ("line", Word::Line),
+];
+
 impl Word {
-    fn of(word: &str) -> Result<Word> {
-        Ok(match word {
-            "history" => Word::History,
-            "certificate" => Word::Certificate,
-            "script" => Word::Script,
-            "step" => Word::Step,
-            "try" => Word::Try,
-            "header" => Word::Header,
-            "verdict" => Word::Verdict,
-            "report" => Word::Report,
-            "page" => Word::Page,
-            "owners" => Word::Owners,
-            "read" => Word::Read,
-            "rewrite" => Word::Rewrite,
-            "command" => Word::Command,
-            "reply" => Word::Reply,
-            "event" => Word::Event,
-            "line" => Word::Line,
-            other => bail!("no such word: {other}"),
-        })
+    fn of(text: &str) -> Result<Word> {
+        for (name, word) in WORDS {
+            if name == text {
+                return Ok(word);
+            }
+        }
+        bail!("no such word: {text}")
     }
 
     /// It gives a text, so that it asks only where an answer stands on its line.
