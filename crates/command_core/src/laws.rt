@@ -39,12 +39,12 @@ pub fn settled_commands_are_ready()
         → is_settled granules (call_of command) place held ≡ true → IsReady granules command place held }
 {}
 
-/// What passes the test of a take by name, or of a part of a realm or REC that is held, is a rising take of it.
+/// What passes the test of a take by name, or of a part of a realm, REC or table that is held, is a rising take of it.
 pub fn tested_takes_rise()
     ensures upward { (granules : ℕ) (names : List Needed) (held : List HeldCell) (next : ℕ) → IsTrue (are_distinct (granules_held held))
         → is_upward granules names held next ≡ true → IsRisingTake granules names held next }
-    ensures downward { (granules : ℕ) (names : List Needed) (held : List HeldCell) (above next : ℕ) → IsTrue (are_distinct (granules_held held))
-        → is_downward granules names held above next ≡ true → IsRisingTake granules names held next }
+    ensures downward { (granules : ℕ) (names : List Needed) (held : List HeldCell) (above index next : ℕ) → IsTrue (are_distinct (granules_held held))
+        → is_downward granules names held above index next ≡ true → IsRisingTake granules names held next }
 {}
 
 /// A decided change that is made of what is held is a local step, from what was held to what is held then.

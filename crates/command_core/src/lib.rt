@@ -8,21 +8,24 @@
 mod applying;
 mod change_room;
 mod deciding;
+mod furthest;
 mod held;
 mod held_sight;
 mod held_tables;
 mod laws;
 mod making;
+mod misfits;
 mod next;
 mod plain_held;
 mod planning;
 mod put_cells;
 mod rooms;
-mod seen_cells;
 mod serving;
 mod settling;
 mod taking;
 mod unshaped;
+mod walks;
+mod ways;
 
 pub use applying::apply;
 pub use change_room::Room;

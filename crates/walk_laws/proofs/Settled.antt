@@ -126,12 +126,12 @@ first-reached t cpu c stretch is =
 -- ---- any command
 
 -- a command that walks is a host's, and is answered alike on each CPU
-record IsHosts (c : Call) : Type 0 where
-  host : class_of c ≡ ByHost
-  alike : (s : State) (cpu : ℕ) → answer_of s cpu c ≡ answer_of s 0 c
+pub record IsHosts (c : Call) : Type 0 where
+  pub host : class_of c ≡ ByHost
+  pub alike : (s : State) (cpu : ℕ) → answer_of s cpu c ≡ answer_of s 0 c
 
 -- each of the ten
-hosts : (c : Call) → is_some (way_of c) ≡ true → IsHosts c
+pub hosts : (c : Call) → is_some (way_of c) ≡ true → IsHosts c
 unfolding class_of way_of answer_of
 hosts (call.RttCreate rd rtt ipa level) walks = record { host = refl; alike = λ s cpu. refl }
 hosts (call.RttDestroy rd ipa level) walks = record { host = refl; alike = λ s cpu. refl }
@@ -158,7 +158,7 @@ refused-local granules cpu command hold given each =
     Step-refused (flat_state granules cells) cpu command given (each cells places shaped agrees placed))
 
 -- the table of a stretch is held
-stretch-placed : (granules cpu : ℕ) (c : Call) (held : List HeldCell) (stretch : Stretch) → is_way_settled granules c held (way_of c) ≡ true
+pub stretch-placed : (granules cpu : ℕ) (c : Call) (held : List HeldCell) (stretch : Stretch) → is_way_settled granules c held (way_of c) ≡ true
     → answer_of (seen_state granules held) cpu c ≡ Ok (Reaches stretch)
     → (stretch.level ≤ 3) × (is_some (table_placed held stretch.rd stretch.level (table_number stretch.level stretch.base)) ≡ true)
 stretch-placed granules cpu c held stretch settled is =
@@ -200,7 +200,7 @@ answered-local granules cpu command hold (Ok (Reaches stretch)) told settled is 
     )
 
 -- what is refused before the walk
-early-error : (a : Result Accepted Reply) → is_refused_early a ≡ true → (given : Reply) × (a ≡ Err given) × (is_table_error given ≡ false)
+pub early-error : (a : Result Accepted Reply) → is_refused_early a ≡ true → (given : Reply) × (a ≡ Err given) × (is_table_error given ≡ false)
 early-error (Ok accepted) early = absurd (false≢true early)
 early-error (Err given) early = (given, refl, not-true (is_table_error given) early)
 

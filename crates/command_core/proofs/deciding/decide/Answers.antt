@@ -36,7 +36,7 @@ returns-in-Err-clause-decides g c =
 
 pub returns-in-Err-clause-can : goal.returns-in-Err-clause-can
 unfolding new_cells
-returns-in-Err-clause-can g c = record { held = tt; here = tt }
+returns-in-Err-clause-can g c = record { held = tt; tables = tt; here = tt }
 
 pub returns-in-Ok-Done-clause-misplaced : goal.returns-in-Ok-Done-clause-misplaced
 returns-in-Ok-Done-clause-misplaced g c = λ unshaped.

@@ -1,0 +1,45 @@
+-- What is answered can be made of what is held, or no whole agrees with that.
+use Rattle.std.proofs.Common.{◌≡◌, ℕ, Bool, true, false, if◌then◌else◌, Result, Ok, Err, sym, ◌∙◌, refl}
+use Rattle.std.proofs.lemmas.Bool.{false≢true}
+use Rattle.rmm_spec.specs.declared.accepted.Accepted.{Accepted}
+use Rattle.rmm_spec.specs.declared.accepted.Accepted.TheVariants.{Done, Reaches}
+use Rattle.rmm_spec.specs.declared.change.Change.{Change}
+use Rattle.rmm_spec.specs.declared.command.Command.{Command}
+use Rattle.rmm_spec.specs.declared.reply.Reply.{Reply}
+use Rattle.rmm_spec.specs.declared.reply.Reply.TheVariants as reply
+use Rattle.rmm_spec.specs.Call.{call_of}
+use Rattle.rmm_spec.specs.Step.{outcome}
+use Rattle.rmm_spec.specs.Local.{Hold, LocalStep}
+use Rattle.rmm_sound.proofs.Runs.{done_applies}
+use Rattle.shape_laws.specs.Whole.{side_changed}
+use Rattle.shape_laws.proofs.Ties.{well_shaped-is_sound}
+use Rattle.command_core.specs.Changed.{new_cells, new_place, CanChange, CanAnswer, IsAnswer, can_make}
+use Rattle.command_core.specs.Decided.{made_answer}
+use Rattle.command_core.proofs.Changes.{is_answer}
+use Rattle.command_core.proofs.Fits.{applied-fits}
+use Rattle.command_core.proofs.Wholes.{Whole, state}
+
+pub refused : (granules cpu : ℕ) (command : Command) (hold : Hold) (given : Reply) → LocalStep granules cpu command given hold hold
+    → IsAnswer granules cpu command hold (Err given)
+unfolding new_cells new_place side_changed
+refused granules cpu command hold given step = record { can = tt; is_local = step }
+
+-- where no whole agrees, anything is a local step
+pub no_whole : (granules cpu : ℕ) (command : Command) (hold : Hold) → (Whole granules cpu hold → ⊥) → IsAnswer granules cpu command hold (Err reply.Misplaced)
+no_whole granules cpu command hold none = is_answer granules cpu command hold (Err reply.Misplaced) tt (λ w. absurd (none w))
+
+-- what each whole that agrees answers can be made of what is held, or there is no such whole
+pub made-answered : (granules cpu : ℕ) (command : Command) (hold : Hold) (answer : Result Accepted Reply) → CanAnswer cpu hold answer
+    → ((w : Whole granules cpu hold) → outcome (state granules cpu hold w) cpu (call_of command) ≡ answer)
+    → IsAnswer granules cpu command hold (made_answer granules hold.cells hold.side answer)
+made-answered granules cpu command hold (Err refusal) can each = is_answer granules cpu command hold (Err refusal) can each
+made-answered granules cpu command hold (Ok (Reaches stretch)) can each = absurd can
+made-answered granules cpu command hold (Ok (Done words change)) can each = by (can_make granules hold.cells hold.side change) refl
+  where
+    by : (b : Bool) → can_make granules hold.cells hold.side change ≡ b
+        → IsAnswer granules cpu command hold (if b then Ok (Done words change) else Err reply.Misplaced)
+    by true fits = is_answer granules cpu command hold (Ok (Done words change)) can each
+    by false unfit = no_whole granules cpu command hold (λ w.
+        let s = state granules cpu hold w in
+        let applies = done_applies s cpu command words.items change (well_shaped-is_sound granules hold.side w.places w.cells w.shaped) (each w) in
+        false≢true (sym unfit ∙ applied-fits granules cpu hold w change applies can))
