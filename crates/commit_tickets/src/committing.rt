@@ -5,7 +5,6 @@ ghost use Rattle.rmm_spec.specs.Call.{call_of};
 ghost use Rattle.rmm_spec.specs.Local.{LocalStep};
 ghost use Rattle.command_core.specs.Changed.{hold_of};
 ghost use Rattle.command_core.specs.Seen.{place_of};
-ghost use Rattle.command_core.specs.Served.{is_served};
 ghost use Rattle.command_core.specs.Settled.{is_settled};
 ghost use Rattle.command_core.specs.Sides.{side_of};
 ghost use Rattle.granule_lock.specs.HeldCells.{hold_cells};
@@ -29,7 +28,7 @@ pub struct Done {
     pub reply: Reply,
 }
 
-/// Commits a served command that what is held settles, as `next_lock` tells by Ready, by the token of its CPU. The reply is
+/// Commits a command that what is held settles, as `next_lock` tells by Ready, by the token of its CPU. The reply is
 /// decided on the held cells and offered to the journal's books. Where they give it, the cells, the side table and the token's
 /// place make the step; where they don't, or memory is refused, nothing changes but that the token keeps the fault. It waits
 /// for nobody.
@@ -40,7 +39,6 @@ pub fn commit<S: Site>(
     hold: &mut Hold,
     command: &Command,
 ) -> Result<Done, CommitFault>
-    requires served { IsTrue (is_served (call_of command.now)) }
     requires settled { IsTrue (is_settled S.granules (call_of command.now) (place_of token.old.place) (hold_cells hold.old)) }
     ensures ticket { IfOk result (λ done. done.ticket ≡ length journal.old.entries) }
     ensures journal { IfOk result (λ done. journal.new ≡ record journal.old {

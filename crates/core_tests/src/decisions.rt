@@ -6,7 +6,7 @@ ghost use Rattle.command_core.specs.Seen.{place_of};
 ghost use Rattle.command_core.specs.Sides.{side_of};
 
 use command_core::{
-    Cell, CpuPlace, Held, Next, PlainHeld, Side, apply, decide, next_lock, room, served,
+    Cell, CpuPlace, Held, Next, PlainHeld, Side, apply, decide, next_lock, room,
 };
 use granule_state::{Config, Pa};
 use rmi_codec::{read_command, read_reply};
@@ -91,9 +91,6 @@ fn answer(
     holder: &mut Holder,
     command: &Command,
 ) -> Result<Option<Reply>, AllocError> {
-    if !served(command) {
-        return Ok(None);
-    }
     let Next::Ready = next_lock(config, command, &holder.place, None, &holder.held) else {
         return Ok(None);
     };

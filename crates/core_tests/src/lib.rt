@@ -1,6 +1,6 @@
 //! Nothing but tests, of what stands below the locks: realms and RECs, and the monitor's core.
 //! Expected lines and digests come from outside, worked out by hand from the profile or by another program.
-//! `descriptors` has realms and RECs by their calls; `held_cells` held cells and which commands are served; `plans` what a CPU
+//! `descriptors` has realms and RECs by their calls; `held_cells` held cells; `plans` what a CPU
 //! does next; `decisions` what it is answered; `unshaped` cells that no shape has.
 //! Nothing depends on it.
 #![tactic(auto)]

@@ -1,7 +1,7 @@
 //! What a CPU does next on a quiet machine of 16 granules: two realms with a REC each, at 1000 with its REC above it, and at
 //! 9000 with its REC below it. Each line is a command and what its CPU does until it is ready.
 
-use command_core::{Cell, CpuPlace, Held, Next, PlainHeld, next_lock, served};
+use command_core::{Cell, CpuPlace, Held, Next, PlainHeld, next_lock};
 use granule_state::{Config, Pa};
 use realm_desc::{HashAlgorithm, Realm, Rec, Space};
 use rmi_codec::read_command;
@@ -164,9 +164,6 @@ impl Caller {
     // Does what comes next, and returns whether it is ready.
     fn go(&mut self, alloc: Global, place: &CpuPlace, command: &Command) -> Result<bool, Fail> {
         let config = Config::new(16, 2).ok_or("no such machine")?;
-        if !served(command) {
-            return Err(Fail::from("a command that isn't served"));
-        }
         let held = self.held(alloc)?;
         let next = next_lock(&config, command, place, self.learnt, &held);
         self.follow(&next)?;

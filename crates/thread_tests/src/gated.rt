@@ -1,15 +1,11 @@
 //! Two CPUs on threads of their own, one of which a gate holds up.
 
-ghost use Rattle.std.specs.Prelude.{◌≡◌, IsTrue, IfOk, IfSome};
-ghost use Rattle.rmm_spec.specs.Call.{call_of};
-ghost use Rattle.rmm_spec.specs.CommandText.{IsCommand};
-ghost use Rattle.command_core.specs.Served.{is_served};
+ghost use Rattle.std.specs.Prelude.{◌≡◌, IsTrue, IfOk};
 ghost use Rattle.event_queue.specs.View.{CanDrain};
 ghost use Rattle.monitor.specs.Cpus.{ArePairs};
 ghost use Rattle.monitor.specs.Executed.{ArePaired};
 
 use crate::monitored::{Answer, ok};
-use command_core::served;
 use granule_state::Config;
 use monitor::{CpuPass, CpuToken, Gate, History, Monitor, ScribePass, Site};
 use rmi_codec::read_command;
@@ -73,18 +69,6 @@ impl Gate for Turnstile {
     }
 }
 
-/// The command of a text, if it is a served one's.
-fn served_command(text: &str) -> Option<Command>
-    ensures command { IfSome result (λ command. IsCommand command) }
-    ensures served { IfSome result (λ command. IsTrue (is_served (call_of command))) }
-{
-    let command = read_command(text).ok()?;
-    if !served(&command) {
-        return None;
-    }
-    Some(command)
-}
-
 /// A CPU's token and pass.
 #[derive(Drop)]
 struct Cpu<S: Site> {
@@ -93,7 +77,7 @@ struct Cpu<S: Site> {
 }
 
 impl<S: Site> Cpu<S> {
-    /// What the CPU is answered to the command of a text, or nothing where the text isn't a served command's.
+    /// What the CPU is answered to the command of a text, or nothing where the text isn't a command's.
     fn ask<R: Wait>(
         mut self,
         rt: &R,
@@ -104,7 +88,7 @@ impl<S: Site> Cpu<S> {
     ) -> Option<Answer>
         requires { ArePaired monitor.now self.token self.pass }
     {
-        let command = served_command(text)?;
+        let command = read_command(text).ok()?;
         if self.pass.next_number() > 999_999 {
             return None;
         }
