@@ -8,6 +8,7 @@ mod runs;
 mod schedule;
 mod turning;
 mod turns;
+mod walking;
 
 use anyhow::{Result, bail};
 use replies::compare_replies;
