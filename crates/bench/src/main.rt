@@ -5,6 +5,7 @@
 //! Nothing depends on it: the scripts in `bench` run it.
 #![tactic(auto)]
 
+mod deep_lives;
 mod judged;
 mod lives;
 mod measures;

@@ -1,14 +1,14 @@
 //! Two CPUs on threads of their own, one of which a gate holds up.
 
-ghost use Rattle.std.specs.Prelude.{◌≡◌, IsTrue, IfOk};
+ghost use Rattle.std.specs.Prelude.{◌≡◌, IsTrue, IfOk, IfSome};
 ghost use Rattle.event_queue.specs.View.{CanDrain};
 ghost use Rattle.monitor.specs.Cpus.{ArePairs};
 ghost use Rattle.monitor.specs.Executed.{ArePaired};
 
 use crate::monitored::{Answer, ok};
 use granule_state::Config;
-use monitor::{CpuPass, CpuToken, Gate, History, Monitor, ScribePass, Site};
-use rmi_codec::read_command;
+use monitor::{CpuPass, CpuToken, Gate, History, Monitor, Open, ScribePass, Site};
+use rmi_codec::{read_command, read_reply};
 use rmm_spec::{Command, Reply};
 use std::alloc::{AllocError, Global};
 use std::marker::Brand;
@@ -77,6 +77,29 @@ struct Cpu<S: Site> {
 }
 
 impl<S: Site> Cpu<S> {
+    /// The CPU after the commands of the script, a line each, or nothing where one isn't executed.
+    fn prepare<R: Wait>(
+        mut self,
+        rt: &R,
+        alloc: Global,
+        monitor: &Monitor<S>,
+        script: &str,
+    ) -> Option<Cpu<S>>
+        requires { ArePaired monitor.now self.token self.pass }
+        ensures { IfSome result (λ cpu. ArePaired monitor.now cpu.token cpu.pass) }
+    {
+        for text in script.lines() {
+            let command = read_command(text).ok()?;
+            if self.pass.next_number() > 999_999 {
+                return None;
+            }
+            monitor
+                .execute(rt, alloc, &mut self.token, &mut self.pass, &Open, command)
+                .ok()?;
+        }
+        Some(self)
+    }
+
     /// What the CPU is answered to the command of a text, or nothing where the text isn't a command's.
     fn ask<R: Wait>(
         mut self,
@@ -130,7 +153,14 @@ fn last_cpu<S: Site>(
     Ok(Cpu { token, pass })
 }
 
-/// Both CPUs on threads of their own: CPU 0 delegates granule 1000, and CPU 1 is asked once CPU 0 is held up.
+/// What both CPUs are asked.
+#[derive(Clone, Copy)]
+struct Texts {
+    first: &'static str,
+    second: &'static str,
+}
+
+/// Both CPUs on threads of their own: CPU 1 is asked once CPU 0 is held up.
 fn ask_both<S: Site + Send + Sync, R: Threads + Wait + Sync>(
     rt: &R,
     alloc: Global,
@@ -138,7 +168,7 @@ fn ask_both<S: Site + Send + Sync, R: Threads + Wait + Sync>(
     gate: &Turnstile,
     first: Cpu<S>,
     second: Cpu<S>,
-    text: &str,
+    texts: Texts,
     answered: &AtomicBool,
 ) -> (Option<Answer>, Option<Answer>)
     requires { ArePaired monitor.now first.token first.pass × ArePaired monitor.now second.token second.pass }
@@ -147,29 +177,34 @@ fn ask_both<S: Site + Send + Sync, R: Threads + Wait + Sync>(
         rt,
         || -> Option<Answer>
             requires { ArePaired monitor.now first.token first.pass }
-        { first.ask(rt, alloc, monitor, gate, "c4000151 1000") },
+        { first.ask(rt, alloc, monitor, gate, texts.first) },
         || -> Option<Answer>
             requires { ArePaired monitor.now second.token second.pass }
-        { second.ask_second(rt, alloc, monitor, gate, text, answered) },
+        { second.ask_second(rt, alloc, monitor, gate, texts.second, answered) },
     )
 }
 
-/// CPU 0 delegates a granule and is held up until CPU 1 has been answered, which delegates another. Returns both answers,
-/// and whether CPU 0 gave up waiting.
-fn delegate_apart<S: Site + Send + Sync, R: Threads + Wait + Sync>(
+/// CPU 0 executes the script, then calls and is held up until CPU 1 has been answered, which calls meanwhile. Returns both
+/// answers, and whether CPU 0 gave up waiting.
+fn ask_apart<S: Site + Send + Sync, R: Threads + Wait + Sync>(
     rt: &R,
     alloc: Global,
     blank: Blank,
     config: Config,
+    script: &str,
+    texts: Texts,
 ) -> Result<(Option<Answer>, Option<Answer>, bool), Fail>
     requires name { blank.name ≡ S.name }
     requires parts { blank.parts ≡ S.parts }
     requires one_each { blank.parts ≡ config.cpus }
     requires granules { config.granules ≡ S.granules }
 {
-    let (monitor, mut tokens, mut passes, _scribe) = Monitor::<S>::new(alloc, blank, config, 16)?;
+    let (monitor, mut tokens, mut passes, _scribe) = Monitor::<S>::new(alloc, blank, config, 64)?;
     let second = last_cpu(&monitor, &mut tokens, &mut passes)?;
     let first = last_cpu(&monitor, &mut tokens, &mut passes)?;
+    let first = first
+        .prepare(rt, alloc, &monitor, script)
+        .ok_or("a script")?;
     let gate = Turnstile::new();
     let (first, second) = ask_both(
         rt,
@@ -178,7 +213,7 @@ fn delegate_apart<S: Site + Send + Sync, R: Threads + Wait + Sync>(
         &gate,
         first,
         second,
-        "c4000151 2000",
+        texts,
         &gate.is_open,
     );
     Ok((first, second, gate.ran_out.load(Ordering::SeqCst)))
@@ -195,13 +230,52 @@ fn is_answered(answer: &Option<Answer>, reply: &Reply) -> bool {
 #[test]
 fn two_commands_under_way(rt: HostRuntime) -> Result<(), Fail> {
     let config = Config::new(4, 2).ok_or("a machine of this size")?;
-    let (first, second, ran_out) = delegate_apart::<Brand, _>(
+    let texts = Texts {
+        first: "c4000151 1000",
+        second: "c4000151 2000",
+    };
+    let (first, second, ran_out) = ask_apart::<Brand, _>(
         &rt,
         rt.alloc(),
         Blank::new(2),
         config,
+        "",
+        texts,
     )?;
     assert!(rt; is_answered(&first, &ok()) && is_answered(&second, &ok()) && !ran_out);
+    Ok(())
+}
+
+/// A realm with two tables of pages, for 0 and for 200000.
+const TWO_SUBTREES: &str =
+    "c4000151 1000\nc4000151 2000\nc4000151 3000\nc4000151 4000\nc4000151 5000\nc4000151 6000\n\
+    c4000151 7000\nc4000158 1000 2000 27 1 1 0\nc400015d 1000 3000 0 2\nc400015d 1000 4000 0 3\nc400015d 1000 5000 200000 3\n";
+
+/// Whether CPU 1 is answered this while CPU 0 maps a page below the other table and holds that one.
+fn passes_by<R: Threads + Wait + Sync>(
+    rt: &R,
+    alloc: Global,
+    second: &'static str,
+    reply: &str,
+) -> Result<bool, Fail> {
+    let config = Config::new(16, 2).ok_or("a machine of this size")?;
+    let first = "c4000154 1000 6000 0";
+    let texts = Texts { first, second };
+    let (first, second, ran_out) = ask_apart::<Brand, _>(
+        rt,
+        alloc,
+        Blank::new(2),
+        config,
+        TWO_SUBTREES,
+        texts,
+    )?;
+    Ok(is_answered(&first, &ok()) && is_answered(&second, &read_reply(reply)?) && !ran_out)
+}
+
+#[test]
+fn walks_under_way_in_two_subtrees(rt: HostRuntime) -> Result<(), Fail> {
+    assert!(rt; passes_by(&rt, rt.alloc(), "c4000154 1000 7000 200000", "ok")?);
+    assert!(rt; passes_by(&rt, rt.alloc(), "c4000161 1000 200000 3", "ok 3 0 0 0")?);
     Ok(())
 }
 
@@ -272,22 +346,15 @@ fn delegate_same<S: Site + Send + Sync, R: Threads + Wait + Sync>(
     let first = last_cpu(&monitor, &mut tokens, &mut passes)?;
     let history = History::new(alloc, config);
     let (gate, answered) = (Turnstile::new(), AtomicBool::new(false));
+    let texts = Texts {
+        first: "c4000151 1000",
+        second: "c4000151 1000",
+    };
     let ((first, second), stayed_out) = thread::join(
         rt,
         || -> (Option<Answer>, Option<Answer>)
             requires { ArePaired monitor first.token first.pass × ArePaired monitor second.token second.pass }
-        {
-            ask_both(
-                rt,
-                alloc,
-                &monitor,
-                &gate,
-                first,
-                second,
-                "c4000151 1000",
-                &answered,
-            )
-        },
+        { ask_both(rt, alloc, &monitor, &gate, first, second, texts, &answered) },
         || -> Result<bool, AllocError>
             requires { CanDrain monitor.queue scribe history.recorded }
         { open_late(rt, &monitor, scribe, history, &gate, &answered) },

@@ -73,7 +73,7 @@ impl<S: Site> Cpu<S> {
         false
     }
 
-    // Executes a command, and returns why it wasn't executed to its end. One that the monitor doesn't serve stops the CPU.
+    // Executes a command, and returns why it wasn't executed to its end. One that has no text stops the CPU.
     fn refusal<R: Wait>(
         &mut self,
         rt: &R,
