@@ -10,6 +10,7 @@ mod judged;
 mod lives;
 mod measures;
 mod monitors;
+mod pages;
 mod queues;
 mod timing;
 mod walks;
