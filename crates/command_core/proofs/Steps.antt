@@ -332,7 +332,7 @@ inside-steps k granules c rec rd held distinct = by k
         → IsStep granules c (Inside rec rd) names held (next_to_read granules c rec rd held o)
     reads first None is = least-steps granules c (Inside rec rd) names true held rec distinct first
     reads first (Some w) is =
-        way-steps granules c (Inside rec rd) names held rd distinct (read-some c rec rd held w is) (spare granules true held w)
+        way-steps granules c (Inside rec rd) names held w.rd distinct (read-some c rec rd held w is) (spare granules true held w)
         (spare-held granules true held w) (wanted granules c held w)
 
     by : (kind : Class) → is_settled_inside kind granules c rec rd held ≡ false → IsStep granules c (Inside rec rd) names held (next_inside kind granules c rec rd held)
