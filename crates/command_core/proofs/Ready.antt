@@ -32,7 +32,6 @@ use Rattle.command_core.proofs.Walked.{walk-ready, taken-way, untaken-way}
 use Rattle.command_core.proofs.Made.{refused, no_whole, made-answered}
 use Rattle.command_core.specs.Furthest.{furthest}
 use Rattle.command_core.specs.Sides.{is_vmid_listed, are_recs_counted}
-use Rattle.command_core.specs.Served.{is_served}
 use Rattle.command_core.specs.Changed.{new_cells, new_place, hold_changed, CanAnswer, Answers, IsAnswer, can_make, CanMakeAnswer}
 use Rattle.command_core.specs.Named.{has_wrong, words_fit}
 use Rattle.command_core.specs.Unshaped.{is_misfit, is_unshaped_outside, is_unshaped}
@@ -68,13 +67,13 @@ settled_by true false true complete shaped is front = absurd (false≢true (sym 
 settled_by true true unshaped complete shaped is front = absurd (false≢true (sym front))
 settled_by false wrong unshaped complete shaped is front = absurd (false≢true (sym front))
 
-host-ready : (granules cpu : ℕ) (command : Command) (hold : Hold) → is_served (call_of command) ≡ true → class_of (call_of command) ≡ ByHost → hold.place ≡ Outside
+host-ready : (granules cpu : ℕ) (command : Command) (hold : Hold) → class_of (call_of command) ≡ ByHost → hold.place ≡ Outside
     → is_unshaped_outside granules (call_of command) hold.cells ≡ false
     → (not (words_fit granules (call_of command)) || has_wrong (named (call_of command)) hold.cells
     || is_unshaped_outside granules (call_of command) hold.cells
     || is_all_held granules (call_of command) hold.cells (way_taken (call_of command))) ≡ true
     → IsAnswer granules cpu command hold (made_answer granules hold.cells hold.side (told_outside granules cpu hold (call_of command)))
-host-ready granules cpu command hold served host place shaped settled =
+host-ready granules cpu command hold host place shaped settled =
     by (not (words_fit granules (call_of command)) || has_wrong (named (call_of command)) hold.cells) refl
   where
     by : (b : Bool) → (not (words_fit granules (call_of command)) || has_wrong (named (call_of command)) hold.cells) ≡ b
@@ -108,11 +107,11 @@ other-answer vmids recs s cpu c k is other = ap (λ x. host_answer x s cpu c) is
 
 -- ---- any command
 
-pub settled-answered : (granules cpu : ℕ) (command : Command) (hold : Hold) → is_served (call_of command) ≡ true
+pub settled-answered : (granules cpu : ℕ) (command : Command) (hold : Hold)
     → is_settled granules (call_of command) hold.place hold.cells ≡ true
     → IsAnswer granules cpu command hold (settled_answer granules cpu (call_of command) hold.cells hold.side hold.place)
 unfolding is_settled settled_answer is_unshaped
-settled-answered granules cpu command hold served settled = by (is_unshaped granules (call_of command) hold.place hold.cells) refl
+settled-answered granules cpu command hold settled = by (is_unshaped granules (call_of command) hold.place hold.cells) refl
   where
     c : Call
     c = call_of command
@@ -122,7 +121,7 @@ settled-answered granules cpu command hold served settled = by (is_unshaped gran
 
     outside : (k : Class) → class_of c ≡ k → hold.place ≡ Outside → is_unshaped_outside granules c hold.cells ≡ false
         → is_settled_outside k granules c hold.cells ≡ true → IsAnswer granules cpu command hold (told Outside)
-    outside ByHost host place shaped is = host-ready granules cpu command hold served host place shaped is
+    outside ByHost host place shaped is = host-ready granules cpu command hold host place shaped is
     outside ByRealm realm place shaped is =
         subst (λ (answer : Result Accepted Reply). IsAnswer granules cpu command hold (made_answer granules hold.cells hold.side answer))
         (sym (other-answer (is_vmid_listed hold.side) (are_recs_counted hold.side) (seen_state granules hold.cells) cpu c ByRealm realm (λ same. cc)))
@@ -154,12 +153,12 @@ settled-answered granules cpu command hold served settled = by (is_unshaped gran
 
 -- what was decided, under another name
 pub decision : (granules cpu : ℕ) (command : Command) (hold : Hold) (c : Call) (given answer : Result Accepted Reply) → c ≡ call_of command
-    → is_served (call_of command) ≡ true → is_settled granules (call_of command) hold.place hold.cells ≡ true
+    → is_settled granules (call_of command) hold.place hold.cells ≡ true
     → given ≡ settled_answer granules cpu c hold.cells hold.side hold.place → given ≡ answer → IsAnswer granules cpu command hold answer
-decision granules cpu command hold c given answer is served settled decided_so same =
+decision granules cpu command hold c given answer is settled decided_so same =
     subst (IsAnswer granules cpu command hold)
     (ap (λ (x : Call). settled_answer granules cpu x hold.cells hold.side hold.place) (sym is) ∙ (sym decided_so ∙ same))
-    (settled-answered granules cpu command hold served settled)
+    (settled-answered granules cpu command hold settled)
 
 change-makes : (granules : ℕ) (hold : Hold) (words : List ℕ) (change : Change) → granules ≤ 4096
     → CanMakeAnswer hold (made_change granules hold.cells hold.side (done words change) change)
@@ -187,11 +186,11 @@ unfolding settled_answer
 decision-unshaped granules cpu command hold c given is decided_so unshaped =
     decided_so ∙ (ap (λ (x : Call). settled_answer granules cpu x hold.cells hold.side hold.place) is ∙ rw unshaped refl)
 
-pub settled-ready : (granules : ℕ) (command : Command) (place : CpuPlace) (held : List HeldCell) → is_served (call_of command) ≡ true
+pub settled-ready : (granules : ℕ) (command : Command) (place : CpuPlace) (held : List HeldCell)
     → is_settled granules (call_of command) place held ≡ true → IsReady granules command place held
-settled-ready granules command place held served settled = record {
+settled-ready granules command place held settled = record {
   allows = λ cpu side.
       let hold : Hold = record { cells = held; side = side; place = place } in
       allowed granules cpu command hold (settled_answer granules cpu (call_of command) held side place)
-      (settled-answered granules cpu command hold served settled).is_local;
+      (settled-answered granules cpu command hold settled).is_local;
 }

@@ -30,7 +30,6 @@ use Rattle.walk_laws.specs.Walking.{Way, way_of, keeps_realm, is_told, are_told}
 use Rattle.command_core.specs.Walks.{Part, way_taken, way_to_read, way_inside, come_to, is_above, is_realm_spare, spare, wanted}
 use Rattle.command_core.specs.Unshaped.{can_learn, has_bad_owner, is_misfit_way, is_misfit, has_misfit_part, is_unshaped_outside}
 use Rattle.command_core.specs.Settled.{is_complete, is_all_held, is_read_over, is_settled_outside, is_settled_inside, is_settled}
-use Rattle.command_core.specs.Served.{is_served}
 use Rattle.command_core.specs.Plan.{IsStep, IsPlanned, is_ready}
 use Rattle.command_core.specs.Next.{last_taken, taken, take_named, take_least, take_part, take_root, take_auxes, next_aux, learn_realm, take_realm, next_to_enter, first_named, free_or_take, next_with_parts, next_to_walk, next_on_way, place_names, next_to_read, next_outside, next_inside, next_unsettled, next}
 use Rattle.command_core.proofs.Inside.{fitting-granule, fitting-place}
@@ -332,7 +331,7 @@ inside-steps k granules c rec rd held distinct = by k
         → IsStep granules c (Inside rec rd) names held (next_to_read granules c rec rd held o)
     reads first None is = least-steps granules c (Inside rec rd) names true held rec distinct first
     reads first (Some w) is =
-        way-steps granules c (Inside rec rd) names held rd distinct (read-some c rec rd held w is) (spare granules true held w)
+        way-steps granules c (Inside rec rd) names held w.rd distinct (read-some c rec rd held w is) (spare granules true held w)
         (spare-held granules true held w) (wanted granules c held w)
 
     by : (kind : Class) → is_settled_inside kind granules c rec rd held ≡ false → IsStep granules c (Inside rec rd) names held (next_inside kind granules c rec rd held)
@@ -376,16 +375,16 @@ step-unready granules c place names held Ready step = absurd step
 step-unready granules c place names held (Take granule) step = refl
 step-unready granules c place names held (Free granule rd) step = refl
 
-pub next-planned : (granules : ℕ) (command : Command) (place : CpuPlace) (learnt : Option ℕ) (held : List HeldCell) → is_served (call_of command) ≡ true
+pub next-planned : (granules : ℕ) (command : Command) (place : CpuPlace) (learnt : Option ℕ) (held : List HeldCell)
     → IsTrue (are_distinct (granules_held held)) → IsPlanned granules command place learnt held (next granules (call_of command) place learnt held)
 unfolding next
-next-planned granules command place learnt held served distinct = by (is_settled granules (call_of command) place held) refl
+next-planned granules command place learnt held distinct = by (is_settled granules (call_of command) place held) refl
   where
     otherwise : Next
     otherwise = next_unsettled granules (call_of command) place learnt held
 
     by : (b : Bool) → is_settled granules (call_of command) place held ≡ b → IsPlanned granules command place learnt held (if b then Ready else otherwise)
-    by true settled = settled-ready granules command place held served settled
+    by true settled = settled-ready granules command place held settled
     by false unsettled =
         step-planned granules command place learnt held otherwise (unsettled-steps granules (call_of command) place learnt held distinct unsettled)
 

@@ -61,7 +61,7 @@ leading-most (suc n) p c within each = by (c == suc n) refl (leading-most n p)
 pub leading-more : (n : ℕ) (p : ℕ → Bool) → leading n p ≡ n → p n ≡ true → leading (n + 1) p ≡ n + 1
 leading-more n p all next =
     let whole : (leading n p == n && p n) ≡ true = rw (eq-eqb (leading n p) n all) next in
-    rw (← add-one n) (rw whole refl)
+    rw (add-one n) (rw whole refl)
 
 by_and : (b c : Bool) → c ≡ false → (b && c) ≡ false
 by_and true c fails = fails
@@ -95,7 +95,7 @@ leading-ends (suc n) p k within all stops = by (k == n) refl (λ less. leading-e
 
 unit-some : (level : ℕ) → 0 < entry_size level
 unfolding entry_size
-unit-some level = pow_pos 2 (12 + 9 * (3 - level)) (omega arith)
+unit-some level = pow_pos (12 + 9 * (3 - level))
 
 -- how much of the stretch may be set at most
 abbrev room : Stretch → ℕ

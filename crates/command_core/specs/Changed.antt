@@ -26,23 +26,15 @@ use Rattle.rmm_spec.specs.declared.change.EntryChange.TheVariants.{Replaced, Rip
 use Rattle.rmm_spec.specs.declared.change.TagChange.{TagChange}
 use Rattle.rmm_spec.specs.Step.Words.{is_space}
 use Rattle.rmm_spec.specs.Walk.{table_size}
-use Rattle.walk_laws.specs.TableCells.{table_cells, holds_change}
+use Rattle.walk_laws.specs.TableCells.{realm_cells, rec_cells, table_cells, holds_change}
 use Rattle.rmm_spec.specs.Cell.{Cell, Delegated, Rd, Rec, RecAux, Rtt}
 use Rattle.rmm_spec.specs.Shape.{Side, CpuPlace, Outside, Inside}
 use Rattle.rmm_spec.specs.Local.{HeldCell, Hold, LocalStep}
 use Rattle.world_laws.specs.Replaced.{held_at, replaced_all}
-use Rattle.shape_laws.specs.Whole.{cell_with_tag, cell_with_realm, cell_with_rec, root_table, side_changed}
+use Rattle.shape_laws.specs.Whole.{cell_with_tag, cell_with_realm, root_table, side_changed}
 use Rattle.command_core.specs.Seen.{is_held, known_cell}
 
 -- ---- cells
-
-abbrev pub realm_cells : List HeldCell → Option RealmChange → List HeldCell
-realm_cells held None = []
-realm_cells held (Some change) = held_at change.rd (cell_with_realm change.update (known_cell held change.rd)) ∷ []
-
-abbrev pub rec_cells : List HeldCell → Option RecChange → List HeldCell
-rec_cells held None = []
-rec_cells held (Some change) = held_at change.rec (cell_with_rec change.update (known_cell held change.rec)) ∷ []
 
 -- the cells that a change puts in, each in the place of the one that is held at its granule
 unfoldable pub new_cells : List HeldCell → Change → List HeldCell

@@ -1,4 +1,4 @@
--- What is answered to a served command from what is held, where that settles it: what its rows answer in the state that the held
+-- What is answered to a command from what is held, where that settles it: what its rows answer in the state that the held
 -- cells tell of, with the side table's word on VMIDs and RECs. Cells that no shape has are answered as misplaced, and so is a
 -- change that can't be made of what is held: no whole agrees with either. This project's own.
 use Rattle.std.specs.Prelude.{ℕ, if◌then◌else◌, List, [], ◌∷◌, Option, Some, Result, Ok, Err}

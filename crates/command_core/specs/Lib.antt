@@ -1,7 +1,6 @@
 pub mod Seen
 pub mod Plain
 pub mod PlainLaws
-pub mod Served
 pub mod Changed
 pub mod Named
 pub mod Walks

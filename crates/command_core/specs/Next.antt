@@ -116,7 +116,7 @@ place_names rec rd = needed rec tag.Rec ∷ needed rd tag.Rd ∷ []
 abbrev pub next_to_read : ℕ → Call → ℕ → ℕ → List HeldCell → Option Way → Next
 next_to_read granules call rec rd held None = take_least granules true (place_names rec rd) held rec
 next_to_read granules call rec rd held (Some way) =
-    free_or_take granules (place_names rec rd) held rd (spare granules true held way) (wanted granules call held way)
+    free_or_take granules (place_names rec rd) held way.rd (spare granules true held way) (wanted granules call held way)
 
 -- an exit takes the REC alone
 abbrev pub next_inside : Class → ℕ → Call → ℕ → ℕ → List HeldCell → Next

@@ -5,7 +5,6 @@ ghost use Rattle.rmm_spec.specs.Call.{call_of};
 ghost use Rattle.command_core.specs.Changed.{hold_of, CanChange, CanMake, CanMakeAnswer, Decides};
 ghost use Rattle.command_core.specs.Decided as spec;
 ghost use Rattle.command_core.specs.Seen.{place_of};
-ghost use Rattle.command_core.specs.Served.{is_served};
 ghost use Rattle.command_core.specs.Settled.{is_settled};
 ghost use Rattle.command_core.specs.Sides.{side_of};
 ghost use Rattle.command_core.specs.Unshaped.{is_unshaped};
@@ -20,7 +19,7 @@ use granule_cells::{CpuPlace, Side};
 use granule_state::Config;
 use rmm_spec::{Accepted, Call, Change, Command, Reply};
 
-/// The reply and the change of a served command that what is held settles. Together they are a step of the machine, whatever
+/// The reply and the change of a command that what is held settles. Together they are a step of the machine, whatever
 /// the cells are that aren't held; a refusal changes nothing. The change is made by `apply`, with the room that `room` takes.
 pub fn decide<H: Held>(
     config: &Config,
@@ -30,7 +29,6 @@ pub fn decide<H: Held>(
     held: &H,
     side: &Side,
 ) -> (Reply, Change)
-    requires served { IsTrue (is_served (call_of command.now)) }
     requires settled { IsTrue (is_settled config.now.granules (call_of command.now) (place_of place.now) (H.cells held.now)) }
     ensures decides { Decides config.now.granules cpu command.now
         (hold_of (H.cells held.now) (side_of side.now) (place_of place.now)) result.0 result.1 }

@@ -1,6 +1,6 @@
 //! How far a RIPAS command gets: to the greatest end that its rows allow.
 
-ghost use Rattle.std.specs.Prelude.{◌≡◌, ◌<◌, ◌≤◌, ◌^◌};
+ghost use Rattle.std.specs.Prelude.{◌≡◌, ◌≤◌, ◌^◌};
 ghost use Rattle.rmm_spec.specs.Walk as walk;
 ghost use Rattle.command_core.specs.Furthest as spec;
 
@@ -14,13 +14,13 @@ use table_entries::{can_be_set, entry_number, table_number};
 // How many bytes an entry of the level covers.
 #[tactic(auto, unfolding(rmm_spec::specs::Walk::entry_size))]
 fn entry_size(level: u8) -> u64
-    ensures size { result ≡ walk.entry_size level }
-    ensures some { 0 < result }
+    ensures { result ≡ walk.entry_size level }
 {
     1 << (12 + 9 * 3u8.saturating_sub(level))
 }
 
 // How many entries end by the top that is asked for, and by the end of the first one's table.
+#[tactic(auto, unfolding(rmm_spec::specs::Walk::entry_number))]
 fn most_set(stretch: &Stretch) -> u64
     ensures exact { result ≡ spec.most_set stretch.now }
     ensures within { result ≤ 2 ^ 52 }
@@ -30,7 +30,7 @@ fn most_set(stretch: &Stretch) -> u64
         stretch.top,
         number.saturating_mul(table_size(u64::from(stretch.level))),
     );
-    end.saturating_sub(stretch.base) / entry_size(stretch.level)
+    entry_number(stretch.level, end.saturating_sub(stretch.base))
 }
 
 impl<'a, H: Held> HeldSight<'a, H> {

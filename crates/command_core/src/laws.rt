@@ -17,7 +17,6 @@ ghost use Rattle.rmm_spec.specs.Locks.{IsRisingTake};
 ghost use Rattle.world_laws.specs.Replaced.{replaced_all};
 ghost use Rattle.shape_laws.specs.Whole.{side_changed};
 ghost use Rattle.command_core.specs.Seen.{are_distinct, known_cell};
-ghost use Rattle.command_core.specs.Served.{is_served};
 ghost use Rattle.command_core.specs.Changed.{CanAnswer, Answers, Decides, new_cells, new_place};
 ghost use Rattle.command_core.specs.Named.{is_upward, is_downward};
 ghost use Rattle.command_core.specs.Settled.{is_settled};
@@ -33,9 +32,9 @@ pub fn answers_are_local()
         → Answers granules cpu command hold answer }
 {}
 
-/// Where what is held settles a served command, it allows a local step, whatever the side table has and whichever CPU it is.
+/// Where what is held settles a command, it allows a local step, whatever the side table has and whichever CPU it is.
 pub fn settled_commands_are_ready()
-    ensures { (granules : ℕ) (command : Command) (place : CpuPlace) (held : List HeldCell) → is_served (call_of command) ≡ true
+    ensures { (granules : ℕ) (command : Command) (place : CpuPlace) (held : List HeldCell)
         → is_settled granules (call_of command) place held ≡ true → IsReady granules command place held }
 {}
 

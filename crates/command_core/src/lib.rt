@@ -1,5 +1,5 @@
 //! The monitor's core: what a CPU does with the granules that it holds. Nothing here waits; addresses are in bytes.
-//! It promises that cells held under locks are read and replaced by address; what a CPU does next for a served command,
+//! It promises that cells held under locks are read and replaced by address; what a CPU does next for a command,
 //! whatever it holds: it takes a lock at a rising take, frees one, or is ready to commit; and that the reply and the change that
 //! it is then given are a step of the machine, whatever the other cells are, made with the memory that was taken before it.
 //! The world of turns and the monitor's threads are to depend on it.
@@ -20,7 +20,6 @@ mod plain_held;
 mod planning;
 mod put_cells;
 mod rooms;
-mod serving;
 mod settling;
 mod taking;
 mod unshaped;
@@ -41,4 +40,3 @@ pub use plain_held::PlainHeld;
 pub use planning::next_lock;
 pub use rmm_spec::Change;
 pub use rooms::room;
-pub use serving::served;

@@ -174,7 +174,7 @@ fn fits_entries(change: &EntryChange) -> bool
     match *change {
         EntryChange::Replaced { .. } => true,
         EntryChange::RipasSet { first, last, .. } => first < last
-            && last <= (first / 512 + 1) * 512,
+            && last - first / 512 * 512 <= 512,
     }
 }
 

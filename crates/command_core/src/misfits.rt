@@ -62,6 +62,8 @@ fn is_other_page(cell: Option<&Cell>) -> bool
 
 impl<'a, H: Held> HeldSight<'a, H> {
     ghost use Rattle.std.specs.Prelude.{◌≡◌, ◌<◌, slice_get};
+    ghost use Rattle.std.specs.List.{list_any};
+    ghost use Rattle.rmm_spec.specs.Local.{granules_held};
     ghost use Rattle.walk_laws.specs.Held.{cell_in};
     ghost use Rattle.walk_laws.specs.SeenState.{table_held};
     ghost use Rattle.walk_laws.specs.Misfits as spec;
@@ -123,16 +125,21 @@ impl<'a, H: Held> HeldSight<'a, H> {
         }
     }
 
+    // Whether an entry of some held table for the address names such.
+    fn has_misfit_table(&self, ipa: u64) -> bool
+        ensures { result ≡ list_any (λ granule. spec.is_misfit_table self.now.config.now.granules (H.cells self.now.held.now) ipa (table_held (H.cells self.now.held.now) granule)) (granules_held (H.cells self.now.held.now)) }
+    {
+        self.held
+            .held()
+            .iter()
+            .any(|granule| self.is_misfit_table(*granule, ipa))
+    }
+
     /// Whether a walk in the tables of the realm for the address meets such.
     #[tactic(auto, unfolding(walk_laws::specs::Misfits::is_misfit_walk))]
     pub(crate) fn is_misfit_walk(&self, rd: u64, ipa: u64) -> bool
         ensures { result ≡ spec.is_misfit_walk self.now.config.now.granules (H.cells self.now.held.now) rd ipa }
     {
-        self.is_misfit_root(rd)
-            || self
-                .held
-                .held()
-                .iter()
-                .any(|granule| self.is_misfit_table(*granule, ipa))
+        self.is_misfit_root(rd) || self.has_misfit_table(ipa)
     }
 }

@@ -1,9 +1,8 @@
 //! What a CPU does next for its command, told by the cells that it holds.
 
-ghost use Rattle.std.specs.Prelude.{◌≡◌, ◌<◌, IsTrue};
+ghost use Rattle.std.specs.Prelude.{◌≡◌, ◌<◌};
 ghost use Rattle.rmm_spec.specs.Call.{call_of, class_of};
 ghost use Rattle.command_core.specs.Seen.{cell_in, place_of};
-ghost use Rattle.command_core.specs.Served.{is_served};
 ghost use Rattle.command_core.specs.Settled.{is_settled};
 ghost use Rattle.command_core.specs.Plan.{IsPlanned, is_ready};
 ghost use Rattle.command_core.specs.Next as spec;
@@ -293,7 +292,7 @@ fn next_held<'a, H: Held>(
     next_for(&sight, call, place, learnt)
 }
 
-/// What a CPU at this place does next for a served command, whatever it holds. What it has learnt is what the last free of
+/// What a CPU at this place does next for a command, whatever it holds. What it has learnt is what the last free of
 /// this call learnt, and nothing before the first.
 pub fn next_lock<H: Held>(
     config: &Config,
@@ -302,7 +301,6 @@ pub fn next_lock<H: Held>(
     learnt: Option<Pa>,
     held: &H,
 ) -> Next
-    requires served { IsTrue (is_served (call_of command.now)) }
     ensures exact { result ≡ spec.next config.now.granules (call_of command.now) (place_of place.now) learnt (H.cells held.now) }
     ensures settled { is_settled config.now.granules (call_of command.now) (place_of place.now) (H.cells held.now) ≡ is_ready result }
     ensures planned { IsPlanned config.now.granules command.now (place_of place.now) learnt (H.cells held.now) result }

@@ -12,8 +12,8 @@ ghost use Rattle.world_laws.specs.Replaced.{held_at, replaced_cells, replaced_al
 ghost use Rattle.shape_laws.specs.Whole as spec_whole;
 ghost use Rattle.shape_laws.specs.Whole.{root_table, cell_with_tag, cell_with_realm, cell_with_rec};
 ghost use Rattle.walk_laws.specs.SeenState.{table_held, table_placed};
-ghost use Rattle.walk_laws.specs.TableCells.{tag_cells, entry_cells, table_cells};
-ghost use Rattle.command_core.specs.Changed.{new_cells, realm_cells, rec_cells, AreHeld, AreAllHeld, is_plain, counts_in, fits_realm, fits_rec, fits_realm_change, fits_rec_change, fits_page, fits_entries, fits_cells};
+ghost use Rattle.walk_laws.specs.TableCells.{tag_cells, realm_cells, rec_cells, entry_cells, table_cells};
+ghost use Rattle.command_core.specs.Changed.{new_cells, AreHeld, AreAllHeld, is_plain, counts_in, fits_realm, fits_rec, fits_realm_change, fits_rec_change, fits_page, fits_entries, fits_cells};
 ghost use Rattle.command_core.specs.NewCells.{new_cell};
 ghost use Rattle.command_core.specs.Rooms.{IsRoomFor};
 ghost use Rattle.command_core.specs.Seen.{cell_of, is_held, known_cell};
@@ -32,7 +32,7 @@ use rmm_spec::{
 use rtt_table::Table;
 
 /// Puts in the cells that the change means, each in the place of the one that is held at its granule.
-#[tactic(auto, unfolding(crate::specs::Changed::new_cells))]
+#[tactic(auto, unfolding(crate::specs::Changed::new_cells, walk_laws::specs::TableCells::table_cells))]
 pub(crate) fn put_cells<H: Held>(held: &mut H, change: &Change, room: Room)
     requires held { AreHeld (H.cells held.old) change.now }
     requires fits { IsTrue (fits_cells (H.cells held.old) change.now) }

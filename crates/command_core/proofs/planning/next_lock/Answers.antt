@@ -23,4 +23,4 @@ returns-clause-planned g c =
     let place = place_of a.place.now in
     subst (λ (n : Next). IsPlanned a.config.now.granules a.command.now place a.learnt held n)
     (sym (c.next_held.ensures ∙ ap (λ (x : Call). next a.config.now.granules x place a.learnt held) c.call.ensures))
-    (next-planned a.config.now.granules a.command.now place a.learnt held c.requires.served (g.met.H.Held.distinct a.held.now))
+    (next-planned a.config.now.granules a.command.now place a.learnt held (g.met.H.Held.distinct a.held.now))

@@ -2,7 +2,7 @@ use Rattle.std.proofs.Common.{sym, ap, ◌∙◌}
 use Rattle.walk_laws.specs.SeenState.{seen_state}
 use Rattle.walk_laws.specs.Walking.{is_refused_early}
 use Rattle.command_core.proofs.Walked.{outside-walk, owned-walk}
-use Rattle.command_core.proofs.walks.HeldSight.is_refused_early.Goals as goal
+use Rattle.command_core.proofs.held_sight.HeldSight.is_refused_early.Goals as goal
 
 pub answer_outside-requires : goal.answer_outside-requires
 answer_outside-requires g c =
