@@ -2,7 +2,7 @@
 //! It promises that cells held under locks are read and replaced by address; what a CPU does next for a command,
 //! whatever it holds: it takes a lock at a rising take, frees one, or is ready to commit; and that the reply and the change that
 //! it is then given are a step of the machine, whatever the other cells are, made with the memory that was taken before it.
-//! The world of turns and the monitor's threads are to depend on it.
+//! The world of turns and the monitor's threads depend on it.
 #![tactic(auto)]
 
 mod applying;
@@ -20,6 +20,7 @@ mod plain_held;
 mod planning;
 mod put_cells;
 mod rooms;
+mod serving;
 mod settling;
 mod taking;
 mod unshaped;
@@ -40,3 +41,4 @@ pub use plain_held::PlainHeld;
 pub use planning::next_lock;
 pub use rmm_spec::Change;
 pub use rooms::room;
+pub use serving::served;
