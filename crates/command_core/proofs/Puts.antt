@@ -3,7 +3,7 @@ use Rattle.std.proofs.Common.{◌≡◌, ℕ, ◌-◌, ◌*◌, ◌/◌, ◌^◌
 use Rattle.std.specs.Prelude.{IsTrue, IfSome, is_some, unwrap_or}
 use Rattle.std.specs.Option.{option_and_then}
 use Rattle.std.proofs.lemmas.Bool.{false≢true, and_parts}
-use Rattle.std.proofs.lemmas.Option.{none-some, same_Some}
+use Rattle.std.proofs.lemmas.Option.{none-some}
 use Rattle.rmm_spec.specs.declared.change.Change.TheVariants.{TableMade, TableDestroyed, EntriesChanged}
 use Rattle.rmm_spec.specs.declared.change.EntryChange.{EntryChange}
 use Rattle.rmm_spec.specs.declared.change.RealmChange.{RealmChange}
@@ -14,7 +14,7 @@ use Rattle.rmm_spec.specs.Walk.{table_size}
 use Rattle.rmm_spec.specs.Table.{TableRecord}
 use Rattle.rmm_spec.specs.Cell.{Cell, Undelegated, Rtt, table_in}
 use Rattle.rmm_spec.specs.Local.{HeldCell}
-use Rattle.world_laws.specs.Replaced.{held_at, replaced_at, replaced_cells, replaced_all}
+use Rattle.world_laws.specs.Replaced.{held_at, replaced_cells, replaced_all}
 use Rattle.shape_laws.specs.Whole.{cell_with_entries, table_changed}
 use Rattle.walk_laws.specs.Held.{cell_in, is_held, known_cell}
 use Rattle.walk_laws.specs.SeenState.{table_held, table_placed}

@@ -1,5 +1,4 @@
-use Rattle.std.proofs.Common.{◌≡◌, Some, [], ◌∷◌, ◌-◌, ◌/◌, sym, ap, ◌∙◌}
-use Rattle.rmm_spec.specs.declared.entry.Entry.TheVariants.{Table}
+use Rattle.std.proofs.Common.{◌≡◌, Some, ◌-◌, ◌/◌, sym, ap, ◌∙◌}
 use Rattle.rmm_spec.specs.Cell.{Rtt}
 use Rattle.shape_laws.specs.Whole.{copied_table, width_in}
 use Rattle.world_laws.specs.Replaced.{replaced_cells, replaced_all}
