@@ -32,7 +32,7 @@ use rmm_spec::{
 use rtt_table::Table;
 
 /// Puts in the cells that the change means, each in the place of the one that is held at its granule.
-#[tactic(auto, unfolding(crate::specs::Changed::new_cells, walk_laws::specs::TableCells::table_cells))]
+#[tactic(auto, unfolding(crate::specs::Changed::new_cells, walk_laws::specs::TableCells::table_cells, walk_laws::specs::TableCells::holds_change))]
 pub(crate) fn put_cells<H: Held>(held: &mut H, change: &Change, room: Room)
     requires held { AreHeld (H.cells held.old) change.now }
     requires fits { IsTrue (fits_cells (H.cells held.old) change.now) }
@@ -90,8 +90,8 @@ pub(crate) fn put_cells<H: Held>(held: &mut H, change: &Change, room: Room)
             realm,
             rec,
         } => {
-            let at = placed(held, rd, level, table_changed(entries));
-            put_entries(held, at, entries, page, realm, rec);
+            let granule = table_at(held, rd, level, table_changed(entries));
+            put_entries(held, granule, entries, page, realm, rec);
         }
     }
 }
@@ -277,6 +277,18 @@ fn put_records<H: Held>(held: &mut H, realm: Option<RealmChange>, rec: Option<Re
 
 // ---- tables
 
+// The granule of the held table of a place.
+fn table_at<H: Held>(held: &H, rd: u64, level: u8, number: u64) -> u64
+    requires { IsTrue (is_some (table_placed (H.cells held.now) rd level number)) }
+    ensures placed { table_placed (H.cells held.now) rd level number ≡ Some result }
+    ensures table { IsTrue (is_some (table_held (H.cells held.now) result)) }
+{
+    let Some(granule) = placed(held, rd, level, number) else {
+        unreachable!()
+    };
+    granule
+}
+
 // Takes the table out of its granule, which has none until it is put back.
 fn take_table<H: Held>(held: &mut H, granule: u64) -> Table
     requires { IsTrue (is_some (table_held (H.cells held.old) granule)) }
@@ -308,14 +320,12 @@ fn change_entries(table: &mut Table, change: EntryChange)
 }
 
 // Changes the entries of a table that is held.
-fn set_entries<H: Held>(held: &mut H, at: Option<u64>, change: EntryChange)
-    requires held { IsTrue (is_some at) }
-    requires table { IfSome at (λ granule. IsTrue (is_some (table_held (H.cells held.old) granule))) }
+fn set_entries<H: Held>(held: &mut H, granule: u64, change: EntryChange)
+    requires table { IsTrue (is_some (table_held (H.cells held.old) granule)) }
     requires fits { IsTrue (fits_entries change) }
-    ensures cells { H.cells held.new ≡ replaced_all (H.cells held.old) (entry_cells (H.cells held.old) (spec_whole.entries_changed change) at) }
+    ensures cells { H.cells held.new ≡ replaced_all (H.cells held.old) (entry_cells (H.cells held.old) (spec_whole.entries_changed change) (Some granule)) }
     ensures kept { (g : ℕ) → is_held g (H.cells held.new) ≡ is_held g (H.cells held.old) }
 {
-    let Some(granule) = at else { unreachable!() };
     let mut table = take_table(held, granule);
     change_entries(&mut table, change);
     put(held, granule, Cell::Rtt(table));
@@ -338,24 +348,22 @@ fn page_after(change: Option<TagChange>) -> Option<NewCell>
 // Changes the entries of a table, with a page, a realm and a REC. All are read first.
 fn put_entries<H: Held>(
     held: &mut H,
-    at: Option<u64>,
+    granule: u64,
     entries: EntryChange,
     page: Option<TagChange>,
     realm: Option<RealmChange>,
     rec: Option<RecChange>,
 )
     requires held { AreAllHeld (H.cells held.old) (tag_cells (H.cells held.old) page ++ (realm_cells (H.cells held.old) realm ++ (rec_cells (H.cells held.old) rec
-        ++ entry_cells (H.cells held.old) (spec_whole.entries_changed entries) at))) }
-    requires there { IsTrue (is_some at) }
-    requires table { IfSome at (λ granule. IsTrue (is_some (table_held (H.cells held.old) granule))) }
+        ++ entry_cells (H.cells held.old) (spec_whole.entries_changed entries) (Some granule)))) }
+    requires table { IsTrue (is_some (table_held (H.cells held.old) granule)) }
     requires entries { IsTrue (fits_entries entries) }
     requires page { IsTrue (fits_page page) }
     requires realm { IsTrue (fits_realm_change (H.cells held.old) realm) }
     requires rec { IsTrue (fits_rec_change (H.cells held.old) rec) }
     ensures { H.cells held.new ≡ replaced_all (H.cells held.old) (tag_cells (H.cells held.old) page ++ (realm_cells (H.cells held.old) realm ++ (rec_cells (H.cells held.old) rec
-        ++ entry_cells (H.cells held.old) (spec_whole.entries_changed entries) at))) }
+        ++ entry_cells (H.cells held.old) (spec_whole.entries_changed entries) (Some granule)))) }
 {
-    let Some(granule) = at else { unreachable!() };
     let new_page = page_after(page);
     let new_realm = realm_after(held, realm);
     let new_rec = rec_after(held, rec);
@@ -392,6 +400,7 @@ fn width_in<H: Held>(held: &H, granule: u64) -> u8
 }
 
 // Puts in a new table, and the link to it above.
+#[tactic(auto, unfolding(walk_laws::specs::TableCells::table_cells))]
 fn make_table<H: Held>(held: &mut H, rd: u64, level: u8, number: u64, rtt: u64, table: Table)
     requires held { IsTrue (is_held rtt (H.cells held.old)) }
     requires above { IsTrue (is_some (table_placed (H.cells held.old) rd (level - 1) (number / 512))) }
@@ -399,23 +408,22 @@ fn make_table<H: Held>(held: &mut H, rd: u64, level: u8, number: u64, rtt: u64, 
     ensures { (entry : entries.Entry) → table.entries ≡ replicate 512 entry
         → H.cells held.new ≡ replaced_all (H.cells held.old) (table_cells (H.cells held.old) (TableMade rd level number rtt entry)) }
 {
-    let Some(above) = placed(held, rd, level.saturating_sub(1), number / 512) else {
-        unreachable!()
-    };
+    let above = table_at(held, rd, level.saturating_sub(1), number / 512);
     let mut table = table;
     table.set_place(place_below(rd, level, number, width_in(held, above)));
     let entry = Entry::Table(rtt);
-    set_entries(held, Some(above), EntryChange::Replaced { number, entry });
+    set_entries(held, above, EntryChange::Replaced { number, entry });
     put(held, rtt, Cell::Rtt(table));
 }
 
 // Takes a table out, and puts an entry where the link to it was.
+#[tactic(auto, unfolding(walk_laws::specs::TableCells::table_cells))]
 fn destroy_table<H: Held>(held: &mut H, rd: u64, level: u8, number: u64, rtt: u64, entry: Entry)
     requires held { IsTrue (is_held rtt (H.cells held.old)) }
     requires above { IsTrue (is_some (table_placed (H.cells held.old) rd (level - 1) (number / 512))) }
     ensures { H.cells held.new ≡ replaced_all (H.cells held.old) (table_cells (H.cells held.old) (TableDestroyed rd level number rtt entry)) }
 {
-    let above = placed(held, rd, level.saturating_sub(1), number / 512);
+    let above = table_at(held, rd, level.saturating_sub(1), number / 512);
     set_entries(held, above, EntryChange::Replaced { number, entry });
     put(held, rtt, Cell::Delegated);
 }
