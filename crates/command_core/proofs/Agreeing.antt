@@ -1,5 +1,5 @@
 -- Two states that agree on what a command looks up that walks no table answer it alike, whichever command it is.
-use Rattle.std.proofs.Common.{◌≡◌, ℕ, Bool, true, Option, Some, None}
+use Rattle.std.proofs.Common.{◌≡◌, ℕ, Bool, Option, Some, None}
 use Rattle.std.specs.Prelude.{IfSome, slice_get}
 use Rattle.rmm_spec.specs.declared.call.Call.{Call}
 use Rattle.rmm_spec.specs.declared.call.Call.TheVariants as call

@@ -19,11 +19,10 @@ use Rattle.world_laws.specs.Replaced.{held_at}
 use Rattle.world_laws.proofs.Members.{Contains-head, Contains-tail, slice_get-from_Contains}
 use Rattle.world_laws.proofs.Refusals.{IsRefusedInFront, by_words, by_tag, decided-front, answer_of-front, words-are_local, addresses-are_local, tags-are_local}
 use Rattle.command_rows.specs.Answers.{host_answer, outside_answer}
-use Rattle.command_core.specs.Seen.{cell_in, is_held, known_cell}
+use Rattle.command_core.specs.Seen.{cell_in, is_held}
 use Rattle.command_core.specs.Named.{is_wrong_for, is_wrong, has_wrong, words_fit}
 use Rattle.walk_laws.specs.SeenState.{realm_behind, cell_or, seen_state}
 use Rattle.command_core.proofs.Rising.{none_at, found-contains, right_tag}
-use Rattle.command_core.proofs.SeenCells.{known}
 
 -- ---- tests on lists
 

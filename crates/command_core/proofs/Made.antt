@@ -3,7 +3,6 @@ use Rattle.std.proofs.Common.{◌≡◌, ℕ, Bool, true, false, if◌then◌els
 use Rattle.std.proofs.lemmas.Bool.{false≢true}
 use Rattle.rmm_spec.specs.declared.accepted.Accepted.{Accepted}
 use Rattle.rmm_spec.specs.declared.accepted.Accepted.TheVariants.{Done, Reaches}
-use Rattle.rmm_spec.specs.declared.change.Change.{Change}
 use Rattle.rmm_spec.specs.declared.command.Command.{Command}
 use Rattle.rmm_spec.specs.declared.reply.Reply.{Reply}
 use Rattle.rmm_spec.specs.declared.reply.Reply.TheVariants as reply
@@ -13,7 +12,7 @@ use Rattle.rmm_spec.specs.Local.{Hold, LocalStep}
 use Rattle.rmm_sound.proofs.Runs.{done_applies}
 use Rattle.shape_laws.specs.Whole.{side_changed}
 use Rattle.shape_laws.proofs.Ties.{well_shaped-is_sound}
-use Rattle.command_core.specs.Changed.{new_cells, new_place, CanChange, CanAnswer, IsAnswer, can_make}
+use Rattle.command_core.specs.Changed.{new_cells, new_place, CanAnswer, IsAnswer, can_make}
 use Rattle.command_core.specs.Decided.{made_answer}
 use Rattle.command_core.proofs.Changes.{is_answer}
 use Rattle.command_core.proofs.Fits.{applied-fits}

@@ -25,7 +25,7 @@ use Rattle.walk_laws.specs.Walking.{Way}
 use Rattle.walk_laws.specs.Misfits.{is_place, is_other_table, is_misfit_root}
 use Rattle.walk_laws.proofs.Misfits.{misfit-none}
 use Rattle.command_core.specs.Walks.{way_taken, way_inside}
-use Rattle.command_core.specs.Unshaped.{is_other_aux, is_bad_aux, are_bad_auxes, has_bad_aux, can_learn, has_bad_owner, has_other_owner, is_misplaced, is_misfit_way, is_misfit, has_misfit_part, is_unshaped_outside, is_unshaped}
+use Rattle.command_core.specs.Unshaped.{is_other_aux, is_bad_aux, are_bad_auxes, has_bad_aux, can_learn, has_bad_owner, has_other_owner, is_misplaced, is_misfit_way, has_misfit_part, is_unshaped_outside, is_unshaped}
 use Rattle.command_core.proofs.Fronts.{wrong_tag}
 use Rattle.command_core.proofs.Wholes.{Whole, whole_cell, tagged_granule, realm_cell, InsideCells, inside-cells}
 

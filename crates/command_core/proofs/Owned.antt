@@ -1,6 +1,5 @@
 -- What is settled has what the rows require of who looks up for them: a REC that is entered has its realm.
 use Rattle.std.proofs.Common.{◌≡◌, ℕ, Bool, true, false, not, ◌||◌, ◌==◌, if◌then◌else◌, List, [], ◌∷◌, Option, Some, None, refl, sym, ap, ◌∙◌, subst, eq-eqb}
-use Rattle.std.specs.Prelude.{unwrap_or}
 use Rattle.std.proofs.lemmas.Bool.{false≢true, and_parts, or_parts, not-false, false_from_ne_true}
 use Rattle.rmm_spec.specs.declared.call.Call.{Call}
 use Rattle.rmm_spec.specs.declared.call.Call.TheVariants as call
@@ -16,7 +15,7 @@ use Rattle.rmm_spec.specs.Shape.{Outside, Inside}
 use Rattle.rmm_spec.specs.Local.{HeldCell}
 use Rattle.world_laws.proofs.Members.{each_of_one}
 use Rattle.command_rows.specs.Answers.{IsOwned, IsInside}
-use Rattle.command_core.specs.Seen.{cell_in, known_cell}
+use Rattle.command_core.specs.Seen.{cell_in}
 use Rattle.walk_laws.specs.SeenState.{realm_behind, cell_or, seen_state}
 use Rattle.command_core.specs.Named.{has_wrong, words_fit}
 use Rattle.command_core.specs.Unshaped.{can_learn, has_bad_owner, has_misfit_part, is_unshaped}

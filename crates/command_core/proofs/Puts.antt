@@ -3,7 +3,7 @@ use Rattle.std.proofs.Common.{◌≡◌, ℕ, Bool, true, false, ◌&&◌, ◌==
 use Rattle.std.specs.Prelude.{IsTrue, is_some, unwrap_or}
 use Rattle.std.specs.Option.{option_and_then}
 use Rattle.std.proofs.lemmas.Bool.{false≢true, and_parts}
-use Rattle.std.proofs.lemmas.Option.{none-some, same_Some}
+use Rattle.std.proofs.lemmas.Option.{none-some}
 use Rattle.rmm_spec.specs.declared.change.Change.TheVariants.{EntriesChanged}
 use Rattle.rmm_spec.specs.declared.change.EntryChange.{EntryChange}
 use Rattle.rmm_spec.specs.declared.change.RealmChange.{RealmChange}
@@ -13,7 +13,7 @@ use Rattle.rmm_spec.specs.declared.entry.Entry.{Entry}
 use Rattle.rmm_spec.specs.Table.{TableRecord}
 use Rattle.rmm_spec.specs.Cell.{Cell, Undelegated, Rtt, table_in}
 use Rattle.rmm_spec.specs.Local.{HeldCell}
-use Rattle.world_laws.specs.Replaced.{held_at, replaced_at, replaced_cells, replaced_all}
+use Rattle.world_laws.specs.Replaced.{held_at, replaced_cells, replaced_all}
 use Rattle.shape_laws.specs.Whole.{cell_with_entries, table_changed}
 use Rattle.walk_laws.specs.Held.{cell_in, known_cell}
 use Rattle.walk_laws.specs.SeenState.{table_held, table_placed}

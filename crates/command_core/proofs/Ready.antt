@@ -12,17 +12,11 @@ use Rattle.rmm_spec.specs.declared.reply.Reply.TheVariants as reply
 use Rattle.rmm_spec.specs.Call.{Class, ByHost, ByRealm, ByExit, call_of, class_of}
 use Rattle.rmm_spec.specs.State.{State}
 use Rattle.rmm_spec.specs.Rows.{input_error, done}
-use Rattle.rmm_spec.specs.Step.{outcome}
-use Rattle.std.specs.List.{list_all}
-use Rattle.rmm_spec.specs.Step.Words.{words_of}
 use Rattle.rmm_spec.specs.Step.Named.{named}
 use Rattle.rmm_spec.specs.Shape.{CpuPlace, Outside, Inside}
-use Rattle.rmm_spec.specs.Local.{HeldCell, Hold, LocalStep}
-use Rattle.rmm_sound.proofs.Runs.{done_applies}
+use Rattle.rmm_spec.specs.Local.{HeldCell, Hold}
 use Rattle.world_laws.proofs.Placed.{is_inside-outside, is_inside-inside}
 use Rattle.world_laws.proofs.Refusals.{outside-is_local}
-use Rattle.shape_laws.specs.Whole.{side_changed}
-use Rattle.shape_laws.proofs.Ties.{well_shaped-is_sound}
 use Rattle.command_rows.specs.Answers.{host_answer, outside_answer, inside_answer}
 use Rattle.command_rows.proofs.Outcomes.{outcome-outside, outcome-inside}
 use Rattle.walk_laws.specs.SeenState.{seen_state}
@@ -32,21 +26,20 @@ use Rattle.command_core.proofs.Walked.{walk-ready, taken-way, untaken-way}
 use Rattle.command_core.proofs.Made.{refused, no_whole, made-answered}
 use Rattle.command_core.specs.Furthest.{furthest}
 use Rattle.command_core.specs.Sides.{is_vmid_listed, are_recs_counted}
-use Rattle.command_core.specs.Changed.{new_cells, new_place, hold_changed, CanAnswer, Answers, IsAnswer, can_make, CanMakeAnswer}
+use Rattle.command_core.specs.Changed.{hold_changed, Answers, IsAnswer, can_make, CanMakeAnswer}
 use Rattle.command_core.specs.Named.{has_wrong, words_fit}
 use Rattle.command_core.specs.Unshaped.{is_misfit, is_unshaped_outside, is_unshaped}
 use Rattle.command_core.specs.Settled.{is_all_held, is_settled_outside, is_settled_inside, is_settled}
-use Rattle.walk_laws.specs.Walking.{Way, way_of}
+use Rattle.walk_laws.specs.Walking.{Way}
 use Rattle.command_core.specs.Walks.{way_taken}
 use Rattle.command_core.specs.Plan.{AllowsStep, IsReady}
 use Rattle.command_core.specs.Decided.{rows_answer, made_answer, settled_answer, made_change}
-use Rattle.command_core.proofs.Changes.{is_answer}
-use Rattle.command_core.proofs.Fits.{applied-fits, makes}
+use Rattle.command_core.proofs.Fits.{makes}
 use Rattle.command_core.proofs.Fronts.{refused-answer}
 use Rattle.command_core.proofs.Outside.{told_outside, complete-told}
 use Rattle.command_core.proofs.Inside.{fitting-told}
 use Rattle.command_core.proofs.NoWholes.{unshaped-none}
-use Rattle.command_core.proofs.Wholes.{Whole, state, rec_inside-place}
+use Rattle.command_core.proofs.Wholes.{state, rec_inside-place}
 
 -- ---- any answer
 

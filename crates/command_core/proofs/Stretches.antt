@@ -1,11 +1,11 @@
 -- The end that is chosen for a stretch is one that its rows allow, and the greatest.
-use Rattle.std.proofs.Common.{◌≡◌, ℕ, zero, suc, ◌+◌, ◌-◌, ◌*◌, ◌/◌, ◌<◌, ◌≤◌, min, Bool, true, false, ◌&&◌, ◌==◌, if◌then◌else◌, refl, sym, ap, ◌∙◌, subst, arith, eqb-true, eq-eqb, add-one, mul-le-mul_right, div-mul-le_self}
+use Rattle.std.proofs.Common.{◌≡◌, ℕ, zero, suc, ◌+◌, ◌-◌, ◌*◌, ◌<◌, ◌≤◌, min, Bool, true, false, ◌&&◌, ◌==◌, if◌then◌else◌, refl, sym, ap, ◌∙◌, subst, arith, eqb-true, eq-eqb, add-one, mul-le-mul_right, div-mul-le_self}
 use Rattle.std.proofs.lemmas.Bool.{false≢true, and_parts, and_from}
 use Rattle.std.proofs.lemmas.Bool.Decides.{nat_tests}
 use Rattle.std.proofs.lemmas.Nat.{le-div, pow_pos}
 use Rattle.rmm_spec.specs.declared.accepted.Stretch.{Stretch}
 use Rattle.rmm_spec.specs.State.{State}
-use Rattle.rmm_spec.specs.Walk.{entry_size, table_size, entry_number, table_number}
+use Rattle.rmm_spec.specs.Walk.{entry_size, table_size, table_number}
 use Rattle.rmm_spec.specs.Step.Ripas.{IsReached}
 use Rattle.command_core.specs.Furthest.{leading, may_set, most_set, furthest}
 

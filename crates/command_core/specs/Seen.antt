@@ -1,8 +1,6 @@
 -- What a monitor finds among the cells that it holds. This project's own.
-use Rattle.std.specs.Prelude.{ℕ, Bool, true, not, ◌&&◌, ◌==◌, if◌then◌else◌, List, [], ◌∷◌, Option, Some, None, is_some, unwrap_or}
+use Rattle.std.specs.Prelude.{ℕ, Bool, true, not, ◌&&◌, ◌==◌, List, [], ◌∷◌}
 use Rattle.std.specs.List.{list_any}
-use Rattle.rmm_spec.specs.Cell as whole
-use Rattle.rmm_spec.specs.Local.{HeldCell}
 pub use Rattle.granule_cells.specs.Seen.{cell_of, place_of}
 pub use Rattle.walk_laws.specs.Held.{cell_in, is_held, known_cell}
 

@@ -1,15 +1,14 @@
 -- Cells that no shaped whole has, where a command's plan meets them: the part that is to be taken next is no granule, or it is held
 -- as something else than the one that names it says, or at another place; or the REC and the realm of a CPU's place can't be what
 -- that says. This project's own.
-use Rattle.std.specs.Prelude.{ℕ, Bool, true, false, not, ◌&&◌, ◌||◌, ◌==◌, List, [], ◌∷◌, Option, Some, None, is_none}
+use Rattle.std.specs.Prelude.{ℕ, Bool, false, not, ◌&&◌, ◌||◌, ◌==◌, List, [], ◌∷◌, Option, Some, None, is_none}
 use Rattle.rmm_spec.specs.declared.call.Call.{Call}
 use Rattle.rmm_spec.specs.declared.call.Call.TheVariants.{RealmDestroy, RecDestroy, RecEnter}
-use Rattle.rmm_spec.specs.declared.place.Place.{Place}
 use Rattle.rmm_spec.specs.declared.tag.Tag.TheVariants as tag
-use Rattle.rmm_spec.specs.State.{RealmRecord, RecRecord}
+use Rattle.rmm_spec.specs.State.{RecRecord}
 use Rattle.rmm_spec.specs.Lookup.{is_granule}
 use Rattle.rmm_spec.specs.Step.Named.{needed}
-use Rattle.rmm_spec.specs.Cell.{Cell, Rd, Rec, Rtt, is_aux}
+use Rattle.rmm_spec.specs.Cell.{Cell, Rec, is_aux}
 use Rattle.rmm_spec.specs.Shape.{CpuPlace, Outside, Inside}
 use Rattle.rmm_spec.specs.Local.{HeldCell}
 use Rattle.walk_laws.specs.Walking.{Way}
