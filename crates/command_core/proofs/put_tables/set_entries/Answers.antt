@@ -3,7 +3,7 @@ use Rattle.rmm_spec.specs.Cell.{Rtt}
 use Rattle.shape_laws.specs.Whole.{entries_changed}
 use Rattle.world_laws.specs.Replaced.{replaced_cells}
 use Rattle.command_core.proofs.Puts.{table-put}
-use Rattle.command_core.proofs.put_cells.set_entries.Goals as goal
+use Rattle.command_core.proofs.put_tables.set_entries.Goals as goal
 
 pub returns-clause-cells : goal.returns-clause-cells
 returns-clause-cells g c =

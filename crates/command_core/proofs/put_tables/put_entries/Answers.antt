@@ -4,7 +4,7 @@ use Rattle.shape_laws.specs.Whole.{entries_changed}
 use Rattle.world_laws.specs.Replaced.{replaced_cells, replaced_all}
 use Rattle.walk_laws.specs.TableCells.{tag_cells, realm_cells, rec_cells}
 use Rattle.command_core.proofs.Puts.{table-last}
-use Rattle.command_core.proofs.put_cells.put_entries.Goals as goal
+use Rattle.command_core.proofs.put_tables.put_entries.Goals as goal
 
 pub returns : goal.returns
 returns g c =
