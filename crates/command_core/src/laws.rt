@@ -1,17 +1,14 @@
 //! What the core rests on: each law is the contract of a function that does nothing.
 
-ghost use Rattle.std.specs.Prelude.{◌≡◌, ℕ, ◌≤◌, true, IsTrue, List, Result};
+ghost use Rattle.std.specs.Prelude.{◌≡◌, ℕ, true, IsTrue, List, Result};
 ghost use Rattle.rmm_spec.specs.declared.accepted.Accepted.{Accepted};
-ghost use Rattle.rmm_spec.specs.declared.accepted.Stretch.{Stretch};
 ghost use Rattle.rmm_spec.specs.declared.call.Call.{Call};
 ghost use Rattle.rmm_spec.specs.declared.change.Change.{Change};
 ghost use Rattle.rmm_spec.specs.declared.command.Command.{Command};
 ghost use Rattle.rmm_spec.specs.declared.reply.Reply.{Reply};
 ghost use Rattle.rmm_spec.specs.Call.{call_of};
 ghost use Rattle.rmm_spec.specs.Rows.{Needed};
-ghost use Rattle.rmm_spec.specs.State.{State};
 ghost use Rattle.rmm_spec.specs.Step.{outcome};
-ghost use Rattle.rmm_spec.specs.Step.Ripas.{IsReached};
 ghost use Rattle.rmm_spec.specs.Cell.{Cell};
 ghost use Rattle.rmm_spec.specs.Flat.{flat_state};
 ghost use Rattle.rmm_spec.specs.Shape.{CpuPlace, IsWellShaped};
@@ -21,7 +18,6 @@ ghost use Rattle.world_laws.specs.Replaced.{replaced_all};
 ghost use Rattle.shape_laws.specs.Whole.{side_changed};
 ghost use Rattle.command_core.specs.Seen.{are_distinct, known_cell};
 ghost use Rattle.command_core.specs.Changed.{CanAnswer, Answers, Decides, new_cells, new_place};
-ghost use Rattle.command_core.specs.Furthest.{furthest};
 ghost use Rattle.command_core.specs.Named.{is_upward, is_downward};
 ghost use Rattle.command_core.specs.Settled.{is_settled};
 ghost use Rattle.command_core.specs.Unshaped.{is_unshaped};
@@ -65,10 +61,4 @@ pub fn unshaped_cells_have_no_whole()
         → Agrees cells hold.cells → places cpu ≡ hold.place → ⊥ }
     ensures settled { (granules : ℕ) (call : Call) (place : CpuPlace) (held : List HeldCell)
         → IsTrue (is_unshaped granules call place held) → IsTrue (is_settled granules call place held) }
-{}
-
-/// Of all ends that the entries of a stretch allow, the one that is chosen is the greatest.
-pub fn furthest_ends_are_greatest()
-    ensures allowed { (s : State) (stretch : Stretch) (top : ℕ) → IsReached s stretch top → IsReached s stretch (furthest s stretch) }
-    ensures greatest { (s : State) (stretch : Stretch) (top : ℕ) → IsReached s stretch top → top ≤ furthest s stretch }
 {}

@@ -34,8 +34,8 @@ pub use deciding::decide;
 pub use granule_cells::{Cell, CpuPlace, Side};
 pub use held::Held;
 pub use laws::{
-    answers_are_local, applied_decisions_are_local, furthest_ends_are_greatest,
-    settled_commands_are_ready, tested_takes_rise, unshaped_cells_have_no_whole,
+    answers_are_local, applied_decisions_are_local, settled_commands_are_ready, tested_takes_rise,
+    unshaped_cells_have_no_whole,
 };
 pub use next::Next;
 pub use plain_held::PlainHeld;
