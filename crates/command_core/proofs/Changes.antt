@@ -7,6 +7,7 @@ use Rattle.std.proofs.lemmas.List.Elements.{All-contains, All-from_recursion}
 use Rattle.rmm_spec.specs.declared.change.RecChange.{RecChange}
 use Rattle.rmm_spec.specs.declared.accepted.Accepted.{Accepted}
 use Rattle.rmm_spec.specs.declared.accepted.Accepted.TheVariants.{Done, Reaches}
+use Rattle.rmm_spec.specs.declared.accepted.Stretch.{Stretch}
 use Rattle.rmm_spec.specs.declared.change.Change.{Change}
 use Rattle.rmm_spec.specs.declared.change.Change.TheVariants.{Unchanged, Retagged, RealmMade, RealmDestroyed, RecMade, RecDestroyed, RecordsChanged, TableMade, TableDestroyed, EntriesChanged}
 use Rattle.rmm_spec.specs.declared.change.RealmUpdate.TheVariants.{RecCounted}
@@ -33,7 +34,7 @@ use Rattle.shape_laws.specs.Whole.{cells_changed, side_changed, side_without_vmi
 use Rattle.shape_laws.proofs.Accepted.{done-keeps_shape}
 use Rattle.shape_laws.proofs.Ties.{well_shaped-is_sound}
 use Rattle.command_core.specs.Seen.{is_held, known_cell}
-use Rattle.command_core.specs.Changed.{new_cells, place_with_rec, place_with_rec_change, new_place, IsOnCpu, CanChange, CanAnswer, Answers, IsAnswer}
+use Rattle.command_core.specs.Changed.{new_cells, place_with_rec, place_with_rec_change, new_place, IsOnCpu, CanChange, CanAnswer, Answers, IsFurthest, given_of, IsAnswer}
 use Rattle.walk_laws.specs.SeenState.{table_placed}
 use Rattle.walk_laws.specs.TableCells.{is_moved, holds_page, holds_realm, holds_rec, holds_change}
 use Rattle.walk_laws.proofs.Wholes as walks
@@ -203,7 +204,26 @@ answers-local granules cpu command hold (Ok (Done words change)) can each =
     ))
 answers-local granules cpu command hold (Ok (Reaches stretch)) can each = absurd can
 
+-- where each whole answers so, none leads to a stretch
+each-furthest : (granules cpu : ℕ) (command : Command) (hold : Hold) (answer : Result Accepted Reply) → CanAnswer cpu hold answer
+    → ((w : Whole granules cpu hold) → outcome (state granules cpu hold w) cpu (call_of command) ≡ answer)
+    → IsFurthest granules cpu command hold (given_of answer)
+each-furthest granules cpu command hold answer can each = record {
+  right = λ cells places stretch top shaped agrees placed leads reached.
+      let w : Whole granules cpu hold = record { cells = cells; places = places; shaped = shaped; agrees = agrees; placed = placed } in
+      absurd (unled answer can stretch (sym (each w) ∙ leads));
+}
+  where
+    unled : (a : Result Accepted Reply) → CanAnswer cpu hold a → (stretch : Stretch) → a ≡ Ok (Reaches stretch) → ⊥
+    unled (Err refusal) can stretch same = cc
+    unled (Ok (Done words change)) can stretch same = cc
+    unled (Ok (Reaches other)) can stretch same = can
+
 pub is_answer : (granules cpu : ℕ) (command : Command) (hold : Hold) (answer : Result Accepted Reply) → CanAnswer cpu hold answer
     → ((w : Whole granules cpu hold) → outcome (state granules cpu hold w) cpu (call_of command) ≡ answer)
     → IsAnswer granules cpu command hold answer
-is_answer granules cpu command hold answer can each = record { can = can; is_local = answers-local granules cpu command hold answer can each }
+is_answer granules cpu command hold answer can each = record {
+  can = can;
+  is_local = answers-local granules cpu command hold answer can each;
+  is_furthest = each-furthest granules cpu command hold answer can each;
+}

@@ -1,5 +1,5 @@
 -- What is answered can be made of what is held, or no whole agrees with that.
-use Rattle.std.proofs.Common.{◌≡◌, ℕ, Bool, true, false, if◌then◌else◌, Result, Ok, Err, sym, ◌∙◌, refl}
+use Rattle.std.proofs.Common.{◌≡◌, ℕ, List, [], ◌∷◌, subst, Bool, true, false, if◌then◌else◌, Result, Ok, Err, sym, ◌∙◌, refl}
 use Rattle.std.proofs.lemmas.Bool.{false≢true}
 use Rattle.rmm_spec.specs.declared.accepted.Accepted.{Accepted}
 use Rattle.rmm_spec.specs.declared.accepted.Accepted.TheVariants.{Done, Reaches}
@@ -7,8 +7,10 @@ use Rattle.rmm_spec.specs.declared.command.Command.{Command}
 use Rattle.rmm_spec.specs.declared.reply.Reply.{Reply}
 use Rattle.rmm_spec.specs.declared.reply.Reply.TheVariants as reply
 use Rattle.rmm_spec.specs.Call.{call_of}
-use Rattle.rmm_spec.specs.Step.{outcome}
-use Rattle.rmm_spec.specs.Local.{Hold, LocalStep}
+use Rattle.rmm_spec.specs.Rows.{ok}
+use Rattle.rmm_spec.specs.Step.{CarriesOut, outcome}
+use Rattle.rmm_spec.specs.Flat.{flat_state}
+use Rattle.rmm_spec.specs.Local.{Hold, LocalStep, put_all}
 use Rattle.rmm_sound.proofs.Runs.{done_applies}
 use Rattle.shape_laws.specs.Whole.{side_changed}
 use Rattle.shape_laws.proofs.Ties.{well_shaped-is_sound}
@@ -18,10 +20,21 @@ use Rattle.command_core.proofs.Changes.{is_answer}
 use Rattle.command_core.proofs.Fits.{applied-fits}
 use Rattle.command_core.proofs.Wholes.{Whole, state}
 
-pub refused : (granules cpu : ℕ) (command : Command) (hold : Hold) (given : Reply) → LocalStep granules cpu command given hold hold
-    → IsAnswer granules cpu command hold (Err given)
+-- a refusal leads to no stretch
+pub refused : (granules cpu : ℕ) (command : Command) (hold : Hold) (given : Reply) → ((end : ℕ) → given ≡ ok (end ∷ []) → ⊥)
+    → LocalStep granules cpu command given hold hold → IsAnswer granules cpu command hold (Err given)
 unfolding new_cells new_place side_changed
-refused granules cpu command hold given step = record { can = tt; is_local = step }
+refused granules cpu command hold given refuses step = record {
+  can = tt;
+  is_local = step;
+  is_furthest = record {
+    right = λ cells places stretch top shaped agrees placed leads reached.
+        let chosen : CarriesOut (Ok (Reaches stretch)) (flat_state granules cells) given (flat_state granules (put_all cells hold.cells)) =
+        subst (λ a. CarriesOut a (flat_state granules cells) given (flat_state granules (put_all cells hold.cells))) leads
+        (step.right cells places shaped agrees placed).0 in
+        absurd (refuses chosen.0 chosen.1.1);
+  };
+}
 
 -- where no whole agrees, anything is a local step
 pub no_whole : (granules cpu : ℕ) (command : Command) (hold : Hold) → (Whole granules cpu hold → ⊥) → IsAnswer granules cpu command hold (Err reply.Misplaced)

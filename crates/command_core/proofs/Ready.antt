@@ -74,7 +74,7 @@ host-ready granules cpu command hold host place shaped settled =
     by true front =
         let refusal = refused-answer granules cpu command hold (is_vmid_listed hold.side) (are_recs_counted hold.side) host place front in
         subst (λ (answer : Result Accepted Reply). IsAnswer granules cpu command hold (made_answer granules hold.cells hold.side answer)) (sym refusal.0)
-        (refused granules cpu command hold input_error refusal.1)
+        (refused granules cpu command hold input_error (λ end same. cc) refusal.1)
     by false front =
         let parts = settled_by (words_fit granules (call_of command)) (has_wrong (named (call_of command)) hold.cells)
         (is_unshaped_outside granules (call_of command) hold.cells) (is_all_held granules (call_of command) hold.cells (way_taken (call_of command))) shaped settled front in
@@ -118,11 +118,11 @@ settled-answered granules cpu command hold settled = by (is_unshaped granules (c
     outside ByRealm realm place shaped is =
         subst (λ (answer : Result Accepted Reply). IsAnswer granules cpu command hold (made_answer granules hold.cells hold.side answer))
         (sym (other-answer (is_vmid_listed hold.side) (are_recs_counted hold.side) (seen_state granules hold.cells) cpu c ByRealm realm (λ same. cc)))
-        (refused granules cpu command hold reply.Misplaced (outside-is_local granules cpu command hold (inl realm) place))
+        (refused granules cpu command hold reply.Misplaced (λ end same. cc) (outside-is_local granules cpu command hold (inl realm) place))
     outside ByExit exit place shaped is =
         subst (λ (answer : Result Accepted Reply). IsAnswer granules cpu command hold (made_answer granules hold.cells hold.side answer))
         (sym (other-answer (is_vmid_listed hold.side) (are_recs_counted hold.side) (seen_state granules hold.cells) cpu c ByExit exit (λ same. cc)))
-        (refused granules cpu command hold reply.Misplaced (outside-is_local granules cpu command hold (inr exit) place))
+        (refused granules cpu command hold reply.Misplaced (λ end same. cc) (outside-is_local granules cpu command hold (inr exit) place))
 
     inside : (rec rd : ℕ) → hold.place ≡ Inside rec rd → is_misfit granules c rec rd hold.cells ≡ false
         → is_settled_inside (class_of c) granules c rec rd hold.cells ≡ true → IsAnswer granules cpu command hold (told (Inside rec rd))

@@ -1,5 +1,5 @@
 -- A host's command whose walk is over is answered from what is held as by every whole that agrees, and its change can be made of that.
-use Rattle.std.proofs.Common.{◌≡◌, ℕ, ◌+◌, Bool, true, false, ◌&&◌, ◌||◌, if◌then◌else◌, [], ◌∷◌, Option, Some, None, ◌⊎◌, inl, inr, Result, Ok, Err, refl, sym, ap, ◌∙◌, subst}
+use Rattle.std.proofs.Common.{◌≡◌, ℕ, ◌+◌, ◌≤◌, Bool, true, false, ◌&&◌, ◌||◌, if◌then◌else◌, [], ◌∷◌, Option, Some, None, ◌⊎◌, inl, inr, Result, Ok, Err, refl, sym, ap, ◌∙◌, subst}
 use Rattle.std.specs.Prelude.{is_some, is_none}
 use Rattle.std.proofs.lemmas.Bool.{false≢true, and_parts, or_cases}
 use Rattle.rmm_spec.specs.declared.accepted.Accepted.{Accepted}
@@ -20,6 +20,7 @@ use Rattle.rmm_spec.specs.Rows.{ok, done, Needed}
 use Rattle.rmm_spec.specs.Walk.{entry_size, table_number}
 use Rattle.rmm_spec.specs.Step.{answer_of, outcome}
 use Rattle.rmm_spec.specs.Step.Ripas.{IsReached, stretch_change, reached_change}
+use Rattle.rmm_spec.specs.Flat.{flat_state}
 use Rattle.rmm_spec.specs.Shape.{Outside}
 use Rattle.rmm_spec.specs.Local.{Hold, LocalStep}
 use Rattle.rmm_sound.proofs.Entries.{value_there}
@@ -32,7 +33,7 @@ use Rattle.walk_laws.specs.SeenState.{table_placed, seen_state}
 use Rattle.walk_laws.specs.TableCells.{holds_change, tables_changed}
 use Rattle.walk_laws.specs.Walking.{Way, way_of, keeps_realm, are_told, is_table_error, is_refused_early, seen_answer, is_way_settled}
 use Rattle.walk_laws.proofs.Accepted.{accepted-held}
-use Rattle.walk_laws.proofs.Settled.{IsHosts, hosts, stretch-placed, first-reached, reached-told, early-error}
+use Rattle.walk_laws.proofs.Settled.{IsHosts, hosts, stretch-placed, first-reached, reached-told, reached-seen, early-error}
 use Rattle.walk_laws.proofs.Steps.{cells-held, reached-local}
 use Rattle.walk_laws.proofs.Told.{walk-told, early-told}
 use Rattle.std.specs.List.{list_all}
@@ -42,7 +43,7 @@ use Rattle.rmm_spec.specs.Lookup.{is_granule}
 use Rattle.rmm_spec.specs.Step.Named.{named}
 use Rattle.command_core.specs.Sides.{is_vmid_listed, are_recs_counted}
 use Rattle.command_core.specs.Named.{words_fit}
-use Rattle.command_core.specs.Changed.{new_cells, new_place, hold_changed, CanChange, IsAnswer, can_make}
+use Rattle.command_core.specs.Changed.{new_cells, new_place, hold_changed, CanChange, IsFurthest, IsAnswer, can_make}
 use Rattle.command_core.specs.Decided.{made_answer}
 use Rattle.command_core.specs.Furthest.{furthest}
 use Rattle.command_core.specs.Walks.{spare, is_walk_over, way_taken}
@@ -50,7 +51,7 @@ use Rattle.command_core.proofs.Changes.{is_answer, walk_whole}
 use Rattle.command_core.proofs.Fits.{applied-fits}
 use Rattle.command_core.proofs.Made.{no_whole, made-answered}
 use Rattle.command_core.proofs.Outside.{told_outside}
-use Rattle.command_core.proofs.Stretches.{furthest-reached}
+use Rattle.command_core.proofs.Stretches.{furthest-reached, reached-furthest}
 use Rattle.command_core.proofs.Wholes.{Whole, state}
 
 -- ---- where a command walks
@@ -123,11 +124,25 @@ ends-answered granules cpu command hold (Ok (Reaches stretch)) told settled is e
     reached : IsReached t stretch top
     reached = furthest-reached t stretch (stretch.base + entry_size stretch.level) (first-reached t cpu (call_of command) stretch is)
 
+    at : (stretch.level ≤ 3) × (is_some (table_placed hold.cells stretch.rd stretch.level (table_number stretch.level stretch.base)) ≡ true)
+    at = stretch-placed granules cpu (call_of command) hold.cells stretch settled is
+
+    g : (g : ℕ) × (table_placed hold.cells stretch.rd stretch.level (table_number stretch.level stretch.base) ≡ Some g)
+    g = value_there (table_placed hold.cells stretch.rd stretch.level (table_number stretch.level stretch.base)) at.1
+
     whole : (w : Whole granules cpu hold) → IsReached (state granules cpu hold w) stretch top
-    whole w =
-        let at = stretch-placed granules cpu (call_of command) hold.cells stretch settled is in
-        let g = value_there (table_placed hold.cells stretch.rd stretch.level (table_number stretch.level stretch.base)) at.1 in
-        reached-told (walk_whole granules cpu hold w) stretch top g.0 at.0 g.1 reached
+    whole w = reached-told (walk_whole granules cpu hold w) stretch top g.0 at.0 g.1 reached
+
+    furthest_end : IsFurthest granules cpu command hold (ok (top ∷ []))
+    furthest_end = record {
+      right = λ cells places other end shaped agrees placed leads there.
+          let w : Whole granules cpu hold = record { cells = cells; places = places; shaped = shaped; agrees = agrees; placed = placed } in
+          let both : Ok (Reaches other) ≡ Ok (Reaches stretch) = sym leads ∙ each w in
+          let same : other ≡ stretch = cc in
+          let seen = reached-seen (walk_whole granules cpu hold w) stretch end g.0 at.0 g.1
+          (subst (λ (x : Stretch). IsReached (flat_state granules cells) x end) same there) in
+          (top, refl, reached-furthest t stretch end seen);
+    }
 
     step : LocalStep granules cpu command (ok (top ∷ [])) hold (tables_changed hold change)
     step = reached-local granules cpu command stretch top hold holds (λ cells places shaped agrees placed.
@@ -139,6 +154,7 @@ ends-answered granules cpu command hold (Ok (Reaches stretch)) told settled is e
     by true fits = record {
       can = can-holds cpu hold change holds;
       is_local = subst (λ (new : Hold). LocalStep granules cpu command (ok (top ∷ [])) hold new) (reached-changed hold stretch top) step;
+      is_furthest = furthest_end;
     }
     by false unfit = no_whole granules cpu command hold (λ w.
         let s = state granules cpu hold w in

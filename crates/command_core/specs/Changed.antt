@@ -1,9 +1,10 @@
 -- What a change makes of what one CPU holds: its cells, the side table and its place. It is what the same change makes of a
 -- whole, on the cells that are held. This project's own.
-use Rattle.std.specs.Prelude.{◌≡◌, ℕ, ◌+◌, ◌*◌, ◌/◌, ◌^◌, Bool, true, false, ◌&&◌, ◌==◌, nat_lt, nat_le, IsTrue, List, [], ◌∷◌, ◌++◌, length, Option, Some, None, is_some, Result, Ok, Err}
+use Rattle.std.specs.Prelude.{◌≡◌, ℕ, ◌+◌, ◌*◌, ◌/◌, ◌^◌, ◌≤◌, Bool, true, false, ◌&&◌, ◌==◌, nat_lt, nat_le, IsTrue, List, [], ◌∷◌, ◌++◌, length, Option, Some, None, is_some, Result, Ok, Err}
 use Rattle.std.specs.List.{AllByRecursion}
 use Rattle.rmm_spec.specs.declared.accepted.Accepted.{Accepted}
 use Rattle.rmm_spec.specs.declared.accepted.Accepted.TheVariants.{Done, Reaches}
+use Rattle.rmm_spec.specs.declared.accepted.Stretch.{Stretch}
 use Rattle.rmm_spec.specs.declared.change.Change.{Change}
 use Rattle.rmm_spec.specs.declared.change.Change.TheVariants.{Unchanged, Retagged, RealmMade, RealmDestroyed, RecMade, RecDestroyed, RecordsChanged, TableMade, TableDestroyed, EntriesChanged}
 use Rattle.rmm_spec.specs.declared.change.RealmChange.{RealmChange}
@@ -18,7 +19,12 @@ use Rattle.rmm_spec.specs.declared.reply.Reply.{Reply}
 use Rattle.rmm_spec.specs.declared.reply.Reply.TheVariants as reply
 use Rattle.rmm_spec.specs.declared.tag.Tag.{Tag}
 use Rattle.rmm_spec.specs.declared.tag.Tag.TheVariants as tag
+use Rattle.rmm_spec.specs.Call.{call_of}
 use Rattle.rmm_spec.specs.Change.{new_realm, new_rec}
+use Rattle.rmm_spec.specs.Flat.{flat_state}
+use Rattle.rmm_spec.specs.Rows.{ok}
+use Rattle.rmm_spec.specs.Step.{outcome}
+use Rattle.rmm_spec.specs.Step.Ripas.{IsReached}
 use Rattle.rmm_spec.specs.State.{RecRecord}
 use Rattle.rmm_spec.specs.Lookup.{is_granule}
 use Rattle.rmm_spec.specs.declared.change.EntryChange.{EntryChange}
@@ -28,8 +34,8 @@ use Rattle.rmm_spec.specs.Step.Words.{is_space}
 use Rattle.rmm_spec.specs.Walk.{table_size}
 use Rattle.walk_laws.specs.TableCells.{realm_cells, rec_cells, table_cells, holds_change}
 use Rattle.rmm_spec.specs.Cell.{Cell, Delegated, Rd, Rec, RecAux, Rtt}
-use Rattle.rmm_spec.specs.Shape.{Side, CpuPlace, Outside, Inside}
-use Rattle.rmm_spec.specs.Local.{HeldCell, Hold, LocalStep}
+use Rattle.rmm_spec.specs.Shape.{Side, CpuPlace, Outside, Inside, IsWellShaped}
+use Rattle.rmm_spec.specs.Local.{HeldCell, Hold, Agrees, LocalStep}
 use Rattle.world_laws.specs.Replaced.{held_at, replaced_all}
 use Rattle.shape_laws.specs.Whole.{cell_with_tag, cell_with_realm, root_table, side_changed}
 use Rattle.command_core.specs.Seen.{is_held, known_cell}
@@ -208,10 +214,23 @@ Answers granules cpu command hold (Err refusal) = Decides granules cpu command h
 Answers granules cpu command hold (Ok (Done words change)) = Decides granules cpu command hold (reply.Ok words) change
 Answers granules cpu command hold (Ok (Reaches stretch)) = ⊥
 
--- what is answered can be made, and is a local step
+-- of a stretch, no end is allowed that is above the one in the reply
+pub record IsFurthest (granules cpu : ℕ) (command : Command) (hold : Hold) (given : Reply) : Type 0 where
+  pub right : (cells : ℕ → Cell) (places : ℕ → CpuPlace) (stretch : Stretch) (top : ℕ)
+      → IsWellShaped granules hold.side places cells → Agrees cells hold.cells → places cpu ≡ hold.place
+      → outcome (flat_state granules cells) cpu (call_of command) ≡ Ok (Reaches stretch) → IsReached (flat_state granules cells) stretch top
+      → (chosen : ℕ) × (given ≡ ok (chosen ∷ [])) × (top ≤ chosen)
+
+abbrev pub given_of : Result Accepted Reply → Reply
+given_of (Err refusal) = refusal
+given_of (Ok (Done words change)) = reply.Ok words
+given_of (Ok (Reaches stretch)) = reply.Misplaced
+
+-- what is answered can be made, and is a local step, as far as it may go
 pub record IsAnswer (granules cpu : ℕ) (command : Command) (hold : Hold) (answer : Result Accepted Reply) : Type 0 where
   pub can : CanAnswer cpu hold answer
   pub is_local : Answers granules cpu command hold answer
+  pub is_furthest : IsFurthest granules cpu command hold (given_of answer)
 
 -- where it is no refusal, its change can be made of the records
 abbrev pub CanMakeAnswer : Hold → Result Accepted Reply → Type 0

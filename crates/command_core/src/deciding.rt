@@ -2,7 +2,7 @@
 
 ghost use Rattle.std.specs.Prelude.{◌≡◌, false, IsTrue, option_map, option_copied};
 ghost use Rattle.rmm_spec.specs.Call.{call_of};
-ghost use Rattle.command_core.specs.Changed.{hold_of, CanChange, CanMake, CanMakeAnswer, Decides};
+ghost use Rattle.command_core.specs.Changed.{hold_of, CanChange, CanMake, CanMakeAnswer, Decides, IsFurthest};
 ghost use Rattle.command_core.specs.Decided as spec;
 ghost use Rattle.command_core.specs.Seen.{place_of};
 ghost use Rattle.command_core.specs.Settled.{is_settled};
@@ -20,7 +20,7 @@ use granule_state::Config;
 use rmm_spec::{Accepted, Call, Change, Command, Reply};
 
 /// The reply and the change of a command that what is held settles. Together they are a step of the machine, whatever
-/// the cells are that aren't held; a refusal changes nothing. The change is made by `apply`, with the room that `room` takes.
+/// the cells are that aren't held; a refusal changes nothing, and a stretch is set as far as it may be. The change is made by `apply`, with the room that `room` takes.
 pub fn decide<H: Held>(
     config: &Config,
     command: &Command,
@@ -32,6 +32,8 @@ pub fn decide<H: Held>(
     requires settled { IsTrue (is_settled config.now.granules (call_of command.now) (place_of place.now) (H.cells held.now)) }
     ensures decides { Decides config.now.granules cpu command.now
         (hold_of (H.cells held.now) (side_of side.now) (place_of place.now)) result.0 result.1 }
+    ensures furthest { IsFurthest config.now.granules cpu command.now
+        (hold_of (H.cells held.now) (side_of side.now) (place_of place.now)) result.0 }
     ensures can { CanChange cpu (hold_of (H.cells held.now) (side_of side.now) (place_of place.now)) result.1 }
     ensures makes { CanMake (hold_of (H.cells held.now) (side_of side.now) (place_of place.now)) result.1 }
     ensures misplaced { IsTrue (is_unshaped config.now.granules (call_of command.now) (place_of place.now) (H.cells held.now))

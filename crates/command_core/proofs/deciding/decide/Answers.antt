@@ -21,6 +21,13 @@ returns-in-Ok-Done-clause-decides g c =
     (Ok (Done c.in-Ok-Done.words c.in-Ok-Done.change)) c.call.ensures c.requires.settled c.settled_answer.ensures.answer
     (c.in-Ok-Done.is ∙ ap Ok c.in-Ok-Done.field-0-is)).is_local
 
+pub returns-in-Ok-Done-clause-furthest : goal.returns-in-Ok-Done-clause-furthest
+returns-in-Ok-Done-clause-furthest g c =
+    (decision c.args.config.now.granules c.args.cpu c.args.command.now
+    (hold_of (g.H.Held.cells c.args.held.now) (side_of c.args.side.now) (place_of c.args.place.now)) c.call.result c.settled_answer.result
+    (Ok (Done c.in-Ok-Done.words c.in-Ok-Done.change)) c.call.ensures c.requires.settled c.settled_answer.ensures.answer
+    (c.in-Ok-Done.is ∙ ap Ok c.in-Ok-Done.field-0-is)).is_furthest
+
 pub returns-in-Ok-Done-clause-can : goal.returns-in-Ok-Done-clause-can
 returns-in-Ok-Done-clause-can g c =
     (decision c.args.config.now.granules c.args.cpu c.args.command.now
@@ -33,6 +40,12 @@ returns-in-Err-clause-decides g c =
     (decision c.args.config.now.granules c.args.cpu c.args.command.now
     (hold_of (g.H.Held.cells c.args.held.now) (side_of c.args.side.now) (place_of c.args.place.now)) c.call.result c.settled_answer.result
     (Err c.in-Err.refusal) c.call.ensures c.requires.settled c.settled_answer.ensures.answer c.in-Err.is).is_local
+
+pub returns-in-Err-clause-furthest : goal.returns-in-Err-clause-furthest
+returns-in-Err-clause-furthest g c =
+    (decision c.args.config.now.granules c.args.cpu c.args.command.now
+    (hold_of (g.H.Held.cells c.args.held.now) (side_of c.args.side.now) (place_of c.args.place.now)) c.call.result c.settled_answer.result
+    (Err c.in-Err.refusal) c.call.ensures c.requires.settled c.settled_answer.ensures.answer c.in-Err.is).is_furthest
 
 pub returns-in-Err-clause-can : goal.returns-in-Err-clause-can
 unfolding new_cells
