@@ -1,22 +1,21 @@
 -- A table that is taken out of its granule, changed and put back last: what else is put in between stays.
-use Rattle.std.proofs.Common.{◌≡◌, ℕ, ◌-◌, ◌*◌, ◌/◌, ◌^◌, nat_lt, Bool, true, false, ◌&&◌, ◌==◌, if◌then◌else◌, List, [], ◌∷◌, ◌++◌, Option, Some, None, refl, sym, ap, ◌∙◌, subst, eqb-true, eq-eqb}
-use Rattle.std.specs.Prelude.{IsTrue, IfSome, is_some, unwrap_or}
+use Rattle.std.proofs.Common.{◌≡◌, ℕ, Bool, true, false, ◌&&◌, ◌==◌, if◌then◌else◌, List, [], ◌∷◌, ◌++◌, Option, Some, None, refl, sym, ap, ◌∙◌, subst, eqb-true, eq-eqb}
+use Rattle.std.specs.Prelude.{IsTrue, is_some, unwrap_or}
 use Rattle.std.specs.Option.{option_and_then}
 use Rattle.std.proofs.lemmas.Bool.{false≢true, and_parts}
 use Rattle.std.proofs.lemmas.Option.{none-some}
-use Rattle.rmm_spec.specs.declared.change.Change.TheVariants.{TableMade, TableDestroyed, EntriesChanged}
+use Rattle.rmm_spec.specs.declared.change.Change.TheVariants.{EntriesChanged}
 use Rattle.rmm_spec.specs.declared.change.EntryChange.{EntryChange}
 use Rattle.rmm_spec.specs.declared.change.RealmChange.{RealmChange}
 use Rattle.rmm_spec.specs.declared.change.RecChange.{RecChange}
 use Rattle.rmm_spec.specs.declared.change.TagChange.{TagChange}
 use Rattle.rmm_spec.specs.declared.entry.Entry.{Entry}
-use Rattle.rmm_spec.specs.Walk.{table_size}
 use Rattle.rmm_spec.specs.Table.{TableRecord}
 use Rattle.rmm_spec.specs.Cell.{Cell, Undelegated, Rtt, table_in}
 use Rattle.rmm_spec.specs.Local.{HeldCell}
 use Rattle.world_laws.specs.Replaced.{held_at, replaced_cells, replaced_all}
 use Rattle.shape_laws.specs.Whole.{cell_with_entries, table_changed}
-use Rattle.walk_laws.specs.Held.{cell_in, is_held, known_cell}
+use Rattle.walk_laws.specs.Held.{cell_in, known_cell}
 use Rattle.walk_laws.specs.SeenState.{table_held, table_placed}
 use Rattle.walk_laws.specs.TableCells.{entry_cells, holds_page, holds_realm, holds_rec, holds_change}
 use Rattle.walk_laws.proofs.Found.{placed-holds}
@@ -26,7 +25,7 @@ use Rattle.command_core.proofs.SeenTables.{table_cell}
 -- ---- lists
 
 -- of two at one granule the last stands
-pub replaced_cells-twice : (held : List HeldCell) (g : ℕ) (a c : Cell) → replaced_cells (replaced_cells held g a) g c ≡ replaced_cells held g c
+replaced_cells-twice : (held : List HeldCell) (g : ℕ) (a c : Cell) → replaced_cells (replaced_cells held g a) g c ≡ replaced_cells held g c
 replaced_cells-twice [] g a c = refl
 replaced_cells-twice (h ∷ held) g a c =
     λ i. held_at h.granule (by (h.granule == g) i) ∷ replaced_cells-twice held g a c i
@@ -66,7 +65,7 @@ replaced_all-last (x ∷ xs) held other g c same =
         replaced_cells-swap held g x.granule d x.cell apart
         ∙ (ap (λ now. replaced_cells now x.granule x.cell) (same d) ∙ sym (replaced_cells-swap other g x.granule d x.cell apart))
 
-pub replaced_all-append : (xs ys held : List HeldCell) → replaced_all held (xs ++ ys) ≡ replaced_all (replaced_all held xs) ys
+replaced_all-append : (xs ys held : List HeldCell) → replaced_all held (xs ++ ys) ≡ replaced_all (replaced_all held xs) ys
 replaced_all-append [] ys held = refl
 replaced_all-append (x ∷ xs) ys held = replaced_all-append xs ys (replaced_cells held x.granule x.cell)
 
@@ -111,35 +110,13 @@ table-last held xs ys zs g t new change is made =
         ∙ (replaced_all-append ys (zs ++ last) (replaced_all held xs) ∙ replaced_all-append zs last (replaced_all (replaced_all held xs) ys)))
 
 -- the table of a place that is found is there
-pub placed-there : (held : List HeldCell) (rd level number : ℕ) → (o : Option ℕ) → table_placed held rd level number ≡ o
-    → IfSome o (λ granule. IsTrue (is_some (table_held held granule)))
-placed-there held rd level number None found = tt
-placed-there held rd level number (Some g) found =
-    let holds = placed-holds held rd level number g found in
-    ap (λ (t : Option TableRecord). is_some t) holds.is_held
+pub placed-there : (held : List HeldCell) (rd level number g : ℕ) → table_placed held rd level number ≡ Some g → IsTrue (is_some (table_held held g))
+placed-there held rd level number g found = ap (λ (t : Option TableRecord). is_some t) (placed-holds held rd level number g found).is_held
 
--- what is required of a table that is put in is required of the two granules
-pub made-fits : (held : List HeldCell) (rd level number rtt : ℕ) (entry : Entry) → IsTrue (fits_cells held (TableMade rd level number rtt entry))
-    → IsTrue (is_held rtt held) × IsTrue (is_some (table_placed held rd (level - 1) (number / 512)))
-unfolding holds_change
-made-fits held rd level number rtt entry fits =
-    let above : Bool = is_some (table_placed held rd (level - 1) (number / 512)) in
-    and_parts (is_held rtt held) above (and_parts (is_held rtt held && above) (nat_lt (number * table_size level) (2 ^ 64)) fits).0
-
-pub destroyed-fits : (held : List HeldCell) (rd level number rtt : ℕ) (entry : Entry) → IsTrue (fits_cells held (TableDestroyed rd level number rtt entry))
-    → IsTrue (is_held rtt held) × IsTrue (is_some (table_placed held rd (level - 1) (number / 512)))
-unfolding holds_change
-destroyed-fits held rd level number rtt entry fits = and_parts (is_held rtt held) (is_some (table_placed held rd (level - 1) (number / 512))) fits
-
--- what is required of changed entries
-pub record EntriesFit (held : List HeldCell) (rd level : ℕ) (entries : EntryChange) (realm : Option RealmChange) (rec : Option RecChange) : Type 0 where
-  pub there : IsTrue (is_some (table_placed held rd level (table_changed entries)))
-  pub of_entries : IsTrue (fits_entries entries)
-  pub of_realm : IsTrue (fits_realm_change held realm)
-  pub of_rec : IsTrue (fits_rec_change held rec)
-
+-- where entries can be changed, their table is held, and the REC that goes with them is one that can be updated
 pub entries-fit : (held : List HeldCell) (rd level : ℕ) (entries : EntryChange) (page : Option TagChange) (realm : Option RealmChange) (rec : Option RecChange)
-    → IsTrue (fits_cells held (EntriesChanged rd level entries page realm rec)) → EntriesFit held rd level entries realm rec
+    → IsTrue (fits_cells held (EntriesChanged rd level entries page realm rec))
+    → IsTrue (is_some (table_placed held rd level (table_changed entries))) × IsTrue (fits_rec_change held rec)
 unfolding holds_change
 entries-fit held rd level entries page realm rec fits =
     let there : Bool = is_some (table_placed held rd level (table_changed entries)) in
@@ -148,4 +125,4 @@ entries-fit held rd level entries page realm rec fits =
     let of_realm = and_parts (parts && there && fits_page page && fits_entries entries) (fits_realm_change held realm) of_rec.0 in
     let of_entries = and_parts (parts && there && fits_page page) (fits_entries entries) of_realm.0 in
     let of_page = and_parts (parts && there) (fits_page page) of_entries.0 in
-    record { there = (and_parts parts there of_page.0).1; of_entries = of_entries.1; of_realm = of_realm.1; of_rec = of_rec.1 }
+    ((and_parts parts there of_page.0).1, of_rec.1)

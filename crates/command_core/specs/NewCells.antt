@@ -2,7 +2,7 @@
 use Rattle.std.specs.Prelude.{List, [], ◌∷◌, Option, Some, None}
 use Rattle.rmm_spec.specs.Local.{HeldCell}
 use Rattle.world_laws.specs.Replaced.{held_at}
-use Rattle.command_core.specs.declared.put_cells.NewCell.{NewCell}
+use Rattle.command_core.specs.declared.new_cells.NewCell.{NewCell}
 use Rattle.command_core.specs.Seen.{cell_of}
 
 abbrev pub new_cell : Option NewCell → List HeldCell

@@ -1,38 +1,28 @@
 //! The cells that a change puts in.
 
-ghost use Rattle.std.specs.Prelude.{◌≡◌, ◌+◌, ◌-◌, ◌*◌, ◌/◌, ◌^◌, nat_lt, ℕ, IsTrue, IfSome, List, Some, is_some, [], ◌∷◌, ◌++◌, replicate, option_map, option_copied, unwrap_or};
-ghost use Rattle.rmm_spec.specs.declared.change.Change.TheVariants.{TableMade, TableDestroyed};
+ghost use Rattle.std.specs.Prelude.{◌≡◌, IsTrue, Some, is_some, [], ◌∷◌, ◌++◌, option_map, option_copied, unwrap_or};
 ghost use Rattle.rmm_spec.specs.declared.change.RealmUpdate.TheVariants.{RecCounted};
-ghost use Rattle.rmm_spec.specs.declared.entry.Entry as entries;
-ghost use Rattle.rmm_spec.specs.declared.entry.Entry.TheVariants.{UnassignedNs};
 ghost use Rattle.rmm_spec.specs.Cell as whole;
-ghost use Rattle.rmm_spec.specs.Local.{HeldCell};
-ghost use Rattle.rmm_spec.specs.Walk as walk;
-ghost use Rattle.world_laws.specs.Replaced.{held_at, replaced_cells, replaced_all};
-ghost use Rattle.shape_laws.specs.Whole as spec_whole;
-ghost use Rattle.shape_laws.specs.Whole.{root_table, cell_with_tag, cell_with_realm, cell_with_rec};
-ghost use Rattle.walk_laws.specs.SeenState.{table_held, table_placed};
-ghost use Rattle.walk_laws.specs.TableCells.{tag_cells, realm_cells, rec_cells, entry_cells, table_cells};
-ghost use Rattle.command_core.specs.Changed.{new_cells, AreHeld, AreAllHeld, is_plain, counts_in, fits_realm, fits_rec, fits_realm_change, fits_rec_change, fits_page, fits_entries, fits_cells};
-ghost use Rattle.command_core.specs.NewCells.{new_cell};
+ghost use Rattle.world_laws.specs.Replaced.{held_at, replaced_all};
+ghost use Rattle.shape_laws.specs.Whole.{cell_with_realm};
+ghost use Rattle.walk_laws.specs.TableCells.{realm_cells, rec_cells};
+ghost use Rattle.command_core.specs.Changed.{new_cells, AreHeld, AreAllHeld, counts_in, fits_realm_change, fits_rec_change, fits_cells};
 ghost use Rattle.command_core.specs.Rooms.{IsRoomFor};
-ghost use Rattle.command_core.specs.Seen.{cell_of, is_held, known_cell};
+ghost use Rattle.command_core.specs.Seen.{cell_of, is_held};
 
 use crate::change_room::Room;
 use crate::held::Held;
-use crate::held_tables::{placed, table_changed, table_in};
-use crate::misfits::table_size;
+use crate::held_tables::table_changed;
+use crate::new_cells::{page_after, put, put_new, realm_after, rec_after};
+use crate::put_tables::{destroy_table, make_table, put_entries, table_at};
 use granule_cells::Cell;
 use granule_state::Pa;
 use realm_desc::{Realm, Rec};
-use rmm_spec::{
-    Change, Entry, EntryChange, Place, RealmChange, RealmUpdate, RecChange, RecUpdate, Tag,
-    TagChange,
-};
+use rmm_spec::{Change, RealmChange, RecChange};
 use rtt_table::Table;
 
 /// Puts in the cells that the change means, each in the place of the one that is held at its granule.
-#[tactic(auto, unfolding(crate::specs::Changed::new_cells, walk_laws::specs::TableCells::table_cells))]
+#[tactic(auto, unfolding(crate::specs::Changed::new_cells, walk_laws::specs::TableCells::table_cells, walk_laws::specs::TableCells::holds_change))]
 pub(crate) fn put_cells<H: Held>(held: &mut H, change: &Change, room: Room)
     requires held { AreHeld (H.cells held.old) change.now }
     requires fits { IsTrue (fits_cells (H.cells held.old) change.now) }
@@ -41,7 +31,7 @@ pub(crate) fn put_cells<H: Held>(held: &mut H, change: &Change, room: Room)
 {
     match *change {
         Change::Unchanged => {}
-        Change::Retagged(change) => put(held, change.granule, plain_cell(change.tag)),
+        Change::Retagged(change) => put_new(held, page_after(Some(change))),
         Change::RealmMade {
             rd,
             root,
@@ -90,32 +80,9 @@ pub(crate) fn put_cells<H: Held>(held: &mut H, change: &Change, room: Room)
             realm,
             rec,
         } => {
-            let at = placed(held, rd, level, table_changed(entries));
-            put_entries(held, at, entries, page, realm, rec);
+            let granule = table_at(held, rd, level, table_changed(entries));
+            put_entries(held, granule, entries, page, realm, rec);
         }
-    }
-}
-
-// Puts another cell in the place of the one that is held at a granule.
-fn put<H: Held>(held: &mut H, granule: u64, cell: Cell)
-    requires { IsTrue (is_held granule (H.cells held.old)) }
-    ensures cells { H.cells held.new ≡ replaced_cells (H.cells held.old) granule (cell_of cell) }
-    ensures kept { (g : ℕ) → is_held g (H.cells held.new) ≡ is_held g (H.cells held.old) }
-{
-    let _ = held.swap(Pa::new(granule), cell);
-}
-
-// The cell of a granule that holds nothing.
-fn plain_cell(tag: Tag) -> Cell
-    requires { IsTrue (is_plain tag) }
-    ensures { (before : whole.Cell) → cell_of result ≡ cell_with_tag tag before }
-{
-    match tag {
-        Tag::Undelegated => Cell::Undelegated,
-        Tag::Delegated => Cell::Delegated,
-        Tag::RecAux => Cell::RecAux,
-        Tag::Data => Cell::Data,
-        Tag::Rd | Tag::Rec | Tag::Rtt => unreachable!(),
     }
 }
 
@@ -189,79 +156,6 @@ fn counted(cell: Option<&Cell>, mpidr: u8, flags: u64) -> Realm
     realm
 }
 
-// The realm that is there, updated.
-fn updated_realm(cell: Option<&Cell>, update: RealmUpdate) -> Cell
-    requires { IsTrue (fits_realm update (unwrap_or (option_map cell_of (option_copied cell)) whole.Undelegated)) }
-    ensures { cell_of result ≡ cell_with_realm update (unwrap_or (option_map cell_of (option_copied cell.entry)) whole.Undelegated) }
-{
-    let Some(Cell::Rd(realm)) = cell else {
-        unreachable!()
-    };
-    let mut realm = *realm;
-    realm.update(update);
-    Cell::Rd(realm)
-}
-
-// The REC that is there, updated.
-fn updated_rec(cell: Option<&Cell>, update: RecUpdate) -> Cell
-    requires { IsTrue (fits_rec update (unwrap_or (option_map cell_of (option_copied cell)) whole.Undelegated)) }
-    ensures { cell_of result ≡ cell_with_rec update (unwrap_or (option_map cell_of (option_copied cell.entry)) whole.Undelegated) }
-{
-    let Some(Cell::Rec(rec)) = cell else {
-        unreachable!()
-    };
-    let mut rec = *rec;
-    rec.update(update);
-    Cell::Rec(rec)
-}
-
-// A cell that is to be put in at a granule.
-#[derive(Drop)]
-struct NewCell {
-    granule: u64,
-    cell: Cell,
-}
-
-// What becomes of a realm, where it is changed.
-fn realm_after<H: Held>(held: &H, change: Option<RealmChange>) -> Option<NewCell>
-    requires { IsTrue (fits_realm_change (H.cells held.now) change) }
-    ensures { new_cell result ≡ realm_cells (H.cells held.now) change }
-{
-    match change {
-        None => None,
-        Some(change) => Some(NewCell {
-            granule: change.rd,
-            cell: updated_realm(held.cell(Pa::new(change.rd)), change.update),
-        }),
-    }
-}
-
-// What becomes of a REC, where it is changed.
-fn rec_after<H: Held>(held: &H, change: Option<RecChange>) -> Option<NewCell>
-    requires { IsTrue (fits_rec_change (H.cells held.now) change) }
-    ensures { new_cell result ≡ rec_cells (H.cells held.now) change }
-{
-    match change {
-        None => None,
-        Some(change) => Some(NewCell {
-            granule: change.rec,
-            cell: updated_rec(held.cell(Pa::new(change.rec)), change.update),
-        }),
-    }
-}
-
-// Puts in a cell, if there is one.
-fn put_new<H: Held>(held: &mut H, new: Option<NewCell>)
-    requires { AreAllHeld (H.cells held.old) (new_cell new) }
-    ensures cells { H.cells held.new ≡ replaced_all (H.cells held.old) (new_cell new) }
-    ensures kept { (g : ℕ) → is_held g (H.cells held.new) ≡ is_held g (H.cells held.old) }
-{
-    match new {
-        None => {}
-        Some(new) => put(held, new.granule, new.cell),
-    }
-}
-
 // Updates a realm and a REC, each of which is read first.
 fn put_records<H: Held>(held: &mut H, realm: Option<RealmChange>, rec: Option<RecChange>)
     requires held { AreAllHeld (H.cells held.old) (realm_cells (H.cells held.old) realm ++ rec_cells (H.cells held.old) rec) }
@@ -273,149 +167,4 @@ fn put_records<H: Held>(held: &mut H, realm: Option<RealmChange>, rec: Option<Re
     let new_rec = rec_after(held, rec);
     put_new(held, new_realm);
     put_new(held, new_rec);
-}
-
-// ---- tables
-
-// Takes the table out of its granule, which has none until it is put back.
-fn take_table<H: Held>(held: &mut H, granule: u64) -> Table
-    requires { IsTrue (is_some (table_held (H.cells held.old) granule)) }
-    ensures cells { H.cells held.new ≡ replaced_cells (H.cells held.old) granule whole.Undelegated }
-    ensures table { table_held (H.cells held.old) granule ≡ Some result }
-    ensures kept { (g : ℕ) → is_held g (H.cells held.new) ≡ is_held g (H.cells held.old) }
-{
-    let Cell::Rtt(table) = held.swap(Pa::new(granule), Cell::Undelegated) else {
-        unreachable!()
-    };
-    table
-}
-
-// Changes the entries of a table.
-fn change_entries(table: &mut Table, change: EntryChange)
-    requires { IsTrue (fits_entries change) }
-    ensures { table.new ≡ record table.old { entries = spec_whole.entries_changed change table.old.entries } }
-{
-    match change {
-        EntryChange::Replaced { number, entry } => {
-            table.set_entry((number % 512) as usize, entry);
-        }
-        EntryChange::RipasSet { first, last, ripas } => {
-            let from = (first % 512) as usize;
-            let to = (last - first / 512 * 512) as usize;
-            table.set_ripas(from, to, ripas);
-        }
-    }
-}
-
-// Changes the entries of a table that is held.
-fn set_entries<H: Held>(held: &mut H, at: Option<u64>, change: EntryChange)
-    requires held { IsTrue (is_some at) }
-    requires table { IfSome at (λ granule. IsTrue (is_some (table_held (H.cells held.old) granule))) }
-    requires fits { IsTrue (fits_entries change) }
-    ensures cells { H.cells held.new ≡ replaced_all (H.cells held.old) (entry_cells (H.cells held.old) (spec_whole.entries_changed change) at) }
-    ensures kept { (g : ℕ) → is_held g (H.cells held.new) ≡ is_held g (H.cells held.old) }
-{
-    let Some(granule) = at else { unreachable!() };
-    let mut table = take_table(held, granule);
-    change_entries(&mut table, change);
-    put(held, granule, Cell::Rtt(table));
-}
-
-// A page's granule changes, if one goes with the entries.
-fn page_after(change: Option<TagChange>) -> Option<NewCell>
-    requires { IsTrue (fits_page change) }
-    ensures { (cells : List HeldCell) → new_cell result ≡ tag_cells cells change }
-{
-    match change {
-        None => None,
-        Some(change) => Some(NewCell {
-            granule: change.granule,
-            cell: plain_cell(change.tag),
-        }),
-    }
-}
-
-// Changes the entries of a table, with a page, a realm and a REC. All are read first.
-fn put_entries<H: Held>(
-    held: &mut H,
-    at: Option<u64>,
-    entries: EntryChange,
-    page: Option<TagChange>,
-    realm: Option<RealmChange>,
-    rec: Option<RecChange>,
-)
-    requires held { AreAllHeld (H.cells held.old) (tag_cells (H.cells held.old) page ++ (realm_cells (H.cells held.old) realm ++ (rec_cells (H.cells held.old) rec
-        ++ entry_cells (H.cells held.old) (spec_whole.entries_changed entries) at))) }
-    requires there { IsTrue (is_some at) }
-    requires table { IfSome at (λ granule. IsTrue (is_some (table_held (H.cells held.old) granule))) }
-    requires entries { IsTrue (fits_entries entries) }
-    requires page { IsTrue (fits_page page) }
-    requires realm { IsTrue (fits_realm_change (H.cells held.old) realm) }
-    requires rec { IsTrue (fits_rec_change (H.cells held.old) rec) }
-    ensures { H.cells held.new ≡ replaced_all (H.cells held.old) (tag_cells (H.cells held.old) page ++ (realm_cells (H.cells held.old) realm ++ (rec_cells (H.cells held.old) rec
-        ++ entry_cells (H.cells held.old) (spec_whole.entries_changed entries) at))) }
-{
-    let Some(granule) = at else { unreachable!() };
-    let new_page = page_after(page);
-    let new_realm = realm_after(held, realm);
-    let new_rec = rec_after(held, rec);
-    let mut table = take_table(held, granule);
-    change_entries(&mut table, entries);
-    put_new(held, new_page);
-    put_new(held, new_realm);
-    put_new(held, new_rec);
-    put(held, granule, Cell::Rtt(table));
-}
-
-// Where a new table stands, below one of that width.
-fn place_below(rd: u64, level: u8, number: u64, width: u8) -> Place
-    requires { IsTrue (nat_lt (number * walk.table_size level) (2 ^ 64)) }
-    ensures { result ≡ (spec_whole.copied_table rd level number width UnassignedNs).place }
-{
-    Place {
-        rd,
-        level,
-        base: number * table_size(u64::from(level)),
-        width,
-    }
-}
-
-// The width of the table in a granule.
-fn width_in<H: Held>(held: &H, granule: u64) -> u8
-    requires { IsTrue (is_some (table_held (H.cells held.now) granule)) }
-    ensures { result ≡ spec_whole.width_in (known_cell (H.cells held.now) granule) }
-{
-    let Some(table) = table_in(held, Pa::new(granule)) else {
-        unreachable!()
-    };
-    table.place().width
-}
-
-// Puts in a new table, and the link to it above.
-fn make_table<H: Held>(held: &mut H, rd: u64, level: u8, number: u64, rtt: u64, table: Table)
-    requires held { IsTrue (is_held rtt (H.cells held.old)) }
-    requires above { IsTrue (is_some (table_placed (H.cells held.old) rd (level - 1) (number / 512))) }
-    requires base { IsTrue (nat_lt (number * walk.table_size level) (2 ^ 64)) }
-    ensures { (entry : entries.Entry) → table.entries ≡ replicate 512 entry
-        → H.cells held.new ≡ replaced_all (H.cells held.old) (table_cells (H.cells held.old) (TableMade rd level number rtt entry)) }
-{
-    let Some(above) = placed(held, rd, level.saturating_sub(1), number / 512) else {
-        unreachable!()
-    };
-    let mut table = table;
-    table.set_place(place_below(rd, level, number, width_in(held, above)));
-    let entry = Entry::Table(rtt);
-    set_entries(held, Some(above), EntryChange::Replaced { number, entry });
-    put(held, rtt, Cell::Rtt(table));
-}
-
-// Takes a table out, and puts an entry where the link to it was.
-fn destroy_table<H: Held>(held: &mut H, rd: u64, level: u8, number: u64, rtt: u64, entry: Entry)
-    requires held { IsTrue (is_held rtt (H.cells held.old)) }
-    requires above { IsTrue (is_some (table_placed (H.cells held.old) rd (level - 1) (number / 512))) }
-    ensures { H.cells held.new ≡ replaced_all (H.cells held.old) (table_cells (H.cells held.old) (TableDestroyed rd level number rtt entry)) }
-{
-    let above = placed(held, rd, level.saturating_sub(1), number / 512);
-    set_entries(held, above, EntryChange::Replaced { number, entry });
-    put(held, rtt, Cell::Delegated);
 }
