@@ -1,6 +1,6 @@
 //! The beginning of a history's text.
 
-ghost use Rattle.std.specs.Prelude.{⊤, ◌≡◌, ◌<◌, ℕ, List, [], ◌∷◌, ◌++◌, length, IfOk, IfErr, OnOk, IfSome, IfNone};
+ghost use Rattle.std.specs.Prelude.{⊤, ◌≡◌, ◌<◌, ℕ, List, [], ◌∷◌, ◌++◌, ◌≤◌, length, take, IfOk, IfErr, OnOk, IfSome, IfNone};
 ghost use Rattle.line_pieces.specs.Newlines.{newlines};
 ghost use Rattle.rmm_spec.specs.HistoryText.{InHistories, IsHistoryText};
 ghost use Rattle.rmm_spec.specs.Text.{HasNoNewline, IsBadLine};
@@ -9,7 +9,7 @@ ghost use Rattle.history.specs.Pieces.{IsReadWell, next_number};
 
 use crate::fault::HistoryFault;
 use crate::history::History;
-use crate::reading::read_line;
+use crate::reading::{read_line, record_front};
 use line_pieces::{MOST_BYTES, UnfinishedLine};
 use rmi_codec::next_line;
 use std::alloc::Global;
@@ -54,15 +54,40 @@ impl Beginning {
         ensures fault { IfErr result (λ fault. (more : List ℕ) → IsFaultOf (self.old ++ (piece.now ++ more)) fault) }
     {
         let mut rest = piece;
-        while let Some((last, more)) = next_line(rest) {
+        while !rest.is_empty() {
+            if let Some(count) = self.take_front(rest) {
+                rest = rest.split_at(count).1;
+                continue;
+            }
+            let Some((last, more)) = next_line(rest) else {
+                return self.hold(rest);
+            };
             self.end_line(last)?;
             rest = more;
         }
-        self.hold(rest)
+        Ok(())
+    }
+
+    /// Reads the line at a text's front, where it lies there whole, is no header and has the form of nearly all lines, and tells
+    /// how long it is. Else nothing changes.
+    #[inline(always)]
+    fn take_front(&mut self, text: &[u8]) -> Option<usize>
+        ensures read { IfSome result (λ count. self.new ≡ self.old ++ take count text.now) }
+        ensures some { IfSome result (λ count. 0 < count) }
+        ensures inside { IfSome result (λ count. count ≤ length text.now) }
+        ensures none { IfNone result (self.new ≡ self.old) }
+    {
+        if !self.line.is_empty() {
+            return None;
+        }
+        let Some(history) = &mut self.history else {
+            return None;
+        };
+        record_front(history, &mut self.words, text)
     }
 
     /// Reads the line that these bytes end.
-    #[inline(always)]
+    #[inline(never)]
     fn end_line(&mut self, last: &[u8]) -> Result<(), HistoryFault>
         requires { HasNoNewline last.now }
         ensures read { OnOk result (self.new ≡ self.old ++ (last.now ++ 10 ∷ [])) }
