@@ -1,8 +1,7 @@
-use Rattle.std.proofs.Common.{map, refl, ◌∙◌}
+use Rattle.std.proofs.Common.{map, take}
 use Rattle.rmm_spec.specs.CommandText.{command_parts}
 use Rattle.rmm_spec.specs.Function.{number_of}
 use Rattle.rmm_spec.specs.Text.{fixed_hex, word}
-use Rattle.std.proofs.Common.{take}
 use Rattle.rmi_codec.proofs.FrontLaws.{line_front, eight_front}
 use Rattle.rmi_codec.proofs.front.command_at.Goals as goal
 

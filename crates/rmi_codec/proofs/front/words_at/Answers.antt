@@ -1,4 +1,4 @@
-use Rattle.std.proofs.Common.{◌≡◌, ◌++◌, ◌∷◌, ◌∙◌, [], arith, take}
+use Rattle.std.proofs.Common.{◌∷◌, ◌∙◌, [], arith, take}
 use Rattle.std.proofs.lemmas.List.{take_more_set, length-set}
 use Rattle.rmm_spec.proofs.Texts.{AllByRecursion-append}
 use Rattle.rmi_codec.proofs.FrontLaws.{words_more}
