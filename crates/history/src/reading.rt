@@ -145,64 +145,24 @@ pub(crate) fn record_front(
     let cpus = history.config().cpus();
     let (cpu, number, at) = head_at(text, cpus, MOST_LINES as u32)?;
     match text[0] {
-        b'c' => record_call(history, words, text, cpu, number, at),
-        b'r' => record_return(history, words, text, cpu, number, at),
+        b'c' => {
+            let (command, end) = command_at(words, text, at)?;
+            let event = EventRef::Called {
+                cpu,
+                number,
+                command,
+            };
+            record_to(history, event, end)
+        }
+        b'r' => {
+            let Some((words, end)) = ok_at(words, text, at) else {
+                return record_refusal(history, text, cpu, number, at);
+            };
+            let reply = ReplyRef::Ok(words);
+            record_to(history, EventRef::Returned { cpu, number, reply }, end)
+        }
         _ => None,
     }
-}
-
-/// Records the call whose line has its head before a place.
-#[inline(always)]
-fn record_call(
-    history: &mut History,
-    words: &mut [u64; 10],
-    text: &[u8],
-    cpu: u8,
-    number: u32,
-    at: usize,
-) -> Option<usize>
-    requires head { take at text.now ≡ head_text 99 cpu number }
-    requires cpu { cpu < history.old.recorded.config.cpus }
-    requires place { at < length text.now }
-    requires room { length history.old.recorded.events + 1 < MOST_LINES }
-    ensures recorded { IfSome result (λ end. history_text history.new.recorded ≡ history_text history.old.recorded ++ take end text.now) }
-    ensures on { IfSome result (λ end. at < end) }
-    ensures inside { IfSome result (λ end. end ≤ length text.now) }
-    ensures none { IfNone result (history.new.recorded ≡ history.old.recorded) }
-{
-    let (command, end) = command_at(words, text, at)?;
-    let event = EventRef::Called {
-        cpu,
-        number,
-        command,
-    };
-    record_to(history, event, end)
-}
-
-/// Records the return whose line has its head before a place.
-#[inline(always)]
-fn record_return(
-    history: &mut History,
-    words: &mut [u64; 10],
-    text: &[u8],
-    cpu: u8,
-    number: u32,
-    at: usize,
-) -> Option<usize>
-    requires head { take at text.now ≡ head_text 114 cpu number }
-    requires cpu { cpu < history.old.recorded.config.cpus }
-    requires place { at < length text.now }
-    requires room { length history.old.recorded.events + 1 < MOST_LINES }
-    ensures recorded { IfSome result (λ end. history_text history.new.recorded ≡ history_text history.old.recorded ++ take end text.now) }
-    ensures on { IfSome result (λ end. at < end) }
-    ensures inside { IfSome result (λ end. end ≤ length text.now) }
-    ensures none { IfNone result (history.new.recorded ≡ history.old.recorded) }
-{
-    let Some((words, end)) = ok_at(words, text, at) else {
-        return record_refusal(history, text, cpu, number, at);
-    };
-    let reply = ReplyRef::Ok(words);
-    record_to(history, EventRef::Returned { cpu, number, reply }, end)
 }
 
 /// Records the return of a refusal whose line has its head before a place.

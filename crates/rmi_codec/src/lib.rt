@@ -1,5 +1,6 @@
 //! The texts of commands and replies: the parts of a line, numbers, readers and writers.
-//! It promises that a reader accepts exactly the texts of the grammar, and that what is written reads back as it was.
+//! It promises that a reader accepts exactly the texts of the grammar, and that what is written reads back as it was. Only the
+//! readers of `front.rt`, for lines that aren't cut off yet, may refuse what the others accept.
 //! The grammar is in `rmm_spec`: `specs/Text.antt` and `specs/CommandText.antt`.
 //! Readers allocate nothing, and a writer leaves what it was given where memory is refused.
 //! Histories, certificates and the checker depend on it.
