@@ -55,15 +55,6 @@ pub record IsReadUpTo {S T : Type 0} (gives : S → List ℕ → S → Type 0) (
   pub left : Consumes (left_of old) (left_of now) text
   pub handed : (before : List ℕ) → has_taken taker before [] → has_taken taken before text
 
-pub IsReadUpTo-none : {S T : Type 0} (gives : S → List ℕ → S → Type 0) (left_of : S → Option (List ℕ)) (has_taken : T → List ℕ → List ℕ → Type 0)
-    (s : S) (taker : T) → IsReadUpTo gives left_of has_taken s s taker taker
-IsReadUpTo-none gives left_of has_taken s taker = record {
-  text = [];
-  given = Gives-none gives s;
-  left = Consumes-none (left_of s);
-  handed = λ before given. given;
-}
-
 -- a piece more is read and handed on
 pub IsReadUpTo-next : {S T : Type 0} (gives : S → List ℕ → S → Type 0) (left_of : S → Option (List ℕ)) (has_taken : T → List ℕ → List ℕ → Type 0)
     (old middle new : S) (taker before_piece behind_piece : T) (bytes piece : List ℕ) → gives middle bytes new → bytes ≡ piece
