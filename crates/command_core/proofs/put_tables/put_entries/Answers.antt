@@ -1,5 +1,5 @@
 use Rattle.std.proofs.Common.{ap, ◌∙◌}
-use Rattle.rmm_spec.specs.Cell.{Undelegated, Rtt}
+use Rattle.rmm_spec.specs.Cell.{Rtt}
 use Rattle.shape_laws.specs.Whole.{entries_changed}
 use Rattle.world_laws.specs.Replaced.{replaced_cells, replaced_all}
 use Rattle.walk_laws.specs.TableCells.{tag_cells, realm_cells, rec_cells}
