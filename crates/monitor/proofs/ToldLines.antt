@@ -28,7 +28,7 @@ record IsOneEntry (number : ℕ → ℕ) (ticket : ℕ) (entries : List JournalE
   pub is_ticket : commit.ticket ≡ ticket + place
 
 module _ (number : ℕ → ℕ) (ticket : ℕ) (entry : JournalEntry) (entries : List JournalEntry) where
-  next : ℕ → ℕ
+  abbrev next : ℕ → ℕ
   next = put number entry.cpu (number entry.cpu + 1)
 
   first-entry : (c : Commitment) → record { cpu = entry.cpu; number = number entry.cpu; command = entry.command; given = entry.given } ≡ c

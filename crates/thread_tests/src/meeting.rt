@@ -93,9 +93,8 @@ fn meet_both<S: Site>(
     ensures first { ArePaired _monitor.now first.new.token first.new.pass × (first.new.token.cpu ≡ first.old.token.cpu) }
     ensures second { ArePaired _monitor.now second.new.token second.new.pass × (second.new.token.cpu ≡ second.old.token.cpu) }
 {
-    let before = write_seen(first, second, out);
+    write_seen(first, second, out)?;
     meet(&mut first.token, &mut second.token);
-    before?;
     write_seen(first, second, out)
 }
 
