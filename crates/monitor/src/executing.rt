@@ -7,7 +7,7 @@ ghost use Rattle.command_core.specs.Seen.{place_of};
 ghost use Rattle.command_core.specs.Settled.{is_settled};
 ghost use Rattle.granule_lock.specs.HeldCells.{hold_cells};
 ghost use Rattle.monitor.specs.Causes.{HadCause, FaultHadCause};
-ghost use Rattle.monitor.specs.Executed.{ArePaired, Leaves, FullAtSomeMoment, HasCalled, HasCommitted, HasFailed, returned, unreturned};
+ghost use Rattle.monitor.specs.Executed.{ArePaired, Leaves, FullAtSomeMoment, HasCalled, HasCommitted, HasFailed, IsPastSeen, returned, unreturned};
 ghost use Rattle.granule_lock.specs.Locked.{AreGranules};
 ghost use Rattle.monitor.specs.declared.refused.Refused.TheVariants as refused;
 
@@ -39,6 +39,7 @@ impl<S: Site> Monitor<S> {
         requires command { IsCommand command }
         requires number { pass.old.stand.next ≤ 999999 }
         ensures leaves { Leaves command token.old pass.old result token.new pass.new }
+        ensures told { IsPastSeen token.old result }
         ensures pair { ArePaired self.now token.new pass.new }
         ensures stopped { (result ≡ Err refused.Stopped) ↔ IsTrue token.old.is_stopped }
         ensures full { FullAtSomeMoment self.now.capacity pass.new result }
@@ -78,6 +79,7 @@ impl<S: Site> Monitor<S> {
         requires unlocked { hold_cells hold.old ≡ [] }
         ensures unlocked { hold_cells hold.new ≡ [] }
         ensures done { IfOk result (λ done. HasCommitted token.old command.now done token.new) }
+        ensures told { IfOk result (λ done. token.old.seen ≤ done.ticket) }
         ensures fault { IfErr result (λ fault. HasFailed token.old fault token.new) }
         ensures cause { IfErr result (λ fault. HadCause self.now.config fault command.now token.old) }
     {
@@ -105,6 +107,7 @@ impl<S: Site> Monitor<S> {
         requires settled { IsTrue (is_settled self.now.config.granules (call_of command.now) (place_of token.old.place) (hold_cells hold.old)) }
         ensures granules { AreGranules self.now.config.granules (hold_cells hold.new) }
         ensures done { IfOk result (λ done. HasCommitted token.old command.now done token.new) }
+        ensures told { IfOk result (λ done. token.old.seen ≤ done.ticket) }
         ensures fault { IfErr result (λ fault. HasFailed token.old fault token.new) }
         ensures cause { IfErr result (λ fault. HadCause self.now.config fault command.now token.old) }
     {

@@ -71,9 +71,9 @@ impl Gate for Turnstile {
 
 /// A CPU's token and pass.
 #[derive(Drop)]
-struct Cpu<S: Site> {
-    token: CpuToken<S>,
-    pass: CpuPass,
+pub struct Cpu<S: Site> {
+    pub token: CpuToken<S>,
+    pub pass: CpuPass,
 }
 
 impl<S: Site> Cpu<S> {
@@ -100,22 +100,25 @@ impl<S: Site> Cpu<S> {
         Some(self)
     }
 
-    /// What the CPU is answered to the command of a text, or nothing where the text isn't a command's.
-    fn ask<R: Wait>(
+    /// The CPU after the command of a text, and what it is answered, or nothing where the text isn't a command's.
+    pub fn ask<R: Wait, G: Gate>(
         mut self,
         rt: &R,
         alloc: Global,
         monitor: &Monitor<S>,
-        gate: &Turnstile,
+        gate: &G,
         text: &str,
-    ) -> Option<Answer>
+    ) -> Option<(Cpu<S>, Answer)>
         requires { ArePaired monitor.now self.token self.pass }
+        ensures pair { IfSome result (λ asked. ArePaired monitor.now asked.0.token asked.0.pass) }
+        ensures cpu { IfSome result (λ asked. asked.0.token.cpu ≡ self.token.cpu) }
     {
         let command = read_command(text).ok()?;
         if self.pass.next_number() > 999_999 {
             return None;
         }
-        Some(monitor.execute(rt, alloc, &mut self.token, &mut self.pass, gate, command))
+        let answer = monitor.execute(rt, alloc, &mut self.token, &mut self.pass, gate, command);
+        Some((self, answer))
     }
 
     /// The same once CPU 0 is held up.
@@ -135,12 +138,12 @@ impl<S: Site> Cpu<S> {
         }
         let answer = self.ask(rt, alloc, monitor, gate, text);
         answered.store(true, Ordering::SeqCst);
-        answer
+        Some(answer?.1)
     }
 }
 
 /// The CPU of the last token and the last pass.
-fn last_cpu<S: Site>(
+pub fn last_cpu<S: Site>(
     monitor: &Monitor<S>,
     tokens: &mut Vec<CpuToken<S>>,
     passes: &mut Vec<CpuPass>,
@@ -177,7 +180,7 @@ fn ask_both<S: Site + Send + Sync, R: Threads + Wait + Sync>(
         rt,
         || -> Option<Answer>
             requires { ArePaired monitor.now first.token first.pass }
-        { first.ask(rt, alloc, monitor, gate, texts.first) },
+        { Some(first.ask(rt, alloc, monitor, gate, texts.first)?.1) },
         || -> Option<Answer>
             requires { ArePaired monitor.now second.token second.pass }
         { second.ask_second(rt, alloc, monitor, gate, texts.second, answered) },

@@ -30,7 +30,7 @@ fn write_done(done: &Done, out: &mut Vec<u8>) -> Result<(), AllocError> {
 }
 
 /// Appends a line of what a CPU was answered: a ticket and a reply, or a refusal.
-fn write_answer(answer: &Answer, out: &mut Vec<u8>) -> Result<(), AllocError> {
+pub fn write_answer(answer: &Answer, out: &mut Vec<u8>) -> Result<(), AllocError> {
     match answer {
         Ok(done) => write_done(done, out),
         Err(Refused::Unrecorded(done)) => {
