@@ -63,7 +63,7 @@ fn tell<S: Site + Send + Sync, R: Threads + Wait + Sync>(
         cpu.ask(rt, alloc, monitor, &Open, text)
     };
     let Some((cpu, answer)) = asked else {
-        return Err("a served command".into());
+        return Err("a command".into());
     };
     write_answer(&answer, out)?;
     Ok(cpu)
