@@ -1,6 +1,6 @@
 //! The beginning of a history's text.
 
-ghost use Rattle.std.specs.Prelude.{⊤, ◌≡◌, ◌<◌, ℕ, List, [], ◌∷◌, ◌++◌, ◌≤◌, length, take, IfOk, IfErr, OnOk, IfSome, IfNone};
+ghost use Rattle.std.specs.Prelude.{◌≡◌, ◌<◌, ℕ, List, [], ◌∷◌, ◌++◌, ◌≤◌, length, take, IfOk, IfErr, OnOk, IfSome, IfNone};
 ghost use Rattle.line_pieces.specs.Newlines.{newlines};
 ghost use Rattle.rmm_spec.specs.HistoryText.{InHistories, IsHistoryText};
 ghost use Rattle.rmm_spec.specs.Text.{HasNoNewline, IsBadLine};
