@@ -20,7 +20,7 @@ for granules in own shared realms realm; do
     many=$(best "$granules" many "$cpus")
     one=$(best "$granules" one "$cpus")
     ratio=$(awk -v many="$many" -v one="$one" 'BEGIN { printf "%.2f", many / one }')
-    printf '%-6s, CPUs %d: commands a second %9d, behind one lock %9d, ratio %s\n' \
+    printf '%-6s CPUs %d: commands a second %9d, behind one lock %9d, ratio %s\n' \
       "$granules" "$cpus" "$many" "$one" "$ratio"
   done
 done
