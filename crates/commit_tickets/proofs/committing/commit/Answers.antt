@@ -40,8 +40,7 @@ invariant_of-token-2 g c =
       c.len.ensures,
       c.if-len-token.false,
     ) in
-    let is_new = c.push_reserved-2.ensures.items ∙ ap (λ (cs : List Committed). cs ++ c.of-2.result ∷ []) c.reserve-2.ensures.items in
-    (
+    let is_new = c.push_reserved-2.ensures.items ∙ ap (λ (cs : List Committed). cs ++ c.of-2.result ∷ []) c.reserve-2.ensures.items in (
       c.add.ensures.parts ∙ c.token.invariant.0,
       omega (arith, c.add.ensures.amount, c.push_reserved-2.ensures.len, c.reserve-2.ensures.len, c.token.invariant.1),
       RiseWithin-append _ _ _ _ c.of-2.result past (omega (arith, ticket, c.len-2.ensures, c.push_reserved.ensures.len, c.len-ticket.ensures)) is_new
