@@ -17,7 +17,8 @@ pub fn lines_stand_at_tickets()
 {}
 
 /// In the certificate of a closed run a call's line comes after the lines of all calls that its CPU's token had been told of.
-/// That the call's ticket is at or past what the token had seen before is what `execute` promises.
+/// `before` is the token as it was when the call was made: that the call's ticket is at or past what it was told of is promised by
+/// `execute`.
 pub fn told_calls_come_first()
     ensures { (config : Config) (tokens : List TokenView) (events : List Event) (lines : List Line)
         → IsJournal config tokens events lines

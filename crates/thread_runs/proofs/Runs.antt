@@ -38,6 +38,29 @@ pub served_as : (monitor : MonitorView) (cpu number granule address : ℕ) (toke
 served_as monitor cpu number granule address token pass is_number is_address =
     subst (λ (p : ℕ × ℕ). HasServed monitor p.0 p.1 token pass) (λ i. (is_number i, is_address i))
 
+-- tokens and passes of two CPUs are those of all
+pub cpus_of_two : (monitor : MonitorView) (granule : ℕ) (other : ℕ) (first_token second_token : TokenView) (first_pass second_pass : CpuView)
+    → monitor.config.cpus ≡ 2 → HasServed monitor 0 granule first_token first_pass → HasServed monitor 1 other second_token second_pass
+    → AreCpus monitor (first_token ∷ second_token ∷ []) (first_pass ∷ second_pass ∷ [])
+cpus_of_two monitor granule other first_token second_token first_pass second_pass two first second = record {
+  pairs = record { same_count = refl; each = paired_at };
+  count = sym two;
+  numbered = numbered_at;
+}
+  where
+    paired_at : (cpu : ℕ) (token : TokenView) (pass : CpuView) → slice_get (first_token ∷ second_token ∷ []) cpu ≡ Some token
+        → slice_get (first_pass ∷ second_pass ∷ []) cpu ≡ Some pass → ArePaired monitor token pass
+    paired_at zero token pass token_at pass_at =
+        subst (λ t. ArePaired monitor t pass) (same_Some _ _ token_at) (subst (λ p. ArePaired monitor first_token p) (same_Some _ _ pass_at) first.paired)
+    paired_at (suc zero) token pass token_at pass_at =
+        subst (λ t. ArePaired monitor t pass) (same_Some _ _ token_at) (subst (λ p. ArePaired monitor second_token p) (same_Some _ _ pass_at) second.paired)
+    paired_at (suc (suc cpu)) token pass token_at pass_at = absurd (none-some token token_at)
+
+    numbered_at : (cpu : ℕ) (token : TokenView) → slice_get (first_token ∷ second_token ∷ []) cpu ≡ Some token → token.cpu ≡ cpu
+    numbered_at zero token at = ap (λ (t : TokenView). t.cpu) (sym (same_Some _ _ at)) ∙ first.same_cpu
+    numbered_at (suc zero) token at = ap (λ (t : TokenView). t.cpu) (sym (same_Some _ _ at)) ∙ second.same_cpu
+    numbered_at (suc (suc cpu)) token at = absurd (none-some token at)
+
 -- one call is two events at most
 length-one_call : (cpu granule : ℕ) (events : List Event) → IsOneCall cpu granule events → length events ≤ 2
 length-one_call cpu granule events one = omega (arith, length-append events one.1.0, ap length one.1.1)

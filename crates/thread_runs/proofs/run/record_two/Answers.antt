@@ -4,8 +4,7 @@ use Rattle.rmm_spec.specs.HistoryText.{Config, History}
 use Rattle.commit_tickets.specs.View.{TokenView}
 use Rattle.event_queue.specs.View.{CpuView, AreWhole, before_calls, count_recorded}
 use Rattle.monitor.specs.Cpus.{AreCpus}
-use Rattle.monitor.proofs.CpuLists.{cpus-of_two}
-use Rattle.thread_runs.proofs.Runs.{served_as, room_of_two, run_of_two}
+use Rattle.thread_runs.proofs.Runs.{served_as, cpus_of_two, room_of_two, run_of_two}
 use Rattle.thread_runs.proofs.run.record_two.Goals as goal
 
 pub two_cpus-first-requires-clause-before : goal.two_cpus-first-requires-clause-before
@@ -20,7 +19,7 @@ close-requires-clause-cpus g c =
     let second = served_as monitor _ 1 _ 0x2000 _ _ c.two_cpus-first.ensures.numbers.1 c.two_cpus-first.ensures.granules.1 c.in_ok-served.ensures.second in
     let two = ap (λ (x : Config). x.cpus) (c.in_ok-monitor.ensures.config ∙ c.config_of_two-config.ensures) in
     subst (λ (ts : List TokenView). AreCpus monitor ts c.in_ok-passes.passes.items) (sym c.in_ok-tokens.ensures)
-    (subst (λ (ps : List CpuView). AreCpus monitor (c.in_ok-served.served.first.token ∷ c.in_ok-served.served.second.token ∷ []) ps) (sym c.in_ok-passes.ensures) (cpus-of_two monitor _ _ _ _ two first.paired second.paired first.same_cpu second.same_cpu))
+    (subst (λ (ps : List CpuView). AreCpus monitor (c.in_ok-served.served.first.token ∷ c.in_ok-served.served.second.token ∷ []) ps) (sym c.in_ok-passes.ensures) (cpus_of_two monitor 0x1000 0x2000 _ _ _ _ two first second))
 
 pub close-requires-clause-room : goal.close-requires-clause-room
 close-requires-clause-room g c =
