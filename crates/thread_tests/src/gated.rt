@@ -156,11 +156,44 @@ pub fn last_cpu<S: Site>(
     Ok(Cpu { token, pass })
 }
 
-/// What both CPUs are asked.
+/// Two calls, of which CPU 0 makes one and is held up in it while CPU 1 makes the other.
 #[derive(Clone, Copy)]
-struct Texts {
-    first: &'static str,
-    second: &'static str,
+enum Pair {
+    OneGranule,
+    TwoGranules,
+    TwoPages,
+    PageAndRead,
+}
+
+/// A realm with two tables of pages, for 0 and for 200000.
+const TWO_SUBTREES: &str =
+    "c4000151 1000\nc4000151 2000\nc4000151 3000\nc4000151 4000\nc4000151 5000\nc4000151 6000\n\
+    c4000151 7000\nc4000158 1000 2000 27 1 1 0\nc400015d 1000 3000 0 2\nc400015d 1000 4000 0 3\nc400015d 1000 5000 200000 3\n";
+
+impl Pair {
+    /// What CPU 0 executes before.
+    fn script(self) -> &'static str {
+        match self {
+            Pair::OneGranule | Pair::TwoGranules => "",
+            Pair::TwoPages | Pair::PageAndRead => TWO_SUBTREES,
+        }
+    }
+
+    fn first(self) -> &'static str {
+        match self {
+            Pair::OneGranule | Pair::TwoGranules => "c4000151 1000",
+            Pair::TwoPages | Pair::PageAndRead => "c4000154 1000 6000 0",
+        }
+    }
+
+    fn second(self) -> &'static str {
+        match self {
+            Pair::OneGranule => "c4000151 1000",
+            Pair::TwoGranules => "c4000151 2000",
+            Pair::TwoPages => "c4000154 1000 7000 200000",
+            Pair::PageAndRead => "c4000161 1000 200000 3",
+        }
+    }
 }
 
 /// Both CPUs on threads of their own: CPU 1 is asked once CPU 0 is held up.
@@ -171,7 +204,7 @@ fn ask_both<S: Site + Send + Sync, R: Threads + Wait + Sync>(
     gate: &Turnstile,
     first: Cpu<S>,
     second: Cpu<S>,
-    texts: Texts,
+    pair: Pair,
     answered: &AtomicBool,
 ) -> (Option<Answer>, Option<Answer>)
     requires { ArePaired monitor.now first.token first.pass × ArePaired monitor.now second.token second.pass }
@@ -180,10 +213,10 @@ fn ask_both<S: Site + Send + Sync, R: Threads + Wait + Sync>(
         rt,
         || -> Option<Answer>
             requires { ArePaired monitor.now first.token first.pass }
-        { Some(first.ask(rt, alloc, monitor, gate, texts.first)?.1) },
+        { Some(first.ask(rt, alloc, monitor, gate, pair.first())?.1) },
         || -> Option<Answer>
             requires { ArePaired monitor.now second.token second.pass }
-        { second.ask_second(rt, alloc, monitor, gate, texts.second, answered) },
+        { second.ask_second(rt, alloc, monitor, gate, pair.second(), answered) },
     )
 }
 
@@ -194,8 +227,7 @@ fn ask_apart<S: Site + Send + Sync, R: Threads + Wait + Sync>(
     alloc: Global,
     blank: Blank,
     config: Config,
-    script: &str,
-    texts: Texts,
+    pair: Pair,
 ) -> Result<(Option<Answer>, Option<Answer>, bool), Fail>
     requires name { blank.name ≡ S.name }
     requires parts { blank.parts ≡ S.parts }
@@ -206,7 +238,7 @@ fn ask_apart<S: Site + Send + Sync, R: Threads + Wait + Sync>(
     let second = last_cpu(&monitor, &mut tokens, &mut passes)?;
     let first = last_cpu(&monitor, &mut tokens, &mut passes)?;
     let first = first
-        .prepare(rt, alloc, &monitor, script)
+        .prepare(rt, alloc, &monitor, pair.script())
         .ok_or("a script")?;
     let gate = Turnstile::new();
     let (first, second) = ask_both(
@@ -216,7 +248,7 @@ fn ask_apart<S: Site + Send + Sync, R: Threads + Wait + Sync>(
         &gate,
         first,
         second,
-        texts,
+        pair,
         &gate.is_open,
     );
     Ok((first, second, gate.ran_out.load(Ordering::SeqCst)))
@@ -230,55 +262,30 @@ fn is_answered(answer: &Option<Answer>, reply: &Reply) -> bool {
     }
 }
 
-#[test]
-fn two_commands_under_way(rt: HostRuntime) -> Result<(), Fail> {
-    let config = Config::new(4, 2).ok_or("a machine of this size")?;
-    let texts = Texts {
-        first: "c4000151 1000",
-        second: "c4000151 2000",
-    };
-    let (first, second, ran_out) = ask_apart::<Brand, _>(
-        &rt,
-        rt.alloc(),
-        Blank::new(2),
-        config,
-        "",
-        texts,
-    )?;
-    assert!(rt; is_answered(&first, &ok()) && is_answered(&second, &ok()) && !ran_out);
-    Ok(())
-}
-
-/// A realm with two tables of pages, for 0 and for 200000.
-const TWO_SUBTREES: &str =
-    "c4000151 1000\nc4000151 2000\nc4000151 3000\nc4000151 4000\nc4000151 5000\nc4000151 6000\n\
-    c4000151 7000\nc4000158 1000 2000 27 1 1 0\nc400015d 1000 3000 0 2\nc400015d 1000 4000 0 3\nc400015d 1000 5000 200000 3\n";
-
-/// Whether CPU 1 is answered this while CPU 0 maps a page below the other table and holds that one.
+/// Whether CPU 0 is answered `ok` and CPU 1 this, which is asked while CPU 0 is held up.
 fn passes_by<R: Threads + Wait + Sync>(
     rt: &R,
     alloc: Global,
-    second: &'static str,
-    reply: &str,
+    pair: Pair,
+    reply: &Reply,
 ) -> Result<bool, Fail> {
     let config = Config::new(16, 2).ok_or("a machine of this size")?;
-    let first = "c4000154 1000 6000 0";
-    let texts = Texts { first, second };
-    let (first, second, ran_out) = ask_apart::<Brand, _>(
-        rt,
-        alloc,
-        Blank::new(2),
-        config,
-        TWO_SUBTREES,
-        texts,
-    )?;
-    Ok(is_answered(&first, &ok()) && is_answered(&second, &read_reply(reply)?) && !ran_out)
+    let (first, second, ran_out) = ask_apart::<Brand, R>(rt, alloc, Blank::new(2), config, pair)?;
+    Ok(is_answered(&first, &ok()) && is_answered(&second, reply) && !ran_out)
 }
 
 #[test]
+fn two_commands_under_way(rt: HostRuntime) -> Result<(), Fail> {
+    assert!(rt; passes_by(&rt, rt.alloc(), Pair::TwoGranules, &ok())?);
+    Ok(())
+}
+
+// While CPU 0 maps a page, CPU 1 maps one below the neighbouring table, or reads an entry there.
+#[test]
 fn walks_under_way_in_two_subtrees(rt: HostRuntime) -> Result<(), Fail> {
-    assert!(rt; passes_by(&rt, rt.alloc(), "c4000154 1000 7000 200000", "ok")?);
-    assert!(rt; passes_by(&rt, rt.alloc(), "c4000161 1000 200000 3", "ok 3 0 0 0")?);
+    assert!(rt; passes_by(&rt, rt.alloc(), Pair::TwoPages, &ok())?);
+    let entry = read_reply("ok 3 0 0 0")?;
+    assert!(rt; passes_by(&rt, rt.alloc(), Pair::PageAndRead, &entry)?);
     Ok(())
 }
 
@@ -349,15 +356,22 @@ fn delegate_same<S: Site + Send + Sync, R: Threads + Wait + Sync>(
     let first = last_cpu(&monitor, &mut tokens, &mut passes)?;
     let history = History::new(alloc, config);
     let (gate, answered) = (Turnstile::new(), AtomicBool::new(false));
-    let texts = Texts {
-        first: "c4000151 1000",
-        second: "c4000151 1000",
-    };
     let ((first, second), stayed_out) = thread::join(
         rt,
         || -> (Option<Answer>, Option<Answer>)
             requires { ArePaired monitor first.token first.pass × ArePaired monitor second.token second.pass }
-        { ask_both(rt, alloc, &monitor, &gate, first, second, texts, &answered) },
+        {
+            ask_both(
+                rt,
+                alloc,
+                &monitor,
+                &gate,
+                first,
+                second,
+                Pair::OneGranule,
+                &answered,
+            )
+        },
         || -> Result<bool, AllocError>
             requires { CanDrain monitor.queue scribe history.recorded }
         { open_late(rt, &monitor, scribe, history, &gate, &answered) },
