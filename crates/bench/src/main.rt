@@ -5,10 +5,12 @@
 //! Nothing depends on it: the scripts in `bench` run it.
 #![tactic(auto)]
 
+mod deep_lives;
 mod judged;
 mod lives;
 mod measures;
 mod monitors;
+mod pages;
 mod queues;
 mod timing;
 mod walks;

@@ -8,12 +8,13 @@ mod runs;
 mod schedule;
 mod turning;
 mod turns;
+mod walking;
 
 use anyhow::{Result, bail};
 use replies::compare_replies;
 use runs::judge_runs;
 use std::alloc::Global;
-use turns::take_turns;
+use turns::{Work, take_turns};
 
 /// Judges the runs of so many seeds from the first on, compares the replies of so many programs on one CPU, does both, or lets so
 /// many CPUs (the first number) take so many turns.
@@ -31,7 +32,9 @@ pub(crate) fn run(
             judge_runs(rt, alloc, first, count)?;
             compare_replies(rt, alloc, first, count)
         }
-        "turns" => take_turns(rt, alloc, first, count),
-        _ => bail!("runs, replies, all or turns?"),
+        "turns" => take_turns(rt, alloc, Work::Lives, first, count),
+        "realms" => take_turns(rt, alloc, Work::Realms, first, count),
+        "realm" => take_turns(rt, alloc, Work::Realm, first, count),
+        _ => bail!("runs, replies, all, turns, realms or realm?"),
     }
 }

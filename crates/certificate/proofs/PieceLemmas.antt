@@ -1,7 +1,7 @@
 -- How a reader of a certificate in pieces comes from one piece to the next.
-use Rattle.std.proofs.Common.{◌≡◌, ◌≢◌, ℕ, zero, suc, ◌+◌, ◌<◌, ◌≤◌, List, [], ◌∷◌, ◌++◌, map, length, take, drop, Option, Result, Ok, Err, true, ◌==◌, eqb-true, refl, sym, ap, ◌∙◌, subst, arith, append_assoc, length-append, take-append-drop}
+use Rattle.std.proofs.Common.{◌≡◌, ◌≢◌, ℕ, zero, suc, ◌+◌, ◌<◌, ◌≤◌, List, [], ◌∷◌, ◌++◌, map, length, take, drop, Option, Some, Result, Ok, Err, true, ◌==◌, eqb-true, refl, sym, ap, ◌∙◌, subst, arith, append_assoc, length-append, take-append-drop}
 use Rattle.std.specs.Prelude.{IfOk, IfErr, IsOk, MatchResult}
-use Rattle.std.proofs.lemmas.List.{append-nil, length-map}
+use Rattle.std.proofs.lemmas.List.{append-nil, length-map, length-take-le}
 use Rattle.std.proofs.lemmas.List.Splits.{join_with_byte-slice_split}
 use Rattle.line_pieces.proofs.LineLengths.{length-line_text, width-line}
 use Rattle.line_pieces.proofs.Pieces.{IsBadLine-too_long}
@@ -13,7 +13,7 @@ use Rattle.rmm_spec.specs.Text.{HasNoNewline, IsBadLine, line_text, parts_of}
 use Rattle.rmm_spec.specs.declared.line.Line.{Line}
 use Rattle.certificate.proofs.GrammarLemmas.{bad_line, unfinished_line, line_too_many, IsCertificate-push, certificate_text-push}
 use Rattle.certificate.specs.Faults.{IsFaultOf}
-use Rattle.certificate.specs.Pieces.{Begun, HasRead, IsReadTo, with_told}
+use Rattle.certificate.specs.Pieces.{Begun, HasRead, IsReadTo, Takes, with_told}
 use Rattle.certificate.specs.Spelling.{IsLineOf, IsNoLine}
 use Rattle.certificate.specs.declared.fault.CertFault.{CertFault}
 use Rattle.certificate.specs.declared.fault.CertFault.TheVariants.{BadLine, NoMemory}
@@ -60,6 +60,30 @@ IsReadTo-ended text piece last later begun lines kept line is_piece forgotten of
     let taken : take (length last + 1) piece ≡ last ++ 10 ∷ [] = ap (take (length last + 1)) is_piece ∙ take_line (length last + 1) last later refl in
     subst (λ bytes. IsReadTo (text ++ bytes) told (record { count = kept.count + 1; begun = begun })) (sym taken)
     (subst (λ b. IsReadTo (text ++ (last ++ 10 ∷ [])) told (record { count = kept.count + 1; begun = b })) (sym forgotten)
+    (IsReadTo-line text last lines kept line of_line room read))
+
+-- the line at a piece's front is taken
+pub Takes-front : (piece : List ℕ) (count : ℕ) (line : Line) → count ≤ length piece → take count piece ≡ line_text (line_parts line) ++ 10 ∷ []
+    → Takes piece count (Some line)
+Takes-front piece count line inside front =
+    let bytes = line_text (line_parts line) in
+    let is_piece : piece ≡ bytes ++ 10 ∷ drop count piece =
+    sym (take-append-drop count piece) ∙ ap (λ b. b ++ drop count piece) front ∙ append_assoc bytes (10 ∷ []) (drop count piece) in
+    let counted : count ≡ length bytes + 1 = sym (length-take-le count piece inside) ∙ ap length front ∙ length-append bytes (10 ∷ []) in
+    (bytes, (drop count piece, ((line_parts-one_line (line ∷ [])).0.has_no_newline, is_piece, counted)))
+
+-- and told
+pub IsReadTo-front : (text bytes : List ℕ) (lines : List Line) (kept : Begun) (line : Line) → bytes ≡ line_text (line_parts line) ++ 10 ∷ [] → IsLine line
+    → kept.begun ≡ [] → kept.count < 1000000 → IsReadTo text lines kept
+    → IsReadTo (text ++ bytes) (lines ++ line ∷ []) (record { count = kept.count + 1; begun = kept.begun })
+IsReadTo-front text bytes lines kept line front is_line none room read =
+    let last = line_text (line_parts line) in
+    let of_line : IsLineOf (parts_of (kept.begun ++ last)) line = record {
+      is_line = is_line;
+      spelled = ap (λ b. parts_of (b ++ last)) none ∙ (line_parts-one_line (line ∷ [])).0.given_back;
+    } in
+    subst (λ b. IsReadTo (text ++ b) (lines ++ line ∷ []) (record { count = kept.count + 1; begun = kept.begun })) (sym front)
+    (subst (λ b. IsReadTo (text ++ (last ++ 10 ∷ [])) (lines ++ line ∷ []) (record { count = kept.count + 1; begun = b })) (sym none)
     (IsReadTo-line text last lines kept line of_line room read))
 
 -- the number of the next line
@@ -167,12 +191,7 @@ IsReadUpTo-next text rest later lines more old new count told is_later is_more a
   read = subst (HasRead new (so_far.front ++ take count rest)) (sym is_more) (HasRead-next old new count told so_far.front rest lines answered goes_on so_far.read);
 }
 
--- nothing of a piece is read
-pub IsReadUpTo-piece : (text piece : List ℕ) (lines : List Line) (reader : Result Begun ℕ) → HasRead reader text lines
-    → IsReadUpTo (text ++ piece) piece lines reader
-IsReadUpTo-piece text piece lines reader read = record { front = text; is_text = refl; read = read }
-
--- and then all of it
+-- all of a piece is read
 pub HasRead-piece : (text rest : List ℕ) (lines : List Line) (reader : Result Begun ℕ) → rest ≡ [] → IsReadUpTo text rest lines reader
     → HasRead reader text lines
 HasRead-piece text rest lines reader ended so_far =

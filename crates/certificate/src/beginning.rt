@@ -9,7 +9,7 @@ ghost use Rattle.rmm_spec.specs.declared.line.Line.{Line};
 ghost use Rattle.rmm_spec.specs.declared.line.Line.TheVariants as line;
 
 use crate::certificate::MOST_LINES;
-use crate::spelled::{kept_from, line_from};
+use crate::spelled::{kept_front, line_from};
 use line_pieces::UnfinishedLine;
 use rmi_codec::next_line;
 use rmm_spec::Line;
@@ -70,14 +70,9 @@ impl Beginning {
         if self.count >= MOST_LINES {
             return None;
         }
-        let Some((last, _later)) = next_line(piece) else {
-            return None;
-        };
-        let Some((cpu, number)) = kept_from(last) else {
-            return None;
-        };
+        let (count, cpu, number) = kept_front(piece)?;
         self.count += 1;
-        Some((last.len() + 1, cpu, number))
+        Some((count, cpu, number))
     }
 
     /// Takes the bytes up to the next newline and with it, and tells how many and the line that it ends; or all, where

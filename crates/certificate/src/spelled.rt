@@ -1,13 +1,14 @@
 //! The line that bytes spell.
 
-ghost use Rattle.std.specs.Prelude.{ℕ, IfSome, IfNone};
+ghost use Rattle.std.specs.Prelude.{◌≡◌, ◌≤◌, ℕ, [], ◌∷◌, ◌++◌, length, take, IfSome, IfNone};
 ghost use Rattle.rmm_spec.specs.declared.line.Line.TheVariants as line;
 ghost use Rattle.rmm_spec.specs.declared.reply.Reply.{Reply};
 ghost use Rattle.certificate.specs.Spelling.{IsLineOf, IsNoLine};
-ghost use Rattle.rmm_spec.specs.Text.{parts_of};
+ghost use Rattle.rmm_spec.specs.CertificateText.{IsLine, line_parts};
+ghost use Rattle.rmm_spec.specs.Text.{line_text, parts_of};
 
 use crate::line::{CALLS, CPUS};
-use rmi_codec::{Head, Parts, head_from, reply_from};
+use rmi_codec::{Head, Parts, head_at, head_from, reply_from};
 use rmm_spec::Line;
 
 /// The line that the bytes spell, where they spell one. The words of a reply are read to the buffer.
@@ -21,9 +22,26 @@ pub(crate) fn line_from(words: &mut [u64; 10], bytes: &[u8]) -> Option<Line>
     claimed_from(words, bytes)
 }
 
-/// The CPU and the number of the call that a line keeps, where the bytes spell such a line.
+/// How long the line at a text's front is with its newline, and the CPU and the number of the call that it keeps, where it is whole
+/// and keeps one.
 #[inline(always)]
-pub(crate) fn kept_from(bytes: &[u8]) -> Option<(u8, u32)>
+pub(crate) fn kept_front(text: &[u8]) -> Option<(usize, u8, u32)>
+    ensures found { IfSome result (λ kept. take kept.0 text.now ≡ line_text (line_parts (line.Keep kept.1 kept.2)) ++ 10 ∷ []) }
+    ensures line { IfSome result (λ kept. IsLine (line.Keep kept.1 kept.2)) }
+    ensures inside { IfSome result (λ kept. kept.0 ≤ length text.now) }
+{
+    let (cpu, number, end) = head_at(text, CPUS, CALLS)?;
+    if text[0] != b'k' {
+        return None;
+    }
+    if text[end] != b'\n' {
+        return None;
+    }
+    Some((end + 1, cpu, number))
+}
+
+/// The CPU and the number of the call that a line keeps, where the bytes spell such a line.
+fn kept_from(bytes: &[u8]) -> Option<(u8, u32)>
     ensures found { IfSome result (λ call. IsLineOf (parts_of bytes.now) (line.Keep call.0 call.1)) }
     ensures none { IfNone result ((cpu number : ℕ) → ¬ IsLineOf (parts_of bytes.now) (line.Keep cpu number)) }
 {

@@ -1,5 +1,5 @@
--- Two states that agree on what a served command looks up answer it alike, whichever command it is.
-use Rattle.std.proofs.Common.{◌≡◌, ℕ, Bool, true, Option, Some, None}
+-- Two states that agree on what a command looks up that walks no table answer it alike, whichever command it is.
+use Rattle.std.proofs.Common.{◌≡◌, ℕ, Bool, Option, Some, None}
 use Rattle.std.specs.Prelude.{IfSome, slice_get}
 use Rattle.rmm_spec.specs.declared.call.Call.{Call}
 use Rattle.rmm_spec.specs.declared.call.Call.TheVariants as call
@@ -17,7 +17,7 @@ use Rattle.rmm_spec.specs.Step.Rec.{rec_create, rec_destroy, rec_enter}
 use Rattle.rmm_spec.specs.Step.RealmCall.{measurement_read, measurement_extend, realm_config, ipa_state_set, host_call, cpu_off, system_off}
 use Rattle.rec_steps.specs.Answers.{call_row}
 use Rattle.command_rows.specs.Answers.{outside_answer}
-use Rattle.command_core.specs.Served.{is_served}
+use Rattle.walk_laws.specs.Walking.{way_of}
 
 -- ---- what is looked up
 
@@ -47,17 +47,22 @@ pub record SameLookUps (s t : State) (c : Call) : Type 0 where
 
 -- ---- answers
 
-pub outside_answer-same : (vmids recs : ℕ → Bool) (s t : State) (cpu : ℕ) (c : Call) → is_served c ≡ true → SameLookUps s t c
+pub outside_answer-same : (vmids recs : ℕ → Bool) (s t : State) (cpu : ℕ) (c : Call) → way_of c ≡ None → SameLookUps s t c
     → outside_answer vmids recs s cpu c ≡ outside_answer vmids recs t cpu c
-unfolding outside_answer answer_of class_of words_of named granule_delegate granule_undelegate realm_activate rec_create rec_destroy rec_enter is_served entered rooted
-outside_answer-same vmids recs s t cpu (call.GranuleDelegate granule) served same = let tag = same.tags 0 in cc
-outside_answer-same vmids recs s t cpu _ served same =
+unfolding outside_answer answer_of class_of words_of named granule_delegate granule_undelegate realm_activate rec_create rec_destroy rec_enter way_of entered rooted
+outside_answer-same vmids recs s t cpu (call.GranuleDelegate granule) walks same = let tag = same.tags 0 in cc
+outside_answer-same vmids recs s t cpu _ walks same =
     let first = same.tags 0 in let second = same.tags 1 in let third = same.tags 2 in let fourth = same.tags 3 in
     let realm = same.realms 0 in let rec = same.recs 0 in let owner = same.owner in let root = same.root in cc
 
--- a realm's call looks up the REC and its realm
-pub call_row-same : (s t : State) (rec : ℕ) (c : Call) → is_served c ≡ true → rec_at s rec ≡ rec_at t rec
+-- the address whose entry a realm's call reads
+unfoldable pub asked : Call → Option ℕ
+asked (call.IpaStateGet ipa) = Some ipa
+asked _ = None
+
+-- a realm's call looks up the REC and its realm, and an entry besides where it asks for one
+pub call_row-same : (s t : State) (rec : ℕ) (c : Call) → asked c ≡ None → rec_at s rec ≡ rec_at t rec
     → realm_at s (rec_at s rec).owner ≡ realm_at t (rec_at t rec).owner → call_row s rec c ≡ call_row t rec c
-unfolding call_row is_served words_of named measurement_read measurement_extend realm_config ipa_state_set host_call cpu_off system_off
-call_row-same s t rec (call.MeasurementRead index) served same realm = cc
-call_row-same s t rec _ served same realm = cc
+unfolding call_row asked words_of named measurement_read measurement_extend realm_config ipa_state_set host_call cpu_off system_off
+call_row-same s t rec (call.MeasurementRead index) asks same realm = cc
+call_row-same s t rec _ asks same realm = cc

@@ -1,11 +1,13 @@
 -- What a change makes of what is held is what it makes of each whole that agrees: so what all of them answer is a local step.
-use Rattle.std.proofs.Common.{◌≡◌, ℕ, Bool, true, false, ◌==◌, if◌then◌else◌, List, [], ◌∷◌, Some, None, Result, Ok, Err, refl, sym, ap, ◌∙◌, subst, eqb-true, eq-eqb}
-use Rattle.std.specs.Prelude.{IsTrue, Contains}
+use Rattle.std.proofs.Common.{◌≡◌, ℕ, Bool, true, false, ◌==◌, if◌then◌else◌, List, [], ◌∷◌, Some, None, Result, Ok, Err, refl, sym, ap, ◌∙◌, subst, eqb-true, eq-eqb, Option, ◌&&◌}
+use Rattle.std.specs.Prelude.{IsTrue, Contains, is_some}
 use Rattle.std.specs.List.{AllByRecursion}
 use Rattle.std.proofs.lemmas.Bool.{false≢true, and_parts}
 use Rattle.std.proofs.lemmas.List.Elements.{All-contains, All-from_recursion}
+use Rattle.rmm_spec.specs.declared.change.RecChange.{RecChange}
 use Rattle.rmm_spec.specs.declared.accepted.Accepted.{Accepted}
 use Rattle.rmm_spec.specs.declared.accepted.Accepted.TheVariants.{Done, Reaches}
+use Rattle.rmm_spec.specs.declared.accepted.Stretch.{Stretch}
 use Rattle.rmm_spec.specs.declared.change.Change.{Change}
 use Rattle.rmm_spec.specs.declared.change.Change.TheVariants.{Unchanged, Retagged, RealmMade, RealmDestroyed, RecMade, RecDestroyed, RecordsChanged, TableMade, TableDestroyed, EntriesChanged}
 use Rattle.rmm_spec.specs.declared.change.RealmUpdate.TheVariants.{RecCounted}
@@ -22,17 +24,21 @@ use Rattle.rmm_spec.specs.Rows.{Row, decided, ok, done}
 use Rattle.rmm_spec.specs.Step.{Step, outcome}
 use Rattle.rmm_spec.specs.Cell.{Cell, Rec, RecAux, put, tag_of}
 use Rattle.rmm_spec.specs.Flat.{flat_state}
-use Rattle.rmm_spec.specs.Shape.{Outside, Inside, IsWellShaped}
+use Rattle.rmm_spec.specs.Shape.{Outside, Inside, IsWellShaped, CpuPlace}
 use Rattle.rmm_spec.specs.Local.{HeldCell, Hold, granules_held, put_all}
 use Rattle.rmm_sound.proofs.Runs.{done_applies}
 use Rattle.world_laws.proofs.Locals.{unchanged-is_local, step-is_local, put-same}
 use Rattle.world_laws.proofs.Lists.{put-other}
 use Rattle.world_laws.proofs.Refusals.{Step-refused}
-use Rattle.shape_laws.specs.Whole.{cells_changed, side_changed, side_without_vmid, side_without_rec, places_changed, places_of_rec, cell_with_tag, cell_with_realm, cell_with_rec}
+use Rattle.shape_laws.specs.Whole.{cells_changed, side_changed, side_without_vmid, side_without_rec, places_changed, places_of_rec, places_with_rec_change, table_changed, cell_with_tag, cell_with_realm, cell_with_rec}
 use Rattle.shape_laws.proofs.Accepted.{done-keeps_shape}
 use Rattle.shape_laws.proofs.Ties.{well_shaped-is_sound}
 use Rattle.command_core.specs.Seen.{is_held, known_cell}
-use Rattle.command_core.specs.Changed.{new_cells, place_with_rec, new_place, IsOnCpu, CanChange, CanAnswer, Answers, IsAnswer}
+use Rattle.command_core.specs.Changed.{new_cells, place_with_rec, place_with_rec_change, new_place, IsOnCpu, CanChange, CanAnswer, Answers, IsFurthest, given_of, IsAnswer}
+use Rattle.walk_laws.specs.SeenState.{table_placed}
+use Rattle.walk_laws.specs.TableCells.{is_moved, holds_page, holds_realm, holds_rec, holds_change}
+use Rattle.walk_laws.proofs.Wholes as walks
+use Rattle.walk_laws.proofs.Steps.{cells-changed as tables-changed}
 use Rattle.command_core.proofs.SeenCells.{held-contains}
 use Rattle.command_core.proofs.Wholes.{Whole, state, same_at, rec_cell}
 
@@ -50,6 +56,9 @@ tags_apart granules cells g h t u first second apart same =
     false≢true (sym apart ∙ eq-eqb (tag_number t) (tag_number u) (sym one ∙ (ap (λ x. tag_number (tag_of (cells x))) same ∙ two)))
 
 -- ---- cells
+
+abbrev pub walk_whole : (granules cpu : ℕ) (hold : Hold) → Whole granules cpu hold → walks.Whole granules hold.side hold.cells
+walk_whole granules cpu hold w = record { cells = w.cells; places = w.places; shaped = w.shaped; agrees = w.agrees }
 
 cells-changed : (granules cpu : ℕ) (hold : Hold) (w : Whole granules cpu hold) (change : Change) → CanApply (state granules cpu hold w) change
     → CanChange cpu hold change → cells_changed granules w.cells change ≡ put_all w.cells (new_cells hold.cells change)
@@ -81,9 +90,12 @@ cells-changed granules cpu hold w (RecordsChanged (Some realm) (Some rec)) can f
     put-other w.cells realm.rd (cell_with_realm realm.update (w.cells realm.rd)) rec.rec apart ∙ same_at granules cpu hold w rec.rec fits.held.1.0 in
     ap (λ c. put (put w.cells realm.rd (cell_with_realm realm.update (w.cells realm.rd))) rec.rec (cell_with_rec rec.update c)) at_rec
     ∙ ap (λ c. put (put w.cells realm.rd (cell_with_realm realm.update c)) rec.rec (cell_with_rec rec.update (known_cell hold.cells rec.rec))) at_rd
-cells-changed granules cpu hold w (TableMade rd level number rtt entry) can fits = absurd fits.here
-cells-changed granules cpu hold w (TableDestroyed rd level number rtt entry) can fits = absurd fits.here
-cells-changed granules cpu hold w (EntriesChanged rd level entries page realm rec) can fits = absurd fits.here
+cells-changed granules cpu hold w (TableMade rd level number rtt entry) can fits =
+    tables-changed (walk_whole granules cpu hold w) (TableMade rd level number rtt entry) can fits.tables
+cells-changed granules cpu hold w (TableDestroyed rd level number rtt entry) can fits =
+    tables-changed (walk_whole granules cpu hold w) (TableDestroyed rd level number rtt entry) can fits.tables
+cells-changed granules cpu hold w (EntriesChanged rd level entries page realm rec) can fits =
+    tables-changed (walk_whole granules cpu hold w) (EntriesChanged rd level entries page realm rec) can fits.tables
 
 -- ---- beside the cells
 
@@ -111,9 +123,14 @@ place-rec granules cpu hold w address update.Exited c is here =
     (rw (runs.is_on) refl)
 place-rec granules cpu hold w address _ c is here = same_place granules cpu hold w
 
+-- a request that is moved on leaves the CPU where it is
+moved-here : (cpu : ℕ) (place : CpuPlace) (rec : ℕ) (u : RecUpdate) → is_moved u ≡ true → IsOnCpu cpu place rec u
+moved-here cpu place rec (update.RequestMoved base) moved = tt
+moved-here cpu place rec _ moved = absurd (false≢true moved)
+
 places-changed : (granules cpu : ℕ) (hold : Hold) (w : Whole granules cpu hold) (change : Change) → CanChange cpu hold change
     → places_changed w.cells w.places change ≡ put w.places cpu (new_place hold.cells hold.place change)
-unfolding places_changed new_place new_cells
+unfolding places_changed new_place new_cells holds_change
 places-changed granules cpu hold w (RecordsChanged realm None) fits = same_place granules cpu hold w
 places-changed granules cpu hold w (RecordsChanged None (Some rec)) fits =
     let same = same_at granules cpu hold w rec.rec fits.held.0 in
@@ -123,9 +140,19 @@ places-changed granules cpu hold w (RecordsChanged (Some realm) (Some rec)) fits
     let same = same_at granules cpu hold w rec.rec fits.held.1.0 in
     subst (λ c. places_of_rec w.places rec.rec rec.update (w.cells rec.rec) ≡ put w.places cpu (place_with_rec hold.place rec.rec rec.update c)) same
     (place-rec granules cpu hold w rec.rec rec.update (w.cells rec.rec) refl fits.here)
-places-changed granules cpu hold w (TableMade rd level number rtt entry) fits = absurd fits.here
-places-changed granules cpu hold w (TableDestroyed rd level number rtt entry) fits = absurd fits.here
-places-changed granules cpu hold w (EntriesChanged rd level entries page realm rec) fits = absurd fits.here
+places-changed granules cpu hold w (EntriesChanged rd level entries page realm rec) fits =
+    by rec (and_parts (holds_page hold.cells page && holds_realm hold.cells realm && holds_rec hold.cells rec)
+    (is_some (table_placed hold.cells rd level (table_changed entries))) fits.tables).0
+  where
+    by : (r : Option RecChange) → (holds_page hold.cells page && holds_realm hold.cells realm && holds_rec hold.cells r) ≡ true
+        → places_with_rec_change w.cells w.places r ≡ put w.places cpu (place_with_rec_change hold.cells hold.place r)
+    by None holds = same_place granules cpu hold w
+    by (Some change) holds =
+        let of_rec = (and_parts (holds_page hold.cells page && holds_realm hold.cells realm) (holds_rec hold.cells (Some change)) holds).1 in
+        let parts = and_parts (is_held change.rec hold.cells) (is_moved change.update) of_rec in
+        let same = same_at granules cpu hold w change.rec parts.0 in
+        subst (λ c. places_of_rec w.places change.rec change.update (w.cells change.rec) ≡ put w.places cpu (place_with_rec hold.place change.rec change.update c)) same
+        (place-rec granules cpu hold w change.rec change.update (w.cells change.rec) refl (moved-here cpu hold.place change.rec change.update parts.1))
 places-changed granules cpu hold w _ fits = same_place granules cpu hold w
 
 -- ---- answers
@@ -177,7 +204,26 @@ answers-local granules cpu command hold (Ok (Done words change)) can each =
     ))
 answers-local granules cpu command hold (Ok (Reaches stretch)) can each = absurd can
 
+-- where each whole answers so, none leads to a stretch
+each-furthest : (granules cpu : ℕ) (command : Command) (hold : Hold) (answer : Result Accepted Reply) → CanAnswer cpu hold answer
+    → ((w : Whole granules cpu hold) → outcome (state granules cpu hold w) cpu (call_of command) ≡ answer)
+    → IsFurthest granules cpu command hold (given_of answer)
+each-furthest granules cpu command hold answer can each = record {
+  right = λ cells places stretch top shaped agrees placed leads reached.
+      let w : Whole granules cpu hold = record { cells = cells; places = places; shaped = shaped; agrees = agrees; placed = placed } in
+      absurd (unled answer can stretch (sym (each w) ∙ leads));
+}
+  where
+    unled : (a : Result Accepted Reply) → CanAnswer cpu hold a → (stretch : Stretch) → a ≡ Ok (Reaches stretch) → ⊥
+    unled (Err refusal) can stretch same = cc
+    unled (Ok (Done words change)) can stretch same = cc
+    unled (Ok (Reaches other)) can stretch same = can
+
 pub is_answer : (granules cpu : ℕ) (command : Command) (hold : Hold) (answer : Result Accepted Reply) → CanAnswer cpu hold answer
     → ((w : Whole granules cpu hold) → outcome (state granules cpu hold w) cpu (call_of command) ≡ answer)
     → IsAnswer granules cpu command hold answer
-is_answer granules cpu command hold answer can each = record { can = can; is_local = answers-local granules cpu command hold answer can each }
+is_answer granules cpu command hold answer can each = record {
+  can = can;
+  is_local = answers-local granules cpu command hold answer can each;
+  is_furthest = each-furthest granules cpu command hold answer can each;
+}

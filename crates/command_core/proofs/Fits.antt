@@ -1,6 +1,6 @@
 -- A change that a whole can take is one that can be made of what is held, where its new cells are held.
-use Rattle.std.proofs.Common.{◌≡◌, ℕ, ◌*◌, ◌≤◌, true, ◌&&◌, ◌==◌, List, length, Some, None, inl, inr, refl, sym, ap, ◌∙◌, subst, arith, eq-eqb}
-use Rattle.std.specs.Prelude.{IsTrue, nat_le, nat_lt, ◌%◌}
+use Rattle.std.proofs.Common.{◌≡◌, ℕ, ◌+◌, ◌*◌, ◌/◌, ◌^◌, ◌<◌, ◌≤◌, true, ◌&&◌, ◌||◌, ◌==◌, List, length, Option, Some, None, inl, inr, refl, sym, ap, ◌∙◌, subst, arith, eq-eqb}
+use Rattle.std.specs.Prelude.{IsTrue, nat_le, nat_lt, ◌%◌, is_some}
 use Rattle.std.proofs.lemmas.Bool.{false≢true, and_parts, and_from, ltb-true}
 use Rattle.std.proofs.lemmas.Bool.Decides.{nat_tests}
 use Rattle.rmm_spec.specs.declared.change.Change.{Change}
@@ -12,7 +12,7 @@ use Rattle.rmm_spec.specs.declared.change.RecUpdate.TheVariants as rec_update
 use Rattle.rmm_spec.specs.declared.change.TagChange.{TagChange}
 use Rattle.rmm_spec.specs.declared.tag.Tag.{Tag}
 use Rattle.rmm_spec.specs.declared.tag.Tag.TheVariants as tag
-use Rattle.rmm_spec.specs.Applicable.{IsRealmUpdate, CanUpdateRec, CanRetag, CanApply}
+use Rattle.rmm_spec.specs.Applicable.{IsRealmUpdate, CanUpdateRec, CanRetag, CanChangeRealm, CanChangeRec, GoesWith, CanChangeEntries, CanApply}
 use Rattle.rmm_spec.specs.State.{State, RealmRecord, RecRecord}
 use Rattle.rmm_spec.specs.Lookup.{tag_number, is_granule, has_tag, realm_at, rec_at}
 use Rattle.rmm_spec.specs.Step.Words.{is_space}
@@ -20,8 +20,19 @@ use Rattle.rmm_spec.specs.Cell.{Cell, Rd, Rec, tag_of}
 use Rattle.rmm_spec.specs.Flat.{flat_state}
 use Rattle.rmm_spec.specs.Shape.{Side, CpuPlace}
 use Rattle.rmm_spec.specs.Local.{HeldCell, Hold}
+use Rattle.rmm_spec.specs.declared.change.EntryChange.{EntryChange}
+use Rattle.rmm_spec.specs.declared.change.EntryChange.TheVariants.{Replaced, RipasSet}
+use Rattle.rmm_spec.specs.declared.change.RealmChange.{RealmChange}
+use Rattle.rmm_spec.specs.declared.change.RecChange.{RecChange}
+use Rattle.rmm_spec.specs.Sound.{IsTableOf}
+use Rattle.rmm_spec.specs.Walk.{table_size}
+use Rattle.rmm_spec.specs.Cell.{realm_in}
+use Rattle.rmm_sound.proofs.Spaces.{space_cases}
+use Rattle.shape_laws.specs.Whole.{table_changed}
+use Rattle.walk_laws.specs.SeenState.{table_placed}
+use Rattle.walk_laws.specs.TableCells.{is_moved, holds_page, holds_realm, holds_rec, holds_change}
 use Rattle.command_core.specs.Seen.{is_held, known_cell}
-use Rattle.command_core.specs.Changed.{hold_of, new_cells, is_plain, counts_in, is_realm_update, fits_realm, is_rec_update, fits_rec, fits_cells, can_count, can_make, CanMake, CanChange}
+use Rattle.command_core.specs.Changed.{hold_of, new_cells, is_plain, counts_in, is_realm_update, fits_realm, is_rec_update, fits_rec, fits_realm_change, fits_rec_change, fits_cells, can_count, can_make, CanMake, CanChange, fits_page, fits_entries}
 use Rattle.command_core.proofs.Wholes.{Whole, state, same_at, few_recs, realm_at-cell, rec_at-cell}
 
 -- ---- updates
@@ -88,6 +99,57 @@ retag-fits : (s : State) (change : TagChange) → CanRetag s change → (is_plai
 retag-fits s change (inl lent) = ap (λ (t : Tag). is_plain t && true) lent.1
 retag-fits s change (inr back) = ap (λ (t : Tag). is_plain t && true) back.1
 
+-- a table's first address is one of its realm's address space
+small-base : (n width level : ℕ) → n < 2 ^ width → (width == 0x27 && level == 1 || width == 0x30 && level == 0) ≡ true → nat_lt n (2 ^ 64) ≡ true
+small-base n width level within space = elim (space_cases width level space) [
+  | inl small ↦ (let less : n < 2 ^ 0x27 = subst (λ x. n < 2 ^ x) small.0 within in grind (arith, nat_tests))
+  | inr large ↦ (let less : n < 2 ^ 0x30 = subst (λ x. n < 2 ^ x) large.0 within in grind (arith, nat_tests))
+]
+
+base-fits : (granules cpu : ℕ) (hold : Hold) (w : Whole granules cpu hold) (rd level number : ℕ) → IsTrue (has_tag (state granules cpu hold w) rd tag.Rd)
+    → IsTableOf (realm_at (state granules cpu hold w) rd) level number → nat_lt (number * table_size level) (2 ^ 64) ≡ true
+base-fits granules cpu hold w rd level number has place =
+    let realm = realm_there (w.cells rd) (tagged granules w.cells rd tag.Rd has).1 in
+    let same = realm_at-cell granules w.cells rd realm.0 realm.1 in
+    small-base (number * table_size level) realm.0.width realm.0.start_level
+    (subst (λ (r : RealmRecord). number * table_size level < 2 ^ r.width) same place.inside)
+    (w.shaped.realms.spaces rd realm.0 (ap realm_in realm.1))
+
+page-fits : (s : State) (rd level : ℕ) (entries : EntryChange) (page : Option TagChange) → CanChangeEntries s rd level entries page → fits_page page ≡ true
+page-fits s rd level entries None can = refl
+page-fits s rd level (Replaced number entry) (Some page) can = by can.1
+  where
+    by : GoesWith s rd level number entry (Some page) → is_plain page.tag ≡ true
+    by (inl given) = ap (λ (t : Tag). is_plain t) given.1
+    by (inr taken) = ap (λ (t : Tag). is_plain t) taken.0
+page-fits s rd level (RipasSet first last ripas) (Some page) can = absurd (let none : Some page ≡ None = can.1 in cc)
+
+entries-fit : (s : State) (rd level : ℕ) (entries : EntryChange) (page : Option TagChange) → CanChangeEntries s rd level entries page → fits_entries entries ≡ true
+entries-fit s rd level (Replaced number entry) page can = refl
+entries-fit s rd level (RipasSet first last ripas) page can =
+    let some : first < last = can.0.some in
+    let one : last ≤ (first / 512 + 1) * 512 = can.0.one_table in
+    and_from (nat_lt first last) (nat_le last ((first / 512 + 1) * 512)) (grind (arith, nat_tests)) (grind (arith, nat_tests))
+
+realm_change-fits : (granules cpu : ℕ) (hold : Hold) (w : Whole granules cpu hold) (change : Option RealmChange) → CanChangeRealm (state granules cpu hold w) change
+    → holds_realm hold.cells change ≡ true → fits_realm_change hold.cells change ≡ true
+realm_change-fits granules cpu hold w None can held = refl
+realm_change-fits granules cpu hold w (Some change) can held = realm-fits granules cpu hold w change.rd change.update can.0 can.1 held
+
+rec_change-fits : (granules cpu : ℕ) (hold : Hold) (w : Whole granules cpu hold) (change : Option RecChange) → CanChangeRec (state granules cpu hold w) change
+    → holds_rec hold.cells change ≡ true → fits_rec_change hold.cells change ≡ true
+rec_change-fits granules cpu hold w None can held = refl
+rec_change-fits granules cpu hold w (Some change) can held =
+    rec-fits granules cpu hold w change.rec change.update can.0 can.1 (and_parts (is_held change.rec hold.cells) (is_moved change.update) held).0
+
+parts-held : (held : List HeldCell) (rd level : ℕ) (entries : EntryChange) (page : Option TagChange) (realm : Option RealmChange) (rec : Option RecChange)
+    → holds_change held (EntriesChanged rd level entries page realm rec) ≡ true → (holds_realm held realm ≡ true) × (holds_rec held rec ≡ true)
+unfolding holds_change
+parts-held held rd level entries page realm rec holds =
+    let all = and_parts (holds_page held page && holds_realm held realm && holds_rec held rec) (is_some (table_placed held rd level (table_changed entries))) holds in
+    let parts = and_parts (holds_page held page && holds_realm held realm) (holds_rec held rec) all.0 in
+    ((and_parts (holds_page held page) (holds_realm held realm) parts.0).1, parts.1)
+
 pub applied-fits : (granules cpu : ℕ) (hold : Hold) (w : Whole granules cpu hold) (change : Change) → CanApply (state granules cpu hold w) change
     → CanChange cpu hold change → can_make granules hold.cells hold.side change ≡ true
 unfolding can_make new_cells
@@ -113,9 +175,16 @@ applied-fits granules cpu hold w (RecordsChanged (Some realm) (Some rec)) can fi
     let first = realm-fits granules cpu hold w realm.rd realm.update can.0.0 can.0.1 fits.held.0 in
     let second = rec-fits granules cpu hold w rec.rec rec.update can.1.0 can.1.1 fits.held.1.0 in
     rw (first, second) refl
-applied-fits granules cpu hold w (TableMade rd level number rtt entry) can fits = absurd fits.here
-applied-fits granules cpu hold w (TableDestroyed rd level number rtt entry) can fits = absurd fits.here
-applied-fits granules cpu hold w (EntriesChanged rd level entries page realm rec) can fits = absurd fits.here
+applied-fits granules cpu hold w (TableMade rd level number rtt entry) can fits =
+    rw (fits.tables, base-fits granules cpu hold w rd level number can.rd_tag can.place) refl
+applied-fits granules cpu hold w (TableDestroyed rd level number rtt entry) can fits = rw fits.tables refl
+applied-fits granules cpu hold w (EntriesChanged rd level entries page realm rec) can fits =
+    let holds = parts-held hold.cells rd level entries page realm rec fits.tables in
+    let of_page = page-fits (state granules cpu hold w) rd level entries page can.1 in
+    let of_entries = entries-fit (state granules cpu hold w) rd level entries page can.1 in
+    let of_realm = realm_change-fits granules cpu hold w realm can.2 holds.0 in
+    let of_rec = rec_change-fits granules cpu hold w rec can.3 holds.1 in
+    rw (fits.tables, of_page, of_entries, of_realm, of_rec) refl
 
 -- ---- a machine's size
 

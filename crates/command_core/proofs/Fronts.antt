@@ -19,11 +19,10 @@ use Rattle.world_laws.specs.Replaced.{held_at}
 use Rattle.world_laws.proofs.Members.{Contains-head, Contains-tail, slice_get-from_Contains}
 use Rattle.world_laws.proofs.Refusals.{IsRefusedInFront, by_words, by_tag, decided-front, answer_of-front, words-are_local, addresses-are_local, tags-are_local}
 use Rattle.command_rows.specs.Answers.{host_answer, outside_answer}
-use Rattle.command_core.specs.Seen.{cell_in, is_held, known_cell}
+use Rattle.command_core.specs.Seen.{cell_in, is_held}
 use Rattle.command_core.specs.Named.{is_wrong_for, is_wrong, has_wrong, words_fit}
-use Rattle.command_core.specs.SeenState.{seen_state}
+use Rattle.walk_laws.specs.SeenState.{realm_behind, cell_or, seen_state}
 use Rattle.command_core.proofs.Rising.{none_at, found-contains, right_tag}
-use Rattle.command_core.proofs.SeenCells.{known}
 
 -- ---- tests on lists
 
@@ -115,8 +114,8 @@ tag-wrong : (granules : ℕ) (held : List HeldCell) (n : Needed) (c : Cell) → 
 unfolding has_tag seen_state
 tag-wrong granules held n c found wrong = by (is_granule granules n.granule)
   where
-    by : (b : Bool) → (b && tag_number (tag_of (if b then known_cell held n.granule else Undelegated)) == tag_number n.tag) ≡ false
-    by true = ap (λ (x : Cell). tag_number (tag_of x) == tag_number n.tag) (known held n.granule c found) ∙ wrong
+    by : (b : Bool) → (b && tag_number (tag_of (if b then cell_or (cell_in n.granule held) (realm_behind held n.granule) else Undelegated)) == tag_number n.tag) ≡ false
+    by true = ap (λ (o : Option Cell). tag_number (tag_of (cell_or o (realm_behind held n.granule))) == tag_number n.tag) found ∙ wrong
     by false = refl
 
 -- what the words refuse, or a tag of what is held, is refused in front by the state that the cells tell of

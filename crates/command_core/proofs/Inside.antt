@@ -1,7 +1,7 @@
 -- A command of a CPU inside a REC is answered from that REC and its realm, as they are held, as by every whole that agrees.
-use Rattle.std.proofs.Common.{◌≡◌, ℕ, Bool, true, false, not, ◌&&◌, ◌||◌, ◌==◌, if◌then◌else◌, List, [], ◌∷◌, Some, Err, refl, sym, ap, ◌∙◌, subst, eqb-true}
-use Rattle.std.specs.Prelude.{is_none}
-use Rattle.std.proofs.lemmas.Bool.{false≢true, and_parts, or_parts, not-false}
+use Rattle.std.proofs.Common.{◌≡◌, ℕ, Bool, true, false, not, ◌&&◌, ◌||◌, ◌==◌, if◌then◌else◌, List, [], ◌∷◌, Some, Err, refl, sym, ap, ◌∙◌, subst, eqb-true, None, Ok, nat_lt}
+use Rattle.std.specs.Prelude.{is_none, is_some}
+use Rattle.std.proofs.lemmas.Bool.{false≢true, and_parts, or_parts, not-false, and_from}
 use Rattle.rmm_spec.specs.declared.call.Call.{Call}
 use Rattle.rmm_spec.specs.declared.call.Call.TheVariants as call
 use Rattle.rmm_spec.specs.declared.change.Change.TheVariants.{Unchanged, RecordsChanged}
@@ -10,30 +10,34 @@ use Rattle.rmm_spec.specs.declared.change.RecUpdate.TheVariants as rec_update
 use Rattle.rmm_spec.specs.declared.reply.Reply.TheVariants as reply
 use Rattle.rmm_spec.specs.declared.tag.Tag.TheVariants as tag
 use Rattle.rmm_spec.specs.Call.{Class, ByHost, ByRealm, ByExit, class_of}
-use Rattle.rmm_spec.specs.State.{State, RecRecord}
+use Rattle.rmm_spec.specs.State.{State, RecRecord, RealmRecord}
 use Rattle.rmm_spec.specs.Lookup.{is_granule, has_tag, realm_at, rec_at}
-use Rattle.rmm_spec.specs.Rows.{Needed}
+use Rattle.rmm_spec.specs.Rows.{Needed, input_error}
 use Rattle.rmm_spec.specs.Step.Front.{with_front}
-use Rattle.rmm_spec.specs.Step.Words.{words_of}
+use Rattle.rmm_spec.specs.Step.Words.{words_of, is_page}
 use Rattle.rmm_spec.specs.Step.Named.{needed, named}
-use Rattle.rmm_spec.specs.Step.RealmCall.{measurement_read, measurement_extend, realm_config, ipa_state_set, host_call, cpu_off, system_off, rec_exit, rec_change, realm_change, ripas_asked}
-use Rattle.rmm_spec.specs.Cell.{Cell, Rec, tag_of}
+use Rattle.rmm_spec.specs.Step.RealmCall.{measurement_read, measurement_extend, realm_config, ipa_state_set, host_call, cpu_off, system_off, rec_exit, rec_change, realm_change, ripas_asked, ipa_state_get}
+use Rattle.rmm_spec.specs.Cell.{Cell, Rec, tag_of, Rd}
 use Rattle.rmm_spec.specs.Shape.{Inside}
 use Rattle.rmm_spec.specs.Local.{HeldCell, Hold}
 use Rattle.world_laws.proofs.Members.{Contains-head, Contains-tail}
 use Rattle.rec_steps.specs.Answers.{call_row}
 use Rattle.command_rows.specs.Answers.{IsInsideBy, class_answer, inside_answer}
+use Rattle.walk_laws.specs.Walking.{way, is_walk_held, is_refused_early}
+use Rattle.walk_laws.proofs.Settled.{get-told}
+use Rattle.rmm_spec.specs.Walk.{half, is_protected}
+use Rattle.rmm_spec.specs.declared.accepted.Accepted.{Accepted}
 use Rattle.command_core.specs.Seen.{cell_in, is_held}
-use Rattle.command_core.specs.SeenState.{seen_state}
-use Rattle.command_core.specs.Served.{is_served}
+use Rattle.walk_laws.specs.SeenState.{seen_state, table_behind}
 use Rattle.command_core.specs.Changed.{new_cells, CanAnswer}
 use Rattle.command_core.specs.Named.{has_wrong}
-use Rattle.command_core.specs.Unshaped.{has_other_owner, is_misfit}
-use Rattle.command_core.specs.Settled.{is_settled_inside}
-use Rattle.command_core.proofs.Agreeing.{call_row-same}
-use Rattle.command_core.proofs.Changes.{can-done}
+use Rattle.command_core.specs.Walks.{way_inside, way_to_read, spare}
+use Rattle.command_core.specs.Unshaped.{has_other_owner, is_misplaced, is_misfit_way, is_misfit}
+use Rattle.command_core.specs.Settled.{is_read_over, is_settled_inside}
+use Rattle.command_core.proofs.Agreeing.{call_row-same, asked}
+use Rattle.command_core.proofs.Changes.{can-done, walk_whole}
 use Rattle.command_core.proofs.Fronts.{named-cell}
-use Rattle.command_core.proofs.SeenStates.{realm-same, rec-same, tag-seen, rec-seen}
+use Rattle.command_core.proofs.SeenStates.{realm-same, rec-same, tag-seen, rec-seen, realm-seen}
 use Rattle.command_core.proofs.Wholes.{Whole, state}
 
 -- ---- what is held at the place's granules
@@ -47,8 +51,8 @@ record Fits (granules rec rd : ℕ) (held : List HeldCell) : Type 0 where
   right : has_wrong (names rec rd) held ≡ false
   owner : has_other_owner rd (cell_in rec held) ≡ false
 
-fitting : (granules rec rd : ℕ) (held : List HeldCell) → is_misfit granules rec rd held ≡ false → Fits granules rec rd held
-unfolding is_misfit
+fitting : (granules rec rd : ℕ) (held : List HeldCell) → is_misplaced granules rec rd held ≡ false → Fits granules rec rd held
+unfolding is_misplaced
 fitting granules rec rd held fits =
     let locks = is_granule granules rec && is_granule granules rd && not (rec == rd) in
     let first = or_parts (not locks || has_wrong (names rec rd) held) (has_other_owner rd (cell_in rec held)) fits in
@@ -57,7 +61,7 @@ fitting granules rec rd held fits =
     let fourth = and_parts (is_granule granules rec) (is_granule granules rd) third.0 in
     record { of_rec = fourth.0; of_rd = fourth.1; right = second.1; owner = first.1 }
 
-pub fitting-granule : (granules rec rd : ℕ) (held : List HeldCell) → is_misfit granules rec rd held ≡ false → is_granule granules rec ≡ true
+pub fitting-granule : (granules rec rd : ℕ) (held : List HeldCell) → is_misplaced granules rec rd held ≡ false → is_granule granules rec ≡ true
 fitting-granule granules rec rd held fits = (fitting granules rec rd held fits).of_rec
 
 rec-tag : (c : Cell) → tag_of c ≡ tag.Rec → (it : RecRecord) × (c ≡ Rec it)
@@ -67,11 +71,12 @@ rec-tag _ is = absurd cc
 -- the REC is one of that realm
 record FittingRec (granules rec rd : ℕ) (held : List HeldCell) : Type 0 where
   it : RecRecord
+  found : cell_in rec held ≡ Some (Rec it)
   seen : rec_at (seen_state granules held) rec ≡ it
   owner : it.owner ≡ rd
   tagged : has_tag (seen_state granules held) rec tag.Rec ≡ true
 
-fitting-rec : (granules rec rd : ℕ) (held : List HeldCell) → is_misfit granules rec rd held ≡ false → is_held rec held ≡ true → FittingRec granules rec rd held
+fitting-rec : (granules rec rd : ℕ) (held : List HeldCell) → is_misplaced granules rec rd held ≡ false → is_held rec held ≡ true → FittingRec granules rec rd held
 fitting-rec granules rec rd held fits holds =
     let parts = fitting granules rec rd held fits in
     let at = named-cell (names rec rd) held parts.right (needed rec tag.Rec) (Contains-head (needed rec tag.Rec) (needed rd tag.Rd ∷ [])) holds in
@@ -80,67 +85,161 @@ fitting-rec granules rec rd held fits holds =
     let same : not (rec_cell.0.owner == rd) ≡ false = ap (has_other_owner rd) (sym found) ∙ parts.owner in
     record {
       it = rec_cell.0;
+      found = found;
       seen = rec-seen granules held rec rec_cell.0 parts.of_rec found;
       owner = eqb-true rec_cell.0.owner rd (not-false (rec_cell.0.owner == rd) same);
       tagged = tag-seen granules held rec at.cell tag.Rec parts.of_rec at.found at.tagged;
     }
 
-fitting-realm : (granules rec rd : ℕ) (held : List HeldCell) → is_misfit granules rec rd held ≡ false → is_held rd held ≡ true
-    → has_tag (seen_state granules held) rd tag.Rd ≡ true
+realm-tag : (c : Cell) → tag_of c ≡ tag.Rd → (realm : RealmRecord) × (c ≡ Rd realm)
+realm-tag (Rd realm) is = (realm, refl)
+realm-tag _ is = absurd cc
+
+record FittingRealm (granules rd : ℕ) (held : List HeldCell) : Type 0 where
+  realm : RealmRecord
+  found : cell_in rd held ≡ Some (Rd realm)
+  seen : realm_at (seen_state granules held) rd ≡ realm
+  tagged : has_tag (seen_state granules held) rd tag.Rd ≡ true
+
+fitting-realm : (granules rec rd : ℕ) (held : List HeldCell) → is_misplaced granules rec rd held ≡ false → is_held rd held ≡ true
+    → FittingRealm granules rd held
 fitting-realm granules rec rd held fits holds =
     let parts = fitting granules rec rd held fits in
     let at = named-cell (names rec rd) held parts.right (needed rd tag.Rd)
     (Contains-tail (needed rec tag.Rec) (needed rd tag.Rd ∷ []) (needed rd tag.Rd) (Contains-head (needed rd tag.Rd) [])) holds in
-    tag-seen granules held rd at.cell tag.Rd parts.of_rd at.found at.tagged
+    let realm = realm-tag at.cell at.tagged in
+    let found : cell_in rd held ≡ Some (Rd realm.0) = at.found ∙ ap (λ (c : Cell). Some c) realm.1 in
+    record {
+      realm = realm.0;
+      found = found;
+      seen = realm-seen granules held rd realm.0 parts.of_rd found;
+      tagged = tag-seen granules held rd at.cell tag.Rd parts.of_rd at.found at.tagged;
+    }
 
 or_right : (b c : Bool) → b ≡ false → (b || c) ≡ true → c ≡ true
 or_right false c fails is = is
 or_right true c fails is = absurd (false≢true (sym fails))
 
+pub fitting-place : (granules : ℕ) (c : Call) (rec rd : ℕ) (held : List HeldCell) → is_misfit granules c rec rd held ≡ false → is_misplaced granules rec rd held ≡ false
+fitting-place granules c rec rd held fits = (or_parts (is_misplaced granules rec rd held) (is_misfit_way granules held (way_inside c rec rd held)) fits).0
+
+-- what a realm's call holds where it is settled, and its walk is over
+record ReadHeld (granules : ℕ) (c : Call) (rec rd : ℕ) (held : List HeldCell) : Type 0 where
+  of_rec : is_held rec held ≡ true
+  of_rd : is_held rd held ≡ true
+  over : is_read_over granules held (way_inside c rec rd held) ≡ true
+
+read-held : (granules : ℕ) (c : Call) (rec rd : ℕ) (held : List HeldCell) → is_misfit granules c rec rd held ≡ false
+    → is_settled_inside ByRealm granules c rec rd held ≡ true → ReadHeld granules c rec rd held
+read-held granules c rec rd held fits settled =
+    let all = or_right (is_misfit granules c rec rd held) (is_held rec held && is_held rd held && is_read_over granules held (way_inside c rec rd held)) fits settled in
+    let parts = and_parts (is_held rec held && is_held rd held) (is_read_over granules held (way_inside c rec rd held)) all in
+    let both = and_parts (is_held rec held) (is_held rd held) parts.0 in
+    record { of_rec = both.0; of_rd = both.1; over = parts.1 }
+
 -- a command whose place fits may be given there
-pub settled-inside : (granules rec rd : ℕ) (held : List HeldCell) (k : Class) → is_misfit granules rec rd held ≡ false
-    → is_settled_inside k granules rec rd held ≡ true → IsInsideBy k (seen_state granules held) rec
-settled-inside granules rec rd held ByHost fits settled = tt
-settled-inside granules rec rd held ByRealm fits settled =
-    let both = and_parts (is_held rec held) (is_held rd held) (or_right (is_misfit granules rec rd held) (is_held rec held && is_held rd held) fits settled) in
-    let one = fitting-rec granules rec rd held fits both.0 in
-    let realm = fitting-realm granules rec rd held fits both.1 in (
+pub settled-inside : (granules : ℕ) (c : Call) (rec rd : ℕ) (held : List HeldCell) (k : Class) → is_misfit granules c rec rd held ≡ false
+    → is_settled_inside k granules c rec rd held ≡ true → IsInsideBy k (seen_state granules held) rec
+settled-inside granules c rec rd held ByHost fits settled = tt
+settled-inside granules c rec rd held ByRealm fits settled =
+    let both = read-held granules c rec rd held fits settled in
+    let placed = fitting-place granules c rec rd held fits in
+    let one = fitting-rec granules rec rd held placed both.of_rec in
+    let realm = fitting-realm granules rec rd held placed both.of_rd in (
       one.tagged,
-      subst (λ x. has_tag (seen_state granules held) x tag.Rd ≡ true) (sym (ap (λ (r : RecRecord). r.owner) one.seen ∙ one.owner)) realm,
+      subst (λ x. has_tag (seen_state granules held) x tag.Rd ≡ true) (sym (ap (λ (r : RecRecord). r.owner) one.seen ∙ one.owner)) realm.tagged,
     )
-settled-inside granules rec rd held ByExit fits settled =
-    (fitting-rec granules rec rd held fits (or_right (is_misfit granules rec rd held) (is_held rec held) fits settled)).tagged
+settled-inside granules c rec rd held ByExit fits settled =
+    (fitting-rec granules rec rd held (fitting-place granules c rec rd held fits) (or_right (is_misfit granules c rec rd held) (is_held rec held) fits settled)).tagged
 
 -- ---- realm calls
 
-can-call : (cpu : ℕ) (hold : Hold) (s : State) (rec : ℕ) (c : Call) → is_served c ≡ true → is_held rec hold.cells ≡ true
+can-call : (cpu : ℕ) (hold : Hold) (s : State) (rec : ℕ) (c : Call) → is_held rec hold.cells ≡ true
     → is_held (rec_at s rec).owner hold.cells ≡ true → CanAnswer cpu hold (call_row s rec c)
-unfolding call_row is_served new_cells measurement_read measurement_extend realm_config ipa_state_set host_call cpu_off system_off
-can-call cpu hold s rec (call.MeasurementRead index) served held owner =
-    can-done cpu hold Unchanged _ (with_front s (call.MeasurementRead index) _) (record { held = tt; here = tt })
-can-call cpu hold s rec (call.MeasurementExtend index size values) served held owner =
-    can-done cpu hold (realm_change (rec_at s rec).owner (realm_update.MeasurementExtended index size values)) _ (with_front s (call.MeasurementExtend index size values) _) (record { held = (owner, tt); here = tt })
-can-call cpu hold s rec call.RealmConfig served held owner =
-    can-done cpu hold Unchanged _ (with_front s call.RealmConfig _) (record { held = tt; here = tt })
-can-call cpu hold s rec (call.IpaStateSet base top ripas) served held owner =
-    can-done cpu hold (rec_change rec (rec_update.RipasRequested base top (ripas_asked ripas))) _ (with_front s (call.IpaStateSet base top ripas) _) (record { held = (held, tt); here = tt })
-can-call cpu hold s rec (call.HostCall imm) served held owner =
-    can-done cpu hold (rec_change rec (rec_update.HostCalled imm)) _ (with_front s (call.HostCall imm) _) (record { held = (held, tt); here = tt })
-can-call cpu hold s rec call.CpuOff served held owner =
-    can-done cpu hold (rec_change rec rec_update.TurnedOff) _ (with_front s call.CpuOff _) (record { held = (held, tt); here = tt })
-can-call cpu hold s rec call.SystemOff served held owner =
-    can-done cpu hold (RecordsChanged (Some (record { rd = (rec_at s rec).owner; update = realm_update.TurnedOff })) (Some (record { rec = rec; update = rec_update.SystemTurnedOff }))) _ (with_front s call.SystemOff _) (record { held = (owner, (held, tt)); here = tt })
-can-call cpu hold s rec (call.IpaStateGet ipa) served held owner = absurd (false≢true served)
-can-call cpu hold s rec _ served held owner = tt
+unfolding call_row new_cells measurement_read measurement_extend realm_config ipa_state_set ipa_state_get host_call cpu_off system_off
+can-call cpu hold s rec (call.MeasurementRead index) held owner =
+    can-done cpu hold Unchanged _ (with_front s (call.MeasurementRead index) _) (record { held = tt; tables = tt; here = tt })
+can-call cpu hold s rec (call.MeasurementExtend index size values) held owner =
+    can-done cpu hold (realm_change (rec_at s rec).owner (realm_update.MeasurementExtended index size values)) _ (with_front s (call.MeasurementExtend index size values) _) (record { held = (owner, tt); tables = tt; here = tt })
+can-call cpu hold s rec call.RealmConfig held owner =
+    can-done cpu hold Unchanged _ (with_front s call.RealmConfig _) (record { held = tt; tables = tt; here = tt })
+can-call cpu hold s rec (call.IpaStateSet base top ripas) held owner =
+    can-done cpu hold (rec_change rec (rec_update.RipasRequested base top (ripas_asked ripas))) _ (with_front s (call.IpaStateSet base top ripas) _) (record { held = (held, tt); tables = tt; here = tt })
+can-call cpu hold s rec (call.HostCall imm) held owner =
+    can-done cpu hold (rec_change rec (rec_update.HostCalled imm)) _ (with_front s (call.HostCall imm) _) (record { held = (held, tt); tables = tt; here = tt })
+can-call cpu hold s rec call.CpuOff held owner =
+    can-done cpu hold (rec_change rec rec_update.TurnedOff) _ (with_front s call.CpuOff _) (record { held = (held, tt); tables = tt; here = tt })
+can-call cpu hold s rec call.SystemOff held owner =
+    can-done cpu hold (RecordsChanged (Some (record { rd = (rec_at s rec).owner; update = realm_update.TurnedOff })) (Some (record { rec = rec; update = rec_update.SystemTurnedOff }))) _ (with_front s call.SystemOff _) (record { held = (owner, (held, tt)); tables = tt; here = tt })
+can-call cpu hold s rec (call.IpaStateGet ipa) held owner =
+    can-done cpu hold Unchanged _ (with_front s (call.IpaStateGet ipa) _) (record { held = tt; tables = tt; here = tt })
+can-call cpu hold s rec _ held owner = tt
 
 can-exit : (cpu : ℕ) (hold : Hold) (s : State) (rec rd : ℕ) → hold.place ≡ Inside rec rd → is_held rec hold.cells ≡ true → CanAnswer cpu hold (rec_exit s rec)
 unfolding rec_exit new_cells
 can-exit cpu hold s rec rd place held =
-    can-done cpu hold (rec_change rec rec_update.Exited) _ (with_front s call.Exit _) (record { held = (held, tt); here = (rd, place) })
+    can-done cpu hold (rec_change rec rec_update.Exited) _ (with_front s call.Exit _) (record { held = (held, tt); tables = tt; here = (rd, place) })
 
 rec_exit-same : (s t : State) (rec : ℕ) → rec_at s rec ≡ rec_at t rec → rec_exit s rec ≡ rec_exit t rec
 unfolding rec_exit words_of named
 rec_exit-same s t rec same = rw same refl
+
+or_second : (b c : Bool) → c ≡ true → (b || c) ≡ true
+or_second true c is = refl
+or_second false c is = is
+
+-- what a realm is told of an address: the walk's end is held, or the address is refused
+refused-get : (t : State) (rec rd ipa : ℕ) (realm : RealmRecord) → (rec_at t rec).owner ≡ rd → realm_at t rd ≡ realm → is_protected realm ipa ≡ false
+    → is_refused_early (ipa_state_get t rec ipa) ≡ true
+unfolding ipa_state_get words_of named
+refused-get t rec rd ipa realm owner at unprotected = rw (owner, at) (by _ (is_page ipa) (nat_lt ipa (half realm)) unprotected)
+  where
+    by : (a : Accepted) (b d : Bool) → (b && d) ≡ false → is_refused_early (if b then (if d then Ok a else Err input_error) else Err input_error) ≡ true
+    by a true true is = absurd (false≢true (sym is))
+    by a true false is = refl
+    by a false d is = refl
+
+row-told : (granules cpu : ℕ) (hold : Hold) (rec rd : ℕ) (c : Call) (w : Whole granules cpu hold) → is_misfit granules c rec rd hold.cells ≡ false
+    → is_settled_inside ByRealm granules c rec rd hold.cells ≡ true
+    → rec_at (state granules cpu hold w) rec ≡ rec_at (seen_state granules hold.cells) rec
+    → realm_at (state granules cpu hold w) (rec_at (state granules cpu hold w) rec).owner ≡ realm_at (seen_state granules hold.cells) (rec_at (seen_state granules hold.cells) rec).owner
+    → is_none (rec_at (seen_state granules hold.cells) rec).pending ≡ true
+    → call_row (state granules cpu hold w) rec c ≡ call_row (seen_state granules hold.cells) rec c
+unfolding call_row way_inside asked
+row-told granules cpu hold rec rd (call.IpaStateGet ipa) w fits settled recs realms ready =
+    get-told (walk_whole granules cpu hold w) rec rd ipa held.of_rec owner (ap (λ b. b || is_some (table_behind hold.cells rd)) held.of_rd)
+    (by (is_protected realm.realm ipa) refl)
+  where
+    t : State
+    t = seen_state granules hold.cells
+
+    placed : is_misplaced granules rec rd hold.cells ≡ false
+    placed = fitting-place granules (call.IpaStateGet ipa) rec rd hold.cells fits
+
+    held : ReadHeld granules (call.IpaStateGet ipa) rec rd hold.cells
+    held = read-held granules (call.IpaStateGet ipa) rec rd hold.cells fits settled
+
+    one : FittingRec granules rec rd hold.cells
+    one = fitting-rec granules rec rd hold.cells placed held.of_rec
+
+    realm : FittingRealm granules rd hold.cells
+    realm = fitting-realm granules rec rd hold.cells placed held.of_rd
+
+    owner : (rec_at (seen_state granules hold.cells) rec).owner ≡ rd
+    owner = ap (λ (r : RecRecord). r.owner) one.seen ∙ one.owner
+
+    over : is_read_over granules hold.cells (if is_none one.it.pending && is_protected realm.realm ipa then Some (way rd ipa 3) else None) ≡ true
+    over = subst (λ o. is_read_over granules hold.cells (way_to_read rd ipa o (Some (Rd realm.realm))) ≡ true) one.found
+        (subst (λ o. is_read_over granules hold.cells (way_to_read rd ipa (cell_in rec hold.cells) o) ≡ true) realm.found held.over)
+
+    by : (b : Bool) → is_protected realm.realm ipa ≡ b → (is_walk_held granules hold.cells (way rd ipa 3) || is_refused_early (ipa_state_get t rec ipa)) ≡ true
+    by true protected =
+        let idle : is_none one.it.pending ≡ true = ap (λ (r : RecRecord). is_none r.pending) (sym one.seen) ∙ ready in
+        let walked : is_read_over granules hold.cells (Some (way rd ipa 3)) ≡ true =
+        subst (λ b. is_read_over granules hold.cells (if b then Some (way rd ipa 3) else None) ≡ true) (and_from (is_none one.it.pending) (is_protected realm.realm ipa) idle protected) over in
+        ap (λ b. b || is_refused_early (ipa_state_get t rec ipa)) (and_parts (is_walk_held granules hold.cells (way rd ipa 3)) (is_none (spare granules true hold.cells (way rd ipa 3))) walked).0
+    by false unprotected = or_second (is_walk_held granules hold.cells (way rd ipa 3)) (is_refused_early (ipa_state_get t rec ipa)) (refused-get t rec rd ipa realm.realm owner realm.seen unprotected)
+row-told granules cpu hold rec rd c w fits settled recs realms ready = call_row-same (state granules cpu hold w) (seen_state granules hold.cells) rec c refl recs realms
 
 -- ---- any command
 
@@ -149,38 +248,37 @@ pub record IsToldInside (granules cpu : ℕ) (hold : Hold) (rec : ℕ) (c : Call
   pub can : CanAnswer cpu hold (inside_answer (seen_state granules hold.cells) rec c)
   pub same : (w : Whole granules cpu hold) → inside_answer (state granules cpu hold w) rec c ≡ inside_answer (seen_state granules hold.cells) rec c
 
-pub fitting-told : (granules cpu : ℕ) (hold : Hold) (rec rd : ℕ) (c : Call) → is_served c ≡ true → hold.place ≡ Inside rec rd
-    → is_misfit granules rec rd hold.cells ≡ false → is_settled_inside (class_of c) granules rec rd hold.cells ≡ true → IsToldInside granules cpu hold rec c
+pub fitting-told : (granules cpu : ℕ) (hold : Hold) (rec rd : ℕ) (c : Call) → hold.place ≡ Inside rec rd
+    → is_misfit granules c rec rd hold.cells ≡ false → is_settled_inside (class_of c) granules c rec rd hold.cells ≡ true → IsToldInside granules cpu hold rec c
 unfolding inside_answer
-fitting-told granules cpu hold rec rd c served place fits settled = record { can = can (class_of c) settled; same = λ w. same w (class_of c) settled }
+fitting-told granules cpu hold rec rd c place fits settled = record { can = can (class_of c) settled; same = λ w. same w (class_of c) settled }
   where
     t : State
     t = seen_state granules hold.cells
 
-    rec-held : is_settled_inside ByExit granules rec rd hold.cells ≡ true → is_held rec hold.cells ≡ true
-    rec-held is = or_right (is_misfit granules rec rd hold.cells) (is_held rec hold.cells) fits is
+    rec-held : is_settled_inside ByExit granules c rec rd hold.cells ≡ true → is_held rec hold.cells ≡ true
+    rec-held is = or_right (is_misfit granules c rec rd hold.cells) (is_held rec hold.cells) fits is
 
-    both-held : is_settled_inside ByRealm granules rec rd hold.cells ≡ true → (is_held rec hold.cells ≡ true) × (is_held rd hold.cells ≡ true)
-    both-held is = and_parts (is_held rec hold.cells) (is_held rd hold.cells)
-        (or_right (is_misfit granules rec rd hold.cells) (is_held rec hold.cells && is_held rd hold.cells) fits is)
+    both-held : is_settled_inside ByRealm granules c rec rd hold.cells ≡ true → (is_held rec hold.cells ≡ true) × (is_held rd hold.cells ≡ true)
+    both-held is = let both = read-held granules c rec rd hold.cells fits is in (both.of_rec, both.of_rd)
 
     owner-held : (is_held rec hold.cells ≡ true) × (is_held rd hold.cells ≡ true) → is_held (rec_at t rec).owner hold.cells ≡ true
     owner-held both =
-        let one = fitting-rec granules rec rd hold.cells fits both.0 in
+        let one = fitting-rec granules rec rd hold.cells (fitting-place granules c rec rd hold.cells fits) both.0 in
         subst (λ x. is_held x hold.cells ≡ true) (sym (ap (λ (r : RecRecord). r.owner) one.seen ∙ one.owner)) both.1
 
     can-wait : (b : Bool) → CanAnswer cpu hold (call_row t rec c) → CanAnswer cpu hold (if b then call_row t rec c else Err reply.Misplaced)
     can-wait true later = later
     can-wait false later = tt
 
-    can : (k : Class) → is_settled_inside k granules rec rd hold.cells ≡ true → CanAnswer cpu hold (class_answer k t rec c)
+    can : (k : Class) → is_settled_inside k granules c rec rd hold.cells ≡ true → CanAnswer cpu hold (class_answer k t rec c)
     can ByHost is = tt
     can ByRealm is =
         let both = both-held is in
-        can-wait (is_none (rec_at t rec).pending) (can-call cpu hold t rec c served both.0 (owner-held both))
+        can-wait (is_none (rec_at t rec).pending) (can-call cpu hold t rec c both.0 (owner-held both))
     can ByExit is = can-exit cpu hold t rec rd place (rec-held is)
 
-    same : (w : Whole granules cpu hold) (k : Class) → is_settled_inside k granules rec rd hold.cells ≡ true
+    same : (w : Whole granules cpu hold) (k : Class) → is_settled_inside k granules c rec rd hold.cells ≡ true
         → class_answer k (state granules cpu hold w) rec c ≡ class_answer k t rec c
     same w ByHost is = refl
     same w ByRealm is =
@@ -188,6 +286,11 @@ fitting-told granules cpu hold rec rd c served place fits settled = record { can
         let both = both-held is in
         let recs = rec-same granules cpu hold w rec both.0 in
         let realms = ap (λ (r : RecRecord). realm_at s r.owner) recs ∙ realm-same granules cpu hold w (rec_at t rec).owner (owner-held both) in
-        let rows = call_row-same s t rec c served recs realms in
-        λ i. if is_none (recs i).pending then rows i else Err reply.Misplaced
+        (λ i. if is_none (recs i).pending then call_row s rec c else Err reply.Misplaced)
+        ∙ waits (is_none (rec_at t rec).pending) refl (λ ready. row-told granules cpu hold rec rd c w fits is recs realms ready)
+      where
+        waits : (b : Bool) → is_none (rec_at t rec).pending ≡ b → (is_none (rec_at t rec).pending ≡ true → call_row (state granules cpu hold w) rec c ≡ call_row t rec c)
+            → (if b then call_row (state granules cpu hold w) rec c else Err reply.Misplaced) ≡ (if b then call_row t rec c else Err reply.Misplaced)
+        waits true ready rows = rows ready
+        waits false pending rows = refl
     same w ByExit is = rec_exit-same (state granules cpu hold w) t rec (rec-same granules cpu hold w rec (rec-held is))

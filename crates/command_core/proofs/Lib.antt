@@ -13,7 +13,11 @@ pub mod Inside
 pub mod Fits
 pub mod NoWholes
 pub mod Owned
+pub mod Stretches
+pub mod Made
+pub mod Walked
 pub mod Ready
 pub mod Steps
+pub mod Puts
 pub mod PlainCells
 pub mod NewRoots

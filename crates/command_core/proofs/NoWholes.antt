@@ -1,5 +1,5 @@
 -- Cells that no shaped whole has: each case is refuted by the group of the shape that speaks of it.
-use Rattle.std.proofs.Common.{◌≡◌, ℕ, ◌*◌, Bool, true, false, not, ◌&&◌, ◌||◌, ◌==◌, List, [], ◌∷◌, Option, Some, None, ◌⊎◌, inl, inr, refl, sym, ap, ◌∙◌, eqb-true, eq-eqb, zero-mul}
+use Rattle.std.proofs.Common.{◌≡◌, ℕ, ◌*◌, Bool, true, false, not, ◌&&◌, ◌||◌, ◌==◌, List, [], ◌∷◌, Option, Some, None, ◌⊎◌, inl, inr, refl, sym, ap, ◌∙◌, eqb-true, eq-eqb}
 use Rattle.std.specs.Prelude.{is_none, is_some}
 use Rattle.std.proofs.lemmas.Bool.{false≢true, and_parts, and_from, false_from_ne_true, not-true}
 use Rattle.std.proofs.lemmas.Option.{same_Some}
@@ -20,8 +20,12 @@ use Rattle.world_laws.proofs.Locals.{agrees-at}
 use Rattle.world_laws.proofs.Members.{each_of_two}
 use Rattle.command_core.specs.Seen.{cell_in, is_held}
 use Rattle.command_core.specs.Named.{has_wrong, words_fit}
-use Rattle.command_core.specs.Settled.{is_complete, is_settled_outside, is_settled_inside, is_settled}
-use Rattle.command_core.specs.Unshaped.{is_root_place, is_other_root, has_bad_root, is_other_aux, is_bad_aux, are_bad_auxes, has_bad_aux, can_learn, has_bad_owner, has_other_owner, is_misfit, is_unshaped_outside, is_unshaped}
+use Rattle.command_core.specs.Settled.{is_all_held, is_read_over, is_settled_outside, is_settled_inside, is_settled}
+use Rattle.walk_laws.specs.Walking.{Way}
+use Rattle.walk_laws.specs.Misfits.{is_place, is_other_table, is_misfit_root}
+use Rattle.walk_laws.proofs.Misfits.{misfit-none}
+use Rattle.command_core.specs.Walks.{way_taken, way_inside}
+use Rattle.command_core.specs.Unshaped.{is_other_aux, is_bad_aux, are_bad_auxes, has_bad_aux, can_learn, has_bad_owner, has_other_owner, is_misplaced, is_misfit_way, has_misfit_part, is_unshaped_outside, is_unshaped}
 use Rattle.command_core.proofs.Fronts.{wrong_tag}
 use Rattle.command_core.proofs.Wholes.{Whole, whole_cell, tagged_granule, realm_cell, InsideCells, inside-cells}
 
@@ -42,12 +46,12 @@ table_tag _ is = absurd (false≢true is)
 
 -- the place of a realm's root
 root-placed : (granules cpu : ℕ) (hold : Hold) (w : Whole granules cpu hold) (rd : ℕ) (realm : RealmRecord) (t : TableRecord)
-    → realms_of w.cells rd ≡ Some realm → tables_of w.cells realm.root ≡ Some t → is_root_place rd realm t.place ≡ true
+    → realms_of w.cells rd ≡ Some realm → tables_of w.cells realm.root ≡ Some t → is_place rd realm.start_level 0 realm.width t.place ≡ true
 root-placed granules cpu hold w rd realm t is_realm is_table =
-    and_from (t.place.rd == rd && t.place.level == realm.start_level && t.place.base == 0) (t.place.width == realm.width)
-    (and_from (t.place.rd == rd && t.place.level == realm.start_level) (t.place.base == 0)
+    and_from (t.place.rd == rd && t.place.level == realm.start_level && t.place.base == 0 * table_size realm.start_level) (t.place.width == realm.width)
+    (and_from (t.place.rd == rd && t.place.level == realm.start_level) (t.place.base == 0 * table_size realm.start_level)
     (and_from (t.place.rd == rd) (t.place.level == realm.start_level) (eq-eqb t.place.rd rd of_rd) (eq-eqb t.place.level realm.start_level of_level))
-    (eq-eqb t.place.base 0 base)) (eq-eqb t.place.width realm.width width)
+    (eq-eqb t.place.base (0 * table_size realm.start_level) base)) (eq-eqb t.place.width realm.width width)
   where
     root : HoldsTable (tables_of w.cells) realm.root rd realm.start_level 0
     root = w.shaped.tables.roots rd realm is_realm
@@ -61,11 +65,11 @@ root-placed granules cpu hold w rd realm t is_realm is_table =
     of_level : t.place.level ≡ realm.start_level
     of_level = ap (λ (x : TableRecord). x.place.level) (sym same) ∙ root.is_level
 
-    base : t.place.base ≡ 0
+    base : t.place.base ≡ 0 * table_size realm.start_level
     base =
         let own = w.shaped.tables.placed realm.root t is_table in
         let number : place_number t.place ≡ 0 = ap (λ (x : TableRecord). place_number x.place) (sym same) ∙ root.is_number in
-        own.2.base ∙ (ap (λ n. n * table_size t.place.level) number ∙ zero-mul (table_size t.place.level))
+        own.2.base ∙ (ap (λ n. n * table_size t.place.level) number ∙ ap (λ l. 0 * table_size l) of_level)
 
     width : t.place.width ≡ realm.width
     width =
@@ -74,9 +78,9 @@ root-placed granules cpu hold w rd realm t is_realm is_table =
         own.2.width ∙ ap (λ (r : RealmRecord). r.width) one
 
 root-none : (granules cpu : ℕ) (hold : Hold) (w : Whole granules cpu hold) (rd : ℕ) (o : Option Cell) → cell_in rd hold.cells ≡ o
-    → has_bad_root granules rd o hold.cells ≡ true → ⊥
+    → is_misfit_root granules hold.cells rd o ≡ true → ⊥
 root-none granules cpu hold w rd (Some (Rd realm)) found bad =
-    by (or_cases (not (is_granule granules realm.root)) (is_other_root rd realm (cell_in realm.root hold.cells)) bad)
+    by (or_cases (not (is_granule granules realm.root)) (is_other_table rd realm.start_level 0 realm.width (cell_in realm.root hold.cells)) bad)
   where
     is_realm : realms_of w.cells rd ≡ Some realm
     is_realm = ap realm_in (whole_cell granules cpu hold w rd (Rd realm) found)
@@ -87,14 +91,14 @@ root-none granules cpu hold w rd (Some (Rd realm)) found bad =
     no_table : (c : Cell) → cell_in realm.root hold.cells ≡ Some c → is_some (table_in c) ≡ true
     no_table c root = ap (λ (x : Cell). is_some (table_in x)) (sym (whole_cell granules cpu hold w realm.root c root)) ∙ there
 
-    other : (p : Option Cell) → cell_in realm.root hold.cells ≡ p → is_other_root rd realm p ≡ true → ⊥
+    other : (p : Option Cell) → cell_in realm.root hold.cells ≡ p → is_other_table rd realm.start_level 0 realm.width p ≡ true → ⊥
     other None root is = false≢true is
     other (Some (Rtt t)) root is =
-        false≢true (sym (not-true (is_root_place rd realm t.place) is)
+        false≢true (sym (not-true (is_place rd realm.start_level 0 realm.width t.place) is)
         ∙ root-placed granules cpu hold w rd realm t is_realm (ap table_in (whole_cell granules cpu hold w realm.root (Rtt t) root)))
     other (Some c) root is = false≢true (no_table c root)
 
-    by : (not (is_granule granules realm.root) ≡ true) ⊎ (is_other_root rd realm (cell_in realm.root hold.cells) ≡ true) → ⊥
+    by : (not (is_granule granules realm.root) ≡ true) ⊎ (is_other_table rd realm.start_level 0 realm.width (cell_in realm.root hold.cells) ≡ true) → ⊥
     by (inl none) = no_granule granules cpu hold w realm.root (table_tag (w.cells realm.root) there) none
     by (inr is) = other (cell_in realm.root hold.cells) refl is
 root-none granules cpu hold w rd _ found bad = false≢true bad
@@ -169,10 +173,10 @@ right_tags granules cpu hold w rec rd place is =
     false≢true (sym wrong.wrong
     ∙ eq-eqb (tag_number (tag_of wrong.h.cell)) (tag_number wrong.n.tag) (ap (λ (c : Cell). tag_number (tag_of c)) (sym cell) ∙ ap tag_number tags))
 
-misfit-none : (granules cpu : ℕ) (hold : Hold) (w : Whole granules cpu hold) (rec rd : ℕ) → hold.place ≡ Inside rec rd
-    → is_misfit granules rec rd hold.cells ≡ true → ⊥
-unfolding is_misfit
-misfit-none granules cpu hold w rec rd place misfit =
+misplaced-none : (granules cpu : ℕ) (hold : Hold) (w : Whole granules cpu hold) (rec rd : ℕ) → hold.place ≡ Inside rec rd
+    → is_misplaced granules rec rd hold.cells ≡ true → ⊥
+unfolding is_misplaced
+misplaced-none granules cpu hold w rec rd place misfit =
     by (or_cases (not locks || has_wrong (needed rec tag.Rec ∷ needed rd tag.Rd ∷ []) hold.cells) (has_other_owner rd (cell_in rec hold.cells)) misfit)
   where
     locks : Bool
@@ -207,20 +211,35 @@ misfit-none granules cpu hold w rec rd place misfit =
 
 -- ---- any command
 
-outside-none : (granules cpu : ℕ) (hold : Hold) (w : Whole granules cpu hold) (c : Call) → is_unshaped_outside granules c hold.cells ≡ true → ⊥
-unfolding is_unshaped_outside
-outside-none granules cpu hold w (RealmDestroy rd) bad = root-none granules cpu hold w rd (cell_in rd hold.cells) refl bad
-outside-none granules cpu hold w (RecDestroy rec) bad = auxes-none granules cpu hold w rec (cell_in rec hold.cells) refl bad
-outside-none granules cpu hold w (RecEnter rec) bad = owner-none granules cpu hold w rec (cell_in rec hold.cells) refl bad
-outside-none granules cpu hold w _ bad = false≢true bad
+part-none : (granules cpu : ℕ) (hold : Hold) (w : Whole granules cpu hold) (c : Call) → has_misfit_part granules c hold.cells ≡ true → ⊥
+unfolding has_misfit_part
+part-none granules cpu hold w (RealmDestroy rd) bad = root-none granules cpu hold w rd (cell_in rd hold.cells) refl bad
+part-none granules cpu hold w (RecDestroy rec) bad = auxes-none granules cpu hold w rec (cell_in rec hold.cells) refl bad
+part-none granules cpu hold w (RecEnter rec) bad = owner-none granules cpu hold w rec (cell_in rec hold.cells) refl bad
+part-none granules cpu hold w _ bad = false≢true bad
+
+way-none : (granules cpu : ℕ) (hold : Hold) → Whole granules cpu hold → (o : Option Way) → is_misfit_way granules hold.cells o ≡ true → ⊥
+way-none granules cpu hold w None bad = false≢true bad
+way-none granules cpu hold w (Some way) bad =
+    misfit-none (record { cells = w.cells; places = w.places; shaped = w.shaped; agrees = w.agrees }) way.rd way.ipa bad
 
 pub unshaped-none : (granules cpu : ℕ) (hold : Hold) (c : Call) → is_unshaped granules c hold.place hold.cells ≡ true → Whole granules cpu hold → ⊥
 unfolding is_unshaped
 unshaped-none granules cpu hold c bad w = by hold.place refl bad
   where
+    outside : (has_misfit_part granules c hold.cells ≡ true) ⊎ (is_misfit_way granules hold.cells (way_taken c) ≡ true) → ⊥
+    outside (inl part) = part-none granules cpu hold w c part
+    outside (inr way) = way-none granules cpu hold w (way_taken c) way
+
+    inside : (rec rd : ℕ) → hold.place ≡ Inside rec rd
+        → (is_misplaced granules rec rd hold.cells ≡ true) ⊎ (is_misfit_way granules hold.cells (way_inside c rec rd hold.cells) ≡ true) → ⊥
+    inside rec rd place (inl misplaced) = misplaced-none granules cpu hold w rec rd place misplaced
+    inside rec rd place (inr way) = way-none granules cpu hold w (way_inside c rec rd hold.cells) way
+
     by : (p : CpuPlace) → hold.place ≡ p → is_unshaped granules c p hold.cells ≡ true → ⊥
-    by Outside place is = outside-none granules cpu hold w c is
-    by (Inside rec rd) place is = misfit-none granules cpu hold w rec rd place is
+    by Outside place is = outside (or_cases (has_misfit_part granules c hold.cells) (is_misfit_way granules hold.cells (way_taken c)) is)
+    by (Inside rec rd) place is =
+        inside rec rd place (or_cases (is_misplaced granules rec rd hold.cells) (is_misfit_way granules hold.cells (way_inside c rec rd hold.cells)) is)
 
 -- they settle it, so that no more is taken or freed
 or_middle : (a b c : Bool) → b ≡ true → (a || b || c) ≡ true
@@ -234,12 +253,12 @@ unfolding is_unshaped is_settled
 unshaped-settled granules c Outside held unshaped = by (class_of c)
   where
     by : (k : Class) → is_settled_outside k granules c held ≡ true
-    by ByHost = or_middle (not (words_fit granules c) || has_wrong (named c) held) (is_unshaped_outside granules c held) (is_complete c held) unshaped
+    by ByHost = or_middle (not (words_fit granules c) || has_wrong (named c) held) (is_unshaped_outside granules c held) (is_all_held granules c held (way_taken c)) unshaped
     by ByRealm = refl
     by ByExit = refl
 unshaped-settled granules c (Inside rec rd) held unshaped = by (class_of c)
   where
-    by : (k : Class) → is_settled_inside k granules rec rd held ≡ true
+    by : (k : Class) → is_settled_inside k granules c rec rd held ≡ true
     by ByHost = refl
-    by ByRealm = ap (λ b. b || (is_held rec held && is_held rd held)) unshaped
+    by ByRealm = ap (λ b. b || (is_held rec held && is_held rd held && is_read_over granules held (way_inside c rec rd held))) unshaped
     by ByExit = ap (λ b. b || is_held rec held) unshaped

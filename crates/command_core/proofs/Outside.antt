@@ -28,9 +28,9 @@ use Rattle.rmm_spec.specs.Shape.{HoldsTable}
 use Rattle.rmm_spec.specs.Local.{HeldCell, Hold}
 use Rattle.command_rows.specs.Answers.{outside_answer}
 use Rattle.command_core.specs.Seen.{cell_in, is_held}
-use Rattle.command_core.specs.SeenState.{seen_state}
+use Rattle.walk_laws.specs.SeenState.{seen_state}
 use Rattle.command_core.specs.Sides.{is_vmid_listed, are_recs_counted}
-use Rattle.command_core.specs.Served.{is_served}
+use Rattle.walk_laws.specs.Walking.{way_of}
 use Rattle.command_core.specs.Changed.{new_cells, CanAnswer}
 use Rattle.command_core.specs.Named.{words_fit, holds_all}
 use Rattle.command_core.specs.Settled.{is_root_held, are_auxes_held, is_realm_in, is_owner_held, is_complete}
@@ -84,12 +84,12 @@ agreeing granules cpu hold w c all owner root =
     }
 
 -- what they agree on they answer alike
-told-same : (granules cpu : ℕ) (hold : Hold) (w : Whole granules cpu hold) (c : Call) → is_served c ≡ true
+told-same : (granules cpu : ℕ) (hold : Hold) (w : Whole granules cpu hold) (c : Call) → way_of c ≡ None
     → SameLookUps (state granules cpu hold w) (seen_state granules hold.cells) c
     → outside_answer (is_vmid_used (state granules cpu hold w)) (has_rec (state granules cpu hold w)) (state granules cpu hold w) cpu c ≡ told_outside granules cpu hold c
-told-same granules cpu hold w c served same =
+told-same granules cpu hold w c walks same =
     (λ i. outside_answer (λ vmid. is_vmid_used-listed granules cpu hold w vmid i) (λ rd. has_rec-counted granules cpu hold w rd i) (state granules cpu hold w) cpu c)
-    ∙ outside_answer-same (is_vmid_listed hold.side) (are_recs_counted hold.side) (state granules cpu hold w) (seen_state granules hold.cells) cpu c served same
+    ∙ outside_answer-same (is_vmid_listed hold.side) (are_recs_counted hold.side) (state granules cpu hold w) (seen_state granules hold.cells) cpu c walks same
 
 -- ---- a named granule is one
 
@@ -129,10 +129,10 @@ root-linked granules cpu hold w rd realm found held = by (cell_in realm.root hol
 
 realm_destroy-told : (granules cpu : ℕ) (hold : Hold) (rd : ℕ) → is_granule granules rd ≡ true → (o : Option Cell) → cell_in rd hold.cells ≡ o
     → is_root_held o hold.cells ≡ true → IsToldOutside granules cpu hold (call.RealmDestroy rd)
-unfolding outside_answer new_cells is_served named holds_all entered rooted
+unfolding outside_answer new_cells way_of named holds_all entered rooted
 realm_destroy-told granules cpu hold rd granule (Some (Rd realm)) found root = record {
   can = can-done cpu hold (RealmDestroyed rd (realm_at (seen_state granules hold.cells) rd).root) _ (with_front (seen_state granules hold.cells) (call.RealmDestroy rd) _)
-      (record { held = (held, (subst (λ (r : RealmRecord). is_held r.root hold.cells ≡ true) (sym seen) root, tt)); here = tt });
+      (record { held = (held, (subst (λ (r : RealmRecord). is_held r.root hold.cells ≡ true) (sym seen) root, tt)); tables = tt; here = tt });
   same = λ w.
       let s = state granules cpu hold w in
       let t = seen_state granules hold.cells in
@@ -160,11 +160,11 @@ rec_destroy-can : (cpu : ℕ) (hold : Hold) (s : State) (rec : ℕ) → is_held 
     → is_held (rec_at s rec).aux1 hold.cells ≡ true → CanAnswer cpu hold (rec_destroy s rec)
 unfolding rec_destroy new_cells
 rec_destroy-can cpu hold s rec held aux0 aux1 =
-    can-done cpu hold (RecDestroyed rec (rec_at s rec).aux0 (rec_at s rec).aux1) _ (with_front s (call.RecDestroy rec) _) (record { held = (held, (aux0, (aux1, tt))); here = tt })
+    can-done cpu hold (RecDestroyed rec (rec_at s rec).aux0 (rec_at s rec).aux1) _ (with_front s (call.RecDestroy rec) _) (record { held = (held, (aux0, (aux1, tt))); tables = tt; here = tt })
 
 rec_destroy-told : (granules cpu : ℕ) (hold : Hold) (rec : ℕ) → is_granule granules rec ≡ true → (o : Option Cell) → cell_in rec hold.cells ≡ o
     → are_auxes_held o hold.cells ≡ true → IsToldOutside granules cpu hold (call.RecDestroy rec)
-unfolding outside_answer answer_of class_of is_served named holds_all entered rooted
+unfolding outside_answer answer_of class_of way_of named holds_all entered rooted
 rec_destroy-told granules cpu hold rec granule (Some (Rec it)) found auxes = record {
   can = by it.cpu refl auxes;
   same = λ w. told-same granules cpu hold w (call.RecDestroy rec) refl
@@ -197,9 +197,9 @@ realm-held None is = absurd (false≢true is)
 
 rec_enter-told : (granules cpu : ℕ) (hold : Hold) (rec : ℕ) → is_granule granules rec ≡ true → (o : Option Cell) → cell_in rec hold.cells ≡ o
     → is_owner_held o hold.cells ≡ true → IsToldOutside granules cpu hold (call.RecEnter rec)
-unfolding outside_answer answer_of class_of rec_enter new_cells is_served named holds_all entered rooted
+unfolding outside_answer answer_of class_of rec_enter new_cells way_of named holds_all entered rooted
 rec_enter-told granules cpu hold rec granule (Some (Rec it)) found owner = record {
-  can = can-done cpu hold (rec_change rec (Entered cpu)) _ (with_front (seen_state granules hold.cells) (call.RecEnter rec) _) (record { held = (held, tt); here = refl });
+  can = can-done cpu hold (rec_change rec (Entered cpu)) _ (with_front (seen_state granules hold.cells) (call.RecEnter rec) _) (record { held = (held, tt); tables = tt; here = refl });
   same = λ w.
       let s = state granules cpu hold w in
       let t = seen_state granules hold.cells in
@@ -219,47 +219,47 @@ rec_enter-told granules cpu hold rec granule _ found owner = absurd (false≢tru
 -- ---- any command
 
 -- where all that is named is held, and nothing else is looked up or changed
-named-told : (granules cpu : ℕ) (hold : Hold) (c : Call) → is_served c ≡ true → holds_all (named c) hold.cells ≡ true → entered c ≡ None → rooted c ≡ None
+named-told : (granules cpu : ℕ) (hold : Hold) (c : Call) → way_of c ≡ None → holds_all (named c) hold.cells ≡ true → entered c ≡ None → rooted c ≡ None
     → CanAnswer cpu hold (told_outside granules cpu hold c) → IsToldOutside granules cpu hold c
-named-told granules cpu hold c served all no_owner no_root can = record {
+named-told granules cpu hold c walks all no_owner no_root can = record {
   can = can;
   same = λ w.
       let s = state granules cpu hold w in
       let t = seen_state granules hold.cells in
-      told-same granules cpu hold w c served
+      told-same granules cpu hold w c walks
       (agreeing granules cpu hold w c all (subst (SameOwner s t) (sym no_owner) tt) (subst (SameRoot s t) (sym no_root) tt));
 }
 
-pub complete-told : (granules cpu : ℕ) (hold : Hold) (c : Call) → is_served c ≡ true → class_of c ≡ ByHost → words_fit granules c ≡ true
+pub complete-told : (granules cpu : ℕ) (hold : Hold) (c : Call) → way_of c ≡ None → class_of c ≡ ByHost → words_fit granules c ≡ true
     → is_complete c hold.cells ≡ true → IsToldOutside granules cpu hold c
-unfolding is_served class_of is_complete outside_answer answer_of granule_delegate granule_undelegate realm_activate rec_create new_cells named entered rooted
-complete-told granules cpu hold (call.RealmDestroy rd) served host fits complete =
+unfolding way_of class_of is_complete outside_answer answer_of granule_delegate granule_undelegate realm_activate rec_create new_cells named entered rooted
+complete-told granules cpu hold (call.RealmDestroy rd) walks host fits complete =
     realm_destroy-told granules cpu hold rd (realm_destroy-granule granules rd fits) (cell_in rd hold.cells) refl complete
-complete-told granules cpu hold (call.RecDestroy rec) served host fits complete =
+complete-told granules cpu hold (call.RecDestroy rec) walks host fits complete =
     rec_destroy-told granules cpu hold rec (rec_destroy-granule granules rec fits) (cell_in rec hold.cells) refl complete
-complete-told granules cpu hold (call.RecEnter rec) served host fits complete =
+complete-told granules cpu hold (call.RecEnter rec) walks host fits complete =
     rec_enter-told granules cpu hold rec (rec_enter-granule granules rec fits) (cell_in rec hold.cells) refl complete
-complete-told granules cpu hold (call.GranuleDelegate g) served host fits complete =
+complete-told granules cpu hold (call.GranuleDelegate g) walks host fits complete =
     let c = call.GranuleDelegate g in
-    named-told granules cpu hold c served complete refl refl
-    (can-done cpu hold _ _ (with_front (seen_state granules hold.cells) c _) (record { held = (held-at hold.cells c complete 0, tt); here = tt }))
-complete-told granules cpu hold (call.GranuleUndelegate g) served host fits complete =
+    named-told granules cpu hold c walks complete refl refl
+    (can-done cpu hold _ _ (with_front (seen_state granules hold.cells) c _) (record { held = (held-at hold.cells c complete 0, tt); tables = tt; here = tt }))
+complete-told granules cpu hold (call.GranuleUndelegate g) walks host fits complete =
     let c = call.GranuleUndelegate g in
-    named-told granules cpu hold c served complete refl refl
-    (can-done cpu hold _ _ (with_front (seen_state granules hold.cells) c _) (record { held = (held-at hold.cells c complete 0, tt); here = tt }))
-complete-told granules cpu hold (call.RealmActivate rd) served host fits complete =
+    named-told granules cpu hold c walks complete refl refl
+    (can-done cpu hold _ _ (with_front (seen_state granules hold.cells) c _) (record { held = (held-at hold.cells c complete 0, tt); tables = tt; here = tt }))
+complete-told granules cpu hold (call.RealmActivate rd) walks host fits complete =
     let c = call.RealmActivate rd in
-    named-told granules cpu hold c served complete refl refl
-    (can-done cpu hold _ _ (with_front (seen_state granules hold.cells) c _) (record { held = (held-at hold.cells c complete 0, tt); here = tt }))
-complete-told granules cpu hold (call.RealmCreate rd root width level vmid algo) served host fits complete =
+    named-told granules cpu hold c walks complete refl refl
+    (can-done cpu hold _ _ (with_front (seen_state granules hold.cells) c _) (record { held = (held-at hold.cells c complete 0, tt); tables = tt; here = tt }))
+complete-told granules cpu hold (call.RealmCreate rd root width level vmid algo) walks host fits complete =
     let c = call.RealmCreate rd root width level vmid algo in
     let at = held-at hold.cells c complete in
-    named-told granules cpu hold c served complete refl refl
-    (can-done cpu hold _ _ (with_front (seen_state granules hold.cells) c _) (record { held = (at 0, (at 1, tt)); here = tt }))
-complete-told granules cpu hold (call.RecCreate rd rec mpidr flags aux0 aux1) served host fits complete =
+    named-told granules cpu hold c walks complete refl refl
+    (can-done cpu hold _ _ (with_front (seen_state granules hold.cells) c _) (record { held = (at 0, (at 1, tt)); tables = tt; here = tt }))
+complete-told granules cpu hold (call.RecCreate rd rec mpidr flags aux0 aux1) walks host fits complete =
     let c = call.RecCreate rd rec mpidr flags aux0 aux1 in
     let at = held-at hold.cells c complete in
-    named-told granules cpu hold c served complete refl refl
+    named-told granules cpu hold c walks complete refl refl
     (can-done cpu hold _ _ (with_front (seen_state granules hold.cells) c _)
-    (record { held = (at 1, (at 2, (at 3, (at 0, tt)))); here = tt }))
-complete-told granules cpu hold _ served host fits complete = absurd cc
+    (record { held = (at 1, (at 2, (at 3, (at 0, tt)))); tables = tt; here = tt }))
+complete-told granules cpu hold _ walks host fits complete = absurd cc

@@ -1,7 +1,6 @@
 -- What is settled has what the rows require of who looks up for them: a REC that is entered has its realm.
-use Rattle.std.proofs.Common.{◌≡◌, ℕ, Bool, true, false, not, ◌||◌, ◌==◌, if◌then◌else◌, List, [], ◌∷◌, Option, Some, refl, sym, ap, ◌∙◌, subst, eq-eqb}
-use Rattle.std.specs.Prelude.{unwrap_or}
-use Rattle.std.proofs.lemmas.Bool.{false≢true, and_parts, not-false, false_from_ne_true}
+use Rattle.std.proofs.Common.{◌≡◌, ℕ, Bool, true, false, not, ◌||◌, ◌==◌, if◌then◌else◌, List, [], ◌∷◌, Option, Some, None, refl, sym, ap, ◌∙◌, subst, eq-eqb}
+use Rattle.std.proofs.lemmas.Bool.{false≢true, and_parts, or_parts, not-false, false_from_ne_true}
 use Rattle.rmm_spec.specs.declared.call.Call.{Call}
 use Rattle.rmm_spec.specs.declared.call.Call.TheVariants as call
 use Rattle.rmm_spec.specs.declared.tag.Tag.TheVariants as tag
@@ -16,10 +15,12 @@ use Rattle.rmm_spec.specs.Shape.{Outside, Inside}
 use Rattle.rmm_spec.specs.Local.{HeldCell}
 use Rattle.world_laws.proofs.Members.{each_of_one}
 use Rattle.command_rows.specs.Answers.{IsOwned, IsInside}
-use Rattle.command_core.specs.Seen.{cell_in, known_cell}
-use Rattle.command_core.specs.SeenState.{seen_state}
+use Rattle.command_core.specs.Seen.{cell_in}
+use Rattle.walk_laws.specs.SeenState.{realm_behind, cell_or, seen_state}
 use Rattle.command_core.specs.Named.{has_wrong, words_fit}
-use Rattle.command_core.specs.Unshaped.{can_learn, has_bad_owner, is_unshaped_outside, is_unshaped}
+use Rattle.command_core.specs.Unshaped.{can_learn, has_bad_owner, has_misfit_part, is_unshaped}
+use Rattle.walk_laws.specs.Walking.{way_of}
+use Rattle.command_core.specs.Walks.{way_taken}
 use Rattle.command_core.specs.Settled.{is_realm_in, is_owner_held, is_complete, is_settled}
 use Rattle.command_core.proofs.Fronts.{wrong_tag}
 use Rattle.command_core.proofs.Inside.{settled-inside}
@@ -34,15 +35,17 @@ record RecThere (granules rec : ℕ) (held : List HeldCell) : Type 0 where
 rec-there : (granules rec : ℕ) (held : List HeldCell) → has_tag (seen_state granules held) rec tag.Rec ≡ true → RecThere granules rec held
 unfolding has_tag seen_state
 rec-there granules rec held has =
-    by (cell_in rec held) refl
-    (subst (λ b. (tag_number (tag_of (if b then known_cell held rec else Undelegated)) == 3) ≡ true) parts.0 parts.1)
+    by (cell_in rec held) (realm_behind held rec) refl
+    (subst (λ b. (tag_number (tag_of (if b then cell_or (cell_in rec held) (realm_behind held rec) else Undelegated)) == 3) ≡ true) parts.0 parts.1)
   where
-    parts : (is_granule granules rec ≡ true) × ((tag_number (tag_of (if is_granule granules rec then known_cell held rec else Undelegated)) == 3) ≡ true)
-    parts = and_parts (is_granule granules rec) (tag_number (tag_of (if is_granule granules rec then known_cell held rec else Undelegated)) == 3) has
+    parts : (is_granule granules rec ≡ true) × ((tag_number (tag_of (if is_granule granules rec then cell_or (cell_in rec held) (realm_behind held rec) else Undelegated)) == 3) ≡ true)
+    parts = and_parts (is_granule granules rec) (tag_number (tag_of (if is_granule granules rec then cell_or (cell_in rec held) (realm_behind held rec) else Undelegated)) == 3) has
 
-    by : (o : Option Cell) → cell_in rec held ≡ o → (tag_number (tag_of (unwrap_or o Undelegated)) == 3) ≡ true → RecThere granules rec held
-    by (Some (Rec it)) found is = record { it = it; granule = parts.0; found = found }
-    by _ found is = absurd (false≢true is)
+    by : (o : Option Cell) (r : Option RealmRecord) → cell_in rec held ≡ o → (tag_number (tag_of (cell_or o r)) == 3) ≡ true → RecThere granules rec held
+    by (Some (Rec it)) r found is = record { it = it; granule = parts.0; found = found }
+    by (Some _) r found is = absurd (false≢true is)
+    by None (Some realm) found is = absurd (false≢true is)
+    by None None found is = absurd (false≢true is)
 
 realm_there : (o : Option Cell) → is_realm_in o ≡ true → (realm : RealmRecord) × (o ≡ Some (Rd realm))
 realm_there (Some (Rd realm)) is = (realm, refl)
@@ -73,13 +76,14 @@ last false wrong unshaped complete a b c is = absurd (false≢true a)
 enter-owned : (granules rec : ℕ) (held : List HeldCell) → is_settled granules (call.RecEnter rec) Outside held ≡ true
     → is_unshaped granules (call.RecEnter rec) Outside held ≡ false → has_tag (seen_state granules held) rec tag.Rec ≡ true
     → has_tag (seen_state granules held) (rec_at (seen_state granules held) rec).owner tag.Rd ≡ true
-unfolding is_settled is_unshaped is_unshaped_outside is_complete class_of
+unfolding is_settled is_unshaped has_misfit_part is_complete class_of way_taken way_of words_of
 enter-owned granules rec held settled shaped has =
     let there = rec-there granules rec held has in
-    let complete = last (words_fit granules (call.RecEnter rec)) (has_wrong (named (call.RecEnter rec)) held) (has_bad_owner granules rec (cell_in rec held))
+    let owner = (or_parts (has_bad_owner granules rec (cell_in rec held)) false shaped).0 in
+    let complete = last (words_fit granules (call.RecEnter rec)) (has_wrong (named (call.RecEnter rec)) held) (has_bad_owner granules rec (cell_in rec held) || false)
     (is_owner_held (cell_in rec held) held) (enter-fits granules rec there.granule) (enter-right rec held there.it there.found) shaped settled in
     let realm = realm_there (cell_in there.it.owner held) (ap (λ o. is_owner_held o held) (sym there.found) ∙ complete) in
-    let learns = not-false (can_learn granules rec there.it.owner) (ap (has_bad_owner granules rec) (sym there.found) ∙ shaped) in
+    let learns = not-false (can_learn granules rec there.it.owner) (ap (has_bad_owner granules rec) (sym there.found) ∙ owner) in
     let granule = (and_parts (is_granule granules there.it.owner) (not (there.it.owner == rec)) learns).0 in
     subst (λ (r : RecRecord). has_tag (seen_state granules held) r.owner tag.Rd ≡ true) (sym (rec-seen granules held rec there.it there.granule there.found))
     (tag-seen granules held there.it.owner (Rd realm.0) tag.Rd granule realm.1 refl)
@@ -92,4 +96,4 @@ settled-owned granules held _ settled shaped = tt
 pub settled-placed : (granules rec rd : ℕ) (held : List HeldCell) (c : Call) → is_settled granules c (Inside rec rd) held ≡ true
     → is_unshaped granules c (Inside rec rd) held ≡ false → IsInside (seen_state granules held) rec c
 unfolding is_settled is_unshaped IsInside
-settled-placed granules rec rd held c settled shaped = settled-inside granules rec rd held (class_of c) shaped settled
+settled-placed granules rec rd held c settled shaped = settled-inside granules c rec rd held (class_of c) shaped settled

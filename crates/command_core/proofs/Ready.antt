@@ -1,5 +1,5 @@
 -- Where what is held settles a command, it allows a local step, whatever the side table has and whichever CPU it is.
-use Rattle.std.proofs.Common.{◌≡◌, ℕ, ◌≤◌, Bool, true, false, not, ◌||◌, if◌then◌else◌, List, Result, Ok, Err, inl, inr, refl, sym, ap, ◌∙◌, subst}
+use Rattle.std.proofs.Common.{◌≡◌, ℕ, ◌≤◌, Bool, true, false, not, ◌||◌, if◌then◌else◌, List, Option, Some, None, Result, Ok, Err, inl, inr, refl, sym, ap, ◌∙◌, subst, [], ◌∷◌}
 use Rattle.std.proofs.lemmas.Bool.{false≢true}
 use Rattle.rmm_spec.specs.declared.accepted.Accepted.{Accepted}
 use Rattle.rmm_spec.specs.declared.accepted.Accepted.TheVariants.{Done, Reaches}
@@ -11,34 +11,35 @@ use Rattle.rmm_spec.specs.declared.reply.Reply.{Reply}
 use Rattle.rmm_spec.specs.declared.reply.Reply.TheVariants as reply
 use Rattle.rmm_spec.specs.Call.{Class, ByHost, ByRealm, ByExit, call_of, class_of}
 use Rattle.rmm_spec.specs.State.{State}
-use Rattle.rmm_spec.specs.Rows.{input_error}
-use Rattle.rmm_spec.specs.Step.{outcome}
+use Rattle.rmm_spec.specs.Rows.{input_error, done}
 use Rattle.rmm_spec.specs.Step.Named.{named}
 use Rattle.rmm_spec.specs.Shape.{CpuPlace, Outside, Inside}
-use Rattle.rmm_spec.specs.Local.{HeldCell, Hold, LocalStep}
-use Rattle.rmm_sound.proofs.Runs.{done_applies}
+use Rattle.rmm_spec.specs.Local.{HeldCell, Hold}
 use Rattle.world_laws.proofs.Placed.{is_inside-outside, is_inside-inside}
 use Rattle.world_laws.proofs.Refusals.{outside-is_local}
-use Rattle.shape_laws.specs.Whole.{side_changed}
-use Rattle.shape_laws.proofs.Ties.{well_shaped-is_sound}
 use Rattle.command_rows.specs.Answers.{host_answer, outside_answer, inside_answer}
 use Rattle.command_rows.proofs.Outcomes.{outcome-outside, outcome-inside}
-use Rattle.command_core.specs.SeenState.{seen_state}
+use Rattle.walk_laws.specs.SeenState.{seen_state}
+use Rattle.rmm_spec.specs.Step.Ripas.{reached_change}
+use Rattle.rmm_spec.specs.declared.change.Change.{Change}
+use Rattle.command_core.proofs.Walked.{walk-ready, taken-way, untaken-way}
+use Rattle.command_core.proofs.Made.{refused, no_whole, made-answered}
+use Rattle.command_core.specs.Furthest.{furthest}
 use Rattle.command_core.specs.Sides.{is_vmid_listed, are_recs_counted}
-use Rattle.command_core.specs.Served.{is_served}
-use Rattle.command_core.specs.Changed.{new_cells, new_place, hold_changed, CanAnswer, Answers, IsAnswer, can_make, CanMakeAnswer}
+use Rattle.command_core.specs.Changed.{hold_changed, Answers, IsAnswer, can_make, CanMakeAnswer}
 use Rattle.command_core.specs.Named.{has_wrong, words_fit}
 use Rattle.command_core.specs.Unshaped.{is_misfit, is_unshaped_outside, is_unshaped}
-use Rattle.command_core.specs.Settled.{is_complete, is_settled_outside, is_settled_inside, is_settled}
+use Rattle.command_core.specs.Settled.{is_all_held, is_settled_outside, is_settled_inside, is_settled}
+use Rattle.walk_laws.specs.Walking.{Way}
+use Rattle.command_core.specs.Walks.{way_taken}
 use Rattle.command_core.specs.Plan.{AllowsStep, IsReady}
-use Rattle.command_core.specs.Decided.{rows_answer, made_answer, settled_answer}
-use Rattle.command_core.proofs.Changes.{is_answer}
-use Rattle.command_core.proofs.Fits.{applied-fits, makes}
+use Rattle.command_core.specs.Decided.{rows_answer, made_answer, settled_answer, made_change}
+use Rattle.command_core.proofs.Fits.{makes}
 use Rattle.command_core.proofs.Fronts.{refused-answer}
 use Rattle.command_core.proofs.Outside.{told_outside, complete-told}
 use Rattle.command_core.proofs.Inside.{fitting-told}
 use Rattle.command_core.proofs.NoWholes.{unshaped-none}
-use Rattle.command_core.proofs.Wholes.{Whole, state, rec_inside-place}
+use Rattle.command_core.proofs.Wholes.{state, rec_inside-place}
 
 -- ---- any answer
 
@@ -47,31 +48,6 @@ allowed : (granules cpu : ℕ) (command : Command) (hold : Hold) (answer : Resul
 allowed granules cpu command hold (Err refusal) step = record { given = refusal; new = hold_changed hold Unchanged; step = step }
 allowed granules cpu command hold (Ok (Done words change)) step = record { given = reply.Ok words; new = hold_changed hold change; step = step }
 allowed granules cpu command hold (Ok (Reaches stretch)) step = absurd step
-
-refused : (granules cpu : ℕ) (command : Command) (hold : Hold) (given : Reply) → LocalStep granules cpu command given hold hold
-    → IsAnswer granules cpu command hold (Err given)
-unfolding new_cells new_place side_changed
-refused granules cpu command hold given step = record { can = tt; is_local = step }
-
--- where no whole agrees, anything is a local step
-no_whole : (granules cpu : ℕ) (command : Command) (hold : Hold) → (Whole granules cpu hold → ⊥) → IsAnswer granules cpu command hold (Err reply.Misplaced)
-no_whole granules cpu command hold none = is_answer granules cpu command hold (Err reply.Misplaced) tt (λ w. absurd (none w))
-
--- what each whole that agrees answers can be made of what is held, or there is no such whole
-made-answered : (granules cpu : ℕ) (command : Command) (hold : Hold) (answer : Result Accepted Reply) → CanAnswer cpu hold answer
-    → ((w : Whole granules cpu hold) → outcome (state granules cpu hold w) cpu (call_of command) ≡ answer)
-    → IsAnswer granules cpu command hold (made_answer granules hold.cells hold.side answer)
-made-answered granules cpu command hold (Err refusal) can each = is_answer granules cpu command hold (Err refusal) can each
-made-answered granules cpu command hold (Ok (Reaches stretch)) can each = absurd can
-made-answered granules cpu command hold (Ok (Done words change)) can each = by (can_make granules hold.cells hold.side change) refl
-  where
-    by : (b : Bool) → can_make granules hold.cells hold.side change ≡ b
-        → IsAnswer granules cpu command hold (if b then Ok (Done words change) else Err reply.Misplaced)
-    by true fits = is_answer granules cpu command hold (Ok (Done words change)) can each
-    by false unfit = no_whole granules cpu command hold (λ w.
-        let s = state granules cpu hold w in
-        let applies = done_applies s cpu command words.items change (well_shaped-is_sound granules hold.side w.places w.cells w.shaped) (each w) in
-        false≢true (sym unfit ∙ applied-fits granules cpu hold w change applies can))
 
 -- ---- outside of RECs
 
@@ -84,12 +60,13 @@ settled_by true false true complete shaped is front = absurd (false≢true (sym 
 settled_by true true unshaped complete shaped is front = absurd (false≢true (sym front))
 settled_by false wrong unshaped complete shaped is front = absurd (false≢true (sym front))
 
-host-ready : (granules cpu : ℕ) (command : Command) (hold : Hold) → is_served (call_of command) ≡ true → class_of (call_of command) ≡ ByHost → hold.place ≡ Outside
+host-ready : (granules cpu : ℕ) (command : Command) (hold : Hold) → class_of (call_of command) ≡ ByHost → hold.place ≡ Outside
     → is_unshaped_outside granules (call_of command) hold.cells ≡ false
     → (not (words_fit granules (call_of command)) || has_wrong (named (call_of command)) hold.cells
-    || is_unshaped_outside granules (call_of command) hold.cells || is_complete (call_of command) hold.cells) ≡ true
+    || is_unshaped_outside granules (call_of command) hold.cells
+    || is_all_held granules (call_of command) hold.cells (way_taken (call_of command))) ≡ true
     → IsAnswer granules cpu command hold (made_answer granules hold.cells hold.side (told_outside granules cpu hold (call_of command)))
-host-ready granules cpu command hold served host place shaped settled =
+host-ready granules cpu command hold host place shaped settled =
     by (not (words_fit granules (call_of command)) || has_wrong (named (call_of command)) hold.cells) refl
   where
     by : (b : Bool) → (not (words_fit granules (call_of command)) || has_wrong (named (call_of command)) hold.cells) ≡ b
@@ -97,14 +74,21 @@ host-ready granules cpu command hold served host place shaped settled =
     by true front =
         let refusal = refused-answer granules cpu command hold (is_vmid_listed hold.side) (are_recs_counted hold.side) host place front in
         subst (λ (answer : Result Accepted Reply). IsAnswer granules cpu command hold (made_answer granules hold.cells hold.side answer)) (sym refusal.0)
-        (refused granules cpu command hold input_error refusal.1)
+        (refused granules cpu command hold input_error (λ end same. cc) refusal.1)
     by false front =
         let parts = settled_by (words_fit granules (call_of command)) (has_wrong (named (call_of command)) hold.cells)
-        (is_unshaped_outside granules (call_of command) hold.cells) (is_complete (call_of command) hold.cells) shaped settled front in
-        let told = complete-told granules cpu hold (call_of command) served host parts.0 parts.1 in
-        made-answered granules cpu command hold (told_outside granules cpu hold (call_of command)) told.can
-        (λ w. sym (outcome-outside (state granules cpu hold w) cpu (call_of command)
-        (is_inside-outside granules hold.side w.places w.cells w.shaped cpu (w.placed ∙ place))) ∙ told.same w)
+        (is_unshaped_outside granules (call_of command) hold.cells) (is_all_held granules (call_of command) hold.cells (way_taken (call_of command))) shaped settled front in
+        all_held (way_taken (call_of command)) refl parts.0 parts.1
+      where
+        all_held : (o : Option Way) → way_taken (call_of command) ≡ o → words_fit granules (call_of command) ≡ true
+            → is_all_held granules (call_of command) hold.cells o ≡ true
+            → IsAnswer granules cpu command hold (made_answer granules hold.cells hold.side (told_outside granules cpu hold (call_of command)))
+        all_held (Some way) is fit over = walk-ready granules cpu command hold way (taken-way (call_of command) way is) place over
+        all_held None is fit complete =
+            let told = complete-told granules cpu hold (call_of command) (untaken-way granules (call_of command) fit is) host fit complete in
+            made-answered granules cpu command hold (told_outside granules cpu hold (call_of command)) told.can
+            (λ w. sym (outcome-outside (state granules cpu hold w) cpu (call_of command)
+            (is_inside-outside granules hold.side w.places w.cells w.shaped cpu (w.placed ∙ place))) ∙ told.same w)
 
 -- no other command is given there
 other-answer : (vmids recs : ℕ → Bool) (s : State) (cpu : ℕ) (c : Call) (k : Class) → class_of c ≡ k → (k ≡ ByHost → ⊥)
@@ -116,34 +100,34 @@ other-answer vmids recs s cpu c k is other = ap (λ x. host_answer x s cpu c) is
 
 -- ---- any command
 
-pub settled-answered : (granules cpu : ℕ) (command : Command) (hold : Hold) → is_served (call_of command) ≡ true
+pub settled-answered : (granules cpu : ℕ) (command : Command) (hold : Hold)
     → is_settled granules (call_of command) hold.place hold.cells ≡ true
     → IsAnswer granules cpu command hold (settled_answer granules cpu (call_of command) hold.cells hold.side hold.place)
 unfolding is_settled settled_answer is_unshaped
-settled-answered granules cpu command hold served settled = by (is_unshaped granules (call_of command) hold.place hold.cells) refl
+settled-answered granules cpu command hold settled = by (is_unshaped granules (call_of command) hold.place hold.cells) refl
   where
     c : Call
     c = call_of command
 
     told : CpuPlace → Result Accepted Reply
-    told p = made_answer granules hold.cells hold.side (rows_answer granules cpu c hold.cells hold.side p)
+    told p = made_answer granules hold.cells hold.side (rows_answer granules cpu c hold.cells (Some hold.side) p)
 
     outside : (k : Class) → class_of c ≡ k → hold.place ≡ Outside → is_unshaped_outside granules c hold.cells ≡ false
         → is_settled_outside k granules c hold.cells ≡ true → IsAnswer granules cpu command hold (told Outside)
-    outside ByHost host place shaped is = host-ready granules cpu command hold served host place shaped is
+    outside ByHost host place shaped is = host-ready granules cpu command hold host place shaped is
     outside ByRealm realm place shaped is =
         subst (λ (answer : Result Accepted Reply). IsAnswer granules cpu command hold (made_answer granules hold.cells hold.side answer))
         (sym (other-answer (is_vmid_listed hold.side) (are_recs_counted hold.side) (seen_state granules hold.cells) cpu c ByRealm realm (λ same. cc)))
-        (refused granules cpu command hold reply.Misplaced (outside-is_local granules cpu command hold (inl realm) place))
+        (refused granules cpu command hold reply.Misplaced (λ end same. cc) (outside-is_local granules cpu command hold (inl realm) place))
     outside ByExit exit place shaped is =
         subst (λ (answer : Result Accepted Reply). IsAnswer granules cpu command hold (made_answer granules hold.cells hold.side answer))
         (sym (other-answer (is_vmid_listed hold.side) (are_recs_counted hold.side) (seen_state granules hold.cells) cpu c ByExit exit (λ same. cc)))
-        (refused granules cpu command hold reply.Misplaced (outside-is_local granules cpu command hold (inr exit) place))
+        (refused granules cpu command hold reply.Misplaced (λ end same. cc) (outside-is_local granules cpu command hold (inr exit) place))
 
-    inside : (rec rd : ℕ) → hold.place ≡ Inside rec rd → is_misfit granules rec rd hold.cells ≡ false
-        → is_settled_inside (class_of c) granules rec rd hold.cells ≡ true → IsAnswer granules cpu command hold (told (Inside rec rd))
+    inside : (rec rd : ℕ) → hold.place ≡ Inside rec rd → is_misfit granules c rec rd hold.cells ≡ false
+        → is_settled_inside (class_of c) granules c rec rd hold.cells ≡ true → IsAnswer granules cpu command hold (told (Inside rec rd))
     inside rec rd place fits is =
-        let answer = fitting-told granules cpu hold rec rd c served place fits is in
+        let answer = fitting-told granules cpu hold rec rd c place fits is in
         made-answered granules cpu command hold (inside_answer (seen_state granules hold.cells) rec c) answer.can
         (λ w.
         let s = state granules cpu hold w in
@@ -162,24 +146,30 @@ settled-answered granules cpu command hold served settled = by (is_unshaped gran
 
 -- what was decided, under another name
 pub decision : (granules cpu : ℕ) (command : Command) (hold : Hold) (c : Call) (given answer : Result Accepted Reply) → c ≡ call_of command
-    → is_served (call_of command) ≡ true → is_settled granules (call_of command) hold.place hold.cells ≡ true
+    → is_settled granules (call_of command) hold.place hold.cells ≡ true
     → given ≡ settled_answer granules cpu c hold.cells hold.side hold.place → given ≡ answer → IsAnswer granules cpu command hold answer
-decision granules cpu command hold c given answer is served settled decided_so same =
+decision granules cpu command hold c given answer is settled decided_so same =
     subst (IsAnswer granules cpu command hold)
     (ap (λ (x : Call). settled_answer granules cpu x hold.cells hold.side hold.place) (sym is) ∙ (sym decided_so ∙ same))
-    (settled-answered granules cpu command hold served settled)
+    (settled-answered granules cpu command hold settled)
+
+change-makes : (granules : ℕ) (hold : Hold) (words : List ℕ) (change : Change) → granules ≤ 4096
+    → CanMakeAnswer hold (made_change granules hold.cells hold.side (done words change) change)
+change-makes granules hold words change few = by (can_make granules hold.cells hold.side change) refl
+  where
+    by : (b : Bool) → can_make granules hold.cells hold.side change ≡ b
+        → CanMakeAnswer hold (if b then Ok (done words change) else Err reply.Misplaced)
+    by true fits = makes granules hold.cells hold.side hold.place change few fits
+    by false unfit = tt
 
 -- an answer that stands can be made of what is held
 pub answer-makes : (granules : ℕ) (hold : Hold) (rows : Result Accepted Reply) → granules ≤ 4096
     → CanMakeAnswer hold (made_answer granules hold.cells hold.side rows)
 answer-makes granules hold (Err refusal) few = tt
-answer-makes granules hold (Ok (Reaches stretch)) few = tt
-answer-makes granules hold (Ok (Done words change)) few = by (can_make granules hold.cells hold.side change) refl
-  where
-    by : (b : Bool) → can_make granules hold.cells hold.side change ≡ b
-        → CanMakeAnswer hold (if b then Ok (Done words change) else Err reply.Misplaced)
-    by true fits = makes granules hold.cells hold.side hold.place change few fits
-    by false unfit = tt
+answer-makes granules hold (Ok (Done words change)) few = change-makes granules hold words.items change few
+answer-makes granules hold (Ok (Reaches stretch)) few =
+    let top = furthest (seen_state granules hold.cells) stretch in
+    change-makes granules hold (top ∷ []) (reached_change stretch top) few
 
 -- cells that are unshaped are answered as misplaced
 pub decision-unshaped : (granules cpu : ℕ) (command : Command) (hold : Hold) (c : Call) (given : Result Accepted Reply) → c ≡ call_of command
@@ -189,11 +179,11 @@ unfolding settled_answer
 decision-unshaped granules cpu command hold c given is decided_so unshaped =
     decided_so ∙ (ap (λ (x : Call). settled_answer granules cpu x hold.cells hold.side hold.place) is ∙ rw unshaped refl)
 
-pub settled-ready : (granules : ℕ) (command : Command) (place : CpuPlace) (held : List HeldCell) → is_served (call_of command) ≡ true
+pub settled-ready : (granules : ℕ) (command : Command) (place : CpuPlace) (held : List HeldCell)
     → is_settled granules (call_of command) place held ≡ true → IsReady granules command place held
-settled-ready granules command place held served settled = record {
+settled-ready granules command place held settled = record {
   allows = λ cpu side.
       let hold : Hold = record { cells = held; side = side; place = place } in
       allowed granules cpu command hold (settled_answer granules cpu (call_of command) held side place)
-      (settled-answered granules cpu command hold served settled).is_local;
+      (settled-answered granules cpu command hold settled).is_local;
 }

@@ -1,21 +1,22 @@
 -- What passes the tests of a take is a rising take.
 use Rattle.std.proofs.Common.{◌≡◌, ℕ, zero, suc, ◌<◌, ◌≤◌, Bool, true, false, not, ◌&&◌, ◌||◌, ◌==◌, nat_lt, nat_le, if◌then◌else◌, List, [], ◌∷◌, length, get_or, Option, Some, None, inl, inr, refl, sym, ap, ◌∙◌, subst, arith, eqb-true, eq-eqb, ltb-true}
-use Rattle.std.specs.Prelude.{IsTrue, Contains, is_some}
+use Rattle.std.specs.Prelude.{IsTrue, Contains, is_some, slice_get}
 use Rattle.std.specs.List.{list_any, list_all}
 use Rattle.std.proofs.lemmas.Bool.{false≢true, and_parts, not-true}
 use Rattle.std.proofs.lemmas.Bool.Decides.{nat_tests}
 use Rattle.std.proofs.lemmas.Option.{none-some, same_Some}
+use Rattle.rmm_spec.specs.declared.entry.Entry.{Entry}
 use Rattle.rmm_spec.specs.declared.tag.Tag.{Tag}
 use Rattle.rmm_spec.specs.Lookup.{tag_number, is_granule}
 use Rattle.rmm_spec.specs.Rows.{Needed}
-use Rattle.rmm_spec.specs.Cell.{Cell, Rd, Rec, tag_of, is_data}
+use Rattle.rmm_spec.specs.Cell.{Cell, Rd, Rec, tag_of, is_data, Rtt}
 use Rattle.rmm_spec.specs.Local.{HeldCell, granules_held}
-use Rattle.rmm_spec.specs.Locks.{is_named, names_part, depth, IsStray, IsRisingTake}
+use Rattle.rmm_spec.specs.Locks.{is_named, leads_to, names_part, depth, IsStray, IsRisingTake}
 use Rattle.rmm_spec.proofs.TagLaws.{tag_number-injective}
 use Rattle.world_laws.specs.Replaced.{held_at}
 use Rattle.world_laws.proofs.Members.{Contains-nil, Contains-head, Contains-tail}
 use Rattle.command_core.specs.Seen.{cell_in, is_held, are_distinct}
-use Rattle.command_core.specs.Named.{is_wrong_for, fits_below, is_upward, has_part, has_aux_part, fits_beside, is_downward}
+use Rattle.command_core.specs.Named.{is_wrong_for, fits_below, is_upward, entry_leads, has_part, has_aux_part, depth_in, fits_beside, is_downward}
 
 -- ---- each of what is held
 
@@ -162,54 +163,77 @@ upward-rises granules names held next distinct passes =
 -- ---- downwards
 
 record FitsBeside (names : List Needed) (above : Option Cell) (granule : ℕ) (cell : Cell) : Type 0 where
-  beside : (is_named names granule || has_aux_part above granule) ≡ true
+  beside : (is_named names granule || nat_lt 0 (depth cell) || has_aux_part above granule) ≡ true
   right : is_wrong_for cell granule names ≡ false
   no_data : is_data cell ≡ false
-  no_table : depth cell ≡ 0
+  shallow : depth cell ≤ depth_in above
 
 fits_beside-parts : (names : List Needed) (above : Option Cell) (granule : ℕ) (cell : Cell) → fits_beside names above granule (Some cell) ≡ true
     → FitsBeside names above granule cell
 fits_beside-parts names above granule cell fits =
-    let near = is_named names granule || has_aux_part above granule in
-    let first = and_parts (near && not (is_wrong_for cell granule names) && not (is_data cell)) (depth cell == 0) fits in
+    let near = is_named names granule || nat_lt 0 (depth cell) || has_aux_part above granule in
+    let first = and_parts (near && not (is_wrong_for cell granule names) && not (is_data cell)) (nat_le (depth cell) (depth_in above)) fits in
     let second = and_parts (near && not (is_wrong_for cell granule names)) (not (is_data cell)) first.0 in
     let third = and_parts near (not (is_wrong_for cell granule names)) second.0 in
     record {
       beside = third.0;
       right = not-true (is_wrong_for cell granule names) third.1;
       no_data = not-true (is_data cell) second.1;
-      no_table = eqb-true (depth cell) 0 first.1;
+      shallow = le-true (depth cell) (depth_in above) first.1;
     }
 
+-- what passes at a place of a list is in it
+any-at : (p : Entry → Bool) (es : List Entry) (i : ℕ) (e : Entry) → slice_get es i ≡ Some e → p e ≡ true → list_any p es ≡ true
+any-at p [] i e at is = absurd (none-some e at)
+any-at p (x ∷ es) zero e at is = ap (λ b. b || list_any p es) (ap p (same_Some x e at) ∙ is)
+any-at p (x ∷ es) (suc i) e at is = by (p x) (any-at p es i e at is)
+  where
+    by : (b : Bool) → list_any p es ≡ true → (b || list_any p es) ≡ true
+    by true rest = refl
+    by false rest = rest
+
 -- the cell that names the part
-named_part : (above : Option Cell) (next : ℕ) → has_part above next ≡ true → (c : Cell) × (above ≡ Some c) × (names_part c next ≡ true) × (depth c ≡ 0)
-named_part None next part = absurd (false≢true part)
-named_part (Some (Rd realm)) next part = (Rd realm, refl, part, refl)
-named_part (Some (Rec rec)) next part = (Rec rec, refl, part, refl)
-named_part (Some _) next part = absurd (false≢true part)
+named_part : (above : Option Cell) (index next : ℕ) → has_part above index next ≡ true → (c : Cell) × (above ≡ Some c) × (names_part c next ≡ true)
+named_part (Some (Rd realm)) index next part = (Rd realm, refl, part)
+named_part (Some (Rec rec)) index next part = (Rec rec, refl, part)
+named_part (Some (Rtt table)) index next part = by (slice_get table.entries index) refl part
+  where
+    by : (o : Option Entry) → slice_get table.entries index ≡ o → entry_leads next o ≡ true
+        → (c : Cell) × (Some (Rtt table) ≡ Some c) × (names_part c next ≡ true)
+    by None at leads = absurd (false≢true leads)
+    by (Some e) at leads = (Rtt table, refl, any-at (leads_to next) table.entries index e at leads)
+named_part (Some _) index next part = absurd (false≢true part)
+named_part None index next part = absurd (false≢true part)
 
--- what isn't named is an auxiliary granule of the REC above
-aux_stray : (held : List HeldCell) (above : ℕ) (o : Option Cell) → cell_in above held ≡ o → (h : HeldCell) (b : Bool) → b ≡ false
-    → (b || has_aux_part o h.granule) ≡ true → IsStray held h
-aux_stray held above o is h true unnamed part = absurd (false≢true (sym unnamed))
-aux_stray held above None is h false unnamed part = absurd (false≢true part)
-aux_stray held above (Some (Rec rec)) is h false unnamed part =
-    record { is_part = inr (held_at above (Rec rec), rec, found-contains held above (Rec rec) is, refl, part) }
-aux_stray held above (Some _) is h false unnamed part = absurd (false≢true part)
+-- what isn't named is a table, or an auxiliary granule of the REC above
+stray : (held : List HeldCell) (above : ℕ) (o : Option Cell) → cell_in above held ≡ o → (h : HeldCell) (b : Bool) → b ≡ false
+    → (b || nat_lt 0 (depth h.cell) || has_aux_part o h.granule) ≡ true → IsStray held h
+stray held above o is h true unnamed part = absurd (false≢true (sym unnamed))
+stray held above o is h false unnamed part = by (nat_lt 0 (depth h.cell)) refl part
+  where
+    aux : (p : Option Cell) → cell_in above held ≡ p → has_aux_part p h.granule ≡ true → IsStray held h
+    aux (Some (Rec rec)) at has =
+        record { is_part = inr (held_at above (Rec rec), rec, found-contains held above (Rec rec) at, refl, has) }
+    aux (Some _) at has = absurd (false≢true has)
+    aux None at has = absurd (false≢true has)
 
-pub downward-rises : (granules : ℕ) (names : List Needed) (held : List HeldCell) (above next : ℕ) → IsTrue (are_distinct (granules_held held))
-    → is_downward granules names held above next ≡ true → IsRisingTake granules names held next
+    by : (t : Bool) → nat_lt 0 (depth h.cell) ≡ t → (t || has_aux_part o h.granule) ≡ true → IsStray held h
+    by true table has = record { is_part = inl (ltb-true 0 (depth h.cell) table) }
+    by false none has = aux o is has
+
+pub downward-rises : (granules : ℕ) (names : List Needed) (held : List HeldCell) (above index next : ℕ) → IsTrue (are_distinct (granules_held held))
+    → is_downward granules names held above index next ≡ true → IsRisingTake granules names held next
 unfolding is_downward
-downward-rises granules names held above next distinct passes =
+downward-rises granules names held above index next distinct passes =
     let each : ℕ → Bool = λ granule. fits_beside names (cell_in above held) granule (cell_in granule held) in
-    let first = and_parts (is_granule granules next && not (is_held next held) && nat_le (length held) 5 && has_part (cell_in above held) next) (list_all each (granules_held held)) passes in
-    let second = and_parts (is_granule granules next && not (is_held next held) && nat_le (length held) 5) (has_part (cell_in above held) next) first.0 in
+    let first = and_parts (is_granule granules next && not (is_held next held) && nat_le (length held) 5 && has_part (cell_in above held) index next) (list_all each (granules_held held)) passes in
+    let second = and_parts (is_granule granules next && not (is_held next held) && nat_le (length held) 5) (has_part (cell_in above held) index next) first.0 in
     let third = and_parts (is_granule granules next && not (is_held next held)) (nat_le (length held) 5) second.0 in
     let fourth = and_parts (is_granule granules next) (not (is_held next held)) third.0 in
     let at : (h : HeldCell) → Contains held h → FitsBeside names (cell_in above held) h.granule h.cell = λ h has.
     fits_beside-parts names (cell_in above held) h.granule h.cell
     (subst (λ o. fits_beside names (cell_in above held) h.granule o ≡ true) (found-own held distinct h has) (all_at each held first.1 h has)) in
-    let by = named_part (cell_in above held) next second.1 in
+    let by = named_part (cell_in above held) index next second.1 in
     record {
       is_lock = fourth.0;
       is_new = λ h has same.
@@ -218,11 +242,11 @@ downward-rises granules names held above next distinct passes =
       room = le-true (length held) 5 third.1;
       no_data = λ h has. (at h has).no_data;
       tags = λ h n has there same. right_tag names h.granule h.cell (at h has).right n there same;
-      strays = λ h has unnamed. aux_stray held above (cell_in above held) refl h (is_named names h.granule) unnamed (at h has).beside;
+      strays = λ h has unnamed. stray held above (cell_in above held) refl h (is_named names h.granule) unnamed (at h has).beside;
       upwards = inr (record {
         by = held_at above by.0;
         is_held = found-contains held above by.0 by.1;
         is_part = by.2;
-        deepest = λ h has. (let none = (at h has).no_table in omega (arith, none));
+        deepest = λ h has. subst (λ o. depth h.cell ≤ depth_in o) by.1 (at h has).shallow;
       });
     }

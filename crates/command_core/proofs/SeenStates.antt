@@ -1,25 +1,30 @@
 -- What the held cells tell of tags, realms and RECs is what each whole has that agrees with them.
-use Rattle.std.proofs.Common.{◌≡◌, ℕ, Bool, true, false, ◌&&◌, ◌==◌, if◌then◌else◌, List, Some, refl, ap, ◌∙◌, eq-eqb}
-use Rattle.std.specs.Prelude.{IsTrue, unwrap_or}
-use Rattle.std.proofs.lemmas.Bool.{and_from}
+use Rattle.std.proofs.Common.{◌≡◌, ℕ, Bool, true, false, ◌&&◌, ◌==◌, if◌then◌else◌, List, Option, Some, None, refl, ap, ◌∙◌, eq-eqb}
+use Rattle.std.specs.Prelude.{IsTrue, is_some, unwrap_or}
+use Rattle.std.proofs.lemmas.Bool.{false≢true, and_from}
 use Rattle.rmm_spec.specs.declared.tag.Tag.{Tag}
 use Rattle.rmm_spec.specs.State.{RealmRecord, RecRecord}
 use Rattle.rmm_spec.specs.Lookup.{tag_number, is_granule, has_tag, realm_at, rec_at, no_realm, no_rec}
 use Rattle.rmm_spec.specs.Cell.{Cell, Undelegated, Rd, Rec, tag_of, realm_in, rec_in}
 use Rattle.rmm_spec.specs.Flat.{flat_state}
 use Rattle.rmm_spec.specs.Local.{HeldCell, Hold}
-use Rattle.command_core.specs.Seen.{cell_in, is_held, known_cell}
-use Rattle.command_core.specs.SeenState.{cell_seen, seen_state}
-use Rattle.command_core.proofs.SeenCells.{known-same, known}
+use Rattle.command_core.specs.Seen.{cell_in, is_held}
+use Rattle.walk_laws.specs.SeenState.{realm_behind, cell_or, cell_seen, seen_state}
+use Rattle.command_core.proofs.SeenCells.{known-same}
 use Rattle.command_core.proofs.Wholes.{Whole, state}
 
 -- ---- wholes
 
+-- what is held is seen, whatever tables tell
+held-seen : (o : Option Cell) (r : Option RealmRecord) → is_some o ≡ true → unwrap_or o Undelegated ≡ cell_or o r
+held-seen (Some c) r is = refl
+held-seen None r is = absurd (false≢true is)
+
 cell-same : (granules cpu : ℕ) (hold : Hold) (w : Whole granules cpu hold) (g : ℕ) → IsTrue (is_held g hold.cells) → w.cells g ≡ cell_seen granules hold.cells g
 cell-same granules cpu hold w g held = by (is_granule granules g) refl
   where
-    by : (b : Bool) → is_granule granules g ≡ b → w.cells g ≡ (if b then known_cell hold.cells g else Undelegated)
-    by true granule = known-same hold.cells w.cells g w.agrees held
+    by : (b : Bool) → is_granule granules g ≡ b → w.cells g ≡ (if b then cell_or (cell_in g hold.cells) (realm_behind hold.cells g) else Undelegated)
+    by true granule = known-same hold.cells w.cells g w.agrees held ∙ held-seen (cell_in g hold.cells) (realm_behind hold.cells g) held
     by false outside = w.shaped.outside.undelegated g outside
 
 pub tag-same : (granules cpu : ℕ) (hold : Hold) (w : Whole granules cpu hold) (g : ℕ) (t : Tag) → IsTrue (is_held g hold.cells)
@@ -41,7 +46,7 @@ rec-same granules cpu hold w rec held = ap (λ (c : Cell). unwrap_or (rec_in c) 
 -- ---- cells that are held
 
 cell-seen : (granules : ℕ) (held : List HeldCell) (g : ℕ) (c : Cell) → is_granule granules g ≡ true → cell_in g held ≡ Some c → cell_seen granules held g ≡ c
-cell-seen granules held g c granule found = rw granule (known held g c found)
+cell-seen granules held g c granule found = rw granule (ap (λ o. cell_or o (realm_behind held g)) found)
 
 pub tag-seen : (granules : ℕ) (held : List HeldCell) (g : ℕ) (c : Cell) (t : Tag) → is_granule granules g ≡ true → cell_in g held ≡ Some c → tag_of c ≡ t
     → has_tag (seen_state granules held) g t ≡ true

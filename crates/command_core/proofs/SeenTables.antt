@@ -21,7 +21,7 @@ use Rattle.rmm_spec.specs.Local.{HeldCell, Hold, granules_held}
 use Rattle.world_laws.proofs.Members.{Contains-nil, Contains-other}
 use Rattle.world_laws.proofs.Placed.{any_below-from}
 use Rattle.command_core.specs.Seen.{cell_in, is_held}
-use Rattle.command_core.specs.SeenState.{table_held, found_or, table_placed, entry_in, entry_held, link_of, table_seen, leaf_seen, seen_state}
+use Rattle.walk_laws.specs.SeenState.{table_held, found_or, table_placed, entry_in, entry_held, link_of, table_seen, leaf_seen, seen_state}
 use Rattle.command_core.proofs.SeenCells.{held-contains}
 use Rattle.command_core.proofs.Searches.{any_below-same}
 use Rattle.command_core.proofs.Tables.{HoldsTable-from_test, one_granule, entry_at-table}

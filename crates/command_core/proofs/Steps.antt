@@ -1,11 +1,11 @@
 -- What a CPU does next where what it holds doesn't settle its command: it takes a lock at a rising take, or frees one that it
 -- holds. That there is always one of the two rests on no plan: with nothing held, what is wanted is a granule that is named.
-use Rattle.std.proofs.Common.{◌≡◌, ℕ, ◌-◌, Bool, true, false, not, ◌&&◌, ◌||◌, ◌==◌, if◌then◌else◌, List, [], ◌∷◌, length, Option, Some, None, refl, sym, ap, ◌∙◌, arith, eq-eqb}
+use Rattle.std.proofs.Common.{◌≡◌, ℕ, ◌-◌, Bool, true, false, not, ◌&&◌, ◌||◌, ◌==◌, if◌then◌else◌, List, [], ◌∷◌, length, Option, Some, None, refl, sym, ap, ◌∙◌, subst, arith, eq-eqb}
 use Rattle.std.specs.Prelude.{IsTrue, IfSome, Contains, is_some, unwrap_or}
 use Rattle.std.specs.List.{fold, list_all}
 use Rattle.std.proofs.lemmas.Bool.{false≢true, and_parts, or_parts, not-true, not-false}
-use Rattle.std.proofs.lemmas.List.Folds.{list_any_at}
-use Rattle.std.proofs.lemmas.Option.{none-some, slice_get-get_or}
+use Rattle.std.proofs.lemmas.List.Folds.{list_any_at, fold_stays}
+use Rattle.std.proofs.lemmas.Option.{none-some, same_Some, slice_get-get_or}
 use Rattle.rmm_spec.specs.declared.call.Call.{Call}
 use Rattle.rmm_spec.specs.declared.call.Call.TheVariants as call
 use Rattle.rmm_spec.specs.declared.command.Command.{Command}
@@ -20,16 +20,19 @@ use Rattle.rmm_spec.specs.Shape.{CpuPlace, Outside, Inside}
 use Rattle.rmm_spec.specs.Local.{HeldCell, granules_held}
 use Rattle.rmm_spec.specs.Locks.{is_named, needs, needs_outside, IsRisingTake}
 use Rattle.world_laws.proofs.Members.{Contains-head, Contains-tail, Contains-from_slice_get}
+use Rattle.command_core.proofs.Walked.{taken-way}
 use Rattle.command_core.specs.declared.next.Next.{Next}
 use Rattle.command_core.specs.declared.next.Next.TheVariants.{Take, Free, Ready}
 use Rattle.command_core.specs.Seen.{cell_in, is_held, are_distinct}
 use Rattle.command_core.specs.Named.{has_wrong, words_fit, is_less, lesser, least_missing, is_upward, is_downward, holds_all}
-use Rattle.command_core.specs.Unshaped.{can_learn, has_bad_owner, is_misfit, is_unshaped_outside}
-use Rattle.command_core.specs.Settled.{is_complete, is_settled_outside, is_settled_inside, is_settled}
-use Rattle.command_core.specs.Served.{is_served}
+use Rattle.walk_laws.specs.SeenState.{table_held, found_or, first_held, table_behind}
+use Rattle.walk_laws.specs.Walking.{Way, way_of, keeps_realm, is_told, are_told}
+use Rattle.command_core.specs.Walks.{Part, way_taken, way_to_read, way_inside, come_to, is_above, is_realm_spare, spare, wanted}
+use Rattle.command_core.specs.Unshaped.{can_learn, has_bad_owner, is_misfit_way, is_misfit, has_misfit_part, is_unshaped_outside}
+use Rattle.command_core.specs.Settled.{is_complete, is_all_held, is_read_over, is_settled_outside, is_settled_inside, is_settled}
 use Rattle.command_core.specs.Plan.{IsStep, IsPlanned, is_ready}
-use Rattle.command_core.specs.Next.{last_taken, taken, take_named, take_least, take_part, take_root, take_auxes, next_aux, learn_realm, take_realm, next_to_enter, first_named, next_outside, next_inside, next_unsettled, next}
-use Rattle.command_core.proofs.Inside.{fitting-granule}
+use Rattle.command_core.specs.Next.{last_taken, taken, take_named, take_least, take_part, take_root, take_auxes, next_aux, learn_realm, take_realm, next_to_enter, first_named, free_or_take, next_with_parts, next_to_walk, next_on_way, place_names, next_to_read, next_outside, next_inside, next_unsettled, next}
+use Rattle.command_core.proofs.Inside.{fitting-granule, fitting-place}
 use Rattle.command_core.proofs.Ready.{settled-ready}
 use Rattle.command_core.proofs.SeenCells.{held-contains}
 use Rattle.command_core.proofs.Rising.{upward-rises, downward-rises}
@@ -82,27 +85,27 @@ named-has names n has =
     (ap (λ (m : Needed). m.granule == n.granule) has.2 ∙ eq-eqb n.granule n.granule refl)
 
 -- the least that is missing is named
-least-one : (granules : ℕ) (held : List HeldCell) (all names : List Needed) (best : Option ℕ) → ((n : Needed) → Contains names n → is_named all n.granule ≡ true)
-    → IfSome best (IsOne granules all) → IfSome (fold (lesser granules held) best names) (IsOne granules all)
-least-one granules held all [] best each one = one
-least-one granules held all (n ∷ names) best each one =
-    least-one granules held all names (lesser granules held best n) (λ m has. each m (Contains-tail n names m has))
-    (by (is_granule granules n.granule && not (is_held n.granule held) && is_less n.granule best) refl)
+least-one : (granules : ℕ) (keeps : Bool) (held : List HeldCell) (all names : List Needed) (best : Option ℕ) → ((n : Needed) → Contains names n → is_named all n.granule ≡ true)
+    → IfSome best (IsOne granules all) → IfSome (fold (lesser granules keeps held) best names) (IsOne granules all)
+least-one granules keeps held all [] best each one = one
+least-one granules keeps held all (n ∷ names) best each one =
+    least-one granules keeps held all names (lesser granules keeps held best n) (λ m has. each m (Contains-tail n names m has))
+    (by (is_granule granules n.granule && not (is_told keeps held n) && is_less n.granule best) refl)
   where
-    by : (b : Bool) → (is_granule granules n.granule && not (is_held n.granule held) && is_less n.granule best) ≡ b
+    by : (b : Bool) → (is_granule granules n.granule && not (is_told keeps held n) && is_less n.granule best) ≡ b
         → IfSome (if b then Some n.granule else best) (IsOne granules all)
     by true is =
-        let parts = and_parts (is_granule granules n.granule && not (is_held n.granule held)) (is_less n.granule best) is in
-        record { is_lock = (and_parts (is_granule granules n.granule) (not (is_held n.granule held)) parts.0).0; is_one = each n (Contains-head n names) }
+        let parts = and_parts (is_granule granules n.granule && not (is_told keeps held n)) (is_less n.granule best) is in
+        record { is_lock = (and_parts (is_granule granules n.granule) (not (is_told keeps held n)) parts.0).0; is_one = each n (Contains-head n names) }
     by false is = one
 
 -- so is the least that is missing
-least-steps : (granules : ℕ) (c : Call) (place : CpuPlace) (names : List Needed) (held : List HeldCell) (other : ℕ)
-    → IsTrue (are_distinct (granules_held held)) → IsOne granules names other → IsStep granules c place names held (take_least granules names held other)
+least-steps : (granules : ℕ) (c : Call) (place : CpuPlace) (names : List Needed) (keeps : Bool) (held : List HeldCell) (other : ℕ)
+    → IsTrue (are_distinct (granules_held held)) → IsOne granules names other → IsStep granules c place names held (take_least granules keeps names held other)
 unfolding least_missing
-least-steps granules c place names held other distinct one =
-    named-steps granules c place names held (unwrap_or (least_missing granules names held) other) distinct
-    (by (least_missing granules names held) (least-one granules held names names None (named-has names) tt))
+least-steps granules c place names keeps held other distinct one =
+    named-steps granules c place names held (unwrap_or (least_missing granules keeps names held) other) distinct
+    (by (least_missing granules keeps names held) (least-one granules keeps held names names None (named-has names) tt))
   where
     by : (o : Option ℕ) → IfSome o (IsOne granules names) → IsOne granules names (unwrap_or o other)
     by (Some next) least = least
@@ -111,22 +114,22 @@ least-steps granules c place names held other distinct one =
 -- ---- parts
 
 -- a part of what is held is taken, or the last is freed
-part-steps : (granules : ℕ) (c : Call) (place : CpuPlace) (names : List Needed) (held : List HeldCell) (above next : ℕ) (cell : Cell)
-    → IsTrue (are_distinct (granules_held held)) → cell_in above held ≡ Some cell → IsStep granules c place names held (take_part granules names held above next)
-part-steps granules c place names held above next cell distinct found =
-    taken-steps granules c place names held next (is_downward granules names held above next) (downward-rises granules names held above next distinct)
+part-steps : (granules : ℕ) (c : Call) (place : CpuPlace) (names : List Needed) (held : List HeldCell) (above index next : ℕ) (cell : Cell)
+    → IsTrue (are_distinct (granules_held held)) → cell_in above held ≡ Some cell → IsStep granules c place names held (take_part granules names held above index next)
+part-steps granules c place names held above index next cell distinct found =
+    taken-steps granules c place names held next (is_downward granules names held above index next) (downward-rises granules names held above index next distinct)
     (λ none. absurd (found-last held above cell found none))
 
 root-steps : (granules : ℕ) (c : Call) (place : CpuPlace) (names : List Needed) (held : List HeldCell) (rd : ℕ) → IsTrue (are_distinct (granules_held held))
     → IsOne granules names rd → (o : Option Cell) → cell_in rd held ≡ o → IsStep granules c place names held (take_root granules names held rd o)
 root-steps granules c place names held rd distinct one (Some (Rd realm)) found =
-    part-steps granules c place names held rd realm.root (Rd realm) distinct found
+    part-steps granules c place names held rd 0 realm.root (Rd realm) distinct found
 root-steps granules c place names held rd distinct one _ found = named-steps granules c place names held rd distinct one
 
 auxes-steps : (granules : ℕ) (c : Call) (place : CpuPlace) (names : List Needed) (held : List HeldCell) (rec : ℕ) → IsTrue (are_distinct (granules_held held))
     → IsOne granules names rec → (o : Option Cell) → cell_in rec held ≡ o → IsStep granules c place names held (take_auxes granules names held rec o)
 auxes-steps granules c place names held rec distinct one (Some (Rec it)) found =
-    part-steps granules c place names held rec (next_aux it held) (Rec it) distinct found
+    part-steps granules c place names held rec 0 (next_aux it held) (Rec it) distinct found
 auxes-steps granules c place names held rec distinct one _ found = named-steps granules c place names held rec distinct one
 
 -- ---- REC_ENTER
@@ -162,7 +165,7 @@ realm-steps granules held rec rd distinct lock (Some (Rec it)) found =
     (λ may. upward-rises granules names held rd distinct (and_parts (rd == it.owner) (is_upward granules names held rd) may).1)
     (λ none. absurd (found-last held rec (Rec it) found none))
 realm-steps granules held rec rd distinct lock _ found =
-    least-steps granules (call.RecEnter rec) Outside (needed rd tag.Rd ∷ needed rec tag.Rec ∷ []) held rec distinct
+    least-steps granules (call.RecEnter rec) Outside (needed rd tag.Rd ∷ needed rec tag.Rec ∷ []) true held rec distinct
     (record {
       is_lock = lock;
       is_one =
@@ -178,12 +181,11 @@ enter-steps granules held rec (Some rd) distinct lock shaped = realm-steps granu
 
 -- ---- outside of RECs
 
--- the first is named, where not all are held
-first-one : (granules : ℕ) (names : List Needed) (held : List HeldCell) → list_all (λ (n : Needed). is_granule granules n.granule) names ≡ true
-    → holds_all names held ≡ false → IsOne granules names (first_named names)
-unfolding holds_all
-first-one granules [] held locks missing = absurd (false≢true (sym missing))
-first-one granules (n ∷ names) held locks missing = record {
+-- the first is named, where one isn't told or held
+first-one : (granules : ℕ) (names : List Needed) (p : Needed → Bool) → list_all (λ (n : Needed). is_granule granules n.granule) names ≡ true
+    → list_all p names ≡ false → IsOne granules names (first_named names)
+first-one granules [] p locks missing = absurd (false≢true (sym missing))
+first-one granules (n ∷ names) p locks missing = record {
   is_lock = (and_parts (is_granule granules n.granule) (list_all (λ (m : Needed). is_granule granules m.granule) names) locks).0;
   is_one = named-has (n ∷ names) n (Contains-head n names);
 }
@@ -194,45 +196,151 @@ only-one granules n locks = record { is_lock = (and_parts (is_granule granules n
 -- each command by the names that it has without what is learnt
 plain-steps : (granules : ℕ) (c : Call) (learnt : Option ℕ) (held : List HeldCell) → IsTrue (are_distinct (granules_held held))
     → list_all (λ (n : Needed). is_granule granules n.granule) (named c) ≡ true → is_complete c held ≡ false
-    → ((rec : ℕ) → c ≡ call.RecEnter rec → ⊥) → IsStep granules c Outside (named c) held (next_outside granules c learnt held)
-unfolding is_complete next_outside named
+    → ((rec : ℕ) → c ≡ call.RecEnter rec → ⊥) → IsStep granules c Outside (named c) held (next_with_parts granules c learnt held)
+unfolding is_complete next_with_parts named holds_all
 plain-steps granules (call.RecEnter rec) learnt held distinct locks incomplete other = absurd (other rec refl)
 plain-steps granules (call.RealmDestroy rd) learnt held distinct locks incomplete other =
     root-steps granules (call.RealmDestroy rd) Outside (named (call.RealmDestroy rd)) held rd distinct (only-one granules (needed rd tag.Rd) locks) (cell_in rd held) refl
 plain-steps granules (call.RecDestroy rec) learnt held distinct locks incomplete other =
     auxes-steps granules (call.RecDestroy rec) Outside (named (call.RecDestroy rec)) held rec distinct (only-one granules (needed rec tag.Rec) locks) (cell_in rec held) refl
 plain-steps granules c learnt held distinct locks incomplete other =
-    least-steps granules c Outside (named c) held (first_named (named c)) distinct (first-one granules (named c) held locks incomplete)
+    least-steps granules c Outside (named c) true held (first_named (named c)) distinct
+    (first-one granules (named c) (λ n. is_held n.granule held) locks incomplete)
 
 -- what is learnt is named by an Enter alone
+parts-steps : (granules : ℕ) (c : Call) (learnt : Option ℕ) (held : List HeldCell) → IsTrue (are_distinct (granules_held held))
+    → list_all (λ (n : Needed). is_granule granules n.granule) (named c) ≡ true → has_misfit_part granules c held ≡ false
+    → is_complete c held ≡ false → IsStep granules c Outside (needs_outside learnt c) held (next_with_parts granules c learnt held)
+unfolding has_misfit_part next_with_parts named
+parts-steps granules (call.RecEnter rec) learnt held distinct locks shaped incomplete =
+    enter-steps granules held rec learnt distinct (and_parts (is_granule granules rec) true locks).0 shaped
+parts-steps granules c None held distinct locks shaped incomplete = plain-steps granules c None held distinct locks incomplete (λ rec same. cc)
+parts-steps granules c (Some rd) held distinct locks shaped incomplete = plain-steps granules c (Some rd) held distinct locks incomplete (λ rec same. cc)
+
+-- ---- walks
+
+-- the first that is held and passes is held
+first-held : (p : ℕ → Bool) (gs : List ℕ) (g : ℕ) → fold (found_or p) None gs ≡ Some g → Contains gs g
+first-held p [] g is = absurd (none-some g is)
+first-held p (x ∷ gs) g is = by (p x) is (first-held p gs g)
+  where
+    by : (b : Bool) → fold (found_or p) (if b then Some x else None) gs ≡ Some g → (fold (found_or p) None gs ≡ Some g → Contains gs g) → Contains (x ∷ gs) g
+    by true found rest =
+        subst (Contains (x ∷ gs)) (same_Some x g (sym (fold_stays (found_or p) (Some x) (λ y. refl) gs) ∙ found)) (Contains-head x gs)
+    by false found rest = Contains-tail x gs g (rest found)
+
+-- what the plan frees is held
+spare-held : (granules : ℕ) (keeps : Bool) (held : List HeldCell) (w : Way) (g : ℕ) → spare granules keeps held w ≡ Some g → Contains (granules_held held) g
+unfolding spare
+spare-held granules keeps held w g is = by (is_realm_spare keeps held w.rd) refl is
+  where
+    by : (b : Bool) → is_realm_spare keeps held w.rd ≡ b
+        → (if b then Some w.rd else first_held (λ granule. is_above w.rd (come_to granules held w) (table_held held granule)) held) ≡ Some g → Contains (granules_held held) g
+    by true realm found =
+        let parts = and_parts (not keeps) (is_held w.rd held && is_some (table_behind held w.rd)) realm in
+        subst (Contains (granules_held held)) (same_Some w.rd g found)
+        (held-contains held w.rd (and_parts (is_held w.rd held) (is_some (table_behind held w.rd)) parts.1).0)
+    by false kept found = first-held (λ granule. is_above w.rd (come_to granules held w) (table_held held granule)) (granules_held held) g found
+
+-- with something held, what is spare is freed, or what is wanted is taken, or the last is freed
+way-steps : (granules : ℕ) (c : Call) (place : CpuPlace) (names : List Needed) (held : List HeldCell) (rd : ℕ) → IsTrue (are_distinct (granules_held held))
+    → (last_taken held ≡ None → ⊥) → (free : Option ℕ) → ((g : ℕ) → free ≡ Some g → Contains (granules_held held) g) → (part : Option Part)
+    → IsStep granules c place names held (free_or_take granules names held rd free part)
+way-steps granules c place names held rd distinct some (Some g) frees part = frees g refl
+way-steps granules c place names held rd distinct some None frees None =
+    taken-steps granules c place names held rd false (λ may. absurd (false≢true may)) (λ none. absurd (some none))
+way-steps granules c place names held rd distinct some None frees (Some part) =
+    taken-steps granules c place names held part.next (is_downward granules names held part.above part.index part.next)
+    (downward-rises granules names held part.above part.index part.next distinct) (λ none. absurd (some none))
+
+-- where all that is named is told, something is held
+none-told : (c : Call) (w : Way) → way_of c ≡ Some w → are_told c [] ≡ true → ⊥
+unfolding way_of are_told keeps_realm named table_behind
+none-told (call.RttCreate rd rtt ipa level) w is told = false≢true told
+none-told _ w is told = absurd cc
+
+some-told : (c : Call) (w : Way) (held : List HeldCell) → way_of c ≡ Some w → are_told c held ≡ true → last_taken held ≡ None → ⊥
+some-told c w [] is told none = none-told c w is told
+some-told c w (h ∷ held) is told none = some-last h held none
+
+untold-one : (c : Call) (held : List HeldCell) → are_told c held ≡ false → list_all (is_told (keeps_realm c) held) (named c) ≡ false
+unfolding are_told
+untold-one c held untold = untold
+
+walk-steps : (granules : ℕ) (c : Call) (w : Way) (held : List HeldCell) → IsTrue (are_distinct (granules_held held)) → way_of c ≡ Some w
+    → list_all (λ (n : Needed). is_granule granules n.granule) (named c) ≡ true → IsStep granules c Outside (named c) held (next_to_walk granules c held w)
+walk-steps granules c w held distinct is locks = by (are_told c held) refl
+  where
+    by : (b : Bool) → are_told c held ≡ b → IsStep granules c Outside (named c) held
+        (if b then free_or_take granules (named c) held w.rd (spare granules (keeps_realm c) held w) (wanted granules c held w)
+        else take_least granules (keeps_realm c) (named c) held (first_named (named c)))
+    by true told =
+        way-steps granules c Outside (named c) held w.rd distinct (some-told c w held is told) (spare granules (keeps_realm c) held w)
+        (spare-held granules (keeps_realm c) held w) (wanted granules c held w)
+    by false untold =
+        least-steps granules c Outside (named c) (keeps_realm c) held (first_named (named c)) distinct
+        (first-one granules (named c) (is_told (keeps_realm c) held) locks (untold-one c held untold))
+
+-- a command that walks names nothing that is learnt
+needs-walk : (learnt : Option ℕ) (c : Call) (w : Way) → way_of c ≡ Some w → named c ≡ needs_outside learnt c
+unfolding way_of
+needs-walk None c w is = refl
+needs-walk (Some rd) (call.RecEnter rec) w is = absurd (none-some w is)
+needs-walk (Some rd) _ w is = refl
+
 outside-steps : (granules : ℕ) (c : Call) (learnt : Option ℕ) (held : List HeldCell) → IsTrue (are_distinct (granules_held held))
     → list_all (λ (n : Needed). is_granule granules n.granule) (named c) ≡ true → is_unshaped_outside granules c held ≡ false
-    → is_complete c held ≡ false → IsStep granules c Outside (needs_outside learnt c) held (next_outside granules c learnt held)
-unfolding is_unshaped_outside next_outside named
-outside-steps granules (call.RecEnter rec) learnt held distinct locks shaped incomplete =
-    enter-steps granules held rec learnt distinct (and_parts (is_granule granules rec) true locks).0 shaped
-outside-steps granules c None held distinct locks shaped incomplete = plain-steps granules c None held distinct locks incomplete (λ rec same. cc)
-outside-steps granules c (Some rd) held distinct locks shaped incomplete = plain-steps granules c (Some rd) held distinct locks incomplete (λ rec same. cc)
+    → is_all_held granules c held (way_taken c) ≡ false → IsStep granules c Outside (needs_outside learnt c) held (next_outside granules c learnt held)
+outside-steps granules c learnt held distinct locks shaped incomplete = by (way_taken c) refl incomplete
+  where
+    by : (o : Option Way) → way_taken c ≡ o → is_all_held granules c held o ≡ false
+        → IsStep granules c Outside (needs_outside learnt c) held (next_on_way granules c learnt held o)
+    by None is open_yet =
+        parts-steps granules c learnt held distinct locks (or_parts (has_misfit_part granules c held) (is_misfit_way granules held (way_taken c)) shaped).0 open_yet
+    by (Some w) is open_yet =
+        subst (λ names. IsStep granules c Outside names held (next_to_walk granules c held w)) (needs-walk learnt c w (taken-way c w is))
+        (walk-steps granules c w held distinct (taken-way c w is) locks)
 
 -- ---- inside of a REC
 
+-- a realm's call that walks holds the REC
+read-some : (c : Call) (rec rd : ℕ) (held : List HeldCell) (w : Way) → way_inside c rec rd held ≡ Some w → last_taken held ≡ None → ⊥
+unfolding way_inside
+read-some (call.IpaStateGet ipa) rec rd held w is none = by (cell_in rec held) refl is
+  where
+    by : (o : Option Cell) → cell_in rec held ≡ o → way_to_read rd ipa o (cell_in rd held) ≡ Some w → ⊥
+    by (Some c) found way = found-last held rec c found none
+    by None found way = none-some w way
+read-some _ rec rd held w is none = none-some w is
+
 inside-steps : (k : Class) (granules : ℕ) (c : Call) (rec rd : ℕ) (held : List HeldCell) → IsTrue (are_distinct (granules_held held))
-    → is_settled_inside k granules rec rd held ≡ false
-    → IsStep granules c (Inside rec rd) (needed rec tag.Rec ∷ needed rd tag.Rd ∷ []) held (next_inside k granules rec rd held)
+    → is_settled_inside k granules c rec rd held ≡ false
+    → IsStep granules c (Inside rec rd) (place_names rec rd) held (next_inside k granules c rec rd held)
 inside-steps k granules c rec rd held distinct = by k
   where
     names : List Needed
-    names = needed rec tag.Rec ∷ needed rd tag.Rd ∷ []
+    names = place_names rec rd
 
-    one : is_misfit granules rec rd held ≡ false → IsOne granules names rec
-    one fits = record { is_lock = fitting-granule granules rec rd held fits; is_one = named-has names (needed rec tag.Rec) (Contains-head (needed rec tag.Rec) (needed rd tag.Rd ∷ [])) }
+    one : is_misfit granules c rec rd held ≡ false → IsOne granules names rec
+    one fits = record {
+      is_lock = fitting-granule granules rec rd held (fitting-place granules c rec rd held fits);
+      is_one = named-has names (needed rec tag.Rec) (Contains-head (needed rec tag.Rec) (needed rd tag.Rd ∷ []));
+    }
 
-    by : (kind : Class) → is_settled_inside kind granules rec rd held ≡ false → IsStep granules c (Inside rec rd) names held (next_inside kind granules rec rd held)
+    reads : IsOne granules names rec → (o : Option Way) → way_inside c rec rd held ≡ o
+        → IsStep granules c (Inside rec rd) names held (next_to_read granules c rec rd held o)
+    reads first None is = least-steps granules c (Inside rec rd) names true held rec distinct first
+    reads first (Some w) is =
+        way-steps granules c (Inside rec rd) names held w.rd distinct (read-some c rec rd held w is) (spare granules true held w)
+        (spare-held granules true held w) (wanted granules c held w)
+
+    by : (kind : Class) → is_settled_inside kind granules c rec rd held ≡ false → IsStep granules c (Inside rec rd) names held (next_inside kind granules c rec rd held)
     by ByHost open_yet = absurd (false≢true (sym open_yet))
-    by ByRealm open_yet = least-steps granules c (Inside rec rd) names held rec distinct
-        (one (or_parts (is_misfit granules rec rd held) (is_held rec held && is_held rd held) open_yet).0)
+    by ByRealm open_yet =
+        reads (one (or_parts (is_misfit granules c rec rd held) (is_held rec held && is_held rd held && is_read_over granules held (way_inside c rec rd held)) open_yet).0)
+        (way_inside c rec rd held) refl
     by ByExit open_yet = named-steps granules c (Inside rec rd) names held rec distinct
-        (one (or_parts (is_misfit granules rec rd held) (is_held rec held) open_yet).0)
+        (one (or_parts (is_misfit granules c rec rd held) (is_held rec held) open_yet).0)
 
 -- ---- any command
 
@@ -245,7 +353,7 @@ unsettled-steps granules c Outside learnt held distinct unsettled = by (class_of
     by ByRealm is = absurd (false≢true (sym is))
     by ByExit is = absurd (false≢true (sym is))
     by ByHost is =
-        let parts = or_parts (not (words_fit granules c) || has_wrong (named c) held || is_unshaped_outside granules c held) (is_complete c held) is in
+        let parts = or_parts (not (words_fit granules c) || has_wrong (named c) held || is_unshaped_outside granules c held) (is_all_held granules c held (way_taken c)) is in
         let front = or_parts (not (words_fit granules c) || has_wrong (named c) held) (is_unshaped_outside granules c held) parts.0 in
         let fit = not-false (words_fit granules c) (or_parts (not (words_fit granules c)) (has_wrong (named c) held) front.0).0 in
         outside-steps granules c learnt held distinct
@@ -267,16 +375,16 @@ step-unready granules c place names held Ready step = absurd step
 step-unready granules c place names held (Take granule) step = refl
 step-unready granules c place names held (Free granule rd) step = refl
 
-pub next-planned : (granules : ℕ) (command : Command) (place : CpuPlace) (learnt : Option ℕ) (held : List HeldCell) → is_served (call_of command) ≡ true
+pub next-planned : (granules : ℕ) (command : Command) (place : CpuPlace) (learnt : Option ℕ) (held : List HeldCell)
     → IsTrue (are_distinct (granules_held held)) → IsPlanned granules command place learnt held (next granules (call_of command) place learnt held)
 unfolding next
-next-planned granules command place learnt held served distinct = by (is_settled granules (call_of command) place held) refl
+next-planned granules command place learnt held distinct = by (is_settled granules (call_of command) place held) refl
   where
     otherwise : Next
     otherwise = next_unsettled granules (call_of command) place learnt held
 
     by : (b : Bool) → is_settled granules (call_of command) place held ≡ b → IsPlanned granules command place learnt held (if b then Ready else otherwise)
-    by true settled = settled-ready granules command place held served settled
+    by true settled = settled-ready granules command place held settled
     by false unsettled =
         step-planned granules command place learnt held otherwise (unsettled-steps granules (call_of command) place learnt held distinct unsettled)
 

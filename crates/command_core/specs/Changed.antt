@@ -1,9 +1,10 @@
 -- What a change makes of what one CPU holds: its cells, the side table and its place. It is what the same change makes of a
 -- whole, on the cells that are held. This project's own.
-use Rattle.std.specs.Prelude.{◌≡◌, ℕ, Bool, true, false, ◌&&◌, ◌==◌, nat_lt, nat_le, IsTrue, List, [], ◌∷◌, ◌++◌, length, Option, Some, None, is_some, Result, Ok, Err}
+use Rattle.std.specs.Prelude.{◌≡◌, ℕ, ◌+◌, ◌*◌, ◌/◌, ◌^◌, ◌≤◌, Bool, true, false, ◌&&◌, ◌==◌, nat_lt, nat_le, IsTrue, List, [], ◌∷◌, ◌++◌, length, Option, Some, None, is_some, Result, Ok, Err}
 use Rattle.std.specs.List.{AllByRecursion}
 use Rattle.rmm_spec.specs.declared.accepted.Accepted.{Accepted}
 use Rattle.rmm_spec.specs.declared.accepted.Accepted.TheVariants.{Done, Reaches}
+use Rattle.rmm_spec.specs.declared.accepted.Stretch.{Stretch}
 use Rattle.rmm_spec.specs.declared.change.Change.{Change}
 use Rattle.rmm_spec.specs.declared.change.Change.TheVariants.{Unchanged, Retagged, RealmMade, RealmDestroyed, RecMade, RecDestroyed, RecordsChanged, TableMade, TableDestroyed, EntriesChanged}
 use Rattle.rmm_spec.specs.declared.change.RealmChange.{RealmChange}
@@ -18,29 +19,30 @@ use Rattle.rmm_spec.specs.declared.reply.Reply.{Reply}
 use Rattle.rmm_spec.specs.declared.reply.Reply.TheVariants as reply
 use Rattle.rmm_spec.specs.declared.tag.Tag.{Tag}
 use Rattle.rmm_spec.specs.declared.tag.Tag.TheVariants as tag
+use Rattle.rmm_spec.specs.Call.{call_of}
 use Rattle.rmm_spec.specs.Change.{new_realm, new_rec}
+use Rattle.rmm_spec.specs.Flat.{flat_state}
+use Rattle.rmm_spec.specs.Rows.{ok}
+use Rattle.rmm_spec.specs.Step.{outcome}
+use Rattle.rmm_spec.specs.Step.Ripas.{IsReached}
 use Rattle.rmm_spec.specs.State.{RecRecord}
 use Rattle.rmm_spec.specs.Lookup.{is_granule}
+use Rattle.rmm_spec.specs.declared.change.EntryChange.{EntryChange}
+use Rattle.rmm_spec.specs.declared.change.EntryChange.TheVariants.{Replaced, RipasSet}
+use Rattle.rmm_spec.specs.declared.change.TagChange.{TagChange}
 use Rattle.rmm_spec.specs.Step.Words.{is_space}
+use Rattle.rmm_spec.specs.Walk.{table_size}
+use Rattle.walk_laws.specs.TableCells.{realm_cells, rec_cells, table_cells, holds_change}
 use Rattle.rmm_spec.specs.Cell.{Cell, Delegated, Rd, Rec, RecAux, Rtt}
-use Rattle.rmm_spec.specs.Shape.{Side, CpuPlace, Outside, Inside}
-use Rattle.rmm_spec.specs.Local.{HeldCell, Hold, LocalStep}
+use Rattle.rmm_spec.specs.Shape.{Side, CpuPlace, Outside, Inside, IsWellShaped}
+use Rattle.rmm_spec.specs.Local.{HeldCell, Hold, Agrees, LocalStep}
 use Rattle.world_laws.specs.Replaced.{held_at, replaced_all}
-use Rattle.shape_laws.specs.Whole.{cell_with_tag, cell_with_realm, cell_with_rec, root_table, side_changed}
+use Rattle.shape_laws.specs.Whole.{cell_with_tag, cell_with_realm, root_table, side_changed}
 use Rattle.command_core.specs.Seen.{is_held, known_cell}
 
 -- ---- cells
 
-abbrev pub realm_cells : List HeldCell → Option RealmChange → List HeldCell
-realm_cells held None = []
-realm_cells held (Some change) = held_at change.rd (cell_with_realm change.update (known_cell held change.rd)) ∷ []
-
-abbrev pub rec_cells : List HeldCell → Option RecChange → List HeldCell
-rec_cells held None = []
-rec_cells held (Some change) = held_at change.rec (cell_with_rec change.update (known_cell held change.rec)) ∷ []
-
--- The cells that a change puts in, each in the place of the one that is held at its granule. The commands that change tables
--- come later.
+-- the cells that a change puts in, each in the place of the one that is held at its granule
 unfoldable pub new_cells : List HeldCell → Change → List HeldCell
 new_cells held Unchanged = []
 new_cells held (Retagged change) = held_at change.granule (cell_with_tag change.tag (known_cell held change.granule)) ∷ []
@@ -52,9 +54,7 @@ new_cells held (RecMade rd rec mpidr flags aux0 aux1) =
     ∷ held_at rd (cell_with_realm (RecCounted mpidr flags) (known_cell held rd)) ∷ []
 new_cells held (RecDestroyed rec aux0 aux1) = held_at rec Delegated ∷ held_at aux0 Delegated ∷ held_at aux1 Delegated ∷ []
 new_cells held (RecordsChanged realm rec) = realm_cells held realm ++ rec_cells held rec
-new_cells held (TableMade rd level number rtt entry) = []
-new_cells held (TableDestroyed rd level number rtt entry) = []
-new_cells held (EntriesChanged rd level entries page realm rec) = []
+new_cells held change = table_cells held change
 
 -- ---- the place
 
@@ -95,10 +95,14 @@ IsOnCpu cpu place rec update = Unit {0}
 
 abbrev pub RunsHere : ℕ → CpuPlace → Change → Type 0
 RunsHere cpu place (RecordsChanged realm (Some change)) = IsOnCpu cpu place change.rec change.update
-RunsHere cpu place (TableMade rd level number rtt entry) = ⊥
-RunsHere cpu place (TableDestroyed rd level number rtt entry) = ⊥
-RunsHere cpu place (EntriesChanged rd level entries page realm rec) = ⊥
 RunsHere cpu place _ = Unit {0}
+
+-- what a change of tables changes is held
+abbrev pub HoldsTables : List HeldCell → Change → Type 0
+HoldsTables held (TableMade rd level number rtt entry) = IsTrue (holds_change held (TableMade rd level number rtt entry))
+HoldsTables held (TableDestroyed rd level number rtt entry) = IsTrue (holds_change held (TableDestroyed rd level number rtt entry))
+HoldsTables held (EntriesChanged rd level entries page realm rec) = IsTrue (holds_change held (EntriesChanged rd level entries page realm rec))
+HoldsTables held _ = Unit {0}
 
 -- each cell that is put in has its place
 abbrev pub AreAllHeld : List HeldCell → List HeldCell → Type 0
@@ -110,6 +114,7 @@ AreHeld held change = AreAllHeld held (new_cells held change)
 -- and the REC that is entered or left is this CPU's
 pub record CanChange (cpu : ℕ) (hold : Hold) (change : Change) : Type 0 where
   pub held : AreHeld hold.cells change
+  pub tables : HoldsTables hold.cells change
   pub here : RunsHere cpu hold.place change
 
 -- what is answered is a refusal, or a change that can be made of what is held
@@ -161,15 +166,27 @@ abbrev pub fits_rec_change : List HeldCell → Option RecChange → Bool
 fits_rec_change held None = true
 fits_rec_change held (Some change) = fits_rec change.update (known_cell held change.rec)
 
+abbrev pub fits_page : Option TagChange → Bool
+fits_page None = true
+fits_page (Some change) = is_plain change.tag
+
+-- the entries of a stretch are those of one table
+abbrev pub fits_entries : EntryChange → Bool
+fits_entries (Replaced number entry) = true
+fits_entries (RipasSet first last ripas) = nat_lt first last && nat_le last ((first / 512 + 1) * 512)
+
 -- the records are what the change updates
 abbrev pub fits_cells : List HeldCell → Change → Bool
 fits_cells held (Retagged change) = is_plain change.tag
 fits_cells held (RealmMade rd root width level vmid algo) = is_space width level && algo == 0
 fits_cells held (RecMade rd rec mpidr flags aux0 aux1) = counts_in mpidr (known_cell held rd)
 fits_cells held (RecordsChanged realm rec) = fits_realm_change held realm && fits_rec_change held rec
-fits_cells held (TableMade rd level number rtt entry) = false
-fits_cells held (TableDestroyed rd level number rtt entry) = false
-fits_cells held (EntriesChanged rd level entries page realm rec) = false
+fits_cells held (TableMade rd level number rtt entry) =
+    holds_change held (TableMade rd level number rtt entry) && nat_lt (number * table_size level) (2 ^ 64)
+fits_cells held (TableDestroyed rd level number rtt entry) = holds_change held (TableDestroyed rd level number rtt entry)
+fits_cells held (EntriesChanged rd level entries page realm rec) =
+    holds_change held (EntriesChanged rd level entries page realm rec) && fits_page page && fits_entries entries
+    && fits_realm_change held realm && fits_rec_change held rec
 fits_cells held _ = true
 
 -- a REC that is made is counted at a granule's address, and no realm has more RECs than there are granules
@@ -197,10 +214,23 @@ Answers granules cpu command hold (Err refusal) = Decides granules cpu command h
 Answers granules cpu command hold (Ok (Done words change)) = Decides granules cpu command hold (reply.Ok words) change
 Answers granules cpu command hold (Ok (Reaches stretch)) = ⊥
 
--- what is answered can be made, and is a local step
+-- of a stretch, no end is allowed that is above the one in the reply
+pub record IsFurthest (granules cpu : ℕ) (command : Command) (hold : Hold) (given : Reply) : Type 0 where
+  pub right : (cells : ℕ → Cell) (places : ℕ → CpuPlace) (stretch : Stretch) (top : ℕ)
+      → IsWellShaped granules hold.side places cells → Agrees cells hold.cells → places cpu ≡ hold.place
+      → outcome (flat_state granules cells) cpu (call_of command) ≡ Ok (Reaches stretch) → IsReached (flat_state granules cells) stretch top
+      → (chosen : ℕ) × (given ≡ ok (chosen ∷ [])) × (top ≤ chosen)
+
+abbrev pub given_of : Result Accepted Reply → Reply
+given_of (Err refusal) = refusal
+given_of (Ok (Done words change)) = reply.Ok words
+given_of (Ok (Reaches stretch)) = reply.Misplaced
+
+-- what is answered can be made, and is a local step, as far as it may go
 pub record IsAnswer (granules cpu : ℕ) (command : Command) (hold : Hold) (answer : Result Accepted Reply) : Type 0 where
   pub can : CanAnswer cpu hold answer
   pub is_local : Answers granules cpu command hold answer
+  pub is_furthest : IsFurthest granules cpu command hold (given_of answer)
 
 -- where it is no refusal, its change can be made of the records
 abbrev pub CanMakeAnswer : Hold → Result Accepted Reply → Type 0

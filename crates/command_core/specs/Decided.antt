@@ -1,33 +1,42 @@
--- What is answered to a served command from what is held, where that settles it: what its rows answer in the state that the held
+-- What is answered to a command from what is held, where that settles it: what its rows answer in the state that the held
 -- cells tell of, with the side table's word on VMIDs and RECs. Cells that no shape has are answered as misplaced, and so is a
 -- change that can't be made of what is held: no whole agrees with either. This project's own.
-use Rattle.std.specs.Prelude.{ℕ, if◌then◌else◌, List, Result, Ok, Err}
+use Rattle.std.specs.Prelude.{ℕ, if◌then◌else◌, List, [], ◌∷◌, Option, Some, Result, Ok, Err}
 use Rattle.rmm_spec.specs.declared.accepted.Accepted.{Accepted}
 use Rattle.rmm_spec.specs.declared.accepted.Accepted.TheVariants.{Done, Reaches}
 use Rattle.rmm_spec.specs.declared.call.Call.{Call}
+use Rattle.rmm_spec.specs.declared.change.Change.{Change}
 use Rattle.rmm_spec.specs.declared.reply.Reply.{Reply}
 use Rattle.rmm_spec.specs.declared.reply.Reply.TheVariants.{Misplaced}
+use Rattle.rmm_spec.specs.Rows.{done}
+use Rattle.rmm_spec.specs.Step.Ripas.{reached_change}
 use Rattle.rmm_spec.specs.Shape.{Side, CpuPlace, Outside, Inside}
 use Rattle.rmm_spec.specs.Local.{HeldCell}
 use Rattle.command_rows.specs.Answers.{outside_answer, inside_answer}
 use Rattle.command_core.specs.Changed.{can_make}
-use Rattle.command_core.specs.SeenState.{seen_state}
-use Rattle.command_core.specs.Sides.{is_vmid_listed, are_recs_counted}
+use Rattle.walk_laws.specs.SeenState.{seen_state}
+use Rattle.command_core.specs.Furthest.{furthest}
+use Rattle.command_core.specs.Sides.{are_vmids_told, are_recs_told}
 use Rattle.command_core.specs.Unshaped.{is_unshaped}
 
-abbrev pub rows_answer : ℕ → ℕ → Call → List HeldCell → Side → CpuPlace → Result Accepted Reply
+abbrev pub rows_answer : ℕ → ℕ → Call → List HeldCell → Option Side → CpuPlace → Result Accepted Reply
 rows_answer granules cpu call held side Outside =
-    outside_answer (is_vmid_listed side) (are_recs_counted side) (seen_state granules held) cpu call
+    outside_answer (are_vmids_told side) (are_recs_told side) (seen_state granules held) cpu call
 rows_answer granules cpu call held side (Inside rec rd) = inside_answer (seen_state granules held) rec call
 
--- the answer, where its change can be made
+-- the words and their change, where it can be made
+abbrev pub made_change : ℕ → List HeldCell → Side → Accepted → Change → Result Accepted Reply
+made_change granules held side accepted change = if can_make granules held side change then Ok accepted else Err Misplaced
+
+-- A stretch is set as far as its rows allow.
 abbrev pub made_answer : ℕ → List HeldCell → Side → Result Accepted Reply → Result Accepted Reply
-made_answer granules held side (Ok (Done words change)) =
-    if can_make granules held side change then Ok (Done words change) else Err Misplaced
-made_answer granules held side (Ok (Reaches stretch)) = Err Misplaced
+made_answer granules held side (Ok (Done words change)) = made_change granules held side (Done words change) change
+made_answer granules held side (Ok (Reaches stretch)) =
+    let top = furthest (seen_state granules held) stretch in
+    made_change granules held side (done (top ∷ []) (reached_change stretch top)) (reached_change stretch top)
 made_answer granules held side (Err refusal) = Err refusal
 
 unfoldable pub settled_answer : ℕ → ℕ → Call → List HeldCell → Side → CpuPlace → Result Accepted Reply
 settled_answer granules cpu call held side place =
     if is_unshaped granules call place held then Err Misplaced
-    else made_answer granules held side (rows_answer granules cpu call held side place)
+    else made_answer granules held side (rows_answer granules cpu call held (Some side) place)

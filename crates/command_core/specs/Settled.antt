@@ -1,7 +1,7 @@
 -- Where what a CPU holds settles its command, so that it takes no further lock: its words or a tag refuse it, or all that its
 -- rows read is held. Which granules a command names is told by the definitions; parts of them are looked at one after the
 -- other. Cells that no shape has settle it too, as misplaced. This project's own.
-use Rattle.std.specs.Prelude.{ℕ, Bool, true, false, not, ◌&&◌, ◌||◌, List, Option, Some, is_some}
+use Rattle.std.specs.Prelude.{ℕ, Bool, true, false, not, ◌&&◌, ◌||◌, List, Option, Some, None, is_some, is_none}
 use Rattle.rmm_spec.specs.declared.call.Call.{Call}
 use Rattle.rmm_spec.specs.declared.call.Call.TheVariants.{RealmDestroy, RecDestroy, RecEnter}
 use Rattle.rmm_spec.specs.Call.{Class, ByHost, ByRealm, ByExit, class_of}
@@ -9,7 +9,9 @@ use Rattle.rmm_spec.specs.Step.Named.{named}
 use Rattle.rmm_spec.specs.Cell.{Cell, Rd, Rec}
 use Rattle.rmm_spec.specs.Shape.{CpuPlace, Outside, Inside}
 use Rattle.rmm_spec.specs.Local.{HeldCell}
+use Rattle.walk_laws.specs.Walking.{Way, is_walk_held}
 use Rattle.command_core.specs.Seen.{cell_in, is_held}
+use Rattle.command_core.specs.Walks.{spare, is_walk_over, way_taken, way_inside}
 use Rattle.command_core.specs.Named.{has_wrong, words_fit, holds_all}
 use Rattle.command_core.specs.Unshaped.{is_misfit, is_unshaped_outside}
 
@@ -34,26 +36,39 @@ is_owner_held _ held = false
 
 -- ---- commands
 
--- whether all is held that the rows behind a command's words and tags read
+-- whether all is held that the rows behind a command's words and tags read, where it walks no table
 unfoldable pub is_complete : Call → List HeldCell → Bool
 is_complete (RealmDestroy rd) held = is_root_held (cell_in rd held) held
 is_complete (RecDestroy rec) held = are_auxes_held (cell_in rec held) held
 is_complete (RecEnter rec) held = is_owner_held (cell_in rec held) held
 is_complete call held = holds_all (named call) held
 
+-- and where it walks one
+abbrev pub is_all_held : ℕ → Call → List HeldCell → Option Way → Bool
+is_all_held granules call held None = is_complete call held
+is_all_held granules call held (Some way) = is_walk_over granules call held way
+
 -- a host's command is given outside of RECs
 abbrev pub is_settled_outside : Class → ℕ → Call → List HeldCell → Bool
 is_settled_outside ByHost granules call held =
-    not (words_fit granules call) || has_wrong (named call) held || is_unshaped_outside granules call held || is_complete call held
+    not (words_fit granules call) || has_wrong (named call) held || is_unshaped_outside granules call held
+    || is_all_held granules call held (way_taken call)
 is_settled_outside ByRealm granules call held = true
 is_settled_outside ByExit granules call held = true
 
--- a realm's call reads the REC and its realm, and an exit the REC alone
-abbrev pub is_settled_inside : Class → ℕ → ℕ → ℕ → List HeldCell → Bool
-is_settled_inside ByHost granules rec rd held = true
-is_settled_inside ByRealm granules rec rd held = is_misfit granules rec rd held || (is_held rec held && is_held rd held)
-is_settled_inside ByExit granules rec rd held = is_misfit granules rec rd held || is_held rec held
+-- whether the walk of a realm's call has come to its end, and nothing is held that the plan frees
+abbrev pub is_read_over : ℕ → List HeldCell → Option Way → Bool
+is_read_over granules held None = true
+is_read_over granules held (Some way) = is_walk_held granules held way && is_none (spare granules true held way)
+
+-- a realm's call reads the REC and its realm, and may walk; an exit reads the REC alone
+abbrev pub is_settled_inside : Class → ℕ → Call → ℕ → ℕ → List HeldCell → Bool
+is_settled_inside ByHost granules call rec rd held = true
+is_settled_inside ByRealm granules call rec rd held =
+    is_misfit granules call rec rd held
+    || (is_held rec held && is_held rd held && is_read_over granules held (way_inside call rec rd held))
+is_settled_inside ByExit granules call rec rd held = is_misfit granules call rec rd held || is_held rec held
 
 unfoldable pub is_settled : ℕ → Call → CpuPlace → List HeldCell → Bool
 is_settled granules call Outside held = is_settled_outside (class_of call) granules call held
-is_settled granules call (Inside rec rd) held = is_settled_inside (class_of call) granules rec rd held
+is_settled granules call (Inside rec rd) held = is_settled_inside (class_of call) granules call rec rd held

@@ -2,8 +2,8 @@
 
 use rtt_table::Table;
 
-/// What a change puts in that takes memory: the root of a realm that is made.
+/// What a change puts in that takes memory: the root of a realm that is made, or a table.
 #[derive(Drop)]
 pub struct Room {
-    pub(crate) root: Option<Table>,
+    pub(crate) table: Option<Table>,
 }

@@ -1,11 +1,10 @@
 //! What is answered to a command where what is held settles it.
 
-ghost use Rattle.std.specs.Prelude.{◌≡◌, false, IsTrue};
+ghost use Rattle.std.specs.Prelude.{◌≡◌, false, IsTrue, option_map, option_copied};
 ghost use Rattle.rmm_spec.specs.Call.{call_of};
-ghost use Rattle.command_core.specs.Changed.{hold_of, CanChange, CanMake, CanMakeAnswer, Decides};
+ghost use Rattle.command_core.specs.Changed.{hold_of, CanChange, CanMake, CanMakeAnswer, Decides, IsFurthest};
 ghost use Rattle.command_core.specs.Decided as spec;
 ghost use Rattle.command_core.specs.Seen.{place_of};
-ghost use Rattle.command_core.specs.Served.{is_served};
 ghost use Rattle.command_core.specs.Settled.{is_settled};
 ghost use Rattle.command_core.specs.Sides.{side_of};
 ghost use Rattle.command_core.specs.Unshaped.{is_unshaped};
@@ -14,13 +13,14 @@ use crate::held::Held;
 use crate::held_sight::HeldSight;
 use crate::making::can_make;
 use crate::unshaped::is_unshaped;
-use command_rows::{answer_inside, answer_outside};
+use arrayvec::ArrayVec;
+use command_rows::{answer_inside, answer_outside, reached_change};
 use granule_cells::{CpuPlace, Side};
 use granule_state::Config;
 use rmm_spec::{Accepted, Call, Change, Command, Reply};
 
-/// The reply and the change of a served command that what is held settles. Together they are a step of the machine, whatever
-/// the cells are that aren't held; a refusal changes nothing. The change is made by `apply`, with the room that `room` takes.
+/// The reply and the change of a command that what is held settles. Together they are a step of the machine, whatever
+/// the cells are that aren't held; a refusal changes nothing, and a stretch is set as far as it may be. The change is made by `apply`, with the room that `room` takes.
 pub fn decide<H: Held>(
     config: &Config,
     command: &Command,
@@ -29,10 +29,11 @@ pub fn decide<H: Held>(
     held: &H,
     side: &Side,
 ) -> (Reply, Change)
-    requires served { IsTrue (is_served (call_of command.now)) }
     requires settled { IsTrue (is_settled config.now.granules (call_of command.now) (place_of place.now) (H.cells held.now)) }
     ensures decides { Decides config.now.granules cpu command.now
         (hold_of (H.cells held.now) (side_of side.now) (place_of place.now)) result.0 result.1 }
+    ensures furthest { IsFurthest config.now.granules cpu command.now
+        (hold_of (H.cells held.now) (side_of side.now) (place_of place.now)) result.0 }
     ensures can { CanChange cpu (hold_of (H.cells held.now) (side_of side.now) (place_of place.now)) result.1 }
     ensures makes { CanMake (hold_of (H.cells held.now) (side_of side.now) (place_of place.now)) result.1 }
     ensures misplaced { IsTrue (is_unshaped config.now.granules (call_of command.now) (place_of place.now) (H.cells held.now))
@@ -47,65 +48,70 @@ pub fn decide<H: Held>(
 
 // The answer of what is settled.
 #[tactic(auto, unfolding(crate::specs::Decided::settled_answer))]
-fn settled_answer<H: Held>(
-    config: &Config,
+fn settled_answer<'a, H: Held>(
+    config: &'a Config,
     call: &Call,
     cpu: u8,
     place: &CpuPlace,
-    held: &H,
-    side: &Side,
+    held: &'a H,
+    side: &'a Side,
 ) -> Result<Accepted, Reply>
     requires { IsTrue (is_settled config.now.granules call.now (place_of place.now) (H.cells held.now)) }
     ensures answer { result ≡ spec.settled_answer config.now.granules cpu call.now (H.cells held.now) (side_of side.now) (place_of place.now) }
     ensures makes { CanMakeAnswer (hold_of (H.cells held.now) (side_of side.now) (place_of place.now)) result }
 {
-    if is_unshaped(config, call, place, held) {
+    let sight = HeldSight {
+        config,
+        held,
+        side: Some(side),
+    };
+    if is_unshaped(&sight, call, place) {
         return Err(Reply::Misplaced);
     }
-    let answer = rows_answer(config, call, cpu, place, held, side);
-    made_answer(config, config.granules(), held, side, answer)
+    let answer = rows_answer(&sight, call, cpu, place);
+    made_answer(&sight, config.granules(), side, answer)
 }
 
 // What the command's rows answer in the state that the held cells tell of.
 fn rows_answer<H: Held>(
-    config: &Config,
+    sight: &HeldSight<'_, H>,
     call: &Call,
     cpu: u8,
     place: &CpuPlace,
-    held: &H,
-    side: &Side,
 ) -> Result<Accepted, Reply>
-    requires settled { IsTrue (is_settled config.now.granules call.now (place_of place.now) (H.cells held.now)) }
-    requires shaped { is_unshaped config.now.granules call.now (place_of place.now) (H.cells held.now) ≡ false }
-    ensures { result ≡ spec.rows_answer config.now.granules cpu call.now (H.cells held.now) (side_of side.now) (place_of place.now) }
+    requires settled { IsTrue (is_settled sight.now.config.now.granules call.now (place_of place.now) (H.cells sight.now.held.now)) }
+    requires shaped { is_unshaped sight.now.config.now.granules call.now (place_of place.now) (H.cells sight.now.held.now) ≡ false }
+    ensures { result ≡ spec.rows_answer sight.now.config.now.granules cpu call.now (H.cells sight.now.held.now) (option_map side_of (option_copied sight.now.side)) (place_of place.now) }
 {
-    let sight = HeldSight { config, held, side };
     match *place {
-        CpuPlace::Outside => answer_outside(&sight, cpu, call),
-        CpuPlace::Inside { rec, .. } => answer_inside(&sight, rec.address(), call),
+        CpuPlace::Outside => answer_outside(sight, cpu, call),
+        CpuPlace::Inside { rec, .. } => answer_inside(sight, rec.address(), call),
     }
 }
 
-// The answer, where its change can be made of what is held.
+// The answer, where its change can be made of what is held. A stretch is set as far as its rows allow.
 fn made_answer<H: Held>(
-    config: &Config,
+    sight: &HeldSight<'_, H>,
     granules: u64,
-    held: &H,
     side: &Side,
     answer: Result<Accepted, Reply>,
 ) -> Result<Accepted, Reply>
-    requires { granules ≡ config.now.granules }
-    ensures { result ≡ spec.made_answer config.now.granules (H.cells held.now) (side_of side.now) answer }
+    requires { granules ≡ sight.now.config.now.granules }
+    ensures { result ≡ spec.made_answer sight.now.config.now.granules (H.cells sight.now.held.now) (side_of side.now) answer }
 {
-    match answer {
-        Ok(Accepted::Done { words, change }) => {
-            if can_make(config, granules, held, side, &change) {
-                Ok(Accepted::Done { words, change })
-            } else {
-                Err(Reply::Misplaced)
-            }
+    let (words, change) = match answer {
+        Ok(Accepted::Done { words, change }) => (words, change),
+        Ok(Accepted::Reaches(stretch)) => {
+            let top = sight.furthest(&stretch);
+            let mut words = ArrayVec::new();
+            words.push(top);
+            (words, reached_change(&stretch, top))
         }
-        Ok(Accepted::Reaches(_)) => Err(Reply::Misplaced),
-        Err(refusal) => Err(refusal),
+        Err(refusal) => return Err(refusal),
+    };
+    if can_make(sight.config, granules, sight.held, side, &change) {
+        Ok(Accepted::Done { words, change })
+    } else {
+        Err(Reply::Misplaced)
     }
 }

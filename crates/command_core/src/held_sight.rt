@@ -3,7 +3,7 @@
 ghost use Rattle.std.specs.Prelude.{◌≡◌};
 
 use crate::held::Held;
-use crate::seen_cells::{realm_in, rec_in, tag_in};
+use crate::held_tables::start_of;
 use crate::taking::is_granule;
 use command_rows::Sight;
 use command_words::is_tag;
@@ -13,54 +13,94 @@ use realm_desc::{Realm, Rec};
 use rmm_spec::{Tag, Walked};
 use table_entries::{entry_number, table_number};
 
-/// Held cells with the side table, on a machine of some size. It stands for the one state that the cells tell of.
+/// Held cells with the side table, on a machine of some size. It stands for the one state that the cells tell of. Who plans what to
+/// take has no side table.
 #[derive(Drop)]
 pub(crate) struct HeldSight<'a, H: Held> {
     pub(crate) config: &'a Config,
     pub(crate) held: &'a H,
-    pub(crate) side: &'a Side,
+    pub(crate) side: Option<&'a Side>,
 }
 
 impl<'a, H: Held> HeldSight<'a, H> {
-    ghost use Rattle.std.specs.Prelude.{◌≡◌, option_map, option_copied, unwrap_or};
+    ghost use Rattle.std.specs.Prelude.{◌≡◌};
     ghost use Rattle.rmm_spec.specs.Cell as whole;
-    ghost use Rattle.command_core.specs.Seen.{cell_of};
-    ghost use Rattle.command_core.specs.SeenState.{cell_seen};
+    ghost use Rattle.walk_laws.specs.Held.{cell_in};
+    ghost use Rattle.walk_laws.specs.SeenState as spec;
 
-    // The cell at an address, where it is held.
-    fn cell(&self, address: u64) -> Option<&Cell>
-        ensures { unwrap_or (option_map cell_of (option_copied result)) whole.Undelegated
-            ≡ cell_seen self.now.config.now.granules (H.cells self.now.held.now) address }
+    // The state of a granule. That of a realm whose table is held is known.
+    fn tag(&self, granule: u64) -> Tag
+        ensures { result ≡ whole.tag_of (spec.cell_or (cell_in granule (H.cells self.now.held.now)) (spec.realm_behind (H.cells self.now.held.now) granule)) }
     {
-        if is_granule(self.config, address) {
-            self.held.cell(Pa::new(address))
-        } else {
-            None
+        match self.held.cell(Pa::new(granule)) {
+            Some(cell) => cell.tag(),
+            None if self.width(granule).is_some() => Tag::Rd,
+            None => Tag::Undelegated,
+        }
+    }
+
+    // The realm of which a table is held, with its address space alone.
+    fn realm_behind(&self, rd: u64) -> Option<Realm>
+        ensures { result ≡ spec.realm_behind (H.cells self.now.held.now) rd }
+    {
+        match self.width(rd) {
+            Some(width) => Some(Realm::from_words(0, width, start_of(width), 0, 0)),
+            None => None,
+        }
+    }
+
+    // The realm in a granule.
+    fn realm_in(&self, granule: u64) -> Option<Realm>
+        ensures { result ≡ whole.realm_in (spec.cell_or (cell_in granule (H.cells self.now.held.now)) (spec.realm_behind (H.cells self.now.held.now) granule)) }
+    {
+        match self.held.cell(Pa::new(granule)) {
+            Some(Cell::Rd(realm)) => Some(*realm),
+            Some(_) => None,
+            None => self.realm_behind(granule),
+        }
+    }
+
+    // The REC in a granule.
+    fn rec_in(&self, granule: u64) -> Option<Rec>
+        ensures { result ≡ whole.rec_in (spec.cell_or (cell_in granule (H.cells self.now.held.now)) (spec.realm_behind (H.cells self.now.held.now) granule)) }
+    {
+        match self.held.cell(Pa::new(granule)) {
+            Some(Cell::Rec(rec)) => Some(*rec),
+            _ => None,
         }
     }
 }
 
-#[tactic(auto, unfolding(crate::specs::SeenState::seen_state, rmm_spec::specs::Lookup::has_tag))]
+#[tactic(auto, unfolding(walk_laws::specs::SeenState::seen_state, rmm_spec::specs::Lookup::has_tag))]
 impl<'a, H: Held> Sight for HeldSight<'a, H> {
-    ghost use Rattle.command_core.specs.SeenState.{seen_state};
-    ghost use Rattle.command_core.specs.Sides.{side_of, is_vmid_listed, are_recs_counted};
+    ghost use Rattle.walk_laws.specs.SeenState.{seen_state};
+    ghost use Rattle.std.specs.Prelude.{option_map, option_copied};
+    ghost use Rattle.command_core.specs.Sides.{side_of, are_vmids_told, are_recs_told};
 
     ghost state = { λ s. seen_state s.config.now.granules (H.cells s.held.now) };
 
-    ghost uses_vmid = { λ s. is_vmid_listed (side_of s.side.now) };
+    ghost uses_vmid = { λ s. are_vmids_told (option_map side_of (option_copied s.side)) };
 
-    ghost has_recs = { λ s. are_recs_counted (side_of s.side.now) };
+    ghost has_recs = { λ s. are_recs_told (option_map side_of (option_copied s.side)) };
 
     fn has_tag(&self, address: u64, tag: Tag) -> bool {
-        is_granule(self.config, address) && is_tag(tag_in(self.cell(address)), tag)
+        is_granule(self.config, address) && is_tag(self.tag(address), tag)
     }
 
     fn realm(&self, rd: u64) -> Option<Realm> {
-        realm_in(self.cell(rd))
+        if is_granule(self.config, rd) {
+            self.realm_in(rd)
+        } else {
+            None
+        }
     }
 
     fn rec(&self, address: u64) -> Option<Rec> {
-        rec_in(self.cell(address))
+        if is_granule(self.config, address) {
+            self.rec_in(address)
+        } else {
+            None
+        }
     }
 
     fn walk(&self, rd: u64, ipa: u64, max: u8) -> Walked {
@@ -83,10 +123,16 @@ impl<'a, H: Held> Sight for HeldSight<'a, H> {
     }
 
     fn has_rec(&self, rd: u64) -> bool {
-        self.side.rec_count(Pa::new(rd)) != 0
+        match self.side {
+            Some(side) => side.rec_count(Pa::new(rd)) != 0,
+            None => false,
+        }
     }
 
     fn is_vmid_used(&self, vmid: u8) -> bool {
-        self.side.realm_with(vmid).is_some()
+        match self.side {
+            Some(side) => side.realm_with(vmid).is_some(),
+            None => false,
+        }
     }
 }

@@ -1,15 +1,19 @@
 //! What the tables that are held tell of walks and entries.
 
-ghost use Rattle.std.specs.Prelude.{◌≡◌};
+ghost use Rattle.std.specs.Prelude.{◌≡◌, if◌then◌else◌, Some, None, is_some, option_map, option_copied, IfSome, IsTrue};
+ghost use Rattle.rmm_spec.specs.Flat.{is_table_of};
+ghost use Rattle.rmm_spec.specs.Step.Words.{is_space};
 ghost use Rattle.rmm_spec.specs.Table.{place_number};
 ghost use Rattle.rmm_spec.specs.Update.{is_same_entry};
-ghost use Rattle.command_core.specs.SeenState as spec;
+ghost use Rattle.shape_laws.specs.Whole as whole_spec;
+ghost use Rattle.walk_laws.specs.SeenState as spec;
 
 use crate::held::Held;
 use crate::held_sight::HeldSight;
+use command_words::is_space;
 use granule_cells::Cell;
 use granule_state::Pa;
-use rmm_spec::{Entry, Place};
+use rmm_spec::{Entry, EntryChange, Place};
 use rtt_table::Table;
 use table_entries::{is_live, is_table, linked, table_number};
 
@@ -35,63 +39,137 @@ fn link_of(entry: Entry) -> Option<u64>
     }
 }
 
+/// The granule that was found, or else this one, where it passes.
+pub(crate) fn found_or(found: Option<u64>, granule: Pa, passes: bool) -> Option<u64>
+    ensures { result ≡ (if is_some found then found else (if passes then Some granule else None)) }
+{
+    if found.is_some() {
+        return found;
+    }
+    if passes {
+        Some(granule.address())
+    } else {
+        None
+    }
+}
+
+/// The level from which an address space of that width is walked.
+pub(crate) fn start_of(width: u8) -> u8
+    ensures { result ≡ spec.start_of width }
+{
+    if width == 0x27 { 1 } else { 0 }
+}
+
+// The width, where realms have one of it.
+fn known_width(width: u8) -> Option<u8>
+    ensures known { option_map spec.blank_realm result ≡ spec.realm_of_width width }
+    ensures space { IfSome result (λ w. IsTrue (is_space w (spec.start_of w))) }
+{
+    if is_space(u64::from(width), u64::from(start_of(width))) {
+        Some(width)
+    } else {
+        None
+    }
+}
+
+/// The number of the table whose entries are changed.
+pub(crate) fn table_changed(change: EntryChange) -> u64
+    ensures { result ≡ whole_spec.table_changed change }
+{
+    match change {
+        EntryChange::Replaced { number, .. } => number / 512,
+        EntryChange::RipasSet { first, .. } => first / 512,
+    }
+}
+
+/// The table that is held in a granule.
+pub(crate) fn table_in<H: Held>(held: &H, granule: Pa) -> Option<&Table>
+    ensures { option_copied result ≡ spec.table_held (H.cells held.now) granule }
+{
+    match held.cell(granule) {
+        Some(Cell::Rtt(table)) => Some(table),
+        _ => None,
+    }
+}
+
+// Whether the table of that place is held in a granule.
+fn is_placed<H: Held>(held: &H, granule: Pa, rd: u64, level: u8, number: u64) -> bool
+    ensures { result ≡ is_table_of rd level number (spec.table_held (H.cells held.now) granule) }
+{
+    match table_in(held, granule) {
+        Some(table) => is_at(&table.place(), rd, level, number),
+        None => false,
+    }
+}
+
+/// The granule of the first held table of that place.
+#[tactic(auto, unfolding(walk_laws::specs::SeenState::table_placed))]
+pub(crate) fn placed<H: Held>(held: &H, rd: u64, level: u8, number: u64) -> Option<u64>
+    ensures { result ≡ spec.table_placed (H.cells held.now) rd level number }
+{
+    held.held().iter().fold(
+        None,
+        |found, granule| found_or(
+            found,
+            *granule,
+            is_placed(held, *granule, rd, level, number),
+        ),
+    )
+}
+
 impl<'a, H: Held> HeldSight<'a, H> {
-    ghost use Rattle.std.specs.Prelude.{◌≡◌, ◌<◌, ◌≤◌, ◌^◌, ◌+◌, nat_lt, None, if◌then◌else◌, option_copied};
+    ghost use Rattle.std.specs.Prelude.{◌≡◌, ◌<◌, ◌≤◌, ◌^◌, ◌+◌, nat_lt, None, if◌then◌else◌, option_copied, option_map, IfSome, IsTrue};
+    ghost use Rattle.rmm_spec.specs.Step.Words.{is_space};
+    ghost use Rattle.std.specs.Option.{option_and_then};
+    ghost use Rattle.rmm_spec.specs.Table.{TableRecord};
     ghost use Rattle.rmm_spec.specs.Flat.{is_table_of};
     ghost use Rattle.rmm_spec.specs.Walk as walks;
-    ghost use Rattle.command_core.specs.SeenState as spec;
-    ghost use Rattle.command_core.specs.SeenState.{seen_state};
+    ghost use Rattle.walk_laws.specs.SeenState as spec;
+    ghost use Rattle.walk_laws.specs.SeenState.{seen_state};
 
-    // The table that is held in a granule.
-    fn table_in(&self, granule: Pa) -> Option<&Table>
-        ensures { option_copied result ≡ spec.table_held (H.cells self.now.held.now) granule }
+    // Whether a table of the realm is held in a granule.
+    fn is_of_realm(&self, granule: Pa, rd: u64) -> bool
+        ensures { result ≡ spec.is_of_realm rd (spec.table_held (H.cells self.now.held.now) granule) }
     {
-        match self.held.cell(granule) {
-            Some(Cell::Rtt(table)) => Some(table),
-            _ => None,
-        }
-    }
-
-    // Whether the table of that place is held in a granule.
-    fn is_placed(&self, granule: Pa, rd: u64, level: u8, number: u64) -> bool
-        ensures { result ≡ is_table_of rd level number (spec.table_held (H.cells self.now.held.now) granule) }
-    {
-        match self.table_in(granule) {
-            Some(table) => is_at(&table.place(), rd, level, number),
+        match table_in(self.held, granule) {
+            Some(table) => table.place().rd == rd,
             None => false,
         }
     }
 
-    // The granule that was found, or else this one, where it has the table.
-    fn found_or(
-        &self,
-        found: Option<u64>,
-        granule: Pa,
-        rd: u64,
-        level: u8,
-        number: u64,
-    ) -> Option<u64>
-        ensures { result ≡ spec.found_or (λ g. is_table_of rd level number (spec.table_held (H.cells self.now.held.now) g)) found granule }
-    {
-        if found.is_some() {
-            return found;
-        }
-        if self.is_placed(granule, rd, level, number) {
-            Some(granule.address())
-        } else {
-            None
-        }
-    }
-
-    // The granule of the first held table of that place.
-    #[tactic(auto, unfolding(crate::specs::SeenState::table_placed))]
-    fn placed(&self, rd: u64, level: u8, number: u64) -> Option<u64>
-        ensures { result ≡ spec.table_placed (H.cells self.now.held.now) rd level number }
+    /// The granule of the first held table of the realm.
+    #[tactic(auto, unfolding(walk_laws::specs::SeenState::table_behind))]
+    pub(crate) fn behind(&self, rd: u64) -> Option<u64>
+        ensures { result ≡ spec.table_behind (H.cells self.now.held.now) rd }
     {
         self.held.held().iter().fold(
             None,
-            |found, granule| self.found_or(found, *granule, rd, level, number),
+            |found, granule| found_or(found, *granule, self.is_of_realm(*granule, rd)),
         )
+    }
+
+    // The width of the table that is held in a granule.
+    fn width_in(&self, granule: u64) -> Option<u8>
+        ensures known { option_map spec.blank_realm result
+            ≡ option_and_then (λ (t : TableRecord). spec.realm_of_width t.place.width) (spec.table_held (H.cells self.now.held.now) granule) }
+        ensures space { IfSome result (λ w. IsTrue (is_space w (spec.start_of w))) }
+    {
+        match table_in(self.held, Pa::new(granule)) {
+            Some(table) => known_width(table.place().width),
+            None => None,
+        }
+    }
+
+    /// The width of a realm's address space, where a held table of it tells that.
+    #[tactic(auto, unfolding(walk_laws::specs::SeenState::realm_behind))]
+    pub(crate) fn width(&self, rd: u64) -> Option<u8>
+        ensures known { option_map spec.blank_realm result ≡ spec.realm_behind (H.cells self.now.held.now) rd }
+        ensures space { IfSome result (λ w. IsTrue (is_space w (spec.start_of w))) }
+    {
+        match self.behind(rd) {
+            Some(granule) => self.width_in(granule),
+            None => None,
+        }
     }
 
     // The entry at a place of the table that is held in a granule.
@@ -99,39 +177,39 @@ impl<'a, H: Held> HeldSight<'a, H> {
         requires { place < 512 }
         ensures { result ≡ spec.entry_in place (spec.table_held (H.cells self.now.held.now) granule) }
     {
-        match self.table_in(granule) {
+        match table_in(self.held, granule) {
             Some(table) => Some(table.entry(place)),
             None => None,
         }
     }
 
     // The entry of that number, where its table is held.
-    #[tactic(auto, unfolding(crate::specs::SeenState::entry_held))]
+    #[tactic(auto, unfolding(walk_laws::specs::SeenState::entry_held))]
     fn entry_held(&self, rd: u64, level: u8, number: u64) -> Option<Entry>
         ensures { result ≡ spec.entry_held (H.cells self.now.held.now) rd level number }
     {
-        match self.placed(rd, level, number / ENTRIES) {
+        match placed(self.held, rd, level, number / ENTRIES) {
             Some(granule) => self.entry_in(Pa::new(granule), (number % ENTRIES) as usize),
             None => None,
         }
     }
 
     // The granule of the table of that place: what the entry above links to, or where that isn't held, that of a held one.
-    #[tactic(auto, unfolding(crate::specs::SeenState::table_seen))]
+    #[tactic(auto, unfolding(walk_laws::specs::SeenState::table_seen))]
     pub(crate) fn table(&self, rd: u64, level: u8, number: u64) -> Option<u64>
         ensures { result ≡ spec.table_seen (H.cells self.now.held.now) rd level number }
     {
         if level == 0 {
-            return self.placed(rd, level, number);
+            return placed(self.held, rd, level, number);
         }
         match self.entry_held(rd, level - 1, number) {
             Some(entry) => link_of(entry),
-            None => self.placed(rd, level, number),
+            None => placed(self.held, rd, level, number),
         }
     }
 
     // The leaf of that number, where its table is held.
-    #[tactic(auto, unfolding(crate::specs::SeenState::leaf_seen))]
+    #[tactic(auto, unfolding(walk_laws::specs::SeenState::leaf_seen))]
     fn leaf(&self, rd: u64, level: u8, number: u64) -> Option<Entry>
         ensures { result ≡ spec.leaf_seen (H.cells self.now.held.now) rd level number }
     {
@@ -153,7 +231,7 @@ impl<'a, H: Held> HeldSight<'a, H> {
     }
 
     /// The entry of that number at the level.
-    #[tactic(auto, unfolding(crate::specs::SeenState::seen_state, rmm_spec::specs::Walk::entry_at))]
+    #[tactic(auto, unfolding(walk_laws::specs::SeenState::seen_state, rmm_spec::specs::Walk::entry_at))]
     pub(crate) fn entry(&self, rd: u64, level: u8, number: u64) -> Entry
         ensures { result ≡ walks.entry_at (seen_state self.now.config.now.granules (H.cells self.now.held.now)) rd level number }
     {
@@ -161,7 +239,7 @@ impl<'a, H: Held> HeldSight<'a, H> {
     }
 
     /// The deepest level up to `max` at which a table covers the address.
-    #[tactic(auto, unfolding(crate::specs::SeenState::seen_state))]
+    #[tactic(auto, unfolding(walk_laws::specs::SeenState::seen_state))]
     pub(crate) fn reach(&self, rd: u64, ipa: u64, max: u8) -> u8
         ensures level { result ≡ walks.reach (seen_state self.now.config.now.granules (H.cells self.now.held.now)) rd ipa max }
         ensures within { result ≤ max }

@@ -17,7 +17,6 @@ ghost use Rattle.rmm_spec.specs.Locks.{IsRisingTake};
 ghost use Rattle.world_laws.specs.Replaced.{replaced_all};
 ghost use Rattle.shape_laws.specs.Whole.{side_changed};
 ghost use Rattle.command_core.specs.Seen.{are_distinct, known_cell};
-ghost use Rattle.command_core.specs.Served.{is_served};
 ghost use Rattle.command_core.specs.Changed.{CanAnswer, Answers, Decides, new_cells, new_place};
 ghost use Rattle.command_core.specs.Named.{is_upward, is_downward};
 ghost use Rattle.command_core.specs.Settled.{is_settled};
@@ -33,18 +32,18 @@ pub fn answers_are_local()
         → Answers granules cpu command hold answer }
 {}
 
-/// Where what is held settles a served command, it allows a local step, whatever the side table has and whichever CPU it is.
+/// Where what is held settles a command, it allows a local step, whatever the side table has and whichever CPU it is.
 pub fn settled_commands_are_ready()
-    ensures { (granules : ℕ) (command : Command) (place : CpuPlace) (held : List HeldCell) → is_served (call_of command) ≡ true
+    ensures { (granules : ℕ) (command : Command) (place : CpuPlace) (held : List HeldCell)
         → is_settled granules (call_of command) place held ≡ true → IsReady granules command place held }
 {}
 
-/// What passes the test of a take by name, or of a part of a realm or REC that is held, is a rising take of it.
+/// What passes the test of a take by name, or of a part of a realm, REC or table that is held, is a rising take of it.
 pub fn tested_takes_rise()
     ensures upward { (granules : ℕ) (names : List Needed) (held : List HeldCell) (next : ℕ) → IsTrue (are_distinct (granules_held held))
         → is_upward granules names held next ≡ true → IsRisingTake granules names held next }
-    ensures downward { (granules : ℕ) (names : List Needed) (held : List HeldCell) (above next : ℕ) → IsTrue (are_distinct (granules_held held))
-        → is_downward granules names held above next ≡ true → IsRisingTake granules names held next }
+    ensures downward { (granules : ℕ) (names : List Needed) (held : List HeldCell) (above index next : ℕ) → IsTrue (are_distinct (granules_held held))
+        → is_downward granules names held above index next ≡ true → IsRisingTake granules names held next }
 {}
 
 /// A decided change that is made of what is held is a local step, from what was held to what is held then.

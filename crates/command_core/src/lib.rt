@@ -1,28 +1,33 @@
 //! The monitor's core: what a CPU does with the granules that it holds. Nothing here waits; addresses are in bytes.
-//! It promises that cells held under locks are read and replaced by address; what a CPU does next for a served command,
+//! It promises that cells held under locks are read and replaced by address; what a CPU does next for a command,
 //! whatever it holds: it takes a lock at a rising take, frees one, or is ready to commit; and that the reply and the change that
 //! it is then given are a step of the machine, whatever the other cells are, made with the memory that was taken before it.
-//! The world of turns and the monitor's threads are to depend on it.
+//! The world of turns and the monitor's threads depend on it.
 #![tactic(auto)]
 
 mod applying;
 mod change_room;
 mod deciding;
+mod furthest;
 mod held;
 mod held_sight;
 mod held_tables;
 mod laws;
 mod making;
+mod misfits;
+mod new_cells;
 mod next;
 mod plain_held;
 mod planning;
 mod put_cells;
+mod put_tables;
 mod rooms;
-mod seen_cells;
 mod serving;
 mod settling;
 mod taking;
 mod unshaped;
+mod walks;
+mod ways;
 
 pub use applying::apply;
 pub use change_room::Room;

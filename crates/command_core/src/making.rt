@@ -1,18 +1,26 @@
 //! Whether a change can be made of what is held.
 
-ghost use Rattle.std.specs.Prelude.{◌≡◌, ◌&&◌, ◌==◌, nat_le, length, option_map, option_copied, unwrap_or};
+ghost use Rattle.std.specs.Prelude.{◌≡◌, ◌-◌, ◌*◌, ◌/◌, ◌^◌, is_some, ◌&&◌, ◌==◌, nat_lt, nat_le, length, option_map, option_copied, unwrap_or};
 ghost use Rattle.rmm_spec.specs.Cell as whole;
+ghost use Rattle.rmm_spec.specs.Walk.{table_size};
+ghost use Rattle.walk_laws.specs.SeenState.{table_placed};
+ghost use Rattle.walk_laws.specs.TableCells as tables;
 ghost use Rattle.command_core.specs.Changed as spec;
+ghost use Rattle.command_core.specs.Seen as seen;
 ghost use Rattle.command_core.specs.Seen.{cell_of};
 ghost use Rattle.command_core.specs.Sides.{side_of};
 
 use crate::held::Held;
-use crate::taking::is_granule;
+use crate::held_tables::{placed, table_changed};
+use crate::misfits::table_size;
+use crate::taking::{is_granule, is_held};
 use command_words::is_space;
 use granule_cells::{Cell, Side};
 use granule_state::{Config, Pa};
 use realm_desc::Rec;
-use rmm_spec::{Change, RealmChange, RealmUpdate, RecChange, RecUpdate, Tag};
+use rmm_spec::{
+    Change, EntryChange, RealmChange, RealmUpdate, RecChange, RecUpdate, Tag, TagChange,
+};
 
 // Whether a granule of that state holds nothing.
 fn is_plain(tag: Tag) -> bool
@@ -105,7 +113,73 @@ fn fits_rec<H: Held>(held: &H, change: &Option<RecChange>) -> bool
     }
 }
 
+// Whether a table that is made or destroyed is held, and the one above.
+fn holds_two<H: Held>(held: &H, rd: u64, level: u8, number: u64, rtt: u64) -> bool
+    ensures { result ≡ (seen.is_held rtt (H.cells held.now) && is_some (table_placed (H.cells held.now) rd (level - 1) (number / 512))) }
+{
+    is_held(held, Pa::new(rtt)) && placed(held, rd, level.saturating_sub(1), number / 512).is_some()
+}
+
+fn holds_page<H: Held>(held: &H, change: &Option<TagChange>) -> bool
+    ensures { result ≡ tables.holds_page (H.cells held.now) change.now }
+{
+    match change {
+        Some(change) => is_held(held, Pa::new(change.granule)),
+        None => true,
+    }
+}
+
+fn holds_realm<H: Held>(held: &H, change: &Option<RealmChange>) -> bool
+    ensures { result ≡ tables.holds_realm (H.cells held.now) change.now }
+{
+    match change {
+        Some(change) => is_held(held, Pa::new(change.rd)),
+        None => true,
+    }
+}
+
+// A REC's request is moved on: it neither enters nor leaves.
+fn holds_rec<H: Held>(held: &H, change: &Option<RecChange>) -> bool
+    ensures { result ≡ tables.holds_rec (H.cells held.now) change.now }
+{
+    match change {
+        Some(change) => {
+            is_held(held, Pa::new(change.rec))
+                && matches!(change.update, RecUpdate::RequestMoved { .. })
+        }
+        None => true,
+    }
+}
+
+// Whether the first address of a table of the number at the level is one.
+fn fits_base(level: u8, number: u64) -> bool
+    ensures { result ≡ nat_lt (number * table_size level) (2 ^ 64) }
+{
+    number.checked_mul(table_size(u64::from(level))).is_some()
+}
+
+fn fits_page(change: &Option<TagChange>) -> bool
+    ensures { result ≡ spec.fits_page change.now }
+{
+    match change {
+        Some(change) => is_plain(change.tag),
+        None => true,
+    }
+}
+
+// Whether the entries of a stretch are those of one table.
+fn fits_entries(change: &EntryChange) -> bool
+    ensures { result ≡ spec.fits_entries change.now }
+{
+    match *change {
+        EntryChange::Replaced { .. } => true,
+        EntryChange::RipasSet { first, last, .. } => first < last
+            && last - first / 512 * 512 <= 512,
+    }
+}
+
 // Whether the records that are held are what the change updates.
+#[tactic(auto, unfolding(walk_laws::specs::TableCells::holds_change))]
 fn fits_cells<H: Held>(held: &H, change: &Change) -> bool
     ensures { result ≡ spec.fits_cells (H.cells held.now) change.now }
 {
@@ -119,8 +193,37 @@ fn fits_cells<H: Held>(held: &H, change: &Change) -> bool
         } => is_space(u64::from(*width), u64::from(*level)) && *algo == 0,
         Change::RecMade { rd, mpidr, .. } => counts_in(*mpidr, held.cell(Pa::new(*rd))),
         Change::RecordsChanged { realm, rec } => fits_realm(held, realm) && fits_rec(held, rec),
-        Change::TableMade { .. } | Change::TableDestroyed { .. } | Change::EntriesChanged { .. } =>
-            false,
+        Change::TableMade {
+            rd,
+            level,
+            number,
+            rtt,
+            ..
+        } => holds_two(held, *rd, *level, *number, *rtt) && fits_base(*level, *number),
+        Change::TableDestroyed {
+            rd,
+            level,
+            number,
+            rtt,
+            ..
+        } => holds_two(held, *rd, *level, *number, *rtt),
+        Change::EntriesChanged {
+            rd,
+            level,
+            entries,
+            page,
+            realm,
+            rec,
+        } => {
+            holds_page(held, page)
+                && holds_realm(held, realm)
+                && holds_rec(held, rec)
+                && placed(held, *rd, *level, table_changed(*entries)).is_some()
+                && fits_page(page)
+                && fits_entries(entries)
+                && fits_realm(held, realm)
+                && fits_rec(held, rec)
+        }
         Change::Unchanged | Change::RealmDestroyed { .. } | Change::RecDestroyed { .. } => true,
     }
 }

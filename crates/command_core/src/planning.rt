@@ -1,17 +1,20 @@
 //! What a CPU does next for its command, told by the cells that it holds.
 
-ghost use Rattle.std.specs.Prelude.{◌≡◌, IsTrue};
+ghost use Rattle.std.specs.Prelude.{◌≡◌, ◌<◌};
 ghost use Rattle.rmm_spec.specs.Call.{call_of, class_of};
 ghost use Rattle.command_core.specs.Seen.{cell_in, place_of};
-ghost use Rattle.command_core.specs.Served.{is_served};
 ghost use Rattle.command_core.specs.Settled.{is_settled};
 ghost use Rattle.command_core.specs.Plan.{IsPlanned, is_ready};
 ghost use Rattle.command_core.specs.Next as spec;
+ghost use Rattle.command_core.specs.Walks as walks;
+ghost use Rattle.command_core.specs.Ways.{way_seen};
 
 use crate::held::Held;
+use crate::held_sight::HeldSight;
 use crate::next::Next;
 use crate::settling::is_settled;
 use crate::taking::{is_downward, is_held, is_upward, least_missing};
+use crate::ways::{Way, keeps_realm, way_taken};
 use command_words::{Caller, Name, caller_of, named, needed, one, two};
 use granule_cells::{Cell, CpuPlace};
 use granule_state::{Config, Pa};
@@ -39,18 +42,62 @@ fn take_named<H: Held>(config: &Config, names: &[Name], held: &H, next: u64) -> 
 }
 
 // The least that is named and missing is taken. Where none is, another stands for it, which can't be taken then.
-fn take_least<H: Held>(config: &Config, names: &[Name], held: &H, other: u64) -> Next
-    ensures { result ≡ spec.take_least config.now.granules names.now (H.cells held.now) other }
+fn take_least<H: Held>(sight: &HeldSight<'_, H>, keeps: bool, names: &[Name], other: u64) -> Next
+    ensures { result ≡ spec.take_least sight.now.config.now.granules keeps names.now (H.cells sight.now.held.now) other }
 {
-    let next = least_missing(config, names, held).unwrap_or(other);
-    take_named(config, names, held, next)
+    let next = least_missing(sight, keeps, names).unwrap_or(other);
+    take_named(sight.config, names, sight.held, next)
 }
 
-fn take_part<H: Held>(config: &Config, names: &[Name], held: &H, above: Pa, next: Pa) -> Next
-    ensures { result ≡ spec.take_part config.now.granules names.now (H.cells held.now) above next }
+fn take_part<H: Held>(
+    config: &Config,
+    names: &[Name],
+    held: &H,
+    above: Pa,
+    index: usize,
+    next: Pa,
+) -> Next
+    requires { index < 512 }
+    ensures { result ≡ spec.take_part config.now.granules names.now (H.cells held.now) above index next }
 {
-    let may_take = is_downward(config, names, held, above, next);
+    let may_take = is_downward(config, names, held, above, index, next);
     taken(next, may_take, held)
+}
+
+// The part that a walk wants is taken. Where there is none, the realm stands for it, which can't be taken then.
+fn take_wanted<H: Held>(sight: &HeldSight<'_, H>, call: &Call, way: &Way, names: &[Name]) -> Next
+    ensures { result ≡ spec.take_wanted sight.now.config.now.granules names.now (H.cells sight.now.held.now) way.now.rd
+        (walks.wanted sight.now.config.now.granules call.now (H.cells sight.now.held.now) (way_seen way.now)) }
+{
+    match sight.wanted(call, way) {
+        None => taken(Pa::new(way.rd), false, sight.held),
+        Some(part) => take_part(
+            sight.config,
+            names,
+            sight.held,
+            Pa::new(part.above),
+            part.index as usize,
+            Pa::new(part.next),
+        ),
+    }
+}
+
+// What the plan frees goes before what the walk wants.
+fn free_or_take<H: Held>(
+    sight: &HeldSight<'_, H>,
+    call: &Call,
+    way: &Way,
+    names: &[Name],
+    keeps: bool,
+) -> Next
+    ensures { result ≡ spec.free_or_take sight.now.config.now.granules names.now (H.cells sight.now.held.now) way.now.rd
+        (walks.spare sight.now.config.now.granules keeps (H.cells sight.now.held.now) (way_seen way.now))
+        (walks.wanted sight.now.config.now.granules call.now (H.cells sight.now.held.now) (way_seen way.now)) }
+{
+    match sight.spare(keeps, way) {
+        Some(granule) => Next::Free(Pa::new(granule), None),
+        None => take_wanted(sight, call, way, names),
+    }
 }
 
 // A realm, and then its root.
@@ -59,7 +106,7 @@ fn take_root<H: Held>(config: &Config, names: &[Name], held: &H, rd: Pa) -> Next
     ensures { result ≡ spec.take_root config.now.granules names.now (H.cells held.now) rd (cell_in rd (H.cells held.now)) }
 {
     match held.cell(rd) {
-        Some(Cell::Rd(realm)) => take_part(config, names, held, rd, realm.root),
+        Some(Cell::Rd(realm)) => take_part(config, names, held, rd, 0, realm.root),
         _ => take_named(config, names, held, rd.address()),
     }
 }
@@ -83,7 +130,7 @@ fn take_auxes<H: Held>(config: &Config, names: &[Name], held: &H, rec: Pa) -> Ne
     match held.cell(rec) {
         Some(Cell::Rec(it)) => {
             let next = next_aux(it, held);
-            take_part(config, names, held, rec, next)
+            take_part(config, names, held, rec, 0, next)
         }
         _ => take_named(config, names, held, rec.address()),
     }
@@ -103,29 +150,29 @@ fn learn_realm<H: Held>(config: &Config, held: &H, rec: Pa) -> Next
 
 // With a realm learnt it takes the two by address, and begins anew where the REC is another realm's by now.
 #[tactic(auto, unfolding(rmm_spec::specs::Step::Named::named, realm_desc::specs::View::rec_record))]
-fn take_realm<H: Held>(config: &Config, held: &H, rec: Pa, rd: Pa) -> Next
-    ensures { result ≡ spec.take_realm config.now.granules (H.cells held.now) rec rd (cell_in rec (H.cells held.now)) }
+fn take_realm<H: Held>(sight: &HeldSight<'_, H>, rec: Pa, rd: Pa) -> Next
+    ensures { result ≡ spec.take_realm sight.now.config.now.granules (H.cells sight.now.held.now) rec rd (cell_in rec (H.cells sight.now.held.now)) }
 {
     let names = two(
         needed(rd.address(), Tag::Rd),
         needed(rec.address(), Tag::Rec),
     );
-    match held.cell(rec) {
+    match sight.held.cell(rec) {
         Some(Cell::Rec(it)) => {
             let may_take = rd == it.owner
-                && is_upward(config, names.as_slice(), held, rd.address());
-            taken(rd, may_take, held)
+                && is_upward(sight.config, names.as_slice(), sight.held, rd.address());
+            taken(rd, may_take, sight.held)
         }
-        _ => take_least(config, names.as_slice(), held, rec.address()),
+        _ => take_least(sight, true, names.as_slice(), rec.address()),
     }
 }
 
-fn next_to_enter<H: Held>(config: &Config, rec: Pa, learnt: Option<Pa>, held: &H) -> Next
-    ensures { result ≡ spec.next_to_enter config.now.granules rec (cell_in rec (H.cells held.now)) (H.cells held.now) learnt }
+fn next_to_enter<H: Held>(sight: &HeldSight<'_, H>, rec: Pa, learnt: Option<Pa>) -> Next
+    ensures { result ≡ spec.next_to_enter sight.now.config.now.granules rec (cell_in rec (H.cells sight.now.held.now)) (H.cells sight.now.held.now) learnt }
 {
     match learnt {
-        None => learn_realm(config, held, rec),
-        Some(rd) => take_realm(config, held, rec, rd),
+        None => learn_realm(sight.config, sight.held, rec),
+        Some(rd) => take_realm(sight, rec, rd),
     }
 }
 
@@ -138,56 +185,114 @@ fn first_named(names: &[Name]) -> u64
     }
 }
 
-#[tactic(auto, unfolding(crate::specs::Next::next_outside))]
-fn next_outside<H: Held>(config: &Config, call: &Call, learnt: Option<Pa>, held: &H) -> Next
-    ensures { result ≡ spec.next_outside config.now.granules call.now learnt (H.cells held.now) }
+// A command that walks no table takes what it names, and then its parts.
+#[tactic(auto, unfolding(crate::specs::Next::next_with_parts))]
+fn next_with_parts<H: Held>(sight: &HeldSight<'_, H>, call: &Call, learnt: Option<Pa>) -> Next
+    ensures { result ≡ spec.next_with_parts sight.now.config.now.granules call.now learnt (H.cells sight.now.held.now) }
 {
     let names = named(call);
     let names = names.as_slice();
     match *call {
-        Call::RealmDestroy { rd } => take_root(config, names, held, Pa::new(rd)),
-        Call::RecDestroy { rec } => take_auxes(config, names, held, Pa::new(rec)),
-        Call::RecEnter { rec } => next_to_enter(config, Pa::new(rec), learnt, held),
-        _ => take_least(config, names, held, first_named(names)),
+        Call::RealmDestroy { rd } => take_root(sight.config, names, sight.held, Pa::new(rd)),
+        Call::RecDestroy { rec } => take_auxes(sight.config, names, sight.held, Pa::new(rec)),
+        Call::RecEnter { rec } => next_to_enter(sight, Pa::new(rec), learnt),
+        _ => take_least(sight, true, names, first_named(names)),
+    }
+}
+
+// A walk begins once all that is named is told.
+fn next_to_walk<H: Held>(sight: &HeldSight<'_, H>, call: &Call, way: &Way) -> Next
+    ensures { result ≡ spec.next_to_walk sight.now.config.now.granules call.now (H.cells sight.now.held.now) (way_seen way.now) }
+{
+    let keeps = keeps_realm(call);
+    let names = named(call);
+    let names = names.as_slice();
+    if sight.are_told(call) {
+        free_or_take(sight, call, way, names, keeps)
+    } else {
+        take_least(sight, keeps, names, first_named(names))
+    }
+}
+
+fn next_outside<H: Held>(sight: &HeldSight<'_, H>, call: &Call, learnt: Option<Pa>) -> Next
+    ensures { result ≡ spec.next_outside sight.now.config.now.granules call.now learnt (H.cells sight.now.held.now) }
+{
+    match way_taken(call) {
+        None => next_with_parts(sight, call, learnt),
+        Some(way) => next_to_walk(sight, call, &way),
+    }
+}
+
+// A realm's call takes the REC and its realm, and then the tables that it walks.
+fn next_to_read<H: Held>(
+    sight: &HeldSight<'_, H>,
+    call: &Call,
+    rec: Pa,
+    rd: Pa,
+    names: &[Name],
+) -> Next
+    requires { names.now ≡ spec.place_names rec rd }
+    ensures { result ≡ spec.next_to_read sight.now.config.now.granules call.now rec rd (H.cells sight.now.held.now)
+        (walks.way_inside call.now rec rd (H.cells sight.now.held.now)) }
+{
+    match sight.way_inside(call, rec, rd) {
+        None => take_least(sight, true, names, rec.address()),
+        Some(way) => free_or_take(sight, call, &way, names, true),
     }
 }
 
 // An exit takes the REC alone.
-fn next_inside<H: Held>(config: &Config, call: &Call, rec: Pa, rd: Pa, held: &H) -> Next
-    ensures { result ≡ spec.next_inside (class_of call.now) config.now.granules rec rd (H.cells held.now) }
+fn next_inside<H: Held>(sight: &HeldSight<'_, H>, call: &Call, rec: Pa, rd: Pa) -> Next
+    ensures { result ≡ spec.next_inside (class_of call.now) sight.now.config.now.granules call.now rec rd (H.cells sight.now.held.now) }
 {
     let names = two(
         needed(rec.address(), Tag::Rec),
         needed(rd.address(), Tag::Rd),
     );
+    let names = names.as_slice();
     match caller_of(call) {
-        Caller::Host | Caller::Realm => {
-            take_least(config, names.as_slice(), held, rec.address())
-        }
-        Caller::Rec => take_named(config, names.as_slice(), held, rec.address()),
+        Caller::Host => take_least(sight, true, names, rec.address()),
+        Caller::Realm => next_to_read(sight, call, rec, rd, names),
+        Caller::Rec => take_named(sight.config, names, sight.held, rec.address()),
     }
 }
 
 #[tactic(auto, unfolding(crate::specs::Next::next))]
 fn next_for<H: Held>(
-    config: &Config,
+    sight: &HeldSight<'_, H>,
     call: &Call,
     place: &CpuPlace,
     learnt: Option<Pa>,
-    held: &H,
 ) -> Next
-    ensures { result ≡ spec.next config.now.granules call.now (place_of place.now) learnt (H.cells held.now) }
+    ensures { result ≡ spec.next sight.now.config.now.granules call.now (place_of place.now) learnt (H.cells sight.now.held.now) }
 {
-    if is_settled(config, call, place, held) {
+    if is_settled(sight.config, call, place, sight.held) {
         return Next::Ready;
     }
     match *place {
-        CpuPlace::Outside => next_outside(config, call, learnt, held),
-        CpuPlace::Inside { rec, rd } => next_inside(config, call, rec, rd, held),
+        CpuPlace::Outside => next_outside(sight, call, learnt),
+        CpuPlace::Inside { rec, rd } => next_inside(sight, call, rec, rd),
     }
 }
 
-/// What a CPU at this place does next for a served command, whatever it holds. What it has learnt is what the last free of
+fn next_held<'a, H: Held>(
+    config: &'a Config,
+    call: &Call,
+    place: &CpuPlace,
+    learnt: Option<Pa>,
+    held: &'a H,
+) -> Next
+    ensures { result ≡ spec.next config.now.granules call.now (place_of place.now) learnt (H.cells held.now) }
+{
+    let sight = HeldSight {
+        config,
+        held,
+        side: None,
+    };
+    next_for(&sight, call, place, learnt)
+}
+
+/// What a CPU at this place does next for a command, whatever it holds. What it has learnt is what the last free of
 /// this call learnt, and nothing before the first.
 pub fn next_lock<H: Held>(
     config: &Config,
@@ -196,10 +301,9 @@ pub fn next_lock<H: Held>(
     learnt: Option<Pa>,
     held: &H,
 ) -> Next
-    requires served { IsTrue (is_served (call_of command.now)) }
     ensures exact { result ≡ spec.next config.now.granules (call_of command.now) (place_of place.now) learnt (H.cells held.now) }
     ensures settled { is_settled config.now.granules (call_of command.now) (place_of place.now) (H.cells held.now) ≡ is_ready result }
     ensures planned { IsPlanned config.now.granules command.now (place_of place.now) learnt (H.cells held.now) result }
 {
-    next_for(config, &command.call(), place, learnt, held)
+    next_held(config, &command.call(), place, learnt, held)
 }

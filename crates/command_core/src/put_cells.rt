@@ -1,24 +1,28 @@
 //! The cells that a change puts in.
 
-ghost use Rattle.std.specs.Prelude.{◌≡◌, ℕ, IsTrue, Some, is_some, [], ◌∷◌, ◌++◌, option_map, option_copied, unwrap_or};
+ghost use Rattle.std.specs.Prelude.{◌≡◌, IsTrue, Some, is_some, [], ◌∷◌, ◌++◌, option_map, option_copied, unwrap_or};
 ghost use Rattle.rmm_spec.specs.declared.change.RealmUpdate.TheVariants.{RecCounted};
 ghost use Rattle.rmm_spec.specs.Cell as whole;
-ghost use Rattle.world_laws.specs.Replaced.{held_at, replaced_cells, replaced_all};
-ghost use Rattle.shape_laws.specs.Whole.{root_table, cell_with_tag, cell_with_realm, cell_with_rec};
-ghost use Rattle.command_core.specs.Changed.{new_cells, realm_cells, rec_cells, AreHeld, AreAllHeld, is_plain, counts_in, fits_realm, fits_rec, fits_realm_change, fits_rec_change, fits_cells};
+ghost use Rattle.world_laws.specs.Replaced.{held_at, replaced_all};
+ghost use Rattle.shape_laws.specs.Whole.{cell_with_realm};
+ghost use Rattle.walk_laws.specs.TableCells.{realm_cells, rec_cells};
+ghost use Rattle.command_core.specs.Changed.{new_cells, AreHeld, AreAllHeld, counts_in, fits_realm_change, fits_rec_change, fits_cells};
 ghost use Rattle.command_core.specs.Rooms.{IsRoomFor};
-ghost use Rattle.command_core.specs.Seen.{cell_of, is_held, known_cell};
+ghost use Rattle.command_core.specs.Seen.{cell_of, is_held};
 
 use crate::change_room::Room;
 use crate::held::Held;
+use crate::held_tables::table_changed;
+use crate::new_cells::{page_after, put, put_new, realm_after, rec_after};
+use crate::put_tables::{destroy_table, make_table, put_entries, table_at};
 use granule_cells::Cell;
 use granule_state::Pa;
 use realm_desc::{Realm, Rec};
-use rmm_spec::{Change, RealmChange, RealmUpdate, RecChange, RecUpdate, Tag};
+use rmm_spec::{Change, RealmChange, RecChange};
 use rtt_table::Table;
 
 /// Puts in the cells that the change means, each in the place of the one that is held at its granule.
-#[tactic(auto, unfolding(crate::specs::Changed::new_cells))]
+#[tactic(auto, unfolding(crate::specs::Changed::new_cells, walk_laws::specs::TableCells::table_cells, walk_laws::specs::TableCells::holds_change))]
 pub(crate) fn put_cells<H: Held>(held: &mut H, change: &Change, room: Room)
     requires held { AreHeld (H.cells held.old) change.now }
     requires fits { IsTrue (fits_cells (H.cells held.old) change.now) }
@@ -27,7 +31,7 @@ pub(crate) fn put_cells<H: Held>(held: &mut H, change: &Change, room: Room)
 {
     match *change {
         Change::Unchanged => {}
-        Change::Retagged(change) => put(held, change.granule, plain_cell(change.tag)),
+        Change::Retagged(change) => put_new(held, page_after(Some(change))),
         Change::RealmMade {
             rd,
             root,
@@ -37,7 +41,7 @@ pub(crate) fn put_cells<H: Held>(held: &mut H, change: &Change, room: Room)
             algo,
         } => {
             let realm = Realm::from_words(root, width, level, vmid, algo);
-            put_realm(held, rd, realm, root, root_in(room));
+            put_realm(held, rd, realm, root, table_of(room));
         }
         Change::RealmDestroyed { rd, root } => free_realm(held, rd, root),
         Change::RecMade {
@@ -54,42 +58,43 @@ pub(crate) fn put_cells<H: Held>(held: &mut H, change: &Change, room: Room)
         }
         Change::RecDestroyed { rec, aux0, aux1 } => free_rec(held, rec, aux0, aux1),
         Change::RecordsChanged { realm, rec } => put_records(held, realm, rec),
-        _ => unreachable!(),
+        Change::TableMade {
+            rd,
+            level,
+            number,
+            rtt,
+            ..
+        } => make_table(held, rd, level, number, rtt, table_of(room)),
+        Change::TableDestroyed {
+            rd,
+            level,
+            number,
+            rtt,
+            entry,
+        } => destroy_table(held, rd, level, number, rtt, entry),
+        Change::EntriesChanged {
+            rd,
+            level,
+            entries,
+            page,
+            realm,
+            rec,
+        } => {
+            let granule = table_at(held, rd, level, table_changed(entries));
+            put_entries(held, granule, entries, page, realm, rec);
+        }
     }
 }
 
-// Puts another cell in the place of the one that is held at a granule.
-fn put<H: Held>(held: &mut H, granule: u64, cell: Cell)
-    requires { IsTrue (is_held granule (H.cells held.old)) }
-    ensures cells { H.cells held.new ≡ replaced_cells (H.cells held.old) granule (cell_of cell) }
-    ensures kept { (g : ℕ) → is_held g (H.cells held.new) ≡ is_held g (H.cells held.old) }
+// The table that the room has.
+fn table_of(room: Room) -> Table
+    requires { IsTrue (is_some room.table) }
+    ensures { room.table ≡ Some result }
 {
-    let _ = held.swap(Pa::new(granule), cell);
-}
-
-// The cell of a granule that holds nothing.
-fn plain_cell(tag: Tag) -> Cell
-    requires { IsTrue (is_plain tag) }
-    ensures { (before : whole.Cell) → cell_of result ≡ cell_with_tag tag before }
-{
-    match tag {
-        Tag::Undelegated => Cell::Undelegated,
-        Tag::Delegated => Cell::Delegated,
-        Tag::RecAux => Cell::RecAux,
-        Tag::Data => Cell::Data,
-        Tag::Rd | Tag::Rec | Tag::Rtt => unreachable!(),
-    }
-}
-
-// The root that the room has.
-fn root_in(room: Room) -> Table
-    requires { IsTrue (is_some room.root) }
-    ensures { room.root ≡ Some result }
-{
-    let Some(root) = room.root else {
+    let Some(table) = room.table else {
         unreachable!()
     };
-    root
+    table
 }
 
 fn put_realm<H: Held>(held: &mut H, rd: u64, realm: Realm, root: u64, table: Table)
@@ -151,32 +156,6 @@ fn counted(cell: Option<&Cell>, mpidr: u8, flags: u64) -> Realm
     realm
 }
 
-// The realm that is there, updated.
-fn updated_realm(cell: Option<&Cell>, update: RealmUpdate) -> Cell
-    requires { IsTrue (fits_realm update (unwrap_or (option_map cell_of (option_copied cell)) whole.Undelegated)) }
-    ensures { cell_of result ≡ cell_with_realm update (unwrap_or (option_map cell_of (option_copied cell.entry)) whole.Undelegated) }
-{
-    let Some(Cell::Rd(realm)) = cell else {
-        unreachable!()
-    };
-    let mut realm = *realm;
-    realm.update(update);
-    Cell::Rd(realm)
-}
-
-// The REC that is there, updated.
-fn updated_rec(cell: Option<&Cell>, update: RecUpdate) -> Cell
-    requires { IsTrue (fits_rec update (unwrap_or (option_map cell_of (option_copied cell)) whole.Undelegated)) }
-    ensures { cell_of result ≡ cell_with_rec update (unwrap_or (option_map cell_of (option_copied cell.entry)) whole.Undelegated) }
-{
-    let Some(Cell::Rec(rec)) = cell else {
-        unreachable!()
-    };
-    let mut rec = *rec;
-    rec.update(update);
-    Cell::Rec(rec)
-}
-
 // Updates a realm and a REC, each of which is read first.
 fn put_records<H: Held>(held: &mut H, realm: Option<RealmChange>, rec: Option<RecChange>)
     requires held { AreAllHeld (H.cells held.old) (realm_cells (H.cells held.old) realm ++ rec_cells (H.cells held.old) rec) }
@@ -184,21 +163,8 @@ fn put_records<H: Held>(held: &mut H, realm: Option<RealmChange>, rec: Option<Re
     requires rec { IsTrue (fits_rec_change (H.cells held.old) rec) }
     ensures { H.cells held.new ≡ replaced_all (H.cells held.old) (realm_cells (H.cells held.old) realm ++ rec_cells (H.cells held.old) rec) }
 {
-    match (realm, rec) {
-        (None, None) => {}
-        (Some(realm), None) => {
-            let new = updated_realm(held.cell(Pa::new(realm.rd)), realm.update);
-            put(held, realm.rd, new);
-        }
-        (None, Some(rec)) => {
-            let new = updated_rec(held.cell(Pa::new(rec.rec)), rec.update);
-            put(held, rec.rec, new);
-        }
-        (Some(realm), Some(rec)) => {
-            let new_realm = updated_realm(held.cell(Pa::new(realm.rd)), realm.update);
-            let new_rec = updated_rec(held.cell(Pa::new(rec.rec)), rec.update);
-            put(held, realm.rd, new_realm);
-            put(held, rec.rec, new_rec);
-        }
-    }
+    let new_realm = realm_after(held, realm);
+    let new_rec = rec_after(held, rec);
+    put_new(held, new_realm);
+    put_new(held, new_rec);
 }

@@ -1,6 +1,6 @@
 //! The memory that a change needs, taken before it.
 
-ghost use Rattle.std.specs.Prelude.{◌≡◌, IfOk, OnErr, IsTrue};
+ghost use Rattle.std.specs.Prelude.{◌≡◌, IfOk, OnErr, IsSomeAnd, IsTrue, replicate};
 ghost use Rattle.shape_laws.specs.Whole as whole;
 ghost use Rattle.command_core.specs.Rooms.{IsRoomFor, makes_table};
 ghost use Rattle.command_core.specs.Sides.{side_of};
@@ -29,10 +29,30 @@ pub fn room(alloc: Global, _side: &mut Side, change: &Change) -> Result<Room, Al
             ..
         } => {
             let root = root_table(alloc, rd, width, level)?;
-            Ok(Room { root: Some(root) })
+            Ok(Room { table: Some(root) })
         }
-        _ => Ok(Room { root: None }),
+        Change::TableMade {
+            rd,
+            level,
+            entry,
+            ..
+        } => table_room(alloc, rd, level, entry),
+        _ => Ok(Room { table: None }),
     }
+}
+
+// The room of a table of copies of an entry. Where it stands is known once the table above is held.
+fn table_room(alloc: Global, rd: u64, level: u8, entry: Entry) -> Result<Room, AllocError>
+    ensures { IfOk result (λ room. IsSomeAnd room.table (λ t. t.entries ≡ replicate 512 entry)) }
+{
+    let place = Place {
+        rd,
+        level,
+        base: 0,
+        width: 0,
+    };
+    let table = Table::new(alloc, place, entry)?;
+    Ok(Room { table: Some(table) })
 }
 
 // The root of a realm that was just made: nothing was said of its lower half, and its upper half is the host's.

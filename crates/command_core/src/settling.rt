@@ -1,6 +1,6 @@
 //! Whether what is held settles a command, so that it takes no further lock.
 
-ghost use Rattle.std.specs.Prelude.{◌≡◌, option_map, option_copied};
+ghost use Rattle.std.specs.Prelude.{◌≡◌, ◌||◌, option_map, option_copied};
 ghost use Rattle.std.specs.List.{list_all};
 ghost use Rattle.rmm_spec.specs.Call.{class_of};
 ghost use Rattle.rmm_spec.specs.Lookup.{is_granule};
@@ -8,10 +8,15 @@ ghost use Rattle.rmm_spec.specs.Rows.{Needed};
 ghost use Rattle.command_core.specs.Named as named;
 ghost use Rattle.command_core.specs.Seen.{cell_of, cell_in, place_of};
 ghost use Rattle.command_core.specs.Settled as spec;
+ghost use Rattle.command_core.specs.Unshaped.{is_unshaped_outside};
+ghost use Rattle.command_core.specs.Walks.{way_taken, way_inside};
+ghost use Rattle.rmm_spec.specs.Step.Named as step_named;
 
 use crate::held::Held;
+use crate::held_sight::HeldSight;
 use crate::taking::{has_wrong, holds_all, is_granule, is_held};
-use crate::unshaped::{is_misfit, is_unshaped_outside};
+use crate::unshaped::{self, is_misfit};
+use crate::ways::way_taken;
 use command_words::{Caller, Name, caller_of, named, words_allow};
 use granule_cells::{Cell, CpuPlace};
 use granule_state::{Config, Pa};
@@ -88,40 +93,79 @@ fn is_complete<H: Held>(call: &Call, held: &H) -> bool
     }
 }
 
-fn is_settled_outside<H: Held>(config: &Config, call: &Call, held: &H) -> bool
-    ensures { result ≡ spec.is_settled_outside (class_of call.now) config.now.granules call.now (H.cells held.now) }
+// Whether all is held that the rows read, and its walk is over where it walks.
+fn is_all_held<H: Held>(sight: &HeldSight<'_, H>, call: &Call) -> bool
+    ensures { result ≡ spec.is_all_held sight.now.config.now.granules call.now (H.cells sight.now.held.now) (way_taken call.now) }
+{
+    match way_taken(call) {
+        None => is_complete(call, sight.held),
+        Some(way) => sight.is_walk_over(call, &way),
+    }
+}
+
+// What settles a host's command but its words.
+fn is_met<H: Held>(sight: &HeldSight<'_, H>, call: &Call) -> bool
+    ensures { result ≡ (named.has_wrong (step_named.named call.now) (H.cells sight.now.held.now)
+        || is_unshaped_outside sight.now.config.now.granules call.now (H.cells sight.now.held.now)
+        || spec.is_all_held sight.now.config.now.granules call.now (H.cells sight.now.held.now) (way_taken call.now)) }
+{
+    let names = named(call);
+    has_wrong(names.as_slice(), sight.held)
+        || unshaped::is_unshaped_outside(sight, call)
+        || is_all_held(sight, call)
+}
+
+fn is_settled_outside<H: Held>(sight: &HeldSight<'_, H>, call: &Call) -> bool
+    ensures { result ≡ spec.is_settled_outside (class_of call.now) sight.now.config.now.granules call.now (H.cells sight.now.held.now) }
 {
     match caller_of(call) {
-        Caller::Host => {
-            let names = named(call);
-            !words_fit(config, call)
-                || has_wrong(names.as_slice(), held)
-                || is_unshaped_outside(config, call, held)
-                || is_complete(call, held)
-        }
+        Caller::Host => !words_fit(sight.config, call) || is_met(sight, call),
         Caller::Realm | Caller::Rec => true,
     }
 }
 
-fn is_settled_inside<H: Held>(config: &Config, call: &Call, rec: Pa, rd: Pa, held: &H) -> bool
-    ensures { result ≡ spec.is_settled_inside (class_of call.now) config.now.granules rec rd (H.cells held.now) }
+// Whether the walk of a realm's call, if it walks, is over.
+fn is_read_over<H: Held>(sight: &HeldSight<'_, H>, call: &Call, rec: Pa, rd: Pa) -> bool
+    ensures { result ≡ spec.is_read_over sight.now.config.now.granules (H.cells sight.now.held.now) (way_inside call.now rec rd (H.cells sight.now.held.now)) }
+{
+    match sight.way_inside(call, rec, rd) {
+        None => true,
+        Some(way) => sight.is_at_end(true, &way),
+    }
+}
+
+fn is_settled_inside<H: Held>(sight: &HeldSight<'_, H>, call: &Call, rec: Pa, rd: Pa) -> bool
+    ensures { result ≡ spec.is_settled_inside (class_of call.now) sight.now.config.now.granules call.now rec rd (H.cells sight.now.held.now) }
 {
     match caller_of(call) {
         Caller::Host => true,
         Caller::Realm => {
-            is_misfit(config, rec, rd, held) || (is_held(held, rec) && is_held(held, rd))
+            is_misfit(sight, call, rec, rd)
+                || (is_held(sight.held, rec)
+                    && is_held(sight.held, rd)
+                    && is_read_over(sight, call, rec, rd))
         }
-        Caller::Rec => is_misfit(config, rec, rd, held) || is_held(held, rec),
+        Caller::Rec => is_misfit(sight, call, rec, rd) || is_held(sight.held, rec),
     }
 }
 
 /// Whether what is held settles a command.
 #[tactic(auto, unfolding(crate::specs::Settled::is_settled))]
-pub(crate) fn is_settled<H: Held>(config: &Config, call: &Call, place: &CpuPlace, held: &H) -> bool
+pub(crate) fn is_settled<'a, H: Held>(
+    config: &'a Config,
+    call: &Call,
+    place: &CpuPlace,
+    held: &'a H,
+) -> bool
     ensures { result ≡ spec.is_settled config.now.granules call.now (place_of place.now) (H.cells held.now) }
 {
+    let sight = HeldSight {
+        config,
+        held,
+        side: None,
+    };
     match *place {
-        CpuPlace::Outside => is_settled_outside(config, call, held),
-        CpuPlace::Inside { rec, rd } => is_settled_inside(config, call, rec, rd, held),
+        CpuPlace::Outside => is_settled_outside(&sight, call),
+        CpuPlace::Inside { rec, rd } => is_settled_inside(&sight, call, rec, rd),
     }
 }

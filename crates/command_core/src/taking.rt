@@ -1,7 +1,6 @@
 //! What may be taken next, told by the cells that are held.
 
-ghost use Rattle.std.specs.Prelude.{◌≡◌, ◌==◌, option_map, option_copied};
-ghost use Rattle.rmm_spec.specs.Locks.{depth};
+ghost use Rattle.std.specs.Prelude.{◌≡◌, ◌<◌, option_map, option_copied};
 ghost use Rattle.rmm_spec.specs.Locks as locks;
 ghost use Rattle.rmm_spec.specs.Lookup as lookup;
 ghost use Rattle.rmm_spec.specs.Cell as whole;
@@ -10,9 +9,11 @@ ghost use Rattle.command_core.specs.Seen.{cell_of};
 ghost use Rattle.command_core.specs.Named as spec;
 
 use crate::held::Held;
+use crate::held_sight::HeldSight;
 use command_words::{Name, is_tag};
 use granule_cells::Cell;
 use granule_state::{Config, Pa, granule_at};
+use rmm_spec::Entry;
 
 /// Whether a granule is one of the machine's.
 pub(crate) fn is_granule(config: &Config, address: u64) -> bool
@@ -115,14 +116,26 @@ pub(crate) fn is_upward<H: Held>(config: &Config, names: &[Name], held: &H, next
         && are_below(names, next, held)
 }
 
-// Whether a realm has the granule for its root, or a REC for one of its two others.
+// Whether an entry leads to the granule: to the table below, or to a page of the protected half.
+fn leads_to(granule: u64, entry: Entry) -> bool
+    ensures { result ≡ locks.leads_to granule entry }
+{
+    match entry {
+        Entry::Table(below) | Entry::Assigned(_, below) => below == granule,
+        Entry::Unassigned(_) | Entry::UnassignedNs | Entry::AssignedNs(_) => false,
+    }
+}
+
+// Whether a realm has the granule for its root, a REC for one of its two others, or a table's entry at that place leads to it.
 #[tactic(auto, unfolding(realm_desc::specs::View::realm_record, realm_desc::specs::View::rec_record))]
-fn has_part(above: Option<&Cell>, granule: u64) -> bool
-    ensures { result ≡ spec.has_part (option_map cell_of (option_copied above.entry)) granule }
+fn has_part(above: Option<&Cell>, index: usize, granule: u64) -> bool
+    requires { index < 512 }
+    ensures { result ≡ spec.has_part (option_map cell_of (option_copied above.entry)) index granule }
 {
     match above {
         Some(Cell::Rd(realm)) => realm.root.address() == granule,
         Some(Cell::Rec(rec)) => rec.aux0.address() == granule || rec.aux1.address() == granule,
+        Some(Cell::Rtt(table)) => leads_to(granule, table.entry(index)),
         _ => false,
     }
 }
@@ -138,13 +151,27 @@ fn has_aux_part(above: Option<&Cell>, granule: u64) -> bool
     }
 }
 
-fn is_no_table(cell: &Cell) -> bool
-    ensures { result ≡ (depth (cell_of cell.now) == 0) }
+// How deep a table is, counted from 1, and 0 for what is no table.
+fn depth(cell: &Cell) -> u64
+    ensures { result ≡ locks.depth (cell_of cell.now) }
 {
-    !matches!(cell, Cell::Rtt(_))
+    match cell {
+        Cell::Rtt(table) => u64::from(table.place().level) + 1,
+        _ => 0,
+    }
 }
 
-// Whether what is held at a granule is named, as it has to be, or an auxiliary granule of the REC above.
+fn depth_in(cell: Option<&Cell>) -> u64
+    ensures { result ≡ spec.depth_in (option_map cell_of (option_copied cell.entry)) }
+{
+    match cell {
+        Some(cell) => depth(cell),
+        None => 0,
+    }
+}
+
+// Whether what is held at a granule is named, as it has to be, or a table no deeper than the one above, or an auxiliary granule of
+// the REC above.
 fn fits_beside<H: Held>(names: &[Name], above: Pa, held: &H, pa: Pa) -> bool
     ensures { result ≡ spec.fits_beside names.now (seen.cell_in above (H.cells held.now)) pa (seen.cell_in pa (H.cells held.now)) }
 {
@@ -152,10 +179,10 @@ fn fits_beside<H: Held>(names: &[Name], above: Pa, held: &H, pa: Pa) -> bool
     match held.cell(pa) {
         None => false,
         Some(cell) => {
-            (is_named(names, granule) || has_aux_part(held.cell(above), granule))
+            (is_named(names, granule) || 0 < depth(cell) || has_aux_part(held.cell(above), granule))
                 && !is_wrong_for(cell, granule, names)
                 && !is_data(cell)
-                && is_no_table(cell)
+                && depth(cell) <= depth_in(held.cell(above))
         }
     }
 }
@@ -168,30 +195,37 @@ fn are_beside<H: Held>(names: &[Name], above: Pa, held: &H) -> bool
         .all(|pa| fits_beside(names, above, held, *pa))
 }
 
-/// Whether a part of the realm or REC above may be taken: no table is held.
+/// Whether a part of the realm, REC or table above may be taken: no deeper table is held.
 #[tactic(auto, unfolding(crate::specs::Named::is_downward))]
 pub(crate) fn is_downward<H: Held>(
     config: &Config,
     names: &[Name],
     held: &H,
     above: Pa,
+    index: usize,
     next: Pa,
 ) -> bool
-    ensures { result ≡ spec.is_downward config.now.granules names.now (H.cells held.now) above next }
+    requires { index < 512 }
+    ensures { result ≡ spec.is_downward config.now.granules names.now (H.cells held.now) above index next }
 {
     is_granule(config, next.address())
         && !is_held(held, next)
         && held.held().len() <= 5
-        && has_part(held.cell(above), next.address())
+        && has_part(held.cell(above), index, next.address())
         && are_beside(names, above, held)
 }
 
-// The lesser of the two, where the named granule is one that may be taken.
-fn lesser<H: Held>(config: &Config, held: &H, best: Option<u64>, name: &Name) -> Option<u64>
-    ensures { result ≡ spec.lesser config.now.granules (H.cells held.now) best name.now }
+// The lesser of the two, where the named granule is one that may be taken: its tag isn't told yet.
+fn lesser<H: Held>(
+    sight: &HeldSight<'_, H>,
+    keeps: bool,
+    best: Option<u64>,
+    name: &Name,
+) -> Option<u64>
+    ensures { result ≡ spec.lesser sight.now.config.now.granules keeps (H.cells sight.now.held.now) best name.now }
 {
     let granule = name.granule;
-    if is_granule(config, granule) && !is_held(held, Pa::new(granule)) && is_less(granule, best) {
+    if is_granule(sight.config, granule) && !sight.is_told(keeps, name) && is_less(granule, best) {
         Some(granule)
     } else {
         best
@@ -207,12 +241,16 @@ fn is_less(granule: u64, best: Option<u64>) -> bool
     }
 }
 
-/// The least granule that is named and isn't held.
+/// The least granule that is named and isn't told.
 #[tactic(auto, unfolding(crate::specs::Named::least_missing))]
-pub(crate) fn least_missing<H: Held>(config: &Config, names: &[Name], held: &H) -> Option<u64>
-    ensures { result ≡ spec.least_missing config.now.granules names.now (H.cells held.now) }
+pub(crate) fn least_missing<H: Held>(
+    sight: &HeldSight<'_, H>,
+    keeps: bool,
+    names: &[Name],
+) -> Option<u64>
+    ensures { result ≡ spec.least_missing sight.now.config.now.granules keeps names.now (H.cells sight.now.held.now) }
 {
     names
         .iter()
-        .fold(None, |best, name| lesser(config, held, best, name))
+        .fold(None, |best, name| lesser(sight, keeps, best, name))
 }

@@ -3,48 +3,17 @@
 ghost use Rattle.std.specs.Prelude.{◌≡◌, option_map, option_copied};
 ghost use Rattle.command_core.specs.Seen.{cell_of, cell_in, place_of};
 ghost use Rattle.command_core.specs.Unshaped as spec;
+ghost use Rattle.command_core.specs.Ways.{way_seen};
 
 use crate::held::Held;
+use crate::held_sight::HeldSight;
 use crate::taking::{has_wrong, is_granule, is_held};
+use crate::ways::{Way, way_taken};
 use command_words::{needed, two};
 use granule_cells::{Cell, CpuPlace};
 use granule_state::{Config, Pa};
-use realm_desc::{Realm, Rec};
-use rmm_spec::{Call, Place, Tag};
-
-#[tactic(auto, unfolding(realm_desc::specs::View::realm_record))]
-fn is_root_place(rd: Pa, realm: &Realm, place: &Place) -> bool
-    ensures { result ≡ spec.is_root_place rd realm.now place.now }
-{
-    place.rd == rd.address()
-        && place.level == realm.space.start_level()
-        && place.base == 0
-        && place.width == realm.space.width()
-}
-
-// Whether what is held there is something else than the realm's root.
-fn is_other_root(rd: Pa, realm: &Realm, cell: Option<&Cell>) -> bool
-    ensures { result ≡ spec.is_other_root rd realm.now (option_map cell_of (option_copied cell.entry)) }
-{
-    match cell {
-        None => false,
-        Some(Cell::Rtt(table)) => !is_root_place(rd, realm, &table.place()),
-        Some(_) => true,
-    }
-}
-
-#[tactic(auto, unfolding(realm_desc::specs::View::realm_record))]
-fn has_bad_root<H: Held>(config: &Config, rd: Pa, held: &H) -> bool
-    ensures { result ≡ spec.has_bad_root config.now.granules rd (cell_in rd (H.cells held.now)) (H.cells held.now) }
-{
-    match held.cell(rd) {
-        Some(Cell::Rd(realm)) => {
-            !is_granule(config, realm.root.address())
-                || is_other_root(rd, realm, held.cell(realm.root))
-        }
-        _ => false,
-    }
-}
+use realm_desc::Rec;
+use rmm_spec::{Call, Tag};
 
 fn is_other_aux(cell: Option<&Cell>) -> bool
     ensures { result ≡ spec.is_other_aux (option_map cell_of (option_copied cell.entry)) }
@@ -109,10 +78,10 @@ fn has_other_owner(rd: Pa, cell: Option<&Cell>) -> bool
     }
 }
 
-/// Whether the REC and realm of a CPU's place can't be what the place says.
-#[tactic(auto, unfolding(crate::specs::Unshaped::is_misfit))]
-pub(crate) fn is_misfit<H: Held>(config: &Config, rec: Pa, rd: Pa, held: &H) -> bool
-    ensures { result ≡ spec.is_misfit config.now.granules rec rd (H.cells held.now) }
+// Whether the REC and realm of a CPU's place can't be what the place says.
+#[tactic(auto, unfolding(crate::specs::Unshaped::is_misplaced))]
+fn is_misplaced<H: Held>(config: &Config, rec: Pa, rd: Pa, held: &H) -> bool
+    ensures { result ≡ spec.is_misplaced config.now.granules rec rd (H.cells held.now) }
 {
     let names = two(
         needed(rec.address(), Tag::Rec),
@@ -125,26 +94,51 @@ pub(crate) fn is_misfit<H: Held>(config: &Config, rec: Pa, rd: Pa, held: &H) -> 
         || has_other_owner(rd, held.cell(rec))
 }
 
-/// Whether a host's command meets cells that no shaped whole has.
-#[tactic(auto, unfolding(crate::specs::Unshaped::is_unshaped_outside))]
-pub(crate) fn is_unshaped_outside<H: Held>(config: &Config, call: &Call, held: &H) -> bool
-    ensures { result ≡ spec.is_unshaped_outside config.now.granules call.now (H.cells held.now) }
+// Whether the tables of a walk, if there is one, can't be.
+fn is_misfit_way<H: Held>(sight: &HeldSight<'_, H>, way: &Option<Way>) -> bool
+    ensures { result ≡ spec.is_misfit_way sight.now.config.now.granules (H.cells sight.now.held.now) (option_map way_seen way.now) }
+{
+    match way {
+        None => false,
+        Some(way) => sight.is_misfit_walk(way.rd, way.ipa),
+    }
+}
+
+/// Whether the REC and realm of a CPU's place, or the tables of its call's walk, can't be.
+pub(crate) fn is_misfit<H: Held>(sight: &HeldSight<'_, H>, call: &Call, rec: Pa, rd: Pa) -> bool
+    ensures { result ≡ spec.is_misfit sight.now.config.now.granules call.now rec rd (H.cells sight.now.held.now) }
+{
+    is_misplaced(sight.config, rec, rd, sight.held)
+        || is_misfit_way(sight, &sight.way_inside(call, rec, rd))
+}
+
+// Whether a part of a realm or REC that is named can't be.
+#[tactic(auto, unfolding(crate::specs::Unshaped::has_misfit_part))]
+fn has_misfit_part<H: Held>(sight: &HeldSight<'_, H>, call: &Call) -> bool
+    ensures { result ≡ spec.has_misfit_part sight.now.config.now.granules call.now (H.cells sight.now.held.now) }
 {
     match *call {
-        Call::RealmDestroy { rd } => has_bad_root(config, Pa::new(rd), held),
-        Call::RecDestroy { rec } => has_bad_aux(config, Pa::new(rec), held),
-        Call::RecEnter { rec } => has_bad_owner(config, Pa::new(rec), held),
+        Call::RealmDestroy { rd } => sight.is_misfit_root(rd),
+        Call::RecDestroy { rec } => has_bad_aux(sight.config, Pa::new(rec), sight.held),
+        Call::RecEnter { rec } => has_bad_owner(sight.config, Pa::new(rec), sight.held),
         _ => false,
     }
 }
 
+/// Whether a host's command meets cells that no shaped whole has.
+pub(crate) fn is_unshaped_outside<H: Held>(sight: &HeldSight<'_, H>, call: &Call) -> bool
+    ensures { result ≡ spec.is_unshaped_outside sight.now.config.now.granules call.now (H.cells sight.now.held.now) }
+{
+    has_misfit_part(sight, call) || is_misfit_way(sight, &way_taken(call))
+}
+
 /// Whether a command meets cells that no shaped whole has.
 #[tactic(auto, unfolding(crate::specs::Unshaped::is_unshaped))]
-pub(crate) fn is_unshaped<H: Held>(config: &Config, call: &Call, place: &CpuPlace, held: &H) -> bool
-    ensures { result ≡ spec.is_unshaped config.now.granules call.now (place_of place.now) (H.cells held.now) }
+pub(crate) fn is_unshaped<H: Held>(sight: &HeldSight<'_, H>, call: &Call, place: &CpuPlace) -> bool
+    ensures { result ≡ spec.is_unshaped sight.now.config.now.granules call.now (place_of place.now) (H.cells sight.now.held.now) }
 {
     match *place {
-        CpuPlace::Outside => is_unshaped_outside(config, call, held),
-        CpuPlace::Inside { rec, rd } => is_misfit(config, rec, rd, held),
+        CpuPlace::Outside => is_unshaped_outside(sight, call),
+        CpuPlace::Inside { rec, rd } => is_misfit(sight, call, rec, rd),
     }
 }

@@ -9,6 +9,7 @@ mod data;
 mod granule;
 mod inside;
 mod outside;
+mod reached;
 mod realm;
 mod rec;
 mod reply;
@@ -19,6 +20,7 @@ mod unprotected;
 
 pub use inside::answer_inside;
 pub use outside::answer_outside;
+pub use reached::reached_change;
 pub use realm_desc::{Realm, Rec};
 pub use rec_steps::{input_error, realm_error, rec_error};
 pub use reply::{accepted_at, done, done_with, table_error, told};

@@ -1,3 +1,4 @@
 pub mod Disagreements
 pub mod Lists
+pub mod Rising
 pub mod Runs

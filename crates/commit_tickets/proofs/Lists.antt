@@ -36,12 +36,12 @@ commit_is commit ticket entry same_ticket same_command same_reply =
     λ i. record { ticket = same_ticket i; command = same_command i; reply = same_reply i }
 
 -- an entry of the CPU is listed first
-listed-own : (ticket cpu : ℕ) (entry : JournalEntry) (entries : List JournalEntry) → entry.cpu ≡ cpu
+pub listed-own : (ticket cpu : ℕ) (entry : JournalEntry) (entries : List JournalEntry) → entry.cpu ≡ cpu
     → listed_from ticket cpu (entry ∷ entries) ≡ commit_at ticket entry ∷ listed_from (suc ticket) cpu entries
 listed-own ticket cpu entry entries own = rw (eq-eqb entry.cpu cpu own) refl
 
 -- and one of another CPU isn't
-listed-other : (ticket cpu : ℕ) (entry : JournalEntry) (entries : List JournalEntry) → (entry.cpu ≡ cpu → ⊥)
+pub listed-other : (ticket cpu : ℕ) (entry : JournalEntry) (entries : List JournalEntry) → (entry.cpu ≡ cpu → ⊥)
     → listed_from ticket cpu (entry ∷ entries) ≡ listed_from (suc ticket) cpu entries
 listed-other ticket cpu entry entries other = rw (ne_eqb entry.cpu cpu other) refl
 

@@ -1,5 +1,5 @@
 -- Why a commit is refused.
-use Rattle.std.specs.Prelude.{◌≡◌, ℕ, ◌⊎◌, IsTrue, IsOk, List}
+use Rattle.std.specs.Prelude.{◌≡◌, ℕ, ◌<◌, ◌⊎◌, IsTrue, IsOk, List, length}
 use Rattle.rmm_spec.specs.declared.change.Change.{Change}
 use Rattle.rmm_spec.specs.declared.command.Command.{Command}
 use Rattle.rmm_spec.specs.declared.reply.Reply.{Reply}
@@ -44,10 +44,10 @@ pub record Disagree (granules cpu : ℕ) (command : Command) (hold : Hold) (conf
   pub step : LocalStep granules cpu command given hold new
   pub refused : (last next : State) → IsRun (opening config) entries last → Step last cpu command given next → ⊥
 
--- Memory is refused only where the journal or the token has no room for one commit more, or a table is made. The two
--- disagree only where what is held does with the books.
+-- Memory is refused only where the journal or the token has no room for one commit more, or a table is made. They
+-- disagree only where what is held does with the books, or where the journal has fewer entries than the token was told of.
 abbrev pub HasCause : CommitFault → ℕ → Command → JournalView → TokenView → List HeldCell → Type 0
 HasCause NoMemory granules command journal token cells =
     (journal.room ≡ 0) ⊎ ((token.room ≡ 0) ⊎ MakesTable granules command journal token cells)
 HasCause Disagrees granules command journal token cells =
-    Disagree granules token.cpu command (hold_with journal token cells) journal.config journal.entries
+    Disagree granules token.cpu command (hold_with journal token cells) journal.config journal.entries ⊎ (length journal.entries < token.seen)

@@ -25,7 +25,8 @@ pub record JournalView : Type 0 where
   pub side : Side
   pub room : ℕ
 
--- A CPU, where it is, its own commits in their order, for how many more its list has room, and why its last commit was refused.
+-- A CPU, where it is, its own commits in their order, for how many more its list has room, why its last commit was refused, and of
+-- how many entries of the journal, from the first on, it was told.
 pub record TokenView : Type 0 where
   pub cpu : ℕ
   pub place : CpuPlace
@@ -33,9 +34,10 @@ pub record TokenView : Type 0 where
   pub mine : List Committed
   pub room : ℕ
   pub fault : Option CommitFault
+  pub seen : ℕ
 
 abbrev pub before_commits : ℕ → TokenView
-before_commits cpu = record { cpu = cpu; place = Outside; is_stopped = false; mine = []; room = 0; fault = None }
+before_commits cpu = record { cpu = cpu; place = Outside; is_stopped = false; mine = []; room = 0; fault = None; seen = 0 }
 
 -- the tokens of the first so many CPUs
 abbrev pub first_tokens : ℕ → List TokenView

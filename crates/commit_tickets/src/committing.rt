@@ -1,14 +1,14 @@
 //! A CPU commits a command on the cells that it holds.
 
-ghost use Rattle.std.specs.Prelude.{◌≡◌, ◌+◌, ◌<◌, [], ◌∷◌, ◌++◌, length, Some, None, IsTrue, IfOk, IfErr, OnOk, OnErr};
+ghost use Rattle.std.specs.Prelude.{◌≡◌, ◌+◌, ◌<◌, ◌≤◌, [], ◌∷◌, ◌++◌, length, Some, None, Err, IsTrue, IfOk, IfErr, OnOk, OnErr};
 ghost use Rattle.rmm_spec.specs.Call.{call_of};
 ghost use Rattle.rmm_spec.specs.Local.{LocalStep};
 ghost use Rattle.command_core.specs.Changed.{hold_of};
 ghost use Rattle.command_core.specs.Seen.{place_of};
-ghost use Rattle.command_core.specs.Served.{is_served};
 ghost use Rattle.command_core.specs.Settled.{is_settled};
 ghost use Rattle.command_core.specs.Sides.{side_of};
 ghost use Rattle.granule_lock.specs.HeldCells.{hold_cells};
+ghost use Rattle.commit_tickets.specs.declared.fault.CommitFault.TheVariants.{Disagrees};
 ghost use Rattle.commit_tickets.specs.Faults.{HasCause};
 ghost use Rattle.commit_tickets.specs.View.{entry, hold_with};
 
@@ -29,10 +29,10 @@ pub struct Done {
     pub reply: Reply,
 }
 
-/// Commits a served command that what is held settles, as `next_lock` tells by Ready, by the token of its CPU. The reply is
+/// Commits a command that what is held settles, as `next_lock` tells by Ready, by the token of its CPU. The reply is
 /// decided on the held cells and offered to the journal's books. Where they give it, the cells, the side table and the token's
-/// place make the step; where they don't, or memory is refused, nothing changes but that the token keeps the fault. It waits
-/// for nobody.
+/// place make the step; where they don't, or memory is refused, or the journal has fewer entries than the token was told of,
+/// nothing changes but that the token keeps the fault. The ticket is at or past what the token was told of. It waits for nobody.
 pub fn commit<S: Site>(
     alloc: Global,
     journal: &mut Journal<S>,
@@ -40,7 +40,6 @@ pub fn commit<S: Site>(
     hold: &mut Hold,
     command: &Command,
 ) -> Result<Done, CommitFault>
-    requires served { IsTrue (is_served (call_of command.now)) }
     requires settled { IsTrue (is_settled S.granules (call_of command.now) (place_of token.old.place) (hold_cells hold.old)) }
     ensures ticket { IfOk result (λ done. done.ticket ≡ length journal.old.entries) }
     ensures journal { IfOk result (λ done. journal.new ≡ record journal.old {
@@ -53,7 +52,10 @@ pub fn commit<S: Site>(
       mine = token.old.mine ++ record { ticket = done.ticket; command = command.now; reply = done.reply } ∷ [];
       room = token.new.room;
       fault = None;
+      seen = done.ticket + 1;
     }) }
+    ensures told { IfOk result (λ done. token.old.seen ≤ done.ticket) }
+    ensures short { length journal.old.entries < token.old.seen → result ≡ Err Disagrees }
     ensures step { IfOk result (λ done. LocalStep S.granules token.old.cpu command.now done.reply
         (hold_with journal.old token.old (hold_cells hold.old)) (hold_with journal.new token.new (hold_cells hold.new))) }
     ensures cause { IfErr result (λ fault. HasCause fault S.granules command.now journal.old token.old (hold_cells hold.old)) }
@@ -64,6 +66,10 @@ pub fn commit<S: Site>(
 {
     applied_decisions_are_local();
     let cpu = token.cpu;
+    if (journal.len() as u64) < token.seen {
+        token.fault = Some(CommitFault::Disagrees);
+        return Err(CommitFault::Disagrees);
+    }
     // what each `?` answers
     token.fault = Some(CommitFault::NoMemory);
     let (reply, change) = decide(
@@ -93,5 +99,6 @@ pub fn commit<S: Site>(
     token
         .mine
         .push_reserved(Committed::of(ticket, command, listed));
+    token.seen = journal.entries.len() as u64;
     Ok(Done { ticket, reply })
 }

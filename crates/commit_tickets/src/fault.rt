@@ -11,7 +11,8 @@ use thiserror::Error;
 pub enum CommitFault {
     #[error("no memory")]
     NoMemory,
-    #[error("the books don't give the reply that the held cells give")]
+    /// The books don't give the reply that the held cells give, or the journal has fewer entries than the token was told of.
+    #[error("the journal disagrees with the held cells or the token")]
     Disagrees,
 }
 

@@ -1,7 +1,8 @@
 //! The journal of all commits, and the tokens by which CPUs commit on the cells that they hold; nothing here waits.
 //! It promises that the journal is always a run of the specification machine, and its books that run's last state; that a
-//! commit is a local step of what is held with the reply that its one entry has, or changes nothing and has its cause; that
-//! the journal has as many entries as all tokens list; and that `is_listed_by` tells whether they are the same, CPU by CPU.
+//! commit is a local step of what is held with the reply that its one entry has, or changes nothing and has its cause; that it
+//! comes after all entries that its token was told of, by `meet` or by its own commits; that the journal has as many entries as
+//! all tokens list; and that `is_listed_by` tells whether they are the same, CPU by CPU.
 //! The monitor and the runs of threads keep one such journal behind a lock.
 #![tactic(auto)]
 
@@ -10,6 +11,7 @@ mod committing;
 mod fault;
 mod journal;
 mod listing;
+mod meeting;
 mod numbers;
 mod opening;
 mod same;
@@ -19,6 +21,7 @@ mod token;
 pub use committing::{Done, commit};
 pub use fault::CommitFault;
 pub use journal::{Journal, JournalEntry};
+pub use meeting::meet;
 pub use numbers::Numbers;
 pub use site::Site;
 pub use token::{Committed, CpuToken};

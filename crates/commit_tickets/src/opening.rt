@@ -38,6 +38,7 @@ impl<S: Site> Journal<S> {
                 is_stopped: false,
                 mine: Vec::new(alloc),
                 fault: None,
+                seen: 0,
                 share: rest.split_off(1, 0),
             })?;
         }

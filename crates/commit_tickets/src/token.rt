@@ -1,6 +1,7 @@
 //! The token of a CPU.
 
 ghost use Rattle.std.specs.Prelude.{◌≡◌, true};
+ghost use Rattle.commit_tickets.specs.Told.{RiseWithin};
 ghost use Rattle.commit_tickets.specs.View.{TokenView};
 
 use crate::fault::CommitFault;
@@ -31,8 +32,8 @@ impl Committed {
     }
 }
 
-/// What a CPU commits by: where it is, its own commits in their order, and why its last try was refused, if it was. Its share
-/// of the ledger takes no bytes.
+/// What a CPU commits by: where it is, its own commits in their order, why its last try was refused, if it was, and how much
+/// of the journal it was told of. Its share of the ledger takes no bytes.
 #[derive(Drop)]
 pub struct CpuToken<S: Site> {
     pub(crate) cpu: u8,
@@ -41,6 +42,8 @@ pub struct CpuToken<S: Site> {
     pub(crate) mine: Vec<Committed>,
     // set by `commit` alone
     pub(crate) fault: Option<CommitFault>,
+    // how many entries of the journal it was told of
+    pub(crate) seen: u64,
     pub(crate) share: Share<S>,
 }
 
@@ -50,11 +53,12 @@ impl<S: Site> Model for CpuToken<S> {
     ghost Value = { TokenView };
 
     ghost use Rattle.std.specs.Prelude.{◌≡◌, vec_len};
+    ghost use Rattle.commit_tickets.specs.Told.{RiseWithin};
     ghost use Rattle.commit_tickets.specs.View.{spare};
 
-    ghost view = { λ t. record { cpu = t.cpu; place = t.place; is_stopped = t.is_stopped; mine = t.mine.items; room = spare t.mine; fault = t.fault } };
+    ghost view = { λ t. record { cpu = t.cpu; place = t.place; is_stopped = t.is_stopped; mine = t.mine.items; room = spare t.mine; fault = t.fault; seen = t.seen } };
 
-    ghost invariant = { λ t. (t.share.parts ≡ 1) × (t.share.amount ≡ vec_len t.mine) };
+    ghost invariant = { λ t. (t.share.parts ≡ 1) × (t.share.amount ≡ vec_len t.mine) × RiseWithin 0 t.seen t.mine.items };
 }
 
 impl<S: Site> CpuToken<S> {
@@ -71,9 +75,10 @@ impl<S: Site> CpuToken<S> {
         self.place
     }
 
-    /// The CPU's own commits, in their order.
+    /// The CPU's own commits, in their order. Their tickets rise.
     pub fn mine(&self) -> &[Committed]
-        ensures { result.now ≡ self.now.mine }
+        ensures mine { result.now ≡ self.now.mine }
+        ensures rising { RiseWithin 0 self.now.seen self.now.mine }
     {
         self.mine.as_slice()
     }
@@ -83,6 +88,13 @@ impl<S: Site> CpuToken<S> {
         ensures { result ≡ self.now.fault }
     {
         self.fault
+    }
+
+    /// Of how many entries of the journal, from the first on, the CPU was told.
+    pub fn seen_len(&self) -> u64
+        ensures { result ≡ self.now.seen }
+    {
+        self.seen
     }
 
     pub fn is_stopped(&self) -> bool

@@ -5,9 +5,7 @@ ghost use Rattle.command_core.specs.Changed.{hold_of, AreHeld, CanMake};
 ghost use Rattle.command_core.specs.Seen.{place_of};
 ghost use Rattle.command_core.specs.Sides.{side_of};
 
-use command_core::{
-    Cell, CpuPlace, Held, Next, PlainHeld, Side, apply, decide, next_lock, room, served,
-};
+use command_core::{Cell, CpuPlace, Held, Next, PlainHeld, Side, apply, decide, next_lock, room};
 use granule_state::{Config, Pa};
 use rmi_codec::{read_command, read_reply};
 use rmm_spec::{Change, Command, Reply, Tag};
@@ -91,9 +89,6 @@ fn answer(
     holder: &mut Holder,
     command: &Command,
 ) -> Result<Option<Reply>, AllocError> {
-    if !served(command) {
-        return Ok(None);
-    }
     let Next::Ready = next_lock(config, command, &holder.place, None, &holder.held) else {
         return Ok(None);
     };

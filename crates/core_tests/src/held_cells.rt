@@ -1,60 +1,9 @@
-//! Held cells in a list of their own, and which commands are served.
+//! Held cells in a list of their own.
 
-use arrayvec::ArrayVec;
-use command_core::{Cell, Held, PlainHeld, served};
+use command_core::{Cell, Held, PlainHeld};
 use granule_state::Pa;
-use rmm_spec::{Command, FunctionId, Tag};
+use rmm_spec::Tag;
 use std::test::Fail;
-
-fn is_served(function: FunctionId) -> bool {
-    served(&Command {
-        function,
-        words: ArrayVec::new(),
-    })
-}
-
-#[test]
-fn commands_that_walk_no_table_are_served(rt: HostRuntime) {
-    for function in [
-        FunctionId::GranuleDelegate,
-        FunctionId::GranuleUndelegate,
-        FunctionId::RealmCreate,
-        FunctionId::RealmActivate,
-        FunctionId::RealmDestroy,
-        FunctionId::RecCreate,
-        FunctionId::RecDestroy,
-        FunctionId::RecEnter,
-        FunctionId::MeasurementRead,
-        FunctionId::MeasurementExtend,
-        FunctionId::RealmConfig,
-        FunctionId::IpaStateSet,
-        FunctionId::HostCall,
-        FunctionId::CpuOff,
-        FunctionId::SystemOff,
-        FunctionId::Exit,
-    ] {
-        assert!(rt; is_served(function));
-    }
-}
-
-#[test]
-fn commands_that_walk_are_not(rt: HostRuntime) {
-    for function in [
-        FunctionId::RttCreate,
-        FunctionId::RttDestroy,
-        FunctionId::DataCreate,
-        FunctionId::DataCreateUnknown,
-        FunctionId::DataDestroy,
-        FunctionId::RttMapUnprotected,
-        FunctionId::RttUnmapUnprotected,
-        FunctionId::RttReadEntry,
-        FunctionId::RttInitRipas,
-        FunctionId::RttSetRipas,
-        FunctionId::IpaStateGet,
-    ] {
-        assert!(rt; !is_served(function));
-    }
-}
 
 #[test]
 fn a_cell_is_replaced_at_its_granule(rt: HostRuntime) -> Result<(), Fail> {

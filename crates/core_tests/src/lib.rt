@@ -1,7 +1,7 @@
 //! Nothing but tests, of what stands below the locks: realms and RECs, and the monitor's core.
 //! Expected lines and digests come from outside, worked out by hand from the profile or by another program.
-//! `descriptors` has realms and RECs by their calls; `held_cells` held cells and which commands are served; `plans` what a CPU
-//! does next; `decisions` what it is answered; `unshaped` cells that no shape has.
+//! `descriptors` has realms and RECs by their calls; `held_cells` held cells; `plans` and `tables` what a CPU does next;
+//! `decisions` what it is answered; `unshaped` cells that no shape has.
 //! Nothing depends on it.
 #![tactic(auto)]
 
@@ -13,5 +13,7 @@ mod descriptors;
 mod held_cells;
 #[cfg(test)]
 mod plans;
+#[cfg(test)]
+mod tables;
 #[cfg(test)]
 mod unshaped;

@@ -1,7 +1,8 @@
-//! What a CPU does next on a quiet machine of 16 granules: two realms with a REC each, at 1000 with its REC above it, and at
-//! 9000 with its REC below it. Each line is a command and what its CPU does until it is ready.
+//! What a CPU does next on a quiet machine of 32 granules: two realms with a REC each, at 1000 with its REC above it, and at
+//! 9000 with its REC below it, and from 10000 on one with tables. Each line is a command and what its CPU does until it is ready.
 
-use command_core::{Cell, CpuPlace, Held, Next, PlainHeld, next_lock, served};
+use crate::tables;
+use command_core::{Cell, CpuPlace, Held, Next, PlainHeld, next_lock};
 use granule_state::{Config, Pa};
 use realm_desc::{HashAlgorithm, Realm, Rec, Space};
 use rmi_codec::read_command;
@@ -102,6 +103,7 @@ fn cell_at(alloc: Global, granule: Pa) -> Result<Cell, AllocError> {
         0x8000 => root(alloc, 0x9000)?,
         0x9000 => realm(0x8000, 2),
         0xb000 | 0xc000 | 0xd000 | 0xe000 => Cell::Delegated,
+        0x1_0000.. => tables::cell_at(alloc, granule)?,
         _ => Cell::Undelegated,
     })
 }
@@ -163,10 +165,7 @@ impl Caller {
 
     // Does what comes next, and returns whether it is ready.
     fn go(&mut self, alloc: Global, place: &CpuPlace, command: &Command) -> Result<bool, Fail> {
-        let config = Config::new(16, 2).ok_or("no such machine")?;
-        if !served(command) {
-            return Err(Fail::from("a command that isn't served"));
-        }
+        let config = Config::new(32, 2).ok_or("no such machine")?;
         let held = self.held(alloc)?;
         let next = next_lock(&config, command, place, self.learnt, &held);
         self.follow(&next)?;
@@ -185,8 +184,12 @@ impl Caller {
     }
 }
 
-// Each line is what a CPU does that holds nothing.
-fn expect_traces<R: Abort + AllocGlobal>(rt: &R, place: &CpuPlace, text: &str) -> Result<(), Fail> {
+/// Each line is what a CPU does that holds nothing.
+pub(crate) fn expect_traces<R: Abort + AllocGlobal>(
+    rt: &R,
+    place: &CpuPlace,
+    text: &str,
+) -> Result<(), Fail> {
     for line in text.lines() {
         let (command, expected) = line.split_once(" -> ").ok_or("a line without a trace")?;
         let trace = Caller::new(rt.alloc(), None).trace(rt.alloc(), place, command)?;
@@ -232,7 +235,7 @@ fn stray(seed: &mut u64) -> Pa {
     *seed = seed
         .wrapping_mul(6_364_136_223_846_793_005)
         .wrapping_add(1_442_695_040_888_963_407);
-    Pa::new((*seed >> 33) % 16 * 0x1000)
+    Pa::new((*seed >> 33) % 32 * 0x1000)
 }
 
 // A CPU that holds up to six granules that no plan led to.
@@ -248,8 +251,8 @@ fn strayed(alloc: Global, seed: &mut u64) -> Result<Caller, AllocError> {
     Ok(caller)
 }
 
-// For each command 200 CPUs become ready.
-fn expect_ready<R: Abort + AllocGlobal>(
+/// For each command 200 CPUs become ready.
+pub(crate) fn expect_ready<R: Abort + AllocGlobal>(
     rt: &R,
     place: &CpuPlace,
     commands: &str,

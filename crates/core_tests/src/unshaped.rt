@@ -2,7 +2,7 @@
 //! Each line is a command and the cells that are held for it, by their names in `named_cell`.
 
 use crate::plans::{inside, realm, rec};
-use command_core::{Cell, CpuPlace, Held, Next, PlainHeld, Side, decide, next_lock, served};
+use command_core::{Cell, CpuPlace, Held, Next, PlainHeld, Side, decide, next_lock};
 use granule_state::{Config, Pa};
 use rmi_codec::read_command;
 use rmm_spec::{Change, Command, Entry, Place, Reply};
@@ -134,9 +134,6 @@ fn decided(
     held: &PlainHeld,
 ) -> Result<Option<(Reply, Change)>, Fail> {
     let config = Config::new(16, 2).ok_or("no such machine")?;
-    if !served(command) {
-        return Err(Fail::from("a command that isn't served"));
-    }
     let Next::Ready = next_lock(&config, command, place, None, held) else {
         return Ok(None);
     };

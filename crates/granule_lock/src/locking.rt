@@ -3,7 +3,6 @@
 ghost use Rattle.std.specs.Prelude.{◌≡◌, ℕ, [], false, Option, IsTrue, IfSome, IfNone};
 ghost use Rattle.rmm_spec.specs.Call.{call_of};
 ghost use Rattle.command_core.specs.Seen.{place_of, is_held};
-ghost use Rattle.command_core.specs.Served.{is_served};
 ghost use Rattle.command_core.specs.Settled.{is_settled};
 ghost use Rattle.granule_lock.specs.HeldCells.{hold_cells};
 ghost use Rattle.granule_lock.specs.Locked.{AreGranules, IsPlannedStep, IsReached, locking};
@@ -15,7 +14,7 @@ use granule_state::{Config, Pa};
 use rmm_spec::Command;
 use std::sync::Wait;
 
-/// Takes and frees granules as the plan of a served command says, from a hold of none until what is held settles it.
+/// Takes and frees granules as the plan of a command says, from a hold of none until what is held settles it.
 pub fn lock_for<R: Wait>(
     rt: &R,
     granules: &Granules,
@@ -25,7 +24,6 @@ pub fn lock_for<R: Wait>(
     hold: &mut Hold,
 )
     requires size { granules.now.granules ≡ config.now.granules }
-    requires served { IsTrue (is_served (call_of command.now)) }
     requires none { hold_cells hold.old ≡ [] }
     ensures settled { IsTrue (is_settled config.now.granules (call_of command.now) (place_of place.now) (hold_cells hold.new)) }
     ensures granules { AreGranules granules.now.granules (hold_cells hold.new) }
@@ -52,7 +50,6 @@ fn goes_on<R: Wait>(
     learnt: &mut Option<Pa>,
 ) -> bool
     requires size { granules.now.granules ≡ config.now.granules }
-    requires served { IsTrue (is_served (call_of command.now)) }
     requires granules { AreGranules granules.now.granules (hold_cells hold.old) }
     ensures settled { result ≡ false → IsTrue (is_settled config.now.granules (call_of command.now) (place_of place.now) (hold_cells hold.new)) }
     ensures stays { result ≡ false → hold.new ≡ hold.old }

@@ -253,19 +253,24 @@ bad_behind history rest line is_history none bad =
       behind_good (history_lines history) rest line each (λ n some. InHistories-front history n is_history some) bad,
     )
 
--- the text with the next event, and what is left
+-- the text with the next event
+pub history_text-next : (history : History) (event : Event)
+    → history_text (record history { events = history.events ++ event ∷ [] }) ≡ history_text history ++ (line_text (event_parts event) ++ 10 ∷ [])
+history_text-next history event =
+    ap (λ (ls : List (List (List ℕ))). lines_text (config_parts history.config ∷ ls)) (map_push event_parts history.events event)
+    ∙ lines_text-push (history_lines history) (event_parts event)
+
+-- and with what is left
 history_text-push : (history : History) (event : Event) (rest front more : List ℕ) → rest ≡ front ++ 10 ∷ more → IsEventOf history.config.cpus (parts_of front) event
     → history_text history ++ rest ≡ history_text (record history { events = history.events ++ event ∷ [] }) ++ more
 history_text-push history event rest front more rest_is is_event =
     let spelled : line_text (event_parts event) ≡ front = ap line_text (sym is_event.spelled) ∙ join_with_byte-slice_split 32 front in
-    let lines = history_lines history in
     ap (λ r. history_text history ++ r) rest_is ∙ ap (λ b. history_text history ++ (b ++ 10 ∷ more)) (sym spelled)
     ∙ ap (λ r. history_text history ++ r) (sym (append_assoc (line_text (event_parts event)) (10 ∷ []) more))
     ∙ sym (append_assoc (history_text history) (line_text (event_parts event) ++ 10 ∷ []) more)
-    ∙ ap (λ t. t ++ more) (sym (ap (λ (ls : List (List (List ℕ))). lines_text (config_parts history.config ∷ ls)) (map_push event_parts history.events event)
-    ∙ lines_text-push lines (event_parts event)))
+    ∙ ap (λ t. t ++ more) (sym (history_text-next history event))
 
--- the text with the next event
+-- the text with the event of a line
 pub history_text-line : (history : History) (event : Event) (front : List ℕ) → IsEventOf history.config.cpus (parts_of front) event
     → history_text (record history { events = history.events ++ event ∷ [] }) ≡ history_text history ++ (front ++ 10 ∷ [])
 history_text-line history event front is_event =

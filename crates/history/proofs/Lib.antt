@@ -1,5 +1,6 @@
 pub mod SubhistoryLaws
 pub mod RoomLaws
+mod FrontLaws
 pub mod GrammarLaws
 pub mod SpellingLaws
 mod EntryLaws

@@ -1,6 +1,5 @@
 -- What the first bytes of a text say of its bad line, before the header and behind it.
 use Rattle.std.proofs.Common.{◌≡◌, ℕ, ◌<◌, List, [], ◌∷◌, ◌++◌, length, Option, Some, None, sym, ap, ◌∙◌, subst, arith, append_assoc}
-use Rattle.std.proofs.lemmas.List.{append-nil}
 use Rattle.line_pieces.proofs.Pieces.{newlines-lines}
 use Rattle.line_pieces.specs.Newlines.{newlines}
 use Rattle.rmm_spec.specs.HistoryText.{InHistories}
@@ -38,17 +37,6 @@ pub of_line : (P : List ℕ → Type 0) (old piece now rest last later : List �
 of_line P old piece now rest last later same is_rest each =
     of_piece P old piece now rest same
     (λ more. subst P (sym (ap (λ r. now ++ (r ++ more)) is_rest ∙ ap (λ r. now ++ r) (append_assoc last (10 ∷ later) more))) (each (later ++ more)))
-
--- a line that lies whole in the piece
-pub whole_line : (front new begun last : List ℕ) → begun ≡ [] → new ≡ front ++ (last ++ 10 ∷ []) → new ++ begun ≡ front ++ begun ++ (last ++ 10 ∷ [])
-whole_line front new begun last none is_new =
-    subst (λ b. new ++ b ≡ front ++ b ++ (last ++ 10 ∷ [])) (sym none)
-    (append-nil new ∙ is_new ∙ ap (λ f. f ++ (last ++ 10 ∷ [])) (sym (append-nil front)))
-
-pub of_whole_line : (P : List ℕ → Type 0) (front begun last : List ℕ) → begun ≡ [] → ((more : List ℕ) → P (front ++ (last ++ 10 ∷ more)))
-    → (more : List ℕ) → P (front ++ begun ++ (last ++ 10 ∷ more))
-of_whole_line P front begun last none each more =
-    subst (λ b. P (front ++ b ++ (last ++ 10 ∷ more))) (sym none) (subst (λ f. P (f ++ (last ++ 10 ∷ more))) (sym (append-nil front)) (each more))
 
 -- a line that was begun and is too long with more of its bytes
 pub too_long_held : (read : Option Recording) (begun last more : List ℕ) → IsReadWell read → HasNoNewline (begun ++ last) → 256 < length (begun ++ last)

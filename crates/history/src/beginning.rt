@@ -1,6 +1,6 @@
 //! The beginning of a history's text.
 
-ghost use Rattle.std.specs.Prelude.{⊤, ◌≡◌, ◌<◌, ℕ, List, [], ◌∷◌, ◌++◌, IfOk, IfErr, OnOk};
+ghost use Rattle.std.specs.Prelude.{◌≡◌, ◌<◌, ℕ, List, [], ◌∷◌, ◌++◌, ◌≤◌, length, take, IfOk, IfErr, OnOk, IfSome, IfNone};
 ghost use Rattle.line_pieces.specs.Newlines.{newlines};
 ghost use Rattle.rmm_spec.specs.HistoryText.{InHistories, IsHistoryText};
 ghost use Rattle.rmm_spec.specs.Text.{HasNoNewline, IsBadLine};
@@ -9,8 +9,8 @@ ghost use Rattle.history.specs.Pieces.{IsReadWell, next_number};
 
 use crate::fault::HistoryFault;
 use crate::history::History;
-use crate::reading::read_line;
-use line_pieces::UnfinishedLine;
+use crate::reading::{read_line, record_front};
+use line_pieces::{MOST_BYTES, UnfinishedLine};
 use rmi_codec::next_line;
 use std::alloc::Global;
 use std::marker::Model;
@@ -54,37 +54,48 @@ impl Beginning {
         ensures fault { IfErr result (λ fault. (more : List ℕ) → IsFaultOf (self.old ++ (piece.now ++ more)) fault) }
     {
         let mut rest = piece;
-        while let Some((last, more)) = next_line(rest) {
+        while !rest.is_empty() {
+            if let Some(count) = self.take_front(rest) {
+                rest = rest.split_at(count).1;
+                continue;
+            }
+            let Some((last, more)) = next_line(rest) else {
+                return self.hold(rest);
+            };
             self.end_line(last)?;
             rest = more;
         }
-        self.hold(rest)
+        Ok(())
+    }
+
+    /// Reads the line at a text's front, where it lies there whole, is no header and has the form of nearly all lines, and tells
+    /// how long it is. Else nothing changes.
+    #[inline(always)]
+    fn take_front(&mut self, text: &[u8]) -> Option<usize>
+        ensures read { IfSome result (λ count. self.new ≡ self.old ++ take count text.now) }
+        ensures some { IfSome result (λ count. 0 < count) }
+        ensures inside { IfSome result (λ count. count ≤ length text.now) }
+        ensures none { IfNone result (self.new ≡ self.old) }
+    {
+        if !self.line.is_empty() {
+            return None;
+        }
+        let Some(history) = &mut self.history else {
+            return None;
+        };
+        record_front(history, &mut self.words, text)
     }
 
     /// Reads the line that these bytes end.
-    #[inline(always)]
+    #[inline(never)]
     fn end_line(&mut self, last: &[u8]) -> Result<(), HistoryFault>
         requires { HasNoNewline last.now }
         ensures read { OnOk result (self.new ≡ self.old ++ (last.now ++ 10 ∷ [])) }
         ensures fault { IfErr result (λ fault. (more : List ℕ) → IsFaultOf (self.old ++ (last.now ++ 10 ∷ more)) fault) }
     {
-        if self.line.is_empty() {
-            return read_line(self.alloc, &mut self.history, &mut self.words, last);
-        }
-        self.end_held_line(last)
-    }
-
-    /// Reads the line that was begun in an earlier piece.
-    #[inline(never)]
-    fn end_held_line(&mut self, last: &[u8]) -> Result<(), HistoryFault>
-        requires { HasNoNewline last.now }
-        ensures read { OnOk result (self.new ≡ self.old ++ (last.now ++ 10 ∷ [])) }
-        ensures fault { IfErr result (λ fault. (more : List ℕ) → IsFaultOf (self.old ++ (last.now ++ 10 ∷ more)) fault) }
-    {
-        if !self.line.extend(last) {
+        let Some(line) = whole_line(&mut self.line, last) else {
             return Err(HistoryFault::BadLine(next_number(&self.history)));
-        }
-        let line = self.line.bytes();
+        };
         read_line(self.alloc, &mut self.history, &mut self.words, line)?;
         self.line.clear();
         Ok(())
@@ -126,6 +137,34 @@ impl Beginning {
         }
         Ok(history)
     }
+}
+
+/// The line that these bytes end, where it isn't too long: they themselves, where none of it came in an earlier piece.
+#[inline(always)]
+fn whole_line<'l>(begun: &'l mut UnfinishedLine, last: &'l [u8]) -> Option<&'l [u8]>
+    requires { HasNoNewline last.now }
+    ensures line { IfSome result (λ line. line.now ≡ begun.old ++ last.now) }
+    ensures no_newline { IfSome result (λ line. HasNoNewline line.now) }
+    ensures too_long { IfNone result ((MOST_BYTES < length (begun.old ++ last.now)) × HasNoNewline (begun.old ++ last.now)) }
+{
+    if begun.is_empty() {
+        return Some(last);
+    }
+    held_line(begun, last)
+}
+
+/// The line that was begun in an earlier piece and that these bytes end, where it isn't too long.
+#[inline(never)]
+fn held_line<'l>(begun: &'l mut UnfinishedLine, last: &[u8]) -> Option<&'l [u8]>
+    requires { HasNoNewline last.now }
+    ensures line { IfSome result (λ line. line.now ≡ begun.old ++ last.now) }
+    ensures no_newline { IfSome result (λ line. HasNoNewline line.now) }
+    ensures too_long { IfNone result ((MOST_BYTES < length (begun.old ++ last.now)) × HasNoNewline (begun.old ++ last.now)) }
+{
+    if !begun.extend(last) {
+        return None;
+    }
+    Some(begun.bytes())
 }
 
 /// The number of the line behind those that are read.

@@ -124,7 +124,7 @@ fn append(words: &mut Vec<u64>, more: &[u64]) -> Result<Stretch, AllocError>
     ensures capacity { vec_capacity words.old ≤ vec_capacity words.new }
 {
     let first = words.len() as u32;
-    words.reserve(more.len())?;
+    make_room(words, more.len())?;
     for word in more {
         words.push_reserved(*word);
     }
@@ -132,6 +132,21 @@ fn append(words: &mut Vec<u64>, more: &[u64]) -> Result<Stretch, AllocError>
         first,
         count: more.len() as u8,
     })
+}
+
+/// Makes room for so many words more. It is there nearly always.
+#[inline(always)]
+fn make_room(words: &mut Vec<u64>, more: usize) -> Result<(), AllocError>
+    ensures items { words.new.items ≡ words.old.items }
+    ensures len { vec_len words.new ≡ vec_len words.old }
+    ensures ok { OnOk result (vec_len words.new + more ≤ vec_capacity words.new) }
+    ensures capacity { vec_capacity words.old ≤ vec_capacity words.new }
+    ensures sure { vec_len words.old + more ≤ vec_capacity words.old → IsOk result }
+{
+    if more <= words.capacity() - words.len() {
+        return Ok(());
+    }
+    words.reserve(more)
 }
 
 /// The event of an entry, of the call with that number.

@@ -1,6 +1,7 @@
 //! Lines, read to a history.
 
-ghost use Rattle.std.specs.Prelude.{◌≡◌, ◌+◌, ◌<◌, ℕ, List, [], ◌∷◌, ◌++◌, length, false, IsTrue, IfOk, IfErr, OnOk, OnErr};
+ghost use Rattle.std.specs.Prelude.{◌≡◌, ◌+◌, ◌<◌, ℕ, List, [], ◌∷◌, ◌++◌, ◌≤◌, length, take, false, IsTrue, IfOk, IfErr, IfSome, IfNone, OnOk, OnErr};
+ghost use Rattle.rmi_codec.specs.Head.{head_text};
 ghost use Rattle.rmm_spec.specs.HistoryText.{IsEvent, history_text};
 ghost use Rattle.rmm_spec.specs.Text.{HasNoNewline, parts_of};
 ghost use Rattle.history.specs.EventRef.{event_seen};
@@ -12,7 +13,10 @@ use crate::event_ref::EventRef;
 use crate::fault::HistoryFault;
 use crate::history::{History, MOST_LINES};
 use crate::line::header_from;
-use rmi_codec::{Head, Parts, command_from, head_from, reply_from};
+use rmi_codec::{
+    Head, Parts, command_at, command_from, err_at, head_at, head_from, ok_at, reply_from,
+};
+use rmi_view::ReplyRef;
 use std::alloc::{AllocError, Global};
 
 /// Reads the line after those that are read, the header where none is. Its words are read to the buffer.
@@ -122,6 +126,84 @@ fn record_line(
     }
 }
 
+/// Records the event that a text begins with, where its line is whole and in the form of nearly all lines and the event can be
+/// next, and tells how long the line is. Else nothing is recorded, and the line is to be read once more.
+#[inline(always)]
+pub(crate) fn record_front(
+    history: &mut History,
+    words: &mut [u64; 10],
+    text: &[u8],
+) -> Option<usize>
+    ensures recorded { IfSome result (λ end. history_text history.new.recorded ≡ history_text history.old.recorded ++ take end text.now) }
+    ensures some { IfSome result (λ end. 0 < end) }
+    ensures inside { IfSome result (λ end. end ≤ length text.now) }
+    ensures none { IfNone result (history.new.recorded ≡ history.old.recorded) }
+{
+    if !history.has_room() {
+        return None;
+    }
+    let cpus = history.config().cpus();
+    let (cpu, number, at) = head_at(text, cpus, MOST_LINES as u32)?;
+    match text[0] {
+        b'c' => {
+            let (command, end) = command_at(words, text, at)?;
+            let event = EventRef::Called {
+                cpu,
+                number,
+                command,
+            };
+            record_to(history, event, end)
+        }
+        b'r' => {
+            let Some((words, end)) = ok_at(words, text, at) else {
+                return record_refusal(history, text, cpu, number, at);
+            };
+            let reply = ReplyRef::Ok(words);
+            record_to(history, EventRef::Returned { cpu, number, reply }, end)
+        }
+        _ => None,
+    }
+}
+
+/// Records the return of a refusal whose line has its head before a place.
+#[inline(never)]
+fn record_refusal(
+    history: &mut History,
+    text: &[u8],
+    cpu: u8,
+    number: u32,
+    at: usize,
+) -> Option<usize>
+    requires head { take at text.now ≡ head_text 114 cpu number }
+    requires cpu { cpu < history.old.recorded.config.cpus }
+    requires place { at < length text.now }
+    requires room { length history.old.recorded.events + 1 < MOST_LINES }
+    ensures recorded { IfSome result (λ end. history_text history.new.recorded ≡ history_text history.old.recorded ++ take end text.now) }
+    ensures on { IfSome result (λ end. at < end) }
+    ensures inside { IfSome result (λ end. end ≤ length text.now) }
+    ensures none { IfNone result (history.new.recorded ≡ history.old.recorded) }
+{
+    let (status, index, end) = err_at(text, at)?;
+    let reply = ReplyRef::Err(status, index);
+    record_to(history, EventRef::Returned { cpu, number, reply }, end)
+}
+
+/// Records an event of a line that ends at a place, and gives the place, where the event is its CPU's next.
+#[inline(always)]
+fn record_to(history: &mut History, event: EventRef<'_>, end: usize) -> Option<usize>
+    requires is_event { IsEvent history.old.recorded.config.cpus (event_seen event) }
+    requires room { length history.old.recorded.events + 1 < MOST_LINES }
+    ensures recorded { IfSome result (λ place. history.new.recorded
+        ≡ record history.old.recorded { events = history.old.recorded.events ++ event_seen event.entry ∷ [] }) }
+    ensures place { IfSome result (λ place. place ≡ end) }
+    ensures none { IfNone result (history.new.recorded ≡ history.old.recorded) }
+{
+    match record(history, event) {
+        Ok(true) => Some(end),
+        _ => None,
+    }
+}
+
 /// Records an event, where it is its CPU's next.
 #[inline(always)]
 fn record(history: &mut History, event: EventRef<'_>) -> Result<bool, AllocError>
@@ -131,6 +213,8 @@ fn record(history: &mut History, event: EventRef<'_>) -> Result<bool, AllocError
         → history.new.recorded ≡ record history.old.recorded { events = history.old.recorded.events ++ event_seen event.entry ∷ [] }) }
     ensures refused { IfOk result (λ done. done ≡ false → ¬ Continues history.old.recorded (event_seen event.entry)) }
     ensures no_memory { OnErr result (Continues history.old.recorded (event_seen event.entry)) }
+    ensures kept { IfOk result (λ done. done ≡ false → history.new.recorded ≡ history.old.recorded) }
+    ensures unrecorded { OnErr result (history.new.recorded ≡ history.old.recorded) }
 {
     if !history.continues(event) {
         return Ok(false);

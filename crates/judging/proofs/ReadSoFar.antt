@@ -1,5 +1,5 @@
 -- One piece more of a source.
-use Rattle.std.proofs.Common.{◌≡◌, ℕ, List, [], ◌∷◌, ◌++◌, take, Option, Some, None, refl, sym, ap, ◌∙◌, subst}
+use Rattle.std.proofs.Common.{◌≡◌, ℕ, List, [], ◌∷◌, ◌++◌, Option, Some, None, refl, sym, ap, ◌∙◌, subst}
 use Rattle.std.specs.Prelude.{IfSome}
 use Rattle.std.specs.List.{flat_map}
 use Rattle.std.specs.Io.KnownBytes.{Consumes, IsAtEnd}
@@ -15,9 +15,6 @@ GivesPieces-push gives old middle new [] piece same step = (new, (subst (λ s. g
 GivesPieces-push gives old middle new (first ∷ pieces) piece (next, (given, rest)) step =
     (next, (given, GivesPieces-push gives next middle new pieces piece rest step))
 
-pub Gives-none : {S : Type 0} (gives : S → List ℕ → S → Type 0) (s : S) → Gives gives s [] s
-Gives-none gives s = ([], (refl, refl))
-
 pub Gives-next : {S : Type 0} (gives : S → List ℕ → S → Type 0) (old middle new : S) (text piece : List ℕ) → Gives gives old text middle
     → gives middle piece new → Gives gives old (text ++ piece) new
 Gives-next gives old middle new text piece (pieces, (is_text, given)) step =
@@ -27,10 +24,6 @@ Gives-next gives old middle new text piece (pieces, (is_text, given)) step =
     (pieces ++ piece ∷ [], (ap (λ t. t ++ piece) is_text ∙ sym joined, GivesPieces-push gives old middle new pieces piece given step))
 
 -- ---- what is left of its text
-
-Consumes-none : (left : Option (List ℕ)) → Consumes left left []
-Consumes-none None = tt
-Consumes-none (Some xs) = refl
 
 Consumes-next : (old middle new : Option (List ℕ)) (front back : List ℕ) → Consumes old middle front → Consumes middle new back
     → Consumes old new (front ++ back)
@@ -54,15 +47,6 @@ pub record IsReadUpTo {S T : Type 0} (gives : S → List ℕ → S → Type 0) (
   pub given : Gives gives old text now
   pub left : Consumes (left_of old) (left_of now) text
   pub handed : (before : List ℕ) → has_taken taker before [] → has_taken taken before text
-
-pub IsReadUpTo-none : {S T : Type 0} (gives : S → List ℕ → S → Type 0) (left_of : S → Option (List ℕ)) (has_taken : T → List ℕ → List ℕ → Type 0)
-    (s : S) (taker : T) → IsReadUpTo gives left_of has_taken s s taker taker
-IsReadUpTo-none gives left_of has_taken s taker = record {
-  text = [];
-  given = Gives-none gives s;
-  left = Consumes-none (left_of s);
-  handed = λ before given. given;
-}
 
 -- a piece more is read and handed on
 pub IsReadUpTo-next : {S T : Type 0} (gives : S → List ℕ → S → Type 0) (left_of : S → Option (List ℕ)) (has_taken : T → List ℕ → List ℕ → Type 0)

@@ -1,9 +1,7 @@
 //! Commits on cells that were taken from granules.
 
 ghost use Rattle.std.specs.Prelude.{◌≡◌, ◌<◌, IsTrue};
-ghost use Rattle.rmm_spec.specs.Call.{call_of};
 ghost use Rattle.rmm_spec.specs.Lookup.{is_granule};
-ghost use Rattle.command_core.specs.Served.{is_served};
 ghost use Rattle.granule_lock.specs.HeldCells.{hold_cells};
 ghost use Rattle.granule_lock.specs.Locked.{AreGranules};
 
@@ -22,10 +20,7 @@ use std::test::Fail;
 /// What came of a commit, or nothing where the hold isn't what the command's plan asks for.
 type Answer = Option<Result<Done, CommitFault>>;
 
-#[tactic(auto, unfolding(rmm_spec::specs::Call::call_from, command_core::specs::Served::is_served))]
-fn delegate(address: u64) -> Command
-    ensures { IsTrue (is_served (call_of result)) }
-{
+fn delegate(address: u64) -> Command {
     let mut words = ArrayVec::new();
     words.push(address);
     Command {

@@ -90,7 +90,43 @@ commits-le (t ∷ tokens) (p ∷ passes) same few =
       commits-le tokens passes (omega (arith, same)) (λ k. few (suc k)),
     )
 
+-- tokens and passes of two CPUs are those of all
+pub cpus-of_two : (monitor : MonitorView) (first second : TokenView) (first_pass second_pass : CpuView) → monitor.config.cpus ≡ 2
+    → ArePaired monitor first first_pass → ArePaired monitor second second_pass → first.cpu ≡ 0 → second.cpu ≡ 1
+    → AreCpus monitor (first ∷ second ∷ []) (first_pass ∷ second_pass ∷ [])
+cpus-of_two monitor first second first_pass second_pass two pair second_pair is_first is_second = record {
+  pairs = record { same_count = refl; each = paired_at };
+  count = sym two;
+  numbered = numbered_at;
+}
+  where
+    paired_at : (cpu : ℕ) (token : TokenView) (pass : CpuView) → slice_get (first ∷ second ∷ []) cpu ≡ Some token
+        → slice_get (first_pass ∷ second_pass ∷ []) cpu ≡ Some pass → ArePaired monitor token pass
+    paired_at zero token pass at pass_at =
+        subst (λ t. ArePaired monitor t pass) (same_Some _ _ at) (subst (λ p. ArePaired monitor first p) (same_Some _ _ pass_at) pair)
+    paired_at (suc zero) token pass at pass_at =
+        subst (λ t. ArePaired monitor t pass) (same_Some _ _ at) (subst (λ p. ArePaired monitor second p) (same_Some _ _ pass_at) second_pair)
+    paired_at (suc (suc cpu)) token pass at pass_at = absurd (none-some token at)
+
+    numbered_at : (cpu : ℕ) (token : TokenView) → slice_get (first ∷ second ∷ []) cpu ≡ Some token → token.cpu ≡ cpu
+    numbered_at zero token at = ap (λ (t : TokenView). t.cpu) (sym (same_Some _ _ at)) ∙ is_first
+    numbered_at (suc zero) token at = ap (λ (t : TokenView). t.cpu) (sym (same_Some _ _ at)) ∙ is_second
+    numbered_at (suc (suc cpu)) token at = absurd (none-some token at)
+
 -- ---- with one changed
+
+-- whatever a token was told of, it is paired
+pub paired-told : (monitor : MonitorView) (token new : TokenView) (pass : CpuView) (seen : ℕ) → new ≡ record token { seen = seen }
+    → ArePaired monitor token pass → ArePaired monitor new pass
+paired-told monitor token new pass seen is_new pair =
+    subst (λ t. ArePaired monitor t pass) (sym is_new) (record {
+      same_queue = pair.same_queue;
+      same_cpus = pair.same_cpus;
+      same_cpu = pair.same_cpu;
+      closed = pair.closed;
+      running = pair.running;
+      few = pair.few;
+    })
 
 -- a token stays its CPU's
 pub cpu-left : (command : Command) (token new : TokenView) (pass new_pass : CpuView) (answer : Result Done Refused)

@@ -51,13 +51,14 @@ unreturned pass = record pass { is_stopped = true }
 
 -- ---- the token
 
--- the token has one commit more, and the CPU may be elsewhere
+-- the token has one commit more, and was told of all up to it; the CPU may be elsewhere
 abbrev pub HasCommitted : TokenView → Command → Done → TokenView → Type 0
 HasCommitted old command done new = new ≡ record old {
   place = new.place;
   mine = old.mine ++ record { ticket = done.ticket; command = command; reply = done.reply } ∷ [];
   room = new.room;
   fault = None;
+  seen = done.ticket + 1;
 }
 
 -- nothing was committed, for which the token keeps the fault
@@ -83,6 +84,12 @@ Leaves command token pass (Err Disagrees) new_token new_pass =
     HasFailed (record token { is_stopped = true }) commit.Disagrees new_token × (new_pass ≡ called pass command)
 Leaves command token pass (Err Full) new_token new_pass = (new_token ≡ token) × (new_pass ≡ pass)
 Leaves command token pass (Err Stopped) new_token new_pass = (new_token ≡ token) × (new_pass ≡ pass)
+
+-- what was committed has a ticket at or past what its token had been told of
+abbrev pub IsPastSeen : TokenView → Result Done Refused → Type 0
+IsPastSeen token (Ok done) = token.seen ≤ done.ticket
+IsPastSeen token (Err (Unrecorded done)) = token.seen ≤ done.ticket
+IsPastSeen token _ = Unit {0}
 
 -- a full queue is answered only where it was full at some moment, while the pass had the events that it has now
 abbrev pub FullAtSomeMoment : ℕ → CpuView → Result Done Refused → Type 0

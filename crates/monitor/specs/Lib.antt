@@ -3,3 +3,4 @@ pub mod Executed
 pub mod Causes
 pub mod Cpus
 pub mod Closed
+pub mod ToldOrder

@@ -4,11 +4,10 @@ ghost use Rattle.std.specs.Prelude.{◌≡◌, ◌≤◌, ◌↔◌, true, false
 ghost use Rattle.rmm_spec.specs.Call.{call_of};
 ghost use Rattle.rmm_spec.specs.CommandText.{IsCommand};
 ghost use Rattle.command_core.specs.Seen.{place_of};
-ghost use Rattle.command_core.specs.Served.{is_served};
 ghost use Rattle.command_core.specs.Settled.{is_settled};
 ghost use Rattle.granule_lock.specs.HeldCells.{hold_cells};
 ghost use Rattle.monitor.specs.Causes.{HadCause, FaultHadCause};
-ghost use Rattle.monitor.specs.Executed.{ArePaired, Leaves, FullAtSomeMoment, HasCalled, HasCommitted, HasFailed, returned, unreturned};
+ghost use Rattle.monitor.specs.Executed.{ArePaired, Leaves, FullAtSomeMoment, HasCalled, HasCommitted, HasFailed, IsPastSeen, returned, unreturned};
 ghost use Rattle.granule_lock.specs.Locked.{AreGranules};
 ghost use Rattle.monitor.specs.declared.refused.Refused.TheVariants as refused;
 
@@ -24,7 +23,7 @@ use std::alloc::Global;
 use std::sync::Wait;
 
 impl<S: Site> Monitor<S> {
-    /// Executes a served command by the token and the pass of its CPU: records the call, locks the command's granules, passes
+    /// Executes a command by the token and the pass of its CPU: records the call, locks the command's granules, passes
     /// the gate, commits under the journal's lock, frees the granules and records the return. What refused the commit is what
     /// the token keeps. Whatever is answered, no granule stays locked. The pass tells whether its next number is still one of a history.
     pub fn execute<R: Wait, G: Gate>(
@@ -37,10 +36,10 @@ impl<S: Site> Monitor<S> {
         command: Command,
     ) -> Result<Done, Refused>
         requires pair { ArePaired self.now token.old pass.old }
-        requires served { IsTrue (is_served (call_of command)) }
         requires command { IsCommand command }
         requires number { pass.old.stand.next ≤ 999999 }
         ensures leaves { Leaves command token.old pass.old result token.new pass.new }
+        ensures told { IsPastSeen token.old result }
         ensures pair { ArePaired self.now token.new pass.new }
         ensures stopped { (result ≡ Err refused.Stopped) ↔ IsTrue token.old.is_stopped }
         ensures full { FullAtSomeMoment self.now.capacity pass.new result }
@@ -76,11 +75,11 @@ impl<S: Site> Monitor<S> {
         gate: &G,
         command: &Command,
     ) -> Result<Done, CommitFault>
-        requires served { IsTrue (is_served (call_of command.now)) }
         requires called { HasCalled token.old command.now pass.now }
         requires unlocked { hold_cells hold.old ≡ [] }
         ensures unlocked { hold_cells hold.new ≡ [] }
         ensures done { IfOk result (λ done. HasCommitted token.old command.now done token.new) }
+        ensures told { IfOk result (λ done. token.old.seen ≤ done.ticket) }
         ensures fault { IfErr result (λ fault. HasFailed token.old fault token.new) }
         ensures cause { IfErr result (λ fault. HadCause self.now.config fault command.now token.old) }
     {
@@ -103,12 +102,12 @@ impl<S: Site> Monitor<S> {
         hold: &mut Hold,
         command: &Command,
     ) -> Result<Done, CommitFault>
-        requires served { IsTrue (is_served (call_of command.now)) }
         requires called { HasCalled token.old command.now _pass.now }
         requires granules { AreGranules self.now.config.granules (hold_cells hold.old) }
         requires settled { IsTrue (is_settled self.now.config.granules (call_of command.now) (place_of token.old.place) (hold_cells hold.old)) }
         ensures granules { AreGranules self.now.config.granules (hold_cells hold.new) }
         ensures done { IfOk result (λ done. HasCommitted token.old command.now done token.new) }
+        ensures told { IfOk result (λ done. token.old.seen ≤ done.ticket) }
         ensures fault { IfErr result (λ fault. HasFailed token.old fault token.new) }
         ensures cause { IfErr result (λ fault. HadCause self.now.config fault command.now token.old) }
     {

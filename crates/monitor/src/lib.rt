@@ -1,7 +1,8 @@
 //! The monitor on running threads: what a CPU's thread calls for a command, and what a scribe makes of the run.
 //! It promises what each answer of `execute` leaves of the CPU's token and pass, and that no granule stays locked after it;
 //! that a refused commit has its cause; that a drain appends what it took; and that a close gives each CPU's whole list as
-//! history and the journal, which the tokens list, as certificate. Calls may wait, and promise where they return.
+//! history and the journal, which the tokens list, as certificate; and that there a call comes after all calls that its token
+//! was told of. Calls may wait, and promise where they return.
 //! `thread_runs` and `bench` run their threads through it.
 #![tactic(auto)]
 
@@ -12,11 +13,13 @@ mod gate;
 mod journal_lines;
 mod monitor;
 mod refused;
+mod told_order;
 
 pub use certificate::Certificate;
 pub use close_fault::CloseFault;
-pub use commit_tickets::{CpuToken, Done, Site};
+pub use commit_tickets::{CpuToken, Done, Site, meet};
 pub use event_queue::{CpuPass, History, ScribePass, fit_a_history};
 pub use gate::{Gate, Open};
 pub use monitor::Monitor;
 pub use refused::Refused;
+pub use told_order::{lines_stand_at_tickets, told_calls_come_first};

@@ -18,7 +18,8 @@ pub enum Refused {
     /// The CPU was stopped before: nothing was recorded, and nothing ran.
     #[error("the CPU is stopped")]
     Stopped,
-    /// The journal's books don't give the reply that the locked granules give: the call is open, and nothing ran.
+    /// The journal's books don't give the reply that the locked granules give, or the journal has fewer entries than the token
+    /// was told of: the call is open, and nothing ran.
     #[error("the granules and the journal disagree")]
     Disagrees,
 }

@@ -11,7 +11,10 @@ use std::io;
 use std::io::{ErrorKind, Read, Seek, SeekFrom, Write};
 use std::rt::{Env, Files};
 
-/// A file that gives a few bytes a read, and fails in this way once it was read so often.
+/// The most bytes of a text that are read at once.
+const MOST_PIECE: usize = 4096;
+
+/// A file that gives a few bytes a read, and fails in this way once it was read so often, or where more than a piece is asked for.
 #[derive(Clone, Copy)]
 pub struct TestFile {
     pub bytes: &'static [u8],
@@ -21,7 +24,7 @@ pub struct TestFile {
 
 impl Read for TestFile {
     fn read(&mut self, buf: &mut [u8]) -> io::Result<usize> {
-        if self.reads == 0 {
+        if self.reads == 0 || buf.len() > MOST_PIECE {
             return Err(io::Error::from(self.failure));
         }
         self.reads -= 1;

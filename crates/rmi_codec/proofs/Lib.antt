@@ -4,5 +4,6 @@ pub mod NumberLaws
 pub mod PartLaws
 pub mod PrefixLaws
 pub mod WriteLaws
+mod FrontLaws
 mod FunctionLaws
 pub mod ResultLaws

@@ -1,6 +1,6 @@
 //! Functions, by their numbers.
 
-ghost use Rattle.std.specs.Prelude.{◌≡◌, ◌≢◌, ◌≤◌, ◌∷◌, ℕ, List, length, Some, IfSome, IfNone};
+ghost use Rattle.std.specs.Prelude.{◌≡◌, ◌≢◌, ◌≤◌, ◌∷◌, ℕ, List, length, take, Some, IfSome, IfNone};
 ghost use Rattle.rmm_spec.specs.declared.function_id.FunctionId.{FunctionId};
 ghost use Rattle.rmm_spec.specs.Function.{number_of, word_count};
 ghost use Rattle.rmm_spec.specs.Text.{fixed_hex, parts_of};
@@ -51,6 +51,7 @@ fn function_spelled(bytes: u64) -> Option<FunctionId>
 }
 
 /// How many words a function takes.
+#[inline(always)]
 #[tactic(auto, unfolding(rmm_spec::specs::Function::word_count))]
 pub fn words_of(function: FunctionId) -> usize
     ensures { result ≡ word_count function }
@@ -81,6 +82,20 @@ pub fn words_of(function: FunctionId) -> usize
     }
 }
 
+// The function whose number a text begins with.
+#[inline(always)]
+pub(crate) fn function_front(text: &[u8]) -> Option<FunctionId>
+    requires { 8 ≤ length text.now }
+    ensures found { IfSome result (λ f. take 8 text.now ≡ fixed_hex 8 (number_of f)) }
+    ensures none { IfNone result ((f : FunctionId) → take 8 text.now ≢ fixed_hex 8 (number_of f)) }
+{
+    let bytes = [
+        text[0], text[1], text[2], text[3], text[4], text[5], text[6], text[7],
+    ];
+    let function = function_spelled(u64::from_be_bytes(bytes))?;
+    Some(function)
+}
+
 // The function whose number is the first part of a line.
 #[inline(always)]
 pub(crate) fn function_prefix(line: &[u8]) -> Option<FunctionId>
@@ -94,9 +109,6 @@ pub(crate) fn function_prefix(line: &[u8]) -> Option<FunctionId>
     if !is_end(line, 8) {
         return None;
     }
-    let bytes = [
-        line[0], line[1], line[2], line[3], line[4], line[5], line[6], line[7],
-    ];
-    let function = function_spelled(u64::from_be_bytes(bytes))?;
+    let function = function_front(line)?;
     Some(function)
 }

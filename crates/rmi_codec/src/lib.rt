@@ -1,5 +1,6 @@
 //! The texts of commands and replies: the parts of a line, numbers, readers and writers.
-//! It promises that a reader accepts exactly the texts of the grammar, and that what is written reads back as it was.
+//! It promises that a reader accepts exactly the texts of the grammar, and that what is written reads back as it was. Only the
+//! readers of `front.rt`, for lines that aren't cut off yet, may refuse what the others accept.
 //! The grammar is in `rmm_spec`: `specs/Text.antt` and `specs/CommandText.antt`.
 //! Readers allocate nothing, and a writer leaves what it was given where memory is refused.
 //! Histories, certificates and the checker depend on it.
@@ -9,6 +10,7 @@ mod command;
 mod decimal;
 mod fault;
 mod fixed_hex;
+mod front;
 mod function;
 mod head;
 mod limited;
@@ -23,6 +25,7 @@ mod word;
 pub use command::{command_from, push_command, read_command, write_command};
 pub use decimal::{decimal_from, push_decimal};
 pub use fault::CodecFault;
+pub use front::{command_at, err_at, head_at, ok_at};
 pub use function::words_of;
 pub use head::{Head, head_from, push_head, push_numbers};
 pub use limited::number_below;

@@ -11,7 +11,7 @@ use std::alloc::AllocError;
 // The digit of a base that a byte shows, and no less than the base where it shows none. No branch depends on the byte:
 // digits can't be foreseen.
 #[inline(always)]
-fn digit_of(byte: u8, base: u64) -> u64
+pub(crate) fn digit_of(byte: u8, base: u64) -> u64
     requires { base ≤ 16 }
     ensures shown { result < base → glyph result ≡ byte }
     ensures none { base ≤ result → (d : ℕ) → d < base → glyph d ≢ byte }
@@ -31,7 +31,7 @@ fn digit_of(byte: u8, base: u64) -> u64
 
 // The number with one digit more, where it is within the limit. Where the limit is small, the product can't pass 64 bits.
 #[inline(always)]
-fn with_digit(number: u64, base: u64, digit: u64, most: u64) -> Option<u64>
+pub(crate) fn with_digit(number: u64, base: u64, digit: u64, most: u64) -> Option<u64>
     requires number { number ≤ most }
     requires base { base ≤ 16 }
     requires digit { digit < base }

@@ -1,10 +1,10 @@
 //! A table and its methods.
 
-ghost use Rattle.std.specs.Prelude.{All, ◌≡◌, ℕ, ◌<◌, ◌≤◌, ◌↔◌, IsTrue, IfOk, IfSome, length, map, replicate, Some, slice_get, slice_set};
+ghost use Rattle.std.specs.Prelude.{All, ◌≡◌, ◌<◌, ◌≤◌, ◌↔◌, IsTrue, IfOk, length, map, replicate, Some, slice_get, slice_set};
 ghost use Rattle.std.specs.List.{list_any};
 ghost use Rattle.rmm_spec.specs.Update.{entry_with_ripas};
 ghost use Rattle.rmm_spec.specs.Walk.{is_live, is_table};
-ghost use Rattle.rmm_spec.specs.Table.{entry_index, has_ripas, entries_with_ripas, AreAlike};
+ghost use Rattle.rmm_spec.specs.Table.{entry_index, entries_with_ripas, AreAlike};
 
 use granule_state::Ipa;
 use rmm_spec::{Entry, Place, Ripas};
@@ -97,11 +97,17 @@ impl Table {
         are_all(&self.entries, self.entries[0])
     }
 
-    /// Changes the RIPAS of the entries from `from` up to but not `to`.
+    /// The table stands at another place.
+    pub fn set_place(&mut self, place: Place)
+        ensures { self.new ≡ record self.old { place = place } }
+    {
+        self.place = place;
+    }
+
+    /// Changes the RIPAS of the entries from `from` up to but not `to`, of those that have one.
     pub fn set_ripas(&mut self, from: usize, to: usize, ripas: Ripas)
         requires order { from ≤ to }
         requires within { to ≤ 512 }
-        requires have { (k : ℕ) → from ≤ k → k < to → IfSome (slice_get self.old.entries k) (λ e. IsTrue (has_ripas e)) }
         ensures { self.new ≡ record self.old { entries = entries_with_ripas from to ripas self.old.entries } }
     {
         change_ripas(&mut self.entries[from..to], ripas);

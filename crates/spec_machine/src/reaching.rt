@@ -1,15 +1,10 @@
 //! The stretch that a command sets up, as far as the reply says.
 
-ghost use Rattle.std.specs.Prelude.{◌≡◌};
-ghost use Rattle.rmm_spec.specs.Step.Ripas as spec;
-
 use crate::machine::Machine;
 use crate::reply::only_word;
+use command_rows::reached_change;
 use rmi_view::ReplyRef;
-use rmm_spec::{
-    Change, EntryChange, RealmChange, RealmUpdate, RecChange, RecUpdate, Ripas, Stretch, StretchUse,
-};
-use table_entries::entry_number;
+use rmm_spec::Stretch;
 
 impl Machine {
     ghost use Rattle.std.specs.Prelude.{◌≡◌, ◌≤◌, ℕ, IsTrue, false, Ok};
@@ -40,45 +35,5 @@ impl Machine {
             unreachable!()
         };
         true
-    }
-}
-
-/// What is changed where the stretch is set up to top.
-#[tactic(auto, unfolding(rmm_spec::specs::Step::Ripas::reached_change))]
-pub(crate) fn reached_change(stretch: &Stretch, top: u64) -> Change
-    ensures { result ≡ spec.reached_change stretch.now top }
-{
-    let rd = stretch.rd;
-    let level = stretch.level;
-    let base = stretch.base;
-    let first = entry_number(level, base);
-    let last = entry_number(level, top);
-    match stretch.purpose {
-        StretchUse::Init => Change::EntriesChanged {
-            rd,
-            level,
-            entries: EntryChange::RipasSet {
-                first,
-                last,
-                ripas: Ripas::Ram,
-            },
-            page: None,
-            realm: Some(RealmChange {
-                rd,
-                update: RealmUpdate::StretchMeasured { base, top },
-            }),
-            rec: None,
-        },
-        StretchUse::Requested { rec, ripas } => Change::EntriesChanged {
-            rd,
-            level,
-            entries: EntryChange::RipasSet { first, last, ripas },
-            page: None,
-            realm: None,
-            rec: Some(RecChange {
-                rec,
-                update: RecUpdate::RequestMoved { base: top },
-            }),
-        },
     }
 }

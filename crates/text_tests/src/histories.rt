@@ -7,7 +7,7 @@ use rmm_spec::{Command, FunctionId, Reply};
 use std::alloc::Global;
 use std::test::Fail;
 
-fn called(cpu: u8, number: u32, command: &str) -> Result<Event, Fail> {
+pub(crate) fn called(cpu: u8, number: u32, command: &str) -> Result<Event, Fail> {
     Ok(Event::Called {
         cpu,
         number,
@@ -15,7 +15,7 @@ fn called(cpu: u8, number: u32, command: &str) -> Result<Event, Fail> {
     })
 }
 
-fn returned(cpu: u8, number: u32, reply: &str) -> Result<Event, Fail> {
+pub(crate) fn returned(cpu: u8, number: u32, reply: &str) -> Result<Event, Fail> {
     Ok(Event::Returned {
         cpu,
         number,
@@ -23,12 +23,12 @@ fn returned(cpu: u8, number: u32, reply: &str) -> Result<Event, Fail> {
     })
 }
 
-fn empty(alloc: Global, granules: u64, cpus: u64) -> Result<History, Fail> {
+pub(crate) fn empty(alloc: Global, granules: u64, cpus: u64) -> Result<History, Fail> {
     let config = Config::new(granules, cpus).ok_or("no such machine")?;
     Ok(History::new(alloc, config))
 }
 
-fn record(history: &mut History, event: Event) -> Result<(), Fail> {
+pub(crate) fn record(history: &mut History, event: Event) -> Result<(), Fail> {
     if !history.fits(&event) || !history.has_room() {
         return Err(Fail::from("the event doesn't fit"));
     }

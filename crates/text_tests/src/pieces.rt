@@ -1,5 +1,6 @@
 //! Texts that come in pieces.
 
+use crate::histories::{called, empty, record, returned};
 use certificate::{CertFault, Certificate};
 use history::{History, HistoryFault, Reader};
 use std::alloc::Global;
@@ -104,5 +105,38 @@ fn tells_the_same_fault_from_then_on(rt: HostRuntime) -> Result<(), Fail> {
     }
     assert!(rt; matches!(reader.feed(b""), Err(HistoryFault::BadLine(2))));
     assert!(rt; bad_line_of_history(reader.finish())? == 2);
+    Ok(())
+}
+
+// A header and 249 calls that have returned.
+fn many_lines(alloc: Global) -> Result<Vec<u8>, Fail> {
+    let mut history = empty(alloc, 4, 1)?;
+    for number in 0..249 {
+        record(&mut history, called(0, number, "c4000151 1000")?)?;
+        record(&mut history, returned(0, number, "ok")?)?;
+    }
+    let mut text = Vec::new(alloc);
+    history::write(&history, &mut text)?;
+    Ok(text)
+}
+
+// Of a longer text the lines up to the bad one are enough.
+#[test]
+fn tells_a_bad_line_before_the_rest(rt: HostRuntime) -> Result<(), Fail> {
+    let mut reader = Reader::new(rt.alloc());
+    reader.feed(many_lines(rt.alloc())?.as_slice())?;
+    assert!(rt;
+        matches!(
+            reader.feed(b"c 0 250 c4000151 1000\n"),
+            Err(HistoryFault::BadLine(500))
+        )
+    );
+    assert!(rt;
+        matches!(
+            reader.feed(b"c 0 249 c4000151 1000\n"),
+            Err(HistoryFault::BadLine(500))
+        )
+    );
+    assert!(rt; bad_line_of_history(reader.finish())? == 500);
     Ok(())
 }

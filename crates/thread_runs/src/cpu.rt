@@ -1,9 +1,7 @@
 //! A CPU with one command, and what its thread does.
 
-ghost use Rattle.std.specs.Prelude.{◌≡◌, IfOk, IsTrue};
-ghost use Rattle.rmm_spec.specs.Call.{call_of};
+ghost use Rattle.std.specs.Prelude.{◌≡◌, IfOk};
 ghost use Rattle.rmm_spec.specs.CommandText.{IsCommand};
-ghost use Rattle.command_core.specs.Served.{is_served};
 ghost use Rattle.thread_runs.specs.OneCall.{delegate, CanServe, HasServed};
 
 use arrayvec::ArrayVec;
@@ -40,10 +38,9 @@ impl<S: Site> Cpu<S> {
 }
 
 /// GRANULE_DELEGATE of the granule at an address.
-#[tactic(auto, unfolding(rmm_spec::specs::Function::word_count, rmm_spec::specs::Call::call_from, command_core::specs::Served::is_served))]
+#[tactic(auto, unfolding(rmm_spec::specs::Function::word_count))]
 fn delegate(granule: u64) -> Command
     ensures command { result ≡ delegate granule }
-    ensures served { IsTrue (is_served (call_of result)) }
     ensures text { IsCommand result }
 {
     let mut words = ArrayVec::new();

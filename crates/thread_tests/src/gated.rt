@@ -1,18 +1,14 @@
 //! Two CPUs on threads of their own, one of which a gate holds up.
 
 ghost use Rattle.std.specs.Prelude.{◌≡◌, IsTrue, IfOk, IfSome};
-ghost use Rattle.rmm_spec.specs.Call.{call_of};
-ghost use Rattle.rmm_spec.specs.CommandText.{IsCommand};
-ghost use Rattle.command_core.specs.Served.{is_served};
 ghost use Rattle.event_queue.specs.View.{CanDrain};
 ghost use Rattle.monitor.specs.Cpus.{ArePairs};
 ghost use Rattle.monitor.specs.Executed.{ArePaired};
 
 use crate::monitored::{Answer, ok};
-use command_core::served;
 use granule_state::Config;
-use monitor::{CpuPass, CpuToken, Gate, History, Monitor, ScribePass, Site};
-use rmi_codec::read_command;
+use monitor::{CpuPass, CpuToken, Gate, History, Monitor, Open, ScribePass, Site};
+use rmi_codec::{read_command, read_reply};
 use rmm_spec::{Command, Reply};
 use std::alloc::{AllocError, Global};
 use std::marker::Brand;
@@ -73,42 +69,56 @@ impl Gate for Turnstile {
     }
 }
 
-/// The command of a text, if it is a served one's.
-fn served_command(text: &str) -> Option<Command>
-    ensures command { IfSome result (λ command. IsCommand command) }
-    ensures served { IfSome result (λ command. IsTrue (is_served (call_of command))) }
-{
-    let command = read_command(text).ok()?;
-    if !served(&command) {
-        return None;
-    }
-    Some(command)
-}
-
 /// A CPU's token and pass.
 #[derive(Drop)]
-struct Cpu<S: Site> {
-    token: CpuToken<S>,
-    pass: CpuPass,
+pub struct Cpu<S: Site> {
+    pub token: CpuToken<S>,
+    pub pass: CpuPass,
 }
 
 impl<S: Site> Cpu<S> {
-    /// What the CPU is answered to the command of a text, or nothing where the text isn't a served command's.
-    fn ask<R: Wait>(
+    /// The CPU after the commands of the script, a line each, or nothing where one isn't executed.
+    fn prepare<R: Wait>(
         mut self,
         rt: &R,
         alloc: Global,
         monitor: &Monitor<S>,
-        gate: &Turnstile,
-        text: &str,
-    ) -> Option<Answer>
+        script: &str,
+    ) -> Option<Cpu<S>>
         requires { ArePaired monitor.now self.token self.pass }
+        ensures { IfSome result (λ cpu. ArePaired monitor.now cpu.token cpu.pass) }
     {
-        let command = served_command(text)?;
+        for text in script.lines() {
+            let command = read_command(text).ok()?;
+            if self.pass.next_number() > 999_999 {
+                return None;
+            }
+            monitor
+                .execute(rt, alloc, &mut self.token, &mut self.pass, &Open, command)
+                .ok()?;
+        }
+        Some(self)
+    }
+
+    /// The CPU after the command of a text, and what it is answered, or nothing where the text isn't a command's.
+    pub fn ask<R: Wait, G: Gate>(
+        mut self,
+        rt: &R,
+        alloc: Global,
+        monitor: &Monitor<S>,
+        gate: &G,
+        text: &str,
+    ) -> Option<(Cpu<S>, Answer)>
+        requires { ArePaired monitor.now self.token self.pass }
+        ensures pair { IfSome result (λ asked. ArePaired monitor.now asked.0.token asked.0.pass) }
+        ensures cpu { IfSome result (λ asked. asked.0.token.cpu ≡ self.token.cpu) }
+    {
+        let command = read_command(text).ok()?;
         if self.pass.next_number() > 999_999 {
             return None;
         }
-        Some(monitor.execute(rt, alloc, &mut self.token, &mut self.pass, gate, command))
+        let answer = monitor.execute(rt, alloc, &mut self.token, &mut self.pass, gate, command);
+        Some((self, answer))
     }
 
     /// The same once CPU 0 is held up.
@@ -128,12 +138,12 @@ impl<S: Site> Cpu<S> {
         }
         let answer = self.ask(rt, alloc, monitor, gate, text);
         answered.store(true, Ordering::SeqCst);
-        answer
+        Some(answer?.1)
     }
 }
 
 /// The CPU of the last token and the last pass.
-fn last_cpu<S: Site>(
+pub fn last_cpu<S: Site>(
     monitor: &Monitor<S>,
     tokens: &mut Vec<CpuToken<S>>,
     passes: &mut Vec<CpuPass>,
@@ -146,7 +156,47 @@ fn last_cpu<S: Site>(
     Ok(Cpu { token, pass })
 }
 
-/// Both CPUs on threads of their own: CPU 0 delegates granule 1000, and CPU 1 is asked once CPU 0 is held up.
+/// Two calls, of which CPU 0 makes one and is held up in it while CPU 1 makes the other.
+#[derive(Clone, Copy)]
+enum Pair {
+    OneGranule,
+    TwoGranules,
+    TwoPages,
+    PageAndRead,
+}
+
+/// A realm with two tables of pages, for 0 and for 200000.
+const TWO_SUBTREES: &str =
+    "c4000151 1000\nc4000151 2000\nc4000151 3000\nc4000151 4000\nc4000151 5000\nc4000151 6000\n\
+    c4000151 7000\nc4000158 1000 2000 27 1 1 0\nc400015d 1000 3000 0 2\nc400015d 1000 4000 0 3\nc400015d 1000 5000 200000 3\n";
+
+impl Pair {
+    /// What CPU 0 executes before.
+    fn script(self) -> &'static str {
+        match self {
+            Pair::OneGranule | Pair::TwoGranules => "",
+            Pair::TwoPages | Pair::PageAndRead => TWO_SUBTREES,
+        }
+    }
+
+    fn first(self) -> &'static str {
+        match self {
+            Pair::OneGranule | Pair::TwoGranules => "c4000151 1000",
+            Pair::TwoPages | Pair::PageAndRead => "c4000154 1000 6000 0",
+        }
+    }
+
+    fn second(self) -> &'static str {
+        match self {
+            Pair::OneGranule => "c4000151 1000",
+            Pair::TwoGranules => "c4000151 2000",
+            Pair::TwoPages => "c4000154 1000 7000 200000",
+            Pair::PageAndRead => "c4000161 1000 200000 3",
+        }
+    }
+}
+
+/// Both CPUs on threads of their own: CPU 1 is asked once CPU 0 is held up.
 fn ask_both<S: Site + Send + Sync, R: Threads + Wait + Sync>(
     rt: &R,
     alloc: Global,
@@ -154,7 +204,7 @@ fn ask_both<S: Site + Send + Sync, R: Threads + Wait + Sync>(
     gate: &Turnstile,
     first: Cpu<S>,
     second: Cpu<S>,
-    text: &str,
+    pair: Pair,
     answered: &AtomicBool,
 ) -> (Option<Answer>, Option<Answer>)
     requires { ArePaired monitor.now first.token first.pass × ArePaired monitor.now second.token second.pass }
@@ -163,29 +213,33 @@ fn ask_both<S: Site + Send + Sync, R: Threads + Wait + Sync>(
         rt,
         || -> Option<Answer>
             requires { ArePaired monitor.now first.token first.pass }
-        { first.ask(rt, alloc, monitor, gate, "c4000151 1000") },
+        { Some(first.ask(rt, alloc, monitor, gate, pair.first())?.1) },
         || -> Option<Answer>
             requires { ArePaired monitor.now second.token second.pass }
-        { second.ask_second(rt, alloc, monitor, gate, text, answered) },
+        { second.ask_second(rt, alloc, monitor, gate, pair.second(), answered) },
     )
 }
 
-/// CPU 0 delegates a granule and is held up until CPU 1 has been answered, which delegates another. Returns both answers,
-/// and whether CPU 0 gave up waiting.
-fn delegate_apart<S: Site + Send + Sync, R: Threads + Wait + Sync>(
+/// CPU 0 executes the script, then calls and is held up until CPU 1 has been answered, which calls meanwhile. Returns both
+/// answers, and whether CPU 0 gave up waiting.
+fn ask_apart<S: Site + Send + Sync, R: Threads + Wait + Sync>(
     rt: &R,
     alloc: Global,
     blank: Blank,
     config: Config,
+    pair: Pair,
 ) -> Result<(Option<Answer>, Option<Answer>, bool), Fail>
     requires name { blank.name ≡ S.name }
     requires parts { blank.parts ≡ S.parts }
     requires one_each { blank.parts ≡ config.cpus }
     requires granules { config.granules ≡ S.granules }
 {
-    let (monitor, mut tokens, mut passes, _scribe) = Monitor::<S>::new(alloc, blank, config, 16)?;
+    let (monitor, mut tokens, mut passes, _scribe) = Monitor::<S>::new(alloc, blank, config, 64)?;
     let second = last_cpu(&monitor, &mut tokens, &mut passes)?;
     let first = last_cpu(&monitor, &mut tokens, &mut passes)?;
+    let first = first
+        .prepare(rt, alloc, &monitor, pair.script())
+        .ok_or("a script")?;
     let gate = Turnstile::new();
     let (first, second) = ask_both(
         rt,
@@ -194,7 +248,7 @@ fn delegate_apart<S: Site + Send + Sync, R: Threads + Wait + Sync>(
         &gate,
         first,
         second,
-        "c4000151 2000",
+        pair,
         &gate.is_open,
     );
     Ok((first, second, gate.ran_out.load(Ordering::SeqCst)))
@@ -208,16 +262,30 @@ fn is_answered(answer: &Option<Answer>, reply: &Reply) -> bool {
     }
 }
 
+/// Whether CPU 0 is answered `ok` and CPU 1 this, which is asked while CPU 0 is held up.
+fn passes_by<R: Threads + Wait + Sync>(
+    rt: &R,
+    alloc: Global,
+    pair: Pair,
+    reply: &Reply,
+) -> Result<bool, Fail> {
+    let config = Config::new(16, 2).ok_or("a machine of this size")?;
+    let (first, second, ran_out) = ask_apart::<Brand, R>(rt, alloc, Blank::new(2), config, pair)?;
+    Ok(is_answered(&first, &ok()) && is_answered(&second, reply) && !ran_out)
+}
+
 #[test]
 fn two_commands_under_way(rt: HostRuntime) -> Result<(), Fail> {
-    let config = Config::new(4, 2).ok_or("a machine of this size")?;
-    let (first, second, ran_out) = delegate_apart::<Brand, _>(
-        &rt,
-        rt.alloc(),
-        Blank::new(2),
-        config,
-    )?;
-    assert!(rt; is_answered(&first, &ok()) && is_answered(&second, &ok()) && !ran_out);
+    assert!(rt; passes_by(&rt, rt.alloc(), Pair::TwoGranules, &ok())?);
+    Ok(())
+}
+
+// While CPU 0 maps a page, CPU 1 maps one below the neighbouring table, or reads an entry there.
+#[test]
+fn walks_under_way_in_two_subtrees(rt: HostRuntime) -> Result<(), Fail> {
+    assert!(rt; passes_by(&rt, rt.alloc(), Pair::TwoPages, &ok())?);
+    let entry = read_reply("ok 3 0 0 0")?;
+    assert!(rt; passes_by(&rt, rt.alloc(), Pair::PageAndRead, &entry)?);
     Ok(())
 }
 
@@ -300,7 +368,7 @@ fn delegate_same<S: Site + Send + Sync, R: Threads + Wait + Sync>(
                 &gate,
                 first,
                 second,
-                "c4000151 1000",
+                Pair::OneGranule,
                 &answered,
             )
         },

@@ -1,14 +1,10 @@
 //! Runs of a monitor on one thread, with stated answers.
 
-ghost use Rattle.std.specs.Prelude.{◌≡◌, ◌<◌, [], IsTrue, IfOk};
-ghost use Rattle.rmm_spec.specs.Call.{call_of};
-ghost use Rattle.rmm_spec.specs.CommandText.{IsCommand};
-ghost use Rattle.command_core.specs.Served.{is_served};
+ghost use Rattle.std.specs.Prelude.{◌≡◌, ◌<◌, [], IfOk};
 ghost use Rattle.event_queue.specs.View.{CanDrain};
 ghost use Rattle.monitor.specs.Cpus.{AreCpus};
 
 use arrayvec::ArrayVec;
-use command_core::served;
 use granule_state::Config;
 use history::History;
 use monitor::{CpuPass, CpuToken, Done, Monitor, Open, Refused, ScribePass, Site, fit_a_history};
@@ -34,7 +30,7 @@ fn write_done(done: &Done, out: &mut Vec<u8>) -> Result<(), AllocError> {
 }
 
 /// Appends a line of what a CPU was answered: a ticket and a reply, or a refusal.
-fn write_answer(answer: &Answer, out: &mut Vec<u8>) -> Result<(), AllocError> {
+pub fn write_answer(answer: &Answer, out: &mut Vec<u8>) -> Result<(), AllocError> {
     match answer {
         Ok(done) => write_done(done, out),
         Err(Refused::Unrecorded(done)) => {
@@ -44,18 +40,6 @@ fn write_answer(answer: &Answer, out: &mut Vec<u8>) -> Result<(), AllocError> {
         Err(Refused::Stopped) => out.extend_from_slice(b"stopped\n"),
         Err(_) => out.extend_from_slice(b"refused\n"),
     }
-}
-
-/// The command of a text, which is served.
-fn command_from(text: &str) -> Result<Command, Fail>
-    ensures command { IfOk result (λ command. IsCommand command) }
-    ensures served { IfOk result (λ command. IsTrue (is_served (call_of command))) }
-{
-    let command = read_command(text)?;
-    if !served(&command) {
-        return Err("a command that is served".into());
-    }
-    Ok(command)
 }
 
 /// What a CPU is answered.
@@ -72,7 +56,7 @@ fn ask<S: Site, R: Wait>(
     requires cpu { cpu < monitor.now.config.cpus }
     ensures { AreCpus monitor.now tokens.new passes.new }
 {
-    let command = command_from(text)?;
+    let command = read_command(text)?;
     let (token, pass) = (&mut tokens[cpu], &mut passes[cpu]);
     if pass.next_number() > 999_999 {
         return Err("a number of a call".into());

@@ -15,7 +15,7 @@ use Rattle.rmm_spec.specs.Call.{ByHost, call_of, class_of}
 use Rattle.rmm_spec.specs.State.{State}
 use Rattle.rmm_spec.specs.Lookup.{realm_at, rec_at, ripas_number}
 use Rattle.rmm_spec.specs.Rows.{Row, decided, input, done}
-use Rattle.rmm_spec.specs.Walk.{entry_size, table_size, entry_number, table_number, reach, walk, half, is_unassigned, entry_ripas}
+use Rattle.rmm_spec.specs.Walk.{entry_size, table_size, entry_number, table_number, entry_at, reach, walk, half, is_unassigned, entry_ripas}
 use Rattle.rmm_spec.specs.Step.{answer_of, outcome}
 use Rattle.rmm_spec.specs.Step.Front.{with_front}
 use Rattle.rmm_spec.specs.Step.Words.{words_of}
@@ -49,19 +49,27 @@ use Rattle.walk_laws.proofs.Wholes.{Whole, state}
 
 -- ---- stretches
 
--- a stretch's entries are those of the held table at its base
-pub reached-told : {granules : ℕ} {side : Side} {held : List HeldCell} (w : Whole granules side held) (stretch : Stretch) (top g : ℕ) → stretch.level ≤ 3
-    → table_placed held stretch.rd stretch.level (table_number stretch.level stretch.base) ≡ Some g → IsReached (seen_state granules held) stretch top
-    → IsReached (state w) stretch top
-reached-told {granules} {side} {held} w stretch top g last placed reached = record {
+-- what is reached in one state is in each that has the same entries there
+reached-same : (s t : State) (stretch : Stretch) (top : ℕ) (reached : IsReached s stretch top)
+    → ((k : ℕ) → k < reached.count → entry_at s stretch.rd stretch.level (entry_number stretch.level stretch.base + k)
+    ≡ entry_at t stretch.rd stretch.level (entry_number stretch.level stretch.base + k)) → IsReached t stretch top
+reached-same s t stretch top reached same = record {
   count = reached.count;
   some = reached.some;
   is_end = reached.is_end;
   within = reached.within;
   in_table = reached.in_table;
-  each = λ k below. subst (λ e. IsTrue (can_be_set stretch.purpose e)) (sym (entry-same w g stretch.rd stretch.level (first + k)
-      (ap (table_placed held stretch.rd stretch.level) (in_table k below) ∙ placed))) (reached.each k below);
+  each = λ k below. subst (λ e. IsTrue (can_be_set stretch.purpose e)) (same k below) (reached.each k below);
 }
+
+-- a stretch's entries are those of the held table at its base
+stretch-same : {granules : ℕ} {side : Side} {held : List HeldCell} (w : Whole granules side held) (s : State) (stretch : Stretch) (top g : ℕ)
+    → stretch.level ≤ 3 → table_placed held stretch.rd stretch.level (table_number stretch.level stretch.base) ≡ Some g
+    → (reached : IsReached s stretch top) (k : ℕ) → k < reached.count
+    → entry_at (state w) stretch.rd stretch.level (entry_number stretch.level stretch.base + k)
+    ≡ entry_at (seen_state granules held) stretch.rd stretch.level (entry_number stretch.level stretch.base + k)
+stretch-same {granules} {side} {held} w s stretch top g last placed reached k below =
+    entry-same w g stretch.rd stretch.level (first + k) (ap (table_placed held stretch.rd stretch.level) in_table ∙ placed)
   where
     first : ℕ
     first = entry_number stretch.level stretch.base
@@ -72,8 +80,8 @@ reached-told {granules} {side} {held} w stretch top g last placed reached = reco
     number : ℕ
     number = table_number stretch.level stretch.base
 
-    in_table : (k : ℕ) → k < reached.count → (first + k) / 512 ≡ number
-    in_table k below =
+    in_table : (first + k) / 512 ≡ number
+    in_table =
         let starts : first * size ≤ stretch.base = entry_starts stretch.level stretch.base in
         let whole : table_size stretch.level ≡ 512 * size = table_size-entries stretch.level last in
         let bound : top ≤ (number + 1) * (512 * size) = subst (λ n. top ≤ (number + 1) * n) whole reached.in_table in
@@ -82,6 +90,20 @@ reached-told {granules} {side} {held} w stretch top g last placed reached = reco
         let most = unscaled_le (first + reached.count) ((number + 1) * 512) size scaled (entry_size-pos stretch.level) in
         let above : number ≡ first / 512 = table_number-entry stretch.level stretch.base last in
         omega (arith, most, above, below)
+
+-- what is reached in the state that is told of, and in a whole, is the same
+pub reached-told : {granules : ℕ} {side : Side} {held : List HeldCell} (w : Whole granules side held) (stretch : Stretch) (top g : ℕ) → stretch.level ≤ 3
+    → table_placed held stretch.rd stretch.level (table_number stretch.level stretch.base) ≡ Some g → IsReached (seen_state granules held) stretch top
+    → IsReached (state w) stretch top
+reached-told {granules} {side} {held} w stretch top g last placed reached =
+    reached-same (seen_state granules held) (state w) stretch top reached
+    (λ k below. sym (stretch-same w (seen_state granules held) stretch top g last placed reached k below))
+
+pub reached-seen : {granules : ℕ} {side : Side} {held : List HeldCell} (w : Whole granules side held) (stretch : Stretch) (top g : ℕ) → stretch.level ≤ 3
+    → table_placed held stretch.rd stretch.level (table_number stretch.level stretch.base) ≡ Some g → IsReached (state w) stretch top
+    → IsReached (seen_state granules held) stretch top
+reached-seen {granules} {side} {held} w stretch top g last placed reached =
+    reached-same (state w) (seen_state granules held) stretch top reached (stretch-same w (state w) stretch top g last placed reached)
 
 -- what a stretch is of, where a command leads to one
 abbrev IsStretchOf : State → Option Way → Accepted → Type 0
@@ -126,12 +148,12 @@ first-reached t cpu c stretch is =
 -- ---- any command
 
 -- a command that walks is a host's, and is answered alike on each CPU
-record IsHosts (c : Call) : Type 0 where
-  host : class_of c ≡ ByHost
-  alike : (s : State) (cpu : ℕ) → answer_of s cpu c ≡ answer_of s 0 c
+pub record IsHosts (c : Call) : Type 0 where
+  pub host : class_of c ≡ ByHost
+  pub alike : (s : State) (cpu : ℕ) → answer_of s cpu c ≡ answer_of s 0 c
 
 -- each of the ten
-hosts : (c : Call) → is_some (way_of c) ≡ true → IsHosts c
+pub hosts : (c : Call) → is_some (way_of c) ≡ true → IsHosts c
 unfolding class_of way_of answer_of
 hosts (call.RttCreate rd rtt ipa level) walks = record { host = refl; alike = λ s cpu. refl }
 hosts (call.RttDestroy rd ipa level) walks = record { host = refl; alike = λ s cpu. refl }
@@ -158,7 +180,7 @@ refused-local granules cpu command hold given each =
     Step-refused (flat_state granules cells) cpu command given (each cells places shaped agrees placed))
 
 -- the table of a stretch is held
-stretch-placed : (granules cpu : ℕ) (c : Call) (held : List HeldCell) (stretch : Stretch) → is_way_settled granules c held (way_of c) ≡ true
+pub stretch-placed : (granules cpu : ℕ) (c : Call) (held : List HeldCell) (stretch : Stretch) → is_way_settled granules c held (way_of c) ≡ true
     → answer_of (seen_state granules held) cpu c ≡ Ok (Reaches stretch)
     → (stretch.level ≤ 3) × (is_some (table_placed held stretch.rd stretch.level (table_number stretch.level stretch.base)) ≡ true)
 stretch-placed granules cpu c held stretch settled is =
@@ -200,7 +222,7 @@ answered-local granules cpu command hold (Ok (Reaches stretch)) told settled is 
     )
 
 -- what is refused before the walk
-early-error : (a : Result Accepted Reply) → is_refused_early a ≡ true → (given : Reply) × (a ≡ Err given) × (is_table_error given ≡ false)
+pub early-error : (a : Result Accepted Reply) → is_refused_early a ≡ true → (given : Reply) × (a ≡ Err given) × (is_table_error given ≡ false)
 early-error (Ok accepted) early = absurd (false≢true early)
 early-error (Err given) early = (given, refl, not-true (is_table_error given) early)
 

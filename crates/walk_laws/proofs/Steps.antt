@@ -307,7 +307,7 @@ made-held held rd level number rtt entry None is has = tt
 made-held held rd level number rtt entry (Some g) is has = (placed-is_held held rd (level - 1) (number / 512) g is, (has, tt))
 
 -- all cells that are put in are held
-cells-held : (held : List HeldCell) (change : Change) → holds_change held change ≡ true → AreHeld held (table_cells held change)
+pub cells-held : (held : List HeldCell) (change : Change) → holds_change held change ≡ true → AreHeld held (table_cells held change)
 unfolding table_cells holds_change
 cells-held held (TableMade rd level number rtt entry) holds =
     made-held held rd level number rtt entry (table_placed held rd (level - 1) (number / 512)) refl

@@ -1,8 +1,6 @@
 -- Each move is a turn, after which the world keeps what it kept.
 use Rattle.std.proofs.Common.{◌≡◌, ℕ, ◌+◌, ◌<◌, Bool, true, false, ◌==◌, if◌then◌else◌, List, [], ◌∷◌, ◌++◌, drop, slice_get, Option, Some, None, IsTrue, refl, sym, ap, ◌∙◌, subst, arith, eq-eqb}
 use Rattle.std.specs.Prelude.{Contains}
-use Rattle.std.specs.List.{list_all}
-use Rattle.std.proofs.lemmas.Bool.{and_parts}
 use Rattle.std.proofs.lemmas.Option.{none-some, same_Some}
 use Rattle.rmm_spec.specs.declared.command.Command.{Command}
 use Rattle.rmm_spec.specs.declared.event.Event.TheVariants.{Called, Returned}
@@ -27,7 +25,7 @@ use Rattle.world.specs.declared.locks.Locks.{Locks}
 use Rattle.world.specs.declared.world.World as own
 use Rattle.world.specs.Cpus.{Views, views_of, is_going, is_deciding}
 use Rattle.world.specs.Granules.{cells_of, holder_of}
-use Rattle.world.specs.Kept.{AreLocks, IsFit, AreFit, IsReached, IsTurn, serves, serves_phase, calls_made, freed_all}
+use Rattle.world.specs.Kept.{AreLocks, IsFit, AreFit, IsReached, IsTurn, calls_made, freed_all}
 use Rattle.world.specs.Next.{IsNext, next_for, AreNext}
 use Rattle.world.specs.Stepped.{MakesStep}
 use Rattle.world.specs.Whole.{world_with, world_from}
@@ -58,16 +56,16 @@ AreFit-both phase program cpu p rest here fit = record { each = λ other. by oth
     by other false = fit.each other
 
 -- a CPU that ends is fit
-ended-fit : (phase : ℕ → Phase) (program : ℕ → List Command) (cpu : ℕ) (p : Phase) → IsTrue (serves_phase p) → calls_made p ≡ 0 → AreFit phase program
+ended-fit : (phase : ℕ → Phase) (program : ℕ → List Command) (cpu : ℕ) (p : Phase) → calls_made p ≡ 0 → AreFit phase program
     → AreFit (put phase cpu p) program
-ended-fit phase program cpu p open_served none fit =
+ended-fit phase program cpu p none fit =
     let was = fit.each cpu in
-    AreFit-phase phase program cpu p (record { served = was.served; open_served = open_served; numbered = omega (arith, was.numbered, none) }) fit
+    AreFit-phase phase program cpu p (record { numbered = omega (arith, was.numbered, none) }) fit
 
 -- what is learnt leaves a CPU fit
 learnt-fit : (learnt : Option ℕ) (p : Phase) (program : List Command) → IsFit p program → IsFit (phase_learnt learnt p) program
 learnt-fit learnt (Between number) program fit = fit
-learnt-fit learnt (Deciding number command earlier) program fit = record { served = fit.served; open_served = fit.open_served; numbered = fit.numbered }
+learnt-fit learnt (Deciding number command earlier) program fit = record { numbered = fit.numbered }
 learnt-fit learnt (Decided number command given) program fit = fit
 learnt-fit learnt GivenUp program fit = fit
 learnt-fit learnt Stopped program fit = fit
@@ -180,7 +178,7 @@ module _ (s : own.World) (cpu : ℕ) (within : cpu < s.history.recorded.config.c
       made s cpu turn.Stop (Did turn.Stop) cpus s.history.recorded s.locks _ _ _ is refl refl
       (move-kept s cpu turn.Stop (move.Stop cpu) (with_views s new s.history.recorded (holder_of s.locks)) refl refl refl tt
       (record { is_cpu = within; moves = record { is_going = going-true (old.phase cpu) going; is_new = refl } })
-      s.kept.locked (ended-fit old.phase old.program cpu Stopped refl refl s.kept.fit))
+      s.kept.locked (ended-fit old.phase old.program cpu Stopped refl s.kept.fit))
 
   -- it frees all that it holds, and ends
   pub gave_up : (cpus : Cpus) (locks : Locks) → is_deciding ((views_of s.cpus).phase cpu) ≡ true
@@ -198,7 +196,7 @@ module _ (s : own.World) (cpu : ℕ) (within : cpu < s.history.recorded.config.c
       (move-kept s cpu turn.GiveUp (move.GiveUp cpu) (with_views s new s.history.recorded (freed_all (old.taken cpu) (holder_of s.locks))) refl refl refl tt
       (record { is_cpu = within; moves = record { deciding = deciding-true (world_of s) cpu (old.phase cpu) refl deciding; is_new = refl } })
       (AreLocks-cleared s.history.recorded.config.granules old.taken (holder_of s.locks) cpu s.kept.locked)
-      (ended-fit old.phase old.program cpu GivenUp refl refl s.kept.fit))
+      (ended-fit old.phase old.program cpu GivenUp refl s.kept.fit))
 
   -- it takes a lock that nobody holds
   pub took : (cpus : Cpus) (locks : Locks) (granule : ℕ) → IsRising (world_of s) cpu granule → holder_of s.locks granule ≡ None
@@ -265,14 +263,13 @@ module _ (s : own.World) (cpu : ℕ) (within : cpu < s.history.recorded.config.c
       let next : old.program cpu ≡ command ∷ rest = first-and_others (old.program cpu) command first in
       let was : IsFit (Between number) (command ∷ rest) =
       subst (λ p. IsFit p (command ∷ rest)) between (subst (IsFit (old.phase cpu)) next (s.kept.fit.each cpu)) in
-      let parts = and_parts (serves command) (list_all serves rest) was.served in
       move-kept s cpu turn.Go (move.Call cpu) (with_call number command) refl refl refl tt
       (record {
         is_cpu = within;
         moves = record { number = number; command = command; rest = rest; is_between = between; is_next = next; is_new = refl };
       })
       s.kept.locked (AreFit-both old.phase old.program cpu (Deciding number command None) rest
-      (record { served = parts.1; open_served = parts.0; numbered = omega (arith, was.numbered) }) s.kept.fit)
+      (record { numbered = omega (arith, was.numbered) }) s.kept.fit)
 
   -- what a return makes of a world's fields
   abbrev pub with_return : ℕ → Reply → Fields
@@ -294,7 +291,7 @@ module _ (s : own.World) (cpu : ℕ) (within : cpu < s.history.recorded.config.c
         moves = record { number = number; command = command; given = given; is_decided = decided; is_new = refl };
       })
       s.kept.locked (AreFit-phase old.phase old.program cpu (Between (number + 1))
-      (record { served = was.served; open_served = refl; numbered = was.numbered }) s.kept.fit)
+      (record { numbered = was.numbered }) s.kept.fit)
 
   -- its open call is committed, with the command and the reply as they were copied
   pub committed : (cells : Cells) (side : own_side.Side) (mid cpus : Cpus) (reserved entries : List Commitment) (config : Config) (number : ℕ)
@@ -345,4 +342,4 @@ module _ (s : own.World) (cpu : ℕ) (within : cpu < s.history.recorded.config.c
       (move-kept s cpu turn.Go (move.Commit cpu given step.held) f refl refl refl tt
       (record { is_cpu = within; moves = record { deciding = deciding; step = step.step; is_new = refl } })
       s.kept.locked (AreFit-phase old.phase old.program cpu (Decided number command given)
-      (record { served = was.served; open_served = refl; numbered = was.numbered }) s.kept.fit))
+      (record { numbered = was.numbered }) s.kept.fit))

@@ -96,7 +96,7 @@ commands_below-le (suc cpus) programs cpu within = by (cpu == cpus) refl (comman
 
 -- so it has a number for each
 opened-fit : (config : Config) (programs : List (Vec Command Global)) → CanOpen config programs → (cpu : ℕ) → IsFit (Between 0) (programs_of programs cpu)
-opened-fit config programs can cpu = record { served = can.served cpu; open_served = refl; numbered = by (nat_lt cpu config.cpus) refl }
+opened-fit config programs can cpu = record { numbered = by (nat_lt cpu config.cpus) refl }
   where
     by : (b : Bool) → nat_lt cpu config.cpus ≡ b → 0 + length (programs_of programs cpu) ≤ 499999
     by true within = omega (arith, can.few, commands_below-le config.cpus (programs_of programs) cpu (ltb-true cpu config.cpus within))

@@ -13,11 +13,10 @@ use Rattle.world_laws.proofs.Placed.{passing_below}
 use Rattle.command_core.specs.declared.next.Next.{Next}
 use Rattle.command_core.specs.declared.next.Next.TheVariants.{Take, Free, Ready}
 use Rattle.command_core.specs.Seen.{are_distinct}
-use Rattle.command_core.specs.Served.{is_served}
 use Rattle.command_core.specs.Next as plan
 use Rattle.command_core.specs.Plan.{IsPlanned}
 use Rattle.command_core.proofs.Steps.{next-planned}
-use Rattle.world.specs.Kept.{IsKept, serves_phase, has_taken}
+use Rattle.world.specs.Kept.{IsKept, has_taken}
 use Rattle.world.specs.Next.{is_taken, next_report, call_report, return_report, report_in, go_report, blocking, IsNoMove, StandsStill}
 use Rattle.world.proofs.Locked.{taken-contains}
 
@@ -34,7 +33,6 @@ module _ (w : World) (holder waits : ℕ → Option ℕ) (kept : IsKept w holder
       (plan.next w.config.granules (call_of command) (w.place cpu) learnt (held_cells w cpu))
   planned cpu number command learnt deciding =
       next-planned w.config.granules command (w.place cpu) learnt (held_cells w cpu)
-      (subst (λ p. IsTrue (serves_phase p)) deciding (kept.fit.each cpu).open_served)
       (subst (λ locks. IsTrue (are_distinct locks)) (sym (granules_held-cells_at w.cells (w.taken cpu))) (kept.locked.distinct cpu))
 
   -- a take that is reported as blocked is what comes next

@@ -9,7 +9,6 @@ use Rattle.rmm_spec.specs.World.{World, Phase, Between, Deciding, Decided, Given
 use Rattle.rmm_spec.specs.Waits.{Will, Report, Turns, Turn, TurnAll, waits_after}
 use Rattle.certified_laws.specs.Programs.{HaveTexts, commands_below}
 use Rattle.command_core.specs.Seen.{are_distinct}
-use Rattle.command_core.specs.Served.{is_served}
 use Rattle.world.specs.Next.{AreNext}
 
 -- Each lock's holder is the CPU that has taken it; locks are of granules, and none is taken twice.
@@ -17,14 +16,6 @@ pub record AreLocks (granules : ℕ) (taken : ℕ → List ℕ) (holder : ℕ �
   pub held : (cpu granule : ℕ) → list_any (λ lock. lock == granule) (taken cpu) ≡ is_cpu cpu (holder granule)
   pub within : (cpu : ℕ) → IsTrue (list_all (is_granule granules) (taken cpu))
   pub distinct : (cpu : ℕ) → IsTrue (are_distinct (taken cpu))
-
--- whether the core serves a command
-abbrev pub serves : Command → Bool
-serves command = is_served (call_of command)
-
-abbrev pub serves_phase : Phase → Bool
-serves_phase (Deciding number command learnt) = serves command
-serves_phase _ = true
 
 -- how many calls a CPU has made
 abbrev pub calls_made : Phase → ℕ
@@ -34,10 +25,8 @@ calls_made (Decided number command given) = number + 1
 calls_made GivenUp = 0
 calls_made Stopped = 0
 
--- A CPU's commands are served, and its calls are within the limit.
+-- A CPU's calls are within the limit.
 pub record IsFit (phase : Phase) (program : List Command) : Type 0 where
-  pub served : IsTrue (list_all serves program)
-  pub open_served : IsTrue (serves_phase phase)
   pub numbered : calls_made phase + length program ≤ 499999
 
 pub record AreFit (phase : ℕ → Phase) (program : ℕ → List Command) : Type 0 where

@@ -1,6 +1,5 @@
 -- The programs that a world is opened with.
-use Rattle.std.specs.Prelude.{◌≡◌, ℕ, ◌≤◌, IsTrue, List, [], length, Option, Some, None, Vec, slice_get}
-use Rattle.std.specs.List.{list_all}
+use Rattle.std.specs.Prelude.{◌≡◌, ℕ, ◌≤◌, List, [], length, Option, Some, None, Vec, slice_get}
 use Rattle.std.specs.declared.alloc.Global.{Global}
 use Rattle.rmm_spec.specs.declared.command.Command.{Command}
 use Rattle.rmm_spec.specs.HistoryText.{Config}
@@ -8,7 +7,6 @@ use Rattle.rmm_spec.specs.Shape.{Outside}
 use Rattle.rmm_spec.specs.World as world
 use Rattle.certified_laws.specs.Programs.{HaveTexts, commands_below}
 use Rattle.world.specs.Cpus.{Views}
-use Rattle.world.specs.Kept.{serves}
 
 abbrev pub program_in : Option (Vec Command Global) → List Command
 program_in None = []
@@ -18,15 +16,10 @@ program_in (Some program) = program.items
 abbrev pub programs_of : List (Vec Command Global) → ℕ → List Command
 programs_of programs = λ cpu. program_in (slice_get programs cpu)
 
--- the core serves each command of each program
-abbrev pub AreServed : (ℕ → List Command) → Type 0
-AreServed programs = (cpu : ℕ) → IsTrue (list_all serves (programs cpu))
-
--- A program for each CPU, of commands that are served and have texts, and no more in all than a history has room for.
+-- A program for each CPU, of commands that have texts, and no more in all than a history has room for.
 pub record CanOpen (config : Config) (programs : List (Vec Command Global)) : Type 0 where
   pub count : length programs ≡ config.cpus
   pub texts : HaveTexts config (programs_of programs)
-  pub served : AreServed (programs_of programs)
   pub few : commands_below config.cpus (programs_of programs) ≤ 499999
 
 -- what CPUs tell that have their whole programs before them

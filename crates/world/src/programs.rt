@@ -1,12 +1,10 @@
 //! Programs that a world can be opened with.
 
 ghost use Rattle.std.specs.Prelude.{◌≡◌, ◌↔◌, IsTrue};
-ghost use Rattle.std.specs.List.{AllByRecursion, list_all};
+ghost use Rattle.std.specs.List.{AllByRecursion};
 ghost use Rattle.rmm_spec.specs.CommandText.{IsCommand};
-ghost use Rattle.world.specs.Kept.{serves};
 ghost use Rattle.world.specs.Opening.{CanOpen};
 
-use command_core::served;
 use granule_state::Config;
 use rmi_codec::has_text;
 use rmm_spec::Command;
@@ -27,21 +25,12 @@ pub fn can_open(config: &Config, programs: &[Vec<Command>]) -> bool
         if count > left {
             return false;
         }
-        if !are_served(program) {
-            return false;
-        }
         if !have_texts(program) {
             return false;
         }
         left -= count;
     }
     true
-}
-
-fn are_served(commands: &[Command]) -> bool
-    ensures { result ≡ list_all serves commands.now }
-{
-    commands.iter().all(|command| served(command))
 }
 
 fn have_texts(commands: &[Command]) -> bool

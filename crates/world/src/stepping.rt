@@ -8,7 +8,6 @@ ghost use Rattle.rmm_spec.specs.Lookup.{is_granule};
 ghost use Rattle.rmm_spec.specs.Ownership.{is_accepted};
 ghost use Rattle.command_core.specs.Changed.{hold_of};
 ghost use Rattle.command_core.specs.Seen.{are_distinct, place_of};
-ghost use Rattle.command_core.specs.Served.{is_served};
 ghost use Rattle.command_core.specs.Settled.{is_settled};
 ghost use Rattle.command_core.specs.Sides.{side_of};
 ghost use Rattle.world.specs.Cpus.{views_of};
@@ -36,7 +35,6 @@ fn step_on<H: Held>(
     side: &mut Side,
     place: &mut CpuPlace,
 ) -> Result<Reply, AllocError>
-    requires served { IsTrue (is_served (call_of command.now)) }
     requires settled { IsTrue (is_settled config.now.granules (call_of command.now) (place_of place.old) (H.cells held.old)) }
     ensures same { granules_held (H.cells held.new) ≡ granules_held (H.cells held.old) }
     ensures ok { IfOk result (λ reply. LocalStep config.now.granules cpu command.now reply
@@ -76,7 +74,6 @@ impl Cpus {
         side: &mut Side,
     ) -> Result<Reply, AllocError>
         requires cpu { cpu < vec_len self.old.list }
-        requires served { IsTrue (is_served (call_of command.now)) }
         requires settled { IsTrue (is_settled config.now.granules (call_of command.now) ((views_of self.old).place cpu)
             (cells_at (cells_of cells.old) ((views_of self.old).taken cpu))) }
         requires distinct { IsTrue (are_distinct ((views_of self.old).taken cpu)) }

@@ -55,14 +55,14 @@ any-from_IsReturned (event ∷ events) (suc place) cpu number given is =
 -- ---- lines
 
 -- a commit's line names its call
-cpu_named-line_for : (events : List Event) (c : Commitment) → cpu_named (line_for events c) ≡ c.cpu
+pub cpu_named-line_for : (events : List Event) (c : Commitment) → cpu_named (line_for events c) ≡ c.cpu
 cpu_named-line_for events c = by (list_any (is_return_of c.cpu c.number) events)
   where
     by : (b : Bool) → cpu_named (if b then Keep c.cpu c.number else Unfinished c.cpu c.number c.given) ≡ c.cpu
     by true = refl
     by false = refl
 
-number_named-line_for : (events : List Event) (c : Commitment) → number_named (line_for events c) ≡ c.number
+pub number_named-line_for : (events : List Event) (c : Commitment) → number_named (line_for events c) ≡ c.number
 number_named-line_for events c = by (list_any (is_return_of c.cpu c.number) events)
   where
     by : (b : Bool) → number_named (if b then Keep c.cpu c.number else Unfinished c.cpu c.number c.given) ≡ c.number
@@ -86,7 +86,7 @@ pub record IsLineOf (journal : List Commitment) (events : List Event) (i : ℕ) 
   pub is_cpu : cpu_named line ≡ it.cpu
   pub is_number : number_named line ≡ it.number
 
-commit_of : (journal : List Commitment) (events : List Event) (i : ℕ) (line : Line) → slice_get (map (line_for events) journal) i ≡ Some line
+pub commit_of : (journal : List Commitment) (events : List Event) (i : ℕ) (line : Line) → slice_get (map (line_for events) journal) i ≡ Some line
     → IsLineOf journal events i line
 commit_of journal events i line is =
     let from = slice_get-map_from (line_for events) journal i line is in

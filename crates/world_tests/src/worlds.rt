@@ -11,8 +11,8 @@ use std::process::Abort;
 use std::test::Fail;
 use world::{Kind, Turned, Will, World, can_open};
 
-// A command a line.
-fn program(alloc: Global, text: &str) -> Result<Vec<Command>, Fail> {
+/// A command a line.
+pub(crate) fn program(alloc: Global, text: &str) -> Result<Vec<Command>, Fail> {
     let mut commands = Vec::new(alloc);
     for line in text.lines() {
         commands.push(read_command(line)?)?;
@@ -20,14 +20,23 @@ fn program(alloc: Global, text: &str) -> Result<Vec<Command>, Fail> {
     Ok(commands)
 }
 
-fn opened(alloc: Global, config: &Config, programs: Vec<Vec<Command>>) -> Result<World, Fail> {
+pub(crate) fn opened(
+    alloc: Global,
+    config: &Config,
+    programs: Vec<Vec<Command>>,
+) -> Result<World, Fail> {
     if !can_open(config, &programs) {
         return Err(Fail::from("the programs can't be opened"));
     }
     Ok(World::new(alloc, config, programs)?)
 }
 
-fn two_cpus(alloc: Global, granules: u64, first: &str, second: &str) -> Result<World, Fail> {
+pub(crate) fn two_cpus(
+    alloc: Global,
+    granules: u64,
+    first: &str,
+    second: &str,
+) -> Result<World, Fail> {
     let config = Config::new(granules, 2).ok_or("no such machine")?;
     let mut programs = Vec::new(alloc);
     programs.push(program(alloc, first)?)?;
@@ -81,7 +90,7 @@ fn go_until(
     Err(Fail::from("the CPU doesn't come so far"))
 }
 
-fn play(world: &mut World, alloc: Global, script: &str) -> Result<(), Fail> {
+pub(crate) fn play(world: &mut World, alloc: Global, script: &str) -> Result<(), Fail> {
     for step in script.split(' ') {
         match *step.as_bytes() {
             [cpu, report] => go_until(world, alloc, cpu.wrapping_sub(b'0'), report, 1, 1)?,
@@ -99,8 +108,8 @@ fn play(world: &mut World, alloc: Global, script: &str) -> Result<(), Fail> {
     Ok(())
 }
 
-// The world plays the script, and has these texts then.
-fn expect_run<R: Abort + AllocGlobal>(
+/// The world plays the script, and has these texts then.
+pub(crate) fn expect_run<R: Abort + AllocGlobal>(
     rt: &R,
     mut world: World,
     script: &str,
@@ -109,6 +118,17 @@ fn expect_run<R: Abort + AllocGlobal>(
 ) -> Result<(), Fail> {
     let alloc = rt.alloc();
     play(&mut world, alloc, script)?;
+    expect_texts(rt, &world, history, certificate)
+}
+
+/// The world has these texts.
+pub(crate) fn expect_texts<R: Abort + AllocGlobal>(
+    rt: &R,
+    world: &World,
+    history: &str,
+    certificate: &str,
+) -> Result<(), Fail> {
+    let alloc = rt.alloc();
     let mut events = Vec::new(alloc);
     history::write(&world.history(alloc)?, &mut events)?;
     let mut lines = Vec::new(alloc);

@@ -4,7 +4,6 @@ ghost use Rattle.monitor.specs.Executed.{ArePaired};
 
 use crate::lives;
 use crate::monitors::job::Job;
-use command_core::served;
 use monitor::{CpuPass, CpuToken, Monitor, Open, Refused, Site};
 use rmi_codec::has_text;
 use rmm_spec::Command;
@@ -74,7 +73,7 @@ impl<S: Site> Cpu<S> {
         false
     }
 
-    // Executes a command, and returns why it wasn't executed to its end. One that the monitor doesn't serve stops the CPU.
+    // Executes a command, and returns why it wasn't executed to its end. One that has no text stops the CPU.
     fn refusal<R: Wait>(
         &mut self,
         rt: &R,
@@ -86,7 +85,7 @@ impl<S: Site> Cpu<S> {
         ensures { ArePaired monitor.now self.new.token self.new.pass }
     {
         let command = lives::command(command.function, command.words.as_slice());
-        if !served(&command) || !has_text(&command) || self.pass.next_number() > 999_999 {
+        if !has_text(&command) || self.pass.next_number() > 999_999 {
             return Some(Refused::Stopped);
         }
         monitor

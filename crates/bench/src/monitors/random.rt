@@ -2,7 +2,8 @@
 
 ghost use Rattle.std.specs.Prelude.{◌<◌};
 
-use crate::lives::{Life, SPAN, command};
+use crate::deep_lives::{DEEP_SPAN, DeepLife};
+use crate::lives::command;
 use crate::monitors::job::Job;
 use granule_state::GRANULE_BYTES;
 use rand::RngExt;
@@ -17,7 +18,7 @@ pub(crate) const CPUS: u64 = 8;
 const PLACES: u64 = 10;
 
 /// How many granules a random run has.
-pub(crate) const GRANULES: u64 = PLACES * SPAN;
+pub(crate) const GRANULES: u64 = 1 + PLACES * DEEP_SPAN;
 
 /// A program of so many commands for each CPU. One of the CPUs is stopped in the middle, where that is wished.
 pub(crate) fn drawn_jobs(
@@ -45,7 +46,7 @@ fn drawn_program(
     requires { cpu < 8 }
 {
     let mut program = Vec::new(alloc);
-    let mut life = Life::new(cpu, cpu);
+    let mut life = DeepLife::new(cpu, cpu);
     for _command in 0..commands {
         if case(random, 12) == 0 {
             program.push(stray_command(random))?;
@@ -59,21 +60,21 @@ fn drawn_program(
     Ok(program)
 }
 
-fn drawn_life(cpu: u64, random: &mut Xoshiro256PlusPlus) -> Life
+fn drawn_life(cpu: u64, random: &mut Xoshiro256PlusPlus) -> DeepLife
     requires { cpu < 8 }
 {
     let place = below(random, PLACES);
     if case(random, 2) == 0 {
-        Life::new(cpu, cpu)
+        DeepLife::new(cpu, cpu)
     } else {
-        Life::new(place, place)
+        DeepLife::new(place, place)
     }
 }
 
 // A command on any granules.
 fn stray_command(random: &mut Xoshiro256PlusPlus) -> Command {
     let (first, second) = (drawn_granule(random), drawn_granule(random));
-    match case(random, 8) {
+    match case(random, 16) {
         0 => command(FunctionId::GranuleDelegate, &[first]),
         1 => command(FunctionId::GranuleUndelegate, &[first]),
         2 => {
@@ -87,7 +88,26 @@ fn stray_command(random: &mut Xoshiro256PlusPlus) -> Command {
             command(FunctionId::RecCreate, &[first, second, 0, 1, aux0, aux1])
         }
         6 => command(FunctionId::RecDestroy, &[first]),
-        _ => command(FunctionId::RecEnter, &[first]),
+        7 => command(FunctionId::RecEnter, &[first]),
+        8 => command(FunctionId::SystemOff, &[]),
+        other => stray_walk(other, random),
+    }
+}
+
+// A command on the tables of any realm, at one of a few addresses in either half.
+fn stray_walk(number: u32, random: &mut Xoshiro256PlusPlus) -> Command {
+    let rd = (1 + below(random, PLACES) * DEEP_SPAN) * GRANULE_BYTES;
+    let granule = drawn_granule(random);
+    let ipa = below(random, 2) << 38 | below(random, 2) << 21 | below(random, 2) << 12;
+    let table = ipa >> 21 << 21;
+    match number {
+        9 => command(FunctionId::RttCreate, &[rd, granule, table, 3]),
+        10 => command(FunctionId::RttDestroy, &[rd, table, 3]),
+        11 => command(FunctionId::DataCreateUnknown, &[rd, granule, ipa]),
+        12 => command(FunctionId::DataDestroy, &[rd, ipa]),
+        13 => command(FunctionId::RttMapUnprotected, &[rd, ipa, granule]),
+        14 => command(FunctionId::RttUnmapUnprotected, &[rd, ipa]),
+        _ => command(FunctionId::RttReadEntry, &[rd, ipa, 3]),
     }
 }
 

@@ -3,9 +3,11 @@
 ghost use Rattle.std.specs.Prelude.{◌≡◌};
 
 use crate::lives::Life;
+use crate::monitors::cpu::Cpu;
 use crate::monitors::cpus::work_all;
 use crate::monitors::job::Job;
 use crate::monitors::started::started;
+use crate::pages::Pages;
 use crate::timing::Timing;
 use anyhow::{Context, Result, bail};
 use granule_state::Config;
@@ -23,23 +25,30 @@ const CAPACITY: usize = 65536;
 /// How many commands a CPU executes in a round.
 const COMMANDS: u32 = 8000;
 
-/// What is timed: whether the CPUs share their granules, and whether one lock is held around each command.
+/// What is timed: which commands, whether the CPUs share granules or a realm, and whether one lock is held around each command.
 #[derive(Clone, Copy)]
 pub(crate) struct Kind {
+    is_walking: bool,
     is_shared: bool,
     is_locked: bool,
 }
 
-/// Reads `own` or `shared`, and `many` or `one`.
+/// Reads `own` or `shared` for lives of realms, `realms` or `realm` for pages in realms of their own or in one, and `many` or `one`.
 pub(crate) fn kind_of(granules: &str, locks: &str) -> Result<Kind> {
-    let (is_shared, is_locked) = match (granules, locks) {
-        ("own", "many") => (false, false),
-        ("own", "one") => (false, true),
-        ("shared", "many") => (true, false),
-        ("shared", "one") => (true, true),
-        _ => bail!("own or shared, and many or one?"),
+    let (is_walking, is_shared) = match granules {
+        "own" => (false, false),
+        "shared" => (false, true),
+        "realms" => (true, false),
+        "realm" => (true, true),
+        _ => bail!("own, shared, realms or realm?"),
+    };
+    let is_locked = match locks {
+        "many" => false,
+        "one" => true,
+        _ => bail!("many or one?"),
     };
     Ok(Kind {
+        is_walking,
         is_shared,
         is_locked,
     })
@@ -77,26 +86,52 @@ fn round<S: Site + Send + Sync, R: Threads + Wait + Clock + Sync>(
     requires granules { config.granules ≡ S.granules }
 {
     let (monitor, cpus, _scribe) = started::<S>(alloc, blank, config, CAPACITY)?;
-    let jobs = fixed_jobs(alloc, kind.is_shared)?;
+    let before = first_jobs(alloc, kind)?;
+    let cpus = work_all(rt, alloc, &monitor, None, before.as_slice(), cpus);
+    let made = calls_of(&cpus);
+    let jobs = fixed_jobs(alloc, kind)?;
     let one = Mutex::new(());
     let lock = if kind.is_locked { Some(&one) } else { None };
     let start = Instant::now(rt)?;
     let cpus = work_all(rt, alloc, &monitor, lock, jobs.as_slice(), cpus);
     let time = start.elapsed(rt)?;
-    let mut count: u64 = 0;
-    for cpu in &cpus {
-        count = count.wrapping_add(u64::from(cpu.pass.next_number()));
-    }
+    let count = calls_of(&cpus).wrapping_sub(made);
     Ok(Timing { count, time })
 }
 
-// Lives of realms for eight CPUs, all at one place or each at its own.
-fn fixed_jobs(alloc: Global, is_shared: bool) -> Result<Vec<Job>, AllocError> {
+// How many calls all CPUs made.
+fn calls_of<S: Site>(cpus: &[Cpu<S>]) -> u64 {
+    let mut count: u64 = 0;
+    for cpu in cpus {
+        count = count.wrapping_add(u64::from(cpu.pass.next_number()));
+    }
+    count
+}
+
+// What isn't timed: CPU 0 makes the tables of all eight.
+fn first_jobs(alloc: Global, kind: Kind) -> Result<Vec<Job>, AllocError> {
+    let mut program = Vec::new(alloc);
+    if kind.is_walking {
+        for cpu in 0..8 {
+            Pages::new(cpu, kind.is_shared).push_made(&mut program)?;
+        }
+    }
+    let mut jobs = Vec::new(alloc);
+    jobs.push(Job::new(program, false))?;
+    Ok(jobs)
+}
+
+// Lives of realms for eight CPUs, all at one place or each at its own, or the page of each mapped again and again.
+fn fixed_jobs(alloc: Global, kind: Kind) -> Result<Vec<Job>, AllocError> {
     let mut jobs = Vec::new(alloc);
     for cpu in 0..8 {
-        let place = if is_shared { 0 } else { cpu };
         let mut program = Vec::new(alloc);
-        Life::new(place, place).push_next(&mut program, COMMANDS)?;
+        if kind.is_walking {
+            Pages::new(cpu, kind.is_shared).push_rounds(&mut program, u64::from(COMMANDS / 3))?;
+        } else {
+            let place = if kind.is_shared { 0 } else { cpu };
+            Life::new(place, place).push_next(&mut program, COMMANDS)?;
+        }
         jobs.push(Job::new(program, false))?;
     }
     Ok(jobs)

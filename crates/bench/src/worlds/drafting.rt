@@ -1,11 +1,14 @@
 //! Programs, drafted beside a machine that carries them out.
 
+ghost use Rattle.std.specs.Prelude.{◌<◌};
+
 use crate::worlds::dice::Dice;
 use crate::worlds::drawing::{Granules, Sharing, drawn_command, drawn_function};
 use crate::worlds::schedule::Schedule;
-use anyhow::{Context, Result, bail};
+use anyhow::{Result, bail};
+use arrayvec::ArrayVec;
 use granule_state::Config;
-use rmm_spec::{Accepted, Command, FunctionId, Reply};
+use rmm_spec::{Accepted, Command, FunctionId, Reply, Stretch};
 use spec_machine::Machine;
 use std::alloc::Global;
 
@@ -79,6 +82,17 @@ fn likely_turns(function: FunctionId) -> u8 {
     match function {
         FunctionId::RecCreate | FunctionId::RecDestroy => 11,
         FunctionId::RealmCreate | FunctionId::RealmDestroy | FunctionId::RecEnter => 7,
+        FunctionId::RttCreate
+        | FunctionId::RttDestroy
+        | FunctionId::RttReadEntry
+        | FunctionId::DataCreate
+        | FunctionId::DataCreateUnknown
+        | FunctionId::DataDestroy
+        | FunctionId::RttMapUnprotected
+        | FunctionId::RttUnmapUnprotected
+        | FunctionId::RttInitRipas
+        | FunctionId::RttSetRipas
+        | FunctionId::IpaStateGet => 10,
         _ => 4,
     }
 }
@@ -107,19 +121,48 @@ fn accepted_command(machine: &Machine, granules: Granules<'_>, dice: &mut Dice) 
     None
 }
 
-fn carry_out(machine: &mut Machine, cpu: u8, command: &Command) -> Result<()> {
-    let reply = reply_of(machine.outcome(cpu, command)).context("a reply left open")?;
+/// Carries a command out, and returns the machine's reply: of those that set a stretch, the one that sets the most.
+pub(crate) fn carry_out(machine: &mut Machine, cpu: u8, command: &Command) -> Result<Reply> {
+    match machine.outcome(cpu, command) {
+        Ok(Accepted::Done { words, .. }) => offered(machine, cpu, command, Reply::Ok(words)),
+        Ok(Accepted::Reaches(stretch)) => farthest(machine, cpu, command, &stretch),
+        Err(refusal) => offered(machine, cpu, command, refusal),
+    }
+}
+
+fn offered(machine: &mut Machine, cpu: u8, command: &Command, reply: Reply) -> Result<Reply> {
     if !machine.offer(cpu, command, &reply)? {
         bail!("the machine refuses its own reply");
     }
-    Ok(())
+    Ok(reply)
 }
 
-/// The reply that the machine gives, where the outcome leaves it no choice.
-pub(crate) fn reply_of(outcome: Result<Accepted, Reply>) -> Option<Reply> {
-    match outcome {
-        Ok(Accepted::Done { words, .. }) => Some(Reply::Ok(words)),
-        Ok(Accepted::Reaches(_)) => None,
-        Err(refusal) => Some(refusal),
+// The greatest end that the machine takes, of those within a table.
+fn farthest(machine: &mut Machine, cpu: u8, command: &Command, stretch: &Stretch) -> Result<Reply> {
+    let size = entry_size(stretch.level);
+    let most = stretch.top.wrapping_sub(stretch.base) / size;
+    for less in 0..most.min(512) {
+        let top = stretch
+            .base
+            .wrapping_add(size.wrapping_mul(most.min(512).wrapping_sub(less)));
+        let mut words = ArrayVec::new();
+        words.push(top);
+        let reply = Reply::Ok(words);
+        if machine.offer(cpu, command, &reply)? {
+            return Ok(reply);
+        }
+    }
+    bail!("the machine refuses each end")
+}
+
+// How many bytes an entry of the level covers.
+fn entry_size(level: u8) -> u64
+    ensures { 0 < result }
+{
+    match level {
+        0 => 1 << 39,
+        1 => 1 << 30,
+        2 => 1 << 21,
+        _ => 1 << 12,
     }
 }

@@ -4,6 +4,7 @@ ghost use Rattle.std.specs.Prelude.{◌<◌, ◌≤◌, length};
 
 use crate::lives::command;
 use crate::worlds::dice::Dice;
+use crate::worlds::walking::{drawn_ipa, drawn_walk};
 use granule_state::GRANULE_BYTES;
 use rmm_spec::{Command, FunctionId, Tag};
 use spec_machine::OwnerRow;
@@ -62,8 +63,8 @@ pub(crate) struct Granules<'a> {
 impl Granules<'_> {
     ghost use Rattle.std.specs.Prelude.{◌<◌, length};
 
-    // The address of a granule, most often one with this tag.
-    fn draw(self, dice: &mut Dice, tag: Tag) -> u64 {
+    /// The address of a granule, most often one with this tag.
+    pub(crate) fn draw(self, dice: &mut Dice, tag: Tag) -> u64 {
         let mut address = dice.below(HALF_GRANULES) * (GRANULE_BYTES / 2);
         if self.rows.is_empty() || dice.one_in(32) {
             return address;
@@ -93,9 +94,9 @@ impl Granules<'_> {
     }
 }
 
-/// One of the sixteen functions that the core serves. Those that make something come more often than those that end it.
+/// One of the 27 functions. Those that make something come more often than those that end it.
 pub(crate) fn drawn_function(dice: &mut Dice) -> FunctionId {
-    match dice.below(64) {
+    match dice.below(112) {
         0..14 => FunctionId::GranuleDelegate,
         14 => FunctionId::GranuleUndelegate,
         15 | 16 => FunctionId::RealmCreate,
@@ -111,7 +112,25 @@ pub(crate) fn drawn_function(dice: &mut Dice) -> FunctionId {
         54..57 => FunctionId::HostCall,
         57 => FunctionId::CpuOff,
         58 => FunctionId::SystemOff,
-        _ => FunctionId::Exit,
+        59..64 => FunctionId::Exit,
+        64..66 => FunctionId::IpaStateGet,
+        other => drawn_walking_function(other),
+    }
+}
+
+// One of the ten that walk tables for the host, by a number from 66 on.
+fn drawn_walking_function(number: u64) -> FunctionId {
+    match number {
+        66..81 => FunctionId::RttCreate,
+        81 | 82 => FunctionId::RttDestroy,
+        83..89 => FunctionId::DataCreate,
+        89..95 => FunctionId::DataCreateUnknown,
+        95 | 96 => FunctionId::DataDestroy,
+        97..101 => FunctionId::RttMapUnprotected,
+        101 => FunctionId::RttUnmapUnprotected,
+        102 | 103 => FunctionId::RttReadEntry,
+        104..108 => FunctionId::RttInitRipas,
+        _ => FunctionId::RttSetRipas,
     }
 }
 
@@ -121,6 +140,9 @@ pub(crate) fn drawn_command(
     granules: Granules<'_>,
     dice: &mut Dice,
 ) -> Command {
+    if let Some(walk) = drawn_walk(function, granules, dice) {
+        return walk;
+    }
     match function {
         FunctionId::GranuleDelegate => {
             command(function, &[granules.draw(dice, Tag::Undelegated)])
@@ -187,10 +209,11 @@ fn drawn_realm_call(function: FunctionId, dice: &mut Dice) -> Command {
             command(function, &words)
         }
         FunctionId::IpaStateSet => {
-            let base = dice.below(8) * GRANULE_BYTES;
-            let top = dice.below(9) * GRANULE_BYTES;
+            let base = dice.below(4) * GRANULE_BYTES;
+            let top = dice.below(6) * GRANULE_BYTES;
             command(function, &[base, top, dice.below(3)])
         }
+        FunctionId::IpaStateGet => command(function, &[drawn_ipa(dice, 12)]),
         FunctionId::HostCall => command(function, &[dice.below(0x1_1000)]),
         _ => command(function, &[]),
     }

@@ -1,7 +1,7 @@
 //! Replies of a world with one CPU, beside what the specification machine answers.
 
 use crate::worlds::dice::Dice;
-use crate::worlds::drafting::{drafted_programs, reply_of};
+use crate::worlds::drafting::{carry_out, drafted_programs};
 use crate::worlds::drawing::Sharing;
 use crate::worlds::schedule::Schedule;
 use crate::worlds::turning::{finish, opened};
@@ -67,12 +67,10 @@ fn equal_replies(mut machine: Machine, history: &History) -> Result<u32> {
     Ok(equal)
 }
 
-// Whether the machine answers a call as it was answered, and takes that reply.
+// Whether the machine answers a call as it was answered.
 fn is_equal(machine: &mut Machine, call: &Call) -> Result<bool> {
     let Some(answer) = &call.answer else {
         return Ok(false);
     };
-    let outcome = reply_of(machine.outcome(0, &call.command));
-    let is_same = outcome.is_some_and(|reply| reply == answer.reply);
-    Ok(is_same && machine.offer(0, &call.command, &answer.reply)?)
+    Ok(carry_out(machine, 0, &call.command)? == answer.reply)
 }

@@ -3,6 +3,7 @@
 ghost use Rattle.std.specs.Prelude.{◌<◌};
 
 use crate::lives::{LENGTH, Life};
+use crate::pages::Pages;
 use crate::worlds::turning::{opened, turned};
 use anyhow::{Context, Result};
 use granule_state::Config;
@@ -18,14 +19,40 @@ const PLACES: u64 = 819;
 /// How many realms all CPUs make.
 const LIVES: u64 = 16_384;
 
+/// How many commands all CPUs have on their pages, in threes.
+const ROUNDS: u64 = 160_000;
+
+/// In how many turns CPU 0 has made the tables of all.
+const FIRST_TURNS: u64 = 2000;
+
+/// What the CPUs do: make realms, or map pages in realms of their own or in one.
+#[derive(Clone, Copy)]
+pub(crate) enum Work {
+    Lives,
+    Realms,
+    Realm,
+}
+
 /// Lets so many CPUs go on in turn over 4096 granules, for so many turns, and prints how many of them made a step.
-pub(crate) fn take_turns(rt: &impl Print, alloc: Global, cpus: u64, count: u64) -> Result<()> {
+pub(crate) fn take_turns(
+    rt: &impl Print,
+    alloc: Global,
+    work: Work,
+    cpus: u64,
+    count: u64,
+) -> Result<()> {
     let config = Config::new(GRANULES, cpus).context("1 to 8 CPUs")?;
+    let cpus = u64::from(config.cpus());
     let mut programs = Vec::new(alloc);
-    for cpu in 0..config.cpus() {
-        programs.push(lives(alloc, u64::from(cpu), u64::from(config.cpus()))?)?;
+    for cpu in 0..cpus {
+        programs.push(program(alloc, work, cpu, cpus)?)?;
     }
     let mut world = opened(alloc, &config, programs)?;
+    if let Work::Realm = work {
+        for _turn in 0..FIRST_TURNS {
+            turned(&mut world, alloc, 0, Will::Go)?;
+        }
+    }
     let steps = steps_of(&mut world, alloc, count)?;
     println!(rt; "turns: {steps} steps in {count}")?;
     Ok(())
@@ -43,6 +70,30 @@ fn steps_of(world: &mut World, alloc: Global, count: u64) -> Result<u64> {
         cpu = if next < cpus { next } else { 0 };
     }
     Ok(steps)
+}
+
+fn program(alloc: Global, work: Work, cpu: u64, cpus: u64) -> Result<Vec<Command>, AllocError>
+    requires { cpu < cpus }
+{
+    match work {
+        Work::Lives => lives(alloc, cpu, cpus),
+        Work::Realms => paged(alloc, cpu % 8, cpus, false),
+        Work::Realm => paged(alloc, cpu % 8, cpus, true),
+    }
+}
+
+// The CPU's page mapped again and again. In one realm, CPU 0 makes the tables of all.
+fn paged(alloc: Global, cpu: u64, cpus: u64, is_shared: bool) -> Result<Vec<Command>, AllocError>
+    requires { (cpu < 8) × (0 < cpus) }
+{
+    let mut program = Vec::new(alloc);
+    for other in 0..8 {
+        if other == cpu && !is_shared || cpu == 0 && is_shared {
+            Pages::new(other, is_shared).push_made(&mut program)?;
+        }
+    }
+    Pages::new(cpu, is_shared).push_rounds(&mut program, ROUNDS / cpus)?;
+    Ok(program)
 }
 
 // The program of a CPU: one realm after another, each at another place, and at no time where another CPU's is.

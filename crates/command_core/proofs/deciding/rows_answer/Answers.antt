@@ -2,7 +2,7 @@ use Rattle.std.proofs.Common.{sym, ap, ◌∙◌, subst}
 use Rattle.granule_cells.specs.declared.cpu_place.CpuPlace.{CpuPlace}
 use Rattle.command_rows.specs.Answers.{IsInside}
 use Rattle.command_core.specs.Seen.{place_of}
-use Rattle.command_core.specs.SeenState.{seen_state}
+use Rattle.walk_laws.specs.SeenState.{seen_state}
 use Rattle.command_core.specs.Settled.{is_settled}
 use Rattle.command_core.specs.Unshaped.{is_unshaped}
 use Rattle.command_core.proofs.Owned.{settled-owned, settled-placed}
@@ -11,20 +11,20 @@ use Rattle.command_core.proofs.deciding.rows_answer.Goals as goal
 pub answer_outside-requires : goal.answer_outside-requires
 answer_outside-requires g c =
     let a = c.args in
-    let held = g.H.Held.cells a.held.now in
+    let held = g.H.Held.cells a.sight.now.held.now in
     record {
-      owned = settled-owned a.config.now.granules held a.call.now
-          (ap (λ (p : CpuPlace). is_settled a.config.now.granules a.call.now (place_of p) held) (sym c.in-Outside.is) ∙ c.requires.settled)
-          (ap (λ (p : CpuPlace). is_unshaped a.config.now.granules a.call.now (place_of p) held) (sym c.in-Outside.is) ∙ c.requires.shaped);
+      owned = settled-owned a.sight.now.config.now.granules held a.call.now
+          (ap (λ (p : CpuPlace). is_settled a.sight.now.config.now.granules a.call.now (place_of p) held) (sym c.in-Outside.is) ∙ c.requires.settled)
+          (ap (λ (p : CpuPlace). is_unshaped a.sight.now.config.now.granules a.call.now (place_of p) held) (sym c.in-Outside.is) ∙ c.requires.shaped);
     }
 
 pub answer_inside-requires : goal.answer_inside-requires
 answer_inside-requires g c =
     let a = c.args in
-    let held = g.H.Held.cells a.held.now in
+    let held = g.H.Held.cells a.sight.now.held.now in
     record {
-      inside = subst (λ rec. IsInside (seen_state a.config.now.granules held) rec a.call.now) (sym c.address.ensures)
-          (settled-placed a.config.now.granules c.in-Inside.rec c.in-Inside.rd held a.call.now
-          (ap (λ (p : CpuPlace). is_settled a.config.now.granules a.call.now (place_of p) held) (sym c.in-Inside.is) ∙ c.requires.settled)
-          (ap (λ (p : CpuPlace). is_unshaped a.config.now.granules a.call.now (place_of p) held) (sym c.in-Inside.is) ∙ c.requires.shaped));
+      inside = subst (λ rec. IsInside (seen_state a.sight.now.config.now.granules held) rec a.call.now) (sym c.address.ensures)
+          (settled-placed a.sight.now.config.now.granules c.in-Inside.rec c.in-Inside.rd held a.call.now
+          (ap (λ (p : CpuPlace). is_settled a.sight.now.config.now.granules a.call.now (place_of p) held) (sym c.in-Inside.is) ∙ c.requires.settled)
+          (ap (λ (p : CpuPlace). is_unshaped a.sight.now.config.now.granules a.call.now (place_of p) held) (sym c.in-Inside.is) ∙ c.requires.shaped));
     }

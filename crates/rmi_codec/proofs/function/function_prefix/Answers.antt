@@ -1,4 +1,4 @@
-use Rattle.std.proofs.Common.{arith, refl, sym, ◌∙◌}
+use Rattle.std.proofs.Common.{arith, refl}
 use Rattle.rmi_codec.proofs.FunctionLaws.{function_read, function_alone}
 use Rattle.rmi_codec.proofs.function.function_prefix.Goals as goal
 
@@ -14,10 +14,8 @@ returns-then-not-is_end-clause-none c = λ f rest e.
 
 pub returns-in_err-function-clause-none : goal.returns-in_err-function-clause-none
 returns-in_err-function-clause-none c =
-    rw c.from_residual.ensures (λ f rest e.
-    let some = c.in_err-function.ensures.only f ((function_alone c.args.line.now f rest e).1.1 ∙ sym c.from_be_bytes.ensures) in cc)
+    rw c.from_residual.ensures (λ f rest e. c.in_err-function.ensures.none f (function_alone c.args.line.now f rest e).1.1)
 
 pub returns-clause-found : goal.returns-clause-found
 returns-clause-found c =
-    function_read c.args.line.now c.in_ok-function.function c.from_be_bytes.result (let short = c.if-line-lt8.false in omega arith) (λ i. omega (arith, c.type_inv.line i)) (c.if-not-is_end.ensures.ended refl)
-    c.from_be_bytes.ensures c.in_ok-function.ensures.found
+    function_read c.args.line.now c.in_ok-function.function (let short = c.if-line-lt8.false in omega arith) (c.if-not-is_end.ensures.ended refl) c.in_ok-function.ensures.found

@@ -1,5 +1,5 @@
 use Rattle.std.proofs.Common.{sym, ◌∙◌, arith}
-use Rattle.command_core.specs.SeenState.{seen_state}
+use Rattle.walk_laws.specs.SeenState.{seen_state}
 use Rattle.command_core.proofs.SeenTables.{reach-top, reach-here, reach-above}
 use Rattle.command_core.proofs.held_sight.HeldSight.+reach.Goals as goal
 

@@ -1,6 +1,6 @@
 use Rattle.std.proofs.Common.{ℕ, ◌+◌, ◌*◌, Bool, arith}
 use Rattle.rmm_spec.specs.Walk.{is_live, entry_at, is_in_use}
-use Rattle.command_core.specs.SeenState.{seen_state}
+use Rattle.walk_laws.specs.SeenState.{seen_state}
 use Rattle.command_core.proofs.SeenTables.{found-within, none-within}
 use Rattle.command_core.proofs.held_sight.HeldSight.has_live.Goals as goal
 

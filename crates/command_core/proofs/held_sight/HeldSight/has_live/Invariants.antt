@@ -1,7 +1,7 @@
 use Rattle.std.proofs.Common.{◌≡◌, ◌+◌, ◌*◌, false}
 use Rattle.rmm_spec.specs.Lookup.{any_below}
 use Rattle.rmm_spec.specs.Walk.{is_live, entry_at}
-use Rattle.command_core.specs.SeenState.{seen_state}
+use Rattle.walk_laws.specs.SeenState.{seen_state}
 use Rattle.command_core.proofs.held_sight.HeldSight.has_live.Given as goal
 
 abbrev pub invariant-loop-place : goal.invariant-loop-place

@@ -1,6 +1,6 @@
 use Rattle.std.proofs.Common.{ℕ, ◌+◌, ◌*◌, Bool, arith}
 use Rattle.rmm_spec.specs.Walk.{is_table, entry_at, has_link}
-use Rattle.command_core.specs.SeenState.{seen_state}
+use Rattle.walk_laws.specs.SeenState.{seen_state}
 use Rattle.command_core.proofs.SeenTables.{found-within, none-within}
 use Rattle.command_core.proofs.held_sight.HeldSight.links.Goals as goal
 

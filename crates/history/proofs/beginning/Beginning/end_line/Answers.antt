@@ -1,21 +1,20 @@
-use Rattle.std.proofs.lemmas.Result.{IfErr-weaker, on_ok_weaker}
-use Rattle.history.proofs.PieceLaws.{whole_line, of_whole_line}
+use Rattle.std.proofs.Common.{◌∷◌}
+use Rattle.std.proofs.lemmas.Result.{err_from_is_err_and}
+use Rattle.history.proofs.PieceLaws.{too_long_held, of_held_line}
 use Rattle.history.specs.Faults.{IsFaultOf}
 use Rattle.history.specs.Pieces.{lines_read}
 use Rattle.history.proofs.beginning.Beginning.end_line.Goals as goal
 
-pub returns-then-is_empty-clause-read : goal.returns-then-is_empty-clause-read
-returns-then-is_empty-clause-read c =
-    let inside = c.self.inside in
-    rw (← c.self.view_is)
-    (on_ok_weaker c.read_line.result
-    (λ is_new. whole_line (lines_read inside.history) (lines_read c.read_line.new.history) inside.line c.args.last.now (c.is_empty.ensures.0 c.if-is_empty.true) is_new)
-    c.read_line.ensures.read)
+pub returns-in_default-clause-fault : goal.returns-in_default-clause-fault
+returns-in_default-clause-fault c =
+    rw (← c.self.view_is, c.next_number.ensures.number) (λ more.
+    too_long_held c.self.inside.history c.self.inside.line c.args.last.now (10 ∷ more) c.next_number.ensures.well_formed c.in_default.ensures.too_long.1
+    c.in_default.ensures.too_long.0)
 
-pub returns-then-is_empty-clause-fault : goal.returns-then-is_empty-clause-fault
-returns-then-is_empty-clause-fault c =
+pub returns-in_err-read_line-clause-fault : goal.returns-in_err-read_line-clause-fault
+returns-in_err-read_line-clause-fault c =
     let inside = c.self.inside in
-    rw (← c.self.view_is)
-    (IfErr-weaker c.read_line.result _ _
-    (λ fault each. of_whole_line (λ text. IsFaultOf text fault) (lines_read inside.history) inside.line c.args.last.now (c.is_empty.ensures.0 c.if-is_empty.true) each)
-    c.read_line.ensures.fault)
+    let p = err_from_is_err_and c.from_residual.result c.from_residual.ensures.1 in
+    rw (p.1, p.2, ← c.self.view_is)
+    (of_held_line (λ text. IsFaultOf text c.in_err-read_line.field-0.0) (lines_read inside.history) inside.line c.args.last.now c.in-Some.line.now
+    c.in-Some.ensures.line c.in_err-read_line.ensures.fault)

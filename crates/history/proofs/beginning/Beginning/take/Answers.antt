@@ -7,12 +7,12 @@ pub returns-in_err-end_line-clause-fault : goal.returns-in_err-end_line-clause-f
 returns-in_err-end_line-clause-fault c =
     let p = err_from_is_err_and c.from_residual.result c.from_residual.ensures.1 in
     rw (p.1, p.2)
-    (of_line (λ text. IsFaultOf text c.in_err-end_line.field-0.0) c.args.self.now c.args.piece.now c.loop-last.self c.loop-last.rest.now
-    c.in-Some.last.now c.in-Some.more.now c.loop-last.invariant c.in-Some.ensures.line c.in_err-end_line.ensures.fault)
+    (of_line (λ text. IsFaultOf text c.in_err-end_line.field-0.0) c.args.self.now c.args.piece.now c.loop-rest.self c.loop-rest.rest.now
+    c.in-Some-next_line.last.now c.in-Some-next_line.more.now c.loop-rest.invariant c.in-Some-next_line.ensures.line (rw c.in_default.ensures.none at c.in_err-end_line.ensures.fault))
 
-pub returns-clause-fault : goal.returns-clause-fault
-returns-clause-fault c =
+pub returns-in_default-next_line-clause-fault : goal.returns-in_default-next_line-clause-fault
+returns-in_default-next_line-clause-fault c =
     IfErr-weaker c.hold.result _ _
     (λ fault each.
-    of_piece (λ text. IsFaultOf text fault) c.args.self.now c.args.piece.now c.loop-last.self c.loop-last.rest.now c.loop-last.invariant each)
-    c.hold.ensures.fault
+    of_piece (λ text. IsFaultOf text fault) c.args.self.now c.args.piece.now c.loop-rest.self c.loop-rest.rest.now c.loop-rest.invariant each)
+    (rw c.in_default.ensures.none at c.hold.ensures.fault)

@@ -1,8 +1,8 @@
 use Rattle.std.proofs.Common.{◌≡◌, ◌++◌, length}
 use Rattle.history.proofs.beginning.Beginning.take.Given as goal
 
-abbrev pub invariant-loop-last : goal.invariant-loop-last
-invariant-loop-last l = l.fn.self ++ l.piece ≡ l.self ++ l.rest
+abbrev pub invariant-loop-rest : goal.invariant-loop-rest
+invariant-loop-rest l = l.fn.self ++ l.piece ≡ l.self ++ l.rest
 
-abbrev pub decreases-loop-last : goal.decreases-loop-last
-decreases-loop-last l = length l.rest
+abbrev pub decreases-loop-rest : goal.decreases-loop-rest
+decreases-loop-rest l = length l.rest

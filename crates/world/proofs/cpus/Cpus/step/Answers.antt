@@ -22,10 +22,12 @@ pub lend-lent-requires-clause-granules : goal.lend-lent-requires-clause-granules
 lend-lent-requires-clause-granules c =
     subst (All (λ pa. IsTrue (is_granule (vec_len c.args.cells.now.list) pa))) (sym c.taken.ensures.taken) c.requires.granules
 
-pub step_on-replied-requires-clause-settled : goal.step_on-replied-requires-clause-settled
-step_on-replied-requires-clause-settled c =
+pub step_on-replied-requires : goal.step_on-replied-requires
+step_on-replied-requires c =
     let held = c.lend-lent.ensures.lent ∙ ap (cells_at (cells_of c.args.cells.now)) c.taken.ensures.taken in
-    (λ i. is_settled c.args.config.now.granules (call_of c.args.command.now) (c.place.ensures i) (held i)) ∙ c.requires.settled
+    record {
+      settled = (λ i. is_settled c.args.config.now.granules (call_of c.args.command.now) (c.place.ensures i) (held i)) ∙ c.requires.settled;
+    }
 
 pub give_back-requires : goal.give_back-requires
 give_back-requires c =

@@ -3,13 +3,11 @@ use Rattle.rmm_spec.specs.Call.{call_of}
 use Rattle.rmm_spec.specs.HistoryText.{Config}
 use Rattle.rmm_spec.specs.Cell.{put}
 use Rattle.rmm_spec.specs.World.{Deciding, held_cells, hold_of}
-use Rattle.command_core.specs.Served.{is_served}
 use Rattle.command_core.specs.Settled.{is_settled}
 use Rattle.command_core.specs.Sides.{side_of}
 use Rattle.command_core.specs.declared.next.Next.TheVariants.{Ready}
 use Rattle.world.specs.Granules.{cells_of, holder_of}
 use Rattle.world.specs.Cpus.{Views, views_of, phase_in}
-use Rattle.world.specs.Kept.{serves_phase}
 use Rattle.world.specs.Whole.{world_from, world_with}
 use Rattle.world.specs.World.{world_of, waits_of}
 use Rattle.world.proofs.Locked.{locks-of_size}
@@ -29,13 +27,6 @@ unfolding world_of world_from
 returns-in_default-reserve-clause-err c =
     let s = c.args.self.now in
     ap (λ entries. world_with (cells_of s.cells) (side_of s.side) (views_of s.cpus) entries s.history.recorded) c.reserve.ensures.items
-
-pub step-requires-clause-served : goal.step-requires-clause-served
-unfolding world_from
-step-requires-clause-served c =
-    let is_open = sym c.phase.ensures ∙ ap phase_in c.in-Deciding.is in
-    let served = subst (λ p. IsTrue (serves_phase p)) is_open (c.args.self.now.kept.fit.each c.args.cpu).open_served in
-    subst (λ called. IsTrue (is_served (call_of called))) (sym c.copied_command-command.ensures) served
 
 pub step-requires-clause-settled : goal.step-requires-clause-settled
 unfolding world_of world_from

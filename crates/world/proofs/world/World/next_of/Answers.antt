@@ -6,7 +6,7 @@ use Rattle.command_core.specs.Seen.{are_distinct, place_of}
 use Rattle.command_core.specs.Sides.{side_of}
 use Rattle.world.specs.Granules.{cells_of, holder_of}
 use Rattle.world.specs.Cpus.{views_of, phase_in}
-use Rattle.world.specs.Kept.{IsKept, serves_phase}
+use Rattle.world.specs.Kept.{IsKept}
 use Rattle.world.specs.Lent.{lent_cells, cells_at}
 use Rattle.world.specs.Recorded.{event_room, commit_room}
 use Rattle.world.specs.Whole.{world_with, world_from}
@@ -31,12 +31,6 @@ lend-lent-requires-clause-granules c =
 pub unreachable-requires : goal.unreachable-requires
 unfolding world_of world_from
 unreachable-requires c = not_deciding c.phase.result.now c.in_default.not-Deciding _ _ _ (c.phase.ensures ∙ c.requires.deciding.is_deciding)
-
-pub next_lock-next-requires : goal.next_lock-next-requires
-unfolding world_from
-next_lock-next-requires c = record {
-  served = subst (λ p. IsTrue (serves_phase p)) (sym c.phase.ensures ∙ ap phase_in c.in-Deciding.is) (c.args.self.now.kept.fit.each c.args.cpu).open_served;
-}
 
 pub give_back-requires : goal.give_back-requires
 unfolding world_from

@@ -1,0 +1,57 @@
+-- What is answered can be made of what is held, or no whole agrees with that.
+use Rattle.std.proofs.Common.{◌≡◌, ℕ, [], ◌∷◌, subst, Bool, true, false, if◌then◌else◌, Result, Ok, Err, sym, ◌∙◌, refl}
+use Rattle.std.proofs.lemmas.Bool.{false≢true}
+use Rattle.rmm_spec.specs.declared.accepted.Accepted.{Accepted}
+use Rattle.rmm_spec.specs.declared.accepted.Accepted.TheVariants.{Done, Reaches}
+use Rattle.rmm_spec.specs.declared.command.Command.{Command}
+use Rattle.rmm_spec.specs.declared.reply.Reply.{Reply}
+use Rattle.rmm_spec.specs.declared.reply.Reply.TheVariants as reply
+use Rattle.rmm_spec.specs.Call.{call_of}
+use Rattle.rmm_spec.specs.Rows.{ok}
+use Rattle.rmm_spec.specs.Step.{CarriesOut, outcome}
+use Rattle.rmm_spec.specs.Flat.{flat_state}
+use Rattle.rmm_spec.specs.Local.{Hold, LocalStep, put_all}
+use Rattle.rmm_sound.proofs.Runs.{done_applies}
+use Rattle.shape_laws.specs.Whole.{side_changed}
+use Rattle.shape_laws.proofs.Ties.{well_shaped-is_sound}
+use Rattle.command_core.specs.Changed.{new_cells, new_place, CanAnswer, IsAnswer, can_make}
+use Rattle.command_core.specs.Decided.{made_answer}
+use Rattle.command_core.proofs.Changes.{is_answer}
+use Rattle.command_core.proofs.Fits.{applied-fits}
+use Rattle.command_core.proofs.Wholes.{Whole, state}
+
+-- a refusal leads to no stretch
+pub refused : (granules cpu : ℕ) (command : Command) (hold : Hold) (given : Reply) → ((end : ℕ) → given ≡ ok (end ∷ []) → ⊥)
+    → LocalStep granules cpu command given hold hold → IsAnswer granules cpu command hold (Err given)
+unfolding new_cells new_place side_changed
+refused granules cpu command hold given refuses step = record {
+  can = tt;
+  is_local = step;
+  is_furthest = record {
+    right = λ cells places stretch top shaped agrees placed leads reached.
+        let chosen : CarriesOut (Ok (Reaches stretch)) (flat_state granules cells) given (flat_state granules (put_all cells hold.cells)) =
+        subst (λ a. CarriesOut a (flat_state granules cells) given (flat_state granules (put_all cells hold.cells))) leads
+        (step.right cells places shaped agrees placed).0 in
+        absurd (refuses chosen.0 chosen.1.1);
+  };
+}
+
+-- where no whole agrees, anything is a local step
+pub no_whole : (granules cpu : ℕ) (command : Command) (hold : Hold) → (Whole granules cpu hold → ⊥) → IsAnswer granules cpu command hold (Err reply.Misplaced)
+no_whole granules cpu command hold none = is_answer granules cpu command hold (Err reply.Misplaced) tt (λ w. absurd (none w))
+
+-- what each whole that agrees answers can be made of what is held, or there is no such whole
+pub made-answered : (granules cpu : ℕ) (command : Command) (hold : Hold) (answer : Result Accepted Reply) → CanAnswer cpu hold answer
+    → ((w : Whole granules cpu hold) → outcome (state granules cpu hold w) cpu (call_of command) ≡ answer)
+    → IsAnswer granules cpu command hold (made_answer granules hold.cells hold.side answer)
+made-answered granules cpu command hold (Err refusal) can each = is_answer granules cpu command hold (Err refusal) can each
+made-answered granules cpu command hold (Ok (Reaches stretch)) can each = absurd can
+made-answered granules cpu command hold (Ok (Done words change)) can each = by (can_make granules hold.cells hold.side change) refl
+  where
+    by : (b : Bool) → can_make granules hold.cells hold.side change ≡ b
+        → IsAnswer granules cpu command hold (if b then Ok (Done words change) else Err reply.Misplaced)
+    by true fits = is_answer granules cpu command hold (Ok (Done words change)) can each
+    by false unfit = no_whole granules cpu command hold (λ w.
+        let s = state granules cpu hold w in
+        let applies = done_applies s cpu command words.items change (well_shaped-is_sound granules hold.side w.places w.cells w.shaped) (each w) in
+        false≢true (sym unfit ∙ applied-fits granules cpu hold w change applies can))

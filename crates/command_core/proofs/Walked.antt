@@ -1,0 +1,220 @@
+-- A host's command whose walk is over is answered from what is held as by every whole that agrees, and its change can be made of that.
+use Rattle.std.proofs.Common.{◌≡◌, ℕ, ◌+◌, ◌≤◌, Bool, true, false, ◌&&◌, ◌||◌, if◌then◌else◌, [], ◌∷◌, Option, Some, None, ◌⊎◌, inl, inr, Result, Ok, Err, refl, sym, ap, ◌∙◌, subst}
+use Rattle.std.specs.Prelude.{is_some, is_none}
+use Rattle.std.proofs.lemmas.Bool.{false≢true, and_parts, or_cases}
+use Rattle.rmm_spec.specs.declared.accepted.Accepted.{Accepted}
+use Rattle.rmm_spec.specs.declared.accepted.Accepted.TheVariants.{Done, Reaches}
+use Rattle.rmm_spec.specs.declared.accepted.Stretch.{Stretch}
+use Rattle.rmm_spec.specs.declared.accepted.StretchUse.{StretchUse}
+use Rattle.rmm_spec.specs.declared.accepted.StretchUse.TheVariants.{Init, Requested}
+use Rattle.rmm_spec.specs.declared.call.Call.{Call}
+use Rattle.rmm_spec.specs.declared.call.Call.TheVariants as call
+use Rattle.rmm_spec.specs.declared.change.Change.{Change}
+use Rattle.rmm_spec.specs.declared.change.Change.TheVariants.{Unchanged, TableMade, TableDestroyed, EntriesChanged}
+use Rattle.rmm_spec.specs.declared.command.Command.{Command}
+use Rattle.rmm_spec.specs.declared.reply.Reply.{Reply}
+use Rattle.rmm_spec.specs.declared.reply.Reply.TheVariants.{Misplaced}
+use Rattle.rmm_spec.specs.Call.{call_of, class_of}
+use Rattle.rmm_spec.specs.State.{State}
+use Rattle.rmm_spec.specs.Rows.{ok, done, Needed}
+use Rattle.rmm_spec.specs.Walk.{entry_size, table_number}
+use Rattle.rmm_spec.specs.Step.{answer_of, outcome}
+use Rattle.rmm_spec.specs.Step.Ripas.{IsReached, stretch_change, reached_change}
+use Rattle.rmm_spec.specs.Flat.{flat_state}
+use Rattle.rmm_spec.specs.Shape.{Outside}
+use Rattle.rmm_spec.specs.Local.{Hold, LocalStep}
+use Rattle.rmm_sound.proofs.Entries.{value_there}
+use Rattle.rmm_sound.proofs.Runs.{reached_applies}
+use Rattle.world_laws.proofs.Refusals.{outcome-host}
+use Rattle.shape_laws.specs.Whole.{side_changed}
+use Rattle.shape_laws.proofs.Ties.{well_shaped-is_sound}
+use Rattle.command_rows.specs.Answers.{outside_answer, IsOwned}
+use Rattle.walk_laws.specs.SeenState.{table_placed, seen_state}
+use Rattle.walk_laws.specs.TableCells.{holds_change, tables_changed}
+use Rattle.walk_laws.specs.Walking.{Way, way_of, keeps_realm, are_told, is_table_error, is_refused_early, seen_answer, is_way_settled}
+use Rattle.walk_laws.proofs.Accepted.{accepted-held}
+use Rattle.walk_laws.proofs.Settled.{IsHosts, hosts, stretch-placed, first-reached, reached-told, reached-seen, early-error}
+use Rattle.walk_laws.proofs.Steps.{cells-held, reached-local}
+use Rattle.walk_laws.proofs.Told.{walk-told, early-told}
+use Rattle.std.specs.List.{list_all}
+use Rattle.rmm_spec.specs.Step.Words.{words_of}
+use Rattle.std.proofs.lemmas.Option.{none-some}
+use Rattle.rmm_spec.specs.Lookup.{is_granule}
+use Rattle.rmm_spec.specs.Step.Named.{named}
+use Rattle.command_core.specs.Sides.{is_vmid_listed, are_recs_counted}
+use Rattle.command_core.specs.Named.{words_fit}
+use Rattle.command_core.specs.Changed.{new_cells, new_place, hold_changed, CanChange, IsFurthest, IsAnswer, can_make}
+use Rattle.command_core.specs.Decided.{made_answer}
+use Rattle.command_core.specs.Furthest.{furthest}
+use Rattle.command_core.specs.Walks.{spare, is_walk_over, way_taken}
+use Rattle.command_core.proofs.Changes.{is_answer, walk_whole}
+use Rattle.command_core.proofs.Fits.{applied-fits}
+use Rattle.command_core.proofs.Made.{no_whole, made-answered}
+use Rattle.command_core.proofs.Outside.{told_outside}
+use Rattle.command_core.proofs.Stretches.{furthest-reached, reached-furthest}
+use Rattle.command_core.proofs.Wholes.{Whole, state}
+
+-- ---- where a command walks
+
+-- where it walks, the command is one that does
+pub taken-way : (c : Call) (w : Way) → way_taken c ≡ Some w → way_of c ≡ Some w
+unfolding way_taken
+taken-way c w is = by (list_all (λ allowed. allowed) (words_of c)) is
+  where
+    by : (b : Bool) → (if b then way_of c else None) ≡ Some w → way_of c ≡ Some w
+    by true way = way
+    by false way = absurd (none-some w way)
+
+-- where the words are allowed and it walks nowhere, it is one that never does
+pub untaken-way : (granules : ℕ) (c : Call) → words_fit granules c ≡ true → way_taken c ≡ None → way_of c ≡ None
+unfolding way_taken words_fit
+untaken-way granules c fits none =
+    let allowed = (and_parts (list_all (λ allowed. allowed) (words_of c)) (list_all (λ (n : Needed). is_granule granules n.granule) (named c)) fits).0 in
+    subst (λ b. (if b then way_of c else None) ≡ None) allowed none
+
+-- ---- what is changed
+
+-- what a command that walks changes is held, and no CPU enters or leaves a REC
+can-holds : (cpu : ℕ) (hold : Hold) (change : Change) → holds_change hold.cells change ≡ true → CanChange cpu hold change
+unfolding new_cells holds_change
+can-holds cpu hold Unchanged holds = record { held = tt; tables = tt; here = tt }
+can-holds cpu hold (TableMade rd level number rtt entry) holds =
+    record { held = cells-held hold.cells (TableMade rd level number rtt entry) holds; tables = holds; here = tt }
+can-holds cpu hold (TableDestroyed rd level number rtt entry) holds =
+    record { held = cells-held hold.cells (TableDestroyed rd level number rtt entry) holds; tables = holds; here = tt }
+can-holds cpu hold (EntriesChanged rd level entries page realm rec) holds =
+    record { held = cells-held hold.cells (EntriesChanged rd level entries page realm rec) holds; tables = holds; here = tt }
+can-holds cpu hold _ holds = absurd (false≢true holds)
+
+stretch-changed : (hold : Hold) (u : StretchUse) (rd level base first last top : ℕ)
+    → tables_changed hold (stretch_change u rd level base first last top) ≡ hold_changed hold (stretch_change u rd level base first last top)
+unfolding new_cells new_place side_changed
+stretch-changed hold Init rd level base first last top = refl
+stretch-changed hold (Requested rec ripas) rd level base first last top = refl
+
+reached-changed : (hold : Hold) (stretch : Stretch) (top : ℕ) → tables_changed hold (reached_change stretch top) ≡ hold_changed hold (reached_change stretch top)
+unfolding reached_change
+reached-changed hold stretch top = stretch-changed hold stretch.purpose stretch.rd stretch.level stretch.base _ _ top
+
+-- ---- where the walk's end is held
+
+ends-answered : (granules cpu : ℕ) (command : Command) (hold : Hold) (a : Result Accepted Reply) → are_told (call_of command) hold.cells ≡ true
+    → is_way_settled granules (call_of command) hold.cells (way_of (call_of command)) ≡ true
+    → answer_of (seen_state granules hold.cells) cpu (call_of command) ≡ a
+    → ((w : Whole granules cpu hold) → outcome (state granules cpu hold w) cpu (call_of command) ≡ a)
+    → IsAnswer granules cpu command hold (made_answer granules hold.cells hold.side a)
+ends-answered granules cpu command hold (Err given) told settled is each = is_answer granules cpu command hold (Err given) tt each
+ends-answered granules cpu command hold (Ok (Done words change)) told settled is each =
+    made-answered granules cpu command hold (Ok (Done words change))
+    (can-holds cpu hold change (accepted-held granules hold.cells cpu (call_of command) (Done words change) told settled is)) each
+ends-answered granules cpu command hold (Ok (Reaches stretch)) told settled is each = by (can_make granules hold.cells hold.side change) refl
+  where
+    t : State
+    t = seen_state granules hold.cells
+
+    top : ℕ
+    top = furthest t stretch
+
+    change : Change
+    change = reached_change stretch top
+
+    holds : holds_change hold.cells (reached_change stretch top) ≡ true
+    holds = accepted-held granules hold.cells cpu (call_of command) (Reaches stretch) told settled is top
+
+    reached : IsReached t stretch top
+    reached = furthest-reached t stretch (stretch.base + entry_size stretch.level) (first-reached t cpu (call_of command) stretch is)
+
+    at : (stretch.level ≤ 3) × (is_some (table_placed hold.cells stretch.rd stretch.level (table_number stretch.level stretch.base)) ≡ true)
+    at = stretch-placed granules cpu (call_of command) hold.cells stretch settled is
+
+    g : (g : ℕ) × (table_placed hold.cells stretch.rd stretch.level (table_number stretch.level stretch.base) ≡ Some g)
+    g = value_there (table_placed hold.cells stretch.rd stretch.level (table_number stretch.level stretch.base)) at.1
+
+    whole : (w : Whole granules cpu hold) → IsReached (state granules cpu hold w) stretch top
+    whole w = reached-told (walk_whole granules cpu hold w) stretch top g.0 at.0 g.1 reached
+
+    furthest_end : IsFurthest granules cpu command hold (ok (top ∷ []))
+    furthest_end = record {
+      right = λ cells places other end shaped agrees placed leads there.
+          let w : Whole granules cpu hold = record { cells = cells; places = places; shaped = shaped; agrees = agrees; placed = placed } in
+          let both : Ok (Reaches other) ≡ Ok (Reaches stretch) = sym leads ∙ each w in
+          let same : other ≡ stretch = cc in
+          let seen = reached-seen (walk_whole granules cpu hold w) stretch end g.0 at.0 g.1
+          (subst (λ (x : Stretch). IsReached (flat_state granules cells) x end) same there) in
+          (top, refl, reached-furthest t stretch end seen);
+    }
+
+    step : LocalStep granules cpu command (ok (top ∷ [])) hold (tables_changed hold change)
+    step = reached-local granules cpu command stretch top hold holds (λ cells places shaped agrees placed.
+        let w : Whole granules cpu hold = record { cells = cells; places = places; shaped = shaped; agrees = agrees; placed = placed } in
+        (each w, whole w))
+
+    by : (b : Bool) → can_make granules hold.cells hold.side change ≡ b
+        → IsAnswer granules cpu command hold (if b then Ok (done (top ∷ []) change) else Err Misplaced)
+    by true fits = record {
+      can = can-holds cpu hold change holds;
+      is_local = subst (λ (new : Hold). LocalStep granules cpu command (ok (top ∷ [])) hold new) (reached-changed hold stretch top) step;
+      is_furthest = furthest_end;
+    }
+    by false unfit = no_whole granules cpu command hold (λ w.
+        let s = state granules cpu hold w in
+        let can = reached_applies s cpu command stretch top (well_shaped-is_sound granules hold.side w.places w.cells w.shaped) (each w) (whole w) in
+        false≢true (sym unfit ∙ applied-fits granules cpu hold w change can (can-holds cpu hold change holds)))
+
+-- ---- any walk
+
+-- the side table tells nothing that a walk asks
+pub outside-walk : (vmids recs : ℕ → Bool) (s : State) (cpu : ℕ) (c : Call) → is_some (way_of c) ≡ true → answer_of s cpu c ≡ outside_answer vmids recs s cpu c
+unfolding outside_answer way_of class_of
+outside-walk vmids recs s cpu (call.RttCreate rd rtt ipa level) walks = refl
+outside-walk vmids recs s cpu _ walks = cc
+
+-- no command that walks enters a REC
+pub owned-walk : (s : State) (c : Call) → is_some (way_of c) ≡ true → IsOwned s c
+unfolding way_of
+owned-walk s (call.RecEnter rec) walks = absurd (false≢true walks)
+owned-walk s _ walks = tt
+
+pub walk-ready : (granules cpu : ℕ) (command : Command) (hold : Hold) (way : Way) → way_of (call_of command) ≡ Some way → hold.place ≡ Outside
+    → is_walk_over granules (call_of command) hold.cells way ≡ true
+    → IsAnswer granules cpu command hold (made_answer granules hold.cells hold.side (told_outside granules cpu hold (call_of command)))
+unfolding is_walk_over
+walk-ready granules cpu command hold way is place over =
+    subst (λ (a : Result Accepted Reply). IsAnswer granules cpu command hold (made_answer granules hold.cells hold.side a))
+    (outside-walk (is_vmid_listed hold.side) (are_recs_counted hold.side) (seen_state granules hold.cells) cpu (call_of command) walks)
+    (by (or_cases (is_refused_early (seen_answer granules c hold.cells))
+    (is_way_settled granules c hold.cells (Some way) && is_none (spare granules (keeps_realm c) hold.cells way)) parts.1))
+  where
+    c : Call
+    c = call_of command
+
+    walks : is_some (way_of (call_of command)) ≡ true
+    walks = ap (λ (o : Option Way). is_some o) is
+
+    parts : (are_told c hold.cells ≡ true) × ((is_refused_early (seen_answer granules c hold.cells)
+        || (is_way_settled granules c hold.cells (Some way) && is_none (spare granules (keeps_realm c) hold.cells way))) ≡ true)
+    parts = and_parts (are_told c hold.cells) (is_refused_early (seen_answer granules c hold.cells)
+        || (is_way_settled granules c hold.cells (Some way) && is_none (spare granules (keeps_realm c) hold.cells way))) over
+
+    of : IsHosts c
+    of = hosts c walks
+
+    whole : (w : Whole granules cpu hold) → outcome (state granules cpu hold w) cpu c ≡ answer_of (state granules cpu hold w) cpu c
+    whole w = outcome-host granules hold.side w.places w.cells w.shaped cpu c of.host (w.placed ∙ place)
+
+    early : (given : Reply) × (seen_answer granules c hold.cells ≡ Err given) × (is_table_error given ≡ false)
+        → IsAnswer granules cpu command hold (made_answer granules hold.cells hold.side (answer_of (seen_state granules hold.cells) cpu c))
+    early e =
+        let told : answer_of (seen_state granules hold.cells) cpu c ≡ Err e.0 = of.alike (seen_state granules hold.cells) cpu ∙ e.1 in
+        subst (λ (a : Result Accepted Reply). IsAnswer granules cpu command hold (made_answer granules hold.cells hold.side a)) (sym told)
+        (is_answer granules cpu command hold (Err e.0) tt (λ w. whole w ∙ early-told (walk_whole granules cpu hold w) cpu c e.0 parts.0 walks told e.2))
+
+    by : (is_refused_early (seen_answer granules c hold.cells) ≡ true)
+        ⊎ ((is_way_settled granules c hold.cells (Some way) && is_none (spare granules (keeps_realm c) hold.cells way)) ≡ true)
+        → IsAnswer granules cpu command hold (made_answer granules hold.cells hold.side (answer_of (seen_state granules hold.cells) cpu c))
+    by (inl refuses) = early (early-error (seen_answer granules c hold.cells) refuses)
+    by (inr ends) =
+        let at = (and_parts (is_way_settled granules c hold.cells (Some way)) (is_none (spare granules (keeps_realm c) hold.cells way)) ends).0 in
+        let settled = subst (λ (o : Option Way). is_way_settled granules c hold.cells o ≡ true) (sym is) at in
+        ends-answered granules cpu command hold (answer_of (seen_state granules hold.cells) cpu c) parts.0 settled refl
+        (λ w. whole w ∙ walk-told (walk_whole granules cpu hold w) cpu c parts.0 settled)

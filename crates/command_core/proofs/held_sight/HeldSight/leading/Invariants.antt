@@ -1,0 +1,8 @@
+use Rattle.std.proofs.Common.{◌≡◌}
+use Rattle.walk_laws.specs.SeenState.{seen_state}
+use Rattle.command_core.specs.Furthest as spec
+use Rattle.command_core.proofs.held_sight.HeldSight.leading.Given as goal
+
+abbrev pub invariant-loop-behind : goal.invariant-loop-behind
+invariant-loop-behind g l =
+    spec.leading l.behind (spec.may_set (seen_state l.self.config.now.granules (g.H.Held.cells l.self.held.now)) l.stretch) ≡ l.behind

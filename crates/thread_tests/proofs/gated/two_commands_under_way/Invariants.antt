@@ -1,7 +1,0 @@
-use Rattle.thread_tests.proofs.gated.two_commands_under_way.Given as goal
-
-abbrev pub ghosts-delegate_apart-S-Site : goal.ghosts-delegate_apart-S-Site
-ghosts-delegate_apart-S-Site g a = record { granules = a.config.granules }
-
-abbrev pub ghosts-delegate_apart-S-Ledger : goal.ghosts-delegate_apart-S-Ledger
-ghosts-delegate_apart-S-Ledger g a = record { name = a.blank.name; parts = a.blank.parts }

@@ -1,0 +1,218 @@
+//! Two CPUs that meet between their commands, on one thread and on threads of their own.
+
+ghost use Rattle.std.specs.Prelude.{◌≡◌, IfOk, IfSome};
+ghost use Rattle.event_queue.specs.View.{CanDrain};
+ghost use Rattle.monitor.specs.Executed.{ArePaired};
+
+use crate::gated::{Cpu, last_cpu};
+use crate::monitored::{Answer, write_answer};
+use checker::{check, verdict_text};
+use granule_state::Config;
+use history::History;
+use monitor::{Monitor, Open, ScribePass, Site, fit_a_history, meet};
+use rmi_codec::push_decimal;
+use std::alloc::{AllocError, Global};
+use std::marker::Brand;
+use std::sync::Wait;
+use std::sync::ledger::Blank;
+use std::test::Fail;
+use std::thread;
+use std::thread::Threads;
+
+/// A CPU is asked on a thread of its own, which has ended when this returns.
+fn ask_apart<S: Site + Send + Sync, R: Threads + Wait + Sync>(
+    rt: &R,
+    alloc: Global,
+    monitor: &Monitor<S>,
+    cpu: Cpu<S>,
+    text: &str,
+) -> Option<(Cpu<S>, Answer)>
+    requires { ArePaired monitor.now cpu.token cpu.pass }
+    ensures pair { IfSome result (λ asked. ArePaired monitor.now asked.0.token asked.0.pass) }
+    ensures cpu { IfSome result (λ asked. asked.0.token.cpu ≡ cpu.token.cpu) }
+{
+    thread::join(
+        rt,
+        || -> Option<(Cpu<S>, Answer)>
+            requires { ArePaired monitor.now cpu.token cpu.pass }
+            ensures pair { IfSome result (λ asked. ArePaired monitor.entry.now asked.0.token asked.0.pass) }
+            ensures cpu { IfSome result (λ asked. asked.0.token.cpu ≡ cpu.token.cpu) }
+        { cpu.ask(rt, alloc, monitor, &Open, text) },
+        || (),
+    )
+    .0
+}
+
+/// A CPU is asked, and the answer's line is appended.
+fn tell<S: Site + Send + Sync, R: Threads + Wait + Sync>(
+    rt: &R,
+    alloc: Global,
+    monitor: &Monitor<S>,
+    cpu: Cpu<S>,
+    text: &str,
+    is_apart: bool,
+    out: &mut Vec<u8>,
+) -> Result<Cpu<S>, Fail>
+    requires { ArePaired monitor.now cpu.token cpu.pass }
+    ensures pair { IfOk result (λ told. ArePaired monitor.now told.token told.pass) }
+    ensures cpu { IfOk result (λ told. told.token.cpu ≡ cpu.token.cpu) }
+{
+    let asked = if is_apart {
+        ask_apart(rt, alloc, monitor, cpu, text)
+    } else {
+        cpu.ask(rt, alloc, monitor, &Open, text)
+    };
+    let Some((cpu, answer)) = asked else {
+        return Err("a command".into());
+    };
+    write_answer(&answer, out)?;
+    Ok(cpu)
+}
+
+/// Appends a line of how many entries each CPU has seen.
+fn write_seen<S: Site>(
+    first: &Cpu<S>,
+    second: &Cpu<S>,
+    out: &mut Vec<u8>,
+) -> Result<(), AllocError> {
+    push_decimal(out, first.token.seen_len())?;
+    out.extend_from_slice(b" ")?;
+    push_decimal(out, second.token.seen_len())?;
+    out.extend_from_slice(b"\n")
+}
+
+/// Two CPUs meet. Appends a line of what they have seen before, and one of what they have seen then.
+fn meet_both<S: Site>(
+    _monitor: &Monitor<S>,
+    first: &mut Cpu<S>,
+    second: &mut Cpu<S>,
+    out: &mut Vec<u8>,
+) -> Result<(), AllocError>
+    requires first { ArePaired _monitor.now first.old.token first.old.pass }
+    requires second { ArePaired _monitor.now second.old.token second.old.pass }
+    ensures first { ArePaired _monitor.now first.new.token first.new.pass × (first.new.token.cpu ≡ first.old.token.cpu) }
+    ensures second { ArePaired _monitor.now second.new.token second.new.pass × (second.new.token.cpu ≡ second.old.token.cpu) }
+{
+    write_seen(first, second, out)?;
+    meet(&mut first.token, &mut second.token);
+    write_seen(first, second, out)
+}
+
+/// CPU 0 delegates a granule, CPU 1 takes it back, and CPU 0 delegates another. They meet after each of the first two.
+fn tell_in_turn<S: Site + Send + Sync, R: Threads + Wait + Sync>(
+    rt: &R,
+    alloc: Global,
+    monitor: &Monitor<S>,
+    first: Cpu<S>,
+    second: Cpu<S>,
+    is_apart: bool,
+    out: &mut Vec<u8>,
+) -> Result<(Cpu<S>, Cpu<S>), Fail>
+    requires first { ArePaired monitor.now first.token first.pass }
+    requires second { ArePaired monitor.now second.token second.pass }
+    ensures first { IfOk result (λ told. ArePaired monitor.now told.0.token told.0.pass × (told.0.token.cpu ≡ first.token.cpu)) }
+    ensures second { IfOk result (λ told. ArePaired monitor.now told.1.token told.1.pass × (told.1.token.cpu ≡ second.token.cpu)) }
+{
+    let mut second = second;
+    let mut first = tell(rt, alloc, monitor, first, "c4000151 1000", is_apart, out)?;
+    meet_both(monitor, &mut first, &mut second, out)?;
+    let mut second = tell(rt, alloc, monitor, second, "c4000152 1000", is_apart, out)?;
+    meet_both(monitor, &mut first, &mut second, out)?;
+    let first = tell(rt, alloc, monitor, first, "c4000151 2000", is_apart, out)?;
+    Ok((first, second))
+}
+
+/// Closes the run of two CPUs, and appends its certificate and the verdict's line.
+fn close_two<S: Site, R: Wait>(
+    rt: &R,
+    alloc: Global,
+    monitor: Monitor<S>,
+    first: Cpu<S>,
+    second: Cpu<S>,
+    scribe: ScribePass,
+    history: History,
+    out: &mut Vec<u8>,
+) -> Result<(), Fail>
+    requires two { monitor.config.cpus ≡ 2 }
+    requires first { ArePaired monitor first.token first.pass × (first.token.cpu ≡ 0) }
+    requires second { ArePaired monitor second.token second.pass × (second.token.cpu ≡ 1) }
+    requires drain { CanDrain monitor.queue scribe history.recorded }
+    requires config { history.recorded.config ≡ monitor.config }
+{
+    let mut tokens = Vec::with_capacity(alloc, 2)?;
+    tokens.push(first.token)?;
+    tokens.push(second.token)?;
+    let mut passes = Vec::with_capacity(alloc, 2)?;
+    passes.push(first.pass)?;
+    passes.push(second.pass)?;
+    if !fit_a_history(&passes) {
+        return Err("a history with room for the rest".into());
+    }
+    let (recorded, order) = monitor.close(rt, alloc, tokens, passes, scribe, history)?;
+    let mut text = Vec::new(alloc);
+    history::write(&recorded, &mut text)?;
+    let mut lines = Vec::new(alloc);
+    certificate::write(&order, &mut lines)?;
+    let verdict = check(alloc, text.as_slice(), lines.as_slice())?;
+    out.extend_from_slice(lines.as_slice())?;
+    Ok(verdict_text(&verdict, out)?)
+}
+
+/// Appends what two CPUs are told and have seen, and then the certificate and the verdict's line.
+fn run_two<S: Site + Send + Sync, R: Threads + Wait + Sync>(
+    rt: &R,
+    alloc: Global,
+    blank: Blank,
+    config: Config,
+    is_apart: bool,
+    out: &mut Vec<u8>,
+) -> Result<(), Fail>
+    requires name { blank.name ≡ S.name }
+    requires parts { blank.parts ≡ S.parts }
+    requires one_each { blank.parts ≡ config.cpus }
+    requires granules { config.granules ≡ S.granules }
+    requires two { config.cpus ≡ 2 }
+{
+    let (monitor, mut tokens, mut passes, scribe) = Monitor::<S>::new(alloc, blank, config, 16)?;
+    let second = last_cpu(&monitor, &mut tokens, &mut passes)?;
+    let first = last_cpu(&monitor, &mut tokens, &mut passes)?;
+    if first.token.cpu() != 0 || second.token.cpu() != 1 {
+        return Err("CPU 0 and CPU 1".into());
+    }
+    let (first, second) = tell_in_turn(rt, alloc, &monitor, first, second, is_apart, out)?;
+    let history = History::new(alloc, config);
+    close_two(rt, alloc, monitor, first, second, scribe, history, out)
+}
+
+/// What the run of two CPUs appends.
+const TOLD: &str = "\
+0 ok
+1 0
+1 1
+1 ok
+1 2
+2 2
+2 ok
+k 0 0
+k 1 0
+k 0 1
+yes 3
+";
+
+#[test]
+fn meets_on_one_thread(rt: HostRuntime) -> Result<(), Fail> {
+    let config = Config::new(4, 2).ok_or("a machine of this size")?;
+    let mut out = Vec::new(rt.alloc());
+    run_two::<Brand, _>(&rt, rt.alloc(), Blank::new(2), config, false, &mut out)?;
+    assert!(rt; out.as_slice() == TOLD.as_bytes());
+    Ok(())
+}
+
+#[test]
+fn meets_across_threads(rt: HostRuntime) -> Result<(), Fail> {
+    let config = Config::new(4, 2).ok_or("a machine of this size")?;
+    let mut out = Vec::new(rt.alloc());
+    run_two::<Brand, _>(&rt, rt.alloc(), Blank::new(2), config, true, &mut out)?;
+    assert!(rt; out.as_slice() == TOLD.as_bytes());
+    Ok(())
+}
