@@ -1,0 +1,12 @@
+-- The keys of a table.
+use Rattle.std.proofs.Common.{◌≡◌, ◌&&◌, List, [], ◌∷◌, String, Global, string_bytes, refl, ap}
+use Rattle.std.specs.List.{list_all}
+use Rattle.std.specs.Map.{keys_of}
+use Rattle.toml.specs.View.{members_view}
+use Rattle.toml.specs.declared.value.Value.{Value}
+use Rattle.scenario_text.specs.ScenarioKeys.{is_key, has_known_keys}
+
+-- All are known where each is.
+pub has_known_keys-view : (entries : List (String Global × Value)) → has_known_keys (members_view entries) ≡ list_all (λ key. is_key (string_bytes key)) (keys_of entries)
+has_known_keys-view [] = refl
+has_known_keys-view (entry ∷ entries) = ap (λ rest. is_key (string_bytes entry.0) && rest) (has_known_keys-view entries)

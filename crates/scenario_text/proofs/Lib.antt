@@ -1,0 +1,10 @@
+mod Items
+mod ReadTo
+mod KnownKeys
+mod TurnTexts
+mod Values
+mod Faults
+mod OneAnswer
+mod OneScenario
+mod OneFault
+mod Worked

@@ -1,0 +1,59 @@
+-- Lists of texts and what they are the texts of.
+use Rattle.std.proofs.Common.{◌≡◌, ◌<◌, pos, List, [], ◌∷◌, length, map, sum, refl, sym, ap, ◌∙◌}
+use Rattle.std.specs.List.{AllByRecursion}
+use Rattle.std.proofs.lemmas.List.{length-map}
+use Rattle.rmm_spec.specs.declared.command.Command.{Command}
+use Rattle.rmm_spec.specs.CommandText.{IsCommand, command_text}
+use Rattle.scenario_text.specs.declared.limits.Sizes.{Sizes}
+use Rattle.scenario_text.specs.declared.turn.Turn.{Turn}
+use Rattle.scenario_text.specs.ScenarioKeys.{Stated}
+use Rattle.scenario_text.specs.ScenarioText.{IsStatedBy, AreInRange, IsCommandText, turn_text}
+use Rattle.scenario_text.specs.Sizes.{AreSizes}
+
+-- The texts of commands can be read.
+pub IsCommandText-each : (commands : List Command) → AllByRecursion IsCommand commands → AllByRecursion IsCommandText (map command_text commands)
+IsCommandText-each [] all = tt
+IsCommandText-each (command ∷ commands) all = ((command, all.0, refl), IsCommandText-each commands all.1)
+
+pub IsCommandText-all : (programs : List (List Command)) → AllByRecursion (AllByRecursion IsCommand) programs → AllByRecursion (AllByRecursion IsCommandText) (map (map command_text) programs)
+IsCommandText-all [] all = tt
+IsCommandText-all (program ∷ programs) all = (IsCommandText-each program all.0, IsCommandText-all programs all.1)
+
+-- There are as many texts as commands.
+pub lengths-texts : (programs : List (List Command)) → map length (map (map command_text) programs) ≡ map length programs
+lengths-texts [] = refl
+lengths-texts (program ∷ programs) = λ i. length-map program command_text i ∷ lengths-texts programs i
+
+-- Numbers that are held as they are stated are in range.
+pub AreInRange-sizes : (stated : Stated) (sizes : Sizes) → AreSizes stated sizes → AreInRange stated
+AreInRange-sizes stated sizes are = record {
+  granules = rw are.granules (are.config.some_granules, are.config.most_granules);
+  cpus = rw are.cpus (are.config.some_cpus, are.config.most_cpus);
+  programs = are.cpus ∙ ap pos (sym are.programs);
+  few = are.few;
+  queue = rw are.queue are.queue_within;
+  limit = rw are.limit are.limit_within;
+}
+
+-- What is stated is the scenario of the numbers, commands and turns that are read from it.
+pub IsStatedBy-parts : (stated : Stated) (sizes : Sizes) (programs : List (List Command)) (turns : List Turn) → AreSizes stated sizes
+    → stated.programs ≡ map (map command_text) programs → AllByRecursion (AllByRecursion IsCommand) programs
+    → stated.turns ≡ map turn_text turns → AllByRecursion (λ turn. turn.cpu < sizes.config.cpus) turns
+    → IsStatedBy stated (record { config = sizes.config; programs = programs; queue = sizes.queue; turns = turns; limit = sizes.limit })
+IsStatedBy-parts stated sizes programs turns are texts commands turn_texts cpus = record {
+  is_scenario = record {
+    config = are.config;
+    programs = sym (length-map programs (map command_text)) ∙ ap length (sym texts) ∙ are.programs;
+    commands = commands;
+    few = rw (ap (λ lists. sum (map length lists)) texts ∙ ap sum (lengths-texts programs)) at are.few;
+    queue = are.queue_within;
+    turns = cpus;
+    limit = are.limit_within;
+  };
+  granules = are.granules;
+  cpus = are.cpus;
+  programs = texts;
+  queue = are.queue;
+  turns = turn_texts;
+  limit = are.limit;
+}

@@ -1,0 +1,10 @@
+use Rattle.std.proofs.Common.{map}
+use Rattle.std.specs.List.{AllByRecursion}
+use Rattle.rmm_spec.specs.CommandText.{IsCommand, command_text}
+use Rattle.scenario_text.specs.ScenarioText.{IsCommandText}
+use Rattle.scenario_text.specs.Seen.{seen_texts, seen_programs}
+use Rattle.scenario_text.proofs.ReadTo.{IsReadTo}
+use Rattle.scenario_text.proofs.program.programs_from.Given as goal
+
+abbrev pub invariant-loop-texts : goal.invariant-loop-texts
+invariant-loop-texts l = IsReadTo (AllByRecursion IsCommand) (map command_text) (AllByRecursion IsCommandText) (λ list. seen_texts list.items) l.lists l.texts-index (seen_programs l.programs.items)

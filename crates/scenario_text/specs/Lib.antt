@@ -1,0 +1,4 @@
+pub mod ScenarioKeys
+pub mod ScenarioText
+pub mod Seen
+pub mod Sizes

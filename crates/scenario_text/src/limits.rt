@@ -1,0 +1,74 @@
+//! Whether the numbers of a scenario are within their ranges.
+
+ghost use Rattle.std.specs.Prelude.{◌≡◌, ◌↔◌, ◌≤◌, ℕ, pos, IsTrue, IfSome, IfNone, length, map, sum, vec_len};
+ghost use Rattle.scenario_text.specs.ScenarioText.{AreInRange, IsBetween};
+ghost use Rattle.scenario_text.specs.Seen.{seen_lists, stated_seen};
+ghost use Rattle.scenario_text.specs.Sizes.{AreSizes};
+
+use crate::keys::Stated;
+use granule_state::Config;
+
+// The most commands of all programs together: a history has room for a call and a return of each.
+const MOST_COMMANDS: usize = 499_999;
+
+/// The numbers of a scenario, each within its range.
+#[derive(Clone, Copy)]
+pub(crate) struct Sizes {
+    pub(crate) config: Config,
+    pub(crate) queue: usize,
+    pub(crate) limit: u32,
+}
+
+/// The numbers that are stated, where all are within their ranges, each CPU has a program, and there are few enough commands.
+pub(crate) fn sizes_of(stated: &Stated<'_>) -> Option<Sizes>
+    ensures found { IfSome result (AreSizes (stated_seen stated.now)) }
+    ensures none { IfNone result (¬ AreInRange (stated_seen stated.now)) }
+{
+    let granules = number_between(stated.granules, 1, 4096)?;
+    let cpus = number_between(stated.cpus, 1, 8)?;
+    let queue = number_between(stated.queue, 1, 65_536)?;
+    let limit = number_between(stated.limit, 1, 10_000_000)?;
+    if stated.programs.len() as u64 != cpus {
+        return None;
+    }
+    if !are_few(stated.programs.as_slice()) {
+        return None;
+    }
+    let config = Config::new(granules, cpus)?;
+    Some(Sizes {
+        config,
+        queue: queue as usize,
+        limit: limit as u32,
+    })
+}
+
+// A number that lies between two others, or is one of them.
+fn number_between(number: i64, low: u64, high: u64) -> Option<u64>
+    ensures found { IfSome result (λ n. number ≡ pos n) }
+    ensures within { IfSome result (λ n. IsBetween low high (pos n)) }
+    ensures none { IfNone result (¬ IsBetween low high number) }
+{
+    if number < 0 {
+        return None;
+    }
+    let number = number as u64;
+    if number < low || high < number {
+        return None;
+    }
+    Some(number)
+}
+
+// Whether a history has room for all commands.
+fn are_few(programs: &[Vec<&str>]) -> bool
+    ensures { IsTrue result ↔ (sum (map length (seen_lists programs.now)) ≤ 499999) }
+{
+    let mut left = MOST_COMMANDS;
+    for program in programs {
+        let count = program.len();
+        if count > left {
+            return false;
+        }
+        left -= count;
+    }
+    true
+}
