@@ -11,7 +11,7 @@ use std::test::Fail;
 use world::World;
 
 // Each line is a command of one CPU and its reply.
-const TABLES: &str = "\
+pub(crate) const TABLES: &str = "\
 c4000151 1000 -> ok
 c4000151 2000 -> ok
 c4000151 3000 -> ok
@@ -27,7 +27,7 @@ c400015e 1000 0 3 -> ok 4000
 c4000161 1000 0 3 -> ok 2 0 0 2
 ";
 
-const RIPAS: &str = "\
+pub(crate) const RIPAS: &str = "\
 c4000151 1000 -> ok
 c4000151 2000 -> ok
 c4000151 3000 -> ok

@@ -1,0 +1,2 @@
+pub mod Turning
+pub mod Printing

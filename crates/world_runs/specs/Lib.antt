@@ -1,0 +1,2 @@
+pub mod Schedule
+pub mod Played

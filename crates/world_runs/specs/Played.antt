@@ -1,0 +1,51 @@
+-- Where turns that are due lead, and what a run of them prints.
+use Rattle.std.specs.Prelude.{◌≡◌, ℕ, ◌+◌, ◌≤◌, ◌⊎◌, Bool, false, List, ◌++◌, map, length, take}
+use Rattle.rmm_spec.specs.declared.command.Command.{Command}
+use Rattle.rmm_spec.specs.declared.verdict.Verdict.{Verdict}
+use Rattle.rmm_spec.specs.declared.verdict.Verdict.TheVariants.{Yes}
+use Rattle.rmm_spec.specs.HistoryText.{Config}
+use Rattle.rmm_spec.specs.Waits.{Go, Report, Turns, Turn, TurnAll}
+use Rattle.rmm_spec.specs.World.{World, opening_world, history_of, certificate_of}
+use Rattle.run_texts.specs.RunText.{run_text}
+use Rattle.world.specs.Next.{IsNoMove, StandsStill, go_report}
+use Rattle.world_runs.specs.declared.order.Order.{Order}
+use Rattle.world_runs.specs.Schedule.{Due, due_by, ring}
+
+abbrev pub due_of : Turn → Due
+due_of turn = record { cpu = turn.cpu; will = turn.will }
+
+-- From one world turns that were due in this order, whatever they reported, lead to another.
+pub record Plays (old : World) (dues : List Due) (new : World) : Type 0 where
+  pub turns : List Turn
+  pub run : TurnAll old turns new
+  pub in_order : map due_of turns ≡ dues
+
+-- From the opening of these programs the listed turns lead there, and after them turns of all CPUs in a ring. They are no more
+-- than the limit, and end there or where no CPU's go would make a move.
+pub record IsPlayed (config : Config) (programs : ℕ → List Command) (orders : List Order) (limit : ℕ) (w : World) : Type 0 where
+  pub gone : ℕ
+  pub plays : Plays (opening_world config programs) (map due_by (take limit orders) ++ ring config.cpus gone) w
+  pub within : length (take limit orders) + gone ≤ limit
+  pub ends : (length (take limit orders) + gone ≡ limit) ⊎ StandsStill w
+
+-- What is printed of such a run: its texts, and the verdict that says yes to all its commits.
+pub record IsPrinted (config : Config) (programs : ℕ → List Command) (orders : List Order) (limit : ℕ) (judged : Verdict) (text : List ℕ) : Type 0 where
+  pub world : World
+  pub is_played : IsPlayed config programs orders limit world
+  pub is_yes : judged ≡ Yes (length world.journal)
+  pub is_text : text ≡ run_text (history_of world) (certificate_of world) judged
+
+-- A go of the CPU leads from one world to another. Unless it is told that it moved, or one had before, it made no move.
+pub record Goes (old : World) (cpu : ℕ) (had_moved has_moved : Bool) (new : World) : Type 0 where
+  pub report : Report
+  pub turned : Turns old cpu Go report new
+  pub exact : report ≡ go_report old cpu
+  pub unmoved : has_moved ≡ false → (had_moved ≡ false) × IsNoMove report
+
+-- From one world turns of all CPUs in a ring lead to another. They are no more than the limit, and end there or where no CPU's go
+-- would make a move.
+pub record GoesRound (old : World) (limit : ℕ) (new : World) : Type 0 where
+  pub gone : ℕ
+  pub plays : Plays old (ring old.config.cpus gone) new
+  pub within : gone ≤ limit
+  pub ends : (gone ≡ limit) ⊎ StandsStill new
