@@ -1,3 +1,0 @@
-pub mod Coming
-pub mod Waiting
-pub mod Closed
