@@ -1,5 +1,5 @@
 -- Turns one after another: one more, and where no CPU of a whole ring moved.
-use Rattle.std.proofs.Common.{◌≡◌, ℕ, zero, suc, ◌+◌, ◌<◌, ◌%◌, ◌⊎◌, inl, inr, List, [], ◌∷◌, ◌++◌, map, Bool, true, false, ◌==◌, refl, sym, ap, ◌∙◌, subst, arith}
+use Rattle.std.proofs.Common.{◌≡◌, ℕ, zero, suc, ◌+◌, ◌<◌, ◌%◌, ◌⊎◌, inr, List, [], ◌∷◌, ◌++◌, map, Bool, true, false, ◌==◌, refl, sym, ap, ◌∙◌, subst, arith}
 use Rattle.std.proofs.Math.Nat.{suc-mod, mod_self, mod-eq_of_lt}
 use Rattle.std.proofs.Math.Numerals.{suc-eq-add-one}
 use Rattle.std.proofs.lemmas.Bool.{eqb-true, eqb-false}
@@ -157,13 +157,3 @@ module _ (old mid new : World) (count cpu : ℕ) (had_moved has_moved : Bool) (r
     within = omega (arith, within);
     ends = inr (λ other below. still-more none other (omega (arith, below, last, ap (λ (c : Config). c.cpus) same-more)));
   }
-
--- all turns are given
-pub GoesRound-all : (old : World) (count cpu limit : ℕ) (has_moved : Bool) (w : World) → count ≡ limit → IsRound old count cpu has_moved w
-    → GoesRound old limit w
-GoesRound-all old count cpu limit has_moved w all round = record {
-  gone = count;
-  plays = round.plays;
-  within = omega (arith, all);
-  ends = inl all;
-}
