@@ -18,7 +18,7 @@ use Rattle.bad_lines.specs.declared.wanted.Role.TheVariants as role
 use Rattle.bad_lines.specs.declared.wanted.Wanted.TheVariants as wanted
 use Rattle.bad_lines.specs.declared.wrong_part.WrongPart.{WrongPart}
 use Rattle.bad_lines.specs.Wanted.{GoesOn, behind_number}
-use Rattle.bad_lines.specs.Wrong.{IsCertificateLine, IsEventLine, IsHeader, IsHeaderOf, IsWrong, call_number}
+use Rattle.bad_lines.specs.Wrong.{IsCertificateLine, IsCommandLine, IsEventLine, IsHeader, IsHeaderOf, IsWrong, call_number}
 
 -- a wrong part is one for each kind that has the same lines
 IsWrong-same : (P Q : List (List ℕ) → Type 0) (parts : List (List ℕ)) (wrong : WrongPart) → ((line : List (List ℕ)) → P line ↔ Q line) → IsWrong P parts wrong → IsWrong Q parts wrong
@@ -112,6 +112,9 @@ command_from : (command : Command) → IsCommand command → GoesOn wanted.Funct
 unfolding command_parts
 command_from command h =
     (wanted.Words (word_count command.function), (command.function, refl, refl), words_from command.words.items (word_count command.function) h.words h.counted)
+
+pub command_same : (line : List (List ℕ)) → GoesOn wanted.Function line ↔ IsCommandLine line
+command_same line = (command_to line, λ h. subst (GoesOn wanted.Function) (sym h.2) (command_from h.0 h.1))
 
 -- ---- replies
 

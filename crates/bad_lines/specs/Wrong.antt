@@ -1,9 +1,11 @@
 -- Which part of a line is wrong.
 use Rattle.std.specs.Prelude.{◌≡◌, ◌↔◌, ℕ, ◌<◌, ◌≤◌, List, ◌∷◌, ◌++◌, length, take, slice_get, Some, MatchOption}
+use Rattle.rmm_spec.specs.declared.command.Command.{Command}
 use Rattle.rmm_spec.specs.declared.event.Event.{Event}
 use Rattle.rmm_spec.specs.declared.event.Event.TheVariants.{Called, Returned}
 use Rattle.rmm_spec.specs.declared.line.Line.{Line}
 use Rattle.rmm_spec.specs.CertificateText.{IsLine, line_parts}
+use Rattle.rmm_spec.specs.CommandText.{IsCommand, command_parts}
 use Rattle.rmm_spec.specs.HistoryText.{Config, IsConfig, IsEvent, config_parts, event_parts}
 use Rattle.bad_lines.specs.declared.wrong_part.WrongPart.{WrongPart}
 use Rattle.bad_lines.specs.Wanted.{CanStand, MayEnd}
@@ -28,6 +30,10 @@ IsEventLine cpus parts = (event : Event) × IsEvent cpus event × (call_number e
 -- a line of a certificate
 abbrev pub IsCertificateLine : List (List ℕ) → Type 0
 IsCertificateLine parts = (line : Line) × IsLine line × (parts ≡ line_parts line)
+
+-- a command by itself
+abbrev pub IsCommandLine : List (List ℕ) → Type 0
+IsCommandLine parts = (command : Command) × IsCommand command × (parts ≡ command_parts command)
 
 -- The part of that index is wrong in the line: what is wanted there is exactly what a line of the kind has behind the parts
 -- before it, and this line has none of that.

@@ -3,7 +3,7 @@
 ghost use Rattle.std.specs.Prelude.{◌≡◌, IfSome, IfNone};
 ghost use Rattle.rmm_spec.specs.HistoryText.{Config};
 ghost use Rattle.rmm_spec.specs.Text.{parts_of};
-ghost use Rattle.bad_lines.specs.Wrong.{IsCertificateLine, IsEventLine, IsHeader, IsHeaderOf, IsWrong};
+ghost use Rattle.bad_lines.specs.Wrong.{IsCertificateLine, IsCommandLine, IsEventLine, IsHeader, IsHeaderOf, IsWrong};
 
 use crate::wanted::Wanted;
 use crate::wrong_part::{WrongPart, wrong_part};
@@ -53,4 +53,12 @@ pub fn wrong_in_certificate_line(line: &[u8]) -> Option<WrongPart<'_>>
     ensures none { IfNone result (IsCertificateLine (parts_of line.now)) }
 {
     wrong_part(line, Wanted::LineLetter)
+}
+
+/// The first wrong part of a command's text.
+pub fn wrong_in_command(text: &[u8]) -> Option<WrongPart<'_>>
+    ensures wrong { IfSome result (IsWrong IsCommandLine (parts_of text.now)) }
+    ensures none { IfNone result (IsCommandLine (parts_of text.now)) }
+{
+    wrong_part(text, Wanted::Function)
 }

@@ -3,21 +3,24 @@
 mod dice;
 mod drafting;
 mod drawing;
+mod edges;
 mod replies;
 mod runs;
 mod schedule;
+mod stops;
 mod turning;
 mod turns;
 mod walking;
 
 use anyhow::{Result, bail};
-use replies::compare_replies;
+use replies::{Programs, compare_replies};
 use runs::judge_runs;
 use std::alloc::Global;
+use stops::judge_stops;
 use turns::{Work, take_turns};
 
-/// Judges the runs of so many seeds from the first on, compares the replies of so many programs on one CPU, does both, or lets so
-/// many CPUs (the first number) take so many turns.
+/// Judges the runs of so many seeds from the first on, compares the replies of so many programs on one CPU, does both, ends each
+/// CPU at each turn of so many runs, or lets so many CPUs (the first number) take so many turns.
 pub(crate) fn run(
     rt: &impl Print,
     alloc: Global,
@@ -27,14 +30,16 @@ pub(crate) fn run(
 ) -> Result<()> {
     match kind {
         "runs" => judge_runs(rt, alloc, first, count),
-        "replies" => compare_replies(rt, alloc, first, count),
+        "replies" => compare_replies(rt, alloc, Programs::Drafted, first, count),
+        "edges" => compare_replies(rt, alloc, Programs::Edged, first, count),
+        "stops" => judge_stops(rt, alloc, first, count),
         "all" => {
             judge_runs(rt, alloc, first, count)?;
-            compare_replies(rt, alloc, first, count)
+            compare_replies(rt, alloc, Programs::Drafted, first, count)
         }
         "turns" => take_turns(rt, alloc, Work::Lives, first, count),
         "realms" => take_turns(rt, alloc, Work::Realms, first, count),
         "realm" => take_turns(rt, alloc, Work::Realm, first, count),
-        _ => bail!("runs, replies, all, turns, realms or realm?"),
+        _ => bail!("runs, replies, edges, stops, all, turns, realms or realm?"),
     }
 }

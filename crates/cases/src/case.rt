@@ -4,7 +4,7 @@ use crate::answers::{
     page_has, read_certificate, read_history, reported, rewritten_certificate, rewritten_history,
     verdict,
 };
-use crate::cuts::{cuts, offers};
+use crate::cuts::{cuts, empties, offers};
 use crate::owners::owners;
 use crate::parts::{command_read, reply_read, wrong_event, wrong_header, wrong_line};
 use crate::script::Script;
@@ -83,6 +83,7 @@ impl Case {
             Word::Report => reported(alloc, history, certificate),
             Word::Page => page_has(alloc, history, certificate, part),
             Word::Cuts => cuts(alloc, history, certificate),
+            Word::Empties => empties(alloc, history, certificate, part.parse()?),
             Word::Offers => offers(alloc, history, certificate),
             Word::Owners => owners(alloc, history),
             Word::Read => match part {

@@ -15,8 +15,45 @@ pub(crate) fn cuts(alloc: Global, history: &str, certificate: &str) -> Result<St
     let is_one = is_one_by_bytes(alloc, history, certificate, line)?
         && is_one_by_history(alloc, history, certificate, line)?
         && is_one_by_certificate(alloc, history, certificate, line)?;
+    answer(alloc, is_one)
+}
+
+fn answer(alloc: Global, is_one: bool) -> Result<String> {
     let answer = if is_one { "as whole\n" } else { "by the cut\n" };
     Ok(String::from_str(alloc, answer)?)
+}
+
+/// Whether the two texts have one verdict whole, and with so many empty pieces before and behind each of them.
+pub(crate) fn empties(
+    alloc: Global,
+    history: &str,
+    certificate: &str,
+    count: u32,
+) -> Result<String> {
+    let verdict = check(alloc, history.as_bytes(), certificate.as_bytes())?;
+    let mut line = Vec::new(alloc);
+    verdict_text(&verdict, &mut line)?;
+    let history = among_empties(alloc, history.as_bytes(), count)?;
+    let certificate = among_empties(alloc, certificate.as_bytes(), count)?;
+    let is_one = has_line(
+        alloc,
+        history.as_slice(),
+        certificate.as_slice(),
+        line.as_slice(),
+    )?;
+    answer(alloc, is_one)
+}
+
+fn among_empties(alloc: Global, text: &[u8], count: u32) -> Result<Vec<&[u8]>, AllocError> {
+    let mut pieces = Vec::new(alloc);
+    for _piece in 0..count {
+        pieces.push(&text[..0])?;
+    }
+    pieces.push(text)?;
+    for _piece in 0..count {
+        pieces.push(&text[..0])?;
+    }
+    Ok(pieces)
 }
 
 fn is_one_by_bytes(

@@ -23,6 +23,8 @@ pub(crate) enum Word {
     Verdict,
     /// Whether the two texts' verdict is the same in pieces, however they are cut.
     Cuts,
+    /// The same, with so many empty pieces around each text.
+    Empties,
     /// How many offers a session makes of the certificate.
     Offers,
     /// The report on the two texts.
@@ -56,6 +58,7 @@ impl Word {
             "header" => Word::Header,
             "verdict" => Word::Verdict,
             "cuts" => Word::Cuts,
+            "empties" => Word::Empties,
             "offers" => Word::Offers,
             "report" => Word::Report,
             "page" => Word::Page,

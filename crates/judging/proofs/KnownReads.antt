@@ -1,5 +1,5 @@
 -- Reads of a reader of which it is known what is left.
-use Rattle.std.proofs.Common.{ℕ, List, Option, Some, None, Result, Ok, Err, sym, subst}
+use Rattle.std.proofs.Common.{ℕ, List, Option, Some, None, Result, Ok, Err, subst}
 use Rattle.std.specs.Io.KnownBytes.{Keeps, ReadConsumes}
 
 -- a read behind one that gave nothing

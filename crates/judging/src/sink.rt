@@ -47,7 +47,7 @@ pub trait Sink {
 }
 
 /// Writes all bytes. After an `Err` the device has taken a beginning of them.
-pub(crate) fn write_whole<K: Sink>(bytes: &[u8], sink: &mut K) -> Result<(), WriteError>
+pub fn write_whole<K: Sink>(bytes: &[u8], sink: &mut K) -> Result<(), WriteError>
     requires { length bytes.now ≤ K.room sink.old }
     ensures ok { OnOk result (K.taken sink.new ≡ K.taken sink.old ++ bytes.now) }
     ensures contents { OnOk result (Appends (K.contents sink.old) (K.contents sink.new) bytes.now) }

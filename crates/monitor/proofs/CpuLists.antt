@@ -115,19 +115,6 @@ cpus-of_two monitor first second first_pass second_pass two pair second_pair is_
 
 -- ---- with one changed
 
--- whatever a token was told of, it is paired
-pub paired-told : (monitor : MonitorView) (token new : TokenView) (pass : CpuView) (seen : ℕ) → new ≡ record token { seen = seen }
-    → ArePaired monitor token pass → ArePaired monitor new pass
-paired-told monitor token new pass seen is_new pair =
-    subst (λ t. ArePaired monitor t pass) (sym is_new) (record {
-      same_queue = pair.same_queue;
-      same_cpus = pair.same_cpus;
-      same_cpu = pair.same_cpu;
-      closed = pair.closed;
-      running = pair.running;
-      few = pair.few;
-    })
-
 -- a token stays its CPU's
 pub cpu-left : (command : Command) (token new : TokenView) (pass new_pass : CpuView) (answer : Result Done Refused)
     → Leaves command token pass answer new new_pass → new.cpu ≡ token.cpu

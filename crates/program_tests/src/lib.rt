@@ -1,7 +1,7 @@
-//! Nothing but tests, of the whole program on a runtime of the tests, and of its run of two threads.
+//! Nothing but tests, of the whole program on a runtime of the tests.
 //! Expected lines come from outside, worked out by hand from the profile.
-//! `outcomes` has the program's words, files and devices with what it ends with; `devices` a judgement on devices that fail;
-//! `runtime` is what both run on; `two_threads` is the fixed run under many schedules.
+//! `outcomes` has the program's words, files and devices with what a check ends with, and `plays` those of a scenario's run;
+//! `devices` has a judgement on devices that fail; `runtime` is what all run on.
 //! Nothing depends on it.
 #![tactic(auto)]
 
@@ -10,6 +10,6 @@ mod devices;
 #[cfg(test)]
 mod outcomes;
 #[cfg(test)]
-mod runtime;
+mod plays;
 #[cfg(test)]
-mod two_threads;
+mod runtime;

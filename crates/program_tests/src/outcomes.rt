@@ -14,7 +14,8 @@ const HISTORY: &[u8] = b"rmh1 4 1\nc 0 0 c4000151 1000\nr 0 0 ok\n";
 
 const CERTIFICATE: &[u8] = b"k 0 0\n";
 
-fn file(bytes: &'static [u8], reads: usize) -> Option<TestFile> {
+/// A file that can be read so often.
+pub fn file(bytes: &'static [u8], reads: usize) -> Option<TestFile> {
     Some(TestFile {
         bytes,
         reads,
@@ -22,8 +23,8 @@ fn file(bytes: &'static [u8], reads: usize) -> Option<TestFile> {
     })
 }
 
-// A file for which no memory is left once it was read so often.
-fn file_too_large(bytes: &'static [u8], reads: usize) -> Option<TestFile> {
+/// A file for which no memory is left once it was read so often.
+pub fn file_too_large(bytes: &'static [u8], reads: usize) -> Option<TestFile> {
     Some(TestFile {
         bytes,
         reads,
@@ -31,21 +32,25 @@ fn file_too_large(bytes: &'static [u8], reads: usize) -> Option<TestFile> {
     })
 }
 
-// A runtime on which the words ask for a check and all goes well.
-fn runtime(alloc: Global, words: &'static str) -> TestRuntime {
+/// A runtime on which there is a history and its certificate, and all goes well.
+pub fn runtime(alloc: Global, words: &'static str) -> TestRuntime {
     TestRuntime {
         alloc,
         words,
         history: file(HISTORY, 100),
         certificate: file(CERTIFICATE, 100),
+        scenario: None,
         is_full: false,
         printed: RefCell::new(String::new(alloc)),
         told: RefCell::new(String::new(alloc)),
     }
 }
 
-// What the program ends with and prints, as `status|standard output|standard error`.
-fn outcome<T: Threads + Wait + Sync>(threads: &T, runtime: TestRuntime) -> Result<String, Fail> {
+/// What the program ends with and prints, as `status|standard output|standard error`.
+pub fn outcome<T: Threads + Wait + Sync>(
+    threads: &T,
+    runtime: TestRuntime,
+) -> Result<String, Fail> {
     let status = run(&runtime, threads);
     let TestRuntime {
         alloc,
@@ -74,8 +79,20 @@ rmmcheck -V
 rmmcheck check h c --help
 rmmcheck check -h c
 rmmcheck check --fast h c
-rmmcheck threads h
+rmmcheck run
+rmmcheck run s s
+rmmcheck run -s
+rmmcheck run --help
+rmmcheck run s --help
+rmmcheck help run
+rmmcheck threads
+rmmcheck threads s s
+rmmcheck threads -s
 rmmcheck threads --help
+rmmcheck threads --fast s
+rmmcheck help threads
+rmmcheck run threads s
+rmmcheck s
 ";
 
 // The words of each outcome, which it takes.
@@ -84,7 +101,13 @@ rmmcheck check h c -> 0|yes 1\n|;\
 rmmcheck check -- h c -> 0|yes 1\n|;\
 rmmcheck check help c -> 3||rmmcheck: cannot read help\n;\
 rmmcheck check -- -h c -> 3||rmmcheck: cannot read -h\n;\
-rmmcheck check  c -> 3||rmmcheck: cannot read \n";
+rmmcheck check  c -> 3||rmmcheck: cannot read \n;\
+rmmcheck run x -> 3||rmmcheck: cannot read x\n;\
+rmmcheck run help -> 3||rmmcheck: cannot read help\n;\
+rmmcheck run -- -x -> 3||rmmcheck: cannot read -x\n;\
+rmmcheck threads x -> 3||rmmcheck: cannot read x\n;\
+rmmcheck threads -- --help -> 3||rmmcheck: cannot read --help\n;\
+rmmcheck threads  -> 3||rmmcheck: cannot read \n";
 
 // The program ends so on these words, where all goes well.
 fn expect_words<R: Abort + AllocGlobal + Threads + Wait + Sync>(
@@ -189,17 +212,4 @@ fn status_of_the_verdict(rt: HostRuntime) -> Result<(), Fail> {
         "2|fault certificate 1\n|",
     )?;
     expect_outcome(&rt, empty, whole_certificate, false, "2|fault history 1\n|")
-}
-
-#[test]
-fn fixed_run_of_two_threads(rt: HostRuntime) -> Result<(), Fail> {
-    let text = outcome(&rt, runtime(rt.alloc(), "rmmcheck threads"))?;
-    let text = text.as_str();
-    assert!(rt; text.starts_with("0|rmh1 4 2\nc "), "{text}");
-    assert!(rt; text.ends_with("\n\nyes 2\n|"), "{text}");
-    let mut runtime = runtime(rt.alloc(), "rmmcheck threads");
-    runtime.is_full = true;
-    let line = outcome(&rt, runtime)?;
-    assert!(rt; line.as_str() == "3||rmmcheck: cannot write\n", "{line}");
-    Ok(())
 }

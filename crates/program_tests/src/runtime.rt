@@ -1,4 +1,4 @@
-//! A runtime for tests: words and two files of the test's own, and what was printed.
+//! A runtime for tests: words and three files of the test's own, and what was printed.
 
 ghost use Rattle.std.specs.Prelude.{IsErr};
 
@@ -75,7 +75,7 @@ impl OpenFile for TestFile {
     }
 }
 
-/// The runtime. The paths `h` and `c` lead to its two files, where they are there, and no other path leads anywhere.
+/// The runtime. The paths `h`, `c` and `s` lead to its files, where they are there, and no other path leads anywhere.
 #[derive(Drop)]
 pub struct TestRuntime {
     pub alloc: Global,
@@ -83,6 +83,7 @@ pub struct TestRuntime {
     pub words: &'static str,
     pub history: Option<TestFile>,
     pub certificate: Option<TestFile>,
+    pub scenario: Option<TestFile>,
     /// Standard output takes no byte.
     pub is_full: bool,
     pub printed: RefCell<String>,
@@ -172,6 +173,7 @@ impl Files for TestRuntime {
         let file = match path {
             "h" => self.history,
             "c" => self.certificate,
+            "s" => self.scenario,
             _ => None,
         };
         file.ok_or(io::Error::from(ErrorKind::NotFound))

@@ -31,3 +31,5 @@ pub mod Local
 pub mod World
 pub mod Locks
 pub mod Waits
+pub mod Scenario
+pub mod ScenarioKeys

@@ -1,8 +1,7 @@
 -- Translation tables as whole things: their place and their 512 entries.
 -- After DEN0137 (RTT, RTT entry); that a table carries its place is this project's own.
-use Rattle.std.specs.Prelude.{◌≡◌, ℕ, ◌%◌, ◌<◌, Bool, true, false, ◌==◌, List, ◌++◌, map, take, drop, slice_range, length, slice_get}
+use Rattle.std.specs.Prelude.{◌≡◌, ℕ, ◌%◌, ◌<◌, Bool, ◌==◌, List, ◌++◌, map, take, drop, slice_range, length, slice_get}
 use Rattle.rmm_spec.specs.declared.entry.Entry.{Entry}
-use Rattle.rmm_spec.specs.declared.entry.Entry.TheVariants.{Unassigned, Assigned, Table, UnassignedNs, AssignedNs}
 use Rattle.rmm_spec.specs.declared.place.Place.{Place}
 use Rattle.rmm_spec.specs.declared.tag.Ripas.{Ripas}
 use Rattle.rmm_spec.specs.Update.{entry_with_ripas}
@@ -24,14 +23,6 @@ place_number place = table_number place.level place.base
 -- whether the table at a place covers the address
 unfoldable pub covers : Place → ℕ → Bool
 covers place ipa = table_number place.level ipa == place_number place
-
--- whether an entry has a RIPAS
-abbrev pub has_ripas : Entry → Bool
-has_ripas (Unassigned ripas) = true
-has_ripas (Assigned ripas granule) = true
-has_ripas (Table granule) = false
-has_ripas UnassignedNs = false
-has_ripas (AssignedNs page) = false
 
 -- the entries with the RIPAS of some of them changed, from the first place up to but not the last
 unfoldable pub entries_with_ripas : ℕ → ℕ → Ripas → List Entry → List Entry

@@ -2,6 +2,8 @@
 -- waits for the CPU that holds the lock; whether such waits can come back to their start is what the laws are on.
 -- This project's own.
 use Rattle.std.specs.Prelude.{◌≡◌, ℕ, ◌<◌, ◌⊎◌, List, [], ◌∷◌, ◌++◌, Contains, Option, Some, None}
+use Rattle.rmm_spec.specs.declared.turn.Will.{Will}
+use Rattle.rmm_spec.specs.declared.turn.Will.TheVariants as told
 use Rattle.rmm_spec.specs.Call.{call_of}
 use Rattle.rmm_spec.specs.Cell.{put}
 use Rattle.rmm_spec.specs.World.{World, Phase, Between, Deciding, Decided, GivenUp, Stopped, Move, mover, Happens, IsDeciding, IsGoing, held_cells}
@@ -34,11 +36,6 @@ abbrev pub HasNoCircle : World → Type 0
 HasNoCircle w = (cpu : ℕ) (others : List ℕ) → IsChain (WaitsFor w) cpu others cpu → ⊥
 
 -- ---- turns
-
-pub data Will : Type 0 where
-  Go : Will
-  GiveUp : Will
-  Stop : Will
 
 -- the seven kinds of move
 pub data Kind : Type 0 where
@@ -79,16 +76,16 @@ MayFree w cpu granule _ = ⊥
 -- The moves that each will leads to. A go takes no lock but by a rising take, frees in an open call alone, and returns once
 -- nothing is held.
 abbrev pub IsWilled : World → Will → Move → Type 0
-IsWilled w Go (world.Take cpu granule) = IsRising w cpu granule
-IsWilled w Go (world.Free cpu granule learnt) = MayFree w cpu granule (w.phase cpu)
-IsWilled w Go (world.Return cpu) = w.taken cpu ≡ []
-IsWilled w Go (world.GiveUp cpu) = ⊥
-IsWilled w Go (world.Stop cpu) = ⊥
-IsWilled w Go _ = Unit {0}
-IsWilled w GiveUp (world.GiveUp cpu) = Unit {0}
-IsWilled w GiveUp _ = ⊥
-IsWilled w Stop (world.Stop cpu) = Unit {0}
-IsWilled w Stop _ = ⊥
+IsWilled w told.Go (world.Take cpu granule) = IsRising w cpu granule
+IsWilled w told.Go (world.Free cpu granule learnt) = MayFree w cpu granule (w.phase cpu)
+IsWilled w told.Go (world.Return cpu) = w.taken cpu ≡ []
+IsWilled w told.Go (world.GiveUp cpu) = ⊥
+IsWilled w told.Go (world.Stop cpu) = ⊥
+IsWilled w told.Go _ = Unit {0}
+IsWilled w told.GiveUp (world.GiveUp cpu) = Unit {0}
+IsWilled w told.GiveUp _ = ⊥
+IsWilled w told.Stop (world.Stop cpu) = Unit {0}
+IsWilled w told.Stop _ = ⊥
 
 -- the turn makes one move, of the kind that it reports
 pub record MakesMove (old : World) (cpu : ℕ) (will : Will) (kind : Kind) (new : World) : Type 0 where
@@ -106,9 +103,9 @@ pub record HasReturnedAll (w : World) (cpu : ℕ) : Type 0 where
 
 -- where each will finds nothing to do
 abbrev pub IsIdle : World → ℕ → Will → Type 0
-IsIdle w cpu Go = (IsGoing (w.phase cpu) → ⊥) ⊎ HasReturnedAll w cpu
-IsIdle w cpu GiveUp = IsDeciding w cpu → ⊥
-IsIdle w cpu Stop = IsGoing (w.phase cpu) → ⊥
+IsIdle w cpu told.Go = (IsGoing (w.phase cpu) → ⊥) ⊎ HasReturnedAll w cpu
+IsIdle w cpu told.GiveUp = IsDeciding w cpu → ⊥
+IsIdle w cpu told.Stop = IsGoing (w.phase cpu) → ⊥
 
 -- a go is blocked where another CPU holds the lock that comes next; nothing changes
 pub record IsBlocked (w : World) (cpu granule : ℕ) : Type 0 where
@@ -118,9 +115,9 @@ pub record IsBlocked (w : World) (cpu granule : ℕ) : Type 0 where
 abbrev pub Turns : World → ℕ → Will → Report → World → Type 0
 Turns old cpu will (Did kind) new = MakesMove old cpu will kind new
 Turns old cpu will Idle new = IsIdle old cpu will × (new ≡ old)
-Turns old cpu Go (Blocked granule) new = IsBlocked old cpu granule × (new ≡ old)
-Turns old cpu GiveUp (Blocked granule) new = ⊥
-Turns old cpu Stop (Blocked granule) new = ⊥
+Turns old cpu told.Go (Blocked granule) new = IsBlocked old cpu granule × (new ≡ old)
+Turns old cpu told.GiveUp (Blocked granule) new = ⊥
+Turns old cpu told.Stop (Blocked granule) new = ⊥
 
 pub record Turn : Type 0 where
   pub cpu : ℕ
@@ -168,7 +165,7 @@ WaitsBy w wants cpu other = (granule : ℕ) × wants cpu granule × Contains (w.
 
 -- no CPU's go would make a move: each waits, or has nothing to do
 abbrev pub IsStuck : World → (ℕ → ℕ → Type 0) → Type 0
-IsStuck w wants = (cpu : ℕ) → cpu < w.config.cpus → ((other : ℕ) × WaitsBy w wants cpu other) ⊎ IsIdle w cpu Go
+IsStuck w wants = (cpu : ℕ) → cpu < w.config.cpus → ((other : ℕ) × WaitsBy w wants cpu other) ⊎ IsIdle w cpu told.Go
 
 -- from the CPU a chain of waits leads to one that was stopped
 pub record LeadsToStopped (w : World) (waits : ℕ → ℕ → Type 0) (cpu : ℕ) : Type 0 where

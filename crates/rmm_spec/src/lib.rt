@@ -16,6 +16,7 @@ mod line;
 mod place;
 mod reply;
 mod tag;
+mod turn;
 mod verdict;
 mod walked;
 
@@ -30,5 +31,6 @@ pub use line::Line;
 pub use place::Place;
 pub use reply::Reply;
 pub use tag::{RealmState, Ripas, Tag};
+pub use turn::{Due, Will};
 pub use verdict::{Reason, Verdict};
 pub use walked::Walked;

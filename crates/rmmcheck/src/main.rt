@@ -1,4 +1,5 @@
-//! `rmmcheck check HISTORY CERT`: judges a certificate for a history. `rmmcheck threads`: a fixed run of two threads.
+//! `rmmcheck check HISTORY CERT` judges a certificate for a history. `rmmcheck run SCENARIO` and `rmmcheck threads SCENARIO` play a
+//! scenario, in turns and on threads, and judge what it leaves.
 #![tactic(auto)]
 
 use std::process::ExitCode;

@@ -1,10 +1,11 @@
 //! `rmmexplain HISTORY CERT`: prints the verdict on two files and what stands behind it. The status is `rmmcheck`'s.
 //! `rmmexplain --html FILE HISTORY CERT` writes that to a file, as one page with a picture, and prints nothing.
+//! `rmmexplain --scenario FILE` prints what a scenario file would run, or what is at fault in it: status 2.
 #![tactic(auto)]
 
 mod words;
 
-use crate::words::{Words, words_given};
+use crate::words::{Texts, Words, words_given};
 use explain::{explain, explain_run, report};
 use explain_page::append_page;
 use judging::ends_with;
@@ -17,7 +18,7 @@ use std::{fmt, fs, io};
 /// Why nothing, or not all, was printed.
 #[derive(Debug, Drop)]
 enum Fault {
-    /// The words aren't two paths, with `--html FILE` before them or not.
+    /// The words are neither two paths, with `--html FILE` before them or not, nor `--scenario FILE`.
     Arguments,
     /// A file can't be opened, or not be read to its end.
     CannotRead(String),
@@ -58,7 +59,7 @@ fn main(rt: HostRuntime) -> ExitCode {
 
 // The exit status, at most 3. Where a fault's line can't be written, the status alone reports it.
 fn run<R: Env + Files + Print + Eprint + AllocGlobal>(rt: &R) -> u8 {
-    match explain_files(rt) {
+    match told(rt) {
         Ok(status) => status,
         Err(fault) => {
             let status = fault.status();
@@ -68,12 +69,28 @@ fn run<R: Env + Files + Print + Eprint + AllocGlobal>(rt: &R) -> u8 {
     }
 }
 
-fn explain_files<R: Env + Files + Print + AllocGlobal>(rt: &R) -> Result<u8, Fault> {
-    let Words {
+fn told<R: Env + Files + Print + AllocGlobal>(rt: &R) -> Result<u8, Fault> {
+    match words_given(rt)? {
+        Words::Texts(texts) => explain_files(rt, texts),
+        Words::Scenario(file) => print_scenario(rt, file),
+    }
+}
+
+// 2 where the scenario is at fault.
+fn print_scenario<R: Files + Print + AllocGlobal>(rt: &R, file: String) -> Result<u8, Fault> {
+    let bytes = bytes_of(rt, file)?;
+    let mut text = Vec::new(rt.alloc());
+    let fault = scenario_report::report(rt.alloc(), bytes.as_slice(), &mut text)?;
+    print(rt, text.as_slice())?;
+    Ok(if fault.is_some() { 2 } else { 0 })
+}
+
+fn explain_files<R: Files + Print + AllocGlobal>(rt: &R, texts: Texts) -> Result<u8, Fault> {
+    let Texts {
         page,
         history,
         certificate,
-    } = words_given(rt)?;
+    } = texts;
     let history = bytes_of(rt, history)?;
     let certificate = bytes_of(rt, certificate)?;
     match page {
@@ -90,8 +107,13 @@ fn print_report<R: Print + AllocGlobal>(
     let explanation = explain(rt.alloc(), history, certificate)?;
     let mut text = Vec::new(rt.alloc());
     report(rt.alloc(), &explanation, &mut text)?;
-    match io::writer(rt).write_all(text.as_slice()) {
-        Ok(()) => Ok(ends_with(Ok(explanation.verdict())).status),
+    print(rt, text.as_slice())?;
+    Ok(ends_with(Ok(explanation.verdict())).status)
+}
+
+fn print<R: Print>(rt: &R, text: &[u8]) -> Result<(), Fault> {
+    match io::writer(rt).write_all(text) {
+        Ok(()) => Ok(()),
         Err(_) => Err(Fault::CannotWrite),
     }
 }

@@ -6,9 +6,11 @@ use Rattle.std.proofs.lemmas.List.{length-map}
 use Rattle.toml.specs.Data.{Members}
 use Rattle.scenario_text.specs.declared.fault.ScenarioFault.{ScenarioFault}
 use Rattle.scenario_text.specs.declared.fault.ScenarioFault.TheVariants.{NoDocument, WrongKey, OutOfRange, NoCommand, NoTurn, NoMemory}
-use Rattle.scenario_text.specs.declared.turn.Turn.{Turn}
-use Rattle.scenario_text.specs.ScenarioKeys.{Stated, States, document_in}
-use Rattle.scenario_text.specs.ScenarioText.{Scenario, IsScenarioText, IsStatedBy, StatesScenario, AreInRange, HasCommands, HasTurns, IsTurnText, turn_text, IsValueFault, IsTableFault, IsFirstFault, HasValueFault, HasTableFault}
+use Rattle.rmm_spec.specs.declared.turn.Due.{Due}
+use Rattle.rmm_spec.specs.Scenario.{Stated, Scenario, IsStatedBy, AreInRange, HasCommands, HasTurns, IsTurnText, turn_text}
+use Rattle.rmm_spec.specs.ScenarioKeys.{States}
+use Rattle.scenario_text.specs.TomlDocument.{toml_kinds, document_of}
+use Rattle.scenario_text.specs.ScenarioText.{document_in, IsScenarioText, StatesScenario, IsValueFault, IsTableFault, IsFirstFault, HasValueFault, HasTableFault}
 use Rattle.scenario_text.proofs.Values.{IsCommandText-all, lengths-texts}
 
 -- A document has one table.
@@ -16,7 +18,7 @@ pub same_members : (bytes : List ℕ) (a b : Members) → document_in bytes ≡ 
 same_members bytes a b is-a is-b = same_Some _ _ (sym is-a ∙ is-b)
 
 -- A table says one thing.
-pub same_stated : (written : Members) (a b : Stated) → States written a → States written b → a ≡ b
+pub same_stated : (written : Members) (a b : Stated) → States toml_kinds (document_of written) a → States toml_kinds (document_of written) b → a ≡ b
 same_stated written a b is-a is-b = λ i. record {
   granules = same_Some _ _ (sym is-a.granules ∙ is-b.granules) i;
   cpus = same_Some _ _ (sym is-a.cpus ∙ is-b.cpus) i;
@@ -43,7 +45,7 @@ AreInRange-stated stated scenario by_it =
 pub HasCommands-stated : (stated : Stated) (scenario : Scenario) → IsStatedBy stated scenario → HasCommands stated
 HasCommands-stated stated scenario by_it = rw by_it.programs (IsCommandText-all scenario.programs by_it.is_scenario.commands)
 
-IsTurnText-each : (cpus : ℕ) (turns : List Turn) → AllByRecursion (λ turn. turn.cpu < cpus) turns → AllByRecursion (IsTurnText cpus) (map turn_text turns)
+IsTurnText-each : (cpus : ℕ) (turns : List Due) → AllByRecursion (λ turn. turn.cpu < cpus) turns → AllByRecursion (IsTurnText cpus) (map turn_text turns)
 IsTurnText-each cpus [] all = tt
 IsTurnText-each cpus (turn ∷ turns) all = ((turn, all.0, refl), IsTurnText-each cpus turns all.1)
 

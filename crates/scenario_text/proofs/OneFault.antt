@@ -3,8 +3,10 @@ use Rattle.std.proofs.Common.{◌≡◌, ◌≢◌, ℕ, List, Some, None, refl,
 use Rattle.toml.specs.Data.{Members}
 use Rattle.scenario_text.specs.declared.fault.ScenarioFault.{ScenarioFault}
 use Rattle.scenario_text.specs.declared.fault.ScenarioFault.TheVariants.{NoDocument, WrongKey, OutOfRange, NoCommand, NoTurn, NoMemory}
-use Rattle.scenario_text.specs.ScenarioKeys.{Stated, States, document_in}
-use Rattle.scenario_text.specs.ScenarioText.{IsValueFault, IsTableFault, IsFirstFault, HasValueFault, HasTableFault}
+use Rattle.rmm_spec.specs.Scenario.{Stated}
+use Rattle.rmm_spec.specs.ScenarioKeys.{States}
+use Rattle.scenario_text.specs.TomlDocument.{toml_kinds, document_of}
+use Rattle.scenario_text.specs.ScenarioText.{document_in, IsValueFault, IsTableFault, IsFirstFault, HasValueFault, HasTableFault}
 use Rattle.scenario_text.proofs.OneAnswer.{same_members, same_stated}
 
 -- The faults of values come in this order: each is told where those before it don't apply.
@@ -27,7 +29,7 @@ one_value_fault f WrongKey stated some-f some-g has-f has-g = absurd has-g
 
 -- a fault of the keys, or one of the values
 abbrev TableCases : ScenarioFault → Members → Type 0
-TableCases f written = ((f ≡ WrongKey) × ((stated : Stated) → ¬ States written stated)) ⊎ HasValueFault f written
+TableCases f written = ((f ≡ WrongKey) × ((stated : Stated) → ¬ States toml_kinds (document_of written) stated)) ⊎ HasValueFault f written
 
 table_cases : (f : ScenarioFault) (written : Members) → f ≢ NoMemory → IsTableFault f written → TableCases f written
 table_cases WrongKey written some has = inl (refl, has)

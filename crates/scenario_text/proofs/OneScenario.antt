@@ -6,11 +6,11 @@ use Rattle.rmm_spec.specs.declared.command.Command.{Command}
 use Rattle.rmm_spec.specs.CommandText.{IsCommand, command_parts, command_text}
 use Rattle.rmm_spec.specs.Text.{parts_of}
 use Rattle.rmm_spec.proofs.Texts.{parts_of-line_text, command_parts-are_parts, command_parts-some, command_parts-injective, bytes_apart}
-use Rattle.scenario_text.specs.declared.turn.Turn.{Turn}
-use Rattle.scenario_text.specs.declared.turn.Will.{Will}
-use Rattle.scenario_text.specs.declared.turn.Will.TheVariants.{Go, GiveUp, Stop}
-use Rattle.scenario_text.specs.ScenarioKeys.{Stated}
-use Rattle.scenario_text.specs.ScenarioText.{Scenario, IsScenarioText, IsStatedBy, StatesScenario, turn_text, will_text}
+use Rattle.rmm_spec.specs.declared.turn.Due.{Due}
+use Rattle.rmm_spec.specs.declared.turn.Will.{Will}
+use Rattle.rmm_spec.specs.declared.turn.Will.TheVariants.{Go, GiveUp, Stop}
+use Rattle.rmm_spec.specs.Scenario.{Stated, Scenario, IsStatedBy, turn_text, will_text}
+use Rattle.scenario_text.specs.ScenarioText.{IsScenarioText, StatesScenario}
 use Rattle.scenario_text.proofs.OneAnswer.{same_members, same_stated}
 use Rattle.scenario_text.proofs.TurnTexts.{turn_text-digit}
 
@@ -47,7 +47,7 @@ will_text-injective GiveUp Stop same = absurd (bytes_apart 103 115 refl (ap (λ 
 will_text-injective Stop Go same = absurd (cc)
 will_text-injective Stop GiveUp same = absurd (bytes_apart 115 103 refl (ap (λ text. get_or text 1 0) same))
 
-turn_text-injective : (cpus : ℕ) → cpus ≤ 8 → (s t : Turn) → s.cpu < cpus → t.cpu < cpus → turn_text s ≡ turn_text t → s ≡ t
+turn_text-injective : (cpus : ℕ) → cpus ≤ 8 → (s t : Due) → s.cpu < cpus → t.cpu < cpus → turn_text s ≡ turn_text t → s ≡ t
 turn_text-injective cpus few s t low-s low-t same =
     let texts : (s.cpu + 48) ∷ will_text s.will ≡ (t.cpu + 48) ∷ will_text t.will = sym (turn_text-digit s (omega arith)) ∙ same ∙ turn_text-digit t (omega arith) in
     let digits : s.cpu + 48 ≡ t.cpu + 48 = cc in

@@ -5,9 +5,8 @@ use Rattle.std.proofs.lemmas.List.{length-map}
 use Rattle.rmm_spec.specs.declared.command.Command.{Command}
 use Rattle.rmm_spec.specs.CommandText.{IsCommand, command_text}
 use Rattle.scenario_text.specs.declared.limits.Sizes.{Sizes}
-use Rattle.scenario_text.specs.declared.turn.Turn.{Turn}
-use Rattle.scenario_text.specs.ScenarioKeys.{Stated}
-use Rattle.scenario_text.specs.ScenarioText.{IsStatedBy, AreInRange, IsCommandText, turn_text}
+use Rattle.rmm_spec.specs.declared.turn.Due.{Due}
+use Rattle.rmm_spec.specs.Scenario.{Stated, IsStatedBy, AreInRange, IsCommandText, turn_text}
 use Rattle.scenario_text.specs.Sizes.{AreSizes}
 
 -- The texts of commands can be read.
@@ -36,7 +35,7 @@ AreInRange-sizes stated sizes are = record {
 }
 
 -- What is stated is the scenario of the numbers, commands and turns that are read from it.
-pub IsStatedBy-parts : (stated : Stated) (sizes : Sizes) (programs : List (List Command)) (turns : List Turn) → AreSizes stated sizes
+pub IsStatedBy-parts : (stated : Stated) (sizes : Sizes) (programs : List (List Command)) (turns : List Due) → AreSizes stated sizes
     → stated.programs ≡ map (map command_text) programs → AllByRecursion (AllByRecursion IsCommand) programs
     → stated.turns ≡ map turn_text turns → AllByRecursion (λ turn. turn.cpu < sizes.config.cpus) turns
     → IsStatedBy stated (record { config = sizes.config; programs = programs; queue = sizes.queue; turns = turns; limit = sizes.limit })

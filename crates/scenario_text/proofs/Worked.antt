@@ -1,6 +1,7 @@
--- Three files, worked by the definitions: one that states a scenario, one without a key, and one with a turn of no CPU.
+-- Four files, worked by the definitions: one that states a scenario, one without a key, one with a turn of no CPU, and a blank one.
 use Rattle.std.proofs.Common.{◌≡◌, ℕ, pos, List, [], ◌∷◌, codes, Some, None, refl, ◌∙◌, arith, lit<, lit≤}
 use Rattle.toml.specs.Data.{Members, no_members, member, no_items, item, integer, string, array}
+use Rattle.toml.specs.Errors.{IsBlank}
 use Rattle.toml.specs.Parse.{parse_document}
 use Rattle.toml.proofs.OnLiterals.{toml_on_literals}
 use Rattle.rmm_spec.specs.declared.command.Command.{Command}
@@ -8,10 +9,12 @@ use Rattle.rmm_spec.specs.declared.function_id.FunctionId.TheVariants.{GranuleDe
 use Rattle.rmm_spec.specs.CommandText.{IsCommand, command_parts, command_text}
 use Rattle.rmm_spec.specs.Function.{number_of, word_count}
 use Rattle.rmm_spec.specs.Text.{numeral, decimal, word, fixed_hex}
-use Rattle.scenario_text.specs.declared.fault.ScenarioFault.TheVariants.{WrongKey, NoTurn}
-use Rattle.scenario_text.specs.declared.turn.Will.TheVariants.{Go, Stop}
-use Rattle.scenario_text.specs.ScenarioKeys.{Stated, States, document_in}
-use Rattle.scenario_text.specs.ScenarioText.{Scenario, IsScenario, IsScenarioText, IsTurnText, IsFirstFault, AreInRange, turn_text}
+use Rattle.scenario_text.specs.declared.fault.ScenarioFault.TheVariants.{WrongKey, NoTurn, NoMemory}
+use Rattle.rmm_spec.specs.declared.turn.Will.TheVariants.{Go, Stop}
+use Rattle.rmm_spec.specs.Scenario.{Stated, Scenario, IsScenario, IsTurnText, AreInRange, turn_text}
+use Rattle.rmm_spec.specs.ScenarioKeys.{States}
+use Rattle.scenario_text.specs.TomlDocument.{toml_kinds, document_of}
+use Rattle.scenario_text.specs.ScenarioText.{document_in, IsScenarioText, IsFirstFault}
 use Rattle.scenario_text.proofs.Faults.{document_in-utf8}
 use Rattle.scenario_text.proofs.TurnTexts.{BeginsWith-turn}
 
@@ -57,7 +60,7 @@ document_in-stopping : document_in stopping_text ≡ Some stopping_members
 unfolding lib.Utf8.encode
 document_in-stopping = document_in-utf8 stopping_text (stopping_text, (refl, refl)) ∙ parse_document-stopping
 
-States-stopping : States stopping_members stopping_stated
+States-stopping : States toml_kinds (document_of stopping_members) stopping_stated
 States-stopping = record { known = refl; granules = refl; cpus = refl; programs = refl; queue = refl; turns = refl; limit = refl }
 
 IsCommand-delegate : IsCommand delegate
@@ -181,3 +184,13 @@ IsFirstFault-third_cpu = record {
     has = (AreInRange-third_cpu, (tt, (tt, tt)), λ all. not_turn all.0);
   };
 }
+
+-- ---- white space and a comment
+
+IsBlank-comment : IsBlank (codes " \n# no keys\n")
+unfolding toml_on_literals
+IsBlank-comment = refl
+
+-- Nobody is told of memory that was refused to it.
+pub not_memory-comment : ¬ IsFirstFault NoMemory (codes " \n# no keys\n")
+not_memory-comment (utf8, some) = some IsBlank-comment

@@ -1,4 +1,4 @@
-pub mod ScenarioKeys
+pub mod TomlDocument
 pub mod ScenarioText
 pub mod Seen
 pub mod Sizes

@@ -1,7 +1,7 @@
 -- The numbers of a scenario as they are held.
 use Rattle.std.specs.Prelude.{◌≡◌, ◌≤◌, pos, length, map, sum}
 use Rattle.rmm_spec.specs.HistoryText.{IsConfig}
-use Rattle.scenario_text.specs.ScenarioKeys.{Stated}
+use Rattle.rmm_spec.specs.Scenario.{Stated}
 use Rattle.scenario_text.specs.declared.limits.Sizes.{Sizes}
 
 -- These are the numbers that are stated, within their ranges.

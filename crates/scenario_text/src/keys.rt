@@ -1,11 +1,13 @@
 //! The keys of a document, and what they hold.
 
 ghost use Rattle.std.specs.Prelude.{◌≡◌, [], IfOk, IfErr, codes, option_map, option_and_then};
+ghost use Rattle.std.specs.List.{list_all};
 ghost use Rattle.toml.specs.Data.{get_member, as_integer, as_str};
 ghost use Rattle.toml.specs.View.{view, table_view, array_view};
-ghost use Rattle.scenario_text.specs.ScenarioKeys.{States, is_key, has_known_keys, each_item, texts, lists_of_texts, or_left_out};
-ghost use Rattle.scenario_text.specs.Seen.{seen_texts, seen_lists, stated_seen};
+ghost use Rattle.rmm_spec.specs.ScenarioKeys.{States, is_key, each_value, texts, lists_of_texts, or_left_out};
 ghost use Rattle.scenario_text.specs.ScenarioText.{IsKeyFault};
+ghost use Rattle.scenario_text.specs.TomlDocument.{items_in, toml_kinds, keys_in, document_of};
+ghost use Rattle.scenario_text.specs.Seen.{seen_texts, seen_lists, stated_seen};
 
 use crate::fault::ScenarioFault;
 use std::alloc::{AllocError, Global};
@@ -14,19 +16,19 @@ use toml::{Table, Value};
 
 /// What a document says under its keys, before anybody asks whether the numbers and texts make sense.
 #[derive(Drop)]
-pub(crate) struct Stated<'t> {
-    pub(crate) granules: i64,
-    pub(crate) cpus: i64,
-    pub(crate) programs: Vec<Vec<&'t str>>,
-    pub(crate) queue: i64,
-    pub(crate) turns: Vec<&'t str>,
-    pub(crate) limit: i64,
+pub struct Stated<'t> {
+    pub granules: i64,
+    pub cpus: i64,
+    pub programs: Vec<Vec<&'t str>>,
+    pub queue: i64,
+    pub turns: Vec<&'t str>,
+    pub limit: i64,
 }
 
 impl<'t> Stated<'t> {
     /// What a table says, where it has all keys that have to be there and no others, and each holds what it should.
-    pub(crate) fn of(alloc: Global, table: &'t Table) -> Result<Stated<'t>, ScenarioFault>
-        ensures found { IfOk result (λ stated. States (table_view table.now) (stated_seen stated)) }
+    pub fn of(alloc: Global, table: &'t Table) -> Result<Stated<'t>, ScenarioFault>
+        ensures found { IfOk result (λ stated. States toml_kinds (document_of (table_view table.now)) (stated_seen stated)) }
         ensures fault { IfErr result (λ fault. IsKeyFault fault (table_view table.now)) }
     {
         if !has_known_keys(table) {
@@ -61,20 +63,21 @@ impl<'t> Stated<'t> {
     }
 }
 
-fn is_key(key: &str) -> bool
+/// Whether a scenario may have this key.
+pub fn is_key(key: &str) -> bool
     ensures { result ≡ is_key key.now }
 {
     ["granules", "cpus", "programs", "queue", "turns", "limit"].contains(&key)
 }
 
 fn has_known_keys(table: &Table) -> bool
-    ensures { result ≡ has_known_keys (table_view table.now) }
+    ensures { result ≡ list_all is_key (keys_in (table_view table.now)) }
 {
     table.keys().all(|key| is_key(key.as_str()))
 }
 
-// What a key holds.
-fn value_at<'t>(table: &'t Table, key: &str) -> Option<&'t Value>
+/// What a key holds.
+pub fn value_at<'t>(table: &'t Table, key: &str) -> Option<&'t Value>
     ensures { option_map (λ v. view v.now) result ≡ get_member key.now (table_view table.now) }
 {
     table.get(key)
@@ -102,7 +105,7 @@ fn number_or(table: &Table, key: &str, absent: i64) -> Option<i64>
 
 fn programs_in<'t>(alloc: Global, table: &'t Table) -> Result<Option<Vec<Vec<&'t str>>>, AllocError>
     ensures { IfOk result (λ found. option_map (λ lists. seen_lists lists.items) found
-        ≡ option_and_then lists_of_texts (get_member (codes "programs") (table_view table.now))) }
+        ≡ option_and_then (lists_of_texts toml_kinds) (get_member (codes "programs") (table_view table.now))) }
 {
     match value_at(table, "programs") {
         Some(value) => lists_of_texts(alloc, value),
@@ -112,7 +115,7 @@ fn programs_in<'t>(alloc: Global, table: &'t Table) -> Result<Option<Vec<Vec<&'t
 
 fn turns_in<'t>(alloc: Global, table: &'t Table) -> Result<Option<Vec<&'t str>>, AllocError>
     ensures { IfOk result (λ found. option_map (λ list. seen_texts list.items) found
-        ≡ or_left_out [] texts (get_member (codes "turns") (table_view table.now))) }
+        ≡ or_left_out [] (texts toml_kinds) (get_member (codes "turns") (table_view table.now))) }
 {
     match value_at(table, "turns") {
         Some(value) => texts(alloc, value),
@@ -120,9 +123,9 @@ fn turns_in<'t>(alloc: Global, table: &'t Table) -> Result<Option<Vec<&'t str>>,
     }
 }
 
-// The texts of an array that has nothing else.
-fn texts<'t>(alloc: Global, value: &'t Value) -> Result<Option<Vec<&'t str>>, AllocError>
-    ensures { IfOk result (λ found. option_map (λ list. seen_texts list.items) found ≡ texts (view value.now)) }
+/// The texts of an array that has nothing else.
+pub fn texts<'t>(alloc: Global, value: &'t Value) -> Result<Option<Vec<&'t str>>, AllocError>
+    ensures { IfOk result (λ found. option_map (λ list. seen_texts list.items) found ≡ texts toml_kinds (view value.now)) }
 {
     match value.as_array() {
         Some(items) => each_text(alloc, items),
@@ -131,7 +134,7 @@ fn texts<'t>(alloc: Global, value: &'t Value) -> Result<Option<Vec<&'t str>>, Al
 }
 
 fn each_text<'t>(alloc: Global, items: &'t Array) -> Result<Option<Vec<&'t str>>, AllocError>
-    ensures { IfOk result (λ found. option_map (λ list. seen_texts list.items) found ≡ each_item as_str (array_view items.now)) }
+    ensures { IfOk result (λ found. option_map (λ list. seen_texts list.items) found ≡ each_value as_str (items_in (array_view items.now))) }
 {
     let mut list = Vec::new(alloc);
     for value in items {
@@ -143,12 +146,12 @@ fn each_text<'t>(alloc: Global, items: &'t Array) -> Result<Option<Vec<&'t str>>
     Ok(Some(list))
 }
 
-// The texts of each array of an array that has nothing else.
-fn lists_of_texts<'t>(
+/// The texts of each array of an array that has nothing else.
+pub fn lists_of_texts<'t>(
     alloc: Global,
     value: &'t Value,
 ) -> Result<Option<Vec<Vec<&'t str>>>, AllocError>
-    ensures { IfOk result (λ found. option_map (λ lists. seen_lists lists.items) found ≡ lists_of_texts (view value.now)) }
+    ensures { IfOk result (λ found. option_map (λ lists. seen_lists lists.items) found ≡ lists_of_texts toml_kinds (view value.now)) }
 {
     match value.as_array() {
         Some(items) => each_list(alloc, items),
@@ -157,7 +160,7 @@ fn lists_of_texts<'t>(
 }
 
 fn each_list<'t>(alloc: Global, items: &'t Array) -> Result<Option<Vec<Vec<&'t str>>>, AllocError>
-    ensures { IfOk result (λ found. option_map (λ lists. seen_lists lists.items) found ≡ each_item texts (array_view items.now)) }
+    ensures { IfOk result (λ found. option_map (λ lists. seen_lists lists.items) found ≡ each_value (texts toml_kinds) (items_in (array_view items.now))) }
 {
     let mut lists = Vec::new(alloc);
     for value in items {

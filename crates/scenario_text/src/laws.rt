@@ -3,7 +3,8 @@
 ghost use Rattle.std.specs.Prelude.{◌≡◌, ◌≢◌, ℕ, List};
 ghost use Rattle.scenario_text.specs.declared.fault.ScenarioFault.{ScenarioFault};
 ghost use Rattle.scenario_text.specs.declared.fault.ScenarioFault.TheVariants.{NoMemory};
-ghost use Rattle.scenario_text.specs.ScenarioText.{Scenario, IsScenarioText, IsFirstFault};
+ghost use Rattle.rmm_spec.specs.Scenario.{Scenario};
+ghost use Rattle.scenario_text.specs.ScenarioText.{IsScenarioText, IsFirstFault};
 
 /// Bytes state one scenario at most.
 pub fn one_scenario()

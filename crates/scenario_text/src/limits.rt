@@ -1,7 +1,7 @@
 //! Whether the numbers of a scenario are within their ranges.
 
 ghost use Rattle.std.specs.Prelude.{◌≡◌, ◌↔◌, ◌≤◌, ℕ, pos, IsTrue, IfSome, IfNone, length, map, sum, vec_len};
-ghost use Rattle.scenario_text.specs.ScenarioText.{AreInRange, IsBetween};
+ghost use Rattle.rmm_spec.specs.Scenario.{AreInRange, IsBetween};
 ghost use Rattle.scenario_text.specs.Seen.{seen_lists, stated_seen};
 ghost use Rattle.scenario_text.specs.Sizes.{AreSizes};
 
@@ -58,8 +58,8 @@ fn number_between(number: i64, low: u64, high: u64) -> Option<u64>
     Some(number)
 }
 
-// Whether a history has room for all commands.
-fn are_few(programs: &[Vec<&str>]) -> bool
+/// Whether a history has room for all commands.
+pub fn are_few(programs: &[Vec<&str>]) -> bool
     ensures { IsTrue result ↔ (sum (map length (seen_lists programs.now)) ≤ 499999) }
 {
     let mut left = MOST_COMMANDS;

@@ -3,8 +3,9 @@
 ghost use Rattle.std.specs.Prelude.{◌≡◌, IfOk, IfSome, IfNone, map};
 ghost use Rattle.std.specs.List.{AllByRecursion};
 ghost use Rattle.rmm_spec.specs.CommandText.{IsCommand, command_text};
-ghost use Rattle.scenario_text.specs.ScenarioText.{IsCommandText};
-ghost use Rattle.scenario_text.specs.Seen.{seen_texts, seen_lists, seen_programs};
+ghost use Rattle.rmm_spec.specs.Scenario.{IsCommandText};
+ghost use Rattle.scenario.specs.Seen.{seen_programs};
+ghost use Rattle.scenario_text.specs.Seen.{seen_texts, seen_lists};
 
 use rmi_codec::read_command;
 use rmm_spec::Command;

@@ -2,24 +2,29 @@
 
 ghost use Rattle.std.specs.Prelude.{IfOk, IfErr};
 ghost use Rattle.toml.specs.View.{table_view};
-ghost use Rattle.scenario_text.specs.ScenarioText.{IsScenarioText, StatesScenario, IsStatedBy, IsFirstFault, IsTableFault, IsValueFault};
+ghost use Rattle.rmm_spec.specs.Scenario.{IsStatedBy};
+ghost use Rattle.scenario_text.specs.ScenarioText.{IsScenarioText, StatesScenario, IsFirstFault, IsTableFault, IsValueFault};
 ghost use Rattle.scenario_text.specs.Seen.{stated_seen};
 
 use crate::fault::ScenarioFault;
 use crate::keys::Stated;
 use crate::limits::sizes_of;
 use crate::program::programs_from;
-use crate::scenario::Scenario;
 use crate::turn::turns_from;
+use scenario::Scenario;
 use std::alloc::Global;
 use toml::Table;
 
-/// Reads the scenario that bytes state. Where they state none, the first of their faults is told; and memory may be refused.
+/// Reads the scenario that bytes state. Where they state none, the first of their faults is told; and memory may be refused,
+/// unless they aren't UTF-8 or have only white space and comments.
 pub fn read_scenario(alloc: Global, bytes: &[u8]) -> Result<Scenario, ScenarioFault>
     ensures scenario { IfOk result (λ scenario. IsScenarioText bytes.now scenario) }
     ensures fault { IfErr result (λ fault. IsFirstFault fault bytes.now) }
 {
-    match toml::table_from_slice(alloc, bytes) {
+    let Ok(text) = std::str::from_utf8(bytes) else {
+        return Err(ScenarioFault::NoDocument);
+    };
+    match toml::table_from_str(alloc, text) {
         Ok(table) => scenario_in(alloc, &table),
         Err(error) => {
             if error.is_memory() {
@@ -56,11 +61,5 @@ fn scenario_of(alloc: Global, stated: &Stated<'_>) -> Result<Scenario, ScenarioF
     let Some(turns) = turns_from(alloc, stated.turns.as_slice(), sizes.config.cpus())? else {
         return Err(ScenarioFault::NoTurn);
     };
-    Ok(Scenario {
-        config: sizes.config,
-        programs,
-        queue: sizes.queue,
-        turns,
-        limit: sizes.limit,
-    })
+    Ok(Scenario::new(sizes.config, programs, sizes.queue, turns, sizes.limit))
 }

@@ -2,32 +2,15 @@
 
 ghost use Rattle.std.specs.Prelude.{◌≡◌, ◌≢◌, ◌<◌, ◌≤◌, IfOk, IfSome, IfNone, map};
 ghost use Rattle.std.specs.List.{AllByRecursion};
-ghost use Rattle.scenario_text.specs.declared.turn.Will.{Will};
-ghost use Rattle.scenario_text.specs.ScenarioText.{IsTurnText, turn_text, will_text};
+ghost use Rattle.rmm_spec.specs.declared.turn.Will.{Will};
+ghost use Rattle.rmm_spec.specs.Scenario.{IsTurnText, turn_text, will_text};
 ghost use Rattle.scenario_text.specs.Seen.{seen_texts};
 
+use rmm_spec::{Due, Will};
 use std::alloc::{AllocError, Global};
 
-/// What a CPU is to do in its turn.
-#[derive(Clone, Copy, Debug, PartialEq)]
-pub enum Will {
-    /// To do its next step.
-    Go,
-    /// To free its locks and end, where its call is open and not committed.
-    GiveUp,
-    /// To end where it stands. It keeps its locks.
-    Stop,
-}
-
-/// Whose turn it is, and what is done in it.
-#[derive(Clone, Copy, Debug, PartialEq)]
-pub struct Turn {
-    pub cpu: u8,
-    pub will: Will,
-}
-
 /// The turn that a text is, of one of so many CPUs.
-pub(crate) fn turn_from(text: &str, cpus: u8) -> Option<Turn>
+pub fn turn_from(text: &str, cpus: u8) -> Option<Due>
     requires { cpus ≤ 8 }
     ensures found { IfSome result (λ turn. turn.cpu < cpus) }
     ensures text { IfSome result (λ turn. text.now ≡ turn_text turn) }
@@ -46,7 +29,7 @@ pub(crate) fn turn_from(text: &str, cpus: u8) -> Option<Turn>
         return None;
     }
     match will_from(bytes.split_at(1).1) {
-        Some(will) => Some(Turn { cpu, will }),
+        Some(will) => Some(Due { cpu, will }),
         None => None,
     }
 }
@@ -69,7 +52,7 @@ pub(crate) fn turns_from(
     alloc: Global,
     texts: &[&str],
     cpus: u8,
-) -> Result<Option<Vec<Turn>>, AllocError>
+) -> Result<Option<Vec<Due>>, AllocError>
     requires { cpus ≤ 8 }
     ensures texts { IfOk result (λ found. IfSome found (λ turns. seen_texts texts.now ≡ map turn_text turns.items)) }
     ensures cpus { IfOk result (λ found. IfSome found (λ turns. AllByRecursion (λ turn. turn.cpu < cpus) turns.items)) }

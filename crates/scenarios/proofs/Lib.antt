@@ -1,3 +1,0 @@
-mod Rows
-mod Given
-mod Asked

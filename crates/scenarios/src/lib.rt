@@ -1,14 +1,12 @@
-//! What the program `rmmcheck` does, as one call over any runtime: its words, its files, its one line and its exit status.
-//! `request_given` takes the words exactly where `clap`'s own definition finds no fault in them.
-//! `run` has `judging` read and judge two files, or prints the fixed run of `thread_runs`; `end` has the exit statuses of both.
-//! It alone depends on `clap`; which bytes a file holds is beyond any contract.
+//! What the program `rmmcheck` does, as one call over any runtime: its files, its output and its exit status.
+//! `run` has `program_words` read its words, and `judging` judge two files or `playing` play one; `end` has the exit statuses.
+//! It promises that each fault it ends with has its cause in the words and in what its parts report.
+//! Which bytes a file holds is beyond any contract; what is done with them is promised by the parts.
 //! The program `rmmcheck` depends on it.
 #![tactic(auto)]
 
 mod fault;
 mod program;
-mod words;
 
 pub use judging::{JudgeFault, Paths, Sink, Source, judge};
 pub use program::run;
-pub use words::{Request, WordsFault, request_given};

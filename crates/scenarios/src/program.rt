@@ -1,27 +1,25 @@
-//! The program over any runtime: words, files, the verdict's line, the exit status.
+//! The program over any runtime: words, files, the output, the exit status.
 
-ghost use Rattle.std.specs.Prelude.{◌≡◌, ◌≢◌, ◌⊎◌, ◌≤◌, ℕ, List, Ok, IfOk, IfErr, map, string_bytes};
-ghost use Rattle.std.specs.Io.KnownBytes.{Appends};
+ghost use Rattle.std.specs.Prelude.{◌≡◌, ◌⊎◌, ◌≤◌, Ok, IfOk, IfErr, map, string_bytes};
 ghost use Rattle.std.specs.IoError.{error_kind};
 ghost use Rattle.judging.specs.Ending.{status_of};
-ghost use Rattle.thread_runs.specs.Printed.{PrintsTwo};
-ghost use Rattle.scenarios.specs.Faults.{fault_status, run_fault, unread_fault, EndsCheck, EndsThreads, HasCause};
+ghost use Rattle.scenarios.specs.Faults.{fault_status, play_fault, scenario_status, unread_fault, EndsCheck, EndsThreads, EndsTurns, HasCause};
 
 use crate::fault::ProgramFault;
-use crate::words::{Request, request_given};
 use checker::Verdict;
 use judging::{Fault, FileSource, OutputSink, Paths, ends_with, judge};
-use std::alloc::Global;
-use std::io::{ErrorKind, Write};
+use playing::{PlayFault, play_threads, play_turns};
+use program_words::{Request, request_given};
+use scenario_text::ScenarioFault;
+use std::io::ErrorKind;
 use std::rt::{Env, Files};
 use std::sync::Wait;
 use std::thread::Threads;
 use std::{env, fs, io};
-use thread_runs::{RunFault, two_threads};
 
-/// Runs the program and returns its exit status: 0 for yes, 1 for no, 2 for words or texts at fault, 3 for a device, memory
-/// or a thread. Threads are started and waited for by `threads`, and by the words `threads` alone. Where the line of a fault
-/// can't be written to standard error, the status alone reports it.
+/// Runs the program and returns its exit status: 0 for yes, 1 for no, 2 for words, scenario or texts at fault, 3 for a device,
+/// memory or a thread. Threads are started and waited for by `threads`, and by the words `threads SCENARIO` alone. Where the
+/// line of a fault can't be written to standard error, the status alone reports it.
 pub fn run<R: Env + Files + Print + Eprint + AllocGlobal, T: Threads + Wait + Sync>(
     rt: &R,
     threads: &T,
@@ -45,52 +43,66 @@ fn serve<'a, R: Files + Print + AllocGlobal, T: Threads + Wait + Sync>(
     ensures { IfErr result (HasCause (map string_bytes words.now)) }
 {
     match request_given(rt.alloc(), words) {
-        Ok(Request::Check(paths)) => check_files(rt, paths),
-        Ok(Request::Threads) => run_threads(rt, threads),
+        Ok(
+            Request::Check {
+                history,
+                certificate,
+            },
+        ) => check_files(
+            rt,
+            Paths {
+                history,
+                certificate,
+            },
+        ),
+        Ok(Request::Run(scenario)) => run_file(rt, scenario),
+        Ok(Request::Threads(scenario)) => run_file_on(rt, threads, scenario),
         Err(fault) => Err(ProgramFault::from(fault)),
     }
 }
 
-// Prints the fixed run of two threads.
-fn run_threads<R: Print + AllocGlobal, T: Threads + Wait + Sync>(
+// Plays the file's scenario in turns. What is printed of it goes to standard output.
+fn run_file<'a, R: Files + Print + AllocGlobal>(
     rt: &R,
-    threads: &T,
-) -> Result<Verdict, ProgramFault<'static>>
-    ensures { IfErr result EndsThreads }
+    path: &'a str,
+) -> Result<Verdict, ProgramFault<'a>>
+    ensures { IfErr result (EndsTurns path.entry) }
 {
-    print_threads(threads, rt.alloc(), &mut io::writer(rt))
-}
-
-// All of the run's text is there before its first byte is written.
-fn print_threads<T: Threads + Wait + Sync, W: Write>(
-    threads: &T,
-    alloc: Global,
-    out: &mut W,
-) -> Result<Verdict, ProgramFault<'static>>
-    ensures ok { IfOk result (λ verdict. (text : List ℕ) × Appends (W.contents out.old) (W.contents out.new) text
-        × PrintsTwo text verdict) }
-    ensures silent { IfErr result (λ fault. fault ≢ ProgramFault.Device Fault.CannotWrite → out.new ≡ out.old) }
-    ensures faults { IfErr result EndsThreads }
-{
-    let mut text = Vec::new(alloc);
-    let verdict = match two_threads(threads, alloc, &mut text) {
-        Ok(verdict) => verdict,
-        Err(fault) => return Err(fault_of_run(fault)),
-    };
-    match out.write_all(text.as_slice()) {
-        Ok(()) => Ok(verdict),
-        Err(_) => Err(ProgramFault::Device(Fault::CannotWrite)),
+    let mut source = FileSource::new(opened(rt, path)?);
+    let mut sink = OutputSink::new(rt.alloc(), io::writer(rt));
+    match play_turns(rt.alloc(), &mut source, &mut sink) {
+        Ok(verdict) => Ok(verdict),
+        Err(fault) => Err(fault_of_play(path, fault)),
     }
 }
 
-// What ends the program where the run of threads broke off.
-fn fault_of_run(fault: RunFault) -> ProgramFault<'static>
-    ensures { result ≡ run_fault fault }
+// The same on threads.
+fn run_file_on<'a, R: Files + Print + AllocGlobal, T: Threads + Wait + Sync>(
+    rt: &R,
+    threads: &T,
+    path: &'a str,
+) -> Result<Verdict, ProgramFault<'a>>
+    ensures { IfErr result (EndsThreads path.entry) }
+{
+    let mut source = FileSource::new(opened(rt, path)?);
+    let mut sink = OutputSink::new(rt.alloc(), io::writer(rt));
+    match play_threads(threads, rt.alloc(), &mut source, &mut sink) {
+        Ok(verdict) => Ok(verdict),
+        Err(fault) => Err(fault_of_play(path, fault)),
+    }
+}
+
+// What ends the program where the file at that path isn't played.
+fn fault_of_play<'a>(path: &'a str, fault: PlayFault) -> ProgramFault<'a>
+    ensures { result ≡ play_fault path.entry fault }
 {
     match fault {
-        RunFault::NoMemory => ProgramFault::Device(Fault::NoMemory),
-        RunFault::Thread => ProgramFault::NoThread,
-        RunFault::Disagrees => ProgramFault::Disagrees,
+        PlayFault::Read => ProgramFault::Device(Fault::CannotRead(path)),
+        PlayFault::Scenario(refused) => ProgramFault::Scenario(refused),
+        PlayFault::Write => ProgramFault::Device(Fault::CannotWrite),
+        PlayFault::NoMemory => ProgramFault::Device(Fault::NoMemory),
+        PlayFault::Thread => ProgramFault::NoThread,
+        PlayFault::Disagrees => ProgramFault::Disagrees,
     }
 }
 
@@ -101,18 +113,22 @@ fn check_files<'a, R: Files + Print + AllocGlobal>(
 ) -> Result<Verdict, ProgramFault<'a>>
     ensures { IfErr result (EndsCheck paths.entry) }
 {
-    let Ok(history) = fs::open(rt, paths.history) else {
-        return Err(ProgramFault::Device(Fault::CannotRead(paths.history)));
-    };
-    let Ok(certificate) = fs::open(rt, paths.certificate) else {
-        return Err(ProgramFault::Device(Fault::CannotRead(paths.certificate)));
-    };
-    let mut history = FileSource::new(history);
-    let mut certificate = FileSource::new(certificate);
+    let mut history = FileSource::new(opened(rt, paths.history)?);
+    let mut certificate = FileSource::new(opened(rt, paths.certificate)?);
     let mut sink = OutputSink::new(rt.alloc(), io::writer(rt));
     match judge(rt.alloc(), &mut history, &mut certificate, &mut sink) {
         Ok(verdict) => Ok(verdict),
         Err(fault) => Err(ProgramFault::Device(paths.fault(fault))),
+    }
+}
+
+// The file at that path.
+fn opened<'a, R: Files>(rt: &R, path: &'a str) -> Result<R::File, ProgramFault<'a>>
+    ensures { IfErr result (λ ended. ended ≡ ProgramFault.Device (Fault.CannotRead path.entry)) }
+{
+    match fs::open(rt, path) {
+        Ok(file) => Ok(file),
+        Err(_) => Err(ProgramFault::Device(Fault::CannotRead(path))),
     }
 }
 
@@ -153,6 +169,18 @@ fn end<R: Eprint>(rt: &R, outcome: Result<Verdict, ProgramFault<'_>>) -> u8
         Ok(verdict) => ends_with(Ok(verdict)).status,
         Err(ProgramFault::Device(fault)) => ends_with(Err(fault)).status,
         Err(ProgramFault::Arguments) => 2,
+        Err(ProgramFault::Scenario(refused)) => status_of_scenario(refused),
         Err(ProgramFault::NoThread | ProgramFault::Disagrees) => 3,
+    }
+}
+
+// The exit status where a file states no scenario.
+fn status_of_scenario(refused: ScenarioFault) -> u8
+    ensures status { result ≡ scenario_status refused }
+    ensures most { result ≤ 3 }
+{
+    match refused {
+        ScenarioFault::NoMemory => 3,
+        _ => 2,
     }
 }

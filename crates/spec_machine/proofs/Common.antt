@@ -18,12 +18,11 @@ pub use Rattle.rmm_spec.specs.Step.Ripas.{is_reached, stretch_change}
 pub use Rattle.rmm_spec.proofs.{TagLaws.granule_from_tag, TagLaws.sameb-tag_number, TagLaws.tag-has_tag, Tests.both_ways}
 pub use Rattle.rmm_sound.proofs.{Cases.none_of, Cases.spot_itself, Changes.changed_sound, Runs.done_applies, Runs.reached_applies, Searches.inside_runs, Searches.realm_granule, Searches.realm_there, Searches.rec_granule, Searches.rec_there}
 pub use Rattle.rmm_laws.proofs.{ChangeWords.closed, ChangeWords.opened, ChangeWords.page_closed, ChangeWords.page_opened, Replays.is_reached-reached, Replays.reached-is_reached}
-pub use Rattle.flat_tables.proofs.Counts.{any_below-count_below, count_below-le, count_below-more, count_below-same}
 pub use Rattle.rmi_view.specs.Seen.{command_seen, reply_seen}
-pub use Rattle.spec_machine.specs.Kept.{AreNamed, IsKept, names}
-unfoldable pub use Rattle.spec_machine.specs.{Kept.rec_count, Report.owner_rows, Stored.granules_of, Stored.stored, View.state_of}
+unfoldable pub use Rattle.machine_cells.specs.Whole.{state_in}
+unfoldable pub use Rattle.spec_machine.specs.{Report.owner_rows, View.state_of}
+pub use Rattle.machine_cells.specs.Whole.{kept_at, count_of, IsShapedIn}
+pub use Rattle.machine_cells.proofs.Found.{sound_in}
 pub use Rattle.spec_machine.specs.Memory.{makes_table, takes_memory}
 pub use Rattle.spec_machine.specs.Report.{IsOwnerOf}
-pub use Rattle.spec_machine.specs.Running.{AreRunning, IsPlaced, cpu_before, with_running, with_update, without_cpu}
-pub use Rattle.spec_machine.specs.Stored.{CanWrite, IsRealmThere, IsRecThere, kept_at, put}
-pub use Rattle.spec_machine.specs.declared.{machine.Machine.Machine, store.Store.Store}
+pub use Rattle.spec_machine.specs.declared.machine.Machine.{Machine}

@@ -1,11 +1,5 @@
 pub mod Common
 pub mod Places
-pub mod Named
-pub mod Lookups
-pub mod RunningRecs
-pub mod RecCounts
-pub mod Changes
-pub mod Entries
 pub mod Memory
 pub mod Reached
 pub mod Ownership

@@ -1,5 +1,5 @@
 -- Which commands make a change that takes memory, and how deep a stretch lies.
-use Rattle.spec_machine.proofs.Common.{◌≡◌, ℕ, ◌/◌, ◌≤◌, Bool, false, ◌||◌, List, [], ◌∷◌, is_some, IsTrue, ◌==◌, Ok, CanApply, Change, Claim, IsSound, Reaches, RealmMade, State, Stretch, TableMade, ap, both_ways, claims_opened, done, makes_table, opened, outcome, reached_applies, reached_change, refl, stretch_change, sym, tag_number, takes_memory, ◌∙◌}
+use Rattle.spec_machine.proofs.Common.{◌≡◌, ℕ, ◌/◌, ◌≤◌, Bool, false, ◌||◌, List, [], ◌∷◌, is_some, IsTrue, ◌==◌, Ok, CanApply, Change, Claim, IsSound, Reaches, RealmMade, State, Stretch, TableMade, ap, both_ways, claims_opened, done, makes_table, opened, outcome, reached_applies, reached_change, refl, stretch_change, sym, tag_number, takes_memory, Rd, Rec, has_tag, rec_at, rec_there, ◌∙◌}
 use Rattle.rmm_spec.specs.declared.accepted.StretchUse.{StretchUse}
 use Rattle.rmm_spec.specs.declared.accepted.StretchUse.TheVariants.{Init, Requested}
 use Rattle.rmm_spec.specs.declared.command.Command.{Command}
@@ -63,3 +63,7 @@ unfolding reached_change
 stretch_level s cpu command stretch sound is =
     let end = (outcome-tells command s cpu (Ok (Reaches stretch)) is).0 in
     in_table s stretch.purpose stretch.rd stretch.level stretch.base _ _ end.0 sound (reached_applies s cpu command stretch end.0 sound is end.1)
+
+-- each REC has a realm
+pub owner_tagged : (s : State) → IsSound s → (rec : ℕ) → IsTrue (has_tag s rec Rec) → IsTrue (has_tag s (rec_at s rec).owner Rd)
+owner_tagged s sound rec tag = sound.recs.owned rec (rec_at s rec) (rec_there s rec sound tag)

@@ -1,11 +1,14 @@
 -- The list of owners is as the ties are, kept by each change that opens and closes claims as ties come and go.
-use Rattle.spec_machine.proofs.Common.{◌≡◌, ℕ, ◌/◌, Bool, true, false, ◌⊎◌, ◌↔◌, List, [], ◌∷◌, length, replicate, if◌then◌else◌, IsTrue, ◌==◌, Some, None, Option, CanApply, CanDestroyRealm, CanDestroyRec, Change, Claim, Config, Data, Delegated, EntriesChanged, EntryChange, IsOwnerOf, IsSound, IsTied, Machine, RealmChange, RealmDestroyed, RecChange, RecDestroyed, Replaced, RipasSet, State, Tag, TagChange, Undelegated, ap, changed, changed_sound, claim, closed, eqb-false, eqb-true, granule_from_tag, inl, inr, is_granule, kept_at, length-replicate, length-set, opened, opening, page_closed, page_opened, refl, stored, subst, subst₂, sym, tag-has_tag, ◌∙◌}
+use Rattle.spec_machine.proofs.Common.{◌≡◌, ℕ, ◌/◌, Bool, true, false, ◌⊎◌, ◌↔◌, List, [], ◌∷◌, length, replicate, if◌then◌else◌, IsTrue, ◌==◌, Some, None, Option, CanApply, Change, Claim, Config, Data, Delegated, EntriesChanged, EntryChange, IsOwnerOf, IsSound, IsTied, RealmChange, RealmDestroyed, RecChange, RecDestroyed, RecordsChanged, Replaced, RipasSet, State, Tag, TagChange, Undelegated, ap, changed, changed_sound, claim, closed, eqb-false, eqb-true, granule_from_tag, inl, inr, is_granule, kept_at, length-replicate, length-set, opened, opening, page_closed, page_opened, refl, subst, subst₂, sym, tag-has_tag, with_entry_change, with_realm_change, with_rec_change, with_tag_change, ◌∙◌}
 use Rattle.std.specs.List.{AllByRecursion}
+use Rattle.rmm_spec.specs.Flat.{flat_state}
+use Rattle.machine_cells.specs.declared.granules.Granules.{Granules}
+use Rattle.machine_cells.specs.Whole.{count_of, state_in}
 use Rattle.rmm_laws.proofs.ChangeAccounts.{change-accounts, recs_at, roots_at}
 use Rattle.rmm_laws.proofs.Claims.{AreElsewhere, elsewhere-among}
 use Rattle.rmm_laws.proofs.Owners.{Accounts, IsKept}
 use Rattle.rmm_laws.proofs.Ties.{IsUnused, tied-once, tied-tag, tied-used}
-use Rattle.spec_machine.specs.Owners.{AreOwners, IsOwner, page_owner, with_owner, with_page_owner}
+use Rattle.spec_machine.specs.Owners.{AreOwners, IsOwner, owners_changed, page_owner, with_owner}
 use Rattle.spec_machine.proofs.Places.{kept_at-replicate, kept_at-set}
 
 -- ---- owners are written
@@ -85,30 +88,30 @@ module _ (old new : State) (opens closes : List Claim) (sound : IsSound old) (ne
 
 -- ---- each kind
 
--- owners after a change: what it closes is taken, and what it opens is given
-pub changed_owners : (m : Machine) (change : Change) → let s = stored m.store in CanApply s change → (changed s change).granules ≡ s.granules
-    → AreOwners (changed s change)
-    (with_owners (λ c. Some c.realm) (opened change) (with_owners (λ c. None) (closed (roots_at s) (recs_at s) change) m.owners.realms.items))
-changed_owners m change can same =
-    let s = stored m.store in
-    accounted-owners s (changed s change) (opened change) (closed (roots_at s) (recs_at s) change) m.kept.sound (changed_sound s change m.kept.sound can)
-    (change-accounts s change m.kept.sound can) same m.owners.realms.items m.owned
+-- how many granules there are never changes
+tag-granules : (s : State) (change : Option TagChange) → (with_tag_change s change).granules ≡ s.granules
+tag-granules s None = refl
+tag-granules s (Some change) = refl
 
--- a realm's RD and its root are taken
-pub realm_destroyed-owners : (m : Machine) (rd root : ℕ) → let s = stored m.store in CanDestroyRealm s rd root
-    → AreOwners (changed s (RealmDestroyed rd root)) (with_owner root None (with_owner rd None m.owners.realms.items))
-unfolding changed
-realm_destroyed-owners m rd root can =
-    subst (λ r. AreOwners (changed (stored m.store) (RealmDestroyed rd root)) (with_owner r None (with_owner rd None m.owners.realms.items)))
-    (sym can.is_root) (changed_owners m (RealmDestroyed rd root) can refl)
+realm-granules : (s : State) (change : Option RealmChange) → (with_realm_change s change).granules ≡ s.granules
+realm-granules s None = refl
+realm-granules s (Some change) = refl
 
--- a REC's granules are taken
-pub rec_destroyed-owners : (m : Machine) (rec aux0 aux1 : ℕ) → let s = stored m.store in CanDestroyRec s rec aux0 aux1
-    → AreOwners (changed s (RecDestroyed rec aux0 aux1)) (with_owner aux1 None (with_owner aux0 None (with_owner rec None m.owners.realms.items)))
+rec-granules : (s : State) (change : Option RecChange) → (with_rec_change s change).granules ≡ s.granules
+rec-granules s None = refl
+rec-granules s (Some change) = refl
+
+entry-granules : (s : State) (rd level : ℕ) (entries : EntryChange) → (with_entry_change s rd level entries).granules ≡ s.granules
+entry-granules s rd level (Replaced number entry) = refl
+entry-granules s rd level (RipasSet first last ripas) = refl
+
+changed-granules : (s : State) (change : Change) → (changed s change).granules ≡ s.granules
 unfolding changed
-rec_destroyed-owners m rec aux0 aux1 can =
-    subst₂ (λ x y. AreOwners (changed (stored m.store) (RecDestroyed rec aux0 aux1)) (with_owner y None (with_owner x None (with_owner rec None m.owners.realms.items))))
-    (sym can.is_aux0) (sym can.is_aux1) (changed_owners m (RecDestroyed rec aux0 aux1) can refl)
+changed-granules s (RecordsChanged realm rec) = rec-granules (with_realm_change s realm) rec ∙ realm-granules s realm
+changed-granules s (EntriesChanged rd level entries page realm rec) =
+    entry-granules (with_rec_change (with_realm_change (with_tag_change s page) realm) rec) rd level entries
+    ∙ rec-granules (with_realm_change (with_tag_change s page) realm) rec ∙ realm-granules (with_tag_change s page) realm ∙ tag-granules s page
+changed-granules s _ = refl
 
 -- a page is given where its tag is data, and else taken
 page-written : (rd granule : ℕ) (tag : Tag) (owners : List (Option ℕ)) → (tag ≡ Data) ⊎ (tag ≡ Delegated)
@@ -117,16 +120,29 @@ page-written : (rd granule : ℕ) (tag : Tag) (owners : List (Option ℕ)) → (
 page-written rd granule tag owners (inl is) = rw is refl
 page-written rd granule tag owners (inr is) = rw is refl
 
-pub entries_changed-owners : (m : Machine) (rd level : ℕ) (entries : EntryChange) (page : Option TagChange) (realm : Option RealmChange) (rec : Option RecChange)
-    → let s = stored m.store in let t = changed s (EntriesChanged rd level entries page realm rec) in CanApply s (EntriesChanged rd level entries page realm rec)
-    → t.granules ≡ s.granules → AreOwners t (with_page_owner rd page m.owners.realms.items)
-entries_changed-owners m rd level entries None realm rec can same = changed_owners m (EntriesChanged rd level entries None realm rec) can same
-entries_changed-owners m rd level (RipasSet first last ripas) (Some page) realm rec can same = absurd (let bad : Some page ≡ None = can.1.1 in cc)
-entries_changed-owners m rd level (Replaced number entry) (Some page) realm rec can same =
-    let change = EntriesChanged rd level (Replaced number entry) (Some page) realm rec in
-    subst (AreOwners (changed (stored m.store) change))
-    (page-written rd page.granule page.tag m.owners.realms.items (elim can.1.1 [ inl given ↦ inl given.1 | inr taken ↦ inr taken.0 ]))
-    (changed_owners m change can same)
+module _ (s : State) (owners : List (Option ℕ)) (sound : IsSound s) (o : AreOwners s owners) where
+  -- owners after a change: what it closes is taken, and what it opens is given
+  accounted : (change : Change) → CanApply s change
+      → AreOwners (changed s change) (with_owners (λ c. Some c.realm) (opened change) (with_owners (λ c. None) (closed (roots_at s) (recs_at s) change) owners))
+  accounted change can =
+      accounted-owners s (changed s change) (opened change) (closed (roots_at s) (recs_at s) change) sound (changed_sound s change sound can)
+      (change-accounts s change sound can) (changed-granules s change) owners o
+
+  pub changed_owners : (change : Change) → CanApply s change → AreOwners (changed s change) (owners_changed change owners)
+  changed_owners (RealmDestroyed rd root) can =
+      subst (λ r. AreOwners (changed s (RealmDestroyed rd root)) (with_owner r None (with_owner rd None owners))) (sym can.is_root)
+      (accounted (RealmDestroyed rd root) can)
+  changed_owners (RecDestroyed rec aux0 aux1) can =
+      subst₂ (λ x y. AreOwners (changed s (RecDestroyed rec aux0 aux1)) (with_owner y None (with_owner x None (with_owner rec None owners))))
+      (sym can.is_aux0) (sym can.is_aux1) (accounted (RecDestroyed rec aux0 aux1) can)
+  changed_owners (EntriesChanged rd level entries None realm rec) can = accounted (EntriesChanged rd level entries None realm rec) can
+  changed_owners (EntriesChanged rd level (RipasSet first last ripas) (Some page) realm rec) can = absurd (let bad : Some page ≡ None = can.1.1 in cc)
+  changed_owners (EntriesChanged rd level (Replaced number entry) (Some page) realm rec) can =
+      let change = EntriesChanged rd level (Replaced number entry) (Some page) realm rec in
+      subst (AreOwners (changed s change))
+      (page-written rd page.granule page.tag owners (elim can.1.1 [ inl given ↦ inl given.1 | inr taken ↦ inr taken.0 ]))
+      (accounted change can)
+  changed_owners change can = accounted change can
 
 -- ---- the opening
 
@@ -151,6 +167,10 @@ owner-tied s granule realm (Some other) sound tied = (
   λ tied_too. ap Some (tied-once s (s.tag granule) granule other realm sound tied tied_too),
 )
 
-pub owners-tied : (m : Machine) → let s = stored m.store in IsOwnerOf s (kept_at s.granules m.owners.realms.items None)
-owners-tied m granule realm =
-    owner-tied (stored m.store) granule realm (kept_at (stored m.store).granules m.owners.realms.items None granule) m.kept.sound (m.owned.each granule)
+pub owners-tied : (s : State) (owners : List (Option ℕ)) → IsSound s → AreOwners s owners → IsOwnerOf s (kept_at s.granules owners None)
+owners-tied s owners sound o granule realm = owner-tied s granule realm (kept_at s.granules owners None granule) sound (o.each granule)
+
+-- a new machine has as many granules as it was given
+pub opening-count : (g : Granules) (config : Config) → state_in g ≡ opening config → count_of g ≡ config.granules
+unfolding state_in flat_state opening
+opening-count g config is = ap (λ (s : State). s.granules) is

@@ -2,7 +2,6 @@
 use Rattle.spec_machine.proofs.Common.{◌≡◌, ℕ, true, false, [], ◌∷◌, Ok, CarriesOut, Reaches, State, Stretch, both_ways, is_reached, ok, reached-is_reached, sym, ◌∙◌}
 use Rattle.rmm_spec.specs.declared.reply.Reply.{Reply}
 use Rattle.rmm_laws.proofs.StepLaws.{word_of}
-use Rattle.rmm_spec.specs.declared.reply.Reply.TheVariants as reply
 
 -- no reply reaches it
 pub no_reach : (s : State) (stretch : Stretch) (top : ℕ) (given : Reply) → given ≡ ok (top ∷ []) → is_reached s stretch top ≡ false

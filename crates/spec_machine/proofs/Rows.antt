@@ -1,14 +1,7 @@
 -- A report has a row for each granule.
-use Rattle.spec_machine.proofs.Common.{◌≡◌, ℕ, suc, ◌+◌, ◌*◌, ◌%◌, ◌<◌, List, [], ◌∷◌, ◌++◌, length, IsTrue, nat_lt, ◌==◌, slice_index_or, Option, State, and_from, ap, append_assoc, arith, eq-eqb, is_granule, kept_at, lt-ltb, owner_rows, subst, ◌∙◌}
+use Rattle.spec_machine.proofs.Common.{◌≡◌, ℕ, suc, ◌+◌, ◌*◌, ◌<◌, List, [], ◌∷◌, ◌++◌, length, slice_index_or, Option, State, ap, append_assoc, arith, kept_at, owner_rows, subst, ◌∙◌}
 use Rattle.spec_machine.specs.declared.owner_report.OwnerRow.{OwnerRow}
-use Rattle.spec_machine.proofs.Places.{kept_at-granule}
-
--- the granule of a place
-pub granule_placed : (granules place : ℕ) → place < granules → IsTrue (is_granule granules (place * 4096))
-unfolding is_granule
-granule_placed granules place within =
-    and_from ((place * 4096) % 4096 == 0) (nat_lt (place * 4096) (granules * 4096))
-    (eq-eqb ((place * 4096) % 4096) 0 (omega arith)) (lt-ltb (place * 4096) (granules * 4096) (omega arith))
+use Rattle.spec_machine.proofs.Places.{granule_placed, kept_at-granule}
 
 -- what is read at a place is what is kept for its granule
 pub kept_at-place : {A : Type 0} → (granules place : ℕ) (items : List A) (default read : A) → length items ≡ granules → place < granules

@@ -1,11 +1,13 @@
 -- Which realm each granule belongs to, as the state's ties say, and how that list changes.
 use Rattle.std.specs.Prelude.{◌≡◌, ◌⊎◌, ℕ, ◌/◌, List, length, Option, Some, None, slice_set}
+use Rattle.rmm_spec.specs.declared.change.Change.{Change}
+use Rattle.rmm_spec.specs.declared.change.Change.TheVariants.{RealmMade, RealmDestroyed, RecMade, RecDestroyed, TableMade, TableDestroyed, EntriesChanged}
 use Rattle.rmm_spec.specs.declared.change.TagChange.{TagChange}
 use Rattle.rmm_spec.specs.declared.tag.Tag.{Tag}
 use Rattle.rmm_spec.specs.declared.tag.Tag.TheVariants.{Undelegated, Delegated, Data}
 use Rattle.rmm_spec.specs.Ownership.{IsTied}
 use Rattle.rmm_spec.specs.State.{State}
-use Rattle.spec_machine.specs.Stored.{kept_at}
+use Rattle.machine_cells.specs.Whole.{kept_at}
 
 -- the granule belongs to that realm, or to none
 abbrev pub IsOwner : State → ℕ → Option ℕ → Type 0
@@ -29,3 +31,15 @@ page_owner rd _ = None
 abbrev pub with_page_owner : ℕ → Option TagChange → List (Option ℕ) → List (Option ℕ)
 with_page_owner rd None owners = owners
 with_page_owner rd (Some page) owners = with_owner page.granule (page_owner rd page.tag) owners
+
+-- what a change puts in is given to its realm, and what it takes out is taken
+abbrev pub owners_changed : Change → List (Option ℕ) → List (Option ℕ)
+owners_changed (RealmMade rd root width level vmid algo) owners = with_owner root (Some rd) (with_owner rd (Some rd) owners)
+owners_changed (RealmDestroyed rd root) owners = with_owner root None (with_owner rd None owners)
+owners_changed (RecMade rd rec mpidr flags aux0 aux1) owners =
+    with_owner aux1 (Some rd) (with_owner aux0 (Some rd) (with_owner rec (Some rd) owners))
+owners_changed (RecDestroyed rec aux0 aux1) owners = with_owner aux1 None (with_owner aux0 None (with_owner rec None owners))
+owners_changed (TableMade rd level number rtt entry) owners = with_owner rtt (Some rd) owners
+owners_changed (TableDestroyed rd level number rtt entry) owners = with_owner rtt None owners
+owners_changed (EntriesChanged rd level entries page realm rec) owners = with_page_owner rd page owners
+owners_changed _ owners = owners

@@ -6,25 +6,18 @@ use Rattle.std.proofs.Props.{props}
 use Rattle.std.proofs.lemmas.Bool.{eq-eqb}
 use mathlib.Core.HLevel.{is_prop→PathP}
 use Rattle.rmm_spec.specs.declared.entry.Entry.{Entry}
-use Rattle.rmm_spec.specs.declared.entry.Entry.TheVariants.{Unassigned, Assigned, Table, UnassignedNs, AssignedNs}
+use Rattle.rmm_spec.specs.declared.entry.Entry.TheVariants.{Assigned}
 use Rattle.rmm_spec.specs.declared.tag.Tag.{Tag}
 use Rattle.rmm_spec.specs.declared.tag.Tag.TheVariants.{Undelegated, Delegated, Rd, Rec, RecAux, Data, Rtt}
 use Rattle.rmm_spec.specs.Ownership.{IsTied}
-use Rattle.rmm_spec.specs.State.{State, RealmRecord, RecRecord}
-use Rattle.rmm_spec.specs.Sound.{IsSound, IsTableOf, IsLeafOf}
+use Rattle.rmm_spec.specs.State.{State, RecRecord}
+use Rattle.rmm_spec.specs.Sound.{IsSound}
 use Rattle.rmm_spec.proofs.Tests.{both_ways}
 use Rattle.rmm_laws.proofs.Ties.{aux-has_aux}
-use Rattle.spec_machine.specs.Kept.{IsKept}
 use Rattle.spec_machine.specs.Owners.{IsOwner, AreOwners}
-use Rattle.spec_machine.specs.Stored.{kept_at}
-
--- a leaf fits its place in one way
-leaf-single : (e : Entry) (r : RealmRecord) (level number : ℕ) → IsProp (IsLeafOf e r level number)
-leaf-single (Unassigned ripas) r level number = hlevel props
-leaf-single (Assigned ripas granule) r level number = hlevel props
-leaf-single (Table granule) r level number = hlevel props
-leaf-single UnassignedNs r level number = hlevel props
-leaf-single (AssignedNs page) r level number = hlevel props
+use Rattle.machine_cells.specs.declared.granules.Granules.{Granules}
+use Rattle.machine_cells.specs.Whole.{kept_at, state_in, IsShapedIn}
+use Rattle.machine_cells.proofs.Found.{sound_in}
 
 -- what is found is one thing
 found-single : {A : Type 0} (P : A → Type 0) → IsSet (Option A) → ((x : A) → IsProp (P x)) → (found : Option A)
@@ -37,11 +30,9 @@ found-single P set prop found (x, e, p) (y, f, q) =
       is_prop→PathP (λ j. P (same j)) (λ j. prop (same j)) p q i,
     )
 
-owner-single : (s : State) (rd level number : ℕ) → IsProp ((r : RealmRecord) × (s.realm rd ≡ Some r) × IsTableOf r level number)
-owner-single s rd level number = found-single (λ r. IsTableOf r level number) (hlevel props) (λ r. hlevel props) (s.realm rd)
-
-pub kept-single : (s : State) (vmids : List (Option ℕ)) (counts : List ℕ) → IsProp (IsKept s vmids counts)
-kept-single s vmids counts = hlevel (props, owner-single s, leaf-single)
+-- a well-shaped whole stands for a sound state
+pub shaped-sound : (g : Granules) → IsShapedIn g → IsSound (state_in g)
+shaped-sound g shaped = sound_in g shaped
 
 -- ---- owners
 

@@ -5,10 +5,7 @@
 //! The checker of histories depends on it.
 #![tactic(auto)]
 
-mod by_granule;
 mod change;
-mod changed_records;
-mod changed_tables;
 mod granules;
 mod lending;
 mod machine;
@@ -16,11 +13,7 @@ mod owner_report;
 mod owners;
 mod reaching;
 mod reply;
-mod running;
 mod sight;
-mod store;
-mod stored_changes;
-mod stored_tables;
 
 pub use granule_cells::{Cell, CpuPlace, Side};
 pub use machine::Machine;

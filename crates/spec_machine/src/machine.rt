@@ -1,40 +1,29 @@
 //! The machine, what it answers to a command, and its steps.
 
-ghost use Rattle.spec_machine.specs.Kept.{IsKept};
+ghost use Rattle.machine_cells.specs.Whole.{state_in, IsShapedIn};
+ghost use Rattle.machine_cells.specs.Single.{shaped-single};
 ghost use Rattle.spec_machine.specs.Owners.{AreOwners};
-ghost use Rattle.spec_machine.specs.Running.{AreRunning};
-ghost use Rattle.spec_machine.specs.Single.{kept-single, owners-single};
-ghost use Rattle.spec_machine.specs.Stored.{stored};
+ghost use Rattle.spec_machine.specs.Single.{owners-single, shaped-sound};
 
 use crate::lending::lending_of;
 use crate::owners::Owners;
 use crate::reply::is_ok;
-use crate::running::Running;
-use crate::store::Store;
 use command_rows::{answer_inside, answer_outside};
-use granule_state::{Config, Pa};
+use granule_state::Config;
+use machine_cells::Granules;
 use rmi_view::{CommandRef, ReplyRef};
 use rmm_spec::{Accepted, Command, Reply};
 use std::alloc::{AllocError, Global};
 
-/// How many VMIDs there are.
-const VMIDS: usize = 256;
-
-/// A state of the specification machine, with what finds VMIDs, RECs and running RECs in it.
+/// A state of the specification machine: all its granules, and to which realm each belongs.
 #[derive(Drop)]
 pub struct Machine {
-    pub(crate) store: Store,
-    // at each VMID the descriptor of the realm that has it
-    pub(crate) vmids: Vec<Option<Pa>>,
-    // at each granule how many RECs belong to the realm there
-    pub(crate) rec_counts: Vec<usize>,
+    pub(crate) granules: Granules,
     pub(crate) owners: Owners,
-    pub(crate) running: Running,
     // how many offers were made
     offers: u64,
-    ghost kept: { IsKept (stored store) vmids.items rec_counts.items } by { kept-single (stored store) vmids.items rec_counts.items },
-    ghost inside: { AreRunning (stored store) running.recs.items },
-    ghost owned: { AreOwners (stored store) owners.realms.items } by { owners-single (stored store) owners.realms.items kept.sound },
+    ghost shaped: { IsShapedIn granules } by { shaped-single granules },
+    ghost owned: { AreOwners (state_in granules) owners.realms.items } by { owners-single (state_in granules) owners.realms.items (shaped-sound granules shaped) },
 }
 
 impl Machine {
@@ -53,18 +42,11 @@ impl Machine {
         ensures opening { IfOk result (λ machine. state_of machine ≡ opening config) }
         ensures offers { IfOk result (λ machine. machine.offers ≡ 0) }
     {
-        let granules = config.granules() as usize;
-        let store = Store::new(alloc, config)?;
-        let vmids = vec![in alloc; None; VMIDS]?;
-        let rec_counts = vec![in alloc; 0; granules]?;
-        let owners = Owners::new(alloc, granules)?;
-        let running = Running::new(alloc)?;
+        let granules = Granules::new(alloc, config)?;
+        let owners = Owners::new(alloc, granules.count())?;
         Ok(Machine {
-            store,
-            vmids,
-            rec_counts,
+            granules,
             owners,
-            running,
             offers: 0,
         })
     }

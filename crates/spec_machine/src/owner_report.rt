@@ -19,18 +19,21 @@ impl Machine {
     ghost use Rattle.spec_machine.specs.Report.{AddsOwners};
 
     /// Adds a row for each granule, in the order of addresses. Refused memory, it adds none.
-    #[tactic(auto, unfolding(crate::specs::View::state_of, crate::specs::Stored::stored, crate::specs::Stored::granules_of))]
+    #[tactic(auto, unfolding(crate::specs::View::state_of))]
     pub fn owner_report(&self, rows: &mut Vec<OwnerRow>) -> Result<(), AllocError>
         ensures ok { OnOk result (AddsOwners (state_of self.now) rows.old.items rows.new.items) }
         ensures err { OnErr result (rows.new.items ≡ rows.old.items) }
         ensures full { OnErr result (vec_capacity rows.old < vec_len rows.old + (state_of self.now).granules) }
     {
-        let granules = self.store.config.granules() as usize;
-        rows.reserve(granules)?;
+        let granules = self.granules.count();
+        let Ok(()) = rows.reserve(granules) else {
+            return Err(AllocError);
+        };
         for place in 0..granules {
+            let granule = place as u64 * GRANULE_BYTES;
             rows.push_reserved(OwnerRow {
-                granule: Pa::new(place as u64 * GRANULE_BYTES),
-                tag: self.store.tags[place],
+                granule: Pa::new(granule),
+                tag: self.granules.tag(granule),
                 realm: self.owners.realms[place],
             });
         }

@@ -17,39 +17,41 @@ impl Sight for Machine {
 
     #[tactic(auto, unfolding(crate::specs::View::state_of))]
     fn has_tag(&self, address: u64, tag: Tag) -> bool {
-        self.store.has_tag(address, tag)
+        self.granules.has_tag(address, tag)
     }
 
     #[tactic(auto, unfolding(crate::specs::View::state_of))]
     fn realm(&self, rd: u64) -> Option<Realm> {
-        self.store.realm(rd)
+        self.granules.realm(rd)
     }
 
     #[tactic(auto, unfolding(crate::specs::View::state_of))]
     fn rec(&self, address: u64) -> Option<Rec> {
-        self.store.rec(address)
+        self.granules.rec(address)
     }
 
     #[tactic(auto, unfolding(crate::specs::View::state_of))]
     fn walk(&self, rd: u64, ipa: u64, max: u8) -> Walked {
-        self.store.walk(rd, ipa, max)
+        self.granules.walk(rd, ipa, max)
     }
 
     #[tactic(auto, unfolding(crate::specs::View::state_of))]
     fn is_in_use(&self, rd: u64, level: u8, number: u64) -> bool {
-        self.store.is_in_use(rd, level, number)
+        self.granules.is_in_use(rd, level, number)
     }
 
     #[tactic(auto, unfolding(crate::specs::View::state_of))]
     fn has_link(&self, rd: u64, level: u8) -> bool {
-        self.store.has_link(rd, level, 0)
+        self.granules.has_link(rd, level, 0)
     }
 
+    #[tactic(auto, unfolding(crate::specs::View::state_of))]
     fn has_rec(&self, rd: u64) -> bool {
-        self.rec_count(rd) > 0
+        self.granules.has_rec(rd)
     }
 
+    #[tactic(auto, unfolding(crate::specs::View::state_of))]
     fn is_vmid_used(&self, vmid: u8) -> bool {
-        self.vmids[usize::from(vmid)].is_some()
+        self.granules.is_vmid_used(vmid)
     }
 }

@@ -1,10 +1,10 @@
 //! The lines of a report behind the verdict's.
 
-use crate::call_text::CallText;
 use crate::explanation::{BadLine, Cause, Explanation, Refusal};
 use crate::named_call::{EarlierStep, NamedCall};
 use crate::reply_text::{AcceptedText, ReplyText, is_by_realm};
 use bad_lines::Shown;
+use call_text::CallText;
 use std::fmt;
 
 impl fmt::Display for Explanation<'_> {

@@ -5,7 +5,6 @@
 //! The crate `explain` depends on it.
 #![tactic(auto)]
 
-mod call_text;
 mod condition;
 mod condition_text;
 mod explanation;

@@ -2,7 +2,8 @@
 use Rattle.std.proofs.Common.{◌≡◌, ℕ, zero, suc, List, [], ◌∷◌, drop, Some, None, slice_get, inr, refl, sym, ap}
 use Rattle.std.proofs.lemmas.Option.{none-some, same_Some}
 use Rattle.rmm_spec.specs.World.{World, Between}
-use Rattle.rmm_spec.specs.Waits.{IsIdle, Go}
+use Rattle.rmm_spec.specs.declared.turn.Will.TheVariants.{Go}
+use Rattle.rmm_spec.specs.Waits.{IsIdle}
 
 -- a list that has a first element has others behind it
 pub first-and_others : {A : Type 0} (xs : List A) (x : A) → slice_get xs 0 ≡ Some x → xs ≡ x ∷ drop 1 xs

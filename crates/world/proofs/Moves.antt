@@ -12,7 +12,9 @@ use Rattle.rmm_spec.specs.Shape.{Side}
 use Rattle.rmm_spec.specs.Local.{put_all}
 use Rattle.rmm_spec.specs.World.{Phase, Between, Deciding, Decided, GivenUp, Stopped, Commitment, Move, mover, Happens, IsDeciding, MayLearn, phase_learnt, without_granule}
 use Rattle.rmm_spec.specs.World as move
-use Rattle.rmm_spec.specs.Waits.{Will, Report, Did, Blocked, Idle, Turns, IsIdle, IsRising, IsWilled, MayFree, awaited, kind_of}
+use Rattle.rmm_spec.specs.declared.turn.Will.{Will}
+use Rattle.rmm_spec.specs.declared.turn.Will.TheVariants as wills
+use Rattle.rmm_spec.specs.Waits.{Report, Did, Blocked, Idle, Turns, IsIdle, IsRising, IsWilled, MayFree, awaited, kind_of}
 use Rattle.rmm_spec.specs.Waits as turn
 use Rattle.rmm_spec.proofs.Tests.{both_ways}
 use Rattle.world_laws.proofs.Lists.{put_elim}
@@ -153,14 +155,14 @@ idle s cpu will cpus nothing is =
 -- another CPU holds the lock that comes next
 pub blocked : (s : own.World) (cpu granule other : ℕ) (cpus : Cpus) → IsNext (world_of s) cpu (Take granule) → holder_of s.locks granule ≡ Some other
     → views_of cpus ≡ record (views_of s.cpus) { waits = put (views_of s.cpus).waits cpu (Some granule) }
-    → IsTurnTo s cpu turn.Go (Blocked granule) (with_views s (views_of cpus) s.history.recorded (holder_of s.locks))
+    → IsTurnTo s cpu wills.Go (Blocked granule) (with_views s (views_of cpus) s.history.recorded (holder_of s.locks))
 unfolding world_of world_from
 blocked s cpu granule other cpus next held is =
     let rising = rising-next (world_of s) cpu granule next in
     let old = views_of s.cpus in
     let is_held = taken-contains (old.taken other) granule (s.kept.locked.held other granule ∙ ap (is_cpu other) held ∙ eq-eqb other other refl) in
-    made s cpu turn.Go (Blocked granule) cpus s.history.recorded s.locks _ _ _ is refl refl
-    (turn-kept s cpu turn.Go (Blocked granule) (with_views s (record old { waits = put old.waits cpu (Some granule) }) s.history.recorded (holder_of s.locks))
+    made s cpu wills.Go (Blocked granule) cpus s.history.recorded s.locks _ _ _ is refl refl
+    (turn-kept s cpu wills.Go (Blocked granule) (with_views s (record old { waits = put old.waits cpu (Some granule) }) s.history.recorded (holder_of s.locks))
     refl refl (λ wanted same. next-for (world_of s) cpu (Take granule) next ∙ ap (λ g. Some (Take g)) (same_Some granule wanted same))
     (record { other = other; waits = record { rising = rising; is_held = is_held } }, refl) s.kept.locked s.kept.fit)
 
@@ -170,13 +172,13 @@ module _ (s : own.World) (cpu : ℕ) (within : cpu < s.history.recorded.config.c
   -- the CPU ends where it stands
   pub stopped : (cpus : Cpus) → is_going ((views_of s.cpus).phase cpu) ≡ true
       → views_of cpus ≡ record (views_of s.cpus) { waits = put (views_of s.cpus).waits cpu None; phase = put (views_of s.cpus).phase cpu Stopped }
-      → IsTurnTo s cpu turn.Stop (Did turn.Stop) (with_views s (views_of cpus) s.history.recorded (holder_of s.locks))
+      → IsTurnTo s cpu wills.Stop (Did turn.Stop) (with_views s (views_of cpus) s.history.recorded (holder_of s.locks))
   unfolding world_of world_from
   stopped cpus going is =
       let old = views_of s.cpus in
       let new : Views = record old { waits = put old.waits cpu None; phase = put old.phase cpu Stopped } in
-      made s cpu turn.Stop (Did turn.Stop) cpus s.history.recorded s.locks _ _ _ is refl refl
-      (move-kept s cpu turn.Stop (move.Stop cpu) (with_views s new s.history.recorded (holder_of s.locks)) refl refl refl tt
+      made s cpu wills.Stop (Did turn.Stop) cpus s.history.recorded s.locks _ _ _ is refl refl
+      (move-kept s cpu wills.Stop (move.Stop cpu) (with_views s new s.history.recorded (holder_of s.locks)) refl refl refl tt
       (record { is_cpu = within; moves = record { is_going = going-true (old.phase cpu) going; is_new = refl } })
       s.kept.locked (ended-fit old.phase old.program cpu Stopped refl s.kept.fit))
 
@@ -187,13 +189,13 @@ module _ (s : own.World) (cpu : ℕ) (within : cpu < s.history.recorded.config.c
         waits = put (views_of s.cpus).waits cpu None;
         taken = put (views_of s.cpus).taken cpu [];
         phase = put (views_of s.cpus).phase cpu GivenUp;
-      } → IsTurnTo s cpu turn.GiveUp (Did turn.GiveUp) (with_views s (views_of cpus) s.history.recorded (holder_of locks))
+      } → IsTurnTo s cpu wills.GiveUp (Did turn.GiveUp) (with_views s (views_of cpus) s.history.recorded (holder_of locks))
   unfolding world_of world_from
   gave_up cpus locks deciding freed is =
       let old = views_of s.cpus in
       let new : Views = record old { waits = put old.waits cpu None; taken = put old.taken cpu []; phase = put old.phase cpu GivenUp } in
-      made s cpu turn.GiveUp (Did turn.GiveUp) cpus s.history.recorded locks _ _ _ is refl freed
-      (move-kept s cpu turn.GiveUp (move.GiveUp cpu) (with_views s new s.history.recorded (freed_all (old.taken cpu) (holder_of s.locks))) refl refl refl tt
+      made s cpu wills.GiveUp (Did turn.GiveUp) cpus s.history.recorded locks _ _ _ is refl freed
+      (move-kept s cpu wills.GiveUp (move.GiveUp cpu) (with_views s new s.history.recorded (freed_all (old.taken cpu) (holder_of s.locks))) refl refl refl tt
       (record { is_cpu = within; moves = record { deciding = deciding-true (world_of s) cpu (old.phase cpu) refl deciding; is_new = refl } })
       (AreLocks-cleared s.history.recorded.config.granules old.taken (holder_of s.locks) cpu s.kept.locked)
       (ended-fit old.phase old.program cpu GivenUp refl s.kept.fit))
@@ -204,15 +206,15 @@ module _ (s : own.World) (cpu : ℕ) (within : cpu < s.history.recorded.config.c
       → views_of cpus ≡ record (views_of s.cpus) {
         waits = put (views_of s.cpus).waits cpu None;
         taken = put (views_of s.cpus).taken cpu ((views_of s.cpus).taken cpu ++ granule ∷ []);
-      } → IsTurnTo s cpu turn.Go (Did turn.Take) (with_views s (views_of cpus) s.history.recorded (holder_of locks))
+      } → IsTurnTo s cpu wills.Go (Did turn.Take) (with_views s (views_of cpus) s.history.recorded (holder_of locks))
   unfolding world_of world_from
   took cpus locks granule rising free held is =
       let old = views_of s.cpus in
       let new : Views = record old { waits = put old.waits cpu None; taken = put old.taken cpu (old.taken cpu ++ granule ∷ []) } in
       let is_free : (other : ℕ) → Contains (old.taken other) granule → ⊥ =
       λ other has. both_ways (contains-taken (old.taken other) granule has) (s.kept.locked.held other granule ∙ ap (is_cpu other) free) in
-      made s cpu turn.Go (Did turn.Take) cpus s.history.recorded locks _ _ _ is refl held
-      (move-kept s cpu turn.Go (move.Take cpu granule) (with_views s new s.history.recorded (put (holder_of s.locks) granule (Some cpu))) refl refl refl rising
+      made s cpu wills.Go (Did turn.Take) cpus s.history.recorded locks _ _ _ is refl held
+      (move-kept s cpu wills.Go (move.Take cpu granule) (with_views s new s.history.recorded (put (holder_of s.locks) granule (Some cpu))) refl refl refl rising
       (record {
         is_cpu = within;
         moves = record { deciding = rising.deciding; is_lock = rising.rising.is_lock; is_free = is_free; is_new = refl };
@@ -227,7 +229,7 @@ module _ (s : own.World) (cpu : ℕ) (within : cpu < s.history.recorded.config.c
         waits = put (views_of s.cpus).waits cpu None;
         taken = put (views_of s.cpus).taken cpu (without_granule granule ((views_of s.cpus).taken cpu));
         phase = put (views_of s.cpus).phase cpu (phase_learnt learnt ((views_of s.cpus).phase cpu));
-      } → IsTurnTo s cpu turn.Go (Did turn.Free) (with_views s (views_of cpus) s.history.recorded (holder_of locks))
+      } → IsTurnTo s cpu wills.Go (Did turn.Free) (with_views s (views_of cpus) s.history.recorded (holder_of locks))
   unfolding world_of world_from
   freed cpus locks granule learnt has may free held is =
       let old = views_of s.cpus in
@@ -238,8 +240,8 @@ module _ (s : own.World) (cpu : ℕ) (within : cpu < s.history.recorded.config.c
       } in
       let mine : holder_of s.locks granule ≡ Some cpu =
       held_by cpu (holder_of s.locks granule) (sym (s.kept.locked.held cpu granule) ∙ contains-taken (old.taken cpu) granule has) in
-      made s cpu turn.Go (Did turn.Free) cpus s.history.recorded locks _ _ _ is refl held
-      (move-kept s cpu turn.Go (move.Free cpu granule learnt) (with_views s new s.history.recorded (put (holder_of s.locks) granule None)) refl refl refl free
+      made s cpu wills.Go (Did turn.Free) cpus s.history.recorded locks _ _ _ is refl held
+      (move-kept s cpu wills.Go (move.Free cpu granule learnt) (with_views s new s.history.recorded (put (holder_of s.locks) granule None)) refl refl refl free
       (record { is_cpu = within; moves = record { is_held = has; may_learn = may; is_new = refl } })
       (AreLocks-freed s.history.recorded.config.granules old.taken (holder_of s.locks) cpu granule mine s.kept.locked)
       (AreFit-phase old.phase old.program cpu (phase_learnt learnt (old.phase cpu))
@@ -255,7 +257,7 @@ module _ (s : own.World) (cpu : ℕ) (within : cpu < s.history.recorded.config.c
 
   -- its next command is called
   pub called : (number : ℕ) (command : Command) → (views_of s.cpus).phase cpu ≡ Between number
-      → slice_get ((views_of s.cpus).program cpu) 0 ≡ Some command → IsTurnTo s cpu turn.Go (Did turn.Call) (with_call number command)
+      → slice_get ((views_of s.cpus).program cpu) 0 ≡ Some command → IsTurnTo s cpu wills.Go (Did turn.Call) (with_call number command)
   unfolding world_of world_from
   called number command between first =
       let old = views_of s.cpus in
@@ -263,7 +265,7 @@ module _ (s : own.World) (cpu : ℕ) (within : cpu < s.history.recorded.config.c
       let next : old.program cpu ≡ command ∷ rest = first-and_others (old.program cpu) command first in
       let was : IsFit (Between number) (command ∷ rest) =
       subst (λ p. IsFit p (command ∷ rest)) between (subst (IsFit (old.phase cpu)) next (s.kept.fit.each cpu)) in
-      move-kept s cpu turn.Go (move.Call cpu) (with_call number command) refl refl refl tt
+      move-kept s cpu wills.Go (move.Call cpu) (with_call number command) refl refl refl tt
       (record {
         is_cpu = within;
         moves = record { number = number; command = command; rest = rest; is_between = between; is_next = next; is_new = refl };
@@ -280,12 +282,12 @@ module _ (s : own.World) (cpu : ℕ) (within : cpu < s.history.recorded.config.c
 
   -- its reply is returned
   pub returned : (number : ℕ) (command : Command) (given : Reply) → (views_of s.cpus).phase cpu ≡ Decided number command given
-      → (views_of s.cpus).taken cpu ≡ [] → IsTurnTo s cpu turn.Go (Did turn.Return) (with_return number given)
+      → (views_of s.cpus).taken cpu ≡ [] → IsTurnTo s cpu wills.Go (Did turn.Return) (with_return number given)
   unfolding world_of world_from
   returned number command given decided none =
       let old = views_of s.cpus in
       let was : IsFit (Decided number command given) (old.program cpu) = subst (λ p. IsFit p (old.program cpu)) decided (s.kept.fit.each cpu) in
-      move-kept s cpu turn.Go (move.Return cpu) (with_return number given) refl refl refl none
+      move-kept s cpu wills.Go (move.Return cpu) (with_return number given) refl refl refl none
       (record {
         is_cpu = within;
         moves = record { number = number; command = command; given = given; is_decided = decided; is_new = refl };
@@ -301,7 +303,7 @@ module _ (s : own.World) (cpu : ℕ) (within : cpu < s.history.recorded.config.c
       → views_of cpus ≡ record (views_of mid) { waits = put (views_of mid).waits cpu None; phase = put (views_of mid).phase cpu (Decided number command given) }
       → reserved ≡ s.journal.items → again ≡ command → told ≡ given
       → entries ≡ reserved ++ record { cpu = cpu; number = number; command = again; given = told } ∷ []
-      → IsTurnTo s cpu turn.Go (Did turn.Commit) (record {
+      → IsTurnTo s cpu wills.Go (Did turn.Commit) (record {
         cells = cells_of cells;
         side = side_of side;
         views = views_of cpus;
@@ -331,7 +333,7 @@ module _ (s : own.World) (cpu : ℕ) (within : cpu < s.history.recorded.config.c
       let views = is ∙ ap (λ (v : Views). record v { waits = put v.waits cpu None; phase = put v.phase cpu (Decided number command given) }) step.has_views in
       let was : IsFit (Deciding number command learnt) (old.program cpu) = subst (λ p. IsFit p (old.program cpu)) is_open (s.kept.fit.each cpu) in
       let deciding : IsDeciding (world_of s) cpu = record { number = number; command = command; learnt = learnt; is_deciding = is_open } in
-      subst (IsTurnTo s cpu turn.Go (Did turn.Commit)) (sym (λ i. record {
+      subst (IsTurnTo s cpu wills.Go (Did turn.Commit)) (sym (λ i. record {
         cells = step.has_cells i;
         side = step.has_side i;
         views = views i;
@@ -339,7 +341,7 @@ module _ (s : own.World) (cpu : ℕ) (within : cpu < s.history.recorded.config.c
         history = s.history.recorded;
         holder = holder_of s.locks;
       }))
-      (move-kept s cpu turn.Go (move.Commit cpu given step.held) f refl refl refl tt
+      (move-kept s cpu wills.Go (move.Commit cpu given step.held) f refl refl refl tt
       (record { is_cpu = within; moves = record { deciding = deciding; step = step.step; is_new = refl } })
       s.kept.locked (AreFit-phase old.phase old.program cpu (Decided number command given)
       (record { numbered = was.numbered }) s.kept.fit))

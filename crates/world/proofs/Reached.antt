@@ -5,7 +5,8 @@ use Rattle.rmm_spec.specs.HistoryText.{Config, IsConfig, IsHistory}
 use Rattle.rmm_spec.specs.CertificateText.{IsCertificate}
 use Rattle.rmm_spec.specs.Cell.{put}
 use Rattle.rmm_spec.specs.World.{World, opening_world, history_of, certificate_of}
-use Rattle.rmm_spec.specs.Waits.{Will, Report, Turns, Turn, TurnAll, awaited, waits_after}
+use Rattle.rmm_spec.specs.declared.turn.Will.{Will}
+use Rattle.rmm_spec.specs.Waits.{Report, Turns, Turn, TurnAll, awaited, waits_after}
 use Rattle.world_laws.proofs.Turned.{moves_of_turns}
 use Rattle.certified_laws.proofs.Room.{events-HappenAll}
 use Rattle.certified_laws.proofs.Passed.{texts-run}

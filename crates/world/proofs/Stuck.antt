@@ -6,7 +6,8 @@ use Rattle.rmm_spec.specs.declared.command.Command.{Command}
 use Rattle.rmm_spec.specs.Call.{call_of}
 use Rattle.rmm_spec.specs.Local.{granules_held}
 use Rattle.rmm_spec.specs.World.{World, Phase, Between, Deciding, Decided, GivenUp, Stopped, IsGoing, held_cells}
-use Rattle.rmm_spec.specs.Waits.{Did, Blocked, Idle, Go, IsRising, IsIdle, AreRising, Wants, WaitsBy, IsStuck, awaited}
+use Rattle.rmm_spec.specs.declared.turn.Will.TheVariants.{Go}
+use Rattle.rmm_spec.specs.Waits.{Did, Blocked, Idle, IsRising, IsIdle, AreRising, Wants, WaitsBy, IsStuck, awaited}
 use Rattle.rmm_spec.specs.Waits as turn
 use Rattle.world_laws.proofs.Members.{granules_held-cells_at}
 use Rattle.world_laws.proofs.Placed.{passing_below}

@@ -4,7 +4,9 @@ use Rattle.std.specs.Prelude.{Contains}
 use Rattle.std.proofs.lemmas.Option.{none-some, same_Some}
 use Rattle.rmm_spec.specs.Cell.{put}
 use Rattle.rmm_spec.specs.World.{World, HasOneHolder}
-use Rattle.rmm_spec.specs.Waits.{Will, Report, Turns, awaited}
+use Rattle.rmm_spec.specs.declared.turn.Will.{Will}
+use Rattle.rmm_spec.specs.declared.turn.Will.TheVariants as wills
+use Rattle.rmm_spec.specs.Waits.{Report, Turns, awaited}
 use Rattle.rmm_spec.specs.Waits as turn
 use Rattle.world_laws.proofs.Lists.{put_elim, keys_apart}
 use Rattle.world_laws.proofs.Turned.{LeavesAlone, LeavesAlone-Moves}
@@ -48,8 +50,8 @@ AreNext-turned old cpu will (turn.Did kind) new waits one turned here was =
 AreNext-turned old cpu will turn.Idle new waits one turned here was =
     subst (λ w. AreNext w (put waits cpu None)) (sym turned.1)
     (AreNext-put old waits cpu None (λ granule is. absurd (none-some granule is)) (λ other granule apart is. was.each other granule is))
-AreNext-turned old cpu turn.Go (turn.Blocked wanted) new waits one turned here was =
+AreNext-turned old cpu wills.Go (turn.Blocked wanted) new waits one turned here was =
     subst (λ w. AreNext w (put waits cpu (Some wanted))) (sym turned.1)
     (AreNext-put old waits cpu (Some wanted) here (λ other granule apart is. was.each other granule is))
-AreNext-turned old cpu turn.GiveUp (turn.Blocked wanted) new waits one turned here was = absurd turned
-AreNext-turned old cpu turn.Stop (turn.Blocked wanted) new waits one turned here was = absurd turned
+AreNext-turned old cpu wills.GiveUp (turn.Blocked wanted) new waits one turned here was = absurd turned
+AreNext-turned old cpu wills.Stop (turn.Blocked wanted) new waits one turned here was = absurd turned

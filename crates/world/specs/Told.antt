@@ -1,16 +1,9 @@
--- Wills and reports as the definitions have them.
+-- Reports as the definitions have them.
 use Rattle.rmm_spec.specs.Waits as waits
-use Rattle.world.specs.declared.turned.Will.{Will}
-use Rattle.world.specs.declared.turned.Will.TheVariants as will
 use Rattle.world.specs.declared.turned.Kind.{Kind}
 use Rattle.world.specs.declared.turned.Kind.TheVariants as kind
 use Rattle.world.specs.declared.turned.Turned.{Turned}
 use Rattle.world.specs.declared.turned.Turned.TheVariants as turned
-
-abbrev pub will_of : Will → waits.Will
-will_of will.Go = waits.Go
-will_of will.GiveUp = waits.GiveUp
-will_of will.Stop = waits.Stop
 
 abbrev pub kind_from : Kind → waits.Kind
 kind_from kind.Call = waits.Call

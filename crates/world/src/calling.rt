@@ -14,8 +14,8 @@ impl World {
     ghost use Rattle.std.specs.Prelude.{◌≡◌, ◌<◌, IfOk, OnErr};
     ghost use Rattle.rmm_spec.specs.World.{Between};
     ghost use Rattle.rmm_spec.specs.Cell.{put};
+    ghost use Rattle.rmm_spec.specs.declared.turn.Will.TheVariants as wills;
     ghost use Rattle.rmm_spec.specs.Waits.{Turns, awaited};
-    ghost use Rattle.rmm_spec.specs.Waits as waits;
     ghost use Rattle.world.specs.Next.{go_report};
     ghost use Rattle.world.specs.Recorded.{Records, IsShort, event_room, commit_room};
     ghost use Rattle.world.specs.Told.{report_of};
@@ -25,7 +25,7 @@ impl World {
     pub(crate) fn call(&mut self, cpu: u8, number: u32) -> Result<Turned, AllocError>
         requires cpu { cpu < (world_of self.old).config.cpus }
         requires between { (world_of self.old).phase cpu ≡ Between number }
-        ensures turned { IfOk result (λ turned. Turns (world_of self.old) cpu waits.Go (report_of turned) (world_of self.new)) }
+        ensures turned { IfOk result (λ turned. Turns (world_of self.old) cpu wills.Go (report_of turned) (world_of self.new)) }
         ensures waits { IfOk result (λ turned. waits_of self.new ≡ put (waits_of self.old) cpu (awaited (report_of turned))) }
         ensures exact { IfOk result (λ turned. report_of turned ≡ go_report (world_of self.old) cpu) }
         ensures err { OnErr result (world_of self.new ≡ world_of self.old) }

@@ -14,8 +14,8 @@ use std::alloc::{AllocError, Global};
 impl World {
     ghost use Rattle.std.specs.Prelude.{◌≡◌, ◌<◌, IfOk, OnErr};
     ghost use Rattle.rmm_spec.specs.Cell.{put};
+    ghost use Rattle.rmm_spec.specs.declared.turn.Will.TheVariants as wills;
     ghost use Rattle.rmm_spec.specs.Waits.{Turns, awaited};
-    ghost use Rattle.rmm_spec.specs.Waits as waits;
     ghost use Rattle.command_core.specs.declared.next.Next.TheVariants as next;
     ghost use Rattle.world.specs.Next.{IsNext, DoesNext, go_report};
     ghost use Rattle.world.specs.Recorded.{Records, IsShort, event_room, commit_room};
@@ -26,7 +26,7 @@ impl World {
     pub(crate) fn commit(&mut self, alloc: Global, cpu: u8) -> Result<Turned, AllocError>
         requires cpu { cpu < (world_of self.old).config.cpus }
         requires ready { IsNext (world_of self.old) cpu next.Ready }
-        ensures turned { IfOk result (λ turned. Turns (world_of self.old) cpu waits.Go (report_of turned) (world_of self.new)) }
+        ensures turned { IfOk result (λ turned. Turns (world_of self.old) cpu wills.Go (report_of turned) (world_of self.new)) }
         ensures waits { IfOk result (λ turned. waits_of self.new ≡ put (waits_of self.old) cpu (awaited (report_of turned))) }
         ensures exact { IfOk result (λ turned. report_of turned ≡ go_report (world_of self.old) cpu) }
         ensures does { IfOk result (λ turned. DoesNext (world_of self.old) cpu next.Ready (report_of turned) (world_of self.new)) }

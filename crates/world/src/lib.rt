@@ -2,7 +2,7 @@
 //! It promises that each turn is a step of the definitions, `specs/Waits.antt` of `rmm_spec`, that memory is refused only to
 //! a step that records something, and then changes nothing; so every world is certified, and no CPUs wait in a circle.
 //! Nothing here waits, and a turn's cost grows neither with the run nor with the machine. Addresses are in bytes.
-//! The program's scenarios are to depend on it.
+//! `world_runs` depends on it.
 #![tactic(auto)]
 
 mod calling;
@@ -24,6 +24,7 @@ mod turning;
 mod world;
 
 pub use programs::can_open;
-pub use turned::{Kind, Turned, Will};
+pub use rmm_spec::Will;
+pub use turned::{Kind, Turned};
 pub use world::World;
 pub use world_laws::{every_run_is_certified, no_wait_cycle, stuck_behind_stopped};

@@ -14,8 +14,8 @@ impl World {
     ghost use Rattle.std.specs.Prelude.{◌≡◌, ◌<◌, true, length, Contains};
     ghost use Rattle.rmm_spec.specs.Cell.{put};
     ghost use Rattle.rmm_spec.specs.World.{IsDeciding, MayLearn};
+    ghost use Rattle.rmm_spec.specs.declared.turn.Will.TheVariants as wills;
     ghost use Rattle.rmm_spec.specs.Waits.{Turns, MayFree, awaited};
-    ghost use Rattle.rmm_spec.specs.Waits as waits;
     ghost use Rattle.command_core.specs.declared.next.Next.TheVariants as next;
     ghost use Rattle.world.specs.Cpus.{is_decided};
     ghost use Rattle.world.specs.Next.{IsNext, DoesNext, with_freed, go_report};
@@ -54,7 +54,7 @@ impl World {
     pub(crate) fn take(&mut self, cpu: u8, pa: Pa) -> Turned
         requires cpu { cpu < (world_of self.old).config.cpus }
         requires next { IsNext (world_of self.old) cpu (next.Take pa) }
-        ensures turned { Turns (world_of self.old) cpu waits.Go (report_of result) (world_of self.new) }
+        ensures turned { Turns (world_of self.old) cpu wills.Go (report_of result) (world_of self.new) }
         ensures waits { waits_of self.new ≡ put (waits_of self.old) cpu (awaited (report_of result)) }
         ensures does { DoesNext (world_of self.old) cpu (next.Take pa) (report_of result) (world_of self.new) }
         ensures exact { report_of result ≡ go_report (world_of self.old) cpu }
@@ -72,7 +72,7 @@ impl World {
     pub(crate) fn free(&mut self, cpu: u8, pa: Pa, learnt: Option<Pa>) -> Turned
         requires cpu { cpu < (world_of self.old).config.cpus }
         requires next { IsNext (world_of self.old) cpu (next.Free pa learnt) }
-        ensures turned { Turns (world_of self.old) cpu waits.Go (report_of result) (world_of self.new) }
+        ensures turned { Turns (world_of self.old) cpu wills.Go (report_of result) (world_of self.new) }
         ensures waits { waits_of self.new ≡ put (waits_of self.old) cpu (awaited (report_of result)) }
         ensures does { DoesNext (world_of self.old) cpu (next.Free pa learnt) (report_of result) (world_of self.new) }
         ensures exact { report_of result ≡ go_report (world_of self.old) cpu }
@@ -85,7 +85,7 @@ impl World {
         requires cpu { cpu < (world_of self.old).config.cpus }
         requires decided { is_decided ((world_of self.old).phase cpu) ≡ true }
         requires held { 0 < length ((world_of self.old).taken cpu) }
-        ensures turned { Turns (world_of self.old) cpu waits.Go (report_of result) (world_of self.new) }
+        ensures turned { Turns (world_of self.old) cpu wills.Go (report_of result) (world_of self.new) }
         ensures waits { waits_of self.new ≡ put (waits_of self.old) cpu (awaited (report_of result)) }
         ensures exact { report_of result ≡ go_report (world_of self.old) cpu }
     {
@@ -101,7 +101,7 @@ impl World {
         requires held { Contains ((world_of self.old).taken cpu) pa }
         requires learnt { MayLearn (world_of self.old) ((world_of self.old).phase cpu) pa learnt }
         requires freed { MayFree (world_of self.old) cpu pa ((world_of self.old).phase cpu) }
-        ensures turned { Turns (world_of self.old) cpu waits.Go (report_of result) (world_of self.new) }
+        ensures turned { Turns (world_of self.old) cpu wills.Go (report_of result) (world_of self.new) }
         ensures waits { waits_of self.new ≡ put (waits_of self.old) cpu (awaited (report_of result)) }
         ensures free { result ≡ turned.Did kind.Free }
         ensures freed { world_of self.new ≡ with_freed (world_of self.old) cpu pa learnt }

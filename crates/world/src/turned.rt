@@ -1,17 +1,6 @@
-//! What a CPU is told, and what its turn reports.
+//! What a turn reports.
 
 use granule_state::Pa;
-
-/// What a CPU is told.
-#[derive(Clone, Copy)]
-pub enum Will {
-    /// To do its next step.
-    Go,
-    /// To free its locks and end, where its call is open and not committed.
-    GiveUp,
-    /// To end where it stands. It keeps its locks.
-    Stop,
-}
 
 /// The seven kinds of step.
 #[derive(Clone, Copy)]

@@ -3,10 +3,11 @@
 ghost use Rattle.world.specs.Whole.{world_from};
 
 use crate::phase::Phase;
-use crate::turned::{Turned, Will};
+use crate::turned::Turned;
 use crate::world::World;
 use command_core::Next;
 use rmi_view::copied_reply;
+use rmm_spec::Will;
 use std::alloc::{AllocError, Global};
 
 #[tactic(auto, unfolding(crate::specs::World::world_of, crate::specs::World::waits_of, crate::specs::Whole::world_from))]
@@ -14,19 +15,18 @@ impl World {
     ghost use Rattle.std.specs.Prelude.{◌≡◌, ◌<◌, IfOk, OnErr};
     ghost use Rattle.rmm_spec.specs.Cell.{put};
     ghost use Rattle.rmm_spec.specs.World.{IsDeciding, IsGoing};
+    ghost use Rattle.rmm_spec.specs.declared.turn.Will.TheVariants.{Go};
     ghost use Rattle.rmm_spec.specs.Waits.{Turns, awaited};
-    ghost use Rattle.rmm_spec.specs.Waits as waits;
     ghost use Rattle.world.specs.Next.{DoesPlanned, go_report};
-    ghost use Rattle.world.specs.declared.turned.Will.TheVariants.{Go};
     ghost use Rattle.world.specs.Recorded.{Records, IsShort, event_room, commit_room};
-    ghost use Rattle.world.specs.Told.{will_of, report_of};
+    ghost use Rattle.world.specs.Told.{report_of};
     ghost use Rattle.world.specs.World.{world_of, waits_of};
 
     /// One turn of a CPU, which does as it is told and reports that. Where memory is refused nothing changed, and turns go on.
     /// A commit that makes a table takes memory for it; any other step that records something does only where no room is left.
     pub fn turn(&mut self, alloc: Global, cpu: u8, will: Will) -> Result<Turned, AllocError>
         requires { cpu < (world_of self.old).config.cpus }
-        ensures turned { IfOk result (λ turned. Turns (world_of self.old) cpu (will_of will) (report_of turned) (world_of self.new)) }
+        ensures turned { IfOk result (λ turned. Turns (world_of self.old) cpu will (report_of turned) (world_of self.new)) }
         ensures waits { IfOk result (λ turned. waits_of self.new ≡ put (waits_of self.old) cpu (awaited (report_of turned))) }
         ensures planned { IfOk result (λ turned. will ≡ Go → IsDeciding (world_of self.old) cpu
             → DoesPlanned (world_of self.old) cpu (report_of turned) (world_of self.new)) }
@@ -47,7 +47,7 @@ impl World {
     // Does the next step of a CPU.
     fn go(&mut self, alloc: Global, cpu: u8) -> Result<Turned, AllocError>
         requires { cpu < (world_of self.old).config.cpus }
-        ensures turned { IfOk result (λ turned. Turns (world_of self.old) cpu waits.Go (report_of turned) (world_of self.new)) }
+        ensures turned { IfOk result (λ turned. Turns (world_of self.old) cpu Go (report_of turned) (world_of self.new)) }
         ensures waits { IfOk result (λ turned. waits_of self.new ≡ put (waits_of self.old) cpu (awaited (report_of turned))) }
         ensures planned { IfOk result (λ turned. IsDeciding (world_of self.old) cpu → DoesPlanned (world_of self.old) cpu (report_of turned) (world_of self.new)) }
         ensures exact { IfOk result (λ turned. report_of turned ≡ go_report (world_of self.old) cpu) }
@@ -78,7 +78,7 @@ impl World {
     fn go_on(&mut self, alloc: Global, cpu: u8) -> Result<Turned, AllocError>
         requires cpu { cpu < (world_of self.old).config.cpus }
         requires deciding { IsDeciding (world_of self.old) cpu }
-        ensures turned { IfOk result (λ turned. Turns (world_of self.old) cpu waits.Go (report_of turned) (world_of self.new)) }
+        ensures turned { IfOk result (λ turned. Turns (world_of self.old) cpu Go (report_of turned) (world_of self.new)) }
         ensures waits { IfOk result (λ turned. waits_of self.new ≡ put (waits_of self.old) cpu (awaited (report_of turned))) }
         ensures planned { IfOk result (λ turned. DoesPlanned (world_of self.old) cpu (report_of turned) (world_of self.new)) }
         ensures exact { IfOk result (λ turned. report_of turned ≡ go_report (world_of self.old) cpu) }
@@ -98,7 +98,7 @@ impl World {
     fn rest(&mut self, cpu: u8) -> Turned
         requires cpu { cpu < (world_of self.old).config.cpus }
         requires ended { IsGoing ((world_of self.old).phase cpu) → ⊥ }
-        ensures turned { Turns (world_of self.old) cpu waits.Go (report_of result) (world_of self.new) }
+        ensures turned { Turns (world_of self.old) cpu Go (report_of result) (world_of self.new) }
         ensures waits { waits_of self.new ≡ put (waits_of self.old) cpu (awaited (report_of result)) }
         ensures exact { report_of result ≡ go_report (world_of self.old) cpu }
     {

@@ -2,8 +2,8 @@
 
 ghost use Rattle.std.specs.Prelude.{◌≡◌, ◌<◌, vec_len};
 ghost use Rattle.rmm_spec.specs.Cell.{put};
+ghost use Rattle.rmm_spec.specs.declared.turn.Will.TheVariants as wills;
 ghost use Rattle.rmm_spec.specs.Waits.{Turns, awaited};
-ghost use Rattle.rmm_spec.specs.Waits as waits;
 ghost use Rattle.world.specs.Granules.{holder_of};
 ghost use Rattle.world.specs.Cpus.{views_of};
 ghost use Rattle.world.specs.Kept.{IsKept};
@@ -39,7 +39,6 @@ impl World {
     ghost use Rattle.std.specs.Prelude.{◌≡◌, ◌<◌};
     ghost use Rattle.rmm_spec.specs.Cell.{put};
     ghost use Rattle.rmm_spec.specs.Waits.{Turns, awaited};
-    ghost use Rattle.rmm_spec.specs.Waits as waits;
     ghost use Rattle.world.specs.Told.{report_of};
     ghost use Rattle.world.specs.World.{world_of, waits_of};
 
@@ -61,7 +60,7 @@ impl World {
     // Ends a CPU where it stands, with its locks.
     pub(crate) fn stop(&mut self, cpu: u8) -> Turned
         requires { cpu < (world_of self.old).config.cpus }
-        ensures turned { Turns (world_of self.old) cpu waits.Stop (report_of result) (world_of self.new) }
+        ensures turned { Turns (world_of self.old) cpu wills.Stop (report_of result) (world_of self.new) }
         ensures waits { waits_of self.new ≡ put (waits_of self.old) cpu (awaited (report_of result)) }
     {
         if !self.cpus.is_going(cpu) {
@@ -75,7 +74,7 @@ impl World {
     // Gives up an open call that isn't committed, and frees what the CPU holds.
     pub(crate) fn give_up(&mut self, cpu: u8) -> Turned
         requires { cpu < (world_of self.old).config.cpus }
-        ensures turned { Turns (world_of self.old) cpu waits.GiveUp (report_of result) (world_of self.new) }
+        ensures turned { Turns (world_of self.old) cpu wills.GiveUp (report_of result) (world_of self.new) }
         ensures waits { waits_of self.new ≡ put (waits_of self.old) cpu (awaited (report_of result)) }
     {
         if !self.cpus.is_deciding(cpu) {

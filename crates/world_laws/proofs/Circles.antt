@@ -2,7 +2,8 @@
 use Rattle.std.proofs.Common.{◌≡◌, ℕ, zero, suc, ◌+◌, ◌*◌, ◌<◌, ◌≤◌, List, [], ◌∷◌, ◌⊎◌, inl, inr, refl, sym, subst, arith, lt_irrefl}
 use Rattle.std.specs.Prelude.{Contains}
 use Rattle.rmm_spec.specs.World.{World, Phase, Between, Deciding, Decided, GivenUp, Stopped, IsGoing, IsShapedWorld}
-use Rattle.rmm_spec.specs.Waits.{IsRising, WaitsFor, IsChain, HasNoCircle, Go, IsIdle, HasReturnedAll, AreRising, WaitsBy, IsStuck, LeadsToStopped, WaitsBehindStopped}
+use Rattle.rmm_spec.specs.declared.turn.Will.TheVariants.{Go}
+use Rattle.rmm_spec.specs.Waits.{IsRising, WaitsFor, IsChain, HasNoCircle, IsIdle, HasReturnedAll, AreRising, WaitsBy, IsStuck, LeadsToStopped, WaitsBehindStopped}
 use Rattle.world_laws.proofs.Members.{Contains-nil}
 use Rattle.world_laws.proofs.Locked.{IsLocked}
 use Rattle.world_laws.proofs.Holding.{HoldsIn, HoldByPhase}

@@ -5,7 +5,9 @@ use Rattle.rmm_spec.specs.HistoryText.{Config}
 use Rattle.rmm_spec.specs.Cell.{put}
 use Rattle.rmm_spec.specs.World.{World, Phase, Between, Deciding, Decided, GivenUp, Stopped, Move, Moves, phase_learnt, without_granule, opening_world}
 use Rattle.rmm_spec.specs.World as move
-use Rattle.rmm_spec.specs.Waits.{Will, Report, IsWilled, MayFree, Turns, Turn, TurnAll}
+use Rattle.rmm_spec.specs.declared.turn.Will.{Will}
+use Rattle.rmm_spec.specs.declared.turn.Will.TheVariants as told
+use Rattle.rmm_spec.specs.Waits.{Report, IsWilled, MayFree, Turns, Turn, TurnAll}
 use Rattle.rmm_spec.specs.Waits as turn
 use Rattle.world_laws.proofs.Lists.{put_elim}
 
@@ -52,15 +54,15 @@ freed-in w cpu granule learnt taken GivenUp may = absurd may
 freed-in w cpu granule learnt taken Stopped may = absurd may
 
 willed-freed : (w : World) (will : Will) (cpu granule : ℕ) (learnt : Option ℕ) → IsWilled w will (move.Free cpu granule learnt) → MayFree w cpu granule (w.phase cpu)
-willed-freed w turn.Go cpu granule learnt willed = willed
-willed-freed w turn.GiveUp cpu granule learnt willed = absurd willed
-willed-freed w turn.Stop cpu granule learnt willed = absurd willed
+willed-freed w told.Go cpu granule learnt willed = willed
+willed-freed w told.GiveUp cpu granule learnt willed = absurd willed
+willed-freed w told.Stop cpu granule learnt willed = absurd willed
 
 -- and returns once nothing is held
 willed-returned : (w : World) (will : Will) (cpu : ℕ) → IsWilled w will (move.Return cpu) → w.taken cpu ≡ []
-willed-returned w turn.Go cpu willed = willed
-willed-returned w turn.GiveUp cpu willed = absurd willed
-willed-returned w turn.Stop cpu willed = absurd willed
+willed-returned w told.Go cpu willed = willed
+willed-returned w told.GiveUp cpu willed = absurd willed
+willed-returned w told.Stop cpu willed = absurd willed
 
 HoldByPhase-Moves : (old : World) (will : Will) (m : Move) (new : World) → IsWilled old will m → Moves old m new → HoldByPhase old → HoldByPhase new
 HoldByPhase-Moves old will (move.Call cpu) new willed moves was = subst HoldByPhase (sym moves.is_new) (record {
@@ -90,9 +92,9 @@ HoldByPhase-Moves old will (move.Stop cpu) new willed moves was = subst HoldByPh
 HoldByPhase-Turns : (old : World) (cpu : ℕ) (will : Will) (report : Report) (new : World) → Turns old cpu will report new → HoldByPhase old → HoldByPhase new
 HoldByPhase-Turns old cpu will (turn.Did kind) new turned was = HoldByPhase-Moves old will turned.move new turned.is_willed turned.happens.moves was
 HoldByPhase-Turns old cpu will turn.Idle new turned was = subst HoldByPhase (sym turned.1) was
-HoldByPhase-Turns old cpu turn.Go (turn.Blocked wanted) new turned was = subst HoldByPhase (sym turned.1) was
-HoldByPhase-Turns old cpu turn.GiveUp (turn.Blocked wanted) new turned was = absurd turned
-HoldByPhase-Turns old cpu turn.Stop (turn.Blocked wanted) new turned was = absurd turned
+HoldByPhase-Turns old cpu told.Go (turn.Blocked wanted) new turned was = subst HoldByPhase (sym turned.1) was
+HoldByPhase-Turns old cpu told.GiveUp (turn.Blocked wanted) new turned was = absurd turned
+HoldByPhase-Turns old cpu told.Stop (turn.Blocked wanted) new turned was = absurd turned
 
 pub HoldByPhase-TurnAll : (old : World) (turns : List Turn) (last : World) → HoldByPhase old → TurnAll old turns last → HoldByPhase last
 HoldByPhase-TurnAll old [] last was turned = subst HoldByPhase (sym turned) was

@@ -9,7 +9,9 @@ use Rattle.rmm_spec.specs.Local.{put_all}
 use Rattle.rmm_spec.specs.World.{World, Move, mover, Moves, HappenAll, HasOneHolder, held_cells, phase_learnt, without_granule, Between, Deciding, Decided, GivenUp, Stopped}
 use Rattle.rmm_spec.specs.World as move
 use Rattle.rmm_spec.specs.Locks.{needs, IsRisingTake}
-use Rattle.rmm_spec.specs.Waits.{IsRising, Will, Report, Turns, Turn, TurnAll, awaited, waits_after, KeepsWaiting}
+use Rattle.rmm_spec.specs.declared.turn.Will.{Will}
+use Rattle.rmm_spec.specs.declared.turn.Will.TheVariants as told
+use Rattle.rmm_spec.specs.Waits.{IsRising, Report, Turns, Turn, TurnAll, awaited, waits_after, KeepsWaiting}
 use Rattle.rmm_spec.specs.Waits as turn
 use Rattle.world_laws.proofs.Lists.{put_elim, put-other, keys_apart}
 use Rattle.world_laws.proofs.Members.{cells_at, put_all-other, granules_held-cells_at, cells_at-same}
@@ -104,21 +106,21 @@ AreAtRisingTakes-Turns old cpu will (turn.Did kind) new waits locked turned was 
 }
 AreAtRisingTakes-Turns old cpu will turn.Idle new waits locked turned was =
     subst (λ w. AreAtRisingTakes w (put waits cpu None)) (sym turned.1) (AreAtRisingTakes-none old waits cpu was)
-AreAtRisingTakes-Turns old cpu turn.Go (turn.Blocked wanted) new waits locked turned was =
+AreAtRisingTakes-Turns old cpu told.Go (turn.Blocked wanted) new waits locked turned was =
     subst (λ w. AreAtRisingTakes w (put waits cpu (Some wanted))) (sym turned.1) (record {
       each = λ other granule. put_elim (λ a. a ≡ Some granule → IsRising old other granule) waits cpu (Some wanted) other
           (λ same is. subst (λ c. IsRising old c granule) (sym same) (subst (IsRising old cpu) (same_Some wanted granule is) turned.0.waits.rising))
           (λ apart is. was.each other granule is);
     })
-AreAtRisingTakes-Turns old cpu turn.GiveUp (turn.Blocked wanted) new waits locked turned was = absurd turned
-AreAtRisingTakes-Turns old cpu turn.Stop (turn.Blocked wanted) new waits locked turned was = absurd turned
+AreAtRisingTakes-Turns old cpu told.GiveUp (turn.Blocked wanted) new waits locked turned was = absurd turned
+AreAtRisingTakes-Turns old cpu told.Stop (turn.Blocked wanted) new waits locked turned was = absurd turned
 
 IsLocked-Turns : (old : World) (cpu : ℕ) (will : Will) (report : Report) (new : World) → IsLocked old → Turns old cpu will report new → IsLocked new
 IsLocked-Turns old cpu will (turn.Did kind) new locked turned = IsLocked-Happens old turned.move new locked turned.happens
 IsLocked-Turns old cpu will turn.Idle new locked turned = subst IsLocked (sym turned.1) locked
-IsLocked-Turns old cpu turn.Go (turn.Blocked wanted) new locked turned = subst IsLocked (sym turned.1) locked
-IsLocked-Turns old cpu turn.GiveUp (turn.Blocked wanted) new locked turned = absurd turned
-IsLocked-Turns old cpu turn.Stop (turn.Blocked wanted) new locked turned = absurd turned
+IsLocked-Turns old cpu told.Go (turn.Blocked wanted) new locked turned = subst IsLocked (sym turned.1) locked
+IsLocked-Turns old cpu told.GiveUp (turn.Blocked wanted) new locked turned = absurd turned
+IsLocked-Turns old cpu told.Stop (turn.Blocked wanted) new locked turned = absurd turned
 
 AreAtRisingTakes-TurnAll : (old : World) (turns : List Turn) (last : World) (waits : ℕ → Option ℕ) → IsLocked old → TurnAll old turns last
     → AreAtRisingTakes old waits → AreAtRisingTakes last (waits_after waits turns)
@@ -140,9 +142,9 @@ moves_of_turn : (old : World) (cpu : ℕ) (will : Will) (report : Report) (new l
     → (moves : List Move) × HappenAll new moves last → (moves : List Move) × HappenAll old moves last
 moves_of_turn old cpu will (turn.Did kind) new last turned rest = (turned.move ∷ rest.0, (new, turned.happens, rest.1))
 moves_of_turn old cpu will turn.Idle new last turned rest = subst (λ w. (moves : List Move) × HappenAll w moves last) turned.1 rest
-moves_of_turn old cpu turn.Go (turn.Blocked wanted) new last turned rest = subst (λ w. (moves : List Move) × HappenAll w moves last) turned.1 rest
-moves_of_turn old cpu turn.GiveUp (turn.Blocked wanted) new last turned rest = absurd turned
-moves_of_turn old cpu turn.Stop (turn.Blocked wanted) new last turned rest = absurd turned
+moves_of_turn old cpu told.Go (turn.Blocked wanted) new last turned rest = subst (λ w. (moves : List Move) × HappenAll w moves last) turned.1 rest
+moves_of_turn old cpu told.GiveUp (turn.Blocked wanted) new last turned rest = absurd turned
+moves_of_turn old cpu told.Stop (turn.Blocked wanted) new last turned rest = absurd turned
 
 -- turns are moves
 pub moves_of_turns : (old : World) (turns : List Turn) (last : World) → TurnAll old turns last → (moves : List Move) × HappenAll old moves last

@@ -1,20 +1,21 @@
 -- What is played from the opening, and what is printed of it.
-use Rattle.std.proofs.Common.{◌≡◌, ℕ, ◌+◌, ◌-◌, ◌≤◌, ◌⊎◌, inl, inr, List, ◌++◌, map, length, take, refl, sym, ap, ◌∙◌, subst, arith}
+use Rattle.std.proofs.Common.{◌≡◌, ℕ, ◌+◌, ◌-◌, ◌≤◌, ◌⊎◌, inl, inr, List, ◌++◌, length, take, refl, sym, ap, ◌∙◌, subst, arith}
 use Rattle.std.specs.Prelude.{Result, Ok, Err, IfOk, ◌↔◌}
 use Rattle.std.specs.declared.alloc.AllocError.{AllocError}
 use Rattle.std.proofs.lemmas.List.{length-map}
 use Rattle.rmm_spec.specs.declared.command.Command.{Command}
 use Rattle.rmm_spec.specs.declared.line.Line.{Line}
+use Rattle.rmm_spec.specs.declared.turn.Due.{Due}
 use Rattle.rmm_spec.specs.declared.verdict.Verdict.{Verdict}
 use Rattle.rmm_spec.specs.declared.verdict.Verdict.TheVariants.{Yes}
 use Rattle.rmm_spec.specs.HistoryText.{Config, History}
 use Rattle.rmm_spec.specs.Linearization.{IsLinearization}
+use Rattle.rmm_spec.specs.Scenario.{Scenario}
 use Rattle.rmm_spec.specs.World.{World, opening_world, history_of, certificate_of, line_for}
 use Rattle.run_texts.specs.RunText.{run_text}
 use Rattle.world.specs.Next.{StandsStill}
-use Rattle.world_runs.specs.declared.order.Order.{Order}
-use Rattle.world_runs.specs.Played.{Plays, GoesRound, IsPlayed, IsPrinted}
-use Rattle.world_runs.specs.Schedule.{due_by, ring}
+use Rattle.world_runs.specs.Played.{program_of, Plays, GoesRound, IsPlayed, IsPrinted}
+use Rattle.world_runs.specs.Schedule.{ring}
 use Rattle.world_runs.proofs.Turning.{Plays-append}
 
 pub config-opening : (config : Config) (programs : ℕ → List Command) → (opening_world config programs).config ≡ config
@@ -22,34 +23,35 @@ unfolding opening_world
 config-opening config programs = refl
 
 -- the listed turns and then the ring
-pub IsPlayed-from : (config : Config) (programs : ℕ → List Command) (orders listed : List Order) (limit : ℕ) (opened first w : World)
-    → opened ≡ opening_world config programs → listed ≡ take limit orders → length listed ≤ limit → Plays opened (map due_by listed) first
-    → first.config ≡ opened.config → GoesRound first (limit - length listed) w → IsPlayed config programs orders limit w
-IsPlayed-from config programs orders listed limit opened first w is_opened is_listed few plays same round =
-    let size : first.config ≡ config = same ∙ ap (λ (v : World). v.config) is_opened ∙ config-opening config programs in
-    let count : length listed ≡ length (take limit orders) = ap length is_listed in
-    let then : Plays first (ring config.cpus round.gone) w = subst (λ (c : Config). Plays first (ring c.cpus round.gone) w) size round.plays in
-    let start : Plays (opening_world config programs) (map due_by (take limit orders)) first =
-    subst (λ (v : World). Plays v (map due_by (take limit orders)) first) is_opened (subst (λ os. Plays opened (map due_by os) first) is_listed plays) in
+pub IsPlayed-from : (scenario : Scenario) (listed : List Due) (opened first w : World) → opened ≡ opening_world scenario.config (program_of scenario)
+    → listed ≡ take scenario.limit scenario.turns → length listed ≤ scenario.limit → Plays opened listed first
+    → first.config ≡ opened.config → GoesRound first (scenario.limit - length listed) w → IsPlayed scenario w
+IsPlayed-from scenario listed opened first w is_opened is_listed few plays same round =
+    let opening = opening_world scenario.config (program_of scenario) in
+    let turns = take scenario.limit scenario.turns in
+    let size : first.config ≡ scenario.config = same ∙ ap (λ (v : World). v.config) is_opened ∙ config-opening scenario.config (program_of scenario) in
+    let count : length listed ≡ length turns = ap length is_listed in
+    let then : Plays first (ring scenario.config.cpus round.gone) w = subst (λ (c : Config). Plays first (ring c.cpus round.gone) w) size round.plays in
+    let start : Plays opening turns first = subst (λ (v : World). Plays v turns first) is_opened (subst (λ ts. Plays opened ts first) is_listed plays) in
     record {
       gone = round.gone;
-      plays = Plays-append (opening_world config programs) (map due_by (take limit orders)) first (ring config.cpus round.gone) w start then;
+      plays = Plays-append opening turns first (ring scenario.config.cpus round.gone) w start then;
       within = omega (arith, few, count, round.within);
       ends = ends count round.ends;
     }
   where
-    ends : length listed ≡ length (take limit orders) → (round.gone ≡ limit - length listed) ⊎ StandsStill w
-        → (length (take limit orders) + round.gone ≡ limit) ⊎ StandsStill w
+    ends : length listed ≡ length (take scenario.limit scenario.turns) → (round.gone ≡ scenario.limit - length listed) ⊎ StandsStill w
+        → (length (take scenario.limit scenario.turns) + round.gone ≡ scenario.limit) ⊎ StandsStill w
     ends count (inl all) = inl (omega (arith, few, count, all))
     ends count (inr still) = inr still
 
 -- the texts of what is played, and their verdict
-pub IsPrinted-from : (config : Config) (programs : ℕ → List Command) (orders : List Order) (limit : ℕ) (w : World) (history : History) (lines : List Line)
-    (old new : List ℕ) (answer : Result Verdict AllocError) → IsPlayed config programs orders limit w → IsLinearization (history_of w) (certificate_of w)
-    → history ≡ history_of w → lines ≡ certificate_of w → IfOk answer (λ judged. new ≡ old ++ run_text history lines judged)
+pub IsPrinted-from : (scenario : Scenario) (w : World) (history : History) (lines : List Line) (old new : List ℕ) (answer : Result Verdict AllocError)
+    → IsPlayed scenario w → IsLinearization (history_of w) (certificate_of w) → history ≡ history_of w → lines ≡ certificate_of w
+    → IfOk answer (λ judged. new ≡ old ++ run_text history lines judged)
     → IfOk answer (λ judged. (judged ≡ Yes (length lines)) ↔ IsLinearization history lines)
-    → IfOk answer (λ judged. (text : List ℕ) × (new ≡ old ++ text) × IsPrinted config programs orders limit judged text)
-IsPrinted-from config programs orders limit w history lines old new (Ok judged) played order is_history is_lines text valid =
+    → IfOk answer (λ judged. (text : List ℕ) × (new ≡ old ++ text) × IsPrinted scenario judged text)
+IsPrinted-from scenario w history lines old new (Ok judged) played order is_history is_lines text valid =
     let same : IsLinearization history lines =
     subst (λ h. IsLinearization h lines) (sym is_history) (subst (λ ls. IsLinearization (history_of w) ls) (sym is_lines) order) in (
       run_text history lines judged,
@@ -61,4 +63,4 @@ IsPrinted-from config programs orders limit w history lines old new (Ok judged) 
         is_text = λ i. run_text (is_history i) (is_lines i) judged;
       },
     )
-IsPrinted-from config programs orders limit w history lines old new (Err refused) played order is_history is_lines text valid = tt
+IsPrinted-from scenario w history lines old new (Err refused) played order is_history is_lines text valid = tt

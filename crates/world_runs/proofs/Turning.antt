@@ -1,5 +1,5 @@
 -- Turns one after another: one more, and where no CPU of a whole ring moved.
-use Rattle.std.proofs.Common.{◌≡◌, ℕ, zero, suc, ◌+◌, ◌<◌, ◌%◌, ◌⊎◌, inr, List, [], ◌∷◌, ◌++◌, map, Bool, true, false, ◌==◌, refl, sym, ap, ◌∙◌, subst, arith}
+use Rattle.std.proofs.Common.{◌≡◌, ℕ, ◌+◌, ◌<◌, ◌%◌, inr, List, [], ◌∷◌, ◌++◌, Bool, true, false, ◌==◌, refl, sym, ap, ◌∙◌, subst, arith}
 use Rattle.std.proofs.Math.Nat.{suc-mod, mod_self, mod-eq_of_lt}
 use Rattle.std.proofs.Math.Numerals.{suc-eq-add-one}
 use Rattle.std.proofs.lemmas.Bool.{eqb-true, eqb-false}
@@ -7,11 +7,14 @@ use Rattle.std.proofs.lemmas.List.{map-append}
 use Rattle.rmm_spec.specs.HistoryText.{Config}
 use Rattle.rmm_spec.specs.World.{World, Move, Moves}
 use Rattle.rmm_spec.specs.World as move
-use Rattle.rmm_spec.specs.Waits.{Will, Report, Turns, Turn, TurnAll}
+use Rattle.rmm_spec.specs.declared.turn.Due.{Due}
+use Rattle.rmm_spec.specs.declared.turn.Will.{Will}
+use Rattle.rmm_spec.specs.declared.turn.Will.TheVariants as told
+use Rattle.rmm_spec.specs.Waits.{Report, Turns, Turn, TurnAll}
 use Rattle.rmm_spec.specs.Waits as turn
-use Rattle.world.specs.Next.{go_report, IsNoMove, StandsStill}
+use Rattle.world.specs.Next.{go_report, IsNoMove}
 use Rattle.world_runs.specs.Played.{Plays, Goes, GoesRound, due_of}
-use Rattle.world_runs.specs.Schedule.{Due, ring}
+use Rattle.world_runs.specs.Schedule.{ring}
 
 -- ---- what is played
 
@@ -53,17 +56,17 @@ config-Moves old _ new moves = ap (λ (w : World). w.config) moves.is_new
 pub config-Turns : (old : World) (cpu : ℕ) (will : Will) (report : Report) (new : World) → Turns old cpu will report new → new.config ≡ old.config
 config-Turns old cpu will (turn.Did kind) new turned = config-Moves old turned.move new turned.happens.moves
 config-Turns old cpu will turn.Idle new turned = ap (λ (w : World). w.config) turned.1
-config-Turns old cpu turn.Go (turn.Blocked granule) new turned = ap (λ (w : World). w.config) turned.1
-config-Turns old cpu turn.GiveUp (turn.Blocked granule) new turned = absurd turned
-config-Turns old cpu turn.Stop (turn.Blocked granule) new turned = absurd turned
+config-Turns old cpu told.Go (turn.Blocked granule) new turned = ap (λ (w : World). w.config) turned.1
+config-Turns old cpu told.GiveUp (turn.Blocked granule) new turned = absurd turned
+config-Turns old cpu told.Stop (turn.Blocked granule) new turned = absurd turned
 
 -- a turn that made no move left the world as it was
 pub same-Turns : (old : World) (cpu : ℕ) (will : Will) (report : Report) (new : World) → IsNoMove report → Turns old cpu will report new → new ≡ old
 same-Turns old cpu will (turn.Did kind) new none turned = absurd none
 same-Turns old cpu will turn.Idle new none turned = turned.1
-same-Turns old cpu turn.Go (turn.Blocked granule) new none turned = turned.1
-same-Turns old cpu turn.GiveUp (turn.Blocked granule) new none turned = absurd turned
-same-Turns old cpu turn.Stop (turn.Blocked granule) new none turned = absurd turned
+same-Turns old cpu told.Go (turn.Blocked granule) new none turned = turned.1
+same-Turns old cpu told.GiveUp (turn.Blocked granule) new none turned = absurd turned
+same-Turns old cpu told.Stop (turn.Blocked granule) new none turned = absurd turned
 
 -- ---- the ring
 
@@ -73,16 +76,16 @@ AreStill w count = (cpu : ℕ) → cpu < count → IsNoMove (go_report w cpu)
 
 -- one CPU more that made no move
 pub AreStill-turned : (old : World) (cpu : ℕ) (report : Report) (new : World) → AreStill old cpu → IsNoMove report → report ≡ go_report old cpu
-    → Turns old cpu turn.Go report new → AreStill new (cpu + 1)
+    → Turns old cpu told.Go report new → AreStill new (cpu + 1)
 AreStill-turned old cpu report new still none exact turned =
-    subst (λ w. AreStill w (cpu + 1)) (sym (same-Turns old cpu turn.Go report new none turned)) (λ other below. by other below (other == cpu) refl)
+    subst (λ w. AreStill w (cpu + 1)) (sym (same-Turns old cpu told.Go report new none turned)) (λ other below. by other below (other == cpu) refl)
   where
     by : (other : ℕ) → other < cpu + 1 → (b : Bool) → (other == cpu) ≡ b → IsNoMove (go_report old other)
     by other below true same = subst (λ x. IsNoMove (go_report old x)) (sym (eqb-true other cpu same)) (subst IsNoMove exact none)
     by other below false apart = still other (omega (arith, below, eqb-false other cpu apart))
 
 -- so many turns of the ring and one more
-ring-more : (cpus count : ℕ) → ring cpus (count + 1) ≡ ring cpus count ++ record { cpu = count % cpus; will = turn.Go } ∷ []
+ring-more : (cpus count : ℕ) → ring cpus (count + 1) ≡ ring cpus count ++ record { cpu = count % cpus; will = told.Go } ∷ []
 unfolding ring
 ring-more cpus count = ap (ring cpus) (sym (suc-eq-add-one count))
 
@@ -113,13 +116,13 @@ module _ (old mid new : World) (count cpu : ℕ) (had_moved has_moved : Bool) (r
     (goes : Goes mid cpu had_moved has_moved new) where
   plays-more : Plays old (ring old.config.cpus (count + 1)) new
   plays-more =
-      let next : Plays old (ring old.config.cpus count ++ record { cpu = count % old.config.cpus; will = turn.Go } ∷ []) new =
-      subst (λ c. Plays old (ring old.config.cpus count ++ record { cpu = c; will = turn.Go } ∷ []) new) round.is_next
-      (Plays-push old (ring old.config.cpus count) mid cpu turn.Go goes.report new round.plays goes.turned) in
+      let next : Plays old (ring old.config.cpus count ++ record { cpu = count % old.config.cpus; will = told.Go } ∷ []) new =
+      subst (λ c. Plays old (ring old.config.cpus count ++ record { cpu = c; will = told.Go } ∷ []) new) round.is_next
+      (Plays-push old (ring old.config.cpus count) mid cpu told.Go goes.report new round.plays goes.turned) in
       subst (λ dues. Plays old dues new) (sym (ring-more old.config.cpus count)) next
 
   same-more : new.config ≡ old.config
-  same-more = config-Turns mid cpu turn.Go goes.report new goes.turned ∙ round.same_config
+  same-more = config-Turns mid cpu told.Go goes.report new goes.turned ∙ round.same_config
 
   still-more : has_moved ≡ false → AreStill new (cpu + 1)
   still-more none =

@@ -1,15 +1,16 @@
 -- Where turns that are due lead, and what a run of them prints.
-use Rattle.std.specs.Prelude.{◌≡◌, ℕ, ◌+◌, ◌≤◌, ◌⊎◌, Bool, false, List, ◌++◌, map, length, take}
+use Rattle.std.specs.Prelude.{◌≡◌, ℕ, ◌+◌, ◌≤◌, ◌⊎◌, Bool, false, List, [], ◌++◌, map, length, get_or, take}
 use Rattle.rmm_spec.specs.declared.command.Command.{Command}
+use Rattle.rmm_spec.specs.declared.turn.Due.{Due}
+use Rattle.rmm_spec.specs.declared.turn.Will.TheVariants.{Go}
 use Rattle.rmm_spec.specs.declared.verdict.Verdict.{Verdict}
 use Rattle.rmm_spec.specs.declared.verdict.Verdict.TheVariants.{Yes}
-use Rattle.rmm_spec.specs.HistoryText.{Config}
-use Rattle.rmm_spec.specs.Waits.{Go, Report, Turns, Turn, TurnAll}
+use Rattle.rmm_spec.specs.Scenario.{Scenario}
+use Rattle.rmm_spec.specs.Waits.{Report, Turns, Turn, TurnAll}
 use Rattle.rmm_spec.specs.World.{World, opening_world, history_of, certificate_of}
 use Rattle.run_texts.specs.RunText.{run_text}
 use Rattle.world.specs.Next.{IsNoMove, StandsStill, go_report}
-use Rattle.world_runs.specs.declared.order.Order.{Order}
-use Rattle.world_runs.specs.Schedule.{Due, due_by, ring}
+use Rattle.world_runs.specs.Schedule.{ring}
 
 abbrev pub due_of : Turn → Due
 due_of turn = record { cpu = turn.cpu; will = turn.will }
@@ -20,18 +21,22 @@ pub record Plays (old : World) (dues : List Due) (new : World) : Type 0 where
   pub run : TurnAll old turns new
   pub in_order : map due_of turns ≡ dues
 
--- From the opening of these programs the listed turns lead there, and after them turns of all CPUs in a ring. They are no more
--- than the limit, and end there or where no CPU's go would make a move.
-pub record IsPlayed (config : Config) (programs : ℕ → List Command) (orders : List Order) (limit : ℕ) (w : World) : Type 0 where
+-- the program of each CPU, and no command of one that isn't there
+abbrev pub program_of : Scenario → ℕ → List Command
+program_of scenario = λ cpu. get_or scenario.programs cpu []
+
+-- From the opening of the scenario's programs its listed turns lead there, and after them turns of all CPUs in a ring. They are
+-- no more than its limit, and end there or where no CPU's go would make a move.
+pub record IsPlayed (scenario : Scenario) (w : World) : Type 0 where
   pub gone : ℕ
-  pub plays : Plays (opening_world config programs) (map due_by (take limit orders) ++ ring config.cpus gone) w
-  pub within : length (take limit orders) + gone ≤ limit
-  pub ends : (length (take limit orders) + gone ≡ limit) ⊎ StandsStill w
+  pub plays : Plays (opening_world scenario.config (program_of scenario)) (take scenario.limit scenario.turns ++ ring scenario.config.cpus gone) w
+  pub within : length (take scenario.limit scenario.turns) + gone ≤ scenario.limit
+  pub ends : (length (take scenario.limit scenario.turns) + gone ≡ scenario.limit) ⊎ StandsStill w
 
 -- What is printed of such a run: its texts, and the verdict that says yes to all its commits.
-pub record IsPrinted (config : Config) (programs : ℕ → List Command) (orders : List Order) (limit : ℕ) (judged : Verdict) (text : List ℕ) : Type 0 where
+pub record IsPrinted (scenario : Scenario) (judged : Verdict) (text : List ℕ) : Type 0 where
   pub world : World
-  pub is_played : IsPlayed config programs orders limit world
+  pub is_played : IsPlayed scenario world
   pub is_yes : judged ≡ Yes (length world.journal)
   pub is_text : text ≡ run_text (history_of world) (certificate_of world) judged
 

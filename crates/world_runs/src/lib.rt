@@ -1,15 +1,12 @@
-//! Runs of the world of turns, as a list of turns and a limit have them, and what they print.
+//! Runs of the world of turns, as a scenario has them, and what they print.
 //! It promises that the texts are those of a world to which the listed turns lead, and after them turns of all CPUs in a ring,
 //! up to the limit or until all stand still; and that the verdict on them is yes.
 //! A run that is refused memory appends nothing. Nothing here waits.
 //! The program is to depend on it.
 #![tactic(auto)]
 
-mod order;
 mod playing;
 mod run;
 
-pub use order::{Order, orders_fit};
 pub use run::run_text;
 pub use run_texts::{RunFault, Verdict};
-pub use world::{Will, can_open};

@@ -1,39 +1,36 @@
 //! A world is played: listed turns, and turns of all CPUs in a ring.
 
-ghost use Rattle.std.specs.Prelude.{◌≡◌, ◌<◌, ◌≤◌, length, map, take, OnOk, IfOk};
+ghost use Rattle.std.specs.Prelude.{◌≡◌, ◌<◌, ◌≤◌, length, take, OnOk, IfOk};
+ghost use Rattle.std.specs.List.{All};
+ghost use Rattle.rmm_spec.specs.declared.turn.Due.{Due};
 ghost use Rattle.world.specs.World.{world_of};
 ghost use Rattle.world_runs.specs.Played.{Plays, Goes, GoesRound};
-ghost use Rattle.world_runs.specs.Schedule.{FitOrders, due_by};
 
-use crate::order::Order;
+use rmm_spec::{Due, Will};
 use std::alloc::{AllocError, Global};
-use world::{Turned, Will, World};
+use world::{Turned, World};
 
 /// The first of these turns, as many as the limit lets.
-pub(crate) fn up_to(orders: &[Order], limit: u32) -> &[Order]
-    ensures first { result.now ≡ take limit orders.now }
+pub(crate) fn up_to(turns: &[Due], limit: u32) -> &[Due]
+    ensures first { result.now ≡ take limit turns.now }
     ensures few { length result.now ≤ limit }
 {
     let count = limit as usize;
-    if orders.len() <= count {
-        orders
+    if turns.len() <= count {
+        turns
     } else {
-        &orders[..count]
+        &turns[..count]
     }
 }
 
 /// Gives the listed turns in their order.
-pub(crate) fn take_listed(
-    alloc: Global,
-    world: &mut World,
-    orders: &[Order],
-) -> Result<(), AllocError>
-    requires { FitOrders (world_of world.old).config.cpus orders.now }
-    ensures played { OnOk result (Plays (world_of world.old) (map due_by orders.now) (world_of world.new)) }
+pub(crate) fn take_listed(alloc: Global, world: &mut World, turns: &[Due]) -> Result<(), AllocError>
+    requires { All (λ (turn : Due). turn.cpu < (world_of world.old).config.cpus) turns.now }
+    ensures played { OnOk result (Plays (world_of world.old) turns.now (world_of world.new)) }
     ensures config { OnOk result ((world_of world.new).config ≡ (world_of world.old).config) }
 {
-    for order in orders {
-        world.turn(alloc, order.cpu, order.will)?;
+    for due in turns {
+        world.turn(alloc, due.cpu, due.will)?;
     }
     Ok(())
 }

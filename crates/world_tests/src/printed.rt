@@ -4,17 +4,18 @@ use crate::walking::{RIPAS, TABLES};
 use crate::worlds::program;
 use granule_state::Config;
 use rmm_spec::Command;
+use scenario::{Due, Scenario, Will, is_scenario};
 use std::alloc::Global;
 use std::fmt::Write;
 use std::process::Abort;
 use std::test::Fail;
-use world_runs::{Order, Will, can_open, orders_fit, run_text};
+use world_runs::run_text;
 
 const LIMIT: u32 = 1_000_000;
 
 // Turns, cut by spaces: a CPU, and behind it `g` where it gives up or `s` where it stops.
-fn orders(alloc: Global, text: &str) -> Result<Vec<Order>, Fail> {
-    let mut orders = Vec::new(alloc);
+fn turns_in(alloc: Global, text: &str) -> Result<Vec<Due>, Fail> {
+    let mut turns = Vec::new(alloc);
     for turn in text.split_ascii_whitespace() {
         let (cpu, will) = match *turn.as_bytes() {
             [cpu] => (cpu, Will::Go),
@@ -22,12 +23,12 @@ fn orders(alloc: Global, text: &str) -> Result<Vec<Order>, Fail> {
             [cpu, b's'] => (cpu, Will::Stop),
             _ => return Err(Fail::from("no turn")),
         };
-        orders.push(Order {
+        turns.push(Due {
             cpu: cpu.wrapping_sub(b'0'),
             will,
         })?;
     }
-    Ok(orders)
+    Ok(turns)
 }
 
 // Programs, cut by `|`, of a command a line.
@@ -39,6 +40,23 @@ fn programs(alloc: Global, texts: &str) -> Result<Vec<Vec<Command>>, Fail> {
     Ok(programs)
 }
 
+// The scenario of these programs and turns. A run of turns has no queue.
+fn scenario_in(
+    alloc: Global,
+    granules: u64,
+    texts: &str,
+    turns: &str,
+    limit: u32,
+) -> Result<Scenario, Fail> {
+    let programs = programs(alloc, texts)?;
+    let turns = turns_in(alloc, turns)?;
+    let config = Config::new(granules, programs.len() as u64).ok_or("no such machine")?;
+    if !is_scenario(&config, &programs, 1, &turns, limit) {
+        return Err(Fail::from("no scenario"));
+    }
+    Ok(Scenario::new(config, programs, 1, turns, limit))
+}
+
 // What a run prints, behind a byte that stands already.
 fn printed(
     alloc: Global,
@@ -47,15 +65,10 @@ fn printed(
     turns: &str,
     limit: u32,
 ) -> Result<Vec<u8>, Fail> {
-    let programs = programs(alloc, texts)?;
-    let orders = orders(alloc, turns)?;
-    let config = Config::new(granules, programs.len() as u64).ok_or("no such machine")?;
-    if !can_open(&config, &programs) || !orders_fit(&config, &orders) {
-        return Err(Fail::from("no run"));
-    }
+    let scenario = scenario_in(alloc, granules, texts, turns, limit)?;
     let mut out = Vec::new(alloc);
     out.push(b'>')?;
-    run_text(alloc, &config, programs, &orders, limit, &mut out)?;
+    run_text(alloc, &scenario, &mut out)?;
     Ok(out)
 }
 

@@ -4,6 +4,7 @@ ghost use Rattle.std.specs.Prelude.{◌<◌};
 
 use crate::worlds::dice::Dice;
 use crate::worlds::drawing::{Granules, Sharing, drawn_command, drawn_function};
+use crate::worlds::edges::edged_command;
 use crate::worlds::schedule::Schedule;
 use anyhow::{Result, bail};
 use arrayvec::ArrayVec;
@@ -23,13 +24,20 @@ const WORD_DRAWS: u32 = 32;
 /// After how many turns a CPU gets a command, whether or not it is likely to have one open.
 const MOST_TURNS: u32 = 1000;
 
-/// A program for each CPU, of so many commands in all. Most are accepted where each takes as many turns of the schedule as it is
+/// How many commands programs have: so many in all that are drafted, and behind each of those so many with edges as words.
+#[derive(Clone, Copy)]
+pub(crate) struct Draft {
+    pub(crate) drafted: u64,
+    pub(crate) edged: u64,
+}
+
+/// A program for each CPU. Most of what is drafted is accepted where each command takes as many turns of the schedule as it is
 /// likely to.
 pub(crate) fn drafted_programs(
     alloc: Global,
     config: &Config,
     sharing: Sharing,
-    commands: u64,
+    draft: Draft,
     mut schedule: Schedule,
     dice: &mut Dice,
 ) -> Result<Vec<Vec<Command>>> {
@@ -37,7 +45,7 @@ pub(crate) fn drafted_programs(
     let mut programs = empty_programs(alloc, config)?;
     let mut busy = [0; 8];
     let mut rows = Vec::new(alloc);
-    for _command in 0..commands {
+    for _command in 0..draft.drafted {
         rows.clear();
         machine.owner_report(&mut rows)?;
         let cpu = idle_cpu(&mut schedule, &mut busy);
@@ -51,9 +59,26 @@ pub(crate) fn drafted_programs(
         busy[usize::from(cpu % 8)] = likely_turns(command.function);
         if let Some(program) = programs.get_mut(usize::from(cpu)) {
             program.push(command)?;
+            push_edged(&mut machine, granules, draft.edged, program, dice)?;
         }
     }
     Ok(programs)
+}
+
+// Appends so many commands with edges as words, and carries them out.
+fn push_edged(
+    machine: &mut Machine,
+    granules: Granules<'_>,
+    count: u64,
+    program: &mut Vec<Command>,
+    dice: &mut Dice,
+) -> Result<()> {
+    for _command in 0..count {
+        let command = edged_command(granules, dice);
+        carry_out(machine, granules.cpu, &command)?;
+        program.push(command)?;
+    }
+    Ok(())
 }
 
 fn empty_programs(alloc: Global, config: &Config) -> Result<Vec<Vec<Command>>> {

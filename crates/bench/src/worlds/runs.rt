@@ -2,7 +2,7 @@
 
 use crate::judged::{is_yes, replies_of};
 use crate::worlds::dice::Dice;
-use crate::worlds::drafting::drafted_programs;
+use crate::worlds::drafting::{Draft, drafted_programs};
 use crate::worlds::drawing::Sharing;
 use crate::worlds::schedule::Schedule;
 use crate::worlds::turning::{finish, opened, turned};
@@ -55,10 +55,13 @@ fn judge_run(rt: &impl Print, alloc: Global, seed: u64, counts: &mut Counts) -> 
     let cpus = 2 + dice.below(7);
     let sharing = Sharing::drawn(&mut dice);
     let config = Config::new(sharing.granules(cpus), cpus).context("no such machine")?;
-    let commands = cpus * COMMANDS;
+    let draft = Draft {
+        drafted: cpus * COMMANDS,
+        edged: 0,
+    };
     let schedule_seed = dice.word();
     let schedule = Schedule::new(&config, schedule_seed);
-    let programs = drafted_programs(alloc, &config, sharing, commands, schedule, &mut dice)?;
+    let programs = drafted_programs(alloc, &config, sharing, draft, schedule, &mut dice)?;
     let mut world = opened(alloc, &config, programs)?;
     let mut schedule = Schedule::new(&config, schedule_seed);
     for _place in 0..PLACES {

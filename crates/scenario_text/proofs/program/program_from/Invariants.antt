@@ -1,5 +1,5 @@
 use Rattle.rmm_spec.specs.CommandText.{IsCommand, command_text}
-use Rattle.scenario_text.specs.ScenarioText.{IsCommandText}
+use Rattle.rmm_spec.specs.Scenario.{IsCommandText}
 use Rattle.scenario_text.proofs.ReadTo.{IsReadTo}
 use Rattle.scenario_text.proofs.program.program_from.Given as goal
 

@@ -1,8 +1,9 @@
 use Rattle.std.proofs.Common.{map}
 use Rattle.std.specs.List.{AllByRecursion}
 use Rattle.rmm_spec.specs.CommandText.{IsCommand, command_text}
-use Rattle.scenario_text.specs.ScenarioText.{IsCommandText}
-use Rattle.scenario_text.specs.Seen.{seen_texts, seen_programs}
+use Rattle.rmm_spec.specs.Scenario.{IsCommandText}
+use Rattle.scenario.specs.Seen.{seen_programs}
+use Rattle.scenario_text.specs.Seen.{seen_texts}
 use Rattle.scenario_text.proofs.ReadTo.{IsReadTo}
 use Rattle.scenario_text.proofs.program.programs_from.Given as goal
 

@@ -1,9 +1,11 @@
-use Rattle.std.proofs.Common.{◌≡◌, ◌<◌, map}
+use Rattle.std.proofs.Common.{◌≡◌, ◌<◌, map, sym, subst}
 use Rattle.std.specs.List.{AllByRecursion}
 use Rattle.rmm_spec.specs.CommandText.{IsCommand, command_text}
-use Rattle.scenario_text.specs.ScenarioText.{IsStatedBy, HasCommands, turn_text}
-use Rattle.scenario_text.specs.Seen.{seen_programs, seen_lists, seen_texts, stated_seen}
+use Rattle.rmm_spec.specs.Scenario.{IsStatedBy, HasCommands, turn_text}
+use Rattle.scenario.specs.Seen.{seen_programs}
+use Rattle.scenario_text.specs.Seen.{seen_lists, seen_texts, stated_seen}
 use Rattle.scenario_text.proofs.Values.{AreInRange-sizes, IsStatedBy-parts, IsCommandText-all}
+use Rattle.scenario_text.proofs.reading.scenario_of.Goals.{In-Some-3}
 use Rattle.scenario_text.proofs.reading.scenario_of.Goals as goal
 
 pub returns-in_default-3-clause-fault : goal.returns-in_default-3-clause-fault
@@ -17,7 +19,7 @@ returns-in_default-3-clause-fault c =
     (AreInRange-sizes stated c.in-Some.sizes c.in-Some.ensures.found, readable, refused)
 
 -- what the parts make
-stated_by : (c : goal.In-Some-3) → IsStatedBy (stated_seen c.args.stated.now) (record {
+stated_by : (c : In-Some-3) → IsStatedBy (stated_seen c.args.stated.now) (record {
   config = c.in-Some.sizes.config;
   programs = seen_programs c.in-Some-2.programs.items;
   queue = c.in-Some.sizes.queue;
@@ -33,8 +35,8 @@ stated_by c =
     IsStatedBy-parts (stated_seen c.args.stated.now) c.in-Some.sizes programs c.in-Some-3.turns.items c.in-Some.ensures.found
     (rw c.as_slice.ensures.value at texts) commands (rw c.as_slice-2.ensures.value at turn_texts) cpus
 
-pub returns-clause-scenario : goal.returns-clause-scenario
-returns-clause-scenario c = stated_by c
+pub new-requires : goal.new-requires
+new-requires c = (stated_by c).is_scenario
 
-pub invariant_of-result : goal.invariant_of-result
-invariant_of-result c = (stated_by c).is_scenario
+pub returns-clause-scenario : goal.returns-clause-scenario
+returns-clause-scenario c = subst (IsStatedBy (stated_seen c.args.stated.now)) (sym c.new.ensures) (stated_by c.before)

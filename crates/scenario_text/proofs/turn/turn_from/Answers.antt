@@ -1,5 +1,5 @@
 use Rattle.std.proofs.Common.{◌≡◌, ◌<◌, ◌+◌, ◌-◌, get_or, length, refl, sym, ◌∙◌, arith}
-use Rattle.scenario_text.specs.declared.turn.Turn.{Turn}
+use Rattle.rmm_spec.specs.declared.turn.Due.{Due}
 use Rattle.scenario_text.proofs.TurnTexts.{BeginsWith-turn, is_empty-length, not_empty-length, turn_text-from}
 use Rattle.scenario_text.proofs.turn.turn_from.Goals as goal
 
@@ -22,7 +22,7 @@ returns-then-cpu-cpus-clause-none c = λ (turn, low, same).
 pub returns-in-Some-clause-text : goal.returns-in-Some-clause-text
 returns-in-Some-clause-text c =
     let digit = get_or c.as_bytes-bytes.result.now 0 0 in
-    let turn : Turn = record { cpu = digit - 48; will = c.in-Some.will } in
+    let turn : Due = record { cpu = digit - 48; will = c.in-Some.will } in
     let low : digit - 48 < 10 = omega (arith, c.if-cpu-cpus.false, c.requires) in
     let again : digit ≡ digit - 48 + 48 = omega (arith, c.if-digit-lt48.false) in
     sym c.as_bytes-bytes.ensures.value

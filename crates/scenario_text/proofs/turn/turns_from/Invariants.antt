@@ -1,5 +1,5 @@
 use Rattle.std.proofs.Common.{◌<◌}
-use Rattle.scenario_text.specs.ScenarioText.{IsTurnText, turn_text}
+use Rattle.rmm_spec.specs.Scenario.{IsTurnText, turn_text}
 use Rattle.scenario_text.proofs.ReadTo.{IsReadTo}
 use Rattle.scenario_text.proofs.turn.turns_from.Given as goal
 

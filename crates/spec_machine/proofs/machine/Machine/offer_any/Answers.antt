@@ -1,4 +1,4 @@
-use Rattle.spec_machine.proofs.Common.{command_seen, done_applies, reached_applies, state_of, sym}
+use Rattle.spec_machine.proofs.Common.{command_seen, done_applies, reached_applies, sound_in, state_of, sym}
 use Rattle.spec_machine.proofs.Memory.{done_makes, stretch_level}
 use Rattle.spec_machine.proofs.machine.Machine.offer_any.Goals as goal
 
@@ -6,7 +6,7 @@ pub apply-requires : goal.apply-requires
 unfolding state_of
 apply-requires c =
     let is = rw c.in-Ok-Done.field-0-is at c.in-Ok-Done.ensures in
-    done_applies (state_of c.args.self.now) c.args.cpu (command_seen c.args.command) _ _ c.args.self.now.kept.sound (sym is)
+    done_applies (state_of c.args.self.now) c.args.cpu (command_seen c.args.command) _ _ (sound_in c.args.self.now.granules c.args.self.now.shaped) (sym is)
 
 pub returns-in_default-clause-only_tables : goal.returns-in_default-clause-only_tables
 returns-in_default-clause-only_tables c =
@@ -19,8 +19,8 @@ reach-requires c =
     let s = state_of c.args.self.now in
     let is = sym (rw c.in-Ok-Reaches.field-0-is at c.in-Ok-Reaches.ensures) in
     record {
-      level = stretch_level s c.args.cpu (command_seen c.args.command) _ c.args.self.now.kept.sound is;
-      can = λ top. reached_applies s c.args.cpu (command_seen c.args.command) _ top c.args.self.now.kept.sound is;
+      level = stretch_level s c.args.cpu (command_seen c.args.command) _ (sound_in c.args.self.now.granules c.args.self.now.shaped) is;
+      can = λ top. reached_applies s c.args.cpu (command_seen c.args.command) _ top (sound_in c.args.self.now.granules c.args.self.now.shaped) is;
     }
 
 pub returns-in-Ok-Reaches-clause-only : goal.returns-in-Ok-Reaches-clause-only

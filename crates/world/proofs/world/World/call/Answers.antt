@@ -1,6 +1,7 @@
 use Rattle.std.proofs.Common.{◌∷◌, ◌++◌, [], Some, sym, ap, ◌∙◌, subst, refl}
 use Rattle.std.proofs.lemmas.Option.{slice_get_within}
 use Rattle.rmm_spec.specs.declared.event.Event.TheVariants.{Called}
+use Rattle.rmm_spec.specs.declared.turn.Will.TheVariants as wills
 use Rattle.rmm_spec.specs.Waits as turn
 use Rattle.rmm_spec.specs.Waits.{Did}
 use Rattle.world.specs.Recorded.{RecordsIn, IsShortIn, event_room, commit_room}
@@ -15,14 +16,14 @@ use Rattle.world.proofs.world.World.call.Goals as goal
 pub invariant_of-self-clause-kept : goal.invariant_of-self-clause-kept
 unfolding world_of world_from
 invariant_of-self-clause-kept c =
-    (idle c.args.self.now c.args.cpu turn.Go c.set_waits.new.self
+    (idle c.args.self.now c.args.cpu wills.Go c.set_waits.new.self
     (all-called (world_of c.args.self.now) c.args.cpu c.args.number c.requires.between (sym c.next_command.ensures ∙ c.in_default.is))
     c.set_waits.ensures.views).kept
 
 pub returns-in_default-clause-turned : goal.returns-in_default-clause-turned
 unfolding world_of world_from
 returns-in_default-clause-turned c =
-    (idle c.args.self.now c.args.cpu turn.Go c.set_waits.new.self
+    (idle c.args.self.now c.args.cpu wills.Go c.set_waits.new.self
     (all-called (world_of c.args.self.now) c.args.cpu c.args.number c.requires.between (sym c.next_command.ensures ∙ c.in_default.is))
     c.set_waits.ensures.views).turned
 
@@ -59,7 +60,7 @@ invariant_of-self-2-clause-kept c =
     let more = c.in-Ok.ensures.ok ∙ ap (λ command. record s.history.recorded {
       events = s.history.recorded.events ++ Called c.args.cpu c.args.number command ∷ [];
     }) c.copied_command.ensures in
-    (made s c.args.cpu turn.Go (Did turn.Call) c.open_call.new.self c.push.new.self.recorded s.locks _ _ _ c.open_call.ensures.views more refl
+    (made s c.args.cpu wills.Go (Did turn.Call) c.open_call.new.self c.push.new.self.recorded s.locks _ _ _ c.open_call.ensures.views more refl
     (called s c.args.cpu c.requires.cpu c.args.number c.in-Some.command c.requires.between (sym c.next_command.ensures ∙ c.in-Some.is))).kept
 
 pub returns-clause-turned : goal.returns-clause-turned
@@ -69,7 +70,7 @@ returns-clause-turned c =
     let more = c.in-Ok.ensures.ok ∙ ap (λ command. record s.history.recorded {
       events = s.history.recorded.events ++ Called c.args.cpu c.args.number command ∷ [];
     }) c.copied_command.ensures in
-    (made s c.args.cpu turn.Go (Did turn.Call) c.open_call.new.self c.push.new.self.recorded s.locks _ _ _ c.open_call.ensures.views more refl
+    (made s c.args.cpu wills.Go (Did turn.Call) c.open_call.new.self c.push.new.self.recorded s.locks _ _ _ c.open_call.ensures.views more refl
     (called s c.args.cpu c.requires.cpu c.args.number c.in-Some.command c.requires.between (sym c.next_command.ensures ∙ c.in-Some.is))).turned
 
 pub returns-in_default-clause-exact : goal.returns-in_default-clause-exact

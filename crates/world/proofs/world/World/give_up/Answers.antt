@@ -1,4 +1,5 @@
 use Rattle.std.proofs.Common.{sym, ap, ◌∙◌, vec_len}
+use Rattle.rmm_spec.specs.declared.turn.Will.TheVariants as wills
 use Rattle.rmm_spec.specs.Waits as turn
 use Rattle.world.specs.Cpus.{views_of}
 use Rattle.world.specs.Granules.{holder_of}
@@ -13,13 +14,13 @@ use Rattle.world.proofs.world.World.give_up.Goals as goal
 pub invariant_of-self-clause-kept : goal.invariant_of-self-clause-kept
 unfolding world_of world_from
 invariant_of-self-clause-kept c =
-    (idle c.args.self.now c.args.cpu turn.GiveUp c.set_waits.new.self
+    (idle c.args.self.now c.args.cpu wills.GiveUp c.set_waits.new.self
     (deciding-false (world_of c.args.self.now) c.args.cpu (sym c.is_deciding.ensures ∙ c.if-not-is_deciding.true)) c.set_waits.ensures.views).kept
 
 pub returns-then-not-is_deciding-clause-turned : goal.returns-then-not-is_deciding-clause-turned
 unfolding world_of world_from
 returns-then-not-is_deciding-clause-turned c =
-    (idle c.args.self.now c.args.cpu turn.GiveUp c.set_waits.new.self
+    (idle c.args.self.now c.args.cpu wills.GiveUp c.set_waits.new.self
     (deciding-false (world_of c.args.self.now) c.args.cpu (sym c.is_deciding.ensures ∙ c.if-not-is_deciding.true)) c.set_waits.ensures.views).turned
 
 pub free_all-requires : goal.free_all-requires

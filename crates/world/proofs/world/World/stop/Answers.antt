@@ -1,4 +1,5 @@
 use Rattle.std.proofs.Common.{sym, ◌∙◌}
+use Rattle.rmm_spec.specs.declared.turn.Will.TheVariants as wills
 use Rattle.rmm_spec.specs.Waits as turn
 use Rattle.world.specs.World.{world_of}
 use Rattle.world.specs.Whole.{world_from}
@@ -9,13 +10,13 @@ use Rattle.world.proofs.world.World.stop.Goals as goal
 pub invariant_of-self-clause-kept : goal.invariant_of-self-clause-kept
 unfolding world_of world_from
 invariant_of-self-clause-kept c =
-    (idle c.args.self.now c.args.cpu turn.Stop c.set_waits.new.self
+    (idle c.args.self.now c.args.cpu wills.Stop c.set_waits.new.self
     (going-false _ (sym c.is_going.ensures ∙ c.if-not-is_going.true)) c.set_waits.ensures.views).kept
 
 pub returns-then-not-is_going-clause-turned : goal.returns-then-not-is_going-clause-turned
 unfolding world_of world_from
 returns-then-not-is_going-clause-turned c =
-    (idle c.args.self.now c.args.cpu turn.Stop c.set_waits.new.self
+    (idle c.args.self.now c.args.cpu wills.Stop c.set_waits.new.self
     (going-false _ (sym c.is_going.ensures ∙ c.if-not-is_going.true)) c.set_waits.ensures.views).turned
 
 pub invariant_of-self-2-clause-kept : goal.invariant_of-self-2-clause-kept

@@ -3,8 +3,8 @@ use Rattle.std.specs.Prelude.{OnErr}
 use Rattle.std.proofs.lemmas.Bool.{false≢true}
 use Rattle.std.proofs.lemmas.Result.{IfOk-weaker}
 use Rattle.rmm_spec.specs.World.{IsDeciding}
-use Rattle.world.specs.declared.turned.Will.{Will}
-use Rattle.world.specs.declared.turned.Will.TheVariants.{Go, GiveUp, Stop}
+use Rattle.rmm_spec.specs.declared.turn.Will.{Will}
+use Rattle.rmm_spec.specs.declared.turn.Will.TheVariants.{Go, GiveUp, Stop}
 use Rattle.world.specs.Next.{DoesPlanned, go_report}
 use Rattle.world.specs.Told.{report_of}
 use Rattle.world.specs.World.{world_of}

@@ -1,0 +1,52 @@
+-- The walk by links from a realm's root, over the granules of a machine.
+use Rattle.std.proofs.Common.{◌≡◌, ℕ, ◌≤◌, length, Some, sym, ap, ◌∙◌, subst, arith}
+use Rattle.rmm_spec.specs.declared.entry.Entry.{Entry}
+use Rattle.rmm_spec.specs.State.{State}
+use Rattle.rmm_spec.specs.Walk.{IsWalk}
+use Rattle.rmm_spec.specs.Sound.{IsSound}
+use Rattle.rmm_spec.specs.Table.{TableRecord}
+use Rattle.rmm_spec.specs.TableCells.{table_in, with_tables, IsWalkable}
+use Rattle.rmm_spec.specs.Cell.{tables_of}
+use Rattle.rmm_spec.specs.Flat.{flat_state}
+use Rattle.shape_laws.proofs.Ties.{well_shaped-is_sound}
+use Rattle.machine_cells.specs.declared.cell_list.CellList.{CellList}
+use Rattle.machine_cells.specs.declared.granules.Granules.{Granules}
+use Rattle.machine_cells.specs.Whole.{cells_of, whole_of, count_of, state_in, tables_in, IsShapedIn}
+use Rattle.machine_cells.specs.WholeLaws.{tables_in-placed}
+use Rattle.machine_cells.specs.Walks.{StartsAt}
+use Rattle.machine_cells.proofs.OneCell.{tables-same}
+use Rattle.machine_cells.proofs.Walkable.{with_tables-same, walkable-root, root-table}
+
+-- the list of tables has what lies in each granule
+pub tables_in-same : (list : CellList) (address : ℕ) → table_in (tables_in list) address ≡ tables_of (cells_of list) address
+unfolding tables_in cells_of
+tables_in-same list address =
+    let placed : length list.cells.items ≡ list.config.granules = omega (arith, list.each, list.cells.ok.0) in
+    tables-same list.config.granules list.cells.items placed address
+
+pub sound_in : (g : Granules) → IsShapedIn g → IsSound (state_in g)
+unfolding state_in
+sound_in g shaped = well_shaped-is_sound (count_of g) (whole_of g).side (whole_of g).places (whole_of g).cells shaped
+
+-- a walk may start at a root
+pub start-walkable : (g : Granules) → IsShapedIn g → (rd ipa max root level : ℕ) → StartsAt (state_in g) rd ipa root level → level ≤ max
+    → IsWalkable (tables_in g.list) root ipa max
+unfolding state_in flat_state
+start-walkable g shaped rd ipa max root level start within =
+    subst (λ x. IsWalkable (tables_in g.list) x ipa max) start.is_root
+    (walkable-root (count_of g) (whole_of g).side (whole_of g).places (cells_of g.list) shaped (tables_in g.list) (tables_in-placed g.list) (tables_in-same g.list)
+    rd ipa max start.realm start.is_realm (omega (arith, start.is_level, within)) start.inside)
+
+-- and it is the flat state's
+pub start-walks : (g : Granules) → IsShapedIn g → (rd ipa max root level end granule : ℕ) (entry : Entry) → StartsAt (state_in g) rd ipa root level → level ≤ max
+    → ((s : State) (t : TableRecord) → table_in (tables_in g.list) root ≡ Some t → IsWalk (with_tables s (tables_in g.list)) t.place.rd ipa max end granule entry)
+    → IsWalk (state_in g) rd ipa max end granule entry
+unfolding state_in flat_state
+start-walks g shaped rd ipa max root level end granule entry start within walks =
+    let t = root-table (count_of g) (whole_of g).side (whole_of g).places (cells_of g.list) shaped (tables_in g.list) (tables_in-placed g.list) (tables_in-same g.list)
+    rd ipa max start.realm start.is_realm (omega (arith, start.is_level, within)) start.inside in
+    let there : table_in (tables_in g.list) root ≡ Some t.0 = ap (table_in (tables_in g.list)) (sym start.is_root) ∙ t.1 in
+    let s = flat_state (count_of g) (cells_of g.list) in
+    subst (λ x. IsWalk x rd ipa max end granule entry)
+    (with_tables-same (count_of g) (whole_of g).side (whole_of g).places (cells_of g.list) shaped (tables_in g.list) (tables_in-placed g.list) (tables_in-same g.list))
+    (subst (λ x. IsWalk (with_tables s (tables_in g.list)) x ipa max end granule entry) t.2 (walks s t.0 there))

@@ -1,0 +1,206 @@
+-- The entries of a table of a well-shaped whole are those of its flat state; where no table stands, none keeps it in use but a link above a root.
+use Rattle.std.proofs.Common.{◌≡◌, ℕ, zero, suc, ◌+◌, ◌*◌, ◌/◌, ◌%◌, ◌^◌, ◌<◌, ◌≤◌, Bool, true, false, ◌&&◌, ◌||◌, inl, inr, if◌then◌else◌, IsTrue, List, [], ◌∷◌, length, Option, Some, None, is_some, nat_lt, slice_get, refl, sym, ap, ◌∙◌, subst, add-one, arith}
+use Rattle.std.specs.List.{list_any}
+use Rattle.std.proofs.lemmas.Bool.{false≢true, lt-ltb, le-ltb, cases_lt}
+use Rattle.std.proofs.lemmas.Option.{none-some, same_Some}
+use Rattle.rmm_spec.specs.declared.entry.Entry.{Entry}
+use Rattle.rmm_spec.specs.declared.entry.Entry.TheVariants.{Unassigned, Table}
+use Rattle.rmm_spec.specs.declared.tag.Ripas.TheVariants.{Empty}
+use Rattle.rmm_spec.specs.State.{State, RealmRecord}
+use Rattle.rmm_spec.specs.Lookup.{any_below}
+use Rattle.rmm_spec.specs.Step.Words.{is_space}
+use Rattle.rmm_spec.specs.Walk.{entry_at, linked_entry, is_table, is_live, is_in_use, has_link, table_size, full}
+use Rattle.rmm_spec.specs.Table.{TableRecord}
+use Rattle.rmm_spec.specs.Sound.{IsSound}
+use Rattle.rmm_spec.specs.Cell.{Cell, tables_of}
+use Rattle.rmm_spec.specs.Flat.{flat_state, table_granule}
+use Rattle.rmm_spec.specs.Shape.{Side, CpuPlace, HoldsTable, IsWellShaped}
+use Rattle.rmm_sound.proofs.Entries.{entry-leaf, entry-link}
+use Rattle.rmm_sound.proofs.Searches.{any_below-false}
+use Rattle.rmm_sound.proofs.Spaces.{space_cases}
+use Rattle.shape_laws.proofs.Finds.{table_granule-holds, holds-found}
+use Rattle.shape_laws.proofs.Ties.{IsTied-shaped, entry_leaf-some, leaf-found, link_or_leaf, entry_there, number-again, at_place, same_table, well_shaped-is_sound}
+use Rattle.world_laws.proofs.Placed.{passing_below}
+use Rattle.machine_cells.specs.declared.granules.Granules.{Granules}
+use Rattle.machine_cells.specs.Searches.{StandsAs, IsTable, is_above}
+use Rattle.machine_cells.specs.Whole.{cells_of, whole_of, count_of, state_in, IsShapedIn}
+use Rattle.machine_cells.proofs.WalkEnds.{entry-none}
+
+-- ---- one entry
+
+-- an entry of a table of the whole is the flat state's
+entry-held : (granules : ℕ) (side : Side) (places : ℕ → CpuPlace) (cells : ℕ → Cell) → (w : IsWellShaped granules side places cells)
+    → (g rd level number : ℕ) (e : Entry) → (holds : HoldsTable (tables_of cells) g rd level (number / 512))
+    → slice_get holds.table.entries (number % 512) ≡ Some e → entry_at (flat_state granules cells) rd level number ≡ e
+unfolding flat_state
+entry-held granules side places cells w g rd level number e holds at =
+    let s = flat_state granules cells in
+    let sound = well_shaped-is_sound granules side places cells w in
+    let found : (g rd level number : ℕ) → HoldsTable (tables_of cells) g rd level number → table_granule granules (tables_of cells) rd level number ≡ Some g =
+    λ g rd level number holds. holds-found granules (tables_of cells) g rd level number (IsTied-shaped granules side places cells w).tables.found holds in
+    elim (link_or_leaf e) [
+      | inl link ↦ entry-link s sound rd level number link.0 (found link.0 rd (suc level) number
+          (subst (λ n. HoldsTable (tables_of cells) link.0 rd (suc level) n) (number-again number)
+          (at_place (λ a b c. HoldsTable (tables_of cells) link.0 a (suc b) (512 * c + number % 512)) holds
+          (w.tables.links g (number % 512) link.0 holds.table holds.is_held (at ∙ ap Some link.1))))) ∙ sym link.1
+      | inr leaf ↦ entry-leaf s sound rd level number e
+          (leaf-found granules (tables_of cells) rd level number g holds.table (found g rd level (number / 512) holds) holds.is_held
+          ∙ entry_leaf-some holds.table.entries (number % 512) e at leaf)
+    ]
+
+pub entry-stands : (g : Granules) → IsShapedIn g → (rd level number : ℕ) (t : TableRecord) (e : Entry) → StandsAs g rd level (number / 512) t
+    → slice_get t.entries (number % 512) ≡ Some e → e ≡ entry_at (state_in g) rd level number
+unfolding state_in flat_state
+entry-stands g shaped rd level number t e stands at =
+    let w = whole_of g in
+    let holds = table_granule-holds (count_of g) (tables_of w.cells) rd level (number / 512) stands.granule stands.is_found in
+    let same = same_table (tables_of w.cells) stands.granule t holds.table stands.is_held holds.is_held in
+    sym (entry-held (count_of g) w.side w.places w.cells shaped stands.granule rd level number e holds (ap (λ (t : TableRecord). slice_get t.entries (number % 512)) (sym same) ∙ at))
+
+-- ---- searches through a table
+
+none-passes : {X : Type 0} (p : X → Bool) (xs : List X) → ((i : ℕ) (x : X) → i < length xs → slice_get xs i ≡ Some x → p x ≡ false) → list_any p xs ≡ false
+none-passes p [] each = refl
+none-passes p (x ∷ xs) each = rw (each 0 x (omega arith) refl) (none-passes p xs (λ i y below at. each (suc i) y (omega (arith, below)) at))
+
+some-passes : {X : Type 0} (p : X → Bool) (xs : List X) (i : ℕ) (x : X) → slice_get xs i ≡ Some x → p x ≡ true → list_any p xs ≡ true
+some-passes p [] i x at passes = absurd (none-some x at)
+some-passes p (y ∷ xs) zero x at passes = rw (same_Some y x at, passes) refl
+some-passes p (y ∷ xs) (suc i) x at passes = by (p y) (some-passes p xs i x at passes)
+  where
+    by : (b : Bool) → list_any p xs ≡ true → (b || list_any p xs) ≡ true
+    by true rest = refl
+    by false rest = rest
+
+-- a search through the entries is one through their numbers
+pub search-entries : {X : Type 0} (p : X → Bool) (xs : List X) (f : ℕ → X) → ((k : ℕ) → k < length xs → slice_get xs k ≡ Some (f k))
+    → list_any p xs ≡ any_below (length xs) (λ k. p (f k))
+search-entries p xs f each = by (any_below (length xs) (λ k. p (f k))) refl
+  where
+    by : (b : Bool) → any_below (length xs) (λ k. p (f k)) ≡ b → list_any p xs ≡ any_below (length xs) (λ k. p (f k))
+    by true any =
+        let found = passing_below (length xs) (λ k. p (f k)) any in
+        some-passes p xs found.0 (f found.0) (each found.0 found.1) found.2 ∙ sym any
+    by false none =
+        none-passes p xs (λ i x below at. ap p (same_Some x (f i) (sym at ∙ each i below)) ∙ any_below-false (length xs) (λ k. p (f k)) none i below)
+        ∙ sym none
+
+module _ (g : Granules) (shaped : IsShapedIn g) (rd level number : ℕ) where
+  whole-table : (t : TableRecord) → StandsAs g rd level number t → length t.entries ≡ 512
+  whole-table t stands = shaped.tables.whole stands.granule t stands.is_held
+
+  each-entry : (t : TableRecord) → StandsAs g rd level number t → (k : ℕ) → k < 512
+      → slice_get t.entries k ≡ Some (entry_at (state_in g) rd level (512 * number + k))
+  each-entry t stands k below =
+      let e = entry_there t.entries k (whole-table t stands) below in
+      let up : (512 * number + k) / 512 ≡ number = omega (arith, below) in
+      let low : (512 * number + k) % 512 ≡ k = omega (arith, below) in
+      e.1 ∙ ap Some (entry-stands g shaped rd level (512 * number + k) t e.0
+      (subst (λ n. StandsAs g rd level n t) (sym up) stands) (ap (slice_get t.entries) low ∙ e.1))
+
+  search-table : (p : Entry → Bool) (t : TableRecord) → StandsAs g rd level number t
+      → list_any p t.entries ≡ any_below 512 (λ k. p (entry_at (state_in g) rd level (512 * number + k)))
+  search-table p t stands =
+      search-entries p t.entries (λ k. entry_at (state_in g) rd level (512 * number + k))
+      (λ k below. each-entry t stands k (omega (arith, below, whole-table t stands)))
+      ∙ ap (λ n. any_below n (λ k. p (entry_at (state_in g) rd level (512 * number + k)))) (whole-table t stands)
+
+  pub in_use-table : (t : TableRecord) → StandsAs g rd level number t → list_any is_live t.entries ≡ is_in_use (state_in g) rd level number
+  unfolding is_in_use
+  in_use-table t stands = search-table is_live t stands
+
+  pub link-table : (t : TableRecord) → StandsAs g rd level number t → list_any is_table t.entries ≡ has_link (state_in g) rd level number
+  unfolding has_link
+  link-table t stands = search-table is_table t stands
+
+-- ---- where no table stands
+
+-- only the first number may pass
+any_below-first : (n : ℕ) (p : ℕ → Bool) → ((k : ℕ) → 0 < k → k ≤ n → p k ≡ false) → any_below (suc n) p ≡ p 0
+any_below-first zero p others = by (p 0)
+  where
+    by : (b : Bool) → (b || false) ≡ b
+    by true = refl
+    by false = refl
+any_below-first (suc n) p others =
+    rw (others (suc n) (omega arith) (omega arith)) (any_below-first n p (λ k some below. others k some (omega (arith, below))))
+
+module _ (s : State) (sound : IsSound s) (rd level number : ℕ) (none : s.table rd level number ≡ None) where
+  -- below a table that doesn't stand none stands but the root
+  below-none : (n : ℕ) → n / 512 ≡ number → 0 < n → (found : Option ℕ) → s.table rd (suc level) n ≡ found → found ≡ None
+  unfolding table_size
+  below-none n up some None at = refl
+  below-none n up some (Some g) at =
+      let owner = sound.tables.owned rd (suc level) n g at in
+      elim (cases_lt level owner.0.start_level) [
+        | inl top ↦ absurd (at_root owner.0 (sound.realms.spaces rd owner.0 owner.1) (omega (arith, top, owner.2.below_root)) owner.2.inside)
+        | inr under ↦ absurd (false≢true (sym (ap is_some none) ∙ ap (λ m. is_some (s.table rd level m)) (sym up) ∙ sound.tables.below rd level n g owner.0 at owner.1 under))
+      ]
+    where
+      at_root : (r : RealmRecord) → IsTrue (is_space r.width r.start_level) → r.start_level ≡ suc level → n * table_size (suc level) < full r → ⊥
+      at_root r space start inside = elim (space_cases r.width r.start_level space) [
+        | inl small ↦ (let level_is : suc level ≡ 1 = sym start ∙ small.1 in
+            let within : n * table_size (suc level) < 2 ^ 39 = rw small.0 at inside in
+            let at_one : n * table_size 1 < 2 ^ 39 = subst (λ l. n * table_size l < 2 ^ 39) level_is within in
+            absurd (omega (arith, at_one, some)))
+        | inr large ↦ absurd (omega (arith, start, large.1))
+      ]
+
+  entry-below : (p : Entry → Bool) → ((g : ℕ) → p (Table g) ≡ true) → p (Unassigned Empty) ≡ false → (n : ℕ) → n / 512 ≡ number
+      → p (entry_at s rd level n) ≡ (nat_lt level 3 && is_some (s.table rd (level + 1) n))
+  entry-below p link vacant n up =
+      ap p (entry-none s sound rd level n (ap (s.table rd level) up ∙ none)) ∙ by (nat_lt level 3) (s.table rd (level + 1) n)
+    where
+      by : (b : Bool) (found : Option ℕ) → p (linked_entry (if b then found else None) None) ≡ (b && is_some found)
+      by true (Some g) = link g
+      by true None = vacant
+      by false found = vacant
+
+  search-none : (p : Entry → Bool) → ((g : ℕ) → p (Table g) ≡ true) → p (Unassigned Empty) ≡ false
+      → is_above s rd level number ≡ any_below 512 (λ k. p (entry_at s rd level (512 * number + k)))
+  search-none p link vacant =
+      let first : 512 * number + 0 ≡ 512 * number = omega arith in
+      let top : (512 * number) / 512 ≡ number = omega arith in
+      sym (any_below-first 511 (λ k. p (entry_at s rd level (512 * number + k))) others
+      ∙ ap (λ n. p (entry_at s rd level n)) first
+      ∙ entry-below p link vacant (512 * number) top)
+    where
+      fails : (b : Bool) (found : Option ℕ) → found ≡ None → (b && is_some found) ≡ false
+      fails true found is = ap is_some is
+      fails false found is = refl
+
+      others : (k : ℕ) → 0 < k → k ≤ 511 → p (entry_at s rd level (512 * number + k)) ≡ false
+      others k some below =
+          let up : (512 * number + k) / 512 ≡ number = omega (arith, below) in
+          let later : 0 < 512 * number + k = omega (arith, some) in
+          entry-below p link vacant (512 * number + k) up
+          ∙ fails (nat_lt level 3) (s.table rd (level + 1) (512 * number + k))
+          (ap (λ l. s.table rd l (512 * number + k)) (add-one level) ∙ below-none (512 * number + k) up later _ refl)
+
+  pub in_use-none : is_above s rd level number ≡ is_in_use s rd level number
+  unfolding is_in_use
+  in_use-none = search-none is_live (λ g. refl) refl
+
+  pub link-none : is_above s rd level number ≡ has_link s rd level number
+  unfolding has_link
+  link-none = search-none is_table (λ g. refl) refl
+
+  -- the entry where no table has it
+  pub unlisted-last : (n : ℕ) → n / 512 ≡ number → 3 ≤ level → Unassigned Empty ≡ entry_at s rd level n
+  unlisted-last n up last =
+      let past : nat_lt level 3 ≡ false = le-ltb level 3 last in
+      sym (entry-none s sound rd level n (ap (s.table rd level) up ∙ none) ∙ ap (λ b. linked_entry (if b then s.table rd (level + 1) n else None) None) past)
+
+  pub unlisted-above : (n : ℕ) (found : Option ℕ) → n / 512 ≡ number → level < 3 → found ≡ s.table rd (level + 1) n → linked_entry found None ≡ entry_at s rd level n
+  unlisted-above n found up above is =
+      ap (λ o. linked_entry o None) is
+      ∙ sym (entry-none s sound rd level n (ap (s.table rd level) up ∙ none) ∙ ap (λ b. linked_entry (if b then s.table rd (level + 1) n else None) None) (lt-ltb level 3 above))
+
+-- what lies in the granule where a table stands is the table
+pub stands-found : (g : Granules) (rd level number granule : ℕ) (found : Option TableRecord) → (state_in g).table rd level number ≡ Some granule
+    → found ≡ tables_of (cells_of g.list) granule → IsTable g rd level number found
+unfolding state_in flat_state
+stands-found g rd level number granule None at is =
+    let holds = table_granule-holds (count_of g) (tables_of (cells_of g.list)) rd level number granule at in
+    absurd (none-some holds.table (is ∙ holds.is_held))
+stands-found g rd level number granule (Some t) at is = record { granule = granule; is_found = at; is_held = sym is }

@@ -1,0 +1,14 @@
+pub mod Kept
+pub mod Opening
+pub mod OneCell
+pub mod Walkable
+pub mod WalkEnds
+pub mod SideTold
+pub mod Found
+pub mod HeldEntries
+pub mod Stretches
+pub mod OneChanged
+pub mod Tagged
+pub mod NewRoots
+pub mod CanMake
+pub mod Made

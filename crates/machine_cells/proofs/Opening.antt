@@ -1,0 +1,45 @@
+-- The granules of a new machine are all the host's.
+use Rattle.std.proofs.Common.{◌≡◌, ℕ, List, [], replicate, None, refl, sym, ap, ◌∙◌, subst}
+use Rattle.rmm_spec.specs.HistoryText.{Config}
+use Rattle.rmm_spec.specs.Lookup.{is_granule}
+use Rattle.rmm_spec.specs.State.{opening}
+use Rattle.rmm_spec.specs.Cell as spec
+use Rattle.rmm_spec.specs.Flat.{flat_state}
+use Rattle.rmm_spec.specs.Shape as shape
+use Rattle.rmm_spec.specs.World.{opening_world}
+use Rattle.world_laws.proofs.Opening.{flat_state-opening, IsShapedWorld-opening}
+use Rattle.shape_laws.specs.Whole.{Whole, IsShaped}
+use Rattle.granule_cells.specs.declared.cell.Cell.{Cell}
+use Rattle.granule_cells.specs.declared.cell.Cell.TheVariants.{Undelegated}
+use Rattle.granule_cells.specs.declared.cpu_place.CpuPlace.TheVariants.{Outside}
+use Rattle.granule_cells.specs.Seen.{cell_of, place_of}
+use Rattle.machine_cells.specs.Whole.{cells_in, places_in}
+use Rattle.machine_cells.proofs.Kept.{kept_at-replicate, get_or-replicate_all}
+
+pub cells-new : (granules n : ℕ) (cells : List Cell) → cells ≡ replicate n Undelegated → cells_in granules cells ≡ (λ _. spec.Undelegated)
+cells-new granules n cells is = λ i address.
+    (ap (λ (items : List Cell). cells_in granules items address) is
+    ∙ ap cell_of (kept_at-replicate granules n address Undelegated (is_granule granules address) refl)) i
+
+pub places-new : (n : ℕ) → places_in (replicate n Outside) ≡ (λ _. shape.Outside)
+places-new n = λ i cpu. ap place_of (get_or-replicate_all n cpu Outside _ refl) i
+
+pub opening-state : (config other : Config) (cells : ℕ → spec.Cell) → other ≡ config → cells ≡ (λ _. spec.Undelegated) → flat_state other.granules cells ≡ opening config
+opening-state config other cells same is = (λ i. flat_state (same i).granules (is i)) ∙ flat_state-opening config
+
+nothing : shape.Side
+nothing = record { vmids = λ _. None; rec_counts = λ _. 0 }
+
+side-new : (side : shape.Side) → ((vmid : ℕ) → side.vmids vmid ≡ None) → ((rd : ℕ) → side.rec_counts rd ≡ 0) → side ≡ nothing
+unfolding nothing
+side-new side unused none = λ i. record { vmids = λ vmid. unused vmid i; rec_counts = λ rd. none rd i }
+
+opening-whole : (config : Config) → IsShaped config.granules (record { cells = λ _. spec.Undelegated; side = nothing; places = λ _. shape.Outside })
+unfolding opening_world nothing
+opening-whole config = IsShapedWorld-opening config (λ _. [])
+
+pub opening-shaped : (config : Config) (w : Whole) → w.cells ≡ (λ _. spec.Undelegated) → ((vmid : ℕ) → w.side.vmids vmid ≡ None)
+    → ((rd : ℕ) → w.side.rec_counts rd ≡ 0) → w.places ≡ (λ _. shape.Outside) → IsShaped config.granules w
+opening-shaped config w cells unused none places =
+    subst (IsShaped config.granules) (λ i. record { cells = sym cells i; side = sym (side-new w.side unused none) i; places = sym places i })
+    (opening-whole config)

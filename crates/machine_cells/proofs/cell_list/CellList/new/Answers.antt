@@ -1,0 +1,7 @@
+use Rattle.machine_cells.specs.Whole.{cells_of}
+use Rattle.machine_cells.proofs.Opening.{cells-new}
+use Rattle.machine_cells.proofs.cell_list.CellList.new.Goals as goal
+
+pub returns-clause-cells : goal.returns-clause-cells
+unfolding cells_of
+returns-clause-cells c = cells-new c.args.config.granules c.loop.counter c.loop.cells.items c.loop.invariant

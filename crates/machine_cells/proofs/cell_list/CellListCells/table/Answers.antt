@@ -1,0 +1,10 @@
+use Rattle.std.proofs.Common.{ap, sym, ◌∙◌}
+use Rattle.rmm_spec.specs.Cell as spec
+use Rattle.machine_cells.specs.Whole.{cells_of}
+use Rattle.machine_cells.proofs.Found.{tables_in-same}
+use Rattle.machine_cells.proofs.cell_list.CellListCells.table.Goals as goal
+
+pub returns : goal.returns
+returns c =
+    let list = c.args.self.now in
+    c.table_in.ensures ∙ ap (λ a. spec.tables_of (cells_of list) a) c.address.ensures ∙ sym (tables_in-same list c.args.pa)

@@ -1,0 +1,15 @@
+use Rattle.std.proofs.Common.{◌∙◌}
+use Rattle.machine_cells.specs.Whole.{state_in}
+use Rattle.machine_cells.proofs.Found.{sound_in}
+use Rattle.machine_cells.proofs.HeldEntries.{in_use-table, in_use-none}
+use Rattle.machine_cells.proofs.granules.Granules.is_in_use.Goals as goal
+
+pub returns-in-Some : goal.returns-in-Some
+returns-in-Some c =
+    let a = c.args in
+    c.is_live.ensures ∙ in_use-table a.self.now c.requires.shaped a.rd a.level a.number c.in-Some.table.now c.in-Some.ensures
+
+pub returns-in-None : goal.returns-in-None
+returns-in-None c =
+    let a = c.args in
+    c.is_above_root.ensures ∙ in_use-none (state_in a.self.now) (sound_in a.self.now c.requires.shaped) a.rd a.level a.number c.in-None.ensures

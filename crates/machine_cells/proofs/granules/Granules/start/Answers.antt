@@ -1,0 +1,27 @@
+use Rattle.std.proofs.Common.{◌≡◌, ◌<◌, sym, ◌∙◌, subst, arith}
+use Rattle.std.proofs.lemmas.Option.{none-some, same_Some}
+use Rattle.rmm_spec.specs.Flat.{flat_state}
+use Rattle.rmm_spec.specs.Walk.{full}
+use Rattle.machine_cells.specs.Whole.{state_in}
+use Rattle.machine_cells.proofs.granules.Granules.start.Goals as goal
+
+pub returns-in_default-clause-none : goal.returns-in_default-clause-none
+unfolding state_in flat_state
+returns-in_default-clause-none c = λ r is inside. none-some r (c.in_default.ensures ∙ is)
+
+pub returns-then-ipa-space_end-clause-none : goal.returns-then-ipa-space_end-clause-none
+unfolding state_in flat_state
+returns-then-ipa-space_end-clause-none c = λ r is inside.
+    let same : c.in-Some.realm.now ≡ r = same_Some c.in-Some.realm.now r (c.in-Some.ensures ∙ is) in
+    let within : c.args.ipa < full c.in-Some.realm.now = subst (λ x. c.args.ipa < full x) (sym same) inside in
+    absurd (omega (arith, within, c.space_end.ensures, c.if-ipa-space_end.true))
+
+pub returns-clause-found : goal.returns-clause-found
+unfolding state_in flat_state
+returns-clause-found c = record {
+  realm = c.in-Some.realm.now;
+  is_realm = sym c.in-Some.ensures;
+  is_root = sym c.root_of.ensures;
+  is_level = sym c.start_level.ensures;
+  inside = omega (arith, c.space_end.ensures, c.if-ipa-space_end.false);
+}

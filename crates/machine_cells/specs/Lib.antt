@@ -1,0 +1,6 @@
+pub mod Whole
+pub mod Changes
+pub mod WholeLaws
+pub mod Walks
+pub mod Searches
+pub mod Single

@@ -1,0 +1,32 @@
+-- Tables that are looked up by their place, and where a stretch may end.
+use Rattle.std.specs.Prelude.{◌≡◌, ℕ, ◌+◌, ◌-◌, ◌*◌, Bool, ◌&&◌, nat_lt, nat_le, Option, Some, None, is_some}
+use Rattle.rmm_spec.specs.declared.accepted.Stretch.{Stretch}
+use Rattle.rmm_spec.specs.State.{State}
+use Rattle.rmm_spec.specs.Table.{TableRecord}
+use Rattle.rmm_spec.specs.Cell.{tables_of}
+use Rattle.rmm_spec.specs.Walk.{entry_size, table_size, table_number, is_multiple}
+use Rattle.machine_cells.specs.declared.granules.Granules.{Granules}
+use Rattle.machine_cells.specs.Whole.{cells_of, state_in}
+
+-- the table of that number at the level, which lies in the granule where it stands
+pub record StandsAs (g : Granules) (rd level number : ℕ) (table : TableRecord) : Type 0 where
+  pub granule : ℕ
+  pub is_found : (state_in g).table rd level number ≡ Some granule
+  pub is_held : tables_of (cells_of g.list) granule ≡ Some table
+
+-- the table of that number at the level, or none where none stands
+abbrev pub IsTable : Granules → ℕ → ℕ → ℕ → Option TableRecord → Type 0
+IsTable g rd level number None = (state_in g).table rd level number ≡ None
+IsTable g rd level number (Some table) = StandsAs g rd level number table
+
+-- whether a table stands below the first entry of a table of that number, at a level that has tables below it
+abbrev pub is_above : State → ℕ → ℕ → ℕ → Bool
+is_above s rd level number = nat_lt level 3 && is_some (s.table rd (level + 1) (512 * number))
+
+-- whether a stretch may end there, whatever its entries are
+unfoldable pub is_end : Stretch → ℕ → Bool
+is_end stretch top =
+    nat_lt stretch.base top
+    && is_multiple (top - stretch.base) (entry_size stretch.level)
+    && nat_le top stretch.top
+    && nat_le top ((table_number stretch.level stretch.base + 1) * table_size stretch.level)

@@ -1,0 +1,55 @@
+-- The whole that the granules of a machine make, and the flat state that it stands for.
+use Rattle.std.specs.Prelude.{ℕ, ◌/◌, if◌then◌else◌, List, map, slice_index_or}
+use Rattle.rmm_spec.specs.Lookup.{is_granule}
+use Rattle.rmm_spec.specs.State.{State}
+use Rattle.rmm_spec.specs.TableCells.{TableCell}
+use Rattle.rmm_spec.specs.Cell as spec
+use Rattle.rmm_spec.specs.Flat.{flat_state}
+use Rattle.rmm_spec.specs.Shape as shape
+use Rattle.shape_laws.specs.Whole.{Whole, IsShaped}
+use Rattle.rtt_walk.specs.Plain.{cells_from}
+use Rattle.granule_cells.specs.declared.cell.Cell.{Cell}
+use Rattle.granule_cells.specs.declared.cell.Cell.TheVariants.{Undelegated}
+use Rattle.granule_cells.specs.declared.cpu_place.CpuPlace.{CpuPlace}
+use Rattle.granule_cells.specs.declared.cpu_place.CpuPlace.TheVariants.{Outside}
+use Rattle.granule_cells.specs.Seen.{cell_of, place_of}
+use Rattle.granule_cells.specs.Sides.{side_of}
+use Rattle.machine_cells.specs.declared.cell_list.CellList.{CellList}
+use Rattle.machine_cells.specs.declared.granules.Granules.{Granules}
+use Rattle.machine_cells.specs.declared.places.Places.{Places}
+
+-- what is kept for an address, with one item a granule; what is no granule has the default
+abbrev pub kept_at : {A : Type 0} → ℕ → List A → A → ℕ → A
+kept_at granules items default address =
+    if is_granule granules address then slice_index_or items (address / 4096) default else default
+
+-- the cell of each address
+abbrev pub cells_in : ℕ → List Cell → ℕ → spec.Cell
+cells_in granules items address = cell_of (kept_at granules items Undelegated address)
+
+-- where each CPU is
+abbrev pub places_in : List CpuPlace → ℕ → shape.CpuPlace
+places_in items cpu = place_of (slice_index_or items cpu Outside)
+
+unfoldable pub cells_of : CellList → ℕ → spec.Cell
+cells_of list = cells_in list.config.granules list.cells.items
+
+unfoldable pub places_of : Places → ℕ → shape.CpuPlace
+places_of p = places_in p.places.items
+
+-- how many granules there are
+abbrev pub count_of : Granules → ℕ
+count_of g = g.list.config.granules
+
+abbrev pub whole_of : Granules → Whole
+whole_of g = record { cells = cells_of g.list; side = side_of g.side; places = places_of g.places }
+
+abbrev pub IsShapedIn : Granules → Type 0
+IsShapedIn g = IsShaped (count_of g) (whole_of g)
+
+unfoldable pub state_in : Granules → State
+state_in g = flat_state (count_of g) (cells_of g.list)
+
+-- the tables of the granules, each in its own
+unfoldable pub tables_in : CellList → List TableCell
+tables_in list = cells_from 0 (map (λ (c : Cell). spec.table_in (cell_of c)) list.cells.items)

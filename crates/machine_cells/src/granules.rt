@@ -1,0 +1,93 @@
+//! What is kept of all granules, and what lies in one.
+
+use crate::cell_list::CellList;
+use crate::places::Places;
+use granule_cells::{Cell, Side};
+use granule_state::Config;
+use realm_desc::{Realm, Rec};
+use rmm_spec::Tag;
+use std::alloc::{AllocError, Global};
+
+/// A cell for each granule of a machine, the side table, and each CPU's place.
+#[derive(Drop)]
+pub struct Granules {
+    pub(crate) alloc: Global,
+    pub(crate) list: CellList,
+    pub(crate) side: Side,
+    pub(crate) places: Places,
+}
+
+impl Granules {
+    ghost use Rattle.std.specs.Prelude.{◌≡◌, ◌≤◌, IfOk};
+    ghost use Rattle.rmm_spec.specs.Lookup.{has_tag};
+    ghost use Rattle.rmm_spec.specs.State.{opening};
+    ghost use Rattle.machine_cells.specs.Whole.{count_of, state_in, IsShapedIn};
+
+    /// The granules of a machine of that size, all the host's.
+    #[tactic(auto, unfolding(crate::specs::Whole::state_in))]
+    pub fn new(alloc: Global, config: Config) -> Result<Granules, AllocError>
+        ensures opening { IfOk result (λ g. state_in g ≡ opening config) }
+        ensures shaped { IfOk result IsShapedIn }
+    {
+        let list = CellList::new(alloc, config)?;
+        let side = Side::new(alloc)?;
+        let places = Places::new(alloc)?;
+        Ok(Granules {
+            alloc,
+            list,
+            side,
+            places,
+        })
+    }
+
+    /// How many granules there are.
+    pub fn count(&self) -> usize
+        ensures is { result ≡ count_of self.now }
+        ensures most { result ≤ 4096 }
+    {
+        self.list.config.granules() as usize
+    }
+
+    /// The tag of a granule, which is the host's where none is at the address.
+    #[tactic(auto, unfolding(crate::specs::Whole::state_in, rmm_spec::specs::Flat::flat_state))]
+    pub fn tag(&self, address: u64) -> Tag
+        ensures { result ≡ (state_in self.now).tag address }
+    {
+        match self.list.cell(address) {
+            Some(cell) => cell.tag(),
+            None => Tag::Undelegated,
+        }
+    }
+
+    /// Whether the address is that of a granule with the tag.
+    pub fn has_tag(&self, address: u64, tag: Tag) -> bool
+        ensures { result ≡ has_tag (state_in self.now) address tag }
+    {
+        match self.list.cell(address) {
+            Some(cell) => cell.tag() == tag,
+            None => false,
+        }
+    }
+
+    /// The realm whose descriptor is at the address.
+    #[tactic(auto, unfolding(crate::specs::Whole::state_in, rmm_spec::specs::Flat::flat_state))]
+    pub fn realm(&self, rd: u64) -> Option<Realm>
+        ensures { result ≡ (state_in self.now).realm rd }
+    {
+        match self.list.cell(rd) {
+            Some(Cell::Rd(realm)) => Some(*realm),
+            _ => None,
+        }
+    }
+
+    /// The REC whose granule is at the address.
+    #[tactic(auto, unfolding(crate::specs::Whole::state_in, rmm_spec::specs::Flat::flat_state))]
+    pub fn rec(&self, address: u64) -> Option<Rec>
+        ensures { result ≡ (state_in self.now).rec address }
+    {
+        match self.list.cell(address) {
+            Some(Cell::Rec(rec)) => Some(*rec),
+            _ => None,
+        }
+    }
+}

@@ -1,0 +1,134 @@
+//! Single cells that a change puts in or changes.
+
+ghost use Rattle.std.specs.Prelude.{◌≡◌, IsTrue};
+ghost use Rattle.rmm_spec.specs.Cell as spec;
+ghost use Rattle.shape_laws.specs.Whole as whole;
+ghost use Rattle.granule_cells.specs.Seen.{cell_of};
+ghost use Rattle.machine_cells.specs.Changes.{is_plain, fits_entries};
+
+use crate::cell_list::CellList;
+use granule_cells::Cell;
+use granule_state::{GRANULE_BYTES, granule_at};
+use rmm_spec::{EntryChange, RealmChange, RecChange, Tag, TagChange};
+use rtt_table::Table;
+
+impl CellList {
+    ghost use Rattle.std.specs.Prelude.{◌≡◌, ◌/◌, IfSome, IsTrue};
+    ghost use Rattle.std.specs.Option.{SomeIff};
+    ghost use Rattle.rmm_spec.specs.Applicable.{IsRealmUpdate};
+    ghost use Rattle.rmm_spec.specs.Lookup.{is_granule};
+    ghost use Rattle.shape_laws.specs.Whole.{cells_with_tag_change, cells_with_realm_change, cells_with_rec_change, cells_with_entries, entries_changed, width_in};
+    ghost use Rattle.machine_cells.specs.Changes.{CanGetTag, CanUpdate, fits_entries};
+    ghost use Rattle.machine_cells.specs.Whole.{cells_of};
+
+    /// Gives a granule that holds nothing another tag, where one goes with a change.
+    pub(crate) fn change_tag(&mut self, change: Option<TagChange>)
+        requires { IfSome change (CanGetTag self.old.config.granules) }
+        ensures size { self.new.config ≡ self.old.config }
+        ensures cells { cells_of self.new ≡ cells_with_tag_change (cells_of self.old) change }
+    {
+        if let Some(TagChange { granule, tag }) = change {
+            self.put(granule, plain_cell(tag));
+        }
+    }
+
+    /// Updates the realm that is there, where one is updated.
+    pub(crate) fn change_realm(&mut self, change: Option<RealmChange>)
+        requires { IfSome change (λ c. IsRealmUpdate c.update) }
+        ensures size { self.new.config ≡ self.old.config }
+        ensures cells { cells_of self.new ≡ cells_with_realm_change (cells_of self.old) change }
+    {
+        let Some(RealmChange { rd, update }) = change else {
+            return;
+        };
+        let Some(realm) = self.realm_in(rd) else {
+            return;
+        };
+        let mut realm = *realm;
+        realm.update(update);
+        self.put(rd, Cell::Rd(realm));
+    }
+
+    /// Updates the REC that is there, where one is updated.
+    pub(crate) fn change_rec(&mut self, change: Option<RecChange>)
+        requires { IfSome change (CanUpdate (cells_of self.old)) }
+        ensures size { self.new.config ≡ self.old.config }
+        ensures cells { cells_of self.new ≡ cells_with_rec_change (cells_of self.old) change }
+    {
+        let Some(RecChange { rec, update }) = change else {
+            return;
+        };
+        let Some(record) = self.rec_in(rec) else {
+            return;
+        };
+        let mut record = *record;
+        record.update(update);
+        self.put(rec, Cell::Rec(record));
+    }
+
+    /// Changes the entries of the table that is there, where a granule is given.
+    pub(crate) fn change_entries(&mut self, at: Option<u64>, change: EntryChange)
+        requires { IsTrue (fits_entries change) }
+        ensures size { self.new.config ≡ self.old.config }
+        ensures cells { cells_of self.new ≡ cells_with_entries (cells_of self.old) (entries_changed change) at }
+    {
+        let Some(granule) = at else {
+            return;
+        };
+        let Some(place) = self.place_of(granule) else {
+            return;
+        };
+        if let Cell::Rtt(table) = &mut self.cells[place] {
+            change_table(table, change);
+        }
+    }
+
+    /// The width of the address space that the table there is of.
+    pub(crate) fn width_at(&self, granule: u64) -> u8
+        ensures { result ≡ width_in (cells_of self.now granule) }
+    {
+        match self.cell(granule) {
+            Some(Cell::Rtt(table)) => table.place().width,
+            _ => 0,
+        }
+    }
+
+    // The place of the granule at the address, where one is.
+    fn place_of(&self, address: u64) -> Option<usize>
+        ensures { SomeIff result (IsTrue (is_granule self.now.config.granules address)) (address / 4096) }
+    {
+        let granule = granule_at(&self.config, address)?;
+        Some((granule.address() / GRANULE_BYTES) as usize)
+    }
+}
+
+// The cell of a granule that holds nothing.
+fn plain_cell(tag: Tag) -> Cell
+    requires { IsTrue (is_plain tag) }
+    ensures { (before : spec.Cell) → cell_of result ≡ whole.cell_with_tag tag before }
+{
+    match tag {
+        Tag::Undelegated => Cell::Undelegated,
+        Tag::Delegated => Cell::Delegated,
+        Tag::RecAux => Cell::RecAux,
+        Tag::Data => Cell::Data,
+        Tag::Rd | Tag::Rec | Tag::Rtt => unreachable!(),
+    }
+}
+
+// Changes the entries of a table.
+fn change_table(table: &mut Table, change: EntryChange)
+    requires { IsTrue (fits_entries change) }
+    ensures { table.new ≡ record table.old { entries = whole.entries_changed change table.old.entries } }
+{
+    match change {
+        EntryChange::Replaced { number, entry } => {
+            table.set_entry((number % 512) as usize, entry);
+        }
+        EntryChange::RipasSet { first, last, ripas } => {
+            let from = (first % 512) as usize;
+            let to = (last - first / 512 * 512) as usize;
+            table.set_ripas(from, to, ripas);
+        }
+    }
+}

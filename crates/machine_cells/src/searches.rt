@@ -1,0 +1,133 @@
+//! Searches through the entries of one table.
+
+ghost use Rattle.std.specs.Prelude.{◌≡◌, ◌≤◌};
+ghost use Rattle.machine_cells.specs.Searches as search;
+
+use crate::granules::Granules;
+use rmm_spec::{Entry, Ripas, Stretch};
+use rtt_table::Table;
+use table_entries::{can_be_set, entry_number, entry_size, table_number};
+
+impl Granules {
+    ghost use Rattle.std.specs.Prelude.{◌≡◌, ◌^◌, ◌/◌, ◌<◌, ◌≤◌, IfSome, None, option_copied};
+    ghost use Rattle.rmm_spec.specs.Walk.{entry_at, is_in_use, has_link};
+    ghost use Rattle.rmm_spec.specs.Step.Ripas.{is_reached};
+    ghost use Rattle.machine_cells.specs.Whole.{state_in, IsShapedIn};
+    ghost use Rattle.machine_cells.specs.Searches.{IsTable};
+
+    // The realm's table of that number at the level.
+    fn table_here(&self, rd: u64, level: u8, number: u64) -> Option<&Table>
+        requires { IsShapedIn self.now }
+        ensures { IsTable self.now rd level number (option_copied result) }
+    {
+        let Some(granule) = self.table_at(rd, level, number) else {
+            return None;
+        };
+        self.list.table_in(granule)
+    }
+
+    // The entry of that number, where its table is this one or doesn't stand.
+    fn entry_in(&self, table: Option<&Table>, rd: u64, level: u8, number: u64) -> Entry
+        requires shaped { IsShapedIn self.now }
+        requires table { IsTable self.now rd level (number / 512) (option_copied table) }
+        ensures { result ≡ entry_at (state_in self.now) rd level number }
+    {
+        match table {
+            Some(table) => table.entry((number % 512) as usize),
+            None => self.unlisted(rd, level, number),
+        }
+    }
+
+    // The entry of that number where no table has it: above a root is a link to it.
+    fn unlisted(&self, rd: u64, level: u8, number: u64) -> Entry
+        requires shaped { IsShapedIn self.now }
+        requires none { (state_in self.now).table rd level (number / 512) ≡ None }
+        ensures { result ≡ entry_at (state_in self.now) rd level number }
+    {
+        if level >= 3 {
+            return Entry::Unassigned(Ripas::Empty);
+        }
+        match self.table_at(rd, level + 1, number) {
+            Some(granule) => Entry::Table(granule),
+            None => Entry::Unassigned(Ripas::Empty),
+        }
+    }
+
+    // Whether a root stands below a table of that number, which doesn't stand.
+    fn is_above_root(&self, rd: u64, level: u8, number: u64) -> bool
+        requires shaped { IsShapedIn self.now }
+        requires number { number < 2 ^ 55 }
+        ensures { result ≡ search.is_above (state_in self.now) rd level number }
+    {
+        level < 3 && self.table_at(rd, level + 1, 512 * number).is_some()
+    }
+
+    /// Whether the table of that number has an entry that keeps it in use.
+    pub fn is_in_use(&self, rd: u64, level: u8, number: u64) -> bool
+        requires shaped { IsShapedIn self.now }
+        requires number { number < 2 ^ 55 }
+        ensures { result ≡ is_in_use (state_in self.now) rd level number }
+    {
+        match self.table_here(rd, level, number) {
+            Some(table) => table.is_live(),
+            None => self.is_above_root(rd, level, number),
+        }
+    }
+
+    /// Whether the table of that number links to one below it.
+    pub fn has_link(&self, rd: u64, level: u8, number: u64) -> bool
+        requires shaped { IsShapedIn self.now }
+        requires number { number < 2 ^ 55 }
+        ensures { result ≡ has_link (state_in self.now) rd level number }
+    {
+        match self.table_here(rd, level, number) {
+            Some(table) => table.has_link(),
+            None => self.is_above_root(rd, level, number),
+        }
+    }
+
+    /// Whether a stretch may be set up to `top`.
+    pub fn is_reached(&self, stretch: &Stretch, top: u64) -> bool
+        requires shaped { IsShapedIn self.now }
+        requires level { stretch.now.level ≤ 3 }
+        ensures { result ≡ is_reached (state_in self.now) stretch.now top }
+    {
+        if !is_end(stretch, top) {
+            return false;
+        }
+        let level = stretch.level;
+        let first = entry_number(level, stretch.base);
+        let count = entry_number(level, top - stretch.base);
+        let table = self.table_here(stretch.rd, level, first / 512);
+        for place in 0..count {
+            let entry = self.entry_in(table, stretch.rd, level, first + place);
+            if !can_be_set(stretch.purpose, entry) {
+                return false;
+            }
+        }
+        true
+    }
+}
+
+// Whether a stretch may end there, whatever its entries are.
+#[tactic(auto, using(crate::proofs::Stretches::end_past, crate::proofs::Stretches::end_beyond, crate::proofs::Stretches::end_between, crate::proofs::Stretches::end_at))]
+fn is_end(stretch: &Stretch, top: u64) -> bool
+    requires { stretch.now.level ≤ 3 }
+    ensures { result ≡ search.is_end stretch.now top }
+{
+    let level = stretch.level;
+    let base = stretch.base;
+    if top <= base {
+        return false;
+    }
+    if stretch.top < top {
+        return false;
+    }
+    let size = entry_size(level);
+    if (top - base) % size != 0 {
+        return false;
+    }
+    let last = table_number(level, top - 1);
+    let own = table_number(level, base);
+    last <= own
+}

@@ -1,0 +1,119 @@
+//! Walks through a realm's tables by links, from its root on.
+
+ghost use Rattle.std.specs.Prelude.{◌≡◌, ◌≤◌, ◌<◌, ◌*◌, ◌^◌, IfSome, IfNone};
+ghost use Rattle.rmm_spec.specs.Walk as spec;
+ghost use Rattle.machine_cells.specs.Walks.{IsFirst};
+
+use crate::granules::Granules;
+use granule_state::{Ipa, Pa};
+use realm_desc::Realm;
+use rmm_spec::{Entry, Ripas, Walked};
+
+/// Where a walk starts.
+#[derive(Clone, Copy)]
+pub(crate) struct Start {
+    pub(crate) root: Pa,
+    pub(crate) level: u8,
+}
+
+impl Granules {
+    ghost use Rattle.std.specs.Prelude.{◌≡◌, ◌≤◌, ◌<◌, IfSome, IfNone, ℕ, None, Some, IsSome};
+    ghost use Rattle.rmm_spec.specs.State.{RealmRecord};
+    ghost use Rattle.rmm_spec.specs.Walk.{walk, full, table_number, IsWalk};
+    ghost use Rattle.machine_cells.specs.Whole.{state_in, IsShapedIn};
+    ghost use Rattle.machine_cells.specs.Walks.{StartsAt};
+
+    // The root of the realm, where its address space has the address.
+    fn start(&self, rd: u64, ipa: u64) -> Option<Start>
+        ensures found { IfSome result (λ start. StartsAt (state_in self.now) rd ipa start.root start.level) }
+        ensures none { IfNone result ((r : RealmRecord) → (state_in self.now).realm rd ≡ Some r → ipa < full r → ⊥) }
+    {
+        let Some(realm) = self.list.realm_in(rd) else {
+            return None;
+        };
+        if ipa >= realm.space_end() {
+            return None;
+        }
+        Some(Start {
+            root: root_of(realm),
+            level: realm.start_level(),
+        })
+    }
+
+    /// Where the walk for an address up to a level ends.
+    pub fn walk(&self, rd: u64, ipa: u64, max: u8) -> Walked
+        requires shaped { IsShapedIn self.now }
+        requires max { max ≤ 3 }
+        ensures { result ≡ walk (state_in self.now) rd ipa max }
+    {
+        let Some(start) = self.start(rd, ipa) else {
+            return Walked {
+                level: 0,
+                granule: 0,
+                entry: Entry::Unassigned(Ripas::Empty),
+            };
+        };
+        if start.level > max {
+            return Walked {
+                level: 0,
+                granule: 0,
+                entry: Entry::Table(start.root.address()),
+            };
+        }
+        let end = rtt_walk::walk(&self.list, start.root, Ipa::new(ipa), max);
+        Walked {
+            level: end.level,
+            granule: end.pa.address(),
+            entry: end.entry,
+        }
+    }
+
+    /// The granule of the realm's table of that number at the level.
+    pub fn table_at(&self, rd: u64, level: u8, number: u64) -> Option<u64>
+        requires { IsShapedIn self.now }
+        ensures { result ≡ (state_in self.now).table rd level number }
+    {
+        let Some(ipa) = first_address(level, number) else {
+            return None;
+        };
+        let Some(start) = self.start(rd, ipa) else {
+            return None;
+        };
+        if start.level > level {
+            return None;
+        }
+        let end = rtt_walk::walk(&self.list, start.root, Ipa::new(ipa), level);
+        if end.level == level {
+            Some(end.pa.address())
+        } else {
+            None
+        }
+    }
+}
+
+// Where a realm's tables begin.
+#[tactic(auto, unfolding(realm_desc::specs::View::realm_record))]
+fn root_of(realm: &Realm) -> Pa
+    ensures { result ≡ realm.now.root }
+{
+    realm.root
+}
+
+// The first address that the table of that number at the level covers, where there can be one.
+fn first_address(level: u8, number: u64) -> Option<u64>
+    ensures found { IfSome result (IsFirst level number) }
+    ensures none { IfNone result (level ≤ 3 → number * spec.table_size level < 2 ^ 64 → ⊥) }
+{
+    if level > 3 {
+        return None;
+    }
+    number.checked_mul(table_size(level))
+}
+
+/// How many bytes a table covers.
+#[tactic(auto, unfolding(rmm_spec::specs::Walk::table_size))]
+pub(crate) fn table_size(level: u8) -> u64
+    ensures { result ≡ spec.table_size level }
+{
+    1 << (12 + 9 * 4u64.saturating_sub(u64::from(level)))
+}

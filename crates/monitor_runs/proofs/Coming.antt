@@ -1,0 +1,141 @@
+-- How a CPU comes through its program: what it has called and committed after each of its commands.
+use Rattle.std.proofs.Common.{◌≡◌, ℕ, zero, suc, ◌+◌, ◌-◌, ◌<◌, ◌≤◌, true, List, [], ◌∷◌, ◌++◌, length, map, take, get_or, refl, sym, ap, ◌∙◌, subst, arith}
+use Rattle.std.specs.Prelude.{Ok, Err}
+use Rattle.std.specs.List.{AllByRecursion}
+use Rattle.std.proofs.lemmas.List.{append-nil, length_push, map_push, nil_from_length, take_more}
+use Rattle.rmm_spec.specs.declared.command.Command.{Command}
+use Rattle.rmm_spec.specs.declared.event.Event.{Event}
+use Rattle.rmm_spec.specs.declared.event.Event.TheVariants.{Called, Returned}
+use Rattle.rmm_spec.specs.CommandText.{IsCommand}
+use Rattle.commit_tickets.specs.declared.committing.Done.{Done}
+use Rattle.commit_tickets.specs.declared.token.Committed.{Committed}
+use Rattle.commit_tickets.specs.View.{TokenView}
+use Rattle.event_queue.specs.View.{CpuView}
+use Rattle.monitor.specs.Executed.{ArePaired, Leaves, HasCommitted, called, returned}
+use Rattle.monitor.specs.View.{MonitorView}
+use Rattle.monitor.specs.declared.refused.Refused.{Refused}
+use Rattle.monitor.specs.declared.refused.Refused.TheVariants.{Full, NoMemory, Unrecorded, Stopped, Disagrees}
+use Rattle.monitor.proofs.CpuLists.{cpu-left}
+use Rattle.monitor_runs.specs.Worked.{commands_called, commands_committed, CanWork, HasWorked}
+
+commands_called-append : (events more : List Event) → commands_called (events ++ more) ≡ commands_called events ++ commands_called more
+commands_called-append [] more = refl
+commands_called-append (Called cpu number command ∷ events) more = ap (λ commands. command ∷ commands) (commands_called-append events more)
+commands_called-append (Returned cpu number given ∷ events) more = commands_called-append events more
+
+-- a call more
+commands_called-called : (pass : CpuView) (command : Command) → commands_called (called pass command).events ≡ commands_called pass.events ++ command ∷ []
+commands_called-called pass command = commands_called-append pass.events (Called pass.cpu pass.stand.next command ∷ [])
+
+-- each command of a program has a text
+pub IsCommand-at : (program : List Command) (place : ℕ) (command : Command) → AllByRecursion IsCommand program → place < length program
+    → IsCommand (get_or program place command)
+IsCommand-at [] place command have within = absurd (omega (arith, within))
+IsCommand-at (first ∷ program) zero command have within = have.0
+IsCommand-at (first ∷ program) (suc place) command have within = IsCommand-at program place command have.1 (omega (arith, within))
+
+-- The CPU has called so many commands of its program, the first, and has committed them and returned from them.
+pub record HasCome (monitor : MonitorView) (cpu : ℕ) (program : List Command) (count : ℕ) (token : TokenView) (pass : CpuView) : Type 0 where
+  pub paired : ArePaired monitor token pass
+  pub same_cpu : token.cpu ≡ cpu
+  pub called : commands_called pass.events ≡ take count program
+  pub committed : commands_committed token ≡ take count program
+  pub few : length pass.events ≤ count + count
+  pub next : pass.stand.next ≡ count
+
+-- before its first command
+pub come-first : (monitor : MonitorView) (program : List Command) (token : TokenView) (pass : CpuView) → CanWork monitor program token pass
+    → HasCome monitor token.cpu program 0 token pass
+come-first monitor program token pass can = record {
+  paired = can.paired;
+  same_cpu = refl;
+  called = ap (λ (p : CpuView). commands_called p.events) can.before;
+  committed = ap (λ mine. map (λ (commit : Committed). commit.command) mine)
+      (nil_from_length token.mine (omega (arith, can.paired.few, ap (λ (p : CpuView). length p.events) can.before)));
+  few = omega (arith, ap (λ (p : CpuView). length p.events) can.before);
+  next = ap (λ (p : CpuView). p.stand.next) can.before;
+}
+
+-- after some commands
+pub come-worked : (monitor : MonitorView) (cpu : ℕ) (program : List Command) (count : ℕ) (token : TokenView) (pass : CpuView) → count ≤ length program
+    → HasCome monitor cpu program count token pass → HasWorked monitor cpu program token pass
+come-worked monitor cpu program count token pass within come = record {
+  paired = come.paired;
+  same_cpu = come.same_cpu;
+  calls = count;
+  commits = count;
+  within = (omega arith, within);
+  called = come.called;
+  committed = come.committed;
+  few = come.few;
+}
+
+module _ (monitor : MonitorView) (cpu : ℕ) (program : List Command) (count : ℕ) (command : Command) (token : TokenView) (pass : CpuView)
+    (new_token : TokenView) (new_pass : CpuView) (come : HasCome monitor cpu program count token pass) (within : count < length program)
+    (is_next : get_or program count command ≡ command) (paired : ArePaired monitor new_token new_pass) where
+  one_more : take count program ++ command ∷ [] ≡ take (count + 1) program
+  one_more = ap (λ next. take count program ++ next ∷ []) (sym is_next) ∙ sym (take_more program count command within)
+
+  called_more : commands_called (called pass command).events ≡ take (count + 1) program
+  called_more = commands_called-called pass command ∙ ap (λ commands. commands ++ command ∷ []) come.called ∙ one_more
+
+  few_more : length (called pass command).events ≤ (count + 1) + count
+  few_more = omega (arith, length_push pass.events (Called pass.cpu pass.stand.next command), come.few)
+
+  committed_more : (old : TokenView) (done : Done) → old.mine ≡ token.mine → HasCommitted old command done new_token
+      → commands_committed new_token ≡ take (count + 1) program
+  committed_more old done same is =
+      let commit : Committed = record { ticket = done.ticket; command = command; reply = done.reply } in
+      ap commands_committed is ∙ ap (λ mine. map (λ (c : Committed). c.command) (mine ++ commit ∷ [])) same
+      ∙ map_push (λ (c : Committed). c.command) token.mine commit ∙ ap (λ commands. commands ++ command ∷ []) come.committed ∙ one_more
+
+  -- it returned from the next command
+  pub come-more : (done : Done) → Leaves command token pass (Ok done) new_token new_pass → HasCome monitor cpu program (count + 1) new_token new_pass
+  come-more done left =
+      let after : CpuView = returned (called pass command) done.reply in
+      let event = Returned pass.cpu ((called pass command).stand.next - 1) done.reply in record {
+        paired = paired;
+        same_cpu = cpu-left command token new_token pass new_pass (Ok done) left ∙ come.same_cpu;
+        called = ap (λ (p : CpuView). commands_called p.events) left.1 ∙ commands_called-append (called pass command).events (event ∷ [])
+            ∙ append-nil (commands_called (called pass command).events) ∙ called_more;
+        committed = committed_more token done refl left.0;
+        few = subst (λ (p : CpuView). length p.events ≤ (count + 1) + (count + 1)) (sym left.1)
+            (omega (arith, length_push (called pass command).events event, few_more));
+        next = ap (λ (p : CpuView). p.stand.next) left.1 ∙ ap (λ n. n + 1) come.next;
+      }
+
+  -- the call stands, and was not committed
+  called-only : new_token.cpu ≡ token.cpu → new_token.mine ≡ token.mine → new_pass ≡ called pass command → HasWorked monitor cpu program new_token new_pass
+  called-only same_cpu same_mine is = record {
+    paired = paired;
+    same_cpu = same_cpu ∙ come.same_cpu;
+    calls = count + 1;
+    commits = count;
+    within = (omega arith, omega (arith, within));
+    called = ap (λ (p : CpuView). commands_called p.events) is ∙ called_more;
+    committed = ap (λ mine. map (λ (c : Committed). c.command) mine) same_mine ∙ come.committed;
+    few = subst (λ (p : CpuView). length p.events ≤ (count + 1) + (count + 1)) (sym is) (omega (arith, few_more));
+  }
+
+  -- nothing changed
+  left-alone : new_token ≡ token → new_pass ≡ pass → HasWorked monitor cpu program new_token new_pass
+  left-alone same_token same_pass =
+      subst (λ t. HasWorked monitor cpu program t new_pass) (sym same_token)
+      (subst (HasWorked monitor cpu program token) (sym same_pass) (come-worked monitor cpu program count token pass (omega (arith, within)) come))
+
+  -- it was refused
+  pub come-refused : (refused : Refused) → Leaves command token pass (Err refused) new_token new_pass → HasWorked monitor cpu program new_token new_pass
+  come-refused (Unrecorded done) left = record {
+    paired = paired;
+    same_cpu = cpu-left command token new_token pass new_pass (Err (Unrecorded done)) left ∙ come.same_cpu;
+    calls = count + 1;
+    commits = count + 1;
+    within = (omega arith, omega (arith, within));
+    called = ap (λ (p : CpuView). commands_called p.events) left.1 ∙ called_more;
+    committed = committed_more (record token { is_stopped = true }) done refl left.0;
+    few = subst (λ (p : CpuView). length p.events ≤ (count + 1) + (count + 1)) (sym left.1) (omega (arith, few_more));
+  }
+  come-refused NoMemory left = called-only (ap (λ (t : TokenView). t.cpu) left.0) (ap (λ (t : TokenView). t.mine) left.0) left.1
+  come-refused Disagrees left = called-only (ap (λ (t : TokenView). t.cpu) left.0) (ap (λ (t : TokenView). t.mine) left.0) left.1
+  come-refused Full left = left-alone left.0 left.1
+  come-refused Stopped left = left-alone left.0 left.1

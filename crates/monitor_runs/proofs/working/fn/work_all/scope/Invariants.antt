@@ -1,0 +1,12 @@
+use Rattle.std.proofs.Common.{◌≡◌, ◌-◌, length, map}
+use Rattle.std.specs.Prelude.{All}
+use Rattle.monitor_runs.specs.Worked.{AreWaiting, promised}
+use Rattle.monitor_runs.proofs.working.fn.work_all.scope.Given as goal
+
+abbrev pub invariant-loop-cpu : goal.invariant-loop-cpu
+invariant-loop-cpu g l =
+    AreWaiting l.monitor.now l.scenario.programs l.tokens.items l.passes.items l.programs.items
+    × (length l.tokens.items ≡ l.monitor.now.config.cpus - l._cpu)
+    × All (λ worker. worker.promise.monitor.now ≡ l.monitor.now) l.workers.items
+    × (map (λ worker. (worker.promise.cpu, worker.promise.program.value.items)) l.workers.items
+    ≡ promised l.scenario.programs l.monitor.now.config.cpus l._cpu)

@@ -1,0 +1,38 @@
+-- What is left of a run on threads, and what is printed of it.
+use Rattle.std.specs.Prelude.{◌≡◌, ℕ, ◌≤◌, List, [], length, slice_get, get_or, Some, take}
+use Rattle.rmm_spec.specs.declared.command.Command.{Command}
+use Rattle.rmm_spec.specs.declared.line.Line.{Line}
+use Rattle.rmm_spec.specs.declared.verdict.Verdict.{Verdict}
+use Rattle.rmm_spec.specs.CertificateText.{certificate_text}
+use Rattle.rmm_spec.specs.HistoryText.{History, subhistory_of, history_text}
+use Rattle.rmm_spec.specs.Judgement.{Judges}
+use Rattle.rmm_spec.specs.Scenario.{Scenario}
+use Rattle.commit_tickets.specs.View.{TokenView}
+use Rattle.monitor.specs.Closed.{IsJournal}
+use Rattle.run_texts.specs.RunText.{run_text}
+use Rattle.monitor_runs.specs.Worked.{commands_called, commands_committed}
+
+-- The history has the first calls of this program, and the token the first commits of those.
+pub record HasBegun (program : List Command) (cpu : ℕ) (history : History) (token : TokenView) : Type 0 where
+  pub calls : ℕ
+  pub commits : ℕ
+  pub within : (commits ≤ calls) × (calls ≤ length program)
+  pub called : commands_called (subhistory_of cpu history.events) ≡ take calls program
+  pub committed : commands_committed token ≡ take commits program
+
+-- The history is of the scenario's machine, and has of each CPU the first calls of its program. The lines are a journal that is a run of the
+-- machine, and in which each CPU's commits are the first of its calls.
+pub record IsThreadRun (scenario : Scenario) (history : History) (lines : List Line) : Type 0 where
+  pub same_config : history.config ≡ scenario.config
+  pub tokens : List TokenView
+  pub count : length tokens ≡ scenario.config.cpus
+  pub journal : IsJournal scenario.config tokens history.events lines
+  pub each : (cpu : ℕ) (token : TokenView) → slice_get tokens cpu ≡ Some token → HasBegun (get_or scenario.programs cpu []) cpu history token
+
+-- What is printed of such a run: its texts, with a verdict that is right of them.
+pub record IsPrinted (scenario : Scenario) (judged : Verdict) (text : List ℕ) : Type 0 where
+  pub history : History
+  pub lines : List Line
+  pub is_run : IsThreadRun scenario history lines
+  pub is_right : Judges judged (history_text history) (certificate_text lines)
+  pub is_text : text ≡ run_text history lines judged

@@ -1,0 +1,82 @@
+//! A run on threads, from a scenario to texts.
+
+ghost use Rattle.std.specs.Prelude.{◌≡◌, ◌++◌, ℕ, List, IfOk, IfErr, OnErr};
+ghost use Rattle.rmm_spec.specs.Scenario.{IsScenario};
+ghost use Rattle.commit_tickets.specs.View.{TokenView};
+ghost use Rattle.monitor.specs.Closed.{Disagree};
+ghost use Rattle.run_texts.specs.declared.fault.RunFault.TheVariants.{Disagrees};
+ghost use Rattle.monitor_runs.specs.ThreadRun.{IsThreadRun, IsPrinted};
+
+use crate::working::{Ended, work_all};
+use certificate::Certificate;
+use granule_state::Config;
+use history::History;
+use monitor::{CloseFault, Monitor, Site};
+use run_texts::{RunFault, Verdict, print_run};
+use scenario::{Scenario, copied_programs};
+use std::alloc::Global;
+use std::marker::Brand;
+use std::sync::Wait;
+use std::sync::ledger::Blank;
+use std::thread::Threads;
+
+/// Runs a monitor: each CPU of the scenario executes its program on a thread of its own, while this thread drains. Appends the
+/// history, an empty line, the journal as a certificate, an empty line, and the line of the verdict on the two. Where the run
+/// breaks off, nothing is appended. The scenario's turns and their limit aren't used.
+pub fn threads_text<R: Threads + Wait + Sync>(
+    rt: &R,
+    alloc: Global,
+    scenario: &Scenario,
+    out: &mut Vec<u8>,
+) -> Result<Verdict, RunFault>
+    ensures printed { IfOk result (λ judged. (text : List ℕ) × (out.new.items ≡ out.old.items ++ text)
+        × IsPrinted scenario.now judged text) }
+    ensures disagrees { IfErr result (λ fault. fault ≡ Disagrees → (tokens : List TokenView) × Disagree scenario.now.config tokens) }
+    ensures err { OnErr result (out.new.items ≡ out.old.items) }
+{
+    let config = *scenario.config();
+    let blank = Blank::new(u64::from(config.cpus()));
+    let (history, certificate) = recorded::<Brand, R>(rt, alloc, blank, config, scenario)?;
+    Ok(print_run(alloc, &history, &certificate, out)?)
+}
+
+// What the CPUs recorded and committed.
+fn recorded<S: Site + Send + Sync, R: Threads + Wait + Sync>(
+    rt: &R,
+    alloc: Global,
+    blank: Blank,
+    config: Config,
+    scenario: &Scenario,
+) -> Result<(History, Certificate), RunFault>
+    requires name { blank.name ≡ S.name }
+    requires parts { blank.parts ≡ S.parts }
+    requires one_each { blank.parts ≡ config.cpus }
+    requires granules { config.granules ≡ S.granules }
+    requires config { config ≡ scenario.now.config }
+    requires limits { IsScenario scenario.now }
+    ensures ran { IfOk result (λ ran. IsThreadRun scenario.now ran.0.recorded ran.1.lines) }
+    ensures disagrees { IfErr result (λ fault. fault ≡ Disagrees → (tokens : List TokenView) × Disagree config tokens) }
+{
+    let programs = copied_programs(alloc, scenario.programs())?;
+    let (monitor, tokens, passes, scribe) = Monitor::<S>::new(
+        alloc,
+        blank,
+        config,
+        scenario.queue(),
+    )?;
+    let history = History::new(alloc, config);
+    let ended = work_all(
+        rt, alloc, &monitor, scenario, tokens, passes, programs, scribe, history,
+    )?;
+    let Ended {
+        tokens,
+        passes,
+        scribe,
+        history,
+    } = ended;
+    match monitor.close(rt, alloc, tokens, passes, scribe, history) {
+        Ok(closed) => Ok(closed),
+        Err(CloseFault::NoMemory) => Err(RunFault::NoMemory),
+        Err(CloseFault::Disagrees) => Err(RunFault::Disagrees),
+    }
+}

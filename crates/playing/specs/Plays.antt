@@ -1,0 +1,75 @@
+-- What playing a scenario's bytes says of its source and its sink.
+use Rattle.std.specs.Prelude.{◌≢◌, ⊤, ℕ, List, Result, Ok, Err}
+use Rattle.rmm_spec.specs.declared.verdict.Verdict.{Verdict}
+use Rattle.rmm_spec.specs.Scenario.{Scenario}
+use Rattle.judging.specs.declared.source.ReadError.{ReadError}
+use Rattle.judging.specs.declared.source.ReadError.TheVariants as of_read
+use Rattle.run_texts.specs.declared.fault.RunFault.{RunFault}
+use Rattle.run_texts.specs.declared.fault.RunFault.TheVariants as of_run
+use Rattle.scenario_text.specs.declared.fault.ScenarioFault.{ScenarioFault}
+use Rattle.scenario_text.specs.declared.fault.ScenarioFault.TheVariants as of_scenario
+use Rattle.scenario_text.specs.ScenarioText.{IsScenarioText, IsFirstFault}
+use Rattle.playing.specs.declared.fault.PlayFault.{PlayFault}
+use Rattle.playing.specs.declared.fault.PlayFault.TheVariants as fault
+
+-- ---- faults of its parts
+
+abbrev pub fault_of_read : ReadError → PlayFault
+fault_of_read of_read.Device = fault.Read
+fault_of_read of_read.NoMemory = fault.NoMemory
+
+abbrev pub fault_of_scenario : ScenarioFault → PlayFault
+fault_of_scenario of_scenario.NoMemory = fault.NoMemory
+fault_of_scenario refused = fault.Scenario refused
+
+abbrev pub fault_of_run : RunFault → PlayFault
+fault_of_run of_run.NoMemory = fault.NoMemory
+fault_of_run of_run.Disagrees = fault.Disagrees
+fault_of_run of_run.Thread = fault.Thread
+
+-- ---- what is printed, and what is refused
+
+-- bytes that are those of the source state this scenario
+pub record IsStated (IsBytes : List ℕ → Type 0) (scenario : Scenario) : Type 0 where
+  pub bytes : List ℕ
+  pub is_bytes : IsBytes bytes
+  pub states : IsScenarioText bytes scenario
+
+-- the source's bytes state a scenario of which this text is printed, with this verdict
+pub record Plays (IsPrinted : Scenario → Verdict → List ℕ → Type 0) (IsBytes : List ℕ → Type 0) (verdict : Verdict) (text : List ℕ) : Type 0 where
+  pub scenario : Scenario
+  pub is_stated : IsStated IsBytes scenario
+  pub is_printed : IsPrinted scenario verdict text
+
+-- this is the first fault of bytes that are those of the source, and it isn't refused memory
+pub record IsRefused (IsBytes : List ℕ → Type 0) (refused : ScenarioFault) : Type 0 where
+  pub bytes : List ℕ
+  pub is_bytes : IsBytes bytes
+  pub first : IsFirstFault refused bytes
+  pub told : refused ≢ of_scenario.NoMemory
+
+-- a fault of the scenario is one of the bytes
+abbrev pub IsCaused : (List ℕ → Type 0) → PlayFault → Type 0
+IsCaused IsBytes (fault.Scenario refused) = IsRefused IsBytes refused
+IsCaused IsBytes fault.Read = ⊤
+IsCaused IsBytes fault.Write = ⊤
+IsCaused IsBytes fault.NoMemory = ⊤
+IsCaused IsBytes fault.Thread = ⊤
+IsCaused IsBytes fault.Disagrees = ⊤
+
+-- ---- devices
+
+-- how many failures of each device
+pub record Failures : Type 0 where
+  pub source : ℕ
+  pub sink : ℕ
+
+-- those that the answer reports
+abbrev pub failures_of : {T : Type 0} → Result T PlayFault → Failures
+failures_of (Ok value) = record { source = 0; sink = 0 }
+failures_of (Err fault.Read) = record { source = 1; sink = 0 }
+failures_of (Err fault.Write) = record { source = 0; sink = 1 }
+failures_of (Err (fault.Scenario refused)) = record { source = 0; sink = 0 }
+failures_of (Err fault.NoMemory) = record { source = 0; sink = 0 }
+failures_of (Err fault.Thread) = record { source = 0; sink = 0 }
+failures_of (Err fault.Disagrees) = record { source = 0; sink = 0 }

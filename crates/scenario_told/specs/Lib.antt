@@ -1,0 +1,2 @@
+pub mod Flaws
+pub mod Keys

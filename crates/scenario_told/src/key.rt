@@ -1,0 +1,80 @@
+//! The keys of a scenario.
+
+ghost use Rattle.std.specs.Prelude.{◌≡◌};
+ghost use Rattle.scenario_told.specs.Keys.{is_needed, key_name, most, number_name};
+
+/// A number that a scenario states.
+#[derive(Clone, Copy)]
+pub enum Number {
+    Granules,
+    Cpus,
+    Queue,
+    Limit,
+}
+
+/// A key that a scenario has, or may have.
+#[derive(Clone, Copy)]
+pub enum Key {
+    Number(Number),
+    Programs,
+    Turns,
+}
+
+impl Number {
+    /// What its key is called.
+    pub fn name(self) -> &'static str
+        ensures { result.now ≡ number_name self }
+    {
+        match self {
+            Number::Granules => "granules",
+            Number::Cpus => "cpus",
+            Number::Queue => "queue",
+            Number::Limit => "limit",
+        }
+    }
+
+    /// The most that it may be. The least is 1.
+    pub fn most(self) -> u32
+        ensures { result ≡ most self }
+    {
+        match self {
+            Number::Granules => 4096,
+            Number::Cpus => 8,
+            Number::Queue => 65_536,
+            Number::Limit => 10_000_000,
+        }
+    }
+}
+
+impl Key {
+    /// All of them.
+    pub const ALL: [Key; 6] = [
+        Key::Number(Number::Granules),
+        Key::Number(Number::Cpus),
+        Key::Programs,
+        Key::Number(Number::Queue),
+        Key::Turns,
+        Key::Number(Number::Limit),
+    ];
+
+    /// What it is called.
+    pub fn name(self) -> &'static str
+        ensures { result.now ≡ key_name self }
+    {
+        match self {
+            Key::Number(number) => number.name(),
+            Key::Programs => "programs",
+            Key::Turns => "turns",
+        }
+    }
+
+    /// Whether a scenario has to have it.
+    pub fn is_needed(self) -> bool
+        ensures { result ≡ is_needed self }
+    {
+        match self {
+            Key::Number(Number::Granules | Number::Cpus) | Key::Programs => true,
+            Key::Number(Number::Queue | Number::Limit) | Key::Turns => false,
+        }
+    }
+}

@@ -1,6 +1,0 @@
-use Rattle.spec_machine.proofs.Common.{granules_of, stored}
-use Rattle.spec_machine.proofs.store.Store.set_ripas.Goals as goal
-
-pub returns-clause-state : goal.returns-clause-state
-unfolding stored granules_of
-returns-clause-state c = c.set_ripas.ensures (stored c.args.self.now)

@@ -1,2 +1,0 @@
-pub mod OneCalls
-pub mod Runs

@@ -1,7 +1,0 @@
-use Rattle.std.proofs.Common.{◌≡◌}
-use Rattle.event_queue.specs.View.{CanDrain}
-use Rattle.thread_runs.proofs.serving.drain_beside.Given as goal
-
-abbrev pub invariant-loop-look : goal.invariant-loop-look
-invariant-loop-look g l =
-    CanDrain l.initial.monitor.queue l.scribe l.history.recorded × (l.history.recorded.config ≡ l.initial.history.recorded.config)
