@@ -27,7 +27,8 @@ pub(crate) fn judge_scenarios<R: Print + Threads + Wait + Sync>(
     let mut yes: u64 = 0;
     for seed in first..first.saturating_add(count) {
         let scenario = DRAFT.drawn(alloc, seed)?;
-        let verdict = threads_text(rt, alloc, &scenario, &mut Vec::new(alloc))?;
+        let mut text = Vec::new(alloc);
+        let verdict = threads_text(rt, alloc, &scenario, &mut text)?;
         yes = yes.wrapping_add(u64::from(is_yes(rt, alloc, seed, &verdict)?));
     }
     println!(rt; "scenarios: {yes} of {count}")?;

@@ -5,7 +5,6 @@ use crate::worlds::drafting::carry_out;
 use crate::worlds::turning::{finish, opened_for};
 use anyhow::{Result, bail};
 use history::{Call, History};
-use scenario::Scenario;
 use spec_machine::Machine;
 use std::alloc::Global;
 
@@ -33,13 +32,13 @@ pub(crate) fn compare_replies(
     first: u64,
     count: u64,
 ) -> Result<()> {
+    let commands = u32::from(draft.commands) * (1 + u32::from(draft.edged));
     let mut all: u64 = 0;
     let mut equal: u64 = 0;
     for seed in first..first.saturating_add(count) {
-        let scenario = draft.drawn(alloc, seed)?;
-        let commands = commands_of(&scenario);
-        let machine = Machine::new(alloc, *scenario.config())?;
-        let same = equal_replies(machine, &history_of(alloc, &scenario)?, commands)?;
+        let history = history_of(alloc, draft, seed)?;
+        let machine = Machine::new(alloc, history.config())?;
+        let same = equal_replies(machine, &history, commands)?;
         equal = equal.wrapping_add(u64::from(same));
         all = all.wrapping_add(u64::from(commands));
         if same != commands {
@@ -53,16 +52,9 @@ pub(crate) fn compare_replies(
     Ok(())
 }
 
-fn commands_of(scenario: &Scenario) -> u32 {
-    let mut count: u32 = 0;
-    for program in scenario.programs() {
-        count = count.wrapping_add(program.len() as u32);
-    }
-    count
-}
-
-fn history_of(alloc: Global, scenario: &Scenario) -> Result<History> {
-    let mut world = opened_for(alloc, scenario)?;
+// The run of a program on one CPU.
+fn history_of(alloc: Global, draft: Draft, seed: u64) -> Result<History> {
+    let mut world = opened_for(alloc, &draft.drawn(alloc, seed)?)?;
     finish(&mut world, alloc)?;
     Ok(world.history(alloc)?)
 }

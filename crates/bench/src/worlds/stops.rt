@@ -40,13 +40,16 @@ struct Counts {
 /// `yes`, and then how many were. An error where one wasn't.
 pub(crate) fn judge_stops(rt: &impl Print, alloc: Global, first: u64, count: u64) -> Result<()> {
     let mut counts = Counts::default();
-    let granule = written(alloc, 4, ONE_GRANULE, 0)?;
-    judge_ends(rt, alloc, 0, &granule, &mut counts)?;
-    let tables = written(alloc, 16, TABLES, 62)?;
-    judge_ends(rt, alloc, 0, &tables, &mut counts)?;
+    judge_ends(
+        rt,
+        alloc,
+        0,
+        &written(alloc, 4, ONE_GRANULE, 0)?,
+        &mut counts,
+    )?;
+    judge_ends(rt, alloc, 0, &written(alloc, 16, TABLES, 62)?, &mut counts)?;
     for seed in first..first.saturating_add(count) {
-        let scenario = DRAFT.drawn(alloc, seed)?;
-        judge_ends(rt, alloc, seed, &scenario, &mut counts)?;
+        judge_ends(rt, alloc, seed, &DRAFT.drawn(alloc, seed)?, &mut counts)?;
     }
     let Counts { judgements, yes } = counts;
     println!(rt; "stops: {yes} of {judgements} judgements are yes")?;
