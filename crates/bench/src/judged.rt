@@ -9,19 +9,28 @@ use std::io;
 use std::io::Write;
 
 /// Whether the verdict on a run's two texts is `yes`. Another is printed, with the seed of the run.
-pub(crate) fn is_yes(
+pub(crate) fn are_yes(
     rt: &impl Print,
     alloc: Global,
     seed: u64,
     history: &History,
     certificate: &Certificate,
 ) -> io::Result<bool> {
-    let verdict = verdict(alloc, history, certificate)?;
+    is_yes(rt, alloc, seed, &verdict(alloc, history, certificate)?)
+}
+
+/// Whether a verdict is `yes`. Another is printed, with the seed of the run.
+pub(crate) fn is_yes(
+    rt: &impl Print,
+    alloc: Global,
+    seed: u64,
+    verdict: &Verdict,
+) -> io::Result<bool> {
     if let Verdict::Yes(_) = verdict {
         return Ok(true);
     }
     let mut line = Vec::new(alloc);
-    verdict_text(&verdict, &mut line)?;
+    verdict_text(verdict, &mut line)?;
     print!(rt; "seed {seed}: ")?;
     io::writer(rt).write_all(line.as_slice())?;
     Ok(false)

@@ -1,7 +1,7 @@
-//! Times what the crates below it do, and runs worlds of turns and monitors on threads at random. `bench/README.md` has its words.
+//! Times what the crates below it do, and runs worlds of turns, monitors on threads and scenarios at random. `bench/README.md` has its words.
 //! It prints counts and times, which no proof speaks of, and ends with status 1 where a judgement isn't `yes` or a reply isn't equal.
 //! `bench gate` runs some of each kind, of which the lines that it prints are known.
-//! It depends on `measure`, `rtt_walk`, `event_queue`, `world`, `spec_machine`, `monitor` and `checker`.
+//! It depends on `measure`, `rtt_walk`, `event_queue`, `world`, `spec_machine`, `monitor`, `monitor_runs` and `checker`.
 //! Nothing depends on it: the scripts in `bench` run it.
 #![tactic(auto)]
 
@@ -12,6 +12,7 @@ mod measures;
 mod monitors;
 mod pages;
 mod queues;
+mod scenarios;
 mod timing;
 mod walks;
 mod worlds;
@@ -24,7 +25,7 @@ use std::thread::Threads;
 use std::time::Clock;
 
 /// What `gate` runs, in turn.
-const GATE: [&str; 7] = [
+const GATE: [&str; 8] = [
     "measure words 1000",
     "walk 2",
     "queue queue 2 0",
@@ -32,6 +33,7 @@ const GATE: [&str; 7] = [
     "world stops 1 1",
     "world edges 1 5",
     "monitor all 1 20 1000",
+    "scenarios 1 5",
 ];
 
 fn main(rt: HostRuntime) -> Result<()> {
@@ -86,7 +88,10 @@ fn run<R: Print + Threads + Wait + Clock + Sync>(
             };
             monitors::run(rt, alloc, kind, batch)
         }
-        _ => bail!("measure, walk, queue, world, monitor or gate, and its words?"),
+        ["scenarios", first, count] => {
+            scenarios::judge_scenarios(rt, alloc, number(first)?, number(count)?)
+        }
+        _ => bail!("measure, walk, queue, world, monitor, scenarios or gate, and its words?"),
     }
 }
 

@@ -1,6 +1,7 @@
 //! Worlds of turns, run at random, and timed.
 
 mod dice;
+mod draft;
 mod drafting;
 mod drawing;
 mod edges;
@@ -13,7 +14,8 @@ mod turns;
 mod walking;
 
 use anyhow::{Result, bail};
-use replies::{Programs, compare_replies};
+pub(crate) use draft::Draft;
+use replies::{DRAFTED, EDGED, compare_replies};
 use runs::judge_runs;
 use std::alloc::Global;
 use stops::judge_stops;
@@ -30,12 +32,12 @@ pub(crate) fn run(
 ) -> Result<()> {
     match kind {
         "runs" => judge_runs(rt, alloc, first, count),
-        "replies" => compare_replies(rt, alloc, Programs::Drafted, first, count),
-        "edges" => compare_replies(rt, alloc, Programs::Edged, first, count),
+        "replies" => compare_replies(rt, alloc, "replies", DRAFTED, first, count),
+        "edges" => compare_replies(rt, alloc, "replies at edges", EDGED, first, count),
         "stops" => judge_stops(rt, alloc, first, count),
         "all" => {
             judge_runs(rt, alloc, first, count)?;
-            compare_replies(rt, alloc, Programs::Drafted, first, count)
+            compare_replies(rt, alloc, "replies", DRAFTED, first, count)
         }
         "turns" => take_turns(rt, alloc, Work::Lives, first, count),
         "realms" => take_turns(rt, alloc, Work::Realms, first, count),

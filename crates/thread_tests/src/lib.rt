@@ -1,7 +1,7 @@
 //! Nothing but tests, of the monitor.
 //! Expected lines come from outside, worked out by hand from the profile.
 //! `monitored` runs it on one thread, with stated answers; `gated` on two, one of which a gate holds up; `meeting` lets CPUs
-//! tell each other what they were told of, on one thread and on threads of their own.
+//! tell each other what they were told of, on one thread and on threads of their own; `printed` runs scenarios to their texts.
 //! That two commands are under way at once, and that a holder keeps others out, no clause says.
 //! Nothing depends on it.
 #![tactic(auto)]
@@ -12,3 +12,5 @@ mod gated;
 mod meeting;
 #[cfg(test)]
 mod monitored;
+#[cfg(test)]
+mod printed;

@@ -1,6 +1,6 @@
 //! Random runs, of which each is judged.
 
-use crate::judged::{is_yes, replies_of};
+use crate::judged::{are_yes, replies_of};
 use crate::monitors::random::{CPUS, GRANULES, case, drawn_jobs};
 use crate::monitors::recorded::recorded;
 use anyhow::{Context, Result, bail};
@@ -37,7 +37,7 @@ pub(crate) fn judge_runs<R: Print + Threads + Wait + Sync>(
     let mut yes: u64 = 0;
     for seed in first..first.saturating_add(count) {
         let (history, certificate) = run_of(rt, alloc, seed, commands, with_stop)?;
-        let is_yes = is_yes(rt, alloc, seed, &history, &certificate)?;
+        let is_yes = are_yes(rt, alloc, seed, &history, &certificate)?;
         yes = yes.wrapping_add(u64::from(is_yes));
     }
     let kind = if with_stop {

@@ -3,6 +3,7 @@
 ghost use Rattle.std.specs.Prelude.{◌<◌};
 
 use crate::worlds::dice::Dice;
+use crate::worlds::draft::Draft;
 use crate::worlds::drawing::{Granules, Sharing, drawn_command, drawn_function};
 use crate::worlds::edges::edged_command;
 use crate::worlds::schedule::Schedule;
@@ -24,13 +25,6 @@ const WORD_DRAWS: u32 = 32;
 /// After how many turns a CPU gets a command, whether or not it is likely to have one open.
 const MOST_TURNS: u32 = 1000;
 
-/// How many commands programs have: so many in all that are drafted, and behind each of those so many with edges as words.
-#[derive(Clone, Copy)]
-pub(crate) struct Draft {
-    pub(crate) drafted: u64,
-    pub(crate) edged: u64,
-}
-
 /// A program for each CPU. Most of what is drafted is accepted where each command takes as many turns of the schedule as it is
 /// likely to.
 pub(crate) fn drafted_programs(
@@ -45,7 +39,7 @@ pub(crate) fn drafted_programs(
     let mut programs = empty_programs(alloc, config)?;
     let mut busy = [0; 8];
     let mut rows = Vec::new(alloc);
-    for _command in 0..draft.drafted {
+    for _command in 0..u64::from(config.cpus()) * u64::from(draft.commands) {
         rows.clear();
         machine.owner_report(&mut rows)?;
         let cpu = idle_cpu(&mut schedule, &mut busy);
@@ -69,7 +63,7 @@ pub(crate) fn drafted_programs(
 fn push_edged(
     machine: &mut Machine,
     granules: Granules<'_>,
-    count: u64,
+    count: u8,
     program: &mut Vec<Command>,
     dice: &mut Dice,
 ) -> Result<()> {
@@ -92,7 +86,7 @@ fn empty_programs(alloc: Global, config: &Config) -> Result<Vec<Vec<Command>>> {
 // The next CPU that has a turn and is likely to have no open call. Each turn of another counts for its call.
 fn idle_cpu(schedule: &mut Schedule, busy: &mut [u8; 8]) -> u8 {
     for _turn in 0..MOST_TURNS {
-        let (cpu, _will) = schedule.next();
+        let cpu = schedule.next().cpu;
         let left = &mut busy[usize::from(cpu % 8)];
         if *left == 0 {
             return cpu;

@@ -1,65 +1,42 @@
 //! Replies of a world with one CPU, beside what the specification machine answers.
 
-ghost use Rattle.std.specs.Prelude.{◌≡◌, ◌≤◌};
-
-use crate::worlds::dice::Dice;
-use crate::worlds::drafting::{Draft, carry_out, drafted_programs};
-use crate::worlds::drawing::Sharing;
-use crate::worlds::schedule::Schedule;
-use crate::worlds::turning::{finish, opened};
-use anyhow::{Context, Result, bail};
-use granule_state::Config;
+use crate::worlds::draft::Draft;
+use crate::worlds::drafting::carry_out;
+use crate::worlds::turning::{finish, opened_for};
+use anyhow::{Result, bail};
 use history::{Call, History};
 use spec_machine::Machine;
 use std::alloc::Global;
 
-/// Which programs are compared.
-#[derive(Clone, Copy)]
-pub(crate) enum Programs {
-    /// 60 commands that are drafted.
-    Drafted,
-    /// The same, and behind each of them eight with edges as words.
-    Edged,
-}
+/// Programs of 60 commands.
+pub(crate) const DRAFTED: Draft = Draft {
+    cpus: 1,
+    more: 0,
+    commands: 60,
+    edged: 0,
+    turns: 0,
+};
 
-impl Programs {
-    fn draft(self) -> Draft
-        ensures { (result.drafted ≡ 60) × (result.edged ≤ 8) }
-    {
-        match self {
-            Programs::Drafted => Draft {
-                drafted: 60,
-                edged: 0,
-            },
-            Programs::Edged => Draft {
-                drafted: 60,
-                edged: 8,
-            },
-        }
-    }
-
-    fn name(self) -> &'static str {
-        match self {
-            Programs::Drafted => "replies",
-            Programs::Edged => "replies at edges",
-        }
-    }
-}
+/// The same, and behind each command eight with edges as words.
+pub(crate) const EDGED: Draft = Draft {
+    edged: 8,
+    ..DRAFTED
+};
 
 /// Compares the replies of so many worlds, prints each one that differs, and then how many are equal. An error where one isn't.
 pub(crate) fn compare_replies(
     rt: &impl Print,
     alloc: Global,
-    programs: Programs,
+    name: &str,
+    draft: Draft,
     first: u64,
     count: u64,
 ) -> Result<()> {
-    let Draft { drafted, edged } = programs.draft();
-    let commands = (drafted + drafted * edged) as u32;
+    let commands = u32::from(draft.commands) * (1 + u32::from(draft.edged));
     let mut all: u64 = 0;
     let mut equal: u64 = 0;
     for seed in first..first.saturating_add(count) {
-        let history = history_of(alloc, programs.draft(), seed)?;
+        let history = history_of(alloc, draft, seed)?;
         let machine = Machine::new(alloc, history.config())?;
         let same = equal_replies(machine, &history, commands)?;
         equal = equal.wrapping_add(u64::from(same));
@@ -68,7 +45,7 @@ pub(crate) fn compare_replies(
             println!(rt; "seed {seed}: {same} replies of {commands} are equal")?;
         }
     }
-    println!(rt; "{}: {equal} of {all} are equal", programs.name())?;
+    println!(rt; "{name}: {equal} of {all} are equal")?;
     if equal != all {
         bail!("not every reply is equal");
     }
@@ -77,12 +54,7 @@ pub(crate) fn compare_replies(
 
 // The run of a program on one CPU.
 fn history_of(alloc: Global, draft: Draft, seed: u64) -> Result<History> {
-    let mut dice = Dice::new(seed);
-    let sharing = Sharing::drawn(&mut dice);
-    let config = Config::new(sharing.granules(1), 1).context("no such machine")?;
-    let schedule = Schedule::new(&config, seed);
-    let programs = drafted_programs(alloc, &config, sharing, draft, schedule, &mut dice)?;
-    let mut world = opened(alloc, &config, programs)?;
+    let mut world = opened_for(alloc, &draft.drawn(alloc, seed)?)?;
     finish(&mut world, alloc)?;
     Ok(world.history(alloc)?)
 }

@@ -1,24 +1,23 @@
 //! Random runs, of which each text is judged on the way and at the end.
 
-use crate::judged::{is_yes, replies_of};
-use crate::worlds::dice::Dice;
-use crate::worlds::drafting::{Draft, drafted_programs};
-use crate::worlds::drawing::Sharing;
-use crate::worlds::schedule::Schedule;
-use crate::worlds::turning::{finish, opened, turned};
-use anyhow::{Context, Result, bail};
-use granule_state::Config;
+use crate::judged::{are_yes, replies_of};
+use crate::worlds::draft::Draft;
+use crate::worlds::turning::{finish, opened_for, turned};
+use anyhow::{Result, bail};
+use scenario::Due;
 use std::alloc::Global;
 use world::World;
 
 /// At how many places of a run it is judged before its end.
-const PLACES: u32 = 10;
+const PLACES: usize = 10;
 
-/// How many commands a CPU has, on average.
-const COMMANDS: u64 = 24;
-
-/// How many turns a CPU has from one place to the next, on average.
-const TURNS: u64 = 16;
+const DRAFT: Draft = Draft {
+    cpus: 2,
+    more: 6,
+    commands: 24,
+    edged: 0,
+    turns: 160,
+};
 
 /// What came out of some runs.
 #[derive(Clone, Copy, Default)]
@@ -51,21 +50,11 @@ pub(crate) fn judge_runs(rt: &impl Print, alloc: Global, first: u64, count: u64)
 }
 
 fn judge_run(rt: &impl Print, alloc: Global, seed: u64, counts: &mut Counts) -> Result<()> {
-    let mut dice = Dice::new(seed);
-    let cpus = 2 + dice.below(7);
-    let sharing = Sharing::drawn(&mut dice);
-    let config = Config::new(sharing.granules(cpus), cpus).context("no such machine")?;
-    let draft = Draft {
-        drafted: cpus * COMMANDS,
-        edged: 0,
-    };
-    let schedule_seed = dice.word();
-    let schedule = Schedule::new(&config, schedule_seed);
-    let programs = drafted_programs(alloc, &config, sharing, draft, schedule, &mut dice)?;
-    let mut world = opened(alloc, &config, programs)?;
-    let mut schedule = Schedule::new(&config, schedule_seed);
-    for _place in 0..PLACES {
-        go_on(&mut world, alloc, &mut schedule, cpus * TURNS)?;
+    let scenario = DRAFT.drawn(alloc, seed)?;
+    let mut world = opened_for(alloc, &scenario)?;
+    let turns = scenario.turns();
+    for part in turns.chunks((turns.len() / PLACES).max(1)) {
+        go_on(&mut world, alloc, part)?;
         judge(rt, alloc, seed, &world, counts)?;
     }
     finish(&mut world, alloc)?;
@@ -76,10 +65,9 @@ fn judge_run(rt: &impl Print, alloc: Global, seed: u64, counts: &mut Counts) -> 
     Ok(())
 }
 
-fn go_on(world: &mut World, alloc: Global, schedule: &mut Schedule, turns: u64) -> Result<()> {
-    for _turn in 0..turns {
-        let (cpu, will) = schedule.next();
-        turned(world, alloc, cpu, will)?;
+fn go_on(world: &mut World, alloc: Global, turns: &[Due]) -> Result<()> {
+    for turn in turns {
+        turned(world, alloc, turn.cpu, turn.will)?;
     }
     Ok(())
 }
@@ -92,7 +80,7 @@ fn judge(
     counts: &mut Counts,
 ) -> Result<()> {
     let (history, certificate) = (world.history(alloc)?, world.certificate(alloc)?);
-    let is_yes = is_yes(rt, alloc, seed, &history, &certificate)?;
+    let is_yes = are_yes(rt, alloc, seed, &history, &certificate)?;
     counts.judgements = counts.judgements.wrapping_add(1);
     counts.yes = counts.yes.wrapping_add(u64::from(is_yes));
     Ok(())

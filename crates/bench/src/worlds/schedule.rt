@@ -4,7 +4,7 @@ ghost use Rattle.std.specs.Prelude.{◌<◌};
 
 use crate::worlds::dice::Dice;
 use granule_state::Config;
-use world::Will;
+use scenario::{Due, Will};
 
 /// A schedule that is drawn turn by turn. For one seed and as many CPUs it is the same.
 #[derive(Drop)]
@@ -41,11 +41,14 @@ impl Schedule {
         }
     }
 
-    pub(crate) fn next(&mut self) -> (u8, Will) {
+    pub(crate) fn next(&mut self) -> Due {
         if self.dice.one_in(self.stay) {
             self.cpu = self.dice.below(u64::from(self.cpus)) as u8;
         }
-        (self.cpu, self.will())
+        Due {
+            cpu: self.cpu,
+            will: self.will(),
+        }
     }
 
     // Go, but for one of so many turns.

@@ -3,6 +3,7 @@
 use anyhow::{Result, bail};
 use granule_state::Config;
 use rmm_spec::Command;
+use scenario::{Scenario, copied_programs};
 use std::alloc::Global;
 use world::{Turned, Will, World, can_open};
 
@@ -14,6 +15,11 @@ pub(crate) fn opened(alloc: Global, config: &Config, programs: Vec<Vec<Command>>
         bail!("the programs can't be opened");
     }
     Ok(World::new(alloc, config, programs)?)
+}
+
+pub(crate) fn opened_for(alloc: Global, scenario: &Scenario) -> Result<World> {
+    let programs = copied_programs(alloc, scenario.programs())?;
+    opened(alloc, scenario.config(), programs)
 }
 
 pub(crate) fn turned(world: &mut World, alloc: Global, cpu: u8, will: Will) -> Result<Turned> {
