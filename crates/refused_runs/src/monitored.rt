@@ -1,6 +1,6 @@
 //! Runs of a monitor with four granules, on one thread.
 
-ghost use Rattle.std.specs.Prelude.{◌≡◌, ◌≤◌};
+ghost use Rattle.std.specs.Prelude.{◌≡◌, ◌≤◌, ◌<◌};
 ghost use Rattle.event_queue.specs.View.{CanDrain};
 ghost use Rattle.monitor.specs.Cpus.{AreCpus};
 
@@ -138,6 +138,10 @@ fn execute<S: Site, R: Wait>(
     requires { AreCpus monitor.now tokens.old passes.old }
     ensures { AreCpus monitor.now tokens.new passes.new }
 {
+    let cpu = usize::from(cpu);
+    if cpu >= usize::from(monitor.config().cpus()) {
+        return Err(Fault::Wrong("no such CPU"));
+    }
     let answer = ask(rt, alloc, monitor, tokens, passes, cpu, text)?;
     push_answer(&answer, out)?;
     if matches!(answer, Err(Refused::NoMemory)) {
@@ -154,18 +158,15 @@ fn ask<S: Site, R: Wait>(
     monitor: &Monitor<S>,
     tokens: &mut [CpuToken<S>],
     passes: &mut [CpuPass],
-    cpu: u8,
+    cpu: usize,
     text: &str,
 ) -> Result<Result<Done, Refused>, Fault>
-    requires { AreCpus monitor.now tokens.old passes.old }
+    requires cpus { AreCpus monitor.now tokens.old passes.old }
+    requires cpu { cpu < monitor.now.config.cpus }
     ensures { AreCpus monitor.now tokens.new passes.new }
 {
     let command = read_command(text)?;
-    if cpu >= monitor.config().cpus() {
-        return Err(Fault::Wrong("no such CPU"));
-    }
-    let place = usize::from(cpu);
-    let (token, pass) = (&mut tokens[place], &mut passes[place]);
+    let (token, pass) = (&mut tokens[cpu], &mut passes[cpu]);
     if pass.next_number() > 999_999 {
         return Err(Fault::Wrong("no number for a call"));
     }

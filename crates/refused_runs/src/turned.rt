@@ -1,14 +1,11 @@
 //! Two CPUs that take turns and want one granule.
 
-ghost use Rattle.std.specs.Prelude.{◌≡◌, ◌<◌};
-ghost use Rattle.world.specs.World.{world_of};
-
 use crate::fault::Fault;
 use crate::judged::push_judged;
 use granule_state::Config;
 use rmi_codec::read_command;
 use rmm_spec::Command;
-use std::alloc::{AllocError, Global};
+use std::alloc::Global;
 use world::{Turned, Will, World, can_open};
 
 // More than the run has.
@@ -43,22 +40,22 @@ fn opened(alloc: Global) -> Result<World, Fault> {
 }
 
 // A turn of each CPU. Whether one moved.
-fn go_round(alloc: Global, world: &mut World) -> Result<bool, AllocError> {
+fn go_round(alloc: Global, world: &mut World) -> Result<bool, Fault> {
     let mut has_moved = false;
-    for cpu in 0..world.config().cpus() {
+    for cpu in 0..2 {
         has_moved |= matches!(go(alloc, world, cpu)?, Turned::Did(_));
     }
     Ok(has_moved)
 }
 
 // A CPU's turn, and the same once more where memory is refused.
-fn go(alloc: Global, world: &mut World, cpu: u8) -> Result<Turned, AllocError>
-    requires { cpu < (world_of world.old).config.cpus }
-    ensures { (world_of world.new).config ≡ (world_of world.old).config }
-{
+fn go(alloc: Global, world: &mut World, cpu: u8) -> Result<Turned, Fault> {
+    if cpu >= world.config().cpus() {
+        return Err(Fault::Wrong("no such CPU"));
+    }
     match world.turn(alloc, cpu, Will::Go) {
         Ok(turned) => Ok(turned),
-        Err(_) => world.turn(alloc, cpu, Will::Go),
+        Err(_) => Ok(world.turn(alloc, cpu, Will::Go)?),
     }
 }
 
