@@ -11,6 +11,7 @@ print all the same, or, where a commit met the refusal, what is written down her
 Needs gcc, for `refuse.c`.
 """
 import argparse
+import itertools
 import os
 import subprocess
 import sys
@@ -156,24 +157,25 @@ class Runs:
             return done.returncode, text, done.stderr.decode(), int.from_bytes(file.read(8), sys.byteorder)
 
     def sweep(self, name, row, refuses_rest):
-        """Counts the requests, the runs that did as with ample memory, those that printed something else, and the others."""
-        status, text, told, last = self.run(row, 0, False)
-        ample, whole, other, ended, at = (status, text, told), 0, 0, 0, 1
+        """Counts the requests that were refused, and the runs then that did as with ample memory, printed something else, or ended."""
+        status, text, told, most = self.run(row, 0, False)
+        ample, counts = (status, text, told), [0, 0, 0]
         if not text and not told or not row.may_print(ample, *ample):
             sys.exit(f"{name}, with ample memory: {status}, {text!r}, {told!r}")
-        while at <= last:
+        # A run on threads makes now more requests and now less.
+        for at in itertools.count(1):
             status, text, told, requests = self.run(row, at, refuses_rest)
+            most = max(most, requests) if row.is_judged else 0
+            if requests < at and at > most:
+                return at - 1, *counts
             if (status, text, told) == ample:
-                whole += 1
+                counts[0] += requests >= at
             elif text == "" and status == 3 and told.rstrip("\n") in row.told and (refuses_rest or not row.goes_on):
-                ended += 1
+                counts[2] += 1
             elif row.may_print(ample, status, text, told):
-                other += 1
+                counts[1] += requests >= at
             else:
                 sys.exit(f"{name}, request {at}{' and the rest' if refuses_rest else ''}: {status}, {text!r}, {told!r}")
-            # Where a run on threads makes more requests than the one before, those are refused too.
-            last, at = max(last, requests if requests >= at else last), at + 1
-        return at - 1, whole, other, ended
 
 
 def main():
