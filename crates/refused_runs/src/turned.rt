@@ -43,20 +43,22 @@ fn opened(alloc: Global) -> Result<World, Fault> {
 fn go_round(alloc: Global, world: &mut World) -> Result<bool, Fault> {
     let mut has_moved = false;
     for cpu in 0..2 {
-        has_moved |= matches!(go(alloc, world, cpu)?, Turned::Did(_));
+        let moves = go(alloc, world, cpu)?;
+        has_moved = has_moved || moves;
     }
     Ok(has_moved)
 }
 
-// A CPU's turn, and the same once more where memory is refused.
-fn go(alloc: Global, world: &mut World, cpu: u8) -> Result<Turned, Fault> {
+// A CPU's turn, and the same once more where memory is refused. Whether it moved.
+fn go(alloc: Global, world: &mut World, cpu: u8) -> Result<bool, Fault> {
     if cpu >= world.config().cpus() {
         return Err(Fault::Wrong("no such CPU"));
     }
-    match world.turn(alloc, cpu, Will::Go) {
-        Ok(turned) => Ok(turned),
-        Err(_) => Ok(world.turn(alloc, cpu, Will::Go)?),
-    }
+    let turned = match world.turn(alloc, cpu, Will::Go) {
+        Ok(turned) => turned,
+        Err(_) => world.turn(alloc, cpu, Will::Go)?,
+    };
+    Ok(matches!(turned, Turned::Did(_)))
 }
 
 fn push_world(alloc: Global, world: &World, out: &mut Vec<u8>) -> Result<(), Fault> {
