@@ -114,17 +114,37 @@ fn take_steps<S: Site, R: Wait>(
     ensures config { history.new.recorded.config ≡ history.old.recorded.config }
 {
     for step in steps {
-        match *step {
-            Step::Execute(cpu, text) => execute(
-                rt, alloc, monitor, tokens, passes, cpu, text, out,
-            )?,
-            Step::Drain => drain(rt, monitor, scribe, history, out)?,
-        }
+        take_step(
+            rt, alloc, monitor, tokens, passes, scribe, history, *step, out,
+        )?;
     }
     Ok(())
 }
 
-// A CPU executes a command, and the same once more where memory is refused. Appends a line for each answer.
+fn take_step<S: Site, R: Wait>(
+    rt: &R,
+    alloc: Global,
+    monitor: &Monitor<S>,
+    tokens: &mut [CpuToken<S>],
+    passes: &mut [CpuPass],
+    scribe: &mut ScribePass,
+    history: &mut History,
+    step: Step,
+    out: &mut Vec<u8>,
+) -> Result<(), Fault>
+    requires cpus { AreCpus monitor.now tokens.old passes.old }
+    requires drain { CanDrain monitor.now.queue scribe.old history.old.recorded }
+    ensures cpus { AreCpus monitor.now tokens.new passes.new }
+    ensures drain { CanDrain monitor.now.queue scribe.new history.new.recorded }
+    ensures config { history.new.recorded.config ≡ history.old.recorded.config }
+{
+    let Step::Execute(cpu, text) = step else {
+        return drain(rt, monitor, scribe, history, out);
+    };
+    execute(rt, alloc, monitor, tokens, passes, cpu, text, out)
+}
+
+// A CPU executes a command, and the same once more where memory is refused.
 fn execute<S: Site, R: Wait>(
     rt: &R,
     alloc: Global,
@@ -142,13 +162,31 @@ fn execute<S: Site, R: Wait>(
     if cpu >= usize::from(monitor.config().cpus()) {
         return Err(Fault::Wrong("no such CPU"));
     }
+    if !tell(rt, alloc, monitor, tokens, passes, cpu, text, out)? {
+        return Ok(());
+    }
+    tell(rt, alloc, monitor, tokens, passes, cpu, text, out)?;
+    Ok(())
+}
+
+// Appends a line of what a CPU is answered. Whether that is a refusal of memory.
+fn tell<S: Site, R: Wait>(
+    rt: &R,
+    alloc: Global,
+    monitor: &Monitor<S>,
+    tokens: &mut [CpuToken<S>],
+    passes: &mut [CpuPass],
+    cpu: usize,
+    text: &str,
+    out: &mut Vec<u8>,
+) -> Result<bool, Fault>
+    requires cpus { AreCpus monitor.now tokens.old passes.old }
+    requires cpu { cpu < monitor.now.config.cpus }
+    ensures { AreCpus monitor.now tokens.new passes.new }
+{
     let answer = ask(rt, alloc, monitor, tokens, passes, cpu, text)?;
     push_answer(&answer, out)?;
-    if matches!(answer, Err(Refused::NoMemory)) {
-        let answer = ask(rt, alloc, monitor, tokens, passes, cpu, text)?;
-        push_answer(&answer, out)?;
-    }
-    Ok(())
+    Ok(matches!(answer, Err(Refused::NoMemory)))
 }
 
 // What a CPU is answered.
