@@ -1,6 +1,6 @@
 //! `judge` over devices of the test's, each of which fails at one of its calls.
 
-ghost use Rattle.std.specs.Prelude.{Some};
+ghost use Rattle.std.specs.Prelude.{◌<◌, Some};
 ghost use Rattle.judging.specs.Sink.{prepared_room};
 
 use crate::runtime::TestFile;
@@ -19,6 +19,8 @@ const CERTIFICATE: &[u8] = b"k 0 0\n";
 
 // One piece and the end.
 const CERTIFICATE_READS: usize = 2;
+
+const LINE: &[u8] = b"yes 1\n";
 
 // More than either takes.
 const WHOLE: usize = 100;
@@ -136,13 +138,32 @@ fn takes_beginning(alloc: Global, most: usize, calls: usize, beginning: &[u8]) -
     matches!(ended.result, Err(JudgeFault::Write)) && ended.left(1, beginning)
 }
 
+// Whether that is so at each of its calls.
+fn takes_beginnings(alloc: Global, most: usize) -> bool
+    requires { 0 < most }
+{
+    for taken in 0..LINE.len() {
+        let is_one = taken % most == 0;
+        if is_one && !takes_beginning(alloc, most, taken / most, &LINE[..taken]) {
+            return false;
+        }
+    }
+    true
+}
+
+// Whether it has taken the line where it fails behind that.
+fn takes_line(alloc: Global, most: usize) -> bool
+    requires { 0 < most }
+{
+    let calls = LINE.len().div_ceil(most);
+    let ended = judged(alloc, WHOLE, WHOLE, TornSink::new(alloc, most, calls));
+    matches!(ended.result, Ok(Verdict::Yes(1))) && ended.left(0, LINE)
+}
+
 #[test]
 fn sink_that_fails_has_taken_a_beginning(rt: HostRuntime) {
-    assert!(rt; takes_beginning(rt.alloc(), 1, 0, b""));
-    assert!(rt; takes_beginning(rt.alloc(), 1, 1, b"y"));
-    assert!(rt; takes_beginning(rt.alloc(), 1, 5, b"yes 1"));
-    assert!(rt; takes_beginning(rt.alloc(), 3, 0, b""));
-    assert!(rt; takes_beginning(rt.alloc(), 3, 1, b"yes"));
-    let ended = judged(rt.alloc(), WHOLE, WHOLE, TornSink::new(rt.alloc(), 3, 2));
-    assert!(rt; matches!(ended.result, Ok(Verdict::Yes(1))) && ended.left(0, b"yes 1\n"));
+    for most in 1..=LINE.len() {
+        assert!(rt; takes_beginnings(rt.alloc(), most), "{most} bytes a call");
+        assert!(rt; takes_line(rt.alloc(), most), "{most} bytes a call");
+    }
 }

@@ -1,0 +1,8 @@
+use Rattle.std.proofs.Common.{◌≡◌}
+use Rattle.event_queue.specs.View.{CanDrain}
+use Rattle.monitor.specs.Cpus.{AreCpus}
+use Rattle.refused_runs.proofs.monitored.take_steps.Given as goal
+
+abbrev pub invariant-loop-step : goal.invariant-loop-step
+invariant-loop-step g l =
+    AreCpus l.monitor l.tokens l.passes × CanDrain l.monitor.queue l.scribe l.history.recorded × (l.history.recorded.config ≡ l.fn.history.recorded.config)
