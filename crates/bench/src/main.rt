@@ -24,13 +24,14 @@ use std::thread::Threads;
 use std::time::Clock;
 
 /// What `gate` runs, in turn.
-const GATE: [&str; 7] = [
+const GATE: [&str; 8] = [
     "measure words 1000",
     "walk 2",
     "queue queue 2 0",
     "world all 1 20",
     "world stops 1 1",
     "world edges 1 5",
+    "world machines 1 20",
     "monitor all 1 20 1000",
 ];
 

@@ -4,6 +4,7 @@ mod dice;
 mod drafting;
 mod drawing;
 mod edges;
+mod machines;
 mod replies;
 mod runs;
 mod schedule;
@@ -13,6 +14,7 @@ mod turns;
 mod walking;
 
 use anyhow::{Result, bail};
+use machines::compare_machines;
 use replies::{Programs, compare_replies};
 use runs::judge_runs;
 use std::alloc::Global;
@@ -20,7 +22,7 @@ use stops::judge_stops;
 use turns::{Work, take_turns};
 
 /// Judges the runs of so many seeds from the first on, compares the replies of so many programs on one CPU, does both, ends each
-/// CPU at each turn of so many runs, or lets so many CPUs (the first number) take so many turns.
+/// CPU at each turn of so many runs, gives so many programs to two machines, or lets so many CPUs (the first number) take so many turns.
 pub(crate) fn run(
     rt: &impl Print,
     alloc: Global,
@@ -33,6 +35,7 @@ pub(crate) fn run(
         "replies" => compare_replies(rt, alloc, Programs::Drafted, first, count),
         "edges" => compare_replies(rt, alloc, Programs::Edged, first, count),
         "stops" => judge_stops(rt, alloc, first, count),
+        "machines" => compare_machines(rt, alloc, first, count),
         "all" => {
             judge_runs(rt, alloc, first, count)?;
             compare_replies(rt, alloc, Programs::Drafted, first, count)
@@ -40,6 +43,6 @@ pub(crate) fn run(
         "turns" => take_turns(rt, alloc, Work::Lives, first, count),
         "realms" => take_turns(rt, alloc, Work::Realms, first, count),
         "realm" => take_turns(rt, alloc, Work::Realm, first, count),
-        _ => bail!("runs, replies, edges, stops, all, turns, realms or realm?"),
+        _ => bail!("runs, replies, edges, stops, machines, all, turns, realms or realm?"),
     }
 }
