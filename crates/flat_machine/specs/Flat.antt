@@ -1,5 +1,5 @@
 -- The flat state that a machine's maps stand for.
-use Rattle.std.specs.Prelude.{ℕ, Bool, ◌&&◌, ◌==◌, nat_eq, if◌then◌else◌, Option, Some, None}
+use Rattle.std.specs.Prelude.{ℕ, ◌+◌, Bool, ◌&&◌, ◌==◌, nat_eq, nat_lt, if◌then◌else◌, Option, Some, None, unwrap_or, option_map}
 use Rattle.std.specs.HashMap.{get}
 use Rattle.std.specs.Option.{option_and_then}
 use Rattle.rmm_spec.specs.declared.entry.Entry.{Entry}
@@ -29,14 +29,15 @@ abbrev pub rec_of : Kept → Option RecRecord
 rec_of (Rec rec) = Some rec
 rec_of _ = None
 
--- a granule of which nothing is kept is the host's
-abbrev pub tag_found : Option Kept → Tag
-tag_found None = tag.Undelegated
-tag_found (Some kept) = tag_of kept
+-- what is kept of a granule: where nothing is, it is the host's
+abbrev pub tag_kept : FlatMachine → ℕ → Tag
+tag_kept m granule = unwrap_or (option_map tag_of (get nat_eq m.granules granule)) tag.Undelegated
 
--- what is kept of the granule at the address, where one is
-abbrev pub kept_at : FlatMachine → ℕ → Option Kept
-kept_at m address = if is_granule m.config.granules address then get nat_eq m.granules address else None
+abbrev pub realm_kept : FlatMachine → ℕ → Option RealmRecord
+realm_kept m granule = option_and_then realm_of (get nat_eq m.granules granule)
+
+abbrev pub rec_kept : FlatMachine → ℕ → Option RecRecord
+rec_kept m granule = option_and_then rec_of (get nat_eq m.granules granule)
 
 -- spots are compared part by part
 abbrev pub is_same_spot : Spot → Spot → Bool
@@ -45,12 +46,17 @@ is_same_spot a b = a.rd == b.rd && (a.level == b.level && a.number == b.number)
 abbrev pub spot : ℕ → ℕ → ℕ → Spot
 spot rd level number = record { rd = rd; level = level; number = number }
 
+-- nothing else than granules has a record
 unfoldable pub state_of : FlatMachine → State
 state_of m = record {
   granules = m.config.granules;
-  tag = λ address. tag_found (get nat_eq m.granules address);
-  realm = λ rd. option_and_then realm_of (kept_at m rd);
-  rec = λ address. option_and_then rec_of (kept_at m address);
+  tag = tag_kept m;
+  realm = λ rd. if is_granule m.config.granules rd then realm_kept m rd else None;
+  rec = λ address. if is_granule m.config.granules address then rec_kept m address else None;
   table = λ rd level number. get is_same_spot m.tables (spot rd level number);
   leaf = λ rd level number. get is_same_spot m.leaves (spot rd level number);
 }
+
+-- the granule of the table that an entry links to
+abbrev pub below_in : State → ℕ → ℕ → ℕ → Option ℕ
+below_in s rd level number = if nat_lt level 3 then s.table rd (level + 1) number else None

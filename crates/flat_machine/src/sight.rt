@@ -1,16 +1,16 @@
 //! What the rows of commands look up in the maps.
 
-use crate::kept::Kept;
 use crate::machine::FlatMachine;
+use crate::walks::is_granule;
 use command_rows::Sight;
-use granule_state::granule_at;
+use command_words::is_tag;
 use realm_desc::{Realm, Rec};
 use rmm_spec::{Tag, Walked};
 use table_entries::{entry_number, table_number};
 
-#[tactic(auto, unfolding(crate::specs::Flat::state_of))]
+#[tactic(auto, unfolding(crate::specs::Flat::state_of, rmm_spec::specs::Lookup::has_tag))]
 impl Sight for FlatMachine {
-    ghost use Rattle.std.specs.Prelude.{nat_eq, nat_lt, is_some, unwrap_or};
+    ghost use Rattle.std.specs.Prelude.{nat_eq, is_some};
     ghost use Rattle.std.specs.HashMap.{get};
     ghost use Rattle.flat_machine.specs.Flat.{state_of};
 
@@ -21,37 +21,33 @@ impl Sight for FlatMachine {
     ghost has_recs = { λ machine rd. is_some (get nat_eq machine.rec_counts rd) };
 
     fn has_tag(&self, address: u64, tag: Tag) -> bool {
-        let Some(_) = granule_at(&self.config, address) else {
-            return false;
-        };
-        match self.granules.get(&address) {
-            Some(kept) => kept.tag() == tag,
-            None => tag == Tag::Undelegated,
-        }
+        is_granule(&self.config, address) && is_tag(self.tag(address), tag)
     }
 
     fn realm(&self, rd: u64) -> Option<Realm> {
-        match self.kept(rd) {
-            Some(Kept::Rd(realm)) => Some(*realm),
-            _ => None,
+        if is_granule(&self.config, rd) {
+            self.realm_in(rd)
+        } else {
+            None
         }
     }
 
     fn rec(&self, address: u64) -> Option<Rec> {
-        match self.kept(address) {
-            Some(Kept::Rec(rec)) => Some(*rec),
-            _ => None,
+        if is_granule(&self.config, address) {
+            self.rec_in(address)
+        } else {
+            None
         }
     }
 
     fn walk(&self, rd: u64, ipa: u64, max: u8) -> Walked {
         let level = self.deepest(rd, ipa, max);
+        let granule = self.table(rd, level, table_number(level, ipa)).unwrap_or(0);
+        let entry = self.entry(rd, level, entry_number(level, ipa));
         Walked {
             level,
-            granule: self
-                .table(rd, level, table_number(level, ipa))
-                .unwrap_or(0),
-            entry: self.entry(rd, level, entry_number(level, ipa)),
+            granule,
+            entry,
         }
     }
 

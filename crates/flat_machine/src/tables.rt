@@ -3,13 +3,11 @@
 use crate::fault::FlatFault;
 use crate::kept::{Kept, Spot};
 use crate::machine::FlatMachine;
+use crate::walks::ENTRIES;
 use command_rows::Sight;
 use realm_desc::Realm;
 use rmm_spec::{Entry, EntryChange, Ripas, Tag};
 use table_entries::with_ripas;
-
-/// How many entries a table has.
-const ENTRIES: u64 = 512;
 
 impl FlatMachine {
     pub(crate) fn make_realm(

@@ -2,6 +2,7 @@
 
 use crate::fault::FlatFault;
 use crate::machine::FlatMachine;
+use crate::walks::ENTRIES;
 use arrayvec::ArrayVec;
 use granule_state::Config;
 use rmm_spec::{Accepted, Command, Reply, Stretch};
@@ -89,9 +90,6 @@ impl TwoMachines {
         Ok(Stepped::NotTaken)
     }
 }
-
-/// How many entries a table has.
-const ENTRIES: u64 = 512;
 
 // Whether the outcomes have one reply, or leave the end of one stretch open.
 fn is_same(one: &Result<Accepted, Reply>, other: &Result<Accepted, Reply>) -> bool {

@@ -50,15 +50,15 @@ pub(crate) fn compare_machines(
     Ok(())
 }
 
-// A run of one CPU, or of up to four by turns, as far as the machines answer alike.
+// A run of one CPU, or of up to four that take turns, as far as the machines answer alike.
 fn compare_run(alloc: Global, seed: u64) -> Result<Counts> {
     let mut dice = Dice::new(seed);
-    let cpus = 1 + dice.below(4);
+    let cpus = 1 + dice.below(7).saturating_sub(3);
     let sharing = Sharing::drawn(&mut dice);
     let config = Config::new(sharing.granules(cpus), cpus).context("no such machine")?;
     let draft = Draft {
         drafted: cpus * COMMANDS,
-        edged: seed % 2,
+        edged: u64::from(dice.one_in(4)),
     };
     let schedule = Schedule::new(&config, seed);
     let programs = drafted_programs(alloc, &config, sharing, draft, schedule, &mut dice)?;
