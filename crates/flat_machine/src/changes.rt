@@ -1,12 +1,16 @@
 //! What an accepted command changes, map by map.
 
+ghost use Rattle.std.specs.Prelude.{IsTrue};
+ghost use Rattle.rmm_spec.specs.Applicable.{IsRealmUpdate};
+ghost use Rattle.realm_desc.specs.Updates.{IsRecUpdate};
+
 use crate::fault::FlatFault;
 use crate::kept::Kept;
 use crate::machine::FlatMachine;
 use command_rows::Sight;
 use granule_state::Pa;
 use realm_desc::Rec;
-use rmm_spec::{Change, RealmChange, RecChange, Tag, TagChange};
+use rmm_spec::{Change, RealmChange, RealmUpdate, RecChange, RecUpdate, Tag, TagChange};
 
 impl FlatMachine {
     /// Makes the change.
@@ -118,48 +122,59 @@ impl FlatMachine {
         if let Some(TagChange { granule, tag }) = page {
             self.retag(granule, tag)?;
         }
-        if let Some(RealmChange { rd, update }) = realm {
-            let mut realm = self.realm(rd).ok_or(FlatFault::Missing)?;
-            if !can_update_realm(&update) {
-                return Err(FlatFault::Missing);
-            }
-            realm.update(update);
-            self.granules.insert(rd, Kept::Rd(realm))?;
+        if let Some(change) = realm {
+            self.change_realm(change)?;
         }
-        if let Some(RecChange { rec, update }) = rec {
-            let mut record = self.rec(rec).ok_or(FlatFault::Missing)?;
-            if !can_update_rec(&record, &update) {
-                return Err(FlatFault::Missing);
-            }
-            record.update(update);
-            self.granules.insert(rec, Kept::Rec(record))?;
+        match rec {
+            Some(change) => self.change_rec(change),
+            None => Ok(()),
         }
+    }
+
+    fn change_realm(&mut self, change: RealmChange) -> Result<(), FlatFault> {
+        let RealmChange { rd, update } = change;
+        let mut realm = self.realm(rd).ok_or(FlatFault::Missing)?;
+        if !can_update_realm(update) {
+            return Err(FlatFault::Missing);
+        }
+        realm.update(update);
+        self.granules.insert(rd, Kept::Rd(realm))?;
+        Ok(())
+    }
+
+    fn change_rec(&mut self, change: RecChange) -> Result<(), FlatFault> {
+        let RecChange { rec, update } = change;
+        let mut record = self.rec(rec).ok_or(FlatFault::Missing)?;
+        if !can_update_rec(&record, update) {
+            return Err(FlatFault::Missing);
+        }
+        record.update(update);
+        self.granules.insert(rec, Kept::Rec(record))?;
         Ok(())
     }
 }
 
-ghost use Rattle.std.specs.Prelude.{IsTrue};
-ghost use Rattle.rmm_spec.specs.Applicable.{IsRealmUpdate};
-ghost use Rattle.realm_desc.specs.Updates.{IsRecUpdate};
-
-use rmm_spec::{RealmUpdate, RecUpdate};
-
 // Whether a realm can be updated so.
-fn can_update_realm(update: &RealmUpdate) -> bool
-    ensures { IsTrue result → IsRealmUpdate update.now }
+fn can_update_realm(update: RealmUpdate) -> bool
+    ensures { IsTrue result → IsRealmUpdate update }
 {
-    match *update {
-        RealmUpdate::RecCounted { .. } => false,
-        RealmUpdate::MeasurementExtended { index, size, .. } => {
-            1 <= index && index <= 4 && size <= 0x40
-        }
-        _ => true,
+    match update {
+        RealmUpdate::MeasurementExtended {
+            index: 1..=4,
+            size: 0..=0x40,
+            ..
+        } => true,
+        RealmUpdate::RecCounted { .. } | RealmUpdate::MeasurementExtended { .. } => false,
+        RealmUpdate::Activated
+        | RealmUpdate::TurnedOff
+        | RealmUpdate::PageMeasured { .. }
+        | RealmUpdate::StretchMeasured { .. } => true,
     }
 }
 
 // Whether the REC can be updated so.
-fn can_update_rec(rec: &Rec, update: &RecUpdate) -> bool
-    ensures { IsTrue result → IsRecUpdate rec.now update.now }
+fn can_update_rec(rec: &Rec, update: RecUpdate) -> bool
+    ensures { IsTrue result → IsRecUpdate rec.now update }
 {
     match update {
         RecUpdate::RequestMoved { .. } => rec.request.is_some(),

@@ -1,9 +1,12 @@
 //! The machine, what it answers to a command, and its steps.
 
+ghost use Rattle.std.specs.Prelude.{◌≡◌};
+
 use crate::fault::FlatFault;
 use crate::kept::{Kept, Spot};
 use command_rows::{Sight, answer_inside, answer_outside, reached_change};
 use granule_state::{Config, GRANULE_BYTES};
+use realm_desc::Rec;
 use rmm_spec::{Accepted, Call, Command, Entry, Reply, Tag};
 use std::alloc::Global;
 use std::collections::HashMap;
@@ -41,6 +44,7 @@ impl FlatMachine {
     }
 
     /// What the rows answer to the command of this CPU.
+    #[tactic(auto, using(command_rows::proofs::Outcomes::inside))]
     pub fn outcome(
         &self,
         cpu: u8,
@@ -53,6 +57,9 @@ impl FlatMachine {
             }
             return Ok(answer_outside(self, cpu, &call));
         };
+        if !self.has_tag(rec, Tag::Rec) {
+            return Err(FlatFault::Missing);
+        }
         if !self.is_owned(rec) {
             return Err(FlatFault::Missing);
         }
@@ -60,24 +67,19 @@ impl FlatMachine {
     }
 
     /// Takes one step: whether the reply is the command's. Where it is, the command's change is made.
-    pub fn offer(
-        &mut self,
-        cpu: u8,
-        command: &Command,
-        reply: &Reply,
-    ) -> Result<bool, FlatFault> {
-        let change = match (self.outcome(cpu, command)?, reply) {
-            (Err(refusal), reply) => return Ok(*reply == refusal),
-            (Ok(Accepted::Done { words, change }), Reply::Ok(given))
-                if given.as_slice() == words.as_slice() =>
-            {
+    pub fn offer(&mut self, cpu: u8, command: &Command, reply: &Reply) -> Result<bool, FlatFault> {
+        let change = match self.outcome(cpu, command)? {
+            Err(refusal) => return Ok(*reply == refusal),
+            Ok(Accepted::Done { words, change }) => {
+                if words_of(reply) != Some(words.as_slice()) {
+                    return Ok(false);
+                }
                 change
             }
-            (Ok(Accepted::Reaches(stretch)), Reply::Ok(given)) => match given.as_slice() {
-                [top] if self.is_reached(&stretch, *top) => reached_change(&stretch, *top),
+            Ok(Accepted::Reaches(stretch)) => match words_of(reply) {
+                Some([top]) if self.is_reached(&stretch, *top) => reached_change(&stretch, *top),
                 _ => return Ok(false),
             },
-            _ => return Ok(false),
         };
         self.apply(&change)?;
         Ok(true)
@@ -96,24 +98,41 @@ impl FlatMachine {
         None
     }
 
-    // Whether a REC is there with its realm.
+    // Whether a REC, if one is there, has its realm.
+    #[tactic(auto, unfolding(rmm_spec::specs::Lookup::rec_at))]
     fn is_owned(&self, rec: u64) -> bool
         ensures { IsTrue result → IsTrue (has_tag (state_of self.now) rec tag.Rec)
-            × IsTrue (has_tag (state_of self.now) (rec_at (state_of self.now) rec).owner tag.Rd) }
+            → IsTrue (has_tag (state_of self.now) (rec_at (state_of self.now) rec).owner tag.Rd) }
     {
         match self.rec(rec) {
-            Some(found) => self.has_tag(found.owner.address(), Tag::Rd),
-            None => false,
+            Some(found) => self.has_tag(owner(&found), Tag::Rd),
+            None => true,
         }
     }
 
-    // Whether the REC that a command enters, if one is there, is there with its realm.
+    // Whether the REC that a command enters, if one is there, has its realm.
     fn can_answer(&self, call: &Call) -> bool
         ensures { IsTrue result → IsOwned (state_of self.now) call.now }
     {
         match *call {
-            Call::RecEnter { rec } => !self.has_tag(rec, Tag::Rec) || self.is_owned(rec),
+            Call::RecEnter { rec } => self.is_owned(rec),
             _ => true,
         }
+    }
+}
+
+// The realm that a REC belongs to, by the address of its descriptor.
+#[tactic(auto, unfolding(realm_desc::specs::View::rec_record))]
+fn owner(rec: &Rec) -> u64
+    ensures { result ≡ rec.now.owner }
+{
+    rec.owner.address()
+}
+
+// The words of a reply, where the command was carried out.
+fn words_of(reply: &Reply) -> Option<&[u64]> {
+    match reply {
+        Reply::Ok(words) => Some(words.as_slice()),
+        Reply::Err(..) | Reply::Misplaced => None,
     }
 }

@@ -5,7 +5,8 @@ use crate::kept::{Kept, Spot};
 use crate::machine::FlatMachine;
 use crate::walks::ENTRIES;
 use command_rows::Sight;
-use realm_desc::Realm;
+use granule_state::Pa;
+use realm_desc::{HashAlgorithm, Realm, Space};
 use rmm_spec::{Entry, EntryChange, Ripas, Tag};
 use table_entries::with_ripas;
 
@@ -133,9 +134,6 @@ fn within(rd: u64, level: u8, table: u64, place: u64) -> Spot {
         number: table.wrapping_mul(ENTRIES).wrapping_add(place),
     }
 }
-
-use granule_state::Pa;
-use realm_desc::{HashAlgorithm, Space};
 
 // A realm that was just made, where such words make one.
 fn new_realm(root: u64, width: u8, level: u8, vmid: u8, algo: u8) -> Option<Realm> {

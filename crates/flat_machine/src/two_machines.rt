@@ -78,7 +78,10 @@ impl TwoMachines {
         command: &Command,
         stretch: &Stretch,
     ) -> Result<Stepped, FlatFault> {
-        let size = entry_size(stretch.level.min(3));
+        if stretch.level > 3 {
+            return Ok(Stepped::Differs);
+        }
+        let size = entry_size(stretch.level);
         for less in 0..ENTRIES {
             let mut words = ArrayVec::new();
             words.push(stretch.base.wrapping_add(size.wrapping_mul(ENTRIES - less)));

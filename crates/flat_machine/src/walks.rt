@@ -128,11 +128,21 @@ impl FlatMachine {
 
     /// Whether a stretch may be set up to `top`: so many whole entries of one table, each of which may be set.
     pub(crate) fn is_reached(&self, stretch: &Stretch, top: u64) -> bool {
-        let Stretch { rd, level, base, .. } = *stretch;
-        if level > 3 || top <= base || top > stretch.top {
+        let Stretch {
+            rd,
+            level,
+            base,
+            ..
+        } = *stretch;
+        if level > 3 {
             return false;
         }
-        if (top - base) % entry_size(level) != 0 || table_number(level, top - 1) != table_number(level, base) {
+        if top <= base {
+            return false;
+        }
+        let is_whole = (top - base) % entry_size(level) == 0;
+        let is_in_table = table_number(level, top - 1) == table_number(level, base);
+        if top > stretch.top || !is_whole || !is_in_table {
             return false;
         }
         for number in entry_number(level, base)..entry_number(level, top) {
