@@ -2,7 +2,7 @@ use Rattle.std.proofs.Common.{ℕ, ◌+◌, ◌*◌, Bool, arith}
 use Rattle.rmm_spec.specs.Walk.{is_live, entry_at, is_in_use}
 use Rattle.flat_machine.specs.Flat.{state_of}
 use Rattle.flat_machine.proofs.Searches.{one_passes, none_passes}
-use Rattle.flat_machine.proofs.walks.FlatMachine.has_live.Goals as goal
+use Rattle.flat_machine.proofs.machine.FlatMachine.has_live.Goals as goal
 
 pub returns-then-is_live : goal.returns-then-is_live
 unfolding is_in_use

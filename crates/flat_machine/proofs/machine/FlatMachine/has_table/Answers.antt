@@ -2,7 +2,7 @@ use Rattle.std.proofs.Common.{ℕ, ◌+◌, ◌*◌, Bool, arith}
 use Rattle.rmm_spec.specs.Walk.{is_table, entry_at, has_link}
 use Rattle.flat_machine.specs.Flat.{state_of}
 use Rattle.flat_machine.proofs.Searches.{one_passes, none_passes}
-use Rattle.flat_machine.proofs.walks.FlatMachine.has_table.Goals as goal
+use Rattle.flat_machine.proofs.machine.FlatMachine.has_table.Goals as goal
 
 pub returns-then-is_table : goal.returns-then-is_table
 unfolding has_link
