@@ -173,6 +173,7 @@ fn can_update_realm(update: RealmUpdate) -> bool
 }
 
 // Whether the REC can be updated so.
+#[tactic(auto, unfolding(realm_desc::specs::View::rec_record))]
 fn can_update_rec(rec: &Rec, update: RecUpdate) -> bool
     ensures { IsTrue result → IsRecUpdate rec.now update }
 {
