@@ -55,7 +55,9 @@ fn add_script(alloc: Global, history: &str, counts: &mut Counts) -> Result<()> {
             (Event::Returned { cpu, reply, .. }, Some(command)) => {
                 let stepped = machines.offer(cpu, command, &reply)?;
                 counts.steps = counts.steps.wrapping_add(1);
-                counts.same = counts.same.wrapping_add(u64::from(stepped != Stepped::Differs));
+                counts.same = counts
+                    .same
+                    .wrapping_add(u64::from(stepped != Stepped::Differs));
             }
             (Event::Returned { .. }, None) => bail!("a return without a call"),
         }

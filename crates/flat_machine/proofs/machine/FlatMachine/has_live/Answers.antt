@@ -1,4 +1,4 @@
-use Rattle.std.proofs.Common.{ℕ, ◌+◌, ◌*◌, Bool, arith}
+use Rattle.std.proofs.Common.{◌+◌, ◌*◌, arith}
 use Rattle.rmm_spec.specs.Walk.{is_live, entry_at, is_in_use}
 use Rattle.flat_machine.specs.Flat.{state_of}
 use Rattle.flat_machine.proofs.Searches.{one_passes, none_passes}
