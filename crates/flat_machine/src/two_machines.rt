@@ -39,6 +39,11 @@ impl TwoMachines {
         })
     }
 
+    /// The specification machine.
+    pub fn machine(&self) -> &Machine {
+        &self.machine
+    }
+
     /// Offers the step to both, which are asked for the outcome of the command before.
     pub fn offer(
         &mut self,

@@ -1,22 +1,27 @@
-//! Random programs, of which each command is given to the specification machine and to the flat one.
+//! Random runs, of which each step is taken by the specification machine and by the flat one.
 
+ghost use Rattle.std.specs.Prelude.{◌<◌};
+
+use crate::deep_lives::DeepLife;
 use crate::worlds::dice::Dice;
-use crate::worlds::drafting::{Draft, drafted_programs};
-use crate::worlds::drawing::Sharing;
-use crate::worlds::schedule::Schedule;
+use crate::worlds::drafting::drafted_command;
+use crate::worlds::drawing::{Granules, Sharing};
+use crate::worlds::edges::edged_command;
 use anyhow::{Context, Result, bail};
 use flat_machine::{Stepped, TwoMachines};
 use granule_state::Config;
-use rmm_spec::Command;
 use std::alloc::Global;
 
-/// How many commands a CPU has, on average.
-const COMMANDS: u64 = 48;
+/// How many steps a run has.
+const STEPS: u64 = 160;
 
-/// How many turns there are for each command of a run, most of them of a CPU that has none left.
-const TURNS: u64 = 8;
+/// A run begins with fewer than so many commands of a realm's life.
+const MOST_BEGUN: u64 = 64;
 
-/// How many steps were offered, to how many the machines answered alike, and how many of these did what was asked.
+/// One of so many commands has edges as words.
+const EDGED: u64 = 8;
+
+/// How many steps were taken, in how many of them the machines answered alike, and how many of these carried a command out.
 #[derive(Clone, Copy, Default)]
 struct Counts {
     steps: u64,
@@ -38,9 +43,7 @@ pub(crate) fn compare_machines(
         if run.same != run.steps {
             println!(rt; "seed {seed}: step {} differs", run.steps)?;
         }
-        counts.steps = counts.steps.wrapping_add(run.steps);
-        counts.same = counts.same.wrapping_add(run.same);
-        counts.ok = counts.ok.wrapping_add(run.ok);
+        counts.add(run);
     }
     let Counts { steps, same, ok } = counts;
     println!(rt; "random: {same} of {steps} steps, {ok} of them ok")?;
@@ -50,48 +53,61 @@ pub(crate) fn compare_machines(
     Ok(())
 }
 
-// A run of one CPU, or of up to four that take turns, as far as the machines answer alike.
+// One to four CPUs call in turn, until a step in which the machines differ.
 fn compare_run(alloc: Global, seed: u64) -> Result<Counts> {
     let mut dice = Dice::new(seed);
-    let cpus = 1 + dice.below(7).saturating_sub(3);
+    let cpus = 1 + dice.below(4);
     let sharing = Sharing::drawn(&mut dice);
     let config = Config::new(sharing.granules(cpus), cpus).context("no such machine")?;
-    let draft = Draft {
-        drafted: cpus * COMMANDS,
-        edged: u64::from(dice.one_in(4)),
-    };
-    let schedule = Schedule::new(&config, seed);
-    let programs = drafted_programs(alloc, &config, sharing, draft, schedule, &mut dice)?;
-    let machines = TwoMachines::new(alloc, config)?;
-    let schedule = Schedule::new(&config, seed);
-    play(alloc, machines, &programs, schedule)
-}
-
-// Each turn is a command of its CPU, where it has one left, until the machines differ.
-fn play(
-    alloc: Global,
-    mut machines: TwoMachines,
-    programs: &[Vec<Command>],
-    mut schedule: Schedule,
-) -> Result<Counts> {
+    let mut machines = TwoMachines::new(alloc, config)?;
+    let mut life = DeepLife::new(0, 0);
+    let begun = dice.below(MOST_BEGUN);
+    let mut rows = Vec::new(alloc);
     let mut counts = Counts::default();
-    let mut next = vec![in alloc; 0; programs.len()]?;
-    for _turn in 0..COMMANDS * 4 * TURNS {
-        let (cpu, _will) = schedule.next();
-        let place = next.get_mut(usize::from(cpu)).context("no such CPU")?;
-        let program = programs.get(usize::from(cpu)).context("no such CPU")?;
-        let Some(command) = program.get(*place) else {
-            continue;
+    for step in 0..STEPS {
+        rows.clear();
+        machines.machine().owner_report(&mut rows)?;
+        let granules = Granules {
+            rows: rows.as_slice(),
+            cpu: drawn_cpu(&mut dice, cpus, step < begun),
+            sharing,
         };
-        *place = place.wrapping_add(1);
-        let stepped = machines.execute(cpu, command)?;
-        counts.steps = counts.steps.wrapping_add(1);
-        match stepped {
-            Stepped::Done => counts.ok = counts.ok.wrapping_add(1),
-            Stepped::Refused => {}
-            Stepped::NotTaken | Stepped::Differs => return Ok(counts),
+        let command = if step < begun {
+            life.next()
+        } else if dice.one_in(EDGED) {
+            edged_command(granules, &mut dice)
+        } else {
+            drafted_command(machines.machine(), granules, &mut dice)
+        };
+        let stepped = machines.execute(granules.cpu, &command)?;
+        counts.count(stepped);
+        if counts.same != counts.steps {
+            break;
         }
-        counts.same = counts.same.wrapping_add(1);
     }
     Ok(counts)
+}
+
+// The life is the first CPU's.
+fn drawn_cpu(dice: &mut Dice, cpus: u64, lives: bool) -> u8
+    requires { (0 < cpus) × (cpus < 9) }
+{
+    if lives { 0 } else { dice.below(cpus) as u8 }
+}
+
+impl Counts {
+    fn count(&mut self, stepped: Stepped) {
+        let is_same = matches!(stepped, Stepped::Done | Stepped::Refused);
+        self.add(Counts {
+            steps: 1,
+            same: u64::from(is_same),
+            ok: u64::from(stepped == Stepped::Done),
+        });
+    }
+
+    fn add(&mut self, more: Counts) {
+        self.steps = self.steps.wrapping_add(more.steps);
+        self.same = self.same.wrapping_add(more.same);
+        self.ok = self.ok.wrapping_add(more.ok);
+    }
 }
