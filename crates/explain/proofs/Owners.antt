@@ -9,8 +9,7 @@ use Rattle.rmm_spec.specs.Lookup.{is_granule}
 use Rattle.rmm_spec.specs.State.{State}
 use Rattle.spec_machine.specs.declared.owner_report.OwnerRow.{OwnerRow}
 use Rattle.spec_machine.specs.Report.{AddsOwners, owner_rows}
-use Rattle.spec_machine.proofs.Places.{place_within, place-granule}
-use Rattle.spec_machine.proofs.Rows.{granule_placed}
+use Rattle.machine_cells.proofs.Kept.{granule_placed, place_within, place-granule}
 
 -- the row of a place
 abbrev pub owner_row : State → (ℕ → Option ℕ) → ℕ → OwnerRow
