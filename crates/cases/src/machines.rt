@@ -1,7 +1,7 @@
 //! The steps of the scripts, each offered to the specification machine and to the flat one.
 
 use crate::case::Case;
-use crate::case_text::cases_of;
+use crate::case_text::{CaseText, cases_of};
 use anyhow::{Context, Result, bail};
 use flat_machine::{Stepped, TwoMachines};
 use rmm_spec::Event;
@@ -32,13 +32,18 @@ pub(crate) fn compare_scripts<R: Files + Print + AllocGlobal>(
 }
 
 fn add_file(alloc: Global, text: &str, counts: &mut Counts) -> Result<()> {
-    for text in &cases_of(alloc, text)? {
-        let mut case = Case::new(alloc);
-        for statement in &text.statements {
-            case.take(alloc, statement)?;
-            if statement.word.is_script() {
-                add_script(alloc, case.history(), counts)?;
-            }
+    for case in &cases_of(alloc, text)? {
+        add_case(alloc, case, counts)?;
+    }
+    Ok(())
+}
+
+fn add_case(alloc: Global, text: &CaseText<'_>, counts: &mut Counts) -> Result<()> {
+    let mut case = Case::new(alloc);
+    for statement in &text.statements {
+        case.take(alloc, statement)?;
+        if statement.word.is_script() {
+            add_script(alloc, case.history(), counts)?;
         }
     }
     Ok(())
