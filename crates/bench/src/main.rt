@@ -32,6 +32,7 @@ const GATE: [&str; 8] = [
     "world all 1 20",
     "world stops 1 1",
     "world edges 1 5",
+    "world machines 1 20",
     "monitor all 1 20 1000",
     "scenarios 1 5",
 ];

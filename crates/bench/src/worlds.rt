@@ -5,6 +5,7 @@ mod draft;
 mod drafting;
 mod drawing;
 mod edges;
+mod machines;
 mod replies;
 mod runs;
 mod schedule;
@@ -15,6 +16,7 @@ mod walking;
 
 use anyhow::{Result, bail};
 pub(crate) use draft::Draft;
+use machines::compare_machines;
 use replies::{DRAFTED, EDGED, compare_replies};
 use runs::judge_runs;
 use std::alloc::Global;
@@ -22,7 +24,7 @@ use stops::judge_stops;
 use turns::{Work, take_turns};
 
 /// Judges the runs of so many seeds from the first on, compares the replies of so many programs on one CPU, does both, ends each
-/// CPU at each turn of so many runs, or lets so many CPUs (the first number) take so many turns.
+/// CPU at each turn of so many runs, gives so many programs to two machines, or lets so many CPUs (the first number) take so many turns.
 pub(crate) fn run(
     rt: &impl Print,
     alloc: Global,
@@ -35,6 +37,7 @@ pub(crate) fn run(
         "replies" => compare_replies(rt, alloc, "replies", DRAFTED, first, count),
         "edges" => compare_replies(rt, alloc, "replies at edges", EDGED, first, count),
         "stops" => judge_stops(rt, alloc, first, count),
+        "machines" => compare_machines(rt, alloc, first, count),
         "all" => {
             judge_runs(rt, alloc, first, count)?;
             compare_replies(rt, alloc, "replies", DRAFTED, first, count)
@@ -42,6 +45,6 @@ pub(crate) fn run(
         "turns" => take_turns(rt, alloc, Work::Lives, first, count),
         "realms" => take_turns(rt, alloc, Work::Realms, first, count),
         "realm" => take_turns(rt, alloc, Work::Realm, first, count),
-        _ => bail!("runs, replies, edges, stops, all, turns, realms or realm?"),
+        _ => bail!("runs, replies, edges, stops, machines, all, turns, realms or realm?"),
     }
 }

@@ -58,6 +58,11 @@ impl Case {
         Ok(())
     }
 
+    /// The history of the texts so far.
+    pub(crate) fn history(&self) -> &str {
+        self.history.as_str()
+    }
+
     fn script_so_far(&self, alloc: Global) -> Result<Script, AllocError> {
         self.script.copy(alloc)
     }

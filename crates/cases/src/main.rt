@@ -1,8 +1,8 @@
 //! Asks the public calls what the case files ask, and prints a line for each case that is answered as its file says.
 //! A case file is plain text: inputs, and questions with their answers, which come from outside and never from an output.
 //! An answer that differs is printed with the one in whose place it came, and the status is then 1.
-//! It reads every `.txt` of the folder where it runs, in the order of their names; no clause says more than that it is safe.
-//! It depends on the crates that read, judge and explain texts, and nothing depends on it.
+//! It reads every `.txt` of the folder where it runs by name, and then offers each step of their scripts to two machines.
+//! No clause says more than that it is safe. It stands on the crates that read, judge and explain texts, and nothing on it.
 #![tactic(auto)]
 
 mod answers;
@@ -10,6 +10,7 @@ mod case;
 mod case_text;
 mod cuts;
 mod functions;
+mod machines;
 mod owners;
 mod parts;
 mod plain;
@@ -18,6 +19,7 @@ mod statement;
 
 use crate::case::Case;
 use crate::case_text::{CaseText, cases_of};
+use crate::machines::compare_scripts;
 use crate::statement::Statement;
 use anyhow::{Context, Result, bail};
 use std::fs;
@@ -25,9 +27,11 @@ use std::rt::Files;
 
 fn main(rt: HostRuntime) -> Result<()> {
     let mut are_right = true;
-    for file in &files(&rt)? {
+    let files = files(&rt)?;
+    for file in &files {
         are_right &= judge_file(&rt, file.as_str())?;
     }
+    are_right &= compare_scripts(&rt, files.as_slice())?;
     if are_right {
         Ok(())
     } else {

@@ -73,6 +73,11 @@ impl Word {
         })
     }
 
+    /// It gives steps of a script.
+    pub(crate) fn is_script(self) -> bool {
+        matches!(self, Word::Script | Word::Step | Word::Try)
+    }
+
     /// It gives a text, so that it asks only where an answer stands on its line.
     fn is_input(self) -> bool {
         matches!(

@@ -116,7 +116,12 @@ fn likely_turns(function: FunctionId) -> u8 {
     }
 }
 
-fn drafted_command(machine: &Machine, granules: Granules<'_>, dice: &mut Dice) -> Command {
+/// A command that the machine accepts, but for one of some, or where none is found.
+pub(crate) fn drafted_command(
+    machine: &Machine,
+    granules: Granules<'_>,
+    dice: &mut Dice,
+) -> Command {
     if !dice.one_in(UNCHECKED) {
         for _function in 0..FUNCTION_DRAWS {
             if let Some(command) = accepted_command(machine, granules, dice) {

@@ -1,0 +1,69 @@
+//! What the rows of commands look up in the maps.
+
+use crate::machine::FlatMachine;
+use crate::walks::is_granule;
+use command_rows::Sight;
+use command_words::is_tag;
+use realm_desc::{Realm, Rec};
+use rmm_spec::{Tag, Walked};
+use table_entries::{entry_number, table_number};
+
+#[tactic(auto, unfolding(crate::specs::Flat::state_of, rmm_spec::specs::Lookup::has_tag))]
+impl Sight for FlatMachine {
+    ghost use Rattle.std.specs.Prelude.{nat_eq, is_some};
+    ghost use Rattle.std.specs.HashMap.{get};
+    ghost use Rattle.flat_machine.specs.Flat.{state_of};
+
+    ghost state = { state_of };
+
+    ghost uses_vmid = { λ machine vmid. is_some (get nat_eq machine.vmids vmid) };
+
+    ghost has_recs = { λ machine rd. is_some (get nat_eq machine.rec_counts rd) };
+
+    fn has_tag(&self, address: u64, tag: Tag) -> bool {
+        is_granule(&self.config, address) && is_tag(self.tag(address), tag)
+    }
+
+    fn realm(&self, rd: u64) -> Option<Realm> {
+        if is_granule(&self.config, rd) {
+            self.realm_in(rd)
+        } else {
+            None
+        }
+    }
+
+    fn rec(&self, address: u64) -> Option<Rec> {
+        if is_granule(&self.config, address) {
+            self.rec_in(address)
+        } else {
+            None
+        }
+    }
+
+    fn walk(&self, rd: u64, ipa: u64, max: u8) -> Walked {
+        let level = self.deepest(rd, ipa, max);
+        let granule = self.table(rd, level, table_number(level, ipa)).unwrap_or(0);
+        let entry = self.entry(rd, level, entry_number(level, ipa));
+        Walked {
+            level,
+            granule,
+            entry,
+        }
+    }
+
+    fn is_in_use(&self, rd: u64, level: u8, number: u64) -> bool {
+        self.has_live(rd, level, number)
+    }
+
+    fn has_link(&self, rd: u64, level: u8) -> bool {
+        self.has_table(rd, level, 0)
+    }
+
+    fn has_rec(&self, rd: u64) -> bool {
+        self.rec_counts.contains_key(&rd)
+    }
+
+    fn is_vmid_used(&self, vmid: u8) -> bool {
+        self.vmids.contains_key(&vmid)
+    }
+}
