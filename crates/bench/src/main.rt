@@ -25,7 +25,7 @@ use std::thread::Threads;
 use std::time::Clock;
 
 /// What `gate` runs, in turn.
-const GATE: [&str; 8] = [
+const GATE: [&str; 9] = [
     "measure words 1000",
     "walk 2",
     "queue queue 2 0",
