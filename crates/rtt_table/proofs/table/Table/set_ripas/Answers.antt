@@ -10,7 +10,7 @@ returns c =
     let changed = rw c.deref_mut.ensures.value at c.change_ripas.ensures in
     let written = ripas_written c.self.inside.entries.items c.change_ripas.new.entries c.args.from c.args.to c.args.ripas c.requires.order changed in
     let count : length c.self.inside.entries.items ≡ c.self.inside.entries.len = omega (arith, c.self.inside.entries.ok.0) in
-    let within : c.args.to ≤ length c.self.inside.entries.items = omega (arith, c.self.invariant, c.requires.within) in
+    let within : c.args.to ≤ length c.self.inside.entries.items = omega (arith, c.self.invariant.0, c.requires.within) in
     let kept = (ap (λ (entries : List Entry). length entries) written
     ∙ length-entries_with_ripas c.args.from c.args.to c.args.ripas c.self.inside.entries.items c.requires.order within) ∙ count in
     rw (← c.self.view_is, c.deref_mut.ensures.value)

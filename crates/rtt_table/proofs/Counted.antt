@@ -1,0 +1,113 @@
+-- What becomes of a count when entries change, and what a count tells.
+use Rattle.std.proofs.Common.{◌≡◌, ℕ, zero, suc, ◌+◌, ◌-◌, ◌≤◌, Bool, true, false, ◌||◌, if◌then◌else◌, List, [], ◌∷◌, ◌++◌, map, take, drop, replicate, length, Some, nat_lt, slice_get, slice_set, refl, sym, ap, ◌∙◌, arith}
+use Rattle.std.specs.List.{list_any, slice_range}
+use Rattle.std.proofs.lemmas.List.{drop-drop}
+use Rattle.std.proofs.lemmas.Option.{none-some, same_Some}
+use Rattle.rmm_spec.specs.declared.entry.Entry.{Entry}
+use Rattle.rmm_spec.specs.declared.entry.Entry.TheVariants.{Unassigned, Assigned, Table, UnassignedNs, AssignedNs}
+use Rattle.rmm_spec.specs.declared.tag.Ripas.{Ripas}
+use Rattle.rmm_spec.specs.Update.{entry_with_ripas}
+use Rattle.rmm_spec.specs.Walk.{is_live, is_table}
+use Rattle.rmm_spec.specs.Table.{entries_with_ripas}
+use Rattle.rtt_table.specs.Counts.{one_if, count_of, AreCounts}
+
+-- ---- what a count tells
+
+one_if-le : (b : Bool) → one_if b ≤ 1
+one_if-le true = omega arith
+one_if-le false = omega arith
+
+-- no more entries are counted than there are
+pub count-within : (test : Entry → Bool) (entries : List Entry) → count_of test entries ≤ length entries
+unfolding count_of
+count-within test [] = omega arith
+count-within test (e ∷ entries) = omega (arith, one_if-le (test e), count-within test entries)
+
+-- an entry that passes is counted
+pub count-at : (test : Entry → Bool) (entries : List Entry) (i : ℕ) (e : Entry) → slice_get entries i ≡ Some e → one_if (test e) ≤ count_of test entries
+unfolding count_of
+count-at test [] i e at = absurd (none-some e at)
+count-at test (x ∷ entries) zero e at = let same : one_if (test x) ≡ one_if (test e) = ap (λ y. one_if (test y)) (same_Some x e at) in omega (arith, same)
+count-at test (x ∷ entries) (suc i) e at = omega (arith, count-at test entries i e at)
+
+-- some entry passes where the count isn't 0
+pub count-any : (test : Entry → Bool) (entries : List Entry) → nat_lt 0 (count_of test entries) ≡ list_any test entries
+unfolding count_of
+count-any test [] = refl
+count-any test (e ∷ entries) = by (test e)
+  where
+    by : (b : Bool) → nat_lt 0 (one_if b + count_of test entries) ≡ (b || list_any test entries)
+    by true = grind arith
+    by false = grind (arith, count-any test entries)
+
+-- ---- what becomes of it
+
+-- of copies of one entry all are counted, or none
+pub count-copies : (test : Entry → Bool) (n : ℕ) (e : Entry) → count_of test (replicate n e) ≡ (if test e then n else 0)
+unfolding count_of
+count-copies test n e = by (test e) refl n
+  where
+    by : (b : Bool) → test e ≡ b → (n : ℕ) → count_of test (replicate n e) ≡ (if b then n else 0)
+    by true is zero = refl
+    by true is (suc n) = rw is (omega (arith, by true is n))
+    by false is zero = refl
+    by false is (suc n) = rw is (by false is n)
+
+-- one entry replaced by another
+pub count-set : (test : Entry → Bool) (entries : List Entry) (i : ℕ) (old new : Entry) → slice_get entries i ≡ Some old
+    → count_of test (slice_set entries i new) + one_if (test old) ≡ count_of test entries + one_if (test new)
+unfolding count_of
+count-set test [] i old new at = absurd (none-some old at)
+count-set test (x ∷ entries) zero old new at =
+    let same : one_if (test x) ≡ one_if (test old) = ap (λ y. one_if (test y)) (same_Some x old at) in
+    omega (arith, same)
+count-set test (x ∷ entries) (suc i) old new at = omega (arith, count-set test entries i old new at)
+
+-- two parts of a list
+count-append : (test : Entry → Bool) (xs ys : List Entry) → count_of test (xs ++ ys) ≡ count_of test xs + count_of test ys
+unfolding count_of
+count-append test [] ys = omega arith
+count-append test (x ∷ xs) ys = omega (arith, count-append test xs ys)
+
+-- entries that each pass as before
+count-map : (test : Entry → Bool) (change : Entry → Entry) → ((e : Entry) → test (change e) ≡ test e) → (xs : List Entry)
+    → count_of test (map change xs) ≡ count_of test xs
+unfolding count_of
+count-map test change same [] = refl
+count-map test change same (x ∷ xs) = rw (same x) (ap (λ n. one_if (test x) + n) (count-map test change same xs))
+
+count-parts : (test : Entry → Bool) (n : ℕ) (xs : List Entry) → count_of test (take n xs) + count_of test (drop n xs) ≡ count_of test xs
+unfolding count_of
+count-parts test zero xs = omega arith
+count-parts test (suc n) [] = refl
+count-parts test (suc n) (x ∷ xs) = omega (arith, count-parts test n xs)
+
+-- a change of a stretch's RIPAS leaves the count of what doesn't look at RIPAS
+pub count-ripas : (test : Entry → Bool) (first last : ℕ) (ripas : Ripas) (xs : List Entry) → ((e : Entry) → test (entry_with_ripas ripas e) ≡ test e) → first ≤ last
+    → count_of test (entries_with_ripas first last ripas xs) ≡ count_of test xs
+unfolding entries_with_ripas
+count-ripas test first last ripas xs same order =
+    let reach : first + (last - first) ≡ last = omega arith in
+    let ends : drop (last - first) (drop first xs) ≡ drop last xs = drop-drop (last - first) first xs ∙ ap (λ (n : ℕ). drop n xs) reach in
+    let stretch = count-map test (entry_with_ripas ripas) same (slice_range xs first last) in
+    let rest = count-parts test (last - first) (drop first xs) in
+    let back = ap (count_of test) ends in
+    let all = count-parts test first xs in
+    let outer = count-append test (take first xs) (map (entry_with_ripas ripas) (slice_range xs first last) ++ drop last xs) in
+    let inner = count-append test (map (entry_with_ripas ripas) (slice_range xs first last)) (drop last xs) in
+    omega arith
+
+-- whether an entry is live, or a link, isn't told by its RIPAS
+pub live-ripas : (ripas : Ripas) (e : Entry) → is_live (entry_with_ripas ripas e) ≡ is_live e
+live-ripas ripas (Unassigned old) = refl
+live-ripas ripas (Assigned old granule) = refl
+live-ripas ripas (Table granule) = refl
+live-ripas ripas UnassignedNs = refl
+live-ripas ripas (AssignedNs page) = refl
+
+pub link-ripas : (ripas : Ripas) (e : Entry) → is_table (entry_with_ripas ripas e) ≡ is_table e
+link-ripas ripas (Unassigned old) = refl
+link-ripas ripas (Assigned old granule) = refl
+link-ripas ripas (Table granule) = refl
+link-ripas ripas UnassignedNs = refl
+link-ripas ripas (AssignedNs page) = refl
