@@ -7,6 +7,7 @@ ghost use Rattle.rmm_spec.specs.Table.{place_number};
 ghost use Rattle.rmm_spec.specs.Update.{is_same_entry};
 ghost use Rattle.shape_laws.specs.Whole as whole_spec;
 ghost use Rattle.walk_laws.specs.SeenState as spec;
+ghost use Rattle.command_core.specs.Standing as standing;
 
 use crate::held::Held;
 use crate::held_sight::HeldSight;
@@ -15,7 +16,7 @@ use granule_cells::Cell;
 use granule_state::Pa;
 use rmm_spec::{Entry, EntryChange, Place};
 use rtt_table::Table;
-use table_entries::{is_live, is_table, linked, table_number};
+use table_entries::{is_table, linked, table_number};
 
 /// How many entries a table has.
 const ENTRIES: u64 = 512;
@@ -102,6 +103,20 @@ fn is_placed<H: Held>(held: &H, granule: Pa, rd: u64, level: u8, number: u64) ->
     }
 }
 
+// Whether a table of that level is held in a granule, under the table of that number above it.
+#[tactic(auto, unfolding(rmm_spec::specs::Table::place_number))]
+fn is_under<H: Held>(held: &H, granule: Pa, rd: u64, level: u8, number: u64) -> bool
+    ensures { result ≡ standing.is_under rd level number (spec.table_held (H.cells held.now) granule) }
+{
+    let Some(table) = table_in(held, granule) else {
+        return false;
+    };
+    let place = table.place();
+    place.rd == rd
+        && place.level == level
+        && table_number(place.level, place.base) / ENTRIES == number
+}
+
 /// The granule of the first held table of that place.
 #[tactic(auto, unfolding(walk_laws::specs::SeenState::table_placed))]
 pub(crate) fn placed<H: Held>(held: &H, rd: u64, level: u8, number: u64) -> Option<u64>
@@ -126,6 +141,7 @@ impl<'a, H: Held> HeldSight<'a, H> {
     ghost use Rattle.rmm_spec.specs.Walk as walks;
     ghost use Rattle.walk_laws.specs.SeenState as spec;
     ghost use Rattle.walk_laws.specs.SeenState.{seen_state};
+    ghost use Rattle.command_core.specs.Standing.{IsHeldTable, is_above_held};
 
     // Whether a table of the realm is held in a granule.
     fn is_of_realm(&self, granule: Pa, rd: u64) -> bool
@@ -253,31 +269,54 @@ impl<'a, H: Held> HeldSight<'a, H> {
         self.reach(rd, ipa, max - 1)
     }
 
-    /// Whether the table of that number has an entry that keeps it in use.
-    #[tactic(auto, unfolding(rmm_spec::specs::Walk::is_in_use))]
+    // The held table of that number at the level.
+    fn table_here(&self, rd: u64, level: u8, number: u64) -> Option<&Table>
+        ensures { IsHeldTable (H.cells self.now.held.now) rd level number (option_copied result) }
+    {
+        let Some(granule) = placed(self.held, rd, level, number) else {
+            return None;
+        };
+        let Some(table) = table_in(self.held, Pa::new(granule)) else {
+            return None;
+        };
+        table.is_whole();
+        Some(table)
+    }
+
+    // Whether a held table stands under the table of that number.
+    #[tactic(auto, unfolding(crate::specs::Standing::is_above_held))]
+    fn is_above(&self, rd: u64, level: u8, number: u64) -> bool
+        ensures { result ≡ is_above_held (H.cells self.now.held.now) rd level number }
+    {
+        if level >= 3 {
+            return false;
+        }
+        let below = level + 1;
+        self.held
+            .held()
+            .iter()
+            .any(|granule| is_under(self.held, *granule, rd, below, number))
+    }
+
+    /// Whether the table of that number has an entry that keeps it in use: at the last level no link is one.
     pub(crate) fn has_live(&self, rd: u64, level: u8, number: u64) -> bool
         requires { number < 2 ^ 52 }
         ensures { result ≡ walks.is_in_use (seen_state self.now.config.now.granules (H.cells self.now.held.now)) rd level number }
     {
-        for place in 0..ENTRIES {
-            if is_live(self.entry(rd, level, ENTRIES * number + place)) {
-                return true;
-            }
+        match self.table_here(rd, level, number) {
+            Some(table) => table.has_mapped() || (level < 3 && table.has_link()),
+            None => self.is_above(rd, level, number),
         }
-        false
     }
 
     /// Whether the table of that number links to one below it.
-    #[tactic(auto, unfolding(rmm_spec::specs::Walk::has_link))]
     pub(crate) fn links(&self, rd: u64, level: u8, number: u64) -> bool
         requires { number < 2 ^ 52 }
         ensures { result ≡ walks.has_link (seen_state self.now.config.now.granules (H.cells self.now.held.now)) rd level number }
     {
-        for place in 0..ENTRIES {
-            if is_table(self.entry(rd, level, ENTRIES * number + place)) {
-                return true;
-            }
+        match self.table_here(rd, level, number) {
+            Some(table) => level < 3 && table.has_link(),
+            None => self.is_above(rd, level, number),
         }
-        false
     }
 }

@@ -1,6 +1,7 @@
 -- What becomes of a count when entries change, and what a count tells.
-use Rattle.std.proofs.Common.{◌≡◌, ℕ, zero, suc, ◌+◌, ◌-◌, ◌≤◌, Bool, true, false, ◌||◌, if◌then◌else◌, List, [], ◌∷◌, ◌++◌, map, take, drop, replicate, length, Some, nat_lt, slice_get, slice_set, refl, sym, ap, ◌∙◌, arith}
+use Rattle.std.proofs.Common.{◌≡◌, ℕ, zero, suc, ◌+◌, ◌-◌, ◌<◌, ◌≤◌, Bool, true, false, ◌||◌, if◌then◌else◌, List, [], ◌∷◌, ◌++◌, map, take, drop, replicate, length, Some, nat_lt, slice_get, slice_set, refl, sym, ap, ◌∙◌, arith}
 use Rattle.std.specs.List.{list_any, slice_range}
+use Rattle.std.proofs.lemmas.Bool.{ltb-true, ltb-false, lt-ltb, le-ltb}
 use Rattle.std.proofs.lemmas.List.{drop-drop}
 use Rattle.std.proofs.lemmas.Option.{none-some, same_Some}
 use Rattle.rmm_spec.specs.declared.entry.Entry.{Entry}
@@ -9,7 +10,7 @@ use Rattle.rmm_spec.specs.declared.tag.Ripas.{Ripas}
 use Rattle.rmm_spec.specs.Update.{entry_with_ripas}
 use Rattle.rmm_spec.specs.Walk.{is_live, is_table}
 use Rattle.rmm_spec.specs.Table.{entries_with_ripas}
-use Rattle.rtt_table.specs.Counts.{one_if, count_of, AreCounts}
+use Rattle.rtt_table.specs.Counts.{is_mapped, one_if, count_of}
 
 -- ---- what a count tells
 
@@ -37,8 +38,52 @@ count-any test [] = refl
 count-any test (e ∷ entries) = by (test e)
   where
     by : (b : Bool) → nat_lt 0 (one_if b + count_of test entries) ≡ (b || list_any test entries)
-    by true = grind arith
-    by false = grind (arith, count-any test entries)
+    by true = lt-ltb 0 (1 + count_of test entries) (omega arith)
+    by false = let same : 0 + count_of test entries ≡ count_of test entries = omega arith in ap (nat_lt 0) same ∙ count-any test entries
+
+-- a live entry is mapped or a link, and never both
+live-kinds : (e : Entry) → one_if (is_live e) ≡ one_if (is_mapped e) + one_if (is_table e)
+live-kinds (Unassigned ripas) = refl
+live-kinds (Assigned ripas granule) = refl
+live-kinds (Table granule) = refl
+live-kinds UnassignedNs = refl
+live-kinds (AssignedNs page) = refl
+
+-- so what is live and no link is mapped
+count-kinds : (entries : List Entry) → count_of is_live entries ≡ count_of is_mapped entries + count_of is_table entries
+unfolding count_of
+count-kinds [] = refl
+count-kinds (e ∷ entries) = omega (arith, live-kinds e, count-kinds entries)
+
+-- some entry is mapped where more are live than are links
+pub count-mapped : (entries : List Entry) → nat_lt (count_of is_table entries) (count_of is_live entries) ≡ list_any is_mapped entries
+count-mapped entries = by (list_any is_mapped entries) refl
+  where
+    by : (b : Bool) → list_any is_mapped entries ≡ b → nat_lt (count_of is_table entries) (count_of is_live entries) ≡ b
+    by true some =
+        let more : 0 < count_of is_mapped entries = ltb-true 0 (count_of is_mapped entries) (count-any is_mapped entries ∙ some) in
+        lt-ltb (count_of is_table entries) (count_of is_live entries) (omega (arith, more, count-kinds entries))
+    by false none =
+        let no_more : count_of is_mapped entries ≤ 0 = ltb-false 0 (count_of is_mapped entries) (count-any is_mapped entries ∙ none) in
+        le-ltb (count_of is_table entries) (count_of is_live entries) (omega (arith, no_more, count-kinds entries))
+
+-- some entry is live where one is mapped or a link
+pub live-parts : (entries : List Entry) → list_any is_live entries ≡ (list_any is_mapped entries || list_any is_table entries)
+live-parts [] = refl
+live-parts (e ∷ entries) = kind e ∙ ap (λ b. (is_mapped e || is_table e) || b) (live-parts entries) ∙ regroup (is_mapped e) (is_table e) _ _
+  where
+    kind : (e : Entry) → (is_live e || list_any is_live entries) ≡ ((is_mapped e || is_table e) || list_any is_live entries)
+    kind (Unassigned ripas) = refl
+    kind (Assigned ripas granule) = refl
+    kind (Table granule) = refl
+    kind UnassignedNs = refl
+    kind (AssignedNs page) = refl
+
+    regroup : (a b c d : Bool) → ((a || b) || (c || d)) ≡ ((a || c) || (b || d))
+    regroup true b c d = refl
+    regroup false true true d = refl
+    regroup false true false d = refl
+    regroup false false c d = refl
 
 -- ---- what becomes of it
 
@@ -47,11 +92,11 @@ pub count-copies : (test : Entry → Bool) (n : ℕ) (e : Entry) → count_of te
 unfolding count_of
 count-copies test n e = by (test e) refl n
   where
-    by : (b : Bool) → test e ≡ b → (n : ℕ) → count_of test (replicate n e) ≡ (if b then n else 0)
+    by : (b : Bool) → test e ≡ b → (m : ℕ) → count_of test (replicate m e) ≡ (if b then m else 0)
     by true is zero = refl
-    by true is (suc n) = rw is (omega (arith, by true is n))
+    by true is (suc m) = omega (arith, ap one_if is, by true is m)
     by false is zero = refl
-    by false is (suc n) = rw is (by false is n)
+    by false is (suc m) = omega (arith, ap one_if is, by false is m)
 
 -- one entry replaced by another
 pub count-set : (test : Entry → Bool) (entries : List Entry) (i : ℕ) (old new : Entry) → slice_get entries i ≡ Some old
@@ -74,7 +119,7 @@ count-map : (test : Entry → Bool) (change : Entry → Entry) → ((e : Entry) 
     → count_of test (map change xs) ≡ count_of test xs
 unfolding count_of
 count-map test change same [] = refl
-count-map test change same (x ∷ xs) = rw (same x) (ap (λ n. one_if (test x) + n) (count-map test change same xs))
+count-map test change same (x ∷ xs) = omega (arith, ap one_if (same x), count-map test change same xs)
 
 count-parts : (test : Entry → Bool) (n : ℕ) (xs : List Entry) → count_of test (take n xs) + count_of test (drop n xs) ≡ count_of test xs
 unfolding count_of
@@ -89,7 +134,8 @@ unfolding entries_with_ripas
 count-ripas test first last ripas xs same order =
     let reach : first + (last - first) ≡ last = omega arith in
     let ends : drop (last - first) (drop first xs) ≡ drop last xs = drop-drop (last - first) first xs ∙ ap (λ (n : ℕ). drop n xs) reach in
-    let stretch = count-map test (entry_with_ripas ripas) same (slice_range xs first last) in
+    let stretch : count_of test (map (entry_with_ripas ripas) (slice_range xs first last)) ≡ count_of test (take (last - first) (drop first xs)) =
+    count-map test (entry_with_ripas ripas) same (slice_range xs first last) in
     let rest = count-parts test (last - first) (drop first xs) in
     let back = ap (count_of test) ends in
     let all = count-parts test first xs in

@@ -5,7 +5,7 @@ ghost use Rattle.std.specs.List.{list_any};
 ghost use Rattle.rmm_spec.specs.Update.{entry_with_ripas};
 ghost use Rattle.rmm_spec.specs.Walk.{is_live, is_table};
 ghost use Rattle.rmm_spec.specs.Table.{entry_index, entries_with_ripas, AreAlike};
-ghost use Rattle.rtt_table.specs.Counts.{one_if};
+ghost use Rattle.rtt_table.specs.Counts.{is_mapped, one_if};
 
 use granule_state::Ipa;
 use rmm_spec::{Entry, Place, Ripas};
@@ -100,6 +100,20 @@ impl Table {
         ensures { result ≡ list_any is_table self.now.entries }
     {
         self.links > 0
+    }
+
+    /// Whether some entry is assigned.
+    pub fn has_mapped(&self) -> bool
+        ensures { result ≡ list_any is_mapped self.now.entries }
+    {
+        self.links < self.live
+    }
+
+    /// A table has 512 entries.
+    pub fn is_whole(&self)
+        ensures { length self.now.entries ≡ 512 }
+    {
+        let _ = &self.entries;
     }
 
     /// Whether all 512 entries are equal.
