@@ -285,7 +285,7 @@ impl<'a, H: Held> HeldSight<'a, H> {
 
     // Whether a held table stands under the table of that number.
     #[tactic(auto, unfolding(crate::specs::Standing::is_above_held))]
-    fn is_above(&self, rd: u64, level: u8, number: u64) -> bool
+    fn has_under(&self, rd: u64, level: u8, number: u64) -> bool
         ensures { result ≡ is_above_held (H.cells self.now.held.now) rd level number }
     {
         if level >= 3 {
@@ -305,7 +305,7 @@ impl<'a, H: Held> HeldSight<'a, H> {
     {
         match self.table_here(rd, level, number) {
             Some(table) => table.has_mapped() || (level < 3 && table.has_link()),
-            None => self.is_above(rd, level, number),
+            None => self.has_under(rd, level, number),
         }
     }
 
@@ -316,7 +316,7 @@ impl<'a, H: Held> HeldSight<'a, H> {
     {
         match self.table_here(rd, level, number) {
             Some(table) => level < 3 && table.has_link(),
-            None => self.is_above(rd, level, number),
+            None => self.has_under(rd, level, number),
         }
     }
 }

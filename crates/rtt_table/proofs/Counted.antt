@@ -10,7 +10,7 @@ use Rattle.rmm_spec.specs.declared.tag.Ripas.{Ripas}
 use Rattle.rmm_spec.specs.Update.{entry_with_ripas}
 use Rattle.rmm_spec.specs.Walk.{is_live, is_table}
 use Rattle.rmm_spec.specs.Table.{entries_with_ripas}
-use Rattle.rtt_table.specs.Counts.{is_mapped, one_if, count_of}
+use Rattle.rtt_table.specs.Counts.{is_mapped, one_if, count_of, AreCounts}
 
 -- ---- what a count tells
 
@@ -157,3 +157,26 @@ link-ripas ripas (Assigned old granule) = refl
 link-ripas ripas (Table granule) = refl
 link-ripas ripas UnassignedNs = refl
 link-ripas ripas (AssignedNs page) = refl
+
+-- ---- both counts
+
+-- those of copies of one entry
+pub counts-copies : (n : ℕ) (e : Entry) → AreCounts (replicate n e) (if is_live e then n else 0) (if is_table e then n else 0)
+counts-copies n e = record { of_live = sym (count-copies is_live n e); of_links = sym (count-copies is_table n e) }
+
+-- those of entries of which one is replaced
+pub counts-set : (entries : List Entry) (live links live' links' at : ℕ) (old new : Entry) → AreCounts entries live links → slice_get entries at ≡ Some old
+    → live' + one_if (is_live old) ≡ live + one_if (is_live new) → links' + one_if (is_table old) ≡ links + one_if (is_table new)
+    → AreCounts (slice_set entries at new) live' links'
+counts-set entries live links live' links' at old new counts there first second = record {
+  of_live = omega (arith, counts.of_live, first, count-set is_live entries at old new there);
+  of_links = omega (arith, counts.of_links, second, count-set is_table entries at old new there);
+}
+
+-- those of entries of which a stretch has another RIPAS
+pub counts-ripas : (entries : List Entry) (live links first last : ℕ) (ripas : Ripas) → AreCounts entries live links → first ≤ last
+    → AreCounts (entries_with_ripas first last ripas entries) live links
+counts-ripas entries live links first last ripas counts order = record {
+  of_live = counts.of_live ∙ sym (count-ripas is_live first last ripas entries (live-ripas ripas) order);
+  of_links = counts.of_links ∙ sym (count-ripas is_table first last ripas entries (link-ripas ripas) order);
+}
