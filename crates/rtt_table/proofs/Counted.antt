@@ -35,11 +35,11 @@ count-at test (x ∷ entries) (suc i) e at = omega (arith, count-at test entries
 pub count-any : (test : Entry → Bool) (entries : List Entry) → nat_lt 0 (count_of test entries) ≡ list_any test entries
 unfolding count_of
 count-any test [] = refl
-count-any test (e ∷ entries) = by (test e)
+count-any test (e ∷ entries) = by (test e) (count-any test entries)
   where
-    by : (b : Bool) → nat_lt 0 (one_if b + count_of test entries) ≡ (b || list_any test entries)
-    by true = lt-ltb 0 (1 + count_of test entries) (omega arith)
-    by false = let same : 0 + count_of test entries ≡ count_of test entries = omega arith in ap (nat_lt 0) same ∙ count-any test entries
+    by : (b : Bool) → nat_lt 0 (count_of test entries) ≡ list_any test entries → nat_lt 0 (one_if b + count_of test entries) ≡ (b || list_any test entries)
+    by true rest = lt-ltb 0 (1 + count_of test entries) (omega arith)
+    by false rest = let same : 0 + count_of test entries ≡ count_of test entries = omega arith in ap (λ n. nat_lt 0 n) same ∙ rest
 
 -- a live entry is mapped or a link, and never both
 live-kinds : (e : Entry) → one_if (is_live e) ≡ one_if (is_mapped e) + one_if (is_table e)
@@ -160,9 +160,23 @@ link-ripas ripas (AssignedNs page) = refl
 
 -- ---- both counts
 
--- those of copies of one entry
-pub counts-copies : (n : ℕ) (e : Entry) → AreCounts (replicate n e) (if is_live e then n else 0) (if is_table e then n else 0)
-counts-copies n e = record { of_live = sym (count-copies is_live n e); of_links = sym (count-copies is_table n e) }
+take-nothing : (n : ℕ) → take {A = Entry} n [] ≡ []
+take-nothing zero = refl
+take-nothing (suc n) = refl
+
+-- those of an empty list that is filled up with copies of one entry
+pub counts-filled : (n len : ℕ) (entries before : List Entry) (e : Entry) (live links : ℕ) (is_one is_other : Bool)
+    → entries ≡ take n before ++ replicate (n - len) e → before ≡ [] → len ≡ 0
+    → live ≡ (if is_one then n else 0) → is_one ≡ is_live e → links ≡ (if is_other then n else 0) → is_other ≡ is_table e
+    → AreCounts entries live links
+counts-filled n len entries before e live links is_one is_other filled none empty first one second other =
+    let front : take n before ≡ [] = ap (λ (xs : List Entry). take n xs) none ∙ take-nothing n in
+    let rest : n - len ≡ n = omega (arith, empty) in
+    let copies : entries ≡ replicate n e = filled ∙ (λ i. front i ++ replicate (rest i) e) in
+    record {
+      of_live = (first ∙ ap (λ (b : Bool). if b then n else 0) one) ∙ (sym (count-copies is_live n e) ∙ ap (λ (xs : List Entry). count_of is_live xs) (sym copies));
+      of_links = (second ∙ ap (λ (b : Bool). if b then n else 0) other) ∙ (sym (count-copies is_table n e) ∙ ap (λ (xs : List Entry). count_of is_table xs) (sym copies));
+    }
 
 -- those of entries of which one is replaced
 pub counts-set : (entries : List Entry) (live links live' links' at : ℕ) (old new : Entry) → AreCounts entries live links → slice_get entries at ≡ Some old
