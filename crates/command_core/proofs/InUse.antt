@@ -1,10 +1,12 @@
 -- Whether an entry keeps a table in use, or links to one: by its counts where it is held, and elsewhere by the held tables under it.
 use Rattle.std.proofs.Common.{◌≡◌, ℕ, zero, suc, ◌+◌, ◌-◌, ◌*◌, ◌/◌, ◌%◌, ◌<◌, Bool, true, false, ◌&&◌, ◌||◌, ◌==◌, if◌then◌else◌, List, [], ◌∷◌, length, Option, Some, None, is_some, nat_lt, slice_get, refl, sym, ap, ◌∙◌, eq-eqb, arith}
+use Rattle.std.specs.Prelude.{IfSome}
 use Rattle.std.specs.List.{fold, list_any}
 use Rattle.std.specs.Option.{option_and_then}
 use Rattle.std.proofs.lemmas.Bool.{false≢true, or_left, or_right, false_from_ne_true}
 use Rattle.std.proofs.lemmas.Bool.Decides.{nat_tests}
 use Rattle.std.proofs.lemmas.List.Folds.{fold_stays}
+use Rattle.std.proofs.lemmas.Option.{none-some}
 use Rattle.rmm_spec.specs.declared.entry.Entry.{Entry}
 use Rattle.rmm_spec.specs.declared.entry.Entry.TheVariants.{Unassigned, Assigned, Table, UnassignedNs, AssignedNs}
 use Rattle.rmm_spec.specs.declared.tag.Ripas.TheVariants.{Empty}
@@ -20,7 +22,8 @@ use Rattle.rtt_table.specs.Counts.{is_mapped}
 use Rattle.rtt_table.proofs.Counted.{live-parts}
 use Rattle.rtt_table.proofs.Searches.{search-places}
 use Rattle.walk_laws.specs.SeenState.{found_or, table_held, table_placed, entry_in, entry_held, table_seen, leaf_seen, seen_state}
-use Rattle.command_core.specs.Standing.{StandsIn, is_under, is_above_held}
+use Rattle.walk_laws.proofs.Found.{placed-holds}
+use Rattle.command_core.specs.Standing.{StandsIn, IsHeldTable, is_under, is_above_held}
 use Rattle.command_core.proofs.Searches.{any_below-same}
 use Rattle.command_core.proofs.SeenTables.{entry-told}
 
@@ -48,6 +51,13 @@ no_entry (e ∷ entries) = no_entry entries
 or_nothing : (b : Bool) → (b || false) ≡ b
 or_nothing true = refl
 or_nothing false = refl
+
+-- what is held in the granule where a table is found is the table
+pub stands-found : (held : List HeldCell) (rd level number granule : ℕ) (found : Option TableRecord) → table_placed held rd level number ≡ Some granule
+    → found ≡ table_held held granule → IfSome found (λ (t : TableRecord). length t.entries ≡ 512) → IsHeldTable held rd level number found
+stands-found held rd level number granule None at is whole =
+    let holds = placed-holds held rd level number granule at in absurd (none-some holds.table (is ∙ holds.is_held))
+stands-found held rd level number granule (Some t) at is whole = record { granule = granule; is_found = at; is_held = sym is; is_whole = whole }
 
 module _ (granules : ℕ) (held : List HeldCell) (rd level number : ℕ) (t : TableRecord) (stands : StandsIn held rd level number t) where
   its_entry : (k : ℕ) → k < 512 → (e : Entry) → slice_get t.entries k ≡ Some e → entry_held held rd level (512 * number + k) ≡ Some e

@@ -1,10 +1,13 @@
 //! What the tables that are held tell of walks and entries.
 
-ghost use Rattle.std.specs.Prelude.{◌≡◌, if◌then◌else◌, Some, None, is_some, option_map, option_copied, IfSome, IsTrue};
+ghost use Rattle.std.specs.Prelude.{◌≡◌, ◌/◌, ◌&&◌, ◌||◌, nat_lt, if◌then◌else◌, length, Some, None, is_some, option_map, option_copied, IfSome, IsTrue};
+ghost use Rattle.std.specs.List.{list_any};
 ghost use Rattle.rmm_spec.specs.Flat.{is_table_of};
 ghost use Rattle.rmm_spec.specs.Step.Words.{is_space};
 ghost use Rattle.rmm_spec.specs.Table.{place_number};
 ghost use Rattle.rmm_spec.specs.Update.{is_same_entry};
+ghost use Rattle.rmm_spec.specs.Walk.{is_table};
+ghost use Rattle.rtt_table.specs.Counts.{is_mapped};
 ghost use Rattle.shape_laws.specs.Whole as whole_spec;
 ghost use Rattle.walk_laws.specs.SeenState as spec;
 ghost use Rattle.command_core.specs.Standing as standing;
@@ -103,18 +106,52 @@ fn is_placed<H: Held>(held: &H, granule: Pa, rd: u64, level: u8, number: u64) ->
     }
 }
 
-// Whether a table of that level is held in a granule, under the table of that number above it.
+// Whether a table at the place is of the level, under the table of that number above it.
 #[tactic(auto, unfolding(rmm_spec::specs::Table::place_number))]
-fn is_under<H: Held>(held: &H, granule: Pa, rd: u64, level: u8, number: u64) -> bool
-    ensures { result ≡ standing.is_under rd level number (spec.table_held (H.cells held.now) granule) }
+fn is_at_under(place: &Place, rd: u64, level: u8, number: u64) -> bool
+    ensures { result ≡ is_same_entry rd level number place.now.rd place.now.level (place_number place.now / 512) }
 {
-    let Some(table) = table_in(held, granule) else {
-        return false;
-    };
-    let place = table.place();
     place.rd == rd
         && place.level == level
         && table_number(place.level, place.base) / ENTRIES == number
+}
+
+// Whether one that is held in a granule is.
+fn is_under<H: Held>(held: &H, granule: Pa, rd: u64, level: u8, number: u64) -> bool
+    ensures { result ≡ standing.is_under rd level number (spec.table_held (H.cells held.now) granule) }
+{
+    match table_in(held, granule) {
+        Some(table) => is_at_under(&table.place(), rd, level, number),
+        None => false,
+    }
+}
+
+// The table that is held in a granule, with all its entries.
+fn whole_table_in<H: Held>(held: &H, granule: Pa) -> Option<&Table>
+    ensures held { option_copied result ≡ spec.table_held (H.cells held.now) granule }
+    ensures whole { IfSome (option_copied result) (λ t. length t.entries ≡ 512) }
+{
+    match table_in(held, granule) {
+        Some(table) => {
+            table.is_whole();
+            Some(table)
+        }
+        None => None,
+    }
+}
+
+// Whether a table of the level links to one below it: at the last level no link is one.
+fn links_down(table: &Table, level: u8) -> bool
+    ensures { result ≡ (nat_lt level 3 && list_any is_table table.now.entries) }
+{
+    level < 3 && table.has_link()
+}
+
+// Whether an entry of a table of the level keeps it in use.
+fn keeps_use(table: &Table, level: u8) -> bool
+    ensures { result ≡ (list_any is_mapped table.now.entries || (nat_lt level 3 && list_any is_table table.now.entries)) }
+{
+    table.has_mapped() || links_down(table, level)
 }
 
 /// The granule of the first held table of that place.
@@ -273,14 +310,10 @@ impl<'a, H: Held> HeldSight<'a, H> {
     fn table_here(&self, rd: u64, level: u8, number: u64) -> Option<&Table>
         ensures { IsHeldTable (H.cells self.now.held.now) rd level number (option_copied result) }
     {
-        let Some(granule) = placed(self.held, rd, level, number) else {
-            return None;
-        };
-        let Some(table) = table_in(self.held, Pa::new(granule)) else {
-            return None;
-        };
-        table.is_whole();
-        Some(table)
+        match placed(self.held, rd, level, number) {
+            Some(granule) => whole_table_in(self.held, Pa::new(granule)),
+            None => None,
+        }
     }
 
     // Whether a held table stands under the table of that number.
@@ -298,13 +331,13 @@ impl<'a, H: Held> HeldSight<'a, H> {
             .any(|granule| is_under(self.held, *granule, rd, below, number))
     }
 
-    /// Whether the table of that number has an entry that keeps it in use: at the last level no link is one.
+    /// Whether the table of that number has an entry that keeps it in use.
     pub(crate) fn has_live(&self, rd: u64, level: u8, number: u64) -> bool
         requires { number < 2 ^ 52 }
         ensures { result ≡ walks.is_in_use (seen_state self.now.config.now.granules (H.cells self.now.held.now)) rd level number }
     {
         match self.table_here(rd, level, number) {
-            Some(table) => table.has_mapped() || (level < 3 && table.has_link()),
+            Some(table) => keeps_use(table, level),
             None => self.has_under(rd, level, number),
         }
     }
@@ -315,7 +348,7 @@ impl<'a, H: Held> HeldSight<'a, H> {
         ensures { result ≡ walks.has_link (seen_state self.now.config.now.granules (H.cells self.now.held.now)) rd level number }
     {
         match self.table_here(rd, level, number) {
-            Some(table) => level < 3 && table.has_link(),
+            Some(table) => links_down(table, level),
             None => self.has_under(rd, level, number),
         }
     }
