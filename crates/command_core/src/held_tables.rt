@@ -3,6 +3,7 @@
 ghost use Rattle.std.specs.Prelude.{◌≡◌, ◌/◌, ◌&&◌, ◌||◌, nat_lt, if◌then◌else◌, length, Some, None, is_some, option_map, option_copied, IfSome, IsTrue};
 ghost use Rattle.std.specs.List.{list_any};
 ghost use Rattle.rmm_spec.specs.Flat.{is_table_of};
+ghost use Rattle.rmm_spec.specs.Local.{granules_held};
 ghost use Rattle.rmm_spec.specs.Step.Words.{is_space};
 ghost use Rattle.rmm_spec.specs.Table.{place_number};
 ghost use Rattle.rmm_spec.specs.Update.{is_same_entry};
@@ -124,6 +125,15 @@ fn is_under<H: Held>(held: &H, granule: Pa, rd: u64, level: u8, number: u64) -> 
         Some(table) => is_at_under(&table.place(), rd, level, number),
         None => false,
     }
+}
+
+// Whether one that is held in some granule is.
+fn holds_under<H: Held>(held: &H, rd: u64, level: u8, number: u64) -> bool
+    ensures { result ≡ list_any (λ granule. standing.is_under rd level number (spec.table_held (H.cells held.now) granule)) (granules_held (H.cells held.now)) }
+{
+    held.held()
+        .iter()
+        .any(|granule| is_under(held, *granule, rd, level, number))
 }
 
 // The table that is held in a granule, with all its entries.
@@ -321,14 +331,11 @@ impl<'a, H: Held> HeldSight<'a, H> {
     fn has_under(&self, rd: u64, level: u8, number: u64) -> bool
         ensures { result ≡ is_above_held (H.cells self.now.held.now) rd level number }
     {
-        if level >= 3 {
-            return false;
+        if level < 3 {
+            holds_under(self.held, rd, level + 1, number)
+        } else {
+            false
         }
-        let below = level + 1;
-        self.held
-            .held()
-            .iter()
-            .any(|granule| is_under(self.held, *granule, rd, below, number))
     }
 
     /// Whether the table of that number has an entry that keeps it in use.
