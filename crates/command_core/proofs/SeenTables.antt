@@ -19,7 +19,6 @@ use Rattle.rmm_spec.specs.Flat.{is_table_of}
 use Rattle.rmm_spec.specs.Shape.{HoldsTable}
 use Rattle.rmm_spec.specs.Local.{HeldCell, Hold, granules_held}
 use Rattle.world_laws.proofs.Members.{Contains-nil, Contains-other}
-use Rattle.world_laws.proofs.Placed.{any_below-from}
 use Rattle.command_core.specs.Seen.{cell_in, is_held}
 use Rattle.walk_laws.specs.SeenState.{table_held, found_or, table_placed, entry_in, entry_held, link_of, table_seen, leaf_seen, seen_state}
 use Rattle.command_core.proofs.SeenCells.{held-contains}
@@ -47,17 +46,26 @@ table-below held rd level number e is =
     let above : level + 1 - 1 ≡ level = omega arith in
     rw (below, above, is) refl
 
--- an entry of a held table is that of the state that the cells tell of
+-- what the state that the cells tell of has at an entry of a held table: at the last level no link counts
+pub entry-told : (granules : ℕ) (held : List HeldCell) (rd level number : ℕ) (e : Entry) → entry_held held rd level number ≡ Some e
+    → entry_at (seen_state granules held) rd level number ≡ (if nat_lt level 3 then e else linked_entry None (leaf_of e))
+unfolding entry_at seen_state leaf_seen
+entry-told granules held rd level number e is = by (nat_lt level 3)
+  where
+    by : (b : Bool) → linked_entry (if b then table_seen held rd (level + 1) number else None) (option_and_then leaf_of (entry_held held rd level number))
+        ≡ (if b then e else linked_entry None (leaf_of e))
+    by true =
+        (λ i. linked_entry (table-below held rd level number e is i) (option_and_then leaf_of (is i))) ∙ linked-own e
+    by false = ap (λ (o : Option Entry). linked_entry None (option_and_then leaf_of o)) is
+
+-- so an entry that is no link, or above the last level, is that of the state
 pub entry-seen : (granules : ℕ) (held : List HeldCell) (rd level number : ℕ) (e : Entry) → entry_held held rd level number ≡ Some e
     → (nat_lt level 3 ≡ false → is_table e ≡ false) → entry_at (seen_state granules held) rd level number ≡ e
-unfolding entry_at seen_state leaf_seen
-entry-seen granules held rd level number e is above = by (nat_lt level 3) refl
+entry-seen granules held rd level number e is above = entry-told granules held rd level number e is ∙ by (nat_lt level 3) refl
   where
-    by : (b : Bool) → nat_lt level 3 ≡ b
-        → linked_entry (if b then table_seen held rd (level + 1) number else None) (option_and_then leaf_of (entry_held held rd level number)) ≡ e
-    by true less =
-        (λ i. linked_entry (table-below held rd level number e is i) (option_and_then leaf_of (is i))) ∙ linked-own e
-    by false last = ap (λ (o : Option Entry). linked_entry None (option_and_then leaf_of o)) is ∙ unlinked-own e (above last)
+    by : (b : Bool) → nat_lt level 3 ≡ b → (if b then e else linked_entry None (leaf_of e)) ≡ e
+    by true less = refl
+    by false last = unlinked-own e (above last)
 
 -- ---- the first held table of a place
 
@@ -170,11 +178,3 @@ pub reach-above : (s : State) (rd ipa level : ℕ) → 0 < level → is_some (s.
 unfolding reach
 reach-above s rd ipa zero some none = absurd (omega arith)
 reach-above s rd ipa (suc level) some none = let above : suc level - 1 ≡ level = omega arith in rw (none, above) refl
-
--- ---- loops over the entries of a table
-
-pub found-within : (passes : ℕ → Bool) (k : ℕ) → k < 512 → true ≡ passes k → true ≡ any_below 512 passes
-found-within passes k within is = sym (any_below-from 512 passes k within (sym is))
-
-pub none-within : (passes : ℕ → Bool) (n : ℕ) → n ≡ 512 → any_below n passes ≡ false → false ≡ any_below 512 passes
-none-within passes n all none = sym none ∙ ap (λ k. any_below k passes) all

@@ -1,12 +1,17 @@
 //! What the tables that are held tell of walks and entries.
 
-ghost use Rattle.std.specs.Prelude.{◌≡◌, if◌then◌else◌, Some, None, is_some, option_map, option_copied, IfSome, IsTrue};
+ghost use Rattle.std.specs.Prelude.{◌≡◌, ◌/◌, ◌&&◌, ◌||◌, nat_lt, if◌then◌else◌, length, Some, None, is_some, option_map, option_copied, IfSome, IsTrue};
+ghost use Rattle.std.specs.List.{list_any};
 ghost use Rattle.rmm_spec.specs.Flat.{is_table_of};
+ghost use Rattle.rmm_spec.specs.Local.{granules_held};
 ghost use Rattle.rmm_spec.specs.Step.Words.{is_space};
 ghost use Rattle.rmm_spec.specs.Table.{place_number};
 ghost use Rattle.rmm_spec.specs.Update.{is_same_entry};
+ghost use Rattle.rmm_spec.specs.Walk.{is_table};
+ghost use Rattle.rtt_table.specs.Counts.{is_mapped};
 ghost use Rattle.shape_laws.specs.Whole as whole_spec;
 ghost use Rattle.walk_laws.specs.SeenState as spec;
+ghost use Rattle.command_core.specs.Standing as standing;
 
 use crate::held::Held;
 use crate::held_sight::HeldSight;
@@ -15,7 +20,7 @@ use granule_cells::Cell;
 use granule_state::Pa;
 use rmm_spec::{Entry, EntryChange, Place};
 use rtt_table::Table;
-use table_entries::{is_live, is_table, linked, table_number};
+use table_entries::{is_table, linked, table_number};
 
 /// How many entries a table has.
 const ENTRIES: u64 = 512;
@@ -102,6 +107,63 @@ fn is_placed<H: Held>(held: &H, granule: Pa, rd: u64, level: u8, number: u64) ->
     }
 }
 
+// Whether a table at the place is of the level, under the table of that number above it.
+#[tactic(auto, unfolding(rmm_spec::specs::Table::place_number))]
+fn is_at_under(place: &Place, rd: u64, level: u8, number: u64) -> bool
+    ensures { result ≡ is_same_entry rd level number place.now.rd place.now.level (place_number place.now / 512) }
+{
+    place.rd == rd
+        && place.level == level
+        && table_number(place.level, place.base) / ENTRIES == number
+}
+
+// Whether one that is held in a granule is.
+fn is_under<H: Held>(held: &H, granule: Pa, rd: u64, level: u8, number: u64) -> bool
+    ensures { result ≡ standing.is_under rd level number (spec.table_held (H.cells held.now) granule) }
+{
+    match table_in(held, granule) {
+        Some(table) => is_at_under(&table.place(), rd, level, number),
+        None => false,
+    }
+}
+
+// Whether one that is held in some granule is.
+fn holds_under<H: Held>(held: &H, rd: u64, level: u8, number: u64) -> bool
+    ensures { result ≡ list_any (λ granule. standing.is_under rd level number (spec.table_held (H.cells held.now) granule)) (granules_held (H.cells held.now)) }
+{
+    held.held()
+        .iter()
+        .any(|granule| is_under(held, *granule, rd, level, number))
+}
+
+// The table that is held in a granule, with all its entries.
+fn whole_table_in<H: Held>(held: &H, granule: Pa) -> Option<&Table>
+    ensures held { option_copied result ≡ spec.table_held (H.cells held.now) granule }
+    ensures whole { IfSome (option_copied result) (λ t. length t.entries ≡ 512) }
+{
+    match table_in(held, granule) {
+        Some(table) => {
+            table.is_whole();
+            Some(table)
+        }
+        None => None,
+    }
+}
+
+// Whether a table of the level links to one below it: at the last level no link is one.
+fn links_down(table: &Table, level: u8) -> bool
+    ensures { result ≡ (nat_lt level 3 && list_any is_table table.now.entries) }
+{
+    level < 3 && table.has_link()
+}
+
+// Whether an entry of a table of the level keeps it in use.
+fn keeps_use(table: &Table, level: u8) -> bool
+    ensures { result ≡ (list_any is_mapped table.now.entries || (nat_lt level 3 && list_any is_table table.now.entries)) }
+{
+    table.has_mapped() || links_down(table, level)
+}
+
 /// The granule of the first held table of that place.
 #[tactic(auto, unfolding(walk_laws::specs::SeenState::table_placed))]
 pub(crate) fn placed<H: Held>(held: &H, rd: u64, level: u8, number: u64) -> Option<u64>
@@ -126,6 +188,7 @@ impl<'a, H: Held> HeldSight<'a, H> {
     ghost use Rattle.rmm_spec.specs.Walk as walks;
     ghost use Rattle.walk_laws.specs.SeenState as spec;
     ghost use Rattle.walk_laws.specs.SeenState.{seen_state};
+    ghost use Rattle.command_core.specs.Standing.{IsHeldTable, is_above_held};
 
     // Whether a table of the realm is held in a granule.
     fn is_of_realm(&self, granule: Pa, rd: u64) -> bool
@@ -253,31 +316,47 @@ impl<'a, H: Held> HeldSight<'a, H> {
         self.reach(rd, ipa, max - 1)
     }
 
+    // The held table of that number at the level.
+    fn table_here(&self, rd: u64, level: u8, number: u64) -> Option<&Table>
+        ensures { IsHeldTable (H.cells self.now.held.now) rd level number (option_copied result) }
+    {
+        match placed(self.held, rd, level, number) {
+            Some(granule) => whole_table_in(self.held, Pa::new(granule)),
+            None => None,
+        }
+    }
+
+    // Whether a held table stands under the table of that number.
+    #[tactic(auto, unfolding(crate::specs::Standing::is_above_held))]
+    fn has_under(&self, rd: u64, level: u8, number: u64) -> bool
+        ensures { result ≡ is_above_held (H.cells self.now.held.now) rd level number }
+    {
+        if level < 3 {
+            holds_under(self.held, rd, level + 1, number)
+        } else {
+            false
+        }
+    }
+
     /// Whether the table of that number has an entry that keeps it in use.
-    #[tactic(auto, unfolding(rmm_spec::specs::Walk::is_in_use))]
     pub(crate) fn has_live(&self, rd: u64, level: u8, number: u64) -> bool
         requires { number < 2 ^ 52 }
         ensures { result ≡ walks.is_in_use (seen_state self.now.config.now.granules (H.cells self.now.held.now)) rd level number }
     {
-        for place in 0..ENTRIES {
-            if is_live(self.entry(rd, level, ENTRIES * number + place)) {
-                return true;
-            }
+        match self.table_here(rd, level, number) {
+            Some(table) => keeps_use(table, level),
+            None => self.has_under(rd, level, number),
         }
-        false
     }
 
     /// Whether the table of that number links to one below it.
-    #[tactic(auto, unfolding(rmm_spec::specs::Walk::has_link))]
     pub(crate) fn links(&self, rd: u64, level: u8, number: u64) -> bool
         requires { number < 2 ^ 52 }
         ensures { result ≡ walks.has_link (seen_state self.now.config.now.granules (H.cells self.now.held.now)) rd level number }
     {
-        for place in 0..ENTRIES {
-            if is_table(self.entry(rd, level, ENTRIES * number + place)) {
-                return true;
-            }
+        match self.table_here(rd, level, number) {
+            Some(table) => links_down(table, level),
+            None => self.has_under(rd, level, number),
         }
-        false
     }
 }

@@ -16,11 +16,10 @@ use Rattle.rmm_spec.specs.Cell.{Cell, tables_of}
 use Rattle.rmm_spec.specs.Flat.{flat_state, table_granule}
 use Rattle.rmm_spec.specs.Shape.{Side, CpuPlace, HoldsTable, IsWellShaped}
 use Rattle.rmm_sound.proofs.Entries.{entry-leaf, entry-link}
-use Rattle.rmm_sound.proofs.Searches.{any_below-false}
 use Rattle.rmm_sound.proofs.Spaces.{space_cases}
 use Rattle.shape_laws.proofs.Finds.{table_granule-holds, holds-found}
 use Rattle.shape_laws.proofs.Ties.{IsTied-shaped, entry_leaf-some, leaf-found, link_or_leaf, entry_there, number-again, at_place, same_table, well_shaped-is_sound}
-use Rattle.world_laws.proofs.Placed.{passing_below}
+use Rattle.rtt_table.proofs.Searches.{search-places}
 use Rattle.machine_cells.specs.declared.granules.Granules.{Granules}
 use Rattle.machine_cells.specs.Searches.{StandsAs, IsTable, is_above}
 use Rattle.machine_cells.specs.Whole.{cells_of, whole_of, count_of, state_in, IsShapedIn}
@@ -59,32 +58,6 @@ entry-stands g shaped rd level number t e stands at =
 
 -- ---- searches through a table
 
-none-passes : {X : Type 0} (p : X → Bool) (xs : List X) → ((i : ℕ) (x : X) → i < length xs → slice_get xs i ≡ Some x → p x ≡ false) → list_any p xs ≡ false
-none-passes p [] each = refl
-none-passes p (x ∷ xs) each = rw (each 0 x (omega arith) refl) (none-passes p xs (λ i y below at. each (suc i) y (omega (arith, below)) at))
-
-some-passes : {X : Type 0} (p : X → Bool) (xs : List X) (i : ℕ) (x : X) → slice_get xs i ≡ Some x → p x ≡ true → list_any p xs ≡ true
-some-passes p [] i x at passes = absurd (none-some x at)
-some-passes p (y ∷ xs) zero x at passes = rw (same_Some y x at, passes) refl
-some-passes p (y ∷ xs) (suc i) x at passes = by (p y) (some-passes p xs i x at passes)
-  where
-    by : (b : Bool) → list_any p xs ≡ true → (b || list_any p xs) ≡ true
-    by true rest = refl
-    by false rest = rest
-
--- a search through the entries is one through their numbers
-pub search-entries : {X : Type 0} (p : X → Bool) (xs : List X) (f : ℕ → X) → ((k : ℕ) → k < length xs → slice_get xs k ≡ Some (f k))
-    → list_any p xs ≡ any_below (length xs) (λ k. p (f k))
-search-entries p xs f each = by (any_below (length xs) (λ k. p (f k))) refl
-  where
-    by : (b : Bool) → any_below (length xs) (λ k. p (f k)) ≡ b → list_any p xs ≡ any_below (length xs) (λ k. p (f k))
-    by true any =
-        let found = passing_below (length xs) (λ k. p (f k)) any in
-        some-passes p xs found.0 (f found.0) (each found.0 found.1) found.2 ∙ sym any
-    by false none =
-        none-passes p xs (λ i x below at. ap p (same_Some x (f i) (sym at ∙ each i below)) ∙ any_below-false (length xs) (λ k. p (f k)) none i below)
-        ∙ sym none
-
 module _ (g : Granules) (shaped : IsShapedIn g) (rd level number : ℕ) where
   whole-table : (t : TableRecord) → StandsAs g rd level number t → length t.entries ≡ 512
   whole-table t stands = shaped.tables.whole stands.granule t stands.is_held
@@ -101,8 +74,9 @@ module _ (g : Granules) (shaped : IsShapedIn g) (rd level number : ℕ) where
   search-table : (p : Entry → Bool) (t : TableRecord) → StandsAs g rd level number t
       → list_any p t.entries ≡ any_below 512 (λ k. p (entry_at (state_in g) rd level (512 * number + k)))
   search-table p t stands =
-      search-entries p t.entries (λ k. entry_at (state_in g) rd level (512 * number + k))
-      (λ k below. each-entry t stands k (omega (arith, below, whole-table t stands)))
+      search-places p t.entries (λ k. p (entry_at (state_in g) rd level (512 * number + k)))
+      (λ k e below at. ap p (same_Some e (entry_at (state_in g) rd level (512 * number + k))
+      (sym at ∙ each-entry t stands k (omega (arith, below, whole-table t stands)))))
       ∙ ap (λ n. any_below n (λ k. p (entry_at (state_in g) rd level (512 * number + k)))) (whole-table t stands)
 
   pub in_use-table : (t : TableRecord) → StandsAs g rd level number t → list_any is_live t.entries ≡ is_in_use (state_in g) rd level number

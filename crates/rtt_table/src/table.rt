@@ -1,10 +1,11 @@
 //! A table and its methods.
 
-ghost use Rattle.std.specs.Prelude.{All, ◌≡◌, ◌<◌, ◌≤◌, ◌↔◌, IsTrue, IfOk, length, map, replicate, Some, slice_get, slice_set};
+ghost use Rattle.std.specs.Prelude.{All, ◌≡◌, ◌+◌, ◌<◌, ◌≤◌, ◌↔◌, if◌then◌else◌, IsTrue, IfOk, length, map, replicate, Some, slice_get, slice_set};
 ghost use Rattle.std.specs.List.{list_any};
 ghost use Rattle.rmm_spec.specs.Update.{entry_with_ripas};
 ghost use Rattle.rmm_spec.specs.Walk.{is_live, is_table};
 ghost use Rattle.rmm_spec.specs.Table.{entry_index, entries_with_ripas, AreAlike};
+ghost use Rattle.rtt_table.specs.Counts.{is_mapped, one_if};
 
 use granule_state::Ipa;
 use rmm_spec::{Entry, Place, Ripas};
@@ -27,22 +28,25 @@ pub fn index_of(level: u8, ipa: Ipa) -> usize
     entry_number(level, ipa.address()) as usize % ENTRIES
 }
 
-/// A translation table on the heap.
+/// A translation table on the heap, with the counts of its live entries and of its links.
 #[derive(Drop)]
 pub struct Table {
     place: Place,
     entries: Vec<Entry>,
+    live: u16,
+    links: u16,
 }
 
 impl Model for Table {
-    ghost use Rattle.std.specs.Prelude.{All, ◌≡◌, vec_len};
+    ghost use Rattle.std.specs.Prelude.{◌≡◌, vec_len};
     ghost use Rattle.rmm_spec.specs.Table.{TableRecord};
+    ghost use Rattle.rtt_table.specs.Counts.{AreCounts};
 
     ghost Value = { TableRecord };
 
     ghost view = { λ t. record { place = t.place; entries = t.entries.items } };
 
-    ghost invariant = { λ t. vec_len t.entries ≡ 512 };
+    ghost invariant = { λ t. (vec_len t.entries ≡ 512) × AreCounts t.entries.items t.live t.links };
 }
 
 impl Table {
@@ -52,7 +56,12 @@ impl Table {
     {
         let mut entries = Vec::with_capacity(alloc, ENTRIES)?;
         entries.resize(ENTRIES, fill)?;
-        Ok(Table { place, entries })
+        Ok(Table {
+            place,
+            entries,
+            live: all_or_none(is_live(fill)),
+            links: all_or_none(is_table(fill)),
+        })
     }
 
     pub fn place(&self) -> Place
@@ -73,6 +82,9 @@ impl Table {
         requires { at < 512 }
         ensures { self.new ≡ record self.old { entries = slice_set self.old.entries at entry } }
     {
+        let old = self.entries[at];
+        self.live = recounted(self.live, is_live(old), is_live(entry));
+        self.links = recounted(self.links, is_table(old), is_table(entry));
         self.entries[at] = entry;
     }
 
@@ -80,14 +92,28 @@ impl Table {
     pub fn is_live(&self) -> bool
         ensures { result ≡ list_any is_live self.now.entries }
     {
-        self.entries.iter().any(|entry| is_live(*entry))
+        self.live > 0
     }
 
     /// Whether some entry is a link to a table.
     pub fn has_link(&self) -> bool
         ensures { result ≡ list_any is_table self.now.entries }
     {
-        self.entries.iter().any(|entry| is_table(*entry))
+        self.links > 0
+    }
+
+    /// Whether some entry is assigned.
+    pub fn has_mapped(&self) -> bool
+        ensures { result ≡ list_any is_mapped self.now.entries }
+    {
+        self.links < self.live
+    }
+
+    /// A table has 512 entries.
+    pub fn is_whole(&self)
+        ensures { length self.now.entries ≡ 512 }
+    {
+        let _ = &self.entries;
     }
 
     /// Whether all 512 entries are equal.
@@ -111,6 +137,26 @@ impl Table {
         ensures { self.new ≡ record self.old { entries = entries_with_ripas from to ripas self.old.entries } }
     {
         change_ripas(&mut self.entries[from..to], ripas);
+    }
+}
+
+// How many entries pass a test, where all are copies of one.
+fn all_or_none(passes: bool) -> u16
+    ensures { result ≡ (if passes then 512 else 0) }
+{
+    if passes { 512 } else { 0 }
+}
+
+// A count after one entry went and another came.
+fn recounted(count: u16, goes: bool, comes: bool) -> u16
+    requires some { one_if goes ≤ count }
+    requires within { count ≤ 512 }
+    ensures { result + one_if goes ≡ count + one_if comes }
+{
+    match (goes, comes) {
+        (true, false) => count - 1,
+        (false, true) => count + 1,
+        (true, true) | (false, false) => count,
     }
 }
 

@@ -82,8 +82,12 @@ fn other_kinds_of_entry(rt: HostRuntime) -> Result<(), Fail> {
     assert!(rt; !table.is_live() && table.is_uniform());
     table.set_entry(7, Entry::AssignedNs(0x8000));
     assert!(rt; table.is_live() && !table.is_uniform());
+    assert!(rt; table.has_mapped() && !table.has_link());
     table.set_entry(7, Entry::Table(0x8000));
     assert!(rt; table.is_live() && !table.is_uniform());
+    assert!(rt; !table.has_mapped() && table.has_link());
+    table.set_entry(7, Entry::UnassignedNs);
+    assert!(rt; !table.is_live() && !table.has_link());
     Ok(())
 }
 

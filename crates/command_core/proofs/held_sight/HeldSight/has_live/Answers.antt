@@ -1,19 +1,15 @@
-use Rattle.std.proofs.Common.{ℕ, ◌+◌, ◌*◌, Bool, arith}
-use Rattle.rmm_spec.specs.Walk.{is_live, entry_at, is_in_use}
-use Rattle.walk_laws.specs.SeenState.{seen_state}
-use Rattle.command_core.proofs.SeenTables.{found-within, none-within}
+use Rattle.std.proofs.Common.{◌∙◌}
+use Rattle.command_core.proofs.InUse.{in_use-held, in_use-unheld}
 use Rattle.command_core.proofs.held_sight.HeldSight.has_live.Goals as goal
 
-pub returns-then-is_live : goal.returns-then-is_live
-unfolding is_in_use
-returns-then-is_live g c =
+pub returns-in-Some : goal.returns-in-Some
+returns-in-Some g c =
     let a = c.args in
-    let passes : ℕ → Bool = λ k. is_live (entry_at (seen_state a.self.now.config.now.granules (g.H.Held.cells a.self.now.held.now)) a.rd a.level (512 * a.number + k)) in
-    found-within passes c.loop-place.place (omega arith) (rw c.entry.ensures at c.if-is_live.ensures)
+    c.keeps_use.ensures
+    ∙ in_use-held a.self.now.config.now.granules (g.H.Held.cells a.self.now.held.now) a.rd a.level a.number c.in-Some.table.now c.in-Some.ensures
 
-pub returns : goal.returns
-unfolding is_in_use
-returns g c =
+pub returns-in-None : goal.returns-in-None
+returns-in-None g c =
     let a = c.args in
-    let passes : ℕ → Bool = λ k. is_live (entry_at (seen_state a.self.now.config.now.granules (g.H.Held.cells a.self.now.held.now)) a.rd a.level (512 * a.number + k)) in
-    none-within passes c.loop-place.place (omega (arith, c.loop-place-test.false, c.loop-place.auto.place-end)) c.loop-place.invariant
+    c.has_under.ensures
+    ∙ in_use-unheld a.self.now.config.now.granules (g.H.Held.cells a.self.now.held.now) a.rd a.level a.number c.in-None.ensures

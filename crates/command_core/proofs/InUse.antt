@@ -1,0 +1,234 @@
+-- Whether an entry keeps a table in use, or links to one: by its counts where it is held, and elsewhere by the held tables under it.
+use Rattle.std.proofs.Common.{◌≡◌, ℕ, zero, suc, ◌+◌, ◌-◌, ◌*◌, ◌/◌, ◌%◌, ◌<◌, Bool, true, false, ◌&&◌, ◌||◌, ◌==◌, if◌then◌else◌, List, [], ◌∷◌, length, Option, Some, None, is_some, nat_lt, slice_get, refl, sym, ap, ◌∙◌, eq-eqb, arith}
+use Rattle.std.specs.Prelude.{IfSome}
+use Rattle.std.specs.List.{fold, list_any}
+use Rattle.std.specs.Option.{option_and_then}
+use Rattle.std.proofs.lemmas.Bool.{false≢true, or_left, or_right, false_from_ne_true}
+use Rattle.std.proofs.lemmas.Bool.Decides.{nat_tests}
+use Rattle.std.proofs.lemmas.List.Folds.{fold_stays}
+use Rattle.std.proofs.lemmas.Option.{none-some}
+use Rattle.rmm_spec.specs.declared.entry.Entry.{Entry}
+use Rattle.rmm_spec.specs.declared.entry.Entry.TheVariants.{Unassigned, Assigned, Table, UnassignedNs, AssignedNs}
+use Rattle.rmm_spec.specs.declared.tag.Ripas.TheVariants.{Empty}
+use Rattle.rmm_spec.specs.Lookup.{any_below}
+use Rattle.rmm_spec.specs.Table.{TableRecord, place_number}
+use Rattle.rmm_spec.specs.TableCells.{leaf_of}
+use Rattle.rmm_spec.specs.Walk.{is_live, is_table, linked_entry, entry_at, is_in_use, has_link}
+use Rattle.rmm_spec.specs.Flat.{is_table_of}
+use Rattle.rmm_spec.specs.Local.{HeldCell, granules_held}
+use Rattle.rmm_sound.proofs.Cases.{spot_hit}
+use Rattle.world_laws.proofs.Placed.{passing_below, any_below-from}
+use Rattle.rtt_table.specs.Counts.{is_mapped}
+use Rattle.rtt_table.proofs.Counted.{live-parts}
+use Rattle.rtt_table.proofs.Searches.{search-places}
+use Rattle.walk_laws.specs.SeenState.{found_or, table_held, table_placed, entry_in, entry_held, table_seen, leaf_seen, seen_state}
+use Rattle.walk_laws.proofs.Found.{placed-holds}
+use Rattle.command_core.specs.Standing.{StandsIn, IsHeldTable, is_under, is_above_held}
+use Rattle.command_core.proofs.Searches.{any_below-same}
+use Rattle.command_core.proofs.SeenTables.{entry-told}
+
+-- ---- where the table is held
+
+-- at the last level an entry that is no link is as live as it is mapped, and none links
+last-live : (e : Entry) → is_mapped e ≡ is_live (linked_entry None (leaf_of e))
+last-live (Unassigned ripas) = refl
+last-live (Assigned ripas granule) = refl
+last-live (Table granule) = refl
+last-live UnassignedNs = refl
+last-live (AssignedNs page) = refl
+
+last-unlinked : (e : Entry) → false ≡ is_table (linked_entry None (leaf_of e))
+last-unlinked (Unassigned ripas) = refl
+last-unlinked (Assigned ripas granule) = refl
+last-unlinked (Table granule) = refl
+last-unlinked UnassignedNs = refl
+last-unlinked (AssignedNs page) = refl
+
+no_entry : (entries : List Entry) → false ≡ list_any (λ e. false) entries
+no_entry [] = refl
+no_entry (e ∷ entries) = no_entry entries
+
+or_nothing : (b : Bool) → (b || false) ≡ b
+or_nothing true = refl
+or_nothing false = refl
+
+-- what is held in the granule where a table is found is the table
+pub stands-found : (held : List HeldCell) (rd level number granule : ℕ) (found : Option TableRecord) → table_placed held rd level number ≡ Some granule
+    → found ≡ table_held held granule → IfSome found (λ (t : TableRecord). length t.entries ≡ 512) → IsHeldTable held rd level number found
+stands-found held rd level number granule None at is whole =
+    let holds = placed-holds held rd level number granule at in absurd (none-some holds.table (is ∙ holds.is_held))
+stands-found held rd level number granule (Some t) at is whole = record { granule = granule; is_found = at; is_held = sym is; is_whole = whole }
+
+module _ (granules : ℕ) (held : List HeldCell) (rd level number : ℕ) (t : TableRecord) (stands : StandsIn held rd level number t) where
+  its_entry : (k : ℕ) → k < 512 → (e : Entry) → slice_get t.entries k ≡ Some e → entry_held held rd level (512 * number + k) ≡ Some e
+  unfolding entry_held
+  its_entry k below e at =
+      let up : (512 * number + k) / 512 ≡ number = omega (arith, below) in
+      let low : (512 * number + k) % 512 ≡ k = omega (arith, below) in
+      ap (λ n. option_and_then (λ g. entry_in ((512 * number + k) % 512) (table_held held g)) (table_placed held rd level n)) up
+      ∙ ap (option_and_then (λ g. entry_in ((512 * number + k) % 512) (table_held held g))) stands.is_found
+      ∙ ap (entry_in ((512 * number + k) % 512)) stands.is_held
+      ∙ ap (slice_get t.entries) low
+      ∙ at
+
+  search-held : (p q : Entry → Bool) → ((e : Entry) → q e ≡ p (if nat_lt level 3 then e else linked_entry None (leaf_of e)))
+      → list_any q t.entries ≡ any_below 512 (λ k. p (entry_at (seen_state granules held) rd level (512 * number + k)))
+  search-held p q same =
+      search-places q t.entries (λ k. p (entry_at (seen_state granules held) rd level (512 * number + k)))
+      (λ k e below at. same e ∙ ap p (sym (entry-told granules held rd level (512 * number + k) e (its_entry k (omega (arith, below, stands.is_whole)) e at))))
+      ∙ ap (λ n. any_below n (λ k. p (entry_at (seen_state granules held) rd level (512 * number + k)))) stands.is_whole
+
+  pub in_use-held : (list_any is_mapped t.entries || (nat_lt level 3 && list_any is_table t.entries)) ≡ is_in_use (seen_state granules held) rd level number
+  unfolding is_in_use
+  in_use-held = by (nat_lt level 3) refl
+    where
+      by : (b : Bool) → nat_lt level 3 ≡ b → (list_any is_mapped t.entries || (b && list_any is_table t.entries))
+          ≡ any_below 512 (λ k. is_live (entry_at (seen_state granules held) rd level (512 * number + k)))
+      by true less =
+          sym (live-parts t.entries) ∙ search-held is_live is_live (λ e. ap (λ b. is_live (if b then e else linked_entry None (leaf_of e))) (sym less))
+      by false last =
+          or_nothing (list_any is_mapped t.entries)
+          ∙ search-held is_live is_mapped (λ e. last-live e ∙ ap (λ b. is_live (if b then e else linked_entry None (leaf_of e))) (sym last))
+
+  pub link-held : (nat_lt level 3 && list_any is_table t.entries) ≡ has_link (seen_state granules held) rd level number
+  unfolding has_link
+  link-held = by (nat_lt level 3) refl
+    where
+      by : (b : Bool) → nat_lt level 3 ≡ b → (b && list_any is_table t.entries)
+          ≡ any_below 512 (λ k. is_table (entry_at (seen_state granules held) rd level (512 * number + k)))
+      by true less = search-held is_table is_table (λ e. ap (λ b. is_table (if b then e else linked_entry None (leaf_of e))) (sym less))
+      by false last =
+          no_entry t.entries
+          ∙ search-held is_table (λ e. false) (λ e. last-unlinked e ∙ ap (λ b. is_table (if b then e else linked_entry None (leaf_of e))) (sym last))
+
+-- ---- searches through what is held, for any of some numbers
+
+same_when : (a b : Bool) → (a ≡ true → b ≡ true) → (b ≡ true → a ≡ true) → a ≡ b
+same_when true b there back = sym (there refl)
+same_when false b there back = sym (false_from_ne_true b (λ is. false≢true (back is)))
+
+-- what is found first passes, and so something passes
+found-any : (p q : ℕ → Bool) → ((g : ℕ) → p g ≡ true → q g ≡ true) → (gs : List ℕ) → is_some (fold (found_or p) None gs) ≡ true → list_any q gs ≡ true
+found-any p q each [] found = absurd (false≢true found)
+found-any p q each (h ∷ gs) found = by (p h) refl (found-any p q each gs) found
+  where
+    by : (b : Bool) → p h ≡ b → (is_some (fold (found_or p) None gs) ≡ true → list_any q gs ≡ true)
+        → is_some (fold (found_or p) (if b then Some h else None) gs) ≡ true → (q h || list_any q gs) ≡ true
+    by true passes rest found = or_left (q h) (list_any q gs) (each h passes)
+    by false fails rest found = or_right (q h) (list_any q gs) (rest found)
+
+-- one that passes is found, or an earlier one
+here-found : (p : ℕ → Bool) (h : ℕ) (gs : List ℕ) → p h ≡ true → is_some (fold (found_or p) None (h ∷ gs)) ≡ true
+here-found p h gs passes =
+    ap (λ (b : Bool). is_some (fold (found_or p) (if b then Some h else None) gs)) passes ∙ ap (λ (o : Option ℕ). is_some o) (fold_stays (found_or p) (Some h) (λ x. refl) gs)
+
+later-found : (p : ℕ → Bool) (h : ℕ) (gs : List ℕ) → is_some (fold (found_or p) None gs) ≡ true → is_some (fold (found_or p) None (h ∷ gs)) ≡ true
+later-found p h gs found = by (p h)
+  where
+    by : (b : Bool) → is_some (fold (found_or p) (if b then Some h else None) gs) ≡ true
+    by true = ap (λ (o : Option ℕ). is_some o) (fold_stays (found_or p) (Some h) (λ x. refl) gs)
+    by false = found
+
+any-found : (n : ℕ) (p : ℕ → ℕ → Bool) (q : ℕ → Bool) → ((g : ℕ) → q g ≡ true → (k : ℕ) × (k < n) × (p k g ≡ true))
+    → (gs : List ℕ) → list_any q gs ≡ true → (k : ℕ) × (k < n) × (is_some (fold (found_or (p k)) None gs) ≡ true)
+any-found n p q each [] some = absurd (false≢true some)
+any-found n p q each (h ∷ gs) some = by (q h) refl (any-found n p q each gs) some
+  where
+    by : (b : Bool) → q h ≡ b → (list_any q gs ≡ true → (k : ℕ) × (k < n) × (is_some (fold (found_or (p k)) None gs) ≡ true))
+        → (b || list_any q gs) ≡ true → (k : ℕ) × (k < n) × (is_some (fold (found_or (p k)) None (h ∷ gs)) ≡ true)
+    by true passes rest some = let at = each h passes in (at.0, at.1, here-found (p at.0) h gs at.2)
+    by false fails rest some = let at = rest some in (at.0, at.1, later-found (p at.0) h gs at.2)
+
+-- for some number one is found where one passes that passes for some number
+found-below : (n : ℕ) (p : ℕ → ℕ → Bool) (q : ℕ → Bool) → ((k g : ℕ) → k < n → p k g ≡ true → q g ≡ true)
+    → ((g : ℕ) → q g ≡ true → (k : ℕ) × (k < n) × (p k g ≡ true)) → (gs : List ℕ)
+    → any_below n (λ k. is_some (fold (found_or (p k)) None gs)) ≡ list_any q gs
+found-below n p q there back gs =
+    same_when (any_below n (λ k. is_some (fold (found_or (p k)) None gs))) (list_any q gs)
+    (λ any. let k = passing_below n (λ k. is_some (fold (found_or (p k)) None gs)) any in found-any (p k.0) q (λ g is. there k.0 g k.1 is) gs k.2)
+    (λ some. let k = any-found n p q back gs some in any_below-from n (λ k. is_some (fold (found_or (p k)) None gs)) k.0 k.1 k.2)
+
+-- ---- where the table isn't held
+
+none-below : (n : ℕ) → any_below n (λ k. false) ≡ false
+none-below zero = refl
+none-below (suc n) = none-below n
+
+-- a table is under one where its number is of that one's entries
+under-from : (rd level number k : ℕ) → k < 512 → (o : Option TableRecord) → is_table_of rd level (512 * number + k) o ≡ true → is_under rd level number o ≡ true
+under-from rd level number k within None is = is
+under-from rd level number k within (Some t) is =
+    spot_hit rd level (512 * number + k) t.place.rd t.place.level (place_number t.place) is
+    (λ here at first. let up : place_number t.place / 512 ≡ number = omega (arith, within, first) in
+    rw (eq-eqb t.place.rd rd here, eq-eqb t.place.level level at, eq-eqb (place_number t.place / 512) number up) refl)
+
+under-at : (rd level number : ℕ) (o : Option TableRecord) → is_under rd level number o ≡ true → (k : ℕ) × (k < 512) × (is_table_of rd level (512 * number + k) o ≡ true)
+under-at rd level number None is = absurd (false≢true is)
+under-at rd level number (Some t) is =
+    spot_hit rd level number t.place.rd t.place.level (place_number t.place / 512) is
+    (λ here at up. let again : place_number t.place ≡ 512 * number + place_number t.place % 512 = omega (arith, up) in (
+      place_number t.place % 512,
+      omega arith,
+      rw (eq-eqb t.place.rd rd here, eq-eqb t.place.level level at, eq-eqb (place_number t.place) (512 * number + place_number t.place % 512) again) refl,
+    ))
+
+module _ (granules : ℕ) (held : List HeldCell) (rd level number : ℕ) (none : table_placed held rd level number ≡ None) where
+  no_entry-held : (n : ℕ) → n / 512 ≡ number → entry_held held rd level n ≡ None
+  unfolding entry_held
+  no_entry-held n up =
+      ap (λ m. option_and_then (λ g. entry_in (n % 512) (table_held held g)) (table_placed held rd level m)) up
+      ∙ ap (option_and_then (λ g. entry_in (n % 512) (table_held held g))) none
+
+  seen-placed : (n : ℕ) → n / 512 ≡ number → table_seen held rd (level + 1) n ≡ table_placed held rd (level + 1) n
+  unfolding table_seen
+  seen-placed n up =
+      let below : (level + 1 == 0) ≡ false = grind (arith, nat_tests) in
+      let above : level + 1 - 1 ≡ level = omega arith in
+      rw (below, above, no_entry-held n up) refl
+
+  -- where no table has an entry, it is a link where a table stands below it
+  told-below : (p : Entry → Bool) → ((g : ℕ) → p (Table g) ≡ true) → p (Unassigned Empty) ≡ false → (n : ℕ) → n / 512 ≡ number
+      → p (entry_at (seen_state granules held) rd level n) ≡ (nat_lt level 3 && is_some (table_placed held rd (level + 1) n))
+  unfolding entry_at seen_state leaf_seen
+  told-below p link vacant n up = by (nat_lt level 3)
+    where
+      told : (o : Option ℕ) → p (linked_entry o None) ≡ is_some o
+      told (Some g) = link g
+      told None = vacant
+
+      by : (b : Bool) → p (linked_entry (if b then table_seen held rd (level + 1) n else None) (option_and_then leaf_of (entry_held held rd level n)))
+          ≡ (b && is_some (table_placed held rd (level + 1) n))
+      by true =
+          (λ i. p (linked_entry (seen-placed n up i) (option_and_then leaf_of (no_entry-held n up i)))) ∙ told (table_placed held rd (level + 1) n)
+      by false = ap (λ (o : Option Entry). p (linked_entry None (option_and_then leaf_of o))) (no_entry-held n up) ∙ vacant
+
+  placed-under : any_below 512 (λ k. is_some (table_placed held rd (level + 1) (512 * number + k)))
+      ≡ list_any (λ g. is_under rd (level + 1) number (table_held held g)) (granules_held held)
+  unfolding table_placed
+  placed-under =
+      found-below 512 (λ k g. is_table_of rd (level + 1) (512 * number + k) (table_held held g)) (λ g. is_under rd (level + 1) number (table_held held g))
+      (λ k g within is. under-from rd (level + 1) number k within (table_held held g) is)
+      (λ g is. under-at rd (level + 1) number (table_held held g) is)
+      (granules_held held)
+
+  search-unheld : (p : Entry → Bool) → ((g : ℕ) → p (Table g) ≡ true) → p (Unassigned Empty) ≡ false
+      → is_above_held held rd level number ≡ any_below 512 (λ k. p (entry_at (seen_state granules held) rd level (512 * number + k)))
+  unfolding is_above_held
+  search-unheld p link vacant =
+      by (nat_lt level 3)
+      ∙ sym (any_below-same 512 (λ k. p (entry_at (seen_state granules held) rd level (512 * number + k)))
+      (λ k. nat_lt level 3 && is_some (table_placed held rd (level + 1) (512 * number + k)))
+      (λ k within. told-below p link vacant (512 * number + k) (omega (arith, within))))
+    where
+      by : (b : Bool) → (b && list_any (λ g. is_under rd (level + 1) number (table_held held g)) (granules_held held))
+          ≡ any_below 512 (λ k. b && is_some (table_placed held rd (level + 1) (512 * number + k)))
+      by true = sym placed-under
+      by false = sym (none-below 512)
+
+  pub in_use-unheld : is_above_held held rd level number ≡ is_in_use (seen_state granules held) rd level number
+  unfolding is_in_use
+  in_use-unheld = search-unheld is_live (λ g. refl) refl
+
+  pub link-unheld : is_above_held held rd level number ≡ has_link (seen_state granules held) rd level number
+  unfolding has_link
+  link-unheld = search-unheld is_table (λ g. refl) refl

@@ -1,0 +1,196 @@
+-- What becomes of a count when entries change, and what a count tells.
+use Rattle.std.proofs.Common.{◌≡◌, ℕ, zero, suc, ◌+◌, ◌-◌, ◌<◌, ◌≤◌, Bool, true, false, ◌||◌, if◌then◌else◌, List, [], ◌∷◌, ◌++◌, map, take, drop, replicate, length, Some, nat_lt, slice_get, slice_set, refl, sym, ap, ◌∙◌, arith}
+use Rattle.std.specs.List.{list_any, slice_range}
+use Rattle.std.proofs.lemmas.Bool.{ltb-true, ltb-false, lt-ltb, le-ltb}
+use Rattle.std.proofs.lemmas.List.{drop-drop}
+use Rattle.std.proofs.lemmas.Option.{none-some, same_Some}
+use Rattle.rmm_spec.specs.declared.entry.Entry.{Entry}
+use Rattle.rmm_spec.specs.declared.entry.Entry.TheVariants.{Unassigned, Assigned, Table, UnassignedNs, AssignedNs}
+use Rattle.rmm_spec.specs.declared.tag.Ripas.{Ripas}
+use Rattle.rmm_spec.specs.Update.{entry_with_ripas}
+use Rattle.rmm_spec.specs.Walk.{is_live, is_table}
+use Rattle.rmm_spec.specs.Table.{entries_with_ripas}
+use Rattle.rtt_table.specs.Counts.{is_mapped, one_if, count_of, AreCounts}
+
+-- ---- what a count tells
+
+one_if-le : (b : Bool) → one_if b ≤ 1
+one_if-le true = omega arith
+one_if-le false = omega arith
+
+-- no more entries are counted than there are
+pub count-within : (test : Entry → Bool) (entries : List Entry) → count_of test entries ≤ length entries
+unfolding count_of
+count-within test [] = omega arith
+count-within test (e ∷ entries) = omega (arith, one_if-le (test e), count-within test entries)
+
+-- an entry that passes is counted
+pub count-at : (test : Entry → Bool) (entries : List Entry) (i : ℕ) (e : Entry) → slice_get entries i ≡ Some e → one_if (test e) ≤ count_of test entries
+unfolding count_of
+count-at test [] i e at = absurd (none-some e at)
+count-at test (x ∷ entries) zero e at = let same : one_if (test x) ≡ one_if (test e) = ap (λ y. one_if (test y)) (same_Some x e at) in omega (arith, same)
+count-at test (x ∷ entries) (suc i) e at = omega (arith, count-at test entries i e at)
+
+-- some entry passes where the count isn't 0
+pub count-any : (test : Entry → Bool) (entries : List Entry) → nat_lt 0 (count_of test entries) ≡ list_any test entries
+unfolding count_of
+count-any test [] = refl
+count-any test (e ∷ entries) = by (test e) (count-any test entries)
+  where
+    by : (b : Bool) → nat_lt 0 (count_of test entries) ≡ list_any test entries → nat_lt 0 (one_if b + count_of test entries) ≡ (b || list_any test entries)
+    by true rest = lt-ltb 0 (1 + count_of test entries) (omega arith)
+    by false rest = let same : 0 + count_of test entries ≡ count_of test entries = omega arith in ap (λ n. nat_lt 0 n) same ∙ rest
+
+-- a live entry is mapped or a link, and never both
+live-kinds : (e : Entry) → one_if (is_live e) ≡ one_if (is_mapped e) + one_if (is_table e)
+live-kinds (Unassigned ripas) = refl
+live-kinds (Assigned ripas granule) = refl
+live-kinds (Table granule) = refl
+live-kinds UnassignedNs = refl
+live-kinds (AssignedNs page) = refl
+
+-- so what is live and no link is mapped
+count-kinds : (entries : List Entry) → count_of is_live entries ≡ count_of is_mapped entries + count_of is_table entries
+unfolding count_of
+count-kinds [] = refl
+count-kinds (e ∷ entries) = omega (arith, live-kinds e, count-kinds entries)
+
+-- some entry is mapped where more are live than are links
+pub count-mapped : (entries : List Entry) → nat_lt (count_of is_table entries) (count_of is_live entries) ≡ list_any is_mapped entries
+count-mapped entries = by (list_any is_mapped entries) refl
+  where
+    by : (b : Bool) → list_any is_mapped entries ≡ b → nat_lt (count_of is_table entries) (count_of is_live entries) ≡ b
+    by true some =
+        let more : 0 < count_of is_mapped entries = ltb-true 0 (count_of is_mapped entries) (count-any is_mapped entries ∙ some) in
+        lt-ltb (count_of is_table entries) (count_of is_live entries) (omega (arith, more, count-kinds entries))
+    by false none =
+        let no_more : count_of is_mapped entries ≤ 0 = ltb-false 0 (count_of is_mapped entries) (count-any is_mapped entries ∙ none) in
+        le-ltb (count_of is_table entries) (count_of is_live entries) (omega (arith, no_more, count-kinds entries))
+
+-- some entry is live where one is mapped or a link
+pub live-parts : (entries : List Entry) → list_any is_live entries ≡ (list_any is_mapped entries || list_any is_table entries)
+live-parts [] = refl
+live-parts (e ∷ entries) = kind e ∙ ap (λ b. (is_mapped e || is_table e) || b) (live-parts entries) ∙ regroup (is_mapped e) (is_table e) _ _
+  where
+    kind : (e : Entry) → (is_live e || list_any is_live entries) ≡ ((is_mapped e || is_table e) || list_any is_live entries)
+    kind (Unassigned ripas) = refl
+    kind (Assigned ripas granule) = refl
+    kind (Table granule) = refl
+    kind UnassignedNs = refl
+    kind (AssignedNs page) = refl
+
+    regroup : (a b c d : Bool) → ((a || b) || (c || d)) ≡ ((a || c) || (b || d))
+    regroup true b c d = refl
+    regroup false true true d = refl
+    regroup false true false d = refl
+    regroup false false c d = refl
+
+-- ---- what becomes of it
+
+-- of copies of one entry all are counted, or none
+pub count-copies : (test : Entry → Bool) (n : ℕ) (e : Entry) → count_of test (replicate n e) ≡ (if test e then n else 0)
+unfolding count_of
+count-copies test n e = by (test e) refl n
+  where
+    by : (b : Bool) → test e ≡ b → (m : ℕ) → count_of test (replicate m e) ≡ (if b then m else 0)
+    by true is zero = refl
+    by true is (suc m) = omega (arith, ap one_if is, by true is m)
+    by false is zero = refl
+    by false is (suc m) = omega (arith, ap one_if is, by false is m)
+
+-- one entry replaced by another
+pub count-set : (test : Entry → Bool) (entries : List Entry) (i : ℕ) (old new : Entry) → slice_get entries i ≡ Some old
+    → count_of test (slice_set entries i new) + one_if (test old) ≡ count_of test entries + one_if (test new)
+unfolding count_of
+count-set test [] i old new at = absurd (none-some old at)
+count-set test (x ∷ entries) zero old new at =
+    let same : one_if (test x) ≡ one_if (test old) = ap (λ y. one_if (test y)) (same_Some x old at) in
+    omega (arith, same)
+count-set test (x ∷ entries) (suc i) old new at = omega (arith, count-set test entries i old new at)
+
+-- two parts of a list
+count-append : (test : Entry → Bool) (xs ys : List Entry) → count_of test (xs ++ ys) ≡ count_of test xs + count_of test ys
+unfolding count_of
+count-append test [] ys = omega arith
+count-append test (x ∷ xs) ys = omega (arith, count-append test xs ys)
+
+-- entries that each pass as before
+count-map : (test : Entry → Bool) (change : Entry → Entry) → ((e : Entry) → test (change e) ≡ test e) → (xs : List Entry)
+    → count_of test (map change xs) ≡ count_of test xs
+unfolding count_of
+count-map test change same [] = refl
+count-map test change same (x ∷ xs) = omega (arith, ap one_if (same x), count-map test change same xs)
+
+count-parts : (test : Entry → Bool) (n : ℕ) (xs : List Entry) → count_of test (take n xs) + count_of test (drop n xs) ≡ count_of test xs
+unfolding count_of
+count-parts test zero xs = omega arith
+count-parts test (suc n) [] = refl
+count-parts test (suc n) (x ∷ xs) = omega (arith, count-parts test n xs)
+
+-- a change of a stretch's RIPAS leaves the count of what doesn't look at RIPAS
+pub count-ripas : (test : Entry → Bool) (first last : ℕ) (ripas : Ripas) (xs : List Entry) → ((e : Entry) → test (entry_with_ripas ripas e) ≡ test e) → first ≤ last
+    → count_of test (entries_with_ripas first last ripas xs) ≡ count_of test xs
+unfolding entries_with_ripas
+count-ripas test first last ripas xs same order =
+    let reach : first + (last - first) ≡ last = omega arith in
+    let ends : drop (last - first) (drop first xs) ≡ drop last xs = drop-drop (last - first) first xs ∙ ap (λ (n : ℕ). drop n xs) reach in
+    let stretch : count_of test (map (entry_with_ripas ripas) (slice_range xs first last)) ≡ count_of test (take (last - first) (drop first xs)) =
+    count-map test (entry_with_ripas ripas) same (slice_range xs first last) in
+    let rest = count-parts test (last - first) (drop first xs) in
+    let back = ap (count_of test) ends in
+    let all = count-parts test first xs in
+    let outer = count-append test (take first xs) (map (entry_with_ripas ripas) (slice_range xs first last) ++ drop last xs) in
+    let inner = count-append test (map (entry_with_ripas ripas) (slice_range xs first last)) (drop last xs) in
+    omega arith
+
+-- whether an entry is live, or a link, isn't told by its RIPAS
+pub live-ripas : (ripas : Ripas) (e : Entry) → is_live (entry_with_ripas ripas e) ≡ is_live e
+live-ripas ripas (Unassigned old) = refl
+live-ripas ripas (Assigned old granule) = refl
+live-ripas ripas (Table granule) = refl
+live-ripas ripas UnassignedNs = refl
+live-ripas ripas (AssignedNs page) = refl
+
+pub link-ripas : (ripas : Ripas) (e : Entry) → is_table (entry_with_ripas ripas e) ≡ is_table e
+link-ripas ripas (Unassigned old) = refl
+link-ripas ripas (Assigned old granule) = refl
+link-ripas ripas (Table granule) = refl
+link-ripas ripas UnassignedNs = refl
+link-ripas ripas (AssignedNs page) = refl
+
+-- ---- both counts
+
+take-nothing : (n : ℕ) → take {A = Entry} n [] ≡ []
+take-nothing zero = refl
+take-nothing (suc n) = refl
+
+-- those of an empty list that is filled up with copies of one entry
+pub counts-filled : (n len : ℕ) (entries before : List Entry) (e : Entry) (live links : ℕ) (is_one is_other : Bool)
+    → entries ≡ take n before ++ replicate (n - len) e → before ≡ [] → len ≡ 0
+    → live ≡ (if is_one then n else 0) → is_one ≡ is_live e → links ≡ (if is_other then n else 0) → is_other ≡ is_table e
+    → AreCounts entries live links
+counts-filled n len entries before e live links is_one is_other filled none empty first one second other =
+    let front : take n before ≡ [] = ap (λ (xs : List Entry). take n xs) none ∙ take-nothing n in
+    let rest : n - len ≡ n = omega (arith, empty) in
+    let copies : entries ≡ replicate n e = filled ∙ (λ i. front i ++ replicate (rest i) e) in
+    record {
+      of_live = (first ∙ ap (λ (b : Bool). if b then n else 0) one) ∙ (sym (count-copies is_live n e) ∙ ap (λ (xs : List Entry). count_of is_live xs) (sym copies));
+      of_links = (second ∙ ap (λ (b : Bool). if b then n else 0) other) ∙ (sym (count-copies is_table n e) ∙ ap (λ (xs : List Entry). count_of is_table xs) (sym copies));
+    }
+
+-- those of entries of which one is replaced
+pub counts-set : (entries : List Entry) (live links live' links' at : ℕ) (old new : Entry) → AreCounts entries live links → slice_get entries at ≡ Some old
+    → live' + one_if (is_live old) ≡ live + one_if (is_live new) → links' + one_if (is_table old) ≡ links + one_if (is_table new)
+    → AreCounts (slice_set entries at new) live' links'
+counts-set entries live links live' links' at old new counts there first second = record {
+  of_live = omega (arith, counts.of_live, first, count-set is_live entries at old new there);
+  of_links = omega (arith, counts.of_links, second, count-set is_table entries at old new there);
+}
+
+-- those of entries of which a stretch has another RIPAS
+pub counts-ripas : (entries : List Entry) (live links first last : ℕ) (ripas : Ripas) → AreCounts entries live links → first ≤ last
+    → AreCounts (entries_with_ripas first last ripas entries) live links
+counts-ripas entries live links first last ripas counts order = record {
+  of_live = counts.of_live ∙ sym (count-ripas is_live first last ripas entries (live-ripas ripas) order);
+  of_links = counts.of_links ∙ sym (count-ripas is_table first last ripas entries (link-ripas ripas) order);
+}
