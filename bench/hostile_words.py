@@ -3,7 +3,7 @@
 
 usage: hostile_words.py [--program PATH] [--jobs COUNT] [EXAMPLE..]
 
-The states are those that the examples with the verdict `yes` pass through. In each of them every CPU sends each of the 27
+The states are those that the examples with the verdict `yes` pass through. In each of them every CPU sends each of the
 commands with fitting words, of which one word, and then each pair of words, is each of EDGES. The reply of machine.py stands in a
 history, with a certificate that names the calls in their order, so that the program's verdict is `yes` where it agrees on all of
 them. Refused commands change nothing and share a history; each accepted one is the last of its own. It prints how many there

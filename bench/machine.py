@@ -244,7 +244,7 @@ class Machine:
         self.tags[rtt] = RTT
         above.set_entry(ipa, Entry(TABLE, address=rtt, table=Table(rtt, level, ipa, [entry] * ENTRIES)))
 
-    def destroy_table(self, rd, ipa, level):
+    def need_link(self, rd, ipa, level):
         self.need(level <= LAST_LEVEL)
         self.need(ipa % entry_bytes(level - 1) == 0)
         realm = self.need_realm(rd)
@@ -253,10 +253,18 @@ class Machine:
         above = walk(realm.root, ipa, level - 1)
         entry = above.entry(ipa)
         self.need(above.level == level - 1 and entry.state == TABLE, table_error(above.level))
-        self.need(not entry.table.has(ASSIGNED, ASSIGNED_NS, TABLE), table_error(level))
-        self.tags[entry.address] = DELEGATED
-        above.set_entry(ipa, UNUSED[DESTROYED] if ipa < realm.half else FREE_NS)
-        return [entry.address]
+        return realm, above, entry.table
+
+    def take_table(self, above, ipa, left):
+        granule = above.entry(ipa).address
+        self.tags[granule] = DELEGATED
+        above.set_entry(ipa, left)
+        return [granule]
+
+    def destroy_table(self, rd, ipa, level):
+        realm, above, table = self.need_link(rd, ipa, level)
+        self.need(not table.has(ASSIGNED, ASSIGNED_NS, TABLE), table_error(level))
+        return self.take_table(above, ipa, UNUSED[DESTROYED] if ipa < realm.half else FREE_NS)
 
     def read_entry(self, rd, ipa, level):
         self.need(level <= LAST_LEVEL)

@@ -13,9 +13,9 @@ use crate::held_sight::HeldSight;
 use command_words::is_space;
 use granule_cells::Cell;
 use granule_state::Pa;
-use rmm_spec::{Entry, EntryChange, Place};
+use rmm_spec::{Entry, EntryChange, EntryTest, Place};
 use rtt_table::Table;
-use table_entries::{is_live, is_table, linked, table_number};
+use table_entries::{is_table, linked, passes, table_number};
 
 /// How many entries a table has.
 const ENTRIES: u64 = 512;
@@ -253,28 +253,14 @@ impl<'a, H: Held> HeldSight<'a, H> {
         self.reach(rd, ipa, max - 1)
     }
 
-    /// Whether the table of that number has an entry that keeps it in use.
-    #[tactic(auto, unfolding(rmm_spec::specs::Walk::is_in_use))]
-    pub(crate) fn has_live(&self, rd: u64, level: u8, number: u64) -> bool
+    /// Whether the table of that number has an entry that is looked for.
+    #[tactic(auto, unfolding(rmm_spec::specs::Walk::has_entry))]
+    pub(crate) fn finds(&self, rd: u64, level: u8, number: u64, test: EntryTest) -> bool
         requires { number < 2 ^ 52 }
-        ensures { result ≡ walks.is_in_use (seen_state self.now.config.now.granules (H.cells self.now.held.now)) rd level number }
+        ensures { result ≡ walks.has_entry (seen_state self.now.config.now.granules (H.cells self.now.held.now)) rd level number test }
     {
         for place in 0..ENTRIES {
-            if is_live(self.entry(rd, level, ENTRIES * number + place)) {
-                return true;
-            }
-        }
-        false
-    }
-
-    /// Whether the table of that number links to one below it.
-    #[tactic(auto, unfolding(rmm_spec::specs::Walk::has_link))]
-    pub(crate) fn links(&self, rd: u64, level: u8, number: u64) -> bool
-        requires { number < 2 ^ 52 }
-        ensures { result ≡ walks.has_link (seen_state self.now.config.now.granules (H.cells self.now.held.now)) rd level number }
-    {
-        for place in 0..ENTRIES {
-            if is_table(self.entry(rd, level, ENTRIES * number + place)) {
+            if passes(test, self.entry(rd, level, ENTRIES * number + place)) {
                 return true;
             }
         }

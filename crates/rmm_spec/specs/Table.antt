@@ -1,6 +1,6 @@
 -- Translation tables as whole things: their place and their 512 entries.
 -- After DEN0137 (RTT, RTT entry); that a table carries its place is this project's own.
-use Rattle.std.specs.Prelude.{◌≡◌, ℕ, ◌%◌, ◌<◌, Bool, ◌==◌, List, ◌++◌, map, take, drop, slice_range, length, slice_get}
+use Rattle.std.specs.Prelude.{ℕ, ◌%◌, Bool, ◌==◌, List, ◌++◌, map, take, drop, slice_range}
 use Rattle.rmm_spec.specs.declared.entry.Entry.{Entry}
 use Rattle.rmm_spec.specs.declared.place.Place.{Place}
 use Rattle.rmm_spec.specs.declared.tag.Ripas.{Ripas}
@@ -28,7 +28,3 @@ covers place ipa = table_number place.level ipa == place_number place
 unfoldable pub entries_with_ripas : ℕ → ℕ → Ripas → List Entry → List Entry
 entries_with_ripas first last ripas entries =
     take first entries ++ (map (entry_with_ripas ripas) (slice_range entries first last) ++ drop last entries)
-
--- all entries are equal
-abbrev pub AreAlike : List Entry → Type 0
-AreAlike entries = (i j : ℕ) → i < length entries → j < length entries → slice_get entries i ≡ slice_get entries j

@@ -1,13 +1,13 @@
 //! A table and its methods.
 
-ghost use Rattle.std.specs.Prelude.{All, ◌≡◌, ◌<◌, ◌≤◌, ◌↔◌, IsTrue, IfOk, length, map, replicate, Some, slice_get, slice_set};
+ghost use Rattle.std.specs.Prelude.{◌≡◌, ◌<◌, ◌≤◌, IfOk, length, map, replicate, Some, slice_get, slice_set};
 ghost use Rattle.std.specs.List.{list_any};
 ghost use Rattle.rmm_spec.specs.Update.{entry_with_ripas};
-ghost use Rattle.rmm_spec.specs.Walk.{is_live, is_table};
-ghost use Rattle.rmm_spec.specs.Table.{entry_index, entries_with_ripas, AreAlike};
+ghost use Rattle.rmm_spec.specs.Walk.{is_live, is_table, passes};
+ghost use Rattle.rmm_spec.specs.Table.{entry_index, entries_with_ripas};
 
 use granule_state::Ipa;
-use rmm_spec::{Entry, Place, Ripas};
+use rmm_spec::{Entry, EntryTest, Place, Ripas};
 use std::alloc::{AllocError, Global};
 use std::marker::Model;
 use std::mem::size_of;
@@ -90,11 +90,14 @@ impl Table {
         self.entries.iter().any(|entry| is_table(*entry))
     }
 
-    /// Whether all 512 entries are equal.
-    pub fn is_uniform(&self) -> bool
-        ensures { IsTrue result ↔ AreAlike self.now.entries }
+    /// Whether some entry is one that is looked for.
+    pub fn has(&self, test: EntryTest) -> bool
+        ensures { result ≡ list_any (passes test) self.now.entries }
     {
-        are_all(&self.entries, self.entries[0])
+        match test {
+            EntryTest::Live => self.is_live(),
+            EntryTest::Link => self.has_link(),
+        }
     }
 
     /// The table stands at another place.
@@ -112,13 +115,6 @@ impl Table {
     {
         change_ripas(&mut self.entries[from..to], ripas);
     }
-}
-
-// Whether each entry equals the given one.
-fn are_all(entries: &[Entry], same: Entry) -> bool
-    ensures { IsTrue result ↔ All (λ e. e ≡ same) entries.now }
-{
-    entries.iter().all(|entry| *entry == same)
 }
 
 // Changes the RIPAS of each entry that has one.

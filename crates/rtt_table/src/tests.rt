@@ -65,25 +65,25 @@ fn entries_are_set(rt: HostRuntime) -> Result<(), Fail> {
     } = table.place();
     let given = place();
     assert!(rt; (rd, level, base, width) == (given.rd, given.level, given.base, given.width));
-    assert!(rt; table.is_uniform() && !table.is_live());
+    assert!(rt; !table.is_live());
     table.set_entry(511, Entry::Assigned(Ripas::Ram, 0x5000));
     assert!(rt; table.entry(511) == Entry::Assigned(Ripas::Ram, 0x5000));
     assert!(rt; table.entry(510) == fill);
-    assert!(rt; table.is_live() && !table.is_uniform());
+    assert!(rt; table.is_live());
     table.set_entry(511, fill);
     table.set_entry(0, Entry::Unassigned(Ripas::Ram));
-    assert!(rt; !table.is_live() && !table.is_uniform());
+    assert!(rt; !table.is_live());
     Ok(())
 }
 
 #[test]
 fn other_kinds_of_entry(rt: HostRuntime) -> Result<(), Fail> {
     let mut table = Table::new(rt.alloc(), place(), Entry::UnassignedNs)?;
-    assert!(rt; !table.is_live() && table.is_uniform());
+    assert!(rt; !table.is_live());
     table.set_entry(7, Entry::AssignedNs(0x8000));
-    assert!(rt; table.is_live() && !table.is_uniform());
+    assert!(rt; table.is_live());
     table.set_entry(7, Entry::Table(0x8000));
-    assert!(rt; table.is_live() && !table.is_uniform());
+    assert!(rt; table.is_live());
     Ok(())
 }
 

@@ -5,7 +5,7 @@ ghost use Rattle.rmm_spec.specs.Walk as spec;
 ghost use Rattle.rmm_spec.specs.Step.Ripas as stretch;
 ghost use Rattle.rmm_spec.specs.Update.{entry_with_ripas};
 
-use rmm_spec::{Entry, Ripas, StretchUse};
+use rmm_spec::{Entry, EntryTest, Ripas, StretchUse};
 
 /// An entry links to the table below it, if there is one, and is its leaf otherwise; a leaf is no link.
 pub fn linked(below: Option<u64>, leaf: Option<Entry>) -> Entry
@@ -44,6 +44,16 @@ pub fn is_live(entry: Entry) -> bool
     match entry {
         Entry::Assigned(..) | Entry::AssignedNs(_) | Entry::Table(_) => true,
         Entry::Unassigned(_) | Entry::UnassignedNs => false,
+    }
+}
+
+/// Whether an entry is one that is looked for.
+pub fn passes(test: EntryTest, entry: Entry) -> bool
+    ensures { result ≡ spec.passes test entry }
+{
+    match test {
+        EntryTest::Live => is_live(entry),
+        EntryTest::Link => is_table(entry),
     }
 }
 
