@@ -36,6 +36,12 @@ impl fmt::Display for CallText {
                 ipa,
                 level,
             } => write_call(f, "RTT_DESTROY rd ipa level", &[rd, ipa, level]),
+            Call::RttRemove {
+                removal: Removal::Fold,
+                rd,
+                ipa,
+                level,
+            } => write_call(f, "RTT_FOLD rd ipa level", &[rd, ipa, level]),
             Call::RttReadEntry { rd, ipa, level } => {
                 write_call(f, "RTT_READ_ENTRY rd ipa level", &[rd, ipa, level])
             }

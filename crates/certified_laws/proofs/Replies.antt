@@ -9,7 +9,7 @@ use Rattle.rmm_spec.specs.declared.accepted.StretchUse.TheVariants.{Init, Reques
 use Rattle.rmm_spec.specs.declared.call.Call.{Call}
 use Rattle.rmm_spec.specs.declared.call.Call.TheVariants as call
 use Rattle.rmm_spec.specs.declared.call.Removal.{Removal}
-use Rattle.rmm_spec.specs.declared.call.Removal.TheVariants.{Destroy}
+use Rattle.rmm_spec.specs.declared.call.Removal.TheVariants.{Destroy, Fold}
 use Rattle.rmm_spec.specs.declared.command.Command.{Command}
 use Rattle.rmm_spec.specs.declared.entry.Entry.{Entry}
 use Rattle.rmm_spec.specs.declared.entry.Entry.TheVariants.{Unassigned, Assigned, Table, UnassignedNs, AssignedNs}
@@ -199,6 +199,7 @@ HasText-behind function.RttCreate w s cpu fits words tests =
       ((omega arith, tt), (word w 1 words, entry_at-fits s (slice_index w 0) _ _ fits)),
     )
 HasText-behind function.RttDestroy w s cpu fits words tests = HasText-remove Destroy s cpu (slice_index w 0) (slice_index w 1) (slice_index w 2) fits tests
+HasText-behind function.RttFold w s cpu fits words tests = HasText-remove Fold s cpu (slice_index w 0) (slice_index w 1) (slice_index w 2) fits tests
 HasText-behind function.RttMapUnprotected w s cpu fits words tests = (
   (IsReply-input_error, (IsReply-walk s (slice_index w 0) (slice_index w 1) 3 (omega arith), (IsReply-table_error 3 (omega arith), tt))),
   ((omega arith, tt), (word w 2 words, tt)),

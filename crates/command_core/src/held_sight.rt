@@ -10,7 +10,7 @@ use command_words::is_tag;
 use granule_cells::{Cell, Side};
 use granule_state::{Config, Pa};
 use realm_desc::{Realm, Rec};
-use rmm_spec::{EntryTest, Tag, Walked};
+use rmm_spec::{Entry, EntryTest, Tag, Walked};
 use table_entries::{entry_number, table_number};
 
 /// Held cells with the side table, on a machine of some size. It stands for the one state that the cells tell of. Who plans what to
@@ -112,6 +112,10 @@ impl<'a, H: Held> Sight for HeldSight<'a, H> {
             granule,
             entry,
         }
+    }
+
+    fn entry_at(&self, rd: u64, level: u8, number: u64) -> Entry {
+        self.entry(rd, level, number)
     }
 
     fn has_entry(&self, rd: u64, level: u8, number: u64, test: EntryTest) -> bool {

@@ -6,7 +6,7 @@ ghost use Rattle.rmm_spec.specs.State.{State};
 ghost use Rattle.rmm_spec.specs.Walk as tables;
 
 use realm_desc::{Realm, Rec};
-use rmm_spec::{EntryTest, Tag, Walked};
+use rmm_spec::{Entry, EntryTest, Tag, Walked};
 
 /// Who can look up what the rows of commands read. It stands for one state, of which each look-up is an equation.
 pub trait Sight {
@@ -37,6 +37,10 @@ pub trait Sight {
         requires { max ≤ 3 }
         ensures end { result ≡ tables.walk (state self.now) rd ipa max }
         ensures within { result.level ≤ 3 };
+
+    /// The entry of that number at the level.
+    fn entry_at(&self, rd: u64, level: u8, number: u64) -> Entry
+        ensures { result ≡ tables.entry_at (state self.now) rd level number };
 
     /// Whether the table of that number has an entry that is looked for.
     fn has_entry(&self, rd: u64, level: u8, number: u64, test: EntryTest) -> bool

@@ -163,6 +163,14 @@ fn ripas_left<S: Sight>(
     match removal {
         Removal::Destroy if sight.has_entry(rd, level, number, EntryTest::Live) => None,
         Removal::Destroy => Some(Ripas::Destroyed),
+        Removal::Fold => {
+            let first = sight.entry_at(rd, level, 512 * number);
+            if sight.has_entry(rd, level, number, EntryTest::Unlike(first)) {
+                None
+            } else {
+                Some(entry_ripas(first))
+            }
+        }
     }
 }
 

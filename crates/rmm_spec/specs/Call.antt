@@ -3,7 +3,7 @@
 use Rattle.std.specs.Prelude.{ℕ, zero, suc, ◌+◌, List, [], ◌∷◌, slice_index}
 use Rattle.rmm_spec.specs.declared.call.Call.{Call}
 use Rattle.rmm_spec.specs.declared.call.Call.TheVariants as call
-use Rattle.rmm_spec.specs.declared.call.Removal.TheVariants.{Destroy}
+use Rattle.rmm_spec.specs.declared.call.Removal.TheVariants.{Destroy, Fold}
 use Rattle.rmm_spec.specs.declared.command.Command.{Command}
 use Rattle.rmm_spec.specs.declared.function_id.FunctionId.{FunctionId}
 use Rattle.rmm_spec.specs.declared.function_id.FunctionId.TheVariants as function
@@ -33,6 +33,7 @@ call_from function.RttDestroy w = call.RttRemove Destroy (slice_index w 0) (slic
 call_from function.RttMapUnprotected w = call.RttMapUnprotected (slice_index w 0) (slice_index w 1) (slice_index w 2)
 call_from function.RttReadEntry w = call.RttReadEntry (slice_index w 0) (slice_index w 1) (slice_index w 2)
 call_from function.RttUnmapUnprotected w = call.RttUnmapUnprotected (slice_index w 0) (slice_index w 1)
+call_from function.RttFold w = call.RttRemove Fold (slice_index w 0) (slice_index w 1) (slice_index w 2)
 call_from function.RttInitRipas w = call.RttInitRipas (slice_index w 0) (slice_index w 1) (slice_index w 2)
 call_from function.RttSetRipas w = call.RttSetRipas (slice_index w 0) (slice_index w 1) (slice_index w 2) (slice_index w 3)
 call_from function.MeasurementRead w = call.MeasurementRead (slice_index w 0)

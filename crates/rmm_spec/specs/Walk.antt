@@ -1,15 +1,15 @@
 -- Translation tables: what an entry of each level covers, and the walk to the deepest table that covers an address.
 -- After DEN0137 (RTT walk), with granules of 4096 bytes, tables of 512 entries, and levels 0 to 3.
-use Rattle.std.specs.Prelude.{◌≡◌, ℕ, zero, suc, ◌+◌, ◌-◌, ◌*◌, ◌/◌, ◌%◌, ◌^◌, ◌<◌, ◌≤◌, Bool, true, false, ◌&&◌, ◌||◌, nat_lt, ◌==◌, if◌then◌else◌, Option, Some, None, is_some, unwrap_or}
+use Rattle.std.specs.Prelude.{◌≡◌, ℕ, zero, suc, ◌+◌, ◌-◌, ◌*◌, ◌/◌, ◌%◌, ◌^◌, ◌<◌, ◌≤◌, Bool, true, false, not, ◌&&◌, ◌||◌, nat_lt, ◌==◌, if◌then◌else◌, Option, Some, None, is_some, unwrap_or}
 use Rattle.rmm_spec.specs.declared.entry.Entry.{Entry}
 use Rattle.rmm_spec.specs.declared.entry.EntryTest.{EntryTest}
-use Rattle.rmm_spec.specs.declared.entry.EntryTest.TheVariants.{Live, Link}
+use Rattle.rmm_spec.specs.declared.entry.EntryTest.TheVariants.{Live, Link, Unlike}
 use Rattle.rmm_spec.specs.declared.entry.Entry.TheVariants.{Unassigned, Assigned, Table, UnassignedNs, AssignedNs}
 use Rattle.rmm_spec.specs.declared.tag.Ripas.{Ripas}
 use Rattle.rmm_spec.specs.declared.tag.Ripas.TheVariants.{Empty, Ram, Destroyed}
 use Rattle.rmm_spec.specs.declared.walked.Walked.{Walked}
 use Rattle.rmm_spec.specs.State.{State, RealmRecord}
-use Rattle.rmm_spec.specs.Lookup.{any_below}
+use Rattle.rmm_spec.specs.Lookup.{any_below, ripas_number}
 
 -- how many bytes an entry of the level covers: a page at level 3, and 512 times as many at each level above
 unfoldable pub entry_size : ℕ → ℕ
@@ -96,10 +96,17 @@ is_assigned_ns UnassignedNs = false
 abbrev pub is_live : Entry → Bool
 is_live entry = is_assigned entry || is_assigned_ns entry || is_table entry
 
+-- whether the second entry isn't unassigned as the first is: of the same half, and with the same RIPAS
+abbrev pub is_unlike : Entry → Entry → Bool
+is_unlike (Unassigned ripas) (Unassigned other) = not (ripas_number ripas == ripas_number other)
+is_unlike UnassignedNs UnassignedNs = false
+is_unlike _ _ = true
+
 -- whether an entry is one that is looked for
 abbrev pub passes : EntryTest → Entry → Bool
 passes Live entry = is_live entry
 passes Link entry = is_table entry
+passes (Unlike first) entry = is_unlike first entry
 
 -- the granule or page that an entry names, and 0 where it names none
 abbrev pub entry_address : Entry → ℕ

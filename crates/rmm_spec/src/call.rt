@@ -7,6 +7,8 @@ use crate::function_id::FunctionId;
 pub enum Removal {
     /// RTT_DESTROY: none of its entries keeps it in use.
     Destroy,
+    /// RTT_FOLD: all its entries are unassigned alike.
+    Fold,
 }
 
 /// A command as its function and words mean it. Functions are named as in DEN0137; which words there are is this profile's
@@ -213,6 +215,12 @@ impl Call {
             FunctionId::RttUnmapUnprotected => Call::RttUnmapUnprotected {
                 rd: word(words, 0),
                 ipa: word(words, 1),
+            },
+            FunctionId::RttFold => Call::RttRemove {
+                removal: Removal::Fold,
+                rd: word(words, 0),
+                ipa: word(words, 1),
+                level: word(words, 2),
             },
             FunctionId::RttInitRipas => Call::RttInitRipas {
                 rd: word(words, 0),

@@ -25,4 +25,6 @@ pub enum EntryTest {
     Live,
     /// A link to a table.
     Link,
+    /// One that isn't unassigned as this one is.
+    Unlike(Entry),
 }

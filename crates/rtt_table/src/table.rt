@@ -11,7 +11,7 @@ use rmm_spec::{Entry, EntryTest, Place, Ripas};
 use std::alloc::{AllocError, Global};
 use std::marker::Model;
 use std::mem::size_of;
-use table_entries::{entry_number, is_live, is_table, with_ripas};
+use table_entries::{entry_number, is_live, is_table, passes, with_ripas};
 
 /// How many entries a table has.
 const ENTRIES: usize = 512;
@@ -97,6 +97,7 @@ impl Table {
         match test {
             EntryTest::Live => self.is_live(),
             EntryTest::Link => self.has_link(),
+            EntryTest::Unlike(_) => self.entries.iter().any(|entry| passes(test, *entry)),
         }
     }
 

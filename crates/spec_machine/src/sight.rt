@@ -3,7 +3,7 @@
 use crate::machine::Machine;
 use command_rows::Sight;
 use realm_desc::{Realm, Rec};
-use rmm_spec::{EntryTest, Tag, Walked};
+use rmm_spec::{Entry, EntryTest, Tag, Walked};
 
 impl Sight for Machine {
     ghost use Rattle.rmm_spec.specs.Lookup.{has_rec, is_vmid_used};
@@ -33,6 +33,11 @@ impl Sight for Machine {
     #[tactic(auto, unfolding(crate::specs::View::state_of))]
     fn walk(&self, rd: u64, ipa: u64, max: u8) -> Walked {
         self.granules.walk(rd, ipa, max)
+    }
+
+    #[tactic(auto, unfolding(crate::specs::View::state_of))]
+    fn entry_at(&self, rd: u64, level: u8, number: u64) -> Entry {
+        self.granules.entry(rd, level, number)
     }
 
     #[tactic(auto, unfolding(crate::specs::View::state_of))]

@@ -5,6 +5,7 @@ ghost use Rattle.rmm_spec.specs.Walk as spec;
 ghost use Rattle.rmm_spec.specs.Step.Ripas as stretch;
 ghost use Rattle.rmm_spec.specs.Update.{entry_with_ripas};
 
+use crate::entry_reads::ripas_number;
 use rmm_spec::{Entry, EntryTest, Ripas, StretchUse};
 
 /// An entry links to the table below it, if there is one, and is its leaf otherwise; a leaf is no link.
@@ -54,6 +55,20 @@ pub fn passes(test: EntryTest, entry: Entry) -> bool
     match test {
         EntryTest::Live => is_live(entry),
         EntryTest::Link => is_table(entry),
+        EntryTest::Unlike(first) => is_unlike(first, entry),
+    }
+}
+
+// Whether the second entry isn't unassigned as the first is.
+fn is_unlike(first: Entry, entry: Entry) -> bool
+    ensures { result ≡ spec.is_unlike first entry }
+{
+    match (first, entry) {
+        (Entry::Unassigned(ripas), Entry::Unassigned(other)) => {
+            ripas_number(ripas) != ripas_number(other)
+        }
+        (Entry::UnassignedNs, Entry::UnassignedNs) => false,
+        _ => true,
     }
 }
 

@@ -119,6 +119,16 @@ fn write_table_row<W: fmt::Write>(f: &mut fmt::Formatter<W>, row: Condition) -> 
                 "an entry of the table for {ipa:x} at level {level} is in use"
             )
         }
+        Condition::TableStays {
+            removal: Removal::Fold,
+            ipa,
+            level,
+        } => {
+            write!(
+                f,
+                "the entries of the table for {ipa:x} at level {level} aren't all unassigned alike"
+            )
+        }
         Condition::Entry { ipa, needed, found } => write_entry(f, ipa, needed, found),
         Condition::NoRoom { base, top, level } => write!(
             f,

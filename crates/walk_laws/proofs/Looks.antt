@@ -9,7 +9,7 @@ use Rattle.rmm_spec.specs.declared.accepted.Accepted.{Accepted}
 use Rattle.rmm_spec.specs.declared.call.Call.{Call}
 use Rattle.rmm_spec.specs.declared.call.Call.TheVariants as call
 use Rattle.rmm_spec.specs.declared.call.Removal.{Removal}
-use Rattle.rmm_spec.specs.declared.call.Removal.TheVariants.{Destroy}
+use Rattle.rmm_spec.specs.declared.call.Removal.TheVariants.{Destroy, Fold}
 use Rattle.rmm_spec.specs.declared.change.Change.TheVariants.{TableDestroyed}
 use Rattle.rmm_spec.specs.declared.reply.Reply.{Reply}
 use Rattle.rmm_spec.specs.declared.tag.Ripas.{Ripas}
@@ -223,6 +223,7 @@ walk-tables s t w =
 left-tables : (s t : State) (removal : Removal) (rd level number : ℕ) → ripas_left removal (with_tables_of s t) rd level number ≡ ripas_left removal t rd level number
 unfolding ripas_left has_entry entry_at
 left-tables s t Destroy rd level number = refl
+left-tables s t Fold rd level number = refl
 
 use-tables : (s t : State) (c : Call) → SameUse (with_tables_of s t) t c
 use-tables s t (call.RttRemove removal rd ipa level) = λ above linked. left-tables s t removal rd level (table_number level ipa)

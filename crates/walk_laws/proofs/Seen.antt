@@ -4,9 +4,9 @@ use Rattle.std.specs.Prelude.{IsTrue, is_some, unwrap_or}
 use Rattle.std.specs.Option.{option_and_then}
 use Rattle.std.proofs.lemmas.Bool.{false≢true, and_parts, or_cases, not-true}
 use Rattle.rmm_spec.specs.declared.call.Removal.{Removal}
-use Rattle.rmm_spec.specs.declared.call.Removal.TheVariants.{Destroy}
+use Rattle.rmm_spec.specs.declared.call.Removal.TheVariants.{Destroy, Fold}
 use Rattle.rmm_spec.specs.declared.entry.EntryTest.{EntryTest}
-use Rattle.rmm_spec.specs.declared.entry.EntryTest.TheVariants.{Live}
+use Rattle.rmm_spec.specs.declared.entry.EntryTest.TheVariants.{Live, Unlike}
 use Rattle.rmm_spec.specs.declared.tag.Ripas.TheVariants.{Destroyed}
 use Rattle.rmm_spec.specs.declared.tag.Tag.{Tag}
 use Rattle.rmm_spec.specs.State.{State, RealmRecord}
@@ -14,7 +14,7 @@ use Rattle.rmm_spec.specs.Lookup.{tag_number, is_granule, has_tag, realm_at, rec
 use Rattle.rmm_spec.specs.Step.Words.{is_space}
 use Rattle.rmm_spec.specs.Step.Table.{ripas_left}
 use Rattle.rmm_spec.specs.Table.{TableRecord}
-use Rattle.rmm_spec.specs.Walk.{is_table, passes, entry_at, entry_for, entry_number, table_number, reach, has_entry}
+use Rattle.rmm_spec.specs.Walk.{is_table, passes, entry_at, entry_for, entry_ripas, entry_number, table_number, reach, has_entry}
 use Rattle.rmm_spec.specs.Cell.{Cell, Undelegated, Rd, tag_of, realm_in, rec_in, table_in, tables_of, realms_of}
 use Rattle.rmm_spec.specs.Flat.{flat_state, is_table_of}
 use Rattle.rmm_spec.specs.Shape.{Side, HoldsTable}
@@ -220,3 +220,8 @@ pub left-same : {granules : ℕ} {side : Side} {held : List HeldCell} (w : Whole
 unfolding ripas_left
 left-same {granules} {side} {held} w Destroy g rd level number is =
     ap (λ (found : Bool). if found then None else Some Destroyed) (has_entry-same w g rd level number Live is)
+left-same {granules} {side} {held} w Fold g rd level number is =
+    let e = entry_at (seen_state granules held) rd level (512 * number) in
+    let own : (512 * number) / 512 ≡ number = omega arith in
+    rw (entry-same w g rd level (512 * number) (ap (table_placed held rd level) own ∙ is))
+    (ap (λ (found : Bool). if found then None else Some (entry_ripas e)) (has_entry-same w g rd level number (Unlike e) is))

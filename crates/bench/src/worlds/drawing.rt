@@ -96,7 +96,7 @@ impl Granules<'_> {
 
 /// One of the functions. Those that make something come more often than those that end it.
 pub(crate) fn drawn_function(dice: &mut Dice) -> FunctionId {
-    match dice.below(112) {
+    match dice.below(114) {
         0..14 => FunctionId::GranuleDelegate,
         14 => FunctionId::GranuleUndelegate,
         15 | 16 => FunctionId::RealmCreate,
@@ -130,6 +130,7 @@ fn drawn_walking_function(number: u64) -> FunctionId {
         101 => FunctionId::RttUnmapUnprotected,
         102 | 103 => FunctionId::RttReadEntry,
         104..108 => FunctionId::RttInitRipas,
+        108 | 109 => FunctionId::RttFold,
         _ => FunctionId::RttSetRipas,
     }
 }

@@ -1,9 +1,10 @@
--- Translation tables are put in, taken out and read (DEN0137, RMI_RTT_CREATE, RMI_RTT_DESTROY, RMI_RTT_READ_ENTRY).
-use Rattle.std.specs.Prelude.{ℕ, ◌-◌, not, ◌&&◌, nat_lt, nat_le, ◌==◌, if◌then◌else◌, [], ◌∷◌, Option, Some, None, is_some, unwrap_or, Result}
+-- Translation tables are put in, taken out and read (DEN0137, RMI_RTT_CREATE, RMI_RTT_DESTROY, RMI_RTT_FOLD, RMI_RTT_READ_ENTRY).
+use Rattle.std.specs.Prelude.{ℕ, ◌-◌, ◌*◌, not, ◌&&◌, nat_lt, nat_le, ◌==◌, if◌then◌else◌, [], ◌∷◌, Option, Some, None, is_some, unwrap_or, Result}
 use Rattle.rmm_spec.specs.declared.accepted.Accepted.{Accepted}
 use Rattle.rmm_spec.specs.declared.call.Call.TheVariants.{RttCreate, RttRemove, RttReadEntry}
 use Rattle.rmm_spec.specs.declared.call.Removal.{Removal}
-use Rattle.rmm_spec.specs.declared.call.Removal.TheVariants.{Destroy}
+use Rattle.rmm_spec.specs.declared.call.Removal.TheVariants.{Destroy, Fold}
+use Rattle.rmm_spec.specs.declared.entry.EntryTest.TheVariants.{Unlike}
 use Rattle.rmm_spec.specs.declared.change.Change.TheVariants.{Unchanged, TableMade, TableDestroyed}
 use Rattle.rmm_spec.specs.declared.entry.Entry.{Entry}
 use Rattle.rmm_spec.specs.declared.entry.Entry.TheVariants.{Unassigned, UnassignedNs}
@@ -12,7 +13,7 @@ use Rattle.rmm_spec.specs.declared.tag.Ripas.{Ripas}
 use Rattle.rmm_spec.specs.declared.tag.Ripas.TheVariants.{Destroyed}
 use Rattle.rmm_spec.specs.State.{State, RealmRecord}
 use Rattle.rmm_spec.specs.Lookup.{realm_at, ripas_number}
-use Rattle.rmm_spec.specs.Walk.{table_number, walk, full, half, is_table, is_in_use, entry_address, entry_ripas, entry_state}
+use Rattle.rmm_spec.specs.Walk.{table_number, walk, full, half, is_table, is_in_use, has_entry, entry_at, entry_address, entry_ripas, entry_state}
 use Rattle.rmm_spec.specs.Rows.{row, input, decided, done, table_error}
 use Rattle.rmm_spec.specs.Step.Front.{with_front}
 
@@ -33,9 +34,13 @@ rtt_create s rd rtt ipa level =
     ∷ []))
     (done [] (TableMade rd level (table_number level ipa) rtt end.entry))
 
--- The RIPAS that a table leaves where it may be taken out. RTT_DESTROY asks that no entry keeps it in use.
+-- The RIPAS that a table leaves where it may be taken out. RTT_DESTROY asks that no entry keeps it in use, and RTT_FOLD that all
+-- are unassigned alike (own).
 unfoldable pub ripas_left : Removal → State → ℕ → ℕ → ℕ → Option Ripas
 ripas_left Destroy s rd level number = if is_in_use s rd level number then None else Some Destroyed
+ripas_left Fold s rd level number =
+    let first = entry_at s rd level (512 * number) in
+    if has_entry s rd level number (Unlike first) then None else Some (entry_ripas first)
 
 unfoldable pub rtt_remove : State → Removal → ℕ → ℕ → ℕ → Result Accepted Reply
 rtt_remove s removal rd ipa level =
@@ -49,7 +54,7 @@ rtt_remove s removal rd ipa level =
     (input (nat_lt realm.start_level level)  -- level_bound
     ∷ input (nat_lt ipa (full realm))  -- ipa_bound
     ∷ row (end.level == level - 1 && is_table end.entry) (table_error end.level)  -- rtt_walk, rtte_state
-    ∷ row (is_some left) (table_error level)  -- rtt_live
+    ∷ row (is_some left) (table_error level)  -- rtt_live, own
     ∷ []))
     (done (rtt ∷ []) (TableDestroyed rd level number rtt (entry_after_table realm ipa (unwrap_or left Destroyed))))
 
