@@ -1,0 +1,5 @@
+pub mod Choice
+pub mod Ends
+pub mod Tried
+pub mod Search
+pub mod Found

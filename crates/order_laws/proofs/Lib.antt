@@ -1,0 +1,4 @@
+pub mod CallOrder
+pub mod Counts
+pub mod Growth
+pub mod Nowhere
