@@ -19,7 +19,6 @@ pub(crate) struct Choice {
 
 /// When a call is tried: in the order of the returns, and behind them, by its CPU, where it hasn't returned.
 pub(crate) fn rank(choice: &Choice) -> u32
-    requires { choice.now.cpu < 8 }
     ensures { result ≡ rank_of choice.now }
 {
     match choice.places.returned {
@@ -61,7 +60,6 @@ fn next_of(history: &History, counts: &[u32; 8], cpu: u8) -> Option<Choice>
 
 /// Which of two calls is tried first, where the second is tried at `from` or behind it.
 fn sooner(best: Option<Choice>, choice: Choice, from: u32) -> Option<Choice>
-    requires { choice.cpu < 8 }
     ensures { IsSooner best choice from result }
 {
     if rank(&choice) < from {

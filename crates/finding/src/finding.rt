@@ -1,7 +1,6 @@
 //! Orders found from a history alone.
 
-ghost use Rattle.std.specs.Prelude.{List, IfOk};
-ghost use Rattle.rmm_spec.specs.declared.line.Line.{Line};
+ghost use Rattle.std.specs.Prelude.{IfOk};
 ghost use Rattle.finding.specs.Found.{IsFound};
 
 use crate::search::{Progress, Search};
@@ -25,11 +24,11 @@ pub fn find(alloc: Global, history: &History, limit: u64) -> Result<Found, Alloc
     ensures { IfOk result (IsFound history.now.recorded) }
 {
     history.well_formed();
-    let mut search = Search::new(alloc);
+    let mut search = Search::new(alloc, history);
     for _step in 0..limit {
         match search.step(alloc, history)? {
             Progress::Going => {}
-            Progress::Whole => return Ok(Found::Order(search.certificate(alloc)?)),
+            Progress::Whole => return Ok(Found::Order(search.certificate(alloc, history)?)),
             Progress::Exhausted => return Ok(Found::None),
         }
     }

@@ -1,5 +1,16 @@
 //! An order that is begun.
 
+ghost use Rattle.std.specs.Prelude.{◌≡◌, ℕ, ◌+◌, ◌^◌, ◌<◌, [], ◌++◌, ◌∷◌, slice_set, false, Some, None, IfOk, OnOk};
+ghost use Rattle.std.specs.Bool.{MatchBool};
+ghost use Rattle.rmm_spec.specs.FirstFault.{IsRefused};
+ghost use Rattle.rmm_spec.specs.Linearization.{IsFinished, IsOfItsKind, IsReplyOf, IsReturned, cpu_named, number_named};
+ghost use Rattle.rmi_view.specs.Seen.{reply_seen};
+ghost use Rattle.history.specs.Calls.{ArePlacesOf};
+ghost use Rattle.order_laws.specs.Order.{LeadsNowhere, Reaches, ReturnBehind};
+ghost use Rattle.finding.specs.Choice.{IsLeast, IsNextCall, rank_of};
+ghost use Rattle.finding.specs.Search.{IsGiven, lines_of};
+ghost use Rattle.spec_machine.specs.View.{state_of};
+
 use crate::attempt::attempt;
 use crate::choice::{Choice, next_choice, rank};
 use crate::frame::{Frame, name_of};
@@ -15,11 +26,11 @@ use std::alloc::{AllocError, Global};
 /// behind them is kept until a line is taken back.
 #[derive(Drop)]
 pub(crate) struct Search {
-    frames: Vec<Frame>,
-    counts: [u32; 8],
-    from: u32,
-    above: Option<u64>,
-    machine: Option<Machine>,
+    pub(crate) frames: Vec<Frame>,
+    pub(crate) counts: [u32; 8],
+    pub(crate) from: u32,
+    pub(crate) above: Option<u64>,
+    pub(crate) machine: Option<Machine>,
 }
 
 /// How a search goes on.
@@ -33,8 +44,13 @@ pub(crate) enum Progress {
 }
 
 impl Search {
+    ghost use Rattle.finding.specs.Search.{Continues, IsSearch};
+
     /// No line yet.
-    pub(crate) fn new(alloc: Global) -> Search {
+    pub(crate) fn new(alloc: Global, history: &History) -> Search
+        ensures { IsSearch history.now.recorded result }
+    {
+        history.well_formed();
         Search {
             frames: Vec::new(alloc),
             counts: [0; 8],
@@ -45,12 +61,20 @@ impl Search {
     }
 
     /// The certificate of the lines.
-    pub(crate) fn certificate(&self, alloc: Global) -> Result<Certificate, AllocError> {
+    pub(crate) fn certificate(&self, alloc: Global, history: &History) -> Result<Certificate, AllocError>
+        requires { IsSearch history.now.recorded self.now }
+        ensures { IfOk result (λ certificate. certificate.lines ≡ lines_of self.now.frames.items) }
+    {
+        history.well_formed();
         certificate_of(alloc, &self.frames)
     }
 
     /// Tries one line, or takes one back.
-    pub(crate) fn step(&mut self, alloc: Global, history: &History) -> Result<Progress, AllocError> {
+    pub(crate) fn step(&mut self, alloc: Global, history: &History) -> Result<Progress, AllocError>
+        requires { IsSearch history.now.recorded self.old }
+        ensures { IfOk result (λ progress. Continues progress history.now.recorded self.new) }
+    {
+        history.well_formed();
         let Some(first) = next_choice(history, &self.counts, 0) else {
             return Ok(Progress::Whole);
         };
@@ -58,7 +82,7 @@ impl Search {
             return Ok(Progress::Whole);
         }
         let Some(choice) = next_choice(history, &self.counts, self.from) else {
-            return Ok(self.take_back());
+            return Ok(self.take_back(history));
         };
         if rank(&first) < choice.places.called {
             self.pass(choice);
@@ -69,13 +93,20 @@ impl Search {
     }
 
     /// Goes on behind a call that can't come next.
-    fn pass(&mut self, choice: Choice) {
+    fn pass(&mut self, choice: Choice)
+        requires { rank_of choice < 2 ^ 31 }
+        ensures { self.new ≡ record self.old { from = rank_of choice + 1; above = None } }
+    {
         self.from = rank(&choice) + 1;
         self.above = None;
     }
 
     /// Takes the last line back, and goes on behind it.
-    fn take_back(&mut self) -> Progress {
+    fn take_back(&mut self, history: &History) -> Progress
+        requires is_search { IsSearch history.now.recorded self.old }
+        requires nowhere { LeadsNowhere history.now.recorded (lines_of self.old.frames.items) }
+        ensures { Continues result history.now.recorded self.new }
+    {
         let Some(frame) = self.frames.pop() else {
             return Progress::Exhausted;
         };
@@ -88,7 +119,9 @@ impl Search {
     }
 
     /// The ends that are left to try for a call.
-    fn above_for(&self, choice: Choice) -> Option<u64> {
+    fn above_for(&self, choice: Choice) -> Option<u64>
+        ensures { (above : ℕ) → result ≡ Some above → (self.now.above ≡ Some above) × (rank_of choice ≡ self.now.from) }
+    {
         if rank(&choice) == self.from {
             self.above
         } else {
@@ -96,18 +129,30 @@ impl Search {
         }
     }
 
+    /// The machine behind the lines, which is made anew where it isn't kept.
+    fn machine_now(&mut self, alloc: Global, history: &History) -> Result<Machine, AllocError>
+        requires { IsSearch history.now.recorded self.old }
+        ensures machine { IfOk result (λ machine. Reaches history.now.recorded (lines_of self.old.frames.items) (state_of machine)) }
+        ensures kept { self.new ≡ record self.old { machine = None } }
+    {
+        history.well_formed();
+        match self.machine.take() {
+            Some(machine) => Ok(machine),
+            None => machine_behind(alloc, history, &self.frames),
+        }
+    }
+
     /// Tries the next line of a call.
-    fn try_choice(
-        &mut self,
-        alloc: Global,
-        history: &History,
-        choice: Choice,
-    ) -> Result<(), AllocError> {
+    fn try_choice(&mut self, alloc: Global, history: &History, choice: Choice) -> Result<(), AllocError>
+        requires is_search { IsSearch history.now.recorded self.old }
+        requires next { IsNextCall history.now.recorded self.old.counts self.old.from choice }
+        requires least { IsLeast history.now.recorded.events self.old.counts self.old.from history.now.recorded.config.cpus (rank_of choice) }
+        requires soon { ReturnBehind history.now.recorded.events (lines_of self.old.frames.items) choice.places.called }
+        ensures { OnOk result (IsSearch history.now.recorded self.new) }
+    {
+        history.well_formed();
         let above = self.above_for(choice);
-        let mut machine = match self.machine.take() {
-            Some(machine) => machine,
-            None => machine_behind(alloc, history, &self.frames)?,
-        };
+        let mut machine = self.machine_now(alloc, history)?;
         let Some(frame) = attempt(history, &machine, choice, above) else {
             self.machine = Some(machine);
             self.pass(choice);
@@ -124,7 +169,15 @@ impl Search {
     }
 
     /// Makes the order one line longer.
-    fn push(&mut self, choice: Choice, frame: Frame) -> Result<(), AllocError> {
+    fn push(&mut self, choice: Choice, frame: Frame) -> Result<(), AllocError>
+        requires cpu { choice.cpu < 8 }
+        requires number { choice.number < 1000000 }
+        ensures frames { OnOk result (self.new.frames.items ≡ self.old.frames.items ++ frame ∷ []) }
+        ensures counts { OnOk result (self.new.counts ≡ slice_set self.old.counts choice.cpu (choice.number + 1)) }
+        ensures from { OnOk result (self.new.from ≡ 0) }
+        ensures above { OnOk result (self.new.above ≡ None) }
+        ensures machine { OnOk result (self.new.machine ≡ self.old.machine) }
+    {
         self.frames.push(frame)?;
         self.counts[choice.cpu as usize] = choice.number + 1;
         self.from = 0;
@@ -139,19 +192,46 @@ fn offer(
     history: &History,
     choice: Choice,
     line: &Line,
-) -> Result<bool, AllocError> {
+) -> Result<bool, AllocError>
+    requires places { ArePlacesOf history.now.recorded.events choice.cpu choice.number choice.places }
+    requires of_cpu { cpu_named line.now ≡ choice.cpu }
+    requires numbered { number_named line.now ≡ choice.number }
+    requires kind { IsOfItsKind history.now.recorded.events line.now }
+    ensures given { IfOk result (λ given. MatchBool given
+        (IsGiven history.now.recorded.events line.now choice.places.called (state_of machine.old) (state_of machine.new))
+        (IsRefused history.now.recorded.events (state_of machine.old) line.now)) }
+    ensures kept { IfOk result (λ given. given ≡ false → state_of machine.new ≡ state_of machine.old) }
+{
+    history.well_formed();
     let Some(command) = history.command_at(choice.places.called as usize) else {
         unreachable!()
     };
-    let reply = match line {
-        Line::Keep { .. } => recorded(history, choice),
-        Line::Unfinished { reply, .. } => ReplyRef::of(reply),
-    };
+    let reply = reply_of(history, choice, line);
     machine.offer_seen(choice.cpu, command, reply)
 }
 
+/// The reply of a line: the recorded one, or the one that it claims.
+fn reply_of<'a>(history: &'a History, choice: Choice, line: &'a Line) -> ReplyRef<'a>
+    requires places { ArePlacesOf history.now.recorded.events choice.cpu choice.number choice.places }
+    requires of_cpu { cpu_named line.now ≡ choice.cpu }
+    requires numbered { number_named line.now ≡ choice.number }
+    requires kind { IsOfItsKind history.now.recorded.events line.now }
+    ensures { IsReplyOf history.now.recorded.events line.now (reply_seen result) }
+{
+    history.well_formed();
+    match line {
+        Line::Keep { .. } => recorded(history, choice),
+        Line::Unfinished { reply, .. } => ReplyRef::of(reply),
+    }
+}
+
 /// The reply that the history records of a finished call.
-fn recorded<'a>(history: &'a History, choice: Choice) -> ReplyRef<'a> {
+fn recorded<'a>(history: &'a History, choice: Choice) -> ReplyRef<'a>
+    requires places { ArePlacesOf history.now.recorded.events choice.cpu choice.number choice.places }
+    requires finished { IsFinished history.now.recorded.events choice.cpu choice.number }
+    ensures { (place : ℕ) × IsReturned history.now.recorded.events place choice.cpu choice.number (reply_seen result) }
+{
+    history.well_formed();
     let Some(returned) = choice.places.returned else {
         unreachable!()
     };

@@ -1,7 +1,8 @@
 -- The places of one CPU's events rise with their ranks: its calls and returns come one after the other.
-use Rattle.std.proofs.Common.{◌≡◌, ℕ, ◌+◌, ◌<◌, ◌≤◌, List, Some, refl, sym, ◌∙◌, ap, arith, ⊎_elim}
+use Rattle.std.proofs.Common.{◌≡◌, ℕ, ◌+◌, ◌<◌, ◌≤◌, Bool, List, length, inl, inr, ◌==◌, Some, refl, sym, ◌∙◌, ap, arith}
 use Rattle.std.specs.List.{slice_get}
 use Rattle.std.proofs.lemmas.Bool.{cases_order, cases_lt}
+use Rattle.std.proofs.lemmas.List.Sums.{length-filter, count_by-le-length}
 use Rattle.std.proofs.lemmas.Option.{same_Some}
 use Rattle.rmm_spec.specs.declared.command.Command.{Command}
 use Rattle.rmm_spec.specs.declared.event.Event.{Event}
@@ -78,3 +79,11 @@ module _ (history : History) (is_history : IsHistory history) where
   finished_below cpu number later below finished =
       let within = below-IsFinished cpu later history.events (is_history.records cpu) finished in
       IsFinished-below cpu number history.events (is_history.records cpu) (omega (arith, below, within))
+
+  -- a call's number is below the most lines of a history
+  pub few_calls : (cpu number : ℕ) → IsKnown history.events cpu number → number < 1000000
+  few_calls cpu number known =
+      let test : Event → Bool = λ e. cpu_of e == cpu in
+      let within = below-IsKnown cpu number history.events (is_history.records cpu) known in
+      let lines = is_history.lines in
+      omega (arith, within, lines, length-filter test history.events, count_by-le-length test history.events)

@@ -2,3 +2,4 @@ pub mod CallOrder
 pub mod Counts
 pub mod Growth
 pub mod Nowhere
+pub mod Short

@@ -1,6 +1,6 @@
 //! The laws of orders that are begun.
 
-ghost use Rattle.std.specs.Prelude.{ℕ, ◌<◌, List, [], ◌∷◌, ◌++◌};
+ghost use Rattle.std.specs.Prelude.{ℕ, ◌<◌, ◌≤◌, List, [], ◌∷◌, ◌++◌, length};
 ghost use Rattle.rmm_spec.specs.declared.line.Line.{Line};
 ghost use Rattle.rmm_spec.specs.HistoryText.{History, IsHistory};
 ghost use Rattle.rmm_spec.specs.State.{State, opening};
@@ -27,6 +27,11 @@ pub fn one_line_more()
 pub fn grown_order_is_linearization()
     ensures { (history : History) (lines : List Line) (last : State) → Reaches history lines last
         → ((cpu number : ℕ) → IsFinished history.events cpu number → number < count_of cpu lines) → IsLinearization history lines }
+{}
+
+/// An order has no more lines than its history has events.
+pub fn orders_are_short()
+    ensures { (history : History) (lines : List Line) (state : State) → Reaches history lines state → length lines ≤ length history.events }
 {}
 
 /// A line leads nowhere that puts a call before one which returned before that call was made.

@@ -1,0 +1,4 @@
+pub mod Choices
+pub mod TriedLaws
+pub mod Attempts
+pub mod Searches
