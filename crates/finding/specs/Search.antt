@@ -61,4 +61,4 @@ pub record IsGiven (events : List Event) (line : Line) (called : ℕ) (old new :
 abbrev pub Continues : Progress → History → Search → Type 0
 Continues progress.Going history search = IsSearch history search
 Continues progress.Whole history search = IsSearch history search × IsLinearization history (lines_of search.frames.items)
-Continues progress.Exhausted history search = LeadsNowhere history []
+Continues progress.Exhausted history search = IsSearch history search × LeadsNowhere history []

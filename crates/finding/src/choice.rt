@@ -42,7 +42,7 @@ pub(crate) fn next_choice(history: &History, counts: &[u32; 8], from: u32) -> Op
 }
 
 /// The next call of a CPU.
-fn next_of(history: &History, counts: &[u32; 8], cpu: u8) -> Option<Choice>
+pub(crate) fn next_of(history: &History, counts: &[u32; 8], cpu: u8) -> Option<Choice>
     requires { cpu < history.now.recorded.config.cpus }
     ensures some { IfSome result (IsNextCall history.now.recorded counts.now 0) }
     ensures of_cpu { IfSome result (λ choice. choice.cpu ≡ cpu) }

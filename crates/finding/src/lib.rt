@@ -10,9 +10,12 @@ mod choice;
 mod ends;
 mod finding;
 mod frame;
+mod longest;
+mod refused;
 mod restoring;
 mod search;
 
 pub use certificate::Certificate;
 pub use finding::{Found, find};
 pub use history::History;
+pub use longest::longest_order;

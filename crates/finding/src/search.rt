@@ -14,6 +14,7 @@ ghost use Rattle.spec_machine.specs.View.{state_of};
 use crate::attempt::attempt;
 use crate::choice::{Choice, next_choice, rank};
 use crate::frame::{Frame, name_of};
+use crate::refused::refused_choice;
 use crate::restoring::{certificate_of, machine_behind};
 use certificate::Certificate;
 use history::History;
@@ -31,6 +32,8 @@ pub(crate) struct Search {
     pub(crate) from: u32,
     pub(crate) above: Option<u64>,
     pub(crate) machine: Option<Machine>,
+    // no call was tried behind these lines yet
+    pub(crate) fresh: bool,
 }
 
 /// How a search goes on.
@@ -57,7 +60,13 @@ impl Search {
             from: 0,
             above: None,
             machine: None,
+            fresh: true,
         }
+    }
+
+    /// How many lines there are.
+    pub(crate) fn len(&self) -> usize {
+        self.frames.len()
     }
 
     /// The certificate of the lines.
@@ -80,6 +89,10 @@ impl Search {
         };
         if first.places.returned.is_none() {
             return Ok(Progress::Whole);
+        }
+        if self.fresh {
+            self.settle(alloc, history, rank(&first))?;
+            return Ok(Progress::Going);
         }
         let Some(choice) = next_choice(history, &self.counts, self.from) else {
             return Ok(self.take_back(history));
@@ -115,7 +128,29 @@ impl Search {
         self.from = frame.from;
         self.above = frame.above;
         self.machine = None;
+        self.fresh = false;
         Progress::Going
+    }
+
+    /// Makes the order one line longer by a call that was refused, where the specification refuses it here: that changes nothing, and the
+    /// refusal may not be given later.
+    fn settle(&mut self, alloc: Global, history: &History, bound: u32) -> Result<(), AllocError> {
+        let machine = self.machine_now(alloc, history)?;
+        let found = refused_choice(history, &machine, &self.counts, bound);
+        self.machine = Some(machine);
+        let Some(choice) = found else {
+            self.fresh = false;
+            return Ok(());
+        };
+        let frame = Frame {
+            line: Line::Keep {
+                cpu: choice.cpu,
+                number: choice.number,
+            },
+            from: 0,
+            above: None,
+        };
+        self.push(choice, frame)
     }
 
     /// The ends that are left to try for a call.
@@ -182,6 +217,7 @@ impl Search {
         self.counts[choice.cpu as usize] = choice.number + 1;
         self.from = 0;
         self.above = None;
+        self.fresh = true;
         Ok(())
     }
 }

@@ -1,10 +1,12 @@
-//! `rmmfind [--limit STEPS] HISTORY`: prints an order of the history's calls that is a linearization, as a certificate: status 0.
+//! `rmmfind [--limit STEPS] [--explain] HISTORY`: prints an order of the history's calls that is a linearization, as a certificate: status 0.
 //! Where there is none it prints `none`: status 1. Where it took so many steps without an answer it prints `gave up`: status 3.
 #![tactic(auto)]
 
+mod explaining;
 mod words;
 
-use crate::words::{Words, words_given};
+use crate::explaining::explain_none;
+use crate::words::{Asked, words_given};
 use finding::{Found, find};
 use history::HistoryFault;
 use std::alloc::{AllocError, Global};
@@ -68,16 +70,16 @@ fn run<R: Env + Files + Print + Eprint + AllocGlobal>(rt: &R) -> u8 {
 }
 
 fn found<R: Env + Files + Print + AllocGlobal>(rt: &R) -> Result<u8, Fault> {
-    let Words { limit, history } = words_given(rt)?;
-    let bytes = bytes_of(rt, history)?;
+    let words = words_given(rt)?;
+    let bytes = bytes_of(rt, words.history)?;
     let mut text = Vec::new(rt.alloc());
-    let status = answer(rt.alloc(), bytes.as_slice(), limit, &mut text)?;
+    let status = answer(rt.alloc(), bytes.as_slice(), words.asked, &mut text)?;
     print(rt, text.as_slice())?;
     Ok(status)
 }
 
 // The status, with what is to be printed.
-fn answer(alloc: Global, bytes: &[u8], limit: u64, text: &mut Vec<u8>) -> Result<u8, Fault> {
+fn answer(alloc: Global, bytes: &[u8], asked: Asked, text: &mut Vec<u8>) -> Result<u8, Fault> {
     let history = match history::read(alloc, bytes) {
         Ok(history) => history,
         Err(HistoryFault::BadLine(line)) => {
@@ -86,13 +88,16 @@ fn answer(alloc: Global, bytes: &[u8], limit: u64, text: &mut Vec<u8>) -> Result
         }
         Err(HistoryFault::NoMemory) => return Err(Fault::NoMemory),
     };
-    match find(alloc, &history, limit)? {
+    match find(alloc, &history, asked.limit)? {
         Found::Order(certificate) => {
             certificate::write(&certificate, text)?;
             Ok(0)
         }
         Found::None => {
             text.extend_from_slice(b"none\n")?;
+            if asked.explained {
+                explain_none(alloc, bytes, &history, asked.limit, text)?;
+            }
             Ok(1)
         }
         Found::GaveUp => {

@@ -8,14 +8,22 @@ use std::rt::Env;
 /// How many steps are taken where no number is given.
 const LIMIT: u64 = 10_000_000;
 
+/// How a history is to be searched.
+#[derive(Clone, Copy)]
+pub(crate) struct Asked {
+    pub(crate) limit: u64,
+    /// Whether it is told how far an order got where there is none.
+    pub(crate) explained: bool,
+}
+
 /// What is asked for.
 #[derive(Drop)]
 pub(crate) struct Words {
-    pub(crate) limit: u64,
+    pub(crate) asked: Asked,
     pub(crate) history: String,
 }
 
-/// Reads `[--limit STEPS] [--] HISTORY`.
+/// Reads `[--limit STEPS] [--explain] [--] HISTORY`.
 pub(crate) fn words_given<R: Env + AllocGlobal>(rt: &R) -> Result<Words, Fault> {
     let mut words = match env::args(rt) {
         Ok(words) => words,
@@ -29,11 +37,18 @@ pub(crate) fn words_given<R: Env + AllocGlobal>(rt: &R) -> Result<Words, Fault> 
         limit = number(words.next())?;
         next = words.next();
     }
+    let explained = is_word(&next, "--explain");
+    if explained {
+        next = words.next();
+    }
     if is_word(&next, "--") {
         next = words.next();
     }
     match (next, words.next()) {
-        (Some(history), None) => Ok(Words { limit, history }),
+        (Some(history), None) => Ok(Words {
+            asked: Asked { limit, explained },
+            history,
+        }),
         _ => Err(Fault::Arguments),
     }
 }
