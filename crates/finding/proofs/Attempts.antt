@@ -21,7 +21,7 @@ use Rattle.rmm_spec.specs.Run.{JournalEntry}
 use Rattle.rmm_spec.specs.State.{State}
 use Rattle.rmm_spec.specs.Step.{Step, CarriesOut, outcome}
 use Rattle.rmm_spec.specs.Step.Ripas.{IsReached}
-use Rattle.rmm_spec.specs.Linearization.{IsFinished, IsKnown, IsEntryOf, cpu_named, number_named}
+use Rattle.rmm_spec.specs.Linearization.{IsFinished, IsReturned, IsEntryOf, cpu_named, number_named}
 use Rattle.rmm_spec.proofs.Places.{call_is_event}
 use Rattle.history.specs.Calls.{ArePlacesOf}
 use Rattle.checker.proofs.Calls.{same_command}
@@ -40,7 +40,8 @@ use Rattle.finding.specs.declared.frame.Frame.{Frame}
 pub pending_at : (history : History) (choice : Choice) → ArePlacesOf history.events choice.cpu choice.number choice.places
     → choice.places.returned ≡ None → ¬ IsFinished history.events choice.cpu choice.number
 pending_at history choice are none =
-    subst (λ (o : Option ℕ). MatchOption o (¬ IsFinished history.events choice.cpu choice.number) (λ p. _)) none are.returned
+    subst (λ (o : Option ℕ). MatchOption o (¬ IsFinished history.events choice.cpu choice.number)
+    (λ p. (given : Reply) × IsReturned history.events p choice.cpu choice.number given)) none are.returned
 
 -- a call's CPU and number are those of a line
 pub of_a_line : (history : History) → IsHistory history → (choice : Choice) → ArePlacesOf history.events choice.cpu choice.number choice.places

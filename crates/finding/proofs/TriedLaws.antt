@@ -1,5 +1,5 @@
 -- What was tried behind an order, call by call in the order in which they are tried.
-use Rattle.std.proofs.Common.{◌≡◌, ℕ, ◌+◌, ◌^◌, ◌<◌, ◌≤◌, List, [], ◌∷◌, ◌++◌, inl, inr, length, get_or, Option, Some, None, refl, sym, ◌∙◌, ap, subst, arith}
+use Rattle.std.proofs.Common.{◌≡◌, ℕ, ◌+◌, ◌^◌, ◌<◌, ◌≤◌, List, [], ◌∷◌, ◌++◌, inl, inr, length, get_or, Option, Some, None, refl, sym, ◌∙◌, ap, subst, arith, append_assoc}
 use Rattle.std.specs.List.{slice_get}
 use Rattle.std.specs.Option.{MatchOption}
 use Rattle.std.proofs.lemmas.Bool.{cases_lt}
@@ -12,7 +12,7 @@ use Rattle.rmm_spec.specs.declared.reply.Reply.{Reply}
 use Rattle.rmm_spec.specs.HistoryText.{History, IsHistory}
 use Rattle.rmm_spec.specs.Rows.{ok}
 use Rattle.rmm_spec.specs.State.{State}
-use Rattle.rmm_spec.specs.Linearization.{IsCalled, IsReturned, IsKnown, IsFinished, cpu_named, number_named, ReturnsBefore}
+use Rattle.rmm_spec.specs.Linearization.{IsCalled, IsReturned, IsKnown, IsFinished, IsLinearization, cpu_named, number_named, ReturnsBefore}
 use Rattle.rmm_spec.proofs.Places.{call_is_event, finished_is_known}
 use Rattle.order_laws.specs.Order.{count_of, HasOpen, IsNext, LeadsNowhere, Reaches, ReturnBehind}
 use Rattle.order_laws.proofs.CallOrder.{finished_below, returns_in_order}
@@ -30,6 +30,17 @@ Tried-none history lines = record {
   pending = λ cpu number claimed pending below. absurd (omega (arith, below));
   ended = λ cpu number end bound pending at is. absurd (none-some bound is);
 }
+
+-- where the lines lead nowhere, each line behind them does
+pub Tried-all : (history : History) (lines : List Line) (from : ℕ) (above : Option ℕ) → LeadsNowhere history lines → Tried history lines from above
+Tried-all history lines from above nowhere = record {
+  returned = λ cpu number place given is_returned below. behind (Keep cpu number);
+  pending = λ cpu number claimed pending below. behind (Unfinished cpu number claimed);
+  ended = λ cpu number end bound pending at is within. behind (Unfinished cpu number (ok (end ∷ [])));
+}
+  where
+    behind : (line : Line) → LeadsNowhere history (lines ++ line ∷ [])
+    behind line = record { none = λ more valid. nowhere.none (line ∷ more) (subst (IsLinearization history) (append_assoc lines (line ∷ []) more) valid) }
 
 module _ (history : History) (is_history : IsHistory history) (lines : List Line) (state : State) (reached : Reaches history lines state) (counts : List ℕ) (are_counts : AreCounts counts lines) where
   -- a call is of one of the machine's CPUs

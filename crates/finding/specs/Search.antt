@@ -3,15 +3,17 @@ use Rattle.std.specs.Prelude.{◌≡◌, ℕ, ◌<◌, List, [], ◌∷◌, ◌+
 use Rattle.rmm_spec.specs.declared.command.Command.{Command}
 use Rattle.rmm_spec.specs.declared.event.Event.{Event}
 use Rattle.rmm_spec.specs.declared.line.Line.{Line}
+use Rattle.rmm_spec.specs.declared.reply.Reply.{Reply}
 use Rattle.rmm_spec.specs.Run.{JournalEntry}
 use Rattle.rmm_spec.specs.Step.{Step}
 use Rattle.rmm_spec.specs.HistoryText.{History}
 use Rattle.rmm_spec.specs.CertificateText.{IsLine}
 use Rattle.rmm_spec.specs.State.{State}
-use Rattle.rmm_spec.specs.Linearization.{IsCalled, IsEntryOf, IsLinearization, cpu_named, number_named}
+use Rattle.rmm_spec.specs.Linearization.{IsCalled, IsReturned, IsEntryOf, IsLinearization, cpu_named, number_named}
 use Rattle.spec_machine.specs.View.{state_of}
-use Rattle.order_laws.specs.Order.{LeadsNowhere, Reaches, IsNext, count_of}
+use Rattle.order_laws.specs.Order.{IsNext, IsRefusal, LeadsNowhere, Reaches, count_of}
 use Rattle.finding.specs.Tried.{Tried}
+use Rattle.finding.specs.declared.choice.Choice.{Choice}
 use Rattle.finding.specs.declared.frame.Frame.{Frame}
 use Rattle.finding.specs.declared.search.Search.{Search}
 use Rattle.finding.specs.declared.search.Progress.{Progress}
@@ -45,9 +47,19 @@ pub record IsSearch (history : History) (search : Search) : Type 0 where
   pub frames : AreFrames history search.frames.items
   pub state : State
   pub reached : Reaches history (lines_of search.frames.items) state
-  pub machine : IfSome search.machine (λ machine. state_of machine ≡ state)
+  pub machine : IfSome search.machine (λ machine. Reaches history (lines_of search.frames.items) (state_of machine))
   pub counts : AreCounts search.counts (lines_of search.frames.items)
   pub tried : Tried history (lines_of search.frames.items) search.from search.above
+
+-- the call has returned with a refusal that the specification gives it in the state
+pub record IsRefusedHere (history : History) (state : State) (choice : Choice) : Type 0 where
+  pub place : ℕ
+  pub given : Reply
+  pub is_returned : IsReturned history.events place choice.cpu choice.number given
+  pub refusal : IsRefusal given
+  pub command : Command
+  pub is_called : IsCalled history.events choice.places.called choice.cpu choice.number command
+  pub step : Step state choice.cpu command given state
 
 -- the machine gives the one commit that the line claims
 pub record IsGiven (events : List Event) (line : Line) (called : ℕ) (old new : State) : Type 0 where

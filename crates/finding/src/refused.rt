@@ -1,5 +1,11 @@
 //! Calls that were refused, and are refused where an order has come to.
 
+ghost use Rattle.std.specs.Prelude.{◌≤◌, IfSome, IsTrue};
+ghost use Rattle.history.specs.Calls.{ArePlacesOf};
+ghost use Rattle.spec_machine.specs.View.{state_of};
+ghost use Rattle.finding.specs.Choice.{IsNextCall};
+ghost use Rattle.finding.specs.Search.{IsRefusedHere};
+
 use crate::choice::{Choice, next_of};
 use history::History;
 use rmi_view::ReplyRef;
@@ -11,7 +17,11 @@ pub(crate) fn refused_choice(
     machine: &Machine,
     counts: &[u32; 8],
     bound: u32,
-) -> Option<Choice> {
+) -> Option<Choice>
+    ensures next { IfSome result (IsNextCall history.now.recorded counts.now 0) }
+    ensures bound { IfSome result (λ choice. choice.places.called ≤ bound) }
+    ensures refused { IfSome result (IsRefusedHere history.now.recorded (state_of machine.now)) }
+{
     for cpu in 0..history.config().cpus() {
         if let Some(choice) = next_of(history, counts, cpu) {
             if choice.places.called <= bound && is_refused(history, machine, choice) {
@@ -23,7 +33,11 @@ pub(crate) fn refused_choice(
 }
 
 /// Whether the call has returned with the refusal that the specification gives it here.
-fn is_refused(history: &History, machine: &Machine, choice: Choice) -> bool {
+fn is_refused(history: &History, machine: &Machine, choice: Choice) -> bool
+    requires { ArePlacesOf history.now.recorded.events choice.cpu choice.number choice.places }
+    ensures { IsTrue result → IsRefusedHere history.now.recorded (state_of machine.now) choice }
+{
+    history.well_formed();
     let Some(returned) = choice.places.returned else {
         return false;
     };

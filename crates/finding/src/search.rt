@@ -132,9 +132,14 @@ impl Search {
         Progress::Going
     }
 
-    /// Makes the order one line longer by a call that was refused, where the specification refuses it here: that changes nothing, and the
-    /// refusal may not be given later.
-    fn settle(&mut self, alloc: Global, history: &History, bound: u32) -> Result<(), AllocError> {
+    /// Makes the order one line longer by a call that was refused, where the specification refuses it here. That changes nothing, so
+    /// that nothing else need be tried.
+    fn settle(&mut self, alloc: Global, history: &History, bound: u32) -> Result<(), AllocError>
+        requires is_search { IsSearch history.now.recorded self.old }
+        requires least { IsLeast history.now.recorded.events self.old.counts 0 history.now.recorded.config.cpus bound }
+        ensures { OnOk result (IsSearch history.now.recorded self.new) }
+    {
+        history.well_formed();
         let machine = self.machine_now(alloc, history)?;
         let found = refused_choice(history, &machine, &self.counts, bound);
         self.machine = Some(machine);
@@ -147,7 +152,7 @@ impl Search {
                 cpu: choice.cpu,
                 number: choice.number,
             },
-            from: 0,
+            from: u32::MAX,
             above: None,
         };
         self.push(choice, frame)

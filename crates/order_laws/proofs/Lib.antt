@@ -3,3 +3,5 @@ pub mod Counts
 pub mod Growth
 pub mod Nowhere
 pub mod Short
+pub mod Moves
+pub mod Settled

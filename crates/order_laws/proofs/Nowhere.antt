@@ -4,7 +4,7 @@ use Rattle.std.specs.List.{slice_get}
 use Rattle.std.proofs.Math.Seq.{take-append_seam}
 use Rattle.std.proofs.lemmas.Bool.{cases_lt, cases_order}
 use Rattle.std.proofs.lemmas.Option.{slice_get_within}
-use Rattle.std.proofs.lemmas.List.{append-nil}
+use Rattle.std.proofs.lemmas.List.{append-nil, length-append}
 use Rattle.rmm_spec.specs.declared.line.Line.{Line}
 use Rattle.rmm_spec.specs.HistoryText.{History, IsHistory}
 use Rattle.rmm_spec.specs.State.{State, opening}
@@ -43,15 +43,15 @@ module _ (history : History) (is_history : IsHistory history) (lines : List Line
             | inr last ↦
                 let of_cpu : cpu_named line ≡ cpu = sym (ap cpu_named last.1) ∙ at.3 in
                 let numbered : number_named line ≡ number = sym (ap number_named last.1) ∙ at.4 in
-                let self : ReturnsBefore history.events cpu number cpu number =
+                let itself : ReturnsBefore history.events cpu number cpu number =
                 subst (λ (n : ℕ). ReturnsBefore history.events cpu number cpu n) numbered
                 (subst (λ (c : ℕ). ReturnsBefore history.events cpu number c (number_named line)) of_cpu returns) in
-                let after = call_before_return history is_history cpu number self.called self.returned self.command self.given self.is_called self.is_returned in
-                let before = self.before in
+                let after = call_before_return history is_history cpu number itself.called itself.returned itself.command itself.given itself.is_called itself.is_returned in
+                let before = itself.before in
                 omega (arith, after, before)
           ]
           | inr behind ↦
-              let longer : length (lines ++ line ∷ []) ≡ length lines + 1 = grind (arith) in
+              let longer : length (lines ++ line ∷ []) ≡ length lines + 1 = length-append lines (line ∷ []) in
               valid.real_time (length lines) at.0 line at.1 (omega (arith, behind, longer)) (line_stands lines line more) at.2
               (subst (λ (n : ℕ). ReturnsBefore history.events (cpu_named at.1) n (cpu_named line) (number_named line)) (sym at.4)
               (subst (λ (c : ℕ). ReturnsBefore history.events c number (cpu_named line) (number_named line)) (sym at.3) returns))

@@ -21,11 +21,11 @@ record Placed (events : List Event) (lines : List Line) : Type 0 where
   each : (i : ℕ) (line : Line) → slice_get lines i ≡ Some line
       → (command : Command) × IsCalled events (get_or places i 0) (cpu_named line) (number_named line) command
 
-placed : (events : List Event) (lines : List Line) → ((i : ℕ) (line : Line) → slice_get lines i ≡ Some line → NamesCall events line) → Placed events lines
-placed events [] known = record { places = []; counted = refl; each = λ i line is. absurd (none-some line is) }
-placed events (first ∷ lines) known =
+places_of : (events : List Event) (lines : List Line) → ((i : ℕ) (line : Line) → slice_get lines i ≡ Some line → NamesCall events line) → Placed events lines
+places_of events [] known = record { places = []; counted = refl; each = λ i line is. absurd (none-some line is) }
+places_of events (first ∷ lines) known =
     let call = known 0 first refl in
-    let rest = placed events lines (λ i line is. known (suc i) line is) in
+    let rest = places_of events lines (λ i line is. known (suc i) line is) in
     record { places = call.0 ∷ rest.places; counted = ap (λ (n : ℕ). suc n) rest.counted; each = each call rest }
   where
     each : (call : NamesCall events first) (rest : Placed events lines) (i : ℕ) (line : Line) → slice_get (first ∷ lines) i ≡ Some line
@@ -41,7 +41,8 @@ any_default xs i d e inside = same_Some (get_or xs i d) (get_or xs i e) (sym (sl
 module _ (events : List Event) (lines : List Line) (names : NamesCalls events lines) (at : Placed events lines) where
   -- an element of the places is that of a line
   element : (i : ℕ) → i < length at.places → (line : Line) × (slice_get lines i ≡ Some line)
-  element i within = elim (slice_get_cases lines i).1 [
+  element i within =
+      let cases = slice_get_cases lines i in elim cases.1 [
     | inl there ↦ (there.0, there.2)
     | inr past ↦ let counted = at.counted in absurd (omega (arith, counted, within, past.0))
   ]
@@ -87,4 +88,4 @@ module _ (events : List Event) (lines : List Line) (names : NamesCalls events li
       omega (arith, counted, few)
 
 pub length-lines : (events : List Event) (lines : List Line) → NamesCalls events lines → length lines ≤ length events
-length-lines events lines names = short events lines names (placed events lines names.known)
+length-lines events lines names = short events lines names (places_of events lines names.known)

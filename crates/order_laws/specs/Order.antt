@@ -1,9 +1,10 @@
 -- Orders that are begun: which calls stand in them, which can come next, and which no certificate continues.
-use Rattle.std.specs.Prelude.{◌≡◌, ℕ, ◌+◌, ◌<◌, ◌≤◌, ◌==◌, if◌then◌else◌, List, [], ◌∷◌, ◌++◌}
+use Rattle.std.specs.Prelude.{⊤, ◌≡◌, ℕ, ◌+◌, ◌<◌, ◌≤◌, ◌==◌, if◌then◌else◌, List, [], ◌∷◌, ◌++◌}
 use Rattle.rmm_spec.specs.declared.command.Command.{Command}
 use Rattle.rmm_spec.specs.declared.event.Event.{Event}
 use Rattle.rmm_spec.specs.declared.line.Line.{Line}
 use Rattle.rmm_spec.specs.declared.reply.Reply.{Reply}
+use Rattle.rmm_spec.specs.declared.reply.Reply.TheVariants as reply
 use Rattle.rmm_spec.specs.HistoryText.{History}
 use Rattle.rmm_spec.specs.State.{State}
 use Rattle.rmm_spec.specs.Step.{Step}
@@ -62,3 +63,9 @@ pub record Grows (history : History) (lines : List Line) (old : State) (line : L
   pub entry : JournalEntry
   pub is_entry : IsEntryOf history.events line entry
   pub step : Step old entry.cpu entry.command entry.given new
+
+-- a condition didn't hold, or the CPU is elsewhere: nothing changed
+abbrev pub IsRefusal : Reply → Type 0
+IsRefusal (reply.Ok words) = ⊥
+IsRefusal (reply.Err status index) = ⊤
+IsRefusal reply.Misplaced = ⊤

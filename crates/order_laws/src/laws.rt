@@ -2,10 +2,11 @@
 
 ghost use Rattle.std.specs.Prelude.{ℕ, ◌<◌, ◌≤◌, List, [], ◌∷◌, ◌++◌, length};
 ghost use Rattle.rmm_spec.specs.declared.line.Line.{Line};
+ghost use Rattle.rmm_spec.specs.declared.line.Line.TheVariants as line;
 ghost use Rattle.rmm_spec.specs.HistoryText.{History, IsHistory};
 ghost use Rattle.rmm_spec.specs.State.{State, opening};
 ghost use Rattle.rmm_spec.specs.Linearization.{IsFinished, IsLinearization, ReturnsBefore, cpu_named, number_named};
-ghost use Rattle.order_laws.specs.Order.{GivesNowhere, Grows, HasOpen, IsNext, LeadsNowhere, Reaches, count_of};
+ghost use Rattle.order_laws.specs.Order.{GivesNowhere, Grows, HasOpen, IsNext, IsRefusal, LeadsNowhere, Reaches, count_of};
 
 /// Where the order without a line leads nowhere, no certificate at all is a linearization.
 pub fn open_beginning_is_no_order()
@@ -52,6 +53,14 @@ pub fn nowhere_unless_next()
 pub fn nowhere_by_replies()
     ensures { (history : History) (lines : List Line) (state : State) (line : Line) → IsHistory history
         → Reaches history lines state → GivesNowhere history lines state line → LeadsNowhere history (lines ++ line ∷ []) }
+{}
+
+/// A finished call that can come next, and was refused as the specification refuses it there, may come next at once: where it leads
+/// nowhere, the order leads nowhere.
+pub fn nowhere_after_a_refusal()
+    ensures { (history : History) (lines : List Line) (state : State) (cpu number : ℕ) → IsHistory history
+        → Reaches history lines state → (grows : Grows history lines state (line.Keep cpu number) state) → IsRefusal grows.entry.given
+        → LeadsNowhere history (lines ++ line.Keep cpu number ∷ []) → LeadsNowhere history lines }
 {}
 
 /// Where a finished call isn't in the order yet, and each line that can come next leads nowhere, the order leads nowhere.
