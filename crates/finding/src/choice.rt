@@ -34,9 +34,10 @@ pub(crate) fn next_choice(history: &History, counts: &[u32; 8], from: u32) -> Op
 {
     let mut best = None;
     for cpu in 0..history.config().cpus() {
-        if let Some(choice) = next_of(history, counts, cpu) {
-            best = sooner(best, choice, from);
-        }
+        let Some(choice) = next_of(history, counts, cpu) else {
+            continue;
+        };
+        best = sooner(best, choice, from);
     }
     best
 }
@@ -66,7 +67,13 @@ fn sooner(best: Option<Choice>, choice: Choice, from: u32) -> Option<Choice>
         return best;
     }
     match best {
-        Some(first) if rank(&first) <= rank(&choice) => Some(first),
-        _ => Some(choice),
+        None => Some(choice),
+        Some(first) => {
+            if rank(&first) <= rank(&choice) {
+                Some(first)
+            } else {
+                Some(choice)
+            }
+        }
     }
 }

@@ -23,10 +23,11 @@ pub(crate) fn refused_choice(
     ensures refused { IfSome result (IsRefusedHere history.now.recorded (state_of machine.now)) }
 {
     for cpu in 0..history.config().cpus() {
-        if let Some(choice) = next_of(history, counts, cpu) {
-            if choice.places.called <= bound && is_refused(history, machine, choice) {
-                return Some(choice);
-            }
+        let Some(choice) = next_of(history, counts, cpu) else {
+            continue;
+        };
+        if choice.places.called <= bound && is_refused(history, machine, choice) {
+            return Some(choice);
         }
     }
     None
