@@ -122,7 +122,9 @@ module _ (history : History) (is_history : IsHistory history) (lines : List Line
         at (Some p) told same =
             let both : Some (Returned cpu number given) ≡ Some (Returned choice.cpu choice.number told.0) =
             sym is_returned ∙ ap (λ (q : ℕ). slice_get history.events q) (sym same) ∙ told.1 in
-            nowhere (Keep cpu number) cc cc (place, given, is_returned)
+            let of_cpu : cpu ≡ choice.cpu = cc in
+            let numbered : number ≡ choice.number = cc in
+            nowhere (Keep cpu number) of_cpu numbered (place, given, is_returned)
 
     -- and so where it hasn't returned
     pending_cpu : (cpu : ℕ) → rank_of choice ≡ pending_rank cpu → cpu ≡ choice.cpu

@@ -51,7 +51,9 @@ pub(crate) fn next_of(history: &History, counts: &[u32; 8], cpu: u8) -> Option<C
 {
     let _in_limits = history.config().cpus();
     let number = counts[cpu as usize];
-    let places = history.places_of(cpu, number)?;
+    let Some(places) = history.places_of(cpu, number) else {
+        return None;
+    };
     Some(Choice {
         cpu,
         number,

@@ -70,7 +70,11 @@ impl Search {
     }
 
     /// The certificate of the lines.
-    pub(crate) fn certificate(&self, alloc: Global, history: &History) -> Result<Certificate, AllocError>
+    pub(crate) fn certificate(
+        &self,
+        alloc: Global,
+        history: &History,
+    ) -> Result<Certificate, AllocError>
         requires { IsSearch history.now.recorded self.now }
         ensures { IfOk result (λ certificate. certificate.lines ≡ lines_of self.now.frames.items) }
     {
@@ -183,7 +187,12 @@ impl Search {
     }
 
     /// Tries the next line of a call.
-    fn try_choice(&mut self, alloc: Global, history: &History, choice: Choice) -> Result<(), AllocError>
+    fn try_choice(
+        &mut self,
+        alloc: Global,
+        history: &History,
+        choice: Choice,
+    ) -> Result<(), AllocError>
         requires is_search { IsSearch history.now.recorded self.old }
         requires next { IsNextCall history.now.recorded self.old.counts self.old.from choice }
         requires least { IsLeast history.now.recorded.events self.old.counts self.old.from history.now.recorded.config.cpus (rank_of choice) }

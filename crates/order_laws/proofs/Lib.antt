@@ -5,3 +5,4 @@ pub mod Nowhere
 pub mod Short
 pub mod Moves
 pub mod Settled
+pub mod Configurations

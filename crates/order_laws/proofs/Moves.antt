@@ -37,11 +37,21 @@ Pairs-at R (z ∷ xs) i zero x y pairs below is there = absurd (omega (arith, be
 Pairs-at R (z ∷ xs) zero (suc j) x y pairs below is there = subst (λ w. R w y) (same_Some z x is) (Each-at (R z) xs j y pairs.0 there)
 Pairs-at R (z ∷ xs) (suc i) (suc j) x y pairs below is there = Pairs-at R xs i j x y pairs.1 (omega (arith, below)) is there
 
--- ---- an element taken out of the middle
-
 pub Each-append : {X : Type 0} (P : X → Type 0) (xs ys : List X) → Each P xs → Each P ys → Each P (xs ++ ys)
 Each-append P [] ys each more = more
 Each-append P (x ∷ xs) ys each more = (each.0, Each-append P xs ys each.1 more)
+
+-- each element of a list and each of another
+pub Pairs-append : {X : Type 0} (R : X → X → Type 0) (xs ys : List X) → Pairs R xs → Pairs R ys → Each (λ x. Each (R x) ys) xs → Pairs R (xs ++ ys)
+Pairs-append R [] ys pairs more across = more
+Pairs-append R (x ∷ xs) ys pairs more across =
+    (Each-append (R x) xs ys pairs.0 across.0, Pairs-append R xs ys pairs.1 more across.1)
+
+pub Pairs-behind : {X : Type 0} (R : X → X → Type 0) (xs ys : List X) → Pairs R (xs ++ ys) → Pairs R ys
+Pairs-behind R [] ys pairs = pairs
+Pairs-behind R (x ∷ xs) ys pairs = Pairs-behind R xs ys pairs.1
+
+-- ---- an element taken out of the middle
 
 Each-without : {X : Type 0} (P : X → Type 0) (front back : List X) (x : X) → Each P (front ++ x ∷ back) → Each P (front ++ back)
 Each-without P [] back x each = each.1

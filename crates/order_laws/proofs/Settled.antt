@@ -28,16 +28,16 @@ use Rattle.order_laws.proofs.Moves.{Each, Pairs, Each-from_places, Each-at, Pair
 -- ---- runs
 
 -- the commits of lines in two parts
-record Split (events : List Event) (xs ys : List Line) (start last : State) : Type 0 where
-  first : List JournalEntry
-  rest : List JournalEntry
-  middle : State
-  claimed : AreEntriesOf events xs first
-  later : AreEntriesOf events ys rest
-  run : IsRun start first middle
-  further : IsRun middle rest last
+pub record Split (events : List Event) (xs ys : List Line) (start last : State) : Type 0 where
+  pub first : List JournalEntry
+  pub rest : List JournalEntry
+  pub middle : State
+  pub claimed : AreEntriesOf events xs first
+  pub later : AreEntriesOf events ys rest
+  pub run : IsRun start first middle
+  pub further : IsRun middle rest last
 
-split_run : (events : List Event) (xs ys : List Line) (entries : List JournalEntry) (start last : State) → AreEntriesOf events (xs ++ ys) entries
+pub split_run : (events : List Event) (xs ys : List Line) (entries : List JournalEntry) (start last : State) → AreEntriesOf events (xs ++ ys) entries
     → IsRun start entries last → Split events xs ys start last
 split_run events [] ys entries start last claimed run =
     record { first = []; rest = entries; middle = start; claimed = tt; later = claimed; run = refl; further = run }
@@ -54,7 +54,7 @@ split_run events (x ∷ xs) ys (e ∷ entries) start last claimed run =
       further = rest.further;
     }
 
-claimed-append : (events : List Event) (xs ys : List Line) (es fs : List JournalEntry) → AreEntriesOf events xs es → AreEntriesOf events ys fs
+pub claimed-append : (events : List Event) (xs ys : List Line) (es fs : List JournalEntry) → AreEntriesOf events xs es → AreEntriesOf events ys fs
     → AreEntriesOf events (xs ++ ys) (es ++ fs)
 claimed-append events [] ys [] fs here there = there
 claimed-append events [] ys (e ∷ es) fs here there = absurd here
@@ -72,7 +72,7 @@ same_next old entry other new next same here there =
     step-decides old new next entry.cpu entry.command entry.given here there2
 
 -- lines lead to one state
-same_state : (events : List Event) → HasOnePlaces events → (lines : List Line) (es fs : List JournalEntry) (start one other : State)
+pub same_state : (events : List Event) → HasOnePlaces events → (lines : List Line) (es fs : List JournalEntry) (start one other : State)
     → AreEntriesOf events lines es → IsRun start es one → AreEntriesOf events lines fs → IsRun start fs other → one ≡ other
 same_state events places [] [] [] start one other here run there ran = run ∙ sym ran
 same_state events places [] (e ∷ es) fs start one other here run there ran = absurd here
@@ -99,7 +99,7 @@ run-without (e ∷ front) back entry start last keeps run = (run.0, run.1, run-w
 -- ---- lines
 
 -- what is asked of two lines, the first before the second
-abbrev Apart : List Event → Line → Line → Type 0
+abbrev pub Apart : List Event → Line → Line → Type 0
 Apart events line later =
     (¬ NamesSame line later) × (¬ ReturnsBefore events (cpu_named later) (number_named later) (cpu_named line) (number_named line))
 
@@ -110,11 +110,11 @@ place_behind (x ∷ xs) ys i =
     let next : suc (length xs) + i ≡ suc (length xs + i) = omega arith in
     ap (λ (n : ℕ). slice_get (x ∷ (xs ++ ys)) n) next ∙ place_behind xs ys i
 
-behind : {X : Type 0} (xs ys : List X) (i : ℕ) (x : X) → slice_get ys i ≡ Some x → slice_get (xs ++ ys) (length xs + i) ≡ Some x
+pub behind : {X : Type 0} (xs ys : List X) (i : ℕ) (x : X) → slice_get ys i ≡ Some x → slice_get (xs ++ ys) (length xs + i) ≡ Some x
 behind xs ys i x is = place_behind xs ys i ∙ is
 
 -- an element of two lists is one of the first or of the second
-in_either : {X : Type 0} (xs ys : List X) (i : ℕ) (x : X) → slice_get (xs ++ ys) i ≡ Some x → (slice_get xs i ≡ Some x) ⊎ ((j : ℕ) × (slice_get ys j ≡ Some x))
+pub in_either : {X : Type 0} (xs ys : List X) (i : ℕ) (x : X) → slice_get (xs ++ ys) i ≡ Some x → (slice_get xs i ≡ Some x) ⊎ ((j : ℕ) × (slice_get ys j ≡ Some x))
 in_either [] ys i x is = inr (i, is)
 in_either (y ∷ xs) ys zero x is = inl is
 in_either (y ∷ xs) ys (suc i) x is = in_either xs ys i x is

@@ -43,9 +43,9 @@ module _ (events : List Event) (lines : List Line) (names : NamesCalls events li
   element : (i : ℕ) → i < length at.places → (line : Line) × (slice_get lines i ≡ Some line)
   element i within =
       let cases = slice_get_cases lines i in elim cases.1 [
-    | inl there ↦ (there.0, there.2)
-    | inr past ↦ let counted = at.counted in absurd (omega (arith, counted, within, past.0))
-  ]
+        | inl there ↦ (there.0, there.2)
+        | inr past ↦ let counted = at.counted in absurd (omega (arith, counted, within, past.0))
+      ]
 
   -- two lines' calls are two
   apart : (i j d : ℕ) → i < j → j < length at.places → eqb (get_or at.places i d) (get_or at.places j d) ≡ false

@@ -1,6 +1,6 @@
 //! The laws of orders that are begun.
 
-ghost use Rattle.std.specs.Prelude.{ℕ, ◌<◌, ◌≤◌, List, [], ◌∷◌, ◌++◌, length};
+ghost use Rattle.std.specs.Prelude.{◌≡◌, ℕ, ◌<◌, ◌≤◌, List, [], ◌∷◌, ◌++◌, length};
 ghost use Rattle.rmm_spec.specs.declared.line.Line.{Line};
 ghost use Rattle.rmm_spec.specs.declared.line.Line.TheVariants as line;
 ghost use Rattle.rmm_spec.specs.HistoryText.{History, IsHistory};
@@ -61,6 +61,12 @@ pub fn nowhere_after_a_refusal()
     ensures { (history : History) (lines : List Line) (state : State) (cpu number : ℕ) → IsHistory history
         → Reaches history lines state → (grows : Grows history lines state (line.Keep cpu number) state) → IsRefusal grows.entry.given
         → LeadsNowhere history (lines ++ line.Keep cpu number ∷ []) → LeadsNowhere history lines }
+{}
+
+/// Two orders of the same calls that lead to one state: where the one leads nowhere, the other does.
+pub fn nowhere_by_configuration()
+    ensures { (history : History) (one other : List Line) (state : State) → IsHistory history → Reaches history one state → Reaches history other state
+        → ((cpu : ℕ) → count_of cpu one ≡ count_of cpu other) → LeadsNowhere history one → LeadsNowhere history other }
 {}
 
 /// Where a finished call isn't in the order yet, and each line that can come next leads nowhere, the order leads nowhere.

@@ -8,7 +8,7 @@
 mod laws;
 
 pub use laws::{
-    grown_order_is_linearization, no_line_reaches_opening, nowhere_after_a_refusal, nowhere_after_each_next,
-    nowhere_by_replies, nowhere_past_a_return, nowhere_unless_next, one_line_more,
-    open_beginning_is_no_order, orders_are_short,
+    grown_order_is_linearization, no_line_reaches_opening, nowhere_after_a_refusal,
+    nowhere_after_each_next, nowhere_by_configuration, nowhere_by_replies, nowhere_past_a_return,
+    nowhere_unless_next, one_line_more, open_beginning_is_no_order, orders_are_short,
 };
