@@ -26,7 +26,7 @@ from judge import BadLine, judge, read_history
 from machine import Machine
 
 PROGRAM = os.path.join(os.path.dirname(os.path.abspath(__file__)), "../crates/rmmfind/out/rmmfind")
-HISTORIES_A_TASK = 50
+HISTORIES_A_TASK = 25
 
 
 def next_machines(machine, cpu, function, words, reply):

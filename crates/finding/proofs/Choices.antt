@@ -1,5 +1,5 @@
 -- The next call that is tried first, CPU by CPU.
-use Rattle.std.proofs.Common.{◌≡◌, ℕ, ◌+◌, ◌<◌, ◌≤◌, ◌⊎◌, inl, inr, List, get_or, Option, Some, None, refl, sym, ◌∙◌, ap, subst, arith}
+use Rattle.std.proofs.Common.{◌≡◌, ℕ, ◌+◌, ◌^◌, ◌<◌, ◌≤◌, ◌⊎◌, inl, inr, List, get_or, Option, Some, None, refl, sym, ◌∙◌, ap, subst, arith}
 use Rattle.std.specs.Option.{MatchOption, IfSome}
 use Rattle.std.proofs.lemmas.Bool.{cases_lt}
 use Rattle.rmm_spec.specs.declared.event.Event.{Event}
@@ -36,6 +36,14 @@ pub IsLeast-none : (events : List Event) (counts : List ℕ) (from least : ℕ) 
 IsLeast-none events counts from least = record {
   returned = λ cpu place given within. absurd (omega (arith, within));
   pending = λ cpu within. absurd (omega (arith, within));
+}
+
+-- what is said of more CPUs is said of fewer
+pub IsLeast-fewer : (events : List Event) (counts : List ℕ) (from bound fewer least : ℕ) → fewer ≤ bound → IsLeast events counts from bound least
+    → IsLeast events counts from fewer least
+IsLeast-fewer events counts from bound fewer least few all = record {
+  returned = λ cpu place given within. all.returned cpu place given (omega (arith, within, few));
+  pending = λ cpu within. all.pending cpu (omega (arith, within, few));
 }
 
 -- a CPU that has no next call
@@ -105,3 +113,26 @@ IsNextCall-sooner history counts from best sooner choice so_far next is_sooner =
       record { of_machine = next.of_machine; numbered = next.numbered; places = next.places; ranked = new.1 } in
       subst (λ (o : Option Choice). IfSome o (IsNextCall history counts from)) (sym new.0) is_next
 ]
+
+-- ---- which of two is tried first
+
+-- the second is tried before the rank
+pub IsSooner-kept : (best : Option Choice) (choice : Choice) (from : ℕ) → rank_of choice < from → IsSooner best choice from best
+IsSooner-kept best choice from early = record {
+  which = inl refl;
+  no_later = omega arith;
+  least = λ late. absurd (omega (arith, early, late));
+}
+
+-- there is no first
+pub IsSooner-none : (choice : Choice) (from : ℕ) → from ≤ rank_of choice → rank_of choice < 2 ^ 32 → IsSooner None choice from (Some choice)
+IsSooner-none choice from late small = record { which = inr (refl, late); no_later = omega (arith, small); least = λ _. omega arith }
+
+-- the first is tried first
+pub IsSooner-first : (first choice : Choice) (from : ℕ) → rank_of first ≤ rank_of choice → IsSooner (Some first) choice from (Some first)
+IsSooner-first first choice from before = record { which = inl refl; no_later = omega arith; least = λ _. before }
+
+-- the second is
+pub IsSooner-second : (first choice : Choice) (from : ℕ) → from ≤ rank_of choice → rank_of choice < rank_of first
+    → IsSooner (Some first) choice from (Some choice)
+IsSooner-second first choice from late before = record { which = inr (refl, late); no_later = omega (arith, before); least = λ _. omega arith }

@@ -4,7 +4,7 @@ ghost use Rattle.std.specs.Prelude.{◌≡◌, ◌+◌, ◌^◌, ◌<◌, ℕ, L
 ghost use Rattle.rmm_spec.specs.declared.command.Command.{Command};
 ghost use Rattle.rmm_spec.specs.declared.line.Line.{Line};
 ghost use Rattle.rmm_spec.specs.declared.line.Line.TheVariants as line;
-ghost use Rattle.rmm_spec.specs.HistoryText.{History};
+ghost use Rattle.rmm_spec.specs.HistoryText.{History as Recorded};
 ghost use Rattle.rmm_spec.specs.CommandText.{IsReply};
 ghost use Rattle.rmm_spec.specs.Rows.{ok};
 ghost use Rattle.rmm_spec.specs.State.{State};
@@ -64,7 +64,7 @@ fn kept(choice: Choice) -> Frame
 /// The line of a call that hasn't returned, by what the specification answers it.
 fn claim(choice: Choice, outcome: Result<Accepted, Reply>, above: Option<u64>) -> Option<Frame>
     requires { rank_of choice < 2 ^ 31 }
-    ensures { (history : History) (lines : List Line) (state : State) (command : Command) → IsAnswered history choice state command outcome
+    ensures { (history : Recorded) (lines : List Line) (state : State) (command : Command) → IsAnswered history choice state command outcome
         → MayTry history lines state choice above → IsTriedNext history lines choice result }
 {
     match outcome {

@@ -6,7 +6,7 @@ ghost use Rattle.spec_machine.specs.View.{state_of};
 ghost use Rattle.finding.specs.Choice.{IsNextCall};
 ghost use Rattle.finding.specs.Search.{IsRefusedHere};
 
-use crate::choice::{Choice, next_of};
+use crate::choice::{Choice, cpus_of, next_of};
 use history::History;
 use rmi_view::ReplyRef;
 use spec_machine::Machine;
@@ -22,7 +22,7 @@ pub(crate) fn refused_choice(
     ensures bound { IfSome result (λ choice. choice.places.called ≤ bound) }
     ensures refused { IfSome result (IsRefusedHere history.now.recorded (state_of machine.now)) }
 {
-    for cpu in 0..history.config().cpus() {
+    for cpu in 0..cpus_of(history) {
         let Some(choice) = next_of(history, counts, cpu) else {
             continue;
         };
