@@ -2,9 +2,11 @@
 use Rattle.std.proofs.Common.{◌≡◌, ℕ, ◌+◌, ◌^◌, ◌<◌, ◌≤◌, ◌⊎◌, inl, inr, List, get_or, Option, Some, None, refl, sym, ◌∙◌, ap, subst, arith}
 use Rattle.std.specs.Option.{MatchOption, IfSome}
 use Rattle.std.proofs.lemmas.Bool.{cases_lt}
+use Rattle.std.proofs.lemmas.Option.{slice_get_within}
 use Rattle.rmm_spec.specs.declared.event.Event.{Event}
+use Rattle.rmm_spec.specs.declared.event.Event.TheVariants.{Returned}
 use Rattle.rmm_spec.specs.declared.reply.Reply.{Reply}
-use Rattle.rmm_spec.specs.HistoryText.{History}
+use Rattle.rmm_spec.specs.HistoryText.{History, IsHistory}
 use Rattle.rmm_spec.specs.Linearization.{IsReturned, IsKnown, IsFinished}
 use Rattle.history.specs.Calls.{ArePlacesOf}
 use Rattle.history.specs.declared.history.Places.{Places}
@@ -30,6 +32,30 @@ rank_pending events cpu number places are pending = at places.returned are.retur
         → rank_at cpu o ≡ pending_rank cpu
     at None none = refl
     at (Some p) told = absurd (pending (p, told.0, told.1))
+
+-- a call that is tried before all that haven't returned has returned at its rank
+pub returned_first : (events : List Event) (choice : Choice) → ArePlacesOf events choice.cpu choice.number choice.places → rank_of choice < 1000000
+    → (given : Reply) × IsReturned events (rank_of choice) choice.cpu choice.number given
+returned_first events choice are = at choice.places.returned are.returned
+  where
+    at : (o : Option ℕ) → MatchOption o (¬ IsFinished events choice.cpu choice.number) (λ p. (told : Reply) × IsReturned events p choice.cpu choice.number told)
+        → rank_at choice.cpu o < 1000000 → (given : Reply) × IsReturned events (rank_at choice.cpu o) choice.cpu choice.number given
+    at None pending below = absurd (omega (arith, below))
+    at (Some p) told below = told
+
+-- every rank is small
+pub rank_small : (history : History) → IsHistory history → (choice : Choice) → ArePlacesOf history.events choice.cpu choice.number choice.places → choice.cpu < 8
+    → rank_of choice < 2 ^ 31
+rank_small history is_history choice are few = at choice.places.returned are.returned
+  where
+    at : (o : Option ℕ)
+        → MatchOption o (¬ IsFinished history.events choice.cpu choice.number) (λ p. (told : Reply) × IsReturned history.events p choice.cpu choice.number told)
+        → rank_at choice.cpu o < 2 ^ 31
+    at None pending = omega (arith, few)
+    at (Some p) told =
+        let within = slice_get_within history.events p (Returned choice.cpu choice.number told.0) told.1 in
+        let lines = is_history.lines in
+        omega (arith, within, lines)
 
 -- no CPU yet
 pub IsLeast-none : (events : List Event) (counts : List ℕ) (from least : ℕ) → IsLeast events counts from 0 least

@@ -1,5 +1,5 @@
 -- A search as it tries a line, grows by one and takes one back.
-use Rattle.std.proofs.Common.{◌≡◌, ◌≢◌, ℕ, zero, suc, ◌+◌, ◌<◌, ◌≤◌, ◌⊎◌, inl, inr, List, [], ◌∷◌, ◌++◌, map, length, take, get_or, set, Option, Some, None, refl, sym, ◌∙◌, ap, subst, arith, get_or-set_same, get_or-set_other}
+use Rattle.std.proofs.Common.{◌≡◌, ◌≢◌, ℕ, zero, suc, ◌+◌, ◌^◌, ◌<◌, ◌≤◌, ◌⊎◌, inl, inr, List, [], ◌∷◌, ◌++◌, map, length, take, get_or, set, Option, Some, None, refl, sym, ◌∙◌, ap, subst, arith, get_or-set_same, get_or-set_other}
 use Rattle.std.specs.List.{slice_get, AllByRecursion}
 use Rattle.std.specs.Option.{IfSome, option_to_list}
 use Rattle.std.proofs.Math.Seq.{take-append_seam}
@@ -13,13 +13,13 @@ use Rattle.rmm_spec.specs.HistoryText.{History, IsHistory}
 use Rattle.rmm_spec.specs.CertificateText.{IsLine, IsCertificate}
 use Rattle.rmm_spec.specs.State.{State, opening}
 use Rattle.rmm_spec.specs.FirstFault.{IsRefused, Passes}
-use Rattle.rmm_spec.specs.Linearization.{cpu_named, number_named}
+use Rattle.rmm_spec.specs.Linearization.{IsLinearization, cpu_named, number_named}
 use Rattle.checker.proofs.Elements.{slice_get-append_left, slice_get_push, slice_get_push_cases}
 use Rattle.spec_machine.specs.View.{state_of}
 use Rattle.spec_machine.specs.declared.machine.Machine.{Machine}
 use Rattle.order_laws.specs.Order.{count_of, IsNext, LeadsNowhere, Reaches, ReturnBehind, Grows}
 use Rattle.order_laws.proofs.Counts.{count_of-same, count_of-other, count_of-nil}
-use Rattle.order_laws.proofs.Growth.{Reaches-nil, Reaches-push}
+use Rattle.order_laws.proofs.Growth.{IsLinearization-from_Reaches, Reaches-nil, Reaches-push}
 use Rattle.order_laws.proofs.Nowhere.{nowhere_by}
 use Rattle.order_laws.proofs.Short.{length-lines}
 use Rattle.finding.specs.Attempt.{IsAttempt, IsPassed, IsEnded}
@@ -29,7 +29,8 @@ use Rattle.finding.specs.Tried.{Tried, CallLeadsNowhere}
 use Rattle.finding.specs.declared.choice.Choice.{Choice}
 use Rattle.finding.specs.declared.frame.Frame.{Frame}
 use Rattle.finding.specs.declared.search.Search.{Search}
-use Rattle.finding.proofs.TriedLaws.{Tried-none, Tried-passed, Tried-ended}
+use Rattle.finding.proofs.TriedLaws.{Tried-none, Tried-passed, Tried-ended, all_named, all_nowhere, HasOpen-first, ReturnBehind-called, too_late}
+use Rattle.finding.proofs.Choices.{returned_first}
 
 -- ---- lines of frames
 
@@ -230,6 +231,47 @@ IsSearch-nil history new frames counts from above none = record {
   tried = subst (λ (f : ℕ). Tried history (lines_of new.frames.items) f new.above) (sym from)
       (subst (λ (a : Option ℕ). Tried history (lines_of new.frames.items) 0 a) (sym above) (Tried-none history (lines_of new.frames.items)));
 }
+
+-- ---- what the next calls tell
+
+module _ (history : History) (is_history : IsHistory history) (search : Search) (is_search : IsSearch history search) where
+  -- no finished call is left
+  pub Whole-search : (least : ℕ) → IsLeast history.events search.counts 0 history.config.cpus least → 1000000 ≤ least
+      → IsLinearization history (lines_of search.frames.items)
+  Whole-search least is_least past =
+      IsLinearization-from_Reaches history (lines_of search.frames.items) is_search.state is_search.reached
+      (all_named history is_history (lines_of search.frames.items) is_search.state is_search.reached search.counts is_search.counts least is_least past)
+
+  -- one is, and no call is left to try
+  pub nowhere_left : (first : Choice) → IsNextCall history search.counts 0 first → rank_of first < 1000000 → (least : ℕ)
+      → IsLeast history.events search.counts search.from history.config.cpus least → 2 ^ 32 ≤ least
+      → LeadsNowhere history (lines_of search.frames.items)
+  nowhere_left first next below least is_least past =
+      let told = returned_first history.events first next.places below in
+      all_nowhere history is_history (lines_of search.frames.items) is_search.state is_search.reached search.counts is_search.counts search.from search.above
+      is_search.tried least is_least
+      (HasOpen-first history is_history (lines_of search.frames.items) is_search.state is_search.reached search.counts is_search.counts 0 first next
+      (rank_of first, told.0, told.1)) past
+
+  -- a call that was made by the first return can come next
+  pub soon_enough : (first choice : Choice) → IsLeast history.events search.counts 0 history.config.cpus (rank_of first) → (from : ℕ)
+      → IsNextCall history search.counts from choice → choice.places.called ≤ rank_of first
+      → ReturnBehind history.events (lines_of search.frames.items) choice.places.called
+  soon_enough first choice is_least from next early =
+      ReturnBehind-called history is_history (lines_of search.frames.items) is_search.state is_search.reached search.counts is_search.counts (rank_of first)
+      is_least choice.places.called choice.cpu choice.number next.places.called.0 next.places.called.1 early
+
+  -- one that was made behind it can't
+  pub Tried-late : (first choice : Choice) → IsNextCall history search.counts 0 first → rank_of first < 1000000
+      → IsNextCall history search.counts search.from choice
+      → IsLeast history.events search.counts search.from history.config.cpus (rank_of choice) → rank_of first < choice.places.called
+      → Tried history (lines_of search.frames.items) (rank_of choice + 1) None
+  Tried-late first choice is_first below next is_least late =
+      let told = returned_first history.events first is_first.places below in
+      Tried-passed history is_history (lines_of search.frames.items) is_search.state is_search.reached search.counts is_search.counts search.from search.above
+      is_search.tried choice next is_least
+      (too_late history is_history (lines_of search.frames.items) is_search.state is_search.reached search.counts is_search.counts 0 search.from first choice
+      is_first next (rank_of first) told.0 told.1 late)
 
 -- ---- what an attempt leads to
 

@@ -7,7 +7,7 @@ ghost use Rattle.finding.specs.Choice.{IsLeast, IsNextCall, IsSooner, least_of, 
 use history::{History, Places};
 
 /// Calls that haven't returned are tried behind all places of returns.
-const PENDING: u32 = 1_000_000;
+pub(crate) const PENDING: u32 = 1_000_000;
 
 /// A CPU's first call that doesn't stand in an order.
 #[derive(Clone, Copy)]

@@ -13,28 +13,36 @@ pub(crate) fn next_end(stretch: &Stretch, above: Option<u64>) -> Option<u64>
     ensures some { IfSome result (λ top. (end : ℕ) → IsEnd stretch.now end → IsBelow above end → end ≤ top) }
     ensures none { IfNone result ((end : ℕ) → IsEnd stretch.now end → IsBelow above end → ⊥) }
 {
+    let last = furthest(stretch, above);
     let size = entry_size(stretch.level);
-    let count = furthest(stretch, above).saturating_sub(stretch.base) / size;
+    let beyond = last.saturating_sub(stretch.base);
+    let count = beyond / size;
     if count == 0 {
-        None
-    } else {
-        Some(stretch.base + count * size)
+        return None;
     }
+    let reach = count * size;
+    let top = stretch.base + reach;
+    Some(top)
 }
 
 /// The last address that an end below `above` may have.
 fn furthest(stretch: &Stretch, above: Option<u64>) -> u64
     ensures { (end : ℕ) → IsEnd stretch.now end → IsBelow above end → end ≤ result }
 {
-    let tables = table_number(stretch.level, stretch.base) + 1;
-    let end = min(
-        stretch.top,
-        tables.saturating_mul(table_size(stretch.level)),
-    );
+    let end = last_end(stretch);
     match above {
-        Some(above) => min(end, above.saturating_sub(1)),
         None => end,
+        Some(above) => min(end, above.saturating_sub(1)),
     }
+}
+
+/// The last address that an end may have: the top of the stretch, or the end of its table.
+fn last_end(stretch: &Stretch) -> u64
+    ensures { (end : ℕ) → IsEnd stretch.now end → end ≤ result }
+{
+    let tables = table_number(stretch.level, stretch.base) + 1;
+    let table_end = tables.saturating_mul(table_size(stretch.level));
+    min(stretch.top, table_end)
 }
 
 // How many bytes an entry of the level covers.

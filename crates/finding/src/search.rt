@@ -12,7 +12,7 @@ ghost use Rattle.finding.specs.Search.{IsGiven, lines_of};
 ghost use Rattle.spec_machine.specs.View.{state_of};
 
 use crate::attempt::attempt;
-use crate::choice::{Choice, next_choice, rank};
+use crate::choice::{Choice, PENDING, next_choice, rank};
 use crate::frame::{Frame, name_of};
 use crate::refused::refused_choice;
 use crate::restoring::{certificate_of, machine_behind};
@@ -91,17 +91,18 @@ impl Search {
         let Some(first) = next_choice(history, &self.counts, 0) else {
             return Ok(Progress::Whole);
         };
-        if first.places.returned.is_none() {
+        let bound = rank(&first);
+        if bound >= PENDING {
             return Ok(Progress::Whole);
         }
         if self.fresh {
-            self.settle(alloc, history, rank(&first))?;
+            self.settle(alloc, history, bound)?;
             return Ok(Progress::Going);
         }
         let Some(choice) = next_choice(history, &self.counts, self.from) else {
             return Ok(self.take_back(history));
         };
-        if rank(&first) < choice.places.called {
+        if bound < choice.places.called {
             self.pass(choice);
         } else {
             self.try_choice(alloc, history, choice)?;
