@@ -3,3 +3,4 @@ pub mod TriedLaws
 pub mod Attempts
 pub mod EndLaws
 pub mod Searches
+pub mod LeftBehind
