@@ -11,6 +11,7 @@ use Rattle.rmm_spec.specs.declared.line.Line.{Line}
 use Rattle.rmm_spec.specs.declared.line.Line.TheVariants.{Keep, Unfinished}
 use Rattle.rmm_spec.specs.HistoryText.{History, IsHistory}
 use Rattle.rmm_spec.specs.CertificateText.{IsLine, IsCertificate}
+use Rattle.rmm_spec.specs.Rows.{ok}
 use Rattle.rmm_spec.specs.State.{State, opening}
 use Rattle.rmm_spec.specs.FirstFault.{IsRefused, Passes}
 use Rattle.rmm_spec.specs.Linearization.{IsLinearization, cpu_named, number_named}
@@ -20,9 +21,9 @@ use Rattle.spec_machine.specs.declared.machine.Machine.{Machine}
 use Rattle.order_laws.specs.Order.{count_of, IsNext, LeadsNowhere, Reaches, ReturnBehind, Grows}
 use Rattle.order_laws.proofs.Counts.{count_of-same, count_of-other, count_of-nil}
 use Rattle.order_laws.proofs.Growth.{IsLinearization-from_Reaches, Reaches-nil, Reaches-push}
-use Rattle.order_laws.proofs.Nowhere.{nowhere_by}
+use Rattle.order_laws.proofs.Nowhere.{nowhere_by, nowhere_unless}
 use Rattle.order_laws.proofs.Short.{length-lines}
-use Rattle.finding.specs.Attempt.{IsAttempt, IsPassed, IsEnded}
+use Rattle.finding.specs.Attempt.{IsAttempt, MayTry}
 use Rattle.finding.specs.Choice.{rank_of, IsNextCall, IsLeast}
 use Rattle.finding.specs.Search.{AreCounts, AreFrames, IsFrame, IsGiven, IsRefusedHere, IsSearch, StandsAt, lines_of}
 use Rattle.finding.specs.Tried.{Tried, CallLeadsNowhere}
@@ -30,7 +31,7 @@ use Rattle.finding.specs.declared.choice.Choice.{Choice}
 use Rattle.finding.specs.declared.frame.Frame.{Frame}
 use Rattle.finding.specs.declared.search.Search.{Search}
 use Rattle.finding.proofs.TriedLaws.{Tried-none, Tried-passed, Tried-ended, all_named, all_nowhere, HasOpen-first, ReturnBehind-called, too_late}
-use Rattle.finding.proofs.Choices.{returned_first}
+use Rattle.finding.proofs.Choices.{rank_pending, returned_first}
 
 -- ---- lines of frames
 
@@ -276,6 +277,23 @@ module _ (history : History) (is_history : IsHistory history) (search : Search) 
 -- ---- what an attempt leads to
 
 module _ (history : History) (is_history : IsHistory history) (search : Search) (is_search : IsSearch history search) (choice : Choice) (next : IsNextCall history search.counts search.from choice) (is_least : IsLeast history.events search.counts search.from history.config.cpus (rank_of choice)) where
+  -- the call may be tried, with the ends that are left
+  pub MayTry-search : (state : State) → Reaches history (lines_of search.frames.items) state → (above : Option ℕ)
+      → ((bound : ℕ) → above ≡ Some bound → (search.above ≡ Some bound) × (rank_of choice ≡ search.from))
+      → MayTry history (lines_of search.frames.items) state choice above
+  MayTry-search state reached above left = record {
+    is_history = is_history;
+    reached = reached;
+    places = next.places;
+    numbered = next.numbered
+        ∙ is_search.counts.each choice.cpu (let most = is_history.config.most_cpus in let within = next.of_machine in omega (arith, within, most));
+    ended = λ end bound is within.
+        nowhere_unless history is_history (lines_of search.frames.items) state reached (Unfinished choice.cpu choice.number (ok (end ∷ []))) (λ is_next.
+        let held = left bound is in
+        let rank = rank_pending history.events choice.cpu choice.number choice.places next.places is_next.kind in
+        is_search.tried.ended choice.cpu choice.number end bound is_next.kind (sym rank ∙ held.1) held.0 within);
+  }
+
   -- each line of the call leads nowhere
   pub Tried-call : CallLeadsNowhere history (lines_of search.frames.items) choice.cpu choice.number
       → Tried history (lines_of search.frames.items) (rank_of choice + 1) None
