@@ -1,24 +1,17 @@
 //! A table and its methods.
 
-ghost use Rattle.std.specs.Prelude.{All, ◌≡◌, ◌+◌, ◌<◌, ◌≤◌, ◌↔◌, if◌then◌else◌, IsTrue, IfOk, length, map, replicate, Some, slice_get, slice_set};
+ghost use Rattle.std.specs.Prelude.{◌≡◌, ◌+◌, ◌<◌, ◌≤◌, ◌↔◌, if◌then◌else◌, IsTrue, IfOk, length, replicate, Some, slice_get, slice_set};
 ghost use Rattle.std.specs.List.{list_any};
 ghost use Rattle.rmm_spec.specs.Walk.{is_live, is_table};
 ghost use Rattle.rmm_spec.specs.Table.{entry_index, entries_with_ripas, AreAlike};
-ghost use Rattle.rtt_table.specs.Columns.{kind_with_ripas};
 ghost use Rattle.rtt_table.specs.Counts.{is_mapped, one_if};
 
-use crate::kind::{Kind, entry_from, kind_of, kind_with_ripas};
+use crate::columns::{Columns, ENTRIES};
 use granule_state::Ipa;
 use rmm_spec::{Entry, Place, Ripas};
 use std::alloc::{AllocError, Global};
 use std::marker::Model;
-use std::mem::size_of;
-use table_entries::{entry_address, entry_number, is_live, is_table};
-
-/// How many entries a table has.
-const ENTRIES: usize = 512;
-
-const _: () = prove!(size_of::<Columns>() == 9 * ENTRIES);
+use table_entries::{entry_number, is_live, is_table};
 
 /// Where in its table the level's entry for an address stands: levels past 3 count as level 3.
 #[tactic(auto, unfolding(rmm_spec::specs::Table::entry_index))]
@@ -27,13 +20,6 @@ pub fn index_of(level: u8, ipa: Ipa) -> usize
     ensures within { result < 512 }
 {
     entry_number(level, ipa.address()) as usize % ENTRIES
-}
-
-// What each entry is, and the address that it names, 0 where it names none.
-#[derive(Drop)]
-struct Columns {
-    addresses: [u64; ENTRIES],
-    kinds: [Kind; ENTRIES],
 }
 
 /// A translation table on the heap, with the counts of its live entries and of its links.
@@ -46,17 +32,14 @@ pub struct Table {
 }
 
 impl Model for Table {
-    ghost use Rattle.std.specs.Prelude.{◌≡◌, length};
     ghost use Rattle.rmm_spec.specs.Table.{TableRecord};
-    ghost use Rattle.rtt_table.specs.Columns.{joined, AreColumns};
     ghost use Rattle.rtt_table.specs.Counts.{AreCounts};
 
     ghost Value = { TableRecord };
 
-    ghost view = { λ t. record { place = t.place; entries = joined t.columns.value.kinds t.columns.value.addresses } };
+    ghost view = { λ t. record { place = t.place; entries = t.columns.value } };
 
-    ghost invariant = { λ t. let entries = joined t.columns.value.kinds t.columns.value.addresses in
-        (length entries ≡ 512) × AreColumns entries t.columns.value.kinds t.columns.value.addresses × AreCounts entries t.live t.links };
+    ghost invariant = { λ t. AreCounts t.columns.value t.live t.links };
 }
 
 impl Table {
@@ -64,11 +47,7 @@ impl Table {
     pub fn new(alloc: Global, place: Place, fill: Entry) -> Result<Self, AllocError>
         ensures { IfOk result (λ t. t ≡ record { place = place; entries = replicate 512 fill }) }
     {
-        let columns = Columns {
-            addresses: [entry_address(fill); ENTRIES],
-            kinds: [kind_of(fill); ENTRIES],
-        };
-        let columns = Box::new(alloc, columns)?;
+        let columns = Box::new(alloc, Columns::new(fill))?;
         Ok(Table {
             place,
             columns,
@@ -88,18 +67,17 @@ impl Table {
         ensures value { slice_get self.now.entries index ≡ Some result }
         ensures count { length self.now.entries ≡ 512 }
     {
-        entry_from(self.columns.kinds[index], self.columns.addresses[index])
+        self.columns.entry(index)
     }
 
     pub fn set_entry(&mut self, at: usize, entry: Entry)
         requires { at < 512 }
         ensures { self.new ≡ record self.old { entries = slice_set self.old.entries at entry } }
     {
-        let old = entry_from(self.columns.kinds[at], self.columns.addresses[at]);
+        let old = self.columns.entry(at);
         self.live = recounted(self.live, is_live(old), is_live(entry));
         self.links = recounted(self.links, is_table(old), is_table(entry));
-        self.columns.kinds[at] = kind_of(entry);
-        self.columns.addresses[at] = entry_address(entry);
+        self.columns.set_entry(at, entry);
     }
 
     /// Whether some entry is assigned or is a link to a table.
@@ -127,15 +105,14 @@ impl Table {
     pub fn is_whole(&self)
         ensures { length self.now.entries ≡ 512 }
     {
-        let _ = &self.columns;
+        self.columns.is_whole();
     }
 
     /// Whether all 512 entries are equal.
     pub fn is_uniform(&self) -> bool
         ensures { IsTrue result ↔ AreAlike self.now.entries }
     {
-        let columns: &Columns = &self.columns;
-        are_kind(&columns.kinds, columns.kinds[0]) && are_address(&columns.addresses, columns.addresses[0])
+        self.columns.are_alike()
     }
 
     /// The table stands at another place.
@@ -151,7 +128,7 @@ impl Table {
         requires within { to ≤ 512 }
         ensures { self.new ≡ record self.old { entries = entries_with_ripas from to ripas self.old.entries } }
     {
-        change_ripas(&mut self.columns.kinds[from..to], ripas);
+        self.columns.set_ripas(from, to, ripas);
     }
 }
 
@@ -172,28 +149,5 @@ fn recounted(count: u16, goes: bool, comes: bool) -> u16
         (true, false) => count - 1,
         (false, true) => count + 1,
         (true, true) | (false, false) => count,
-    }
-}
-
-// Whether each entry is of the given kind.
-fn are_kind(kinds: &[Kind], same: Kind) -> bool
-    ensures { IsTrue result ↔ All (λ k. k ≡ same) kinds.now }
-{
-    kinds.iter().all(|kind| *kind == same)
-}
-
-// Whether each entry names the given address.
-fn are_address(addresses: &[u64], same: u64) -> bool
-    ensures { IsTrue result ↔ All (λ a. a ≡ same) addresses.now }
-{
-    addresses.iter().all(|address| *address == same)
-}
-
-// Changes the RIPAS of each entry that has one.
-fn change_ripas(kinds: &mut [Kind], ripas: Ripas)
-    ensures { kinds.new ≡ map (kind_with_ripas ripas) kinds.old }
-{
-    for kind in kinds.iter_mut() {
-        *kind = kind_with_ripas(*kind, ripas);
     }
 }
