@@ -1,7 +1,8 @@
 -- Columns of entries, and the entries that they stand for.
-use Rattle.std.proofs.Common.{◌≡◌, ℕ, zero, suc, ◌+◌, ◌-◌, ◌≤◌, List, [], ◌∷◌, ◌++◌, map, take, drop, replicate, length, set, refl, sym, ap, ◌∙◌, subst, arith}
+use Rattle.std.proofs.Common.{◌≡◌, ℕ, zero, suc, ◌+◌, ◌-◌, ◌≤◌, List, [], ◌∷◌, ◌++◌, map, take, drop, replicate, length, set, length-set, refl, sym, ap, ◌∙◌, subst, arith}
 use Rattle.std.specs.List.{slice_range}
-use Rattle.std.proofs.lemmas.List.{map-set, map-append, take-map, drop-map, length-append, length-map, length-take, length-drop}
+use Rattle.std.proofs.lemmas.List.{map-set, drop-drop, length-map}
+use borrow.Rule.Slice.PartMut.{put_mid}
 use Rattle.rmm_spec.specs.declared.entry.Entry.{Entry}
 use Rattle.rmm_spec.specs.declared.entry.Entry.TheVariants.{Unassigned, Assigned, Table, UnassignedNs, AssignedNs}
 use Rattle.rmm_spec.specs.declared.tag.Ripas.{Ripas}
@@ -52,7 +53,7 @@ pub columns-set : (entries : List Entry) (kinds : List Kind) (addresses : List �
     → AreColumns (set entries at e) (set kinds at (kind_of e)) (set addresses at (entry_address e))
 columns-set entries kinds addresses at e columns = record {
   of_kinds = ap (λ (ks : List Kind). set ks at (kind_of e)) columns.of_kinds ∙ sym (map-set kind_of entries at e);
-  of_addresses = ap (λ (as : List ℕ). set as at (entry_address e)) columns.of_addresses ∙ sym (map-set entry_address entries at e);
+  of_addresses = ap (λ (cells : List ℕ). set cells at (entry_address e)) columns.of_addresses ∙ sym (map-set entry_address entries at e);
 }
 
 -- an entry's RIPAS is told by its kind alone
@@ -74,12 +75,59 @@ address-ripas ripas (Table granule) = refl
 address-ripas ripas UnassignedNs = refl
 address-ripas ripas (AssignedNs page) = refl
 
--- the first m elements after n others are changed, each so that f tells g of what it told
-map-stretch : {X Y : Type 0} (f : X → Y) (h : X → X) (g : Y → Y) → ((x : X) → f (h x) ≡ g (f x)) → (m n : ℕ) (xs : List X)
-    → map f (take n xs ++ (map h (take m (drop n xs)) ++ drop m (drop n xs))) ≡ take n (map f xs) ++ (map g (take m (drop n (map f xs))) ++ drop m (drop n (map f xs)))
-map-stretch f h g each zero zero xs = refl
-map-stretch f h g each (suc m) zero [] = refl
-map-stretch f h g each (suc m) zero (x ∷ xs) = λ i. each x i ∷ map-stretch f h g each m zero xs i
-map-stretch f h g each zero (suc n) [] = refl
-map-stretch f h g each (suc m) (suc n) [] = refl
-map-stretch f h g each m (suc n) (x ∷ xs) = ap (λ ys. f x ∷ ys) (map-stretch f h g each m n xs)
+-- where m elements after the first n are changed, f tells of each what g makes of what it told before
+map-stretch : {X Y : Type 0} (f : X → Y) (change : X → X) (g : Y → Y) → ((x : X) → f (change x) ≡ g (f x)) → (m n : ℕ) (xs : List X)
+    → map f (take n xs ++ (map change (take m (drop n xs)) ++ drop m (drop n xs)))
+    ≡ take n (map f xs) ++ (map g (take m (drop n (map f xs))) ++ drop m (drop n (map f xs)))
+map-stretch f change g each zero zero xs = refl
+map-stretch f change g each (suc m) zero [] = refl
+map-stretch f change g each (suc m) zero (x ∷ xs) = λ i. each x i ∷ map-stretch f change g each m zero xs i
+map-stretch f change g each zero (suc n) [] = refl
+map-stretch f change g each (suc m) (suc n) [] = refl
+map-stretch f change g each zero (suc n) (x ∷ xs) = ap (λ ys. f x ∷ ys) (map-stretch f change g each zero n xs)
+map-stretch f change g each (suc m) (suc n) (x ∷ xs) = ap (λ ys. f x ∷ ys) (map-stretch f change g each (suc m) n xs)
+
+-- and where f tells the same of each, it tells the same of all
+map-kept : {X Y : Type 0} (f : X → Y) (change : X → X) → ((x : X) → f (change x) ≡ f x) → (m n : ℕ) (xs : List X)
+    → map f (take n xs ++ (map change (take m (drop n xs)) ++ drop m (drop n xs))) ≡ map f xs
+map-kept f change same zero zero xs = refl
+map-kept f change same (suc m) zero [] = refl
+map-kept f change same (suc m) zero (x ∷ xs) = λ i. same x i ∷ map-kept f change same m zero xs i
+map-kept f change same zero (suc n) [] = refl
+map-kept f change same (suc m) (suc n) [] = refl
+map-kept f change same zero (suc n) (x ∷ xs) = ap (λ ys. f x ∷ ys) (map-kept f change same zero n xs)
+map-kept f change same (suc m) (suc n) (x ∷ xs) = ap (λ ys. f x ∷ ys) (map-kept f change same (suc m) n xs)
+
+-- a stretch ends where it ends
+stretch-ends : (first last : ℕ) (ripas : Ripas) (entries : List Entry) → first ≤ last
+    → take first entries ++ (map (entry_with_ripas ripas) (take (last - first) (drop first entries)) ++ drop (last - first) (drop first entries))
+    ≡ entries_with_ripas first last ripas entries
+unfolding entries_with_ripas
+stretch-ends first last ripas entries order =
+    let reach : first + (last - first) ≡ last = omega arith in
+    let ends : drop (last - first) (drop first entries) ≡ drop last entries = drop-drop (last - first) first entries ∙ ap (λ (n : ℕ). drop n entries) reach in
+    ap (λ (rest : List Entry). take first entries ++ (map (entry_with_ripas ripas) (take (last - first) (drop first entries)) ++ rest)) ends
+
+-- those of entries of which a stretch has another RIPAS: the kinds of the stretch change, and no address does
+pub columns-ripas : (entries : List Entry) (kinds changed : List Kind) (addresses : List ℕ) (first last : ℕ) (ripas : Ripas) → AreColumns entries kinds addresses
+    → first ≤ last → changed ≡ map (kind_with_ripas ripas) (slice_range kinds first last)
+    → AreColumns (entries_with_ripas first last ripas entries) (put_mid first (last - first) kinds changed) addresses
+columns-ripas entries kinds changed addresses first last ripas columns order is_changed =
+    let m : ℕ = last - first in
+    let ends = stretch-ends first last ripas entries order in
+    let written : put_mid first m kinds changed ≡ take first kinds ++ (map (kind_with_ripas ripas) (take m (drop first kinds)) ++ drop m (drop first kinds)) =
+    ap (λ (middle : List Kind). take first kinds ++ (middle ++ drop m (drop first kinds))) is_changed in
+    let told = ap (λ (ks : List Kind). take first ks ++ (map (kind_with_ripas ripas) (take m (drop first ks)) ++ drop m (drop first ks))) columns.of_kinds in
+    record {
+      of_kinds = (written ∙ told) ∙ (sym (map-stretch kind_of (entry_with_ripas ripas) (kind_with_ripas ripas) (kind-ripas ripas) m first entries)
+          ∙ ap (λ (es : List Entry). map kind_of es) ends);
+      of_addresses = columns.of_addresses ∙ (sym (map-kept entry_address (entry_with_ripas ripas) (address-ripas ripas) m first entries)
+          ∙ ap (λ (es : List Entry). map entry_address es) ends);
+    }
+
+-- entries with the same addresses are as many
+pub as_many : (entries others : List Entry) (kinds changed : List Kind) (addresses : List ℕ) → AreColumns entries kinds addresses → AreColumns others changed addresses
+    → length others ≡ length entries
+as_many entries others kinds changed addresses columns changes =
+    sym (length-map others entry_address)
+    ∙ (ap (λ (cells : List ℕ). length cells) (sym changes.of_addresses ∙ columns.of_addresses) ∙ length-map entries entry_address)

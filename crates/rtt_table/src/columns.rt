@@ -39,10 +39,9 @@ impl Columns {
     pub fn new(fill: Entry) -> Self
         ensures { result ≡ replicate 512 fill }
     {
-        Columns {
-            addresses: [entry_address(fill); ENTRIES],
-            kinds: [kind_of(fill); ENTRIES],
-        }
+        let addresses = [entry_address(fill); ENTRIES];
+        let kinds = [kind_of(fill); ENTRIES];
+        Columns { addresses, kinds }
     }
 
     /// There are 512 entries.
