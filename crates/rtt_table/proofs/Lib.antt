@@ -1,3 +1,4 @@
+pub mod Alike
 pub mod Counted
 pub mod Joined
 pub mod Searches
