@@ -1,5 +1,5 @@
 -- Entries are alike where their columns have one kind and one address, and only there.
-use Rattle.std.proofs.Common.{◌≡◌, ℕ, ◌<◌, ◌↔◌, Bool, true, false, IsTrue, List, map, length, get_or, Some, refl, sym, ap, ◌∙◌, arith}
+use Rattle.std.proofs.Common.{◌≡◌, ℕ, ◌<◌, ◌↔◌, Bool, true, false, IsTrue, List, map, length, get_or, Some, sym, ap, ◌∙◌, arith}
 use Rattle.std.specs.List.{All, slice_get}
 use Rattle.std.specs.Option.{option_map}
 use Rattle.std.proofs.lemmas.List.{get_or-map, length-map}
@@ -23,7 +23,7 @@ told_alike f entries ys first told alike k d within =
     let at_k = ap (λ zs. slice_get zs k) told ∙ slice_get-map f entries k in
     let at_first = ap (λ zs. slice_get zs 0) told ∙ slice_get-map f entries 0 in
     get_or_from_slice_get ys k (get_or ys 0 first) d
-        ((at_k ∙ ap (λ found. option_map f found) (alike k 0 there some)) ∙ (sym at_first ∙ slice_get-get_or ys 0 first begun))
+    ((at_k ∙ ap (λ found. option_map f found) (alike k 0 there some)) ∙ (sym at_first ∙ slice_get-get_or ys 0 first begun))
 
 -- where all tell what the first tells, any two tell the same
 told_same : {Y : Type 0} (f : Entry → Y) (entries : List Entry) (ys : List Y) (first : Y) (e : Entry) (i j : ℕ) → ys ≡ map f entries

@@ -57,7 +57,9 @@ pub fn kind_with_ripas(kind: Kind, ripas: Ripas) -> Kind
     ensures { result ≡ spec.kind_with_ripas ripas kind }
 {
     match kind {
-        Kind::UnassignedEmpty | Kind::UnassignedRam | Kind::UnassignedDestroyed => unassigned(ripas),
+        Kind::UnassignedEmpty | Kind::UnassignedRam | Kind::UnassignedDestroyed => {
+            unassigned(ripas)
+        }
         Kind::AssignedEmpty | Kind::AssignedRam | Kind::AssignedDestroyed => assigned(ripas),
         Kind::Table | Kind::UnassignedNs | Kind::AssignedNs => kind,
     }

@@ -44,6 +44,7 @@ impl Model for Table {
 
 impl Table {
     /// A table of 512 copies of one entry.
+    #[inline(never)]
     pub fn new(alloc: Global, place: Place, fill: Entry) -> Result<Self, AllocError>
         ensures { IfOk result (λ t. t ≡ record { place = place; entries = replicate 512 fill }) }
     {

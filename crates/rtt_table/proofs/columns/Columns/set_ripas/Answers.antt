@@ -1,4 +1,4 @@
-use Rattle.std.proofs.Common.{ap, ◌∙◌}
+use Rattle.std.proofs.Common.{◌∙◌}
 use Rattle.rtt_table.specs.Columns.{joined}
 use Rattle.rtt_table.proofs.Joined.{joined_is, columns_held, columns-ripas, as_many}
 use Rattle.rtt_table.proofs.columns.Columns.set_ripas.Goals as goal

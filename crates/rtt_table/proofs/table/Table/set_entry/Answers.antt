@@ -33,6 +33,6 @@ invariant_of-self c =
     let links : c.recounted-self-inside-2.result + one_if (is_table c.entry-old.result) ≡ t.links + one_if (is_table c.args.entry) =
     omega (arith, c.recounted-self-inside-2.ensures, ap (λ (b : Bool). one_if b) c.is_table.ensures, ap (λ (b : Bool). one_if b) c.is_table-2.ensures) in
     rw (c.set_entry.ensures, c.deref_mut.ensures.value) (
-      counts-set t.columns.value t.live t.links c.recounted-self-inside.result c.recounted-self-inside-2.result c.args.at
-          c.entry-old.result c.args.entry c.self.invariant there live links
+    counts-set t.columns.value t.live t.links c.recounted-self-inside.result c.recounted-self-inside-2.result c.args.at
+    c.entry-old.result c.args.entry c.self.invariant there live links
     )
