@@ -25,6 +25,7 @@ entry_back (Table granule) = refl
 entry_back UnassignedNs = refl
 entry_back (AssignedNs page) = refl
 
+-- and a list of entries that of its two columns
 joined_back : (entries : List Entry) → joined (map kind_of entries) (map entry_address entries) ≡ entries
 unfolding joined
 joined_back [] = refl
@@ -40,6 +41,7 @@ pub columns_held : (entries : List Entry) (kinds : List Kind) (addresses : List 
 columns_held entries kinds addresses size columns =
     subst (λ (xs : List Entry). (length xs ≡ 512) × AreColumns xs kinds addresses) (sym (joined_is entries kinds addresses columns)) (size, columns)
 
+-- what copies of one element tell is copies of what it tells
 map-copies : {X Y : Type 0} (f : X → Y) (n : ℕ) (x : X) → map f (replicate n x) ≡ replicate n (f x)
 map-copies f zero x = refl
 map-copies f (suc n) x = ap (λ ys. f x ∷ ys) (map-copies f n x)
@@ -68,6 +70,7 @@ kind-ripas ripas (Table granule) = refl
 kind-ripas ripas UnassignedNs = refl
 kind-ripas ripas (AssignedNs page) = refl
 
+-- and not by its address
 address-ripas : (ripas : Ripas) (e : Entry) → entry_address (entry_with_ripas ripas e) ≡ entry_address e
 address-ripas ripas (Unassigned old) = refl
 address-ripas ripas (Assigned old granule) = refl
@@ -98,7 +101,7 @@ map-kept f change same (suc m) (suc n) [] = refl
 map-kept f change same zero (suc n) (x ∷ xs) = ap (λ ys. f x ∷ ys) (map-kept f change same zero n xs)
 map-kept f change same (suc m) (suc n) (x ∷ xs) = ap (λ ys. f x ∷ ys) (map-kept f change same (suc m) n xs)
 
--- a stretch ends where it ends
+-- as many entries as lie between two places, counted from the first, end at the last
 stretch-ends : (first last : ℕ) (ripas : Ripas) (entries : List Entry) → first ≤ last
     → take first entries ++ (map (entry_with_ripas ripas) (take (last - first) (drop first entries)) ++ drop (last - first) (drop first entries))
     ≡ entries_with_ripas first last ripas entries

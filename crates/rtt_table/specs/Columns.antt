@@ -8,6 +8,7 @@ use Rattle.rmm_spec.specs.Walk.{entry_address}
 use Rattle.rtt_table.specs.declared.kind.Kind.{Kind}
 use Rattle.rtt_table.specs.declared.kind.Kind.TheVariants.{UnassignedEmpty, UnassignedRam, UnassignedDestroyed, AssignedEmpty, AssignedRam, AssignedDestroyed, Table, UnassignedNs, AssignedNs}
 
+-- the two kinds that have a RIPAS
 abbrev pub unassigned : Ripas → Kind
 unassigned Empty = UnassignedEmpty
 unassigned Ram = UnassignedRam
@@ -26,7 +27,7 @@ kind_of (entry.Table granule) = Table
 kind_of entry.UnassignedNs = UnassignedNs
 kind_of (entry.AssignedNs page) = AssignedNs
 
--- the entry of a kind at an address, which only some kinds have
+-- the entry of a kind with an address, which some kinds leave out
 abbrev pub entry_from : Kind → ℕ → Entry
 entry_from UnassignedEmpty address = entry.Unassigned Empty
 entry_from UnassignedRam address = entry.Unassigned Ram

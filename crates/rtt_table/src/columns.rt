@@ -1,4 +1,4 @@
-//! The entries of a table in two columns, with nothing between them.
+//! The entries of a table in two columns, nine bytes an entry.
 
 ghost use Rattle.std.specs.Prelude.{All, ◌≡◌, ◌<◌, ◌≤◌, ◌↔◌, IsTrue, length, map, replicate, Some, slice_get, slice_set};
 ghost use Rattle.rmm_spec.specs.Table.{entries_with_ripas, AreAlike};

@@ -35,7 +35,7 @@ pub fn kind_of(entry: Entry) -> Kind
     }
 }
 
-/// The entry that is this and names this address, where its kind names one.
+/// The entry of a kind, with the address where the kind has one.
 pub fn entry_from(kind: Kind, address: u64) -> Entry
     ensures { result ≡ spec.entry_from kind address }
 {
