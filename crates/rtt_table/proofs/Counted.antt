@@ -160,23 +160,14 @@ link-ripas ripas (AssignedNs page) = refl
 
 -- ---- both counts
 
-take-nothing : (n : ℕ) → take {A = Entry} n [] ≡ []
-take-nothing zero = refl
-take-nothing (suc n) = refl
-
--- those of an empty list that is filled up with copies of one entry
-pub counts-filled : (n len : ℕ) (entries before : List Entry) (e : Entry) (live links : ℕ) (is_one is_other : Bool)
-    → entries ≡ take n before ++ replicate (n - len) e → before ≡ [] → len ≡ 0
+-- those of copies of one entry
+pub counts-copies : (n : ℕ) (entries : List Entry) (e : Entry) (live links : ℕ) (is_one is_other : Bool) → entries ≡ replicate n e
     → live ≡ (if is_one then n else 0) → is_one ≡ is_live e → links ≡ (if is_other then n else 0) → is_other ≡ is_table e
     → AreCounts entries live links
-counts-filled n len entries before e live links is_one is_other filled none empty first one second other =
-    let front : take n before ≡ [] = ap (λ (xs : List Entry). take n xs) none ∙ take-nothing n in
-    let rest : n - len ≡ n = omega (arith, empty) in
-    let copies : entries ≡ replicate n e = filled ∙ (λ i. front i ++ replicate (rest i) e) in
-    record {
-      of_live = (first ∙ ap (λ (b : Bool). if b then n else 0) one) ∙ (sym (count-copies is_live n e) ∙ ap (λ (xs : List Entry). count_of is_live xs) (sym copies));
-      of_links = (second ∙ ap (λ (b : Bool). if b then n else 0) other) ∙ (sym (count-copies is_table n e) ∙ ap (λ (xs : List Entry). count_of is_table xs) (sym copies));
-    }
+counts-copies n entries e live links is_one is_other copies first one second other = record {
+  of_live = (first ∙ ap (λ (b : Bool). if b then n else 0) one) ∙ (sym (count-copies is_live n e) ∙ ap (λ (xs : List Entry). count_of is_live xs) (sym copies));
+  of_links = (second ∙ ap (λ (b : Bool). if b then n else 0) other) ∙ (sym (count-copies is_table n e) ∙ ap (λ (xs : List Entry). count_of is_table xs) (sym copies));
+}
 
 -- those of entries of which one is replaced
 pub counts-set : (entries : List Entry) (live links live' links' at : ℕ) (old new : Entry) → AreCounts entries live links → slice_get entries at ≡ Some old

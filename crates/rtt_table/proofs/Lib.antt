@@ -1,4 +1,4 @@
 pub mod Alike
 pub mod Counted
-pub mod RipasWritten
+pub mod Joined
 pub mod Searches

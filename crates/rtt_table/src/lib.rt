@@ -5,6 +5,8 @@
 //! Walks depend on it, and it is made for the cells of the monitor.
 #![tactic(auto)]
 
+mod columns;
+mod kind;
 mod place;
 mod table;
 #[cfg(test)]

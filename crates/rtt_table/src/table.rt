@@ -1,23 +1,17 @@
 //! A table and its methods.
 
-ghost use Rattle.std.specs.Prelude.{All, ◌≡◌, ◌+◌, ◌<◌, ◌≤◌, ◌↔◌, if◌then◌else◌, IsTrue, IfOk, length, map, replicate, Some, slice_get, slice_set};
+ghost use Rattle.std.specs.Prelude.{◌≡◌, ◌+◌, ◌<◌, ◌≤◌, ◌↔◌, if◌then◌else◌, IsTrue, IfOk, length, replicate, Some, slice_get, slice_set};
 ghost use Rattle.std.specs.List.{list_any};
-ghost use Rattle.rmm_spec.specs.Update.{entry_with_ripas};
 ghost use Rattle.rmm_spec.specs.Walk.{is_live, is_table};
 ghost use Rattle.rmm_spec.specs.Table.{entry_index, entries_with_ripas, AreAlike};
 ghost use Rattle.rtt_table.specs.Counts.{is_mapped, one_if};
 
+use crate::columns::{Columns, ENTRIES};
 use granule_state::Ipa;
 use rmm_spec::{Entry, Place, Ripas};
 use std::alloc::{AllocError, Global};
 use std::marker::Model;
-use std::mem::size_of;
-use table_entries::{entry_number, is_live, is_table, with_ripas};
-
-/// How many entries a table has.
-const ENTRIES: usize = 512;
-
-const _: () = prove!(size_of::<Entry>() <= 16);
+use table_entries::{entry_number, is_live, is_table};
 
 /// Where in its table the level's entry for an address stands: levels past 3 count as level 3.
 #[tactic(auto, unfolding(rmm_spec::specs::Table::entry_index))]
@@ -32,33 +26,32 @@ pub fn index_of(level: u8, ipa: Ipa) -> usize
 #[derive(Drop)]
 pub struct Table {
     place: Place,
-    entries: Vec<Entry>,
+    columns: Box<Columns>,
     live: u16,
     links: u16,
 }
 
 impl Model for Table {
-    ghost use Rattle.std.specs.Prelude.{◌≡◌, vec_len};
     ghost use Rattle.rmm_spec.specs.Table.{TableRecord};
     ghost use Rattle.rtt_table.specs.Counts.{AreCounts};
 
     ghost Value = { TableRecord };
 
-    ghost view = { λ t. record { place = t.place; entries = t.entries.items } };
+    ghost view = { λ t. record { place = t.place; entries = t.columns.value } };
 
-    ghost invariant = { λ t. (vec_len t.entries ≡ 512) × AreCounts t.entries.items t.live t.links };
+    ghost invariant = { λ t. AreCounts t.columns.value t.live t.links };
 }
 
 impl Table {
     /// A table of 512 copies of one entry.
+    #[inline(never)]
     pub fn new(alloc: Global, place: Place, fill: Entry) -> Result<Self, AllocError>
         ensures { IfOk result (λ t. t ≡ record { place = place; entries = replicate 512 fill }) }
     {
-        let mut entries = Vec::with_capacity(alloc, ENTRIES)?;
-        entries.resize(ENTRIES, fill)?;
+        let columns = Box::new(alloc, Columns::new(fill))?;
         Ok(Table {
             place,
-            entries,
+            columns,
             live: all_or_none(is_live(fill)),
             links: all_or_none(is_table(fill)),
         })
@@ -75,17 +68,17 @@ impl Table {
         ensures value { slice_get self.now.entries index ≡ Some result }
         ensures count { length self.now.entries ≡ 512 }
     {
-        self.entries[index]
+        self.columns.entry(index)
     }
 
     pub fn set_entry(&mut self, at: usize, entry: Entry)
         requires { at < 512 }
         ensures { self.new ≡ record self.old { entries = slice_set self.old.entries at entry } }
     {
-        let old = self.entries[at];
+        let old = self.columns.entry(at);
         self.live = recounted(self.live, is_live(old), is_live(entry));
         self.links = recounted(self.links, is_table(old), is_table(entry));
-        self.entries[at] = entry;
+        self.columns.set_entry(at, entry);
     }
 
     /// Whether some entry is assigned or is a link to a table.
@@ -113,14 +106,14 @@ impl Table {
     pub fn is_whole(&self)
         ensures { length self.now.entries ≡ 512 }
     {
-        let _ = &self.entries;
+        self.columns.is_whole();
     }
 
     /// Whether all 512 entries are equal.
     pub fn is_uniform(&self) -> bool
         ensures { IsTrue result ↔ AreAlike self.now.entries }
     {
-        are_all(&self.entries, self.entries[0])
+        self.columns.are_alike()
     }
 
     /// The table stands at another place.
@@ -136,7 +129,7 @@ impl Table {
         requires within { to ≤ 512 }
         ensures { self.new ≡ record self.old { entries = entries_with_ripas from to ripas self.old.entries } }
     {
-        change_ripas(&mut self.entries[from..to], ripas);
+        self.columns.set_ripas(from, to, ripas);
     }
 }
 
@@ -157,21 +150,5 @@ fn recounted(count: u16, goes: bool, comes: bool) -> u16
         (true, false) => count - 1,
         (false, true) => count + 1,
         (true, true) | (false, false) => count,
-    }
-}
-
-// Whether each entry equals the given one.
-fn are_all(entries: &[Entry], same: Entry) -> bool
-    ensures { IsTrue result ↔ All (λ e. e ≡ same) entries.now }
-{
-    entries.iter().all(|entry| *entry == same)
-}
-
-// Changes the RIPAS of each entry that has one.
-fn change_ripas(entries: &mut [Entry], ripas: Ripas)
-    ensures { entries.new ≡ map (entry_with_ripas ripas) entries.old }
-{
-    for entry in entries.iter_mut() {
-        *entry = with_ripas(*entry, ripas);
     }
 }

@@ -7,5 +7,5 @@ use Rattle.rtt_table.proofs.table.Table.has_mapped.Goals as goal
 
 pub returns : goal.returns
 returns c =
-    (λ i. nat_lt (c.self.invariant.1.of_links i) (c.self.invariant.1.of_live i))
-    ∙ (count-mapped c.self.inside.entries.items ∙ ap (λ (t : TableRecord). list_any is_mapped t.entries) c.self.view_is)
+    (λ i. nat_lt (c.self.invariant.of_links i) (c.self.invariant.of_live i))
+    ∙ (count-mapped c.self.inside.columns.value ∙ ap (λ (t : TableRecord). list_any is_mapped t.entries) c.self.view_is)

@@ -1,0 +1,136 @@
+-- Columns of entries, and the entries that they stand for.
+use Rattle.std.proofs.Common.{◌≡◌, ℕ, zero, suc, ◌+◌, ◌-◌, ◌≤◌, List, [], ◌∷◌, ◌++◌, map, take, drop, replicate, length, set, refl, sym, ap, ◌∙◌, subst, arith}
+use Rattle.std.specs.List.{slice_range}
+use Rattle.std.proofs.lemmas.List.{map-set, drop-drop, length-map}
+use borrow.Rule.Slice.PartMut.{put_mid}
+use Rattle.rmm_spec.specs.declared.entry.Entry.{Entry}
+use Rattle.rmm_spec.specs.declared.entry.Entry.TheVariants.{Unassigned, Assigned, Table, UnassignedNs, AssignedNs}
+use Rattle.rmm_spec.specs.declared.tag.Ripas.{Ripas}
+use Rattle.rmm_spec.specs.declared.tag.Ripas.TheVariants.{Empty, Ram, Destroyed}
+use Rattle.rmm_spec.specs.Update.{entry_with_ripas}
+use Rattle.rmm_spec.specs.Walk.{entry_address}
+use Rattle.rmm_spec.specs.Table.{entries_with_ripas}
+use Rattle.rtt_table.specs.declared.kind.Kind.{Kind}
+use Rattle.rtt_table.specs.Columns.{kind_of, entry_from, kind_with_ripas, joined, AreColumns}
+
+-- an entry is that of its kind and its address
+pub entry_back : (e : Entry) → entry_from (kind_of e) (entry_address e) ≡ e
+entry_back (Unassigned Empty) = refl
+entry_back (Unassigned Ram) = refl
+entry_back (Unassigned Destroyed) = refl
+entry_back (Assigned Empty granule) = refl
+entry_back (Assigned Ram granule) = refl
+entry_back (Assigned Destroyed granule) = refl
+entry_back (Table granule) = refl
+entry_back UnassignedNs = refl
+entry_back (AssignedNs page) = refl
+
+-- and a list of entries that of its two columns
+joined_back : (entries : List Entry) → joined (map kind_of entries) (map entry_address entries) ≡ entries
+unfolding joined
+joined_back [] = refl
+joined_back (e ∷ entries) = λ i. entry_back e i ∷ joined_back entries i
+
+-- the columns of entries stand for them
+pub joined_is : (entries : List Entry) (kinds : List Kind) (addresses : List ℕ) → AreColumns entries kinds addresses → joined kinds addresses ≡ entries
+joined_is entries kinds addresses columns = (λ i. joined (columns.of_kinds i) (columns.of_addresses i)) ∙ joined_back entries
+
+-- so they are the columns of what they stand for
+pub columns_held : (entries : List Entry) (kinds : List Kind) (addresses : List ℕ) → length entries ≡ 512 → AreColumns entries kinds addresses
+    → (length (joined kinds addresses) ≡ 512) × AreColumns (joined kinds addresses) kinds addresses
+columns_held entries kinds addresses size columns =
+    subst (λ (xs : List Entry). (length xs ≡ 512) × AreColumns xs kinds addresses) (sym (joined_is entries kinds addresses columns)) (size, columns)
+
+-- what copies of one element tell is copies of what it tells
+map-copies : {X Y : Type 0} (f : X → Y) (n : ℕ) (x : X) → map f (replicate n x) ≡ replicate n (f x)
+map-copies f zero x = refl
+map-copies f (suc n) x = ap (λ ys. f x ∷ ys) (map-copies f n x)
+
+-- those of copies of one entry
+pub columns-copies : (n : ℕ) (e : Entry) → AreColumns (replicate n e) (replicate n (kind_of e)) (replicate n (entry_address e))
+columns-copies n e = record { of_kinds = sym (map-copies kind_of n e); of_addresses = sym (map-copies entry_address n e) }
+
+-- those of entries of which one is replaced
+pub columns-set : (entries : List Entry) (kinds : List Kind) (addresses : List ℕ) (at : ℕ) (e : Entry) → AreColumns entries kinds addresses
+    → AreColumns (set entries at e) (set kinds at (kind_of e)) (set addresses at (entry_address e))
+columns-set entries kinds addresses at e columns = record {
+  of_kinds = ap (λ (ks : List Kind). set ks at (kind_of e)) columns.of_kinds ∙ sym (map-set kind_of entries at e);
+  of_addresses = ap (λ (cells : List ℕ). set cells at (entry_address e)) columns.of_addresses ∙ sym (map-set entry_address entries at e);
+}
+
+-- an entry's RIPAS is told by its kind alone
+kind-ripas : (ripas : Ripas) (e : Entry) → kind_of (entry_with_ripas ripas e) ≡ kind_with_ripas ripas (kind_of e)
+kind-ripas ripas (Unassigned Empty) = refl
+kind-ripas ripas (Unassigned Ram) = refl
+kind-ripas ripas (Unassigned Destroyed) = refl
+kind-ripas ripas (Assigned Empty granule) = refl
+kind-ripas ripas (Assigned Ram granule) = refl
+kind-ripas ripas (Assigned Destroyed granule) = refl
+kind-ripas ripas (Table granule) = refl
+kind-ripas ripas UnassignedNs = refl
+kind-ripas ripas (AssignedNs page) = refl
+
+-- and not by its address
+address-ripas : (ripas : Ripas) (e : Entry) → entry_address (entry_with_ripas ripas e) ≡ entry_address e
+address-ripas ripas (Unassigned old) = refl
+address-ripas ripas (Assigned old granule) = refl
+address-ripas ripas (Table granule) = refl
+address-ripas ripas UnassignedNs = refl
+address-ripas ripas (AssignedNs page) = refl
+
+-- where m elements after the first n are changed, f tells of each what g makes of what it told before
+map-stretch : {X Y : Type 0} (f : X → Y) (change : X → X) (g : Y → Y) → ((x : X) → f (change x) ≡ g (f x)) → (m n : ℕ) (xs : List X)
+    → map f (take n xs ++ (map change (take m (drop n xs)) ++ drop m (drop n xs)))
+    ≡ take n (map f xs) ++ (map g (take m (drop n (map f xs))) ++ drop m (drop n (map f xs)))
+map-stretch f change g each zero zero xs = refl
+map-stretch f change g each (suc m) zero [] = refl
+map-stretch f change g each (suc m) zero (x ∷ xs) = λ i. each x i ∷ map-stretch f change g each m zero xs i
+map-stretch f change g each zero (suc n) [] = refl
+map-stretch f change g each (suc m) (suc n) [] = refl
+map-stretch f change g each zero (suc n) (x ∷ xs) = ap (λ ys. f x ∷ ys) (map-stretch f change g each zero n xs)
+map-stretch f change g each (suc m) (suc n) (x ∷ xs) = ap (λ ys. f x ∷ ys) (map-stretch f change g each (suc m) n xs)
+
+-- and where f tells the same of each, it tells the same of all
+map-kept : {X Y : Type 0} (f : X → Y) (change : X → X) → ((x : X) → f (change x) ≡ f x) → (m n : ℕ) (xs : List X)
+    → map f (take n xs ++ (map change (take m (drop n xs)) ++ drop m (drop n xs))) ≡ map f xs
+map-kept f change same zero zero xs = refl
+map-kept f change same (suc m) zero [] = refl
+map-kept f change same (suc m) zero (x ∷ xs) = λ i. same x i ∷ map-kept f change same m zero xs i
+map-kept f change same zero (suc n) [] = refl
+map-kept f change same (suc m) (suc n) [] = refl
+map-kept f change same zero (suc n) (x ∷ xs) = ap (λ ys. f x ∷ ys) (map-kept f change same zero n xs)
+map-kept f change same (suc m) (suc n) (x ∷ xs) = ap (λ ys. f x ∷ ys) (map-kept f change same (suc m) n xs)
+
+-- as many entries as lie between two places, counted from the first, end at the last
+stretch-ends : (first last : ℕ) (ripas : Ripas) (entries : List Entry) → first ≤ last
+    → take first entries ++ (map (entry_with_ripas ripas) (take (last - first) (drop first entries)) ++ drop (last - first) (drop first entries))
+    ≡ entries_with_ripas first last ripas entries
+unfolding entries_with_ripas
+stretch-ends first last ripas entries order =
+    let reach : first + (last - first) ≡ last = omega arith in
+    let ends : drop (last - first) (drop first entries) ≡ drop last entries = drop-drop (last - first) first entries ∙ ap (λ (n : ℕ). drop n entries) reach in
+    ap (λ (rest : List Entry). take first entries ++ (map (entry_with_ripas ripas) (take (last - first) (drop first entries)) ++ rest)) ends
+
+-- those of entries of which a stretch has another RIPAS: the kinds of the stretch change, and no address does
+pub columns-ripas : (entries : List Entry) (kinds changed : List Kind) (addresses : List ℕ) (first last : ℕ) (ripas : Ripas) → AreColumns entries kinds addresses
+    → first ≤ last → changed ≡ map (kind_with_ripas ripas) (slice_range kinds first last)
+    → AreColumns (entries_with_ripas first last ripas entries) (put_mid first (last - first) kinds changed) addresses
+columns-ripas entries kinds changed addresses first last ripas columns order is_changed =
+    let m : ℕ = last - first in
+    let ends = stretch-ends first last ripas entries order in
+    let written : put_mid first m kinds changed ≡ take first kinds ++ (map (kind_with_ripas ripas) (take m (drop first kinds)) ++ drop m (drop first kinds)) =
+    ap (λ (middle : List Kind). take first kinds ++ (middle ++ drop m (drop first kinds))) is_changed in
+    let told = ap (λ (ks : List Kind). take first ks ++ (map (kind_with_ripas ripas) (take m (drop first ks)) ++ drop m (drop first ks))) columns.of_kinds in
+    record {
+      of_kinds = (written ∙ told) ∙ (sym (map-stretch kind_of (entry_with_ripas ripas) (kind_with_ripas ripas) (kind-ripas ripas) m first entries)
+          ∙ ap (λ (es : List Entry). map kind_of es) ends);
+      of_addresses = columns.of_addresses ∙ (sym (map-kept entry_address (entry_with_ripas ripas) (address-ripas ripas) m first entries)
+          ∙ ap (λ (es : List Entry). map entry_address es) ends);
+    }
+
+-- entries with the same addresses are as many
+pub as_many : (entries others : List Entry) (kinds changed : List Kind) (addresses : List ℕ) → AreColumns entries kinds addresses → AreColumns others changed addresses
+    → length others ≡ length entries
+as_many entries others kinds changed addresses columns changes =
+    sym (length-map others entry_address)
+    ∙ (ap (λ (cells : List ℕ). length cells) (sym changes.of_addresses ∙ columns.of_addresses) ∙ length-map entries entry_address)

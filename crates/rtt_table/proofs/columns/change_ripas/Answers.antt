@@ -1,0 +1,9 @@
+use Rattle.std.proofs.Common.{rules, arith}
+use Rattle.std.proofs.lemmas.Grind.{common_steps}
+use Rattle.std.proofs.lemmas.List.Edits.{map_over_more}
+use Rattle.rtt_table.specs.Columns.{kind_with_ripas}
+use Rattle.rtt_table.proofs.columns.change_ripas.Goals as goal
+
+pub loop-kind-preserved : goal.loop-kind-preserved
+loop-kind-preserved c =
+    first_of (search (rules, map_over_more (kind_with_ripas c.args.ripas)), grind (arith, common_steps, map_over_more (kind_with_ripas c.args.ripas)))

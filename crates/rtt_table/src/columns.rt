@@ -1,0 +1,108 @@
+//! The entries of a table in two columns, nine bytes an entry.
+
+ghost use Rattle.std.specs.Prelude.{All, ◌≡◌, ◌<◌, ◌≤◌, ◌↔◌, IsTrue, length, map, replicate, Some, slice_get, slice_set};
+ghost use Rattle.rmm_spec.specs.Table.{entries_with_ripas, AreAlike};
+ghost use Rattle.rtt_table.specs.Columns.{kind_with_ripas};
+
+use crate::kind::{Kind, entry_from, kind_of, kind_with_ripas};
+use rmm_spec::{Entry, Ripas};
+use std::marker::Model;
+use std::mem::size_of;
+use table_entries::entry_address;
+
+/// How many entries a table has.
+pub const ENTRIES: usize = 512;
+
+/// 512 entries: the address that each names, or 0, and what each is.
+#[derive(Drop)]
+pub struct Columns {
+    addresses: [u64; ENTRIES],
+    kinds: [Kind; ENTRIES],
+}
+
+const _: () = prove!(size_of::<Columns>() == 9 * ENTRIES);
+
+impl Model for Columns {
+    ghost use Rattle.std.specs.Prelude.{◌≡◌, List, length};
+    ghost use Rattle.rmm_spec.specs.declared.entry.Entry.{Entry};
+    ghost use Rattle.rtt_table.specs.Columns.{joined, AreColumns};
+
+    ghost Value = { List Entry };
+
+    ghost view = { λ c. joined c.kinds c.addresses };
+
+    ghost invariant = { λ c. (length (joined c.kinds c.addresses) ≡ 512) × AreColumns (joined c.kinds c.addresses) c.kinds c.addresses };
+}
+
+impl Columns {
+    /// 512 copies of one entry.
+    pub fn new(fill: Entry) -> Self
+        ensures { result ≡ replicate 512 fill }
+    {
+        let addresses = [entry_address(fill); ENTRIES];
+        let kinds = [kind_of(fill); ENTRIES];
+        Columns { addresses, kinds }
+    }
+
+    /// There are 512 entries.
+    pub fn is_whole(&self)
+        ensures { length self.now ≡ 512 }
+    {
+        let _ = &self.kinds;
+    }
+
+    pub fn entry(&self, index: usize) -> Entry
+        requires { index < 512 }
+        ensures value { slice_get self.now index ≡ Some result }
+        ensures count { length self.now ≡ 512 }
+    {
+        entry_from(self.kinds[index], self.addresses[index])
+    }
+
+    pub fn set_entry(&mut self, at: usize, entry: Entry)
+        requires { at < 512 }
+        ensures { self.new ≡ slice_set self.old at entry }
+    {
+        self.kinds[at] = kind_of(entry);
+        self.addresses[at] = entry_address(entry);
+    }
+
+    /// Whether all entries are equal.
+    pub fn are_alike(&self) -> bool
+        ensures { IsTrue result ↔ AreAlike self.now }
+    {
+        are_kind(&self.kinds, self.kinds[0]) && are_at(&self.addresses, self.addresses[0])
+    }
+
+    /// Changes the RIPAS of the entries from `from` up to but not `to`, of those that have one.
+    pub fn set_ripas(&mut self, from: usize, to: usize, ripas: Ripas)
+        requires order { from ≤ to }
+        requires within { to ≤ 512 }
+        ensures { self.new ≡ entries_with_ripas from to ripas self.old }
+    {
+        change_ripas(&mut self.kinds[from..to], ripas);
+    }
+}
+
+// Whether each entry is of the given kind.
+fn are_kind(kinds: &[Kind], same: Kind) -> bool
+    ensures { IsTrue result ↔ All (λ k. k ≡ same) kinds.now }
+{
+    kinds.iter().all(|kind| *kind == same)
+}
+
+// Whether each entry names the given address.
+fn are_at(addresses: &[u64], same: u64) -> bool
+    ensures { IsTrue result ↔ All (λ a. a ≡ same) addresses.now }
+{
+    addresses.iter().all(|address| *address == same)
+}
+
+// Changes the RIPAS of each kind that has one.
+fn change_ripas(kinds: &mut [Kind], ripas: Ripas)
+    ensures { kinds.new ≡ map (kind_with_ripas ripas) kinds.old }
+{
+    for kind in kinds.iter_mut() {
+        *kind = kind_with_ripas(*kind, ripas);
+    }
+}
