@@ -2,7 +2,7 @@
 from functions import (CPU_OFF, DATA_CREATE, DATA_CREATE_UNKNOWN, DATA_DESTROY, EXIT, GRANULE_DELEGATE, GRANULE_UNDELEGATE,
                        HOST_CALL, IPA_STATE_GET, IPA_STATE_SET, MEASUREMENT_EXTEND, MEASUREMENT_READ, REALM_ACTIVATE,
                        REALM_CONFIG, REALM_CREATE, REALM_DESTROY, REC_CREATE, REC_DESTROY, REC_ENTER, RTT_CREATE,
-                       RTT_DESTROY, RTT_INIT_RIPAS, RTT_MAP_UNPROTECTED, RTT_READ_ENTRY, RTT_SET_RIPAS,
+                       RTT_DESTROY, RTT_FOLD, RTT_INIT_RIPAS, RTT_MAP_UNPROTECTED, RTT_READ_ENTRY, RTT_SET_RIPAS,
                        RTT_UNMAP_UNPROTECTED, SYSTEM_OFF)
 from machine import DELEGATED, NEW, UNDELEGATED
 from tables import ASSIGNED, ASSIGNED_NS, LAST_LEVEL, PAGE_BYTES, RAM, UNASSIGNED, UNASSIGNED_NS, entry_bytes, walk
@@ -144,6 +144,7 @@ class Explorer:
         function = self.weighted({
             RTT_CREATE: 6 if rest and not is_last else 0.3,
             RTT_DESTROY: 1,
+            RTT_FOLD: 2,
             RTT_READ_ENTRY: 1,
             RTT_INIT_RIPAS: (3 if is_last else 1) if entry.state == UNASSIGNED else 0.3,
             DATA_CREATE: 12 if is_last and entry.state == UNASSIGNED and entry.ripas == RAM else 0.3,
@@ -158,7 +159,7 @@ class Explorer:
         if function == RTT_CREATE:
             level = table.level + 1 if table.level < LAST_LEVEL else self.draw.randint(1, LAST_LEVEL)
             return [*self.delegated(1), aligned(ipa, level - 1), level]
-        if function == RTT_DESTROY:
+        if function in (RTT_DESTROY, RTT_FOLD):
             level = self.draw.choice([table.level, table.level, self.draw.randint(1, LAST_LEVEL)])
             return [aligned(ipa, level - 1), level]
         if function == RTT_READ_ENTRY:

@@ -6,7 +6,7 @@ usage: generate.py LOAD LINES PREFIX [SEED]
 Eight CPUs work on 4096 granules. Under the load `granules` they delegate and undelegate them. Under the other loads each
 CPU makes realms and destroys them all the time, on 512 granules of its own: `realms` with RECs and with VMIDs that all CPUs
 draw from 256; `tables` with tables four levels deep in both halves, which are filled, read and emptied; `measure` with
-pages and extensions that are measured; `mixed` with all of this and with RECs that ask for memory, so that all 27 functions come.
+pages and extensions that are measured; `mixed` with all of this and with RECs that ask for memory, so that all functions come.
 
 Each CPU calls, commits and returns in turns that are drawn at random, so that up to eight calls overlap; the certificate's
 order is that of the commits, and a reply is what the machine of machine.py gives at the commit. PREFIX.history has LINES

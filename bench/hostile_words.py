@@ -3,7 +3,7 @@
 
 usage: hostile_words.py [--program PATH] [--jobs COUNT] [EXAMPLE..]
 
-The states are those that the examples with the verdict `yes` pass through. In each of them every CPU sends each of the 27
+The states are those that the examples with the verdict `yes` pass through. In each of them every CPU sends each of the
 commands with fitting words, of which one word, and then each pair of words, is each of EDGES. The reply of machine.py stands in a
 history, with a certificate that names the calls in their order, so that the program's verdict is `yes` where it agrees on all of
 them. Refused commands change nothing and share a history; each accepted one is the last of its own. It prints how many there
@@ -22,7 +22,7 @@ import tempfile
 sys.dont_write_bytecode = True
 from functions import (DATA_CREATE, DATA_CREATE_UNKNOWN, DATA_DESTROY, GRANULE_DELEGATE, GRANULE_UNDELEGATE, HOST_CALL,
                        IPA_STATE_GET, IPA_STATE_SET, MEASUREMENT_EXTEND, MEASUREMENT_READ, REALM_ACTIVATE, REALM_CREATE,
-                       REALM_DESTROY, REC_CREATE, REC_DESTROY, REC_ENTER, RTT_CREATE, RTT_DESTROY, RTT_INIT_RIPAS,
+                       REALM_DESTROY, REC_CREATE, REC_DESTROY, REC_ENTER, RTT_CREATE, RTT_DESTROY, RTT_FOLD, RTT_INIT_RIPAS,
                        RTT_MAP_UNPROTECTED, RTT_READ_ENTRY, RTT_SET_RIPAS, RTT_UNMAP_UNPROTECTED, WORDS)
 from judge import gives, read_certificate, read_history
 from machine import DELEGATED, UNDELEGATED, Machine
@@ -83,7 +83,7 @@ def fitting_words(machine):
         DATA_CREATE_UNKNOWN: [rd, free[0], 0], DATA_DESTROY: [rd, 0], REALM_ACTIVATE: [rd],
         REALM_CREATE: [free[0], free[1], 0x27, 1, 0xFE, 0], REALM_DESTROY: [rd],
         REC_CREATE: [rd, free[0], index, 1, free[1], free[2]], REC_DESTROY: [rec], REC_ENTER: [rec],
-        RTT_CREATE: [rd, free[0], 0, 2], RTT_DESTROY: [rd, 0, 2], RTT_MAP_UNPROTECTED: [rd, HIGH, host[0]],
+        RTT_CREATE: [rd, free[0], 0, 2], RTT_DESTROY: [rd, 0, 2], RTT_FOLD: [rd, 0, 3], RTT_MAP_UNPROTECTED: [rd, HIGH, host[0]],
         RTT_READ_ENTRY: [rd, 0, 3], RTT_UNMAP_UNPROTECTED: [rd, HIGH], RTT_INIT_RIPAS: [rd, 0, PAGE_BYTES],
         RTT_SET_RIPAS: [rd, rec, 0, PAGE_BYTES], MEASUREMENT_READ: [0], MEASUREMENT_EXTEND: [1, 0x40, *range(1, 9)],
         IPA_STATE_SET: [0, PAGE_BYTES, 1], IPA_STATE_GET: [0], HOST_CALL: [0],

@@ -1,7 +1,7 @@
 """What the CPUs of a long history call, under each load of generate.py. Each CPU has 512 granules of its own."""
 from functions import (CPU_OFF, DATA_CREATE, DATA_CREATE_UNKNOWN, DATA_DESTROY, EXIT, GRANULE_DELEGATE, GRANULE_UNDELEGATE,
                        HOST_CALL, IPA_STATE_GET, IPA_STATE_SET, MEASUREMENT_EXTEND, MEASUREMENT_READ, REALM_ACTIVATE, REALM_CONFIG,
-                       REALM_CREATE, REALM_DESTROY, REC_CREATE, REC_DESTROY, REC_ENTER, RTT_CREATE, RTT_DESTROY,
+                       REALM_CREATE, REALM_DESTROY, REC_CREATE, REC_DESTROY, REC_ENTER, RTT_CREATE, RTT_DESTROY, RTT_FOLD,
                        RTT_INIT_RIPAS, RTT_MAP_UNPROTECTED, RTT_READ_ENTRY, RTT_SET_RIPAS, RTT_UNMAP_UNPROTECTED, SYSTEM_OFF)
 from tables import ENTRIES, LAST_LEVEL, PAGE_BYTES, entry_bytes
 
@@ -107,7 +107,7 @@ class Realms(Lives):
 
 
 class Tables(Lives):
-    """Realms whose tables are made four levels deep in both halves, filled, read, emptied and destroyed."""
+    """Realms whose tables are made four levels deep in both halves, filled, read, emptied, and folded or destroyed."""
 
     spaces = [(0x30, 0)]
     tables = range(1, 17)
@@ -128,7 +128,7 @@ class Tables(Lives):
             yield RTT_CREATE, [rd, rtt, ipa, below]
         yield from self.filled(rd, bases, tables, others[len(spots):])
         for ipa, below in reversed(spots):
-            yield RTT_DESTROY, [rd, ipa, below]
+            yield RTT_FOLD if ipa >= half else RTT_DESTROY, [rd, ipa, below]
         yield REALM_DESTROY, [rd]
         yield from self.undelegation(granules)
 

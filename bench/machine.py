@@ -6,7 +6,7 @@ from collections import namedtuple
 from functions import (CPU_OFF, DATA_CREATE, DATA_CREATE_UNKNOWN, DATA_DESTROY, EXIT, GRANULE_DELEGATE, GRANULE_UNDELEGATE,
                        HOST_CALL, IPA_STATE_GET, IPA_STATE_SET, MEASUREMENT_EXTEND, MEASUREMENT_READ, REALM_ACTIVATE,
                        REALM_CALLS, REALM_CONFIG, REALM_CREATE, REALM_DESTROY, REC_CREATE, REC_DESTROY, REC_ENTER, RTT_CREATE,
-                       RTT_DESTROY, RTT_INIT_RIPAS, RTT_MAP_UNPROTECTED, RTT_READ_ENTRY, RTT_SET_RIPAS,
+                       RTT_DESTROY, RTT_FOLD, RTT_INIT_RIPAS, RTT_MAP_UNPROTECTED, RTT_READ_ENTRY, RTT_SET_RIPAS,
                        RTT_UNMAP_UNPROTECTED, SYSTEM_OFF)
 from tables import (ASSIGNED, ASSIGNED_NS, DESTROYED, ENTRIES, FREE_NS, LAST_LEVEL, PAGE_BYTES, RAM, STATE_NUMBERS, TABLE,
                     UNASSIGNED, UNASSIGNED_NS, UNUSED, Entry, Table, entry_bytes, new_root, walk)
@@ -244,7 +244,7 @@ class Machine:
         self.tags[rtt] = RTT
         above.set_entry(ipa, Entry(TABLE, address=rtt, table=Table(rtt, level, ipa, [entry] * ENTRIES)))
 
-    def destroy_table(self, rd, ipa, level):
+    def need_link(self, rd, ipa, level):
         self.need(level <= LAST_LEVEL)
         self.need(ipa % entry_bytes(level - 1) == 0)
         realm = self.need_realm(rd)
@@ -253,10 +253,24 @@ class Machine:
         above = walk(realm.root, ipa, level - 1)
         entry = above.entry(ipa)
         self.need(above.level == level - 1 and entry.state == TABLE, table_error(above.level))
-        self.need(not entry.table.has(ASSIGNED, ASSIGNED_NS, TABLE), table_error(level))
-        self.tags[entry.address] = DELEGATED
-        above.set_entry(ipa, UNUSED[DESTROYED] if ipa < realm.half else FREE_NS)
-        return [entry.address]
+        return realm, above, entry.table
+
+    def take_table(self, above, ipa, left):
+        granule = above.entry(ipa).address
+        self.tags[granule] = DELEGATED
+        above.set_entry(ipa, left)
+        return [granule]
+
+    def destroy_table(self, rd, ipa, level):
+        realm, above, table = self.need_link(rd, ipa, level)
+        self.need(not table.has(ASSIGNED, ASSIGNED_NS, TABLE), table_error(level))
+        return self.take_table(above, ipa, UNUSED[DESTROYED] if ipa < realm.half else FREE_NS)
+
+    def fold_table(self, rd, ipa, level):
+        _, above, table = self.need_link(rd, ipa, level)
+        first = table.entries[0]
+        self.need(first in [*UNUSED, FREE_NS] and table.entries.count(first) == ENTRIES, table_error(level))
+        return self.take_table(above, ipa, first)
 
     def read_entry(self, rd, ipa, level):
         self.need(level <= LAST_LEVEL)
@@ -440,6 +454,7 @@ class Machine:
         REC_DESTROY: destroy_rec,
         RTT_CREATE: create_table,
         RTT_DESTROY: destroy_table,
+        RTT_FOLD: fold_table,
         RTT_MAP_UNPROTECTED: map_unprotected,
         RTT_READ_ENTRY: read_entry,
         RTT_UNMAP_UNPROTECTED: unmap_unprotected,

@@ -65,7 +65,7 @@ const LIFE: &[(FunctionId, &[Word])] = &[
     (FunctionId::DataCreateUnknown, &[G(0), G(6), P(0x1000)]),
     (FunctionId::DataDestroy, &[G(0), P(0x1000)]),
     (FunctionId::RttUnmapUnprotected, &[G(0), P(HALF)]),
-    (FunctionId::RttDestroy, &[G(0), P(HALF), P(3)]),
+    (FunctionId::RttFold, &[G(0), P(HALF), P(3)]),
     (FunctionId::RttDestroy, &[G(0), P(HALF), P(2)]),
     (FunctionId::RttDestroy, &[G(0), P(0), P(3)]),
     (FunctionId::RttDestroy, &[G(0), P(0), P(2)]),

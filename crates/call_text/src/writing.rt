@@ -1,6 +1,6 @@
 //! A command by its name, with its words by name.
 
-use rmm_spec::Call;
+use rmm_spec::{Call, Removal};
 use std::fmt;
 
 /// A command as a report names it. Words are in hex, as the texts have them.
@@ -30,9 +30,18 @@ impl fmt::Display for CallText {
                 ipa,
                 level,
             } => write_call(f, "RTT_CREATE rd rtt ipa level", &[rd, rtt, ipa, level]),
-            Call::RttDestroy { rd, ipa, level } => {
-                write_call(f, "RTT_DESTROY rd ipa level", &[rd, ipa, level])
-            }
+            Call::RttRemove {
+                removal: Removal::Destroy,
+                rd,
+                ipa,
+                level,
+            } => write_call(f, "RTT_DESTROY rd ipa level", &[rd, ipa, level]),
+            Call::RttRemove {
+                removal: Removal::Fold,
+                rd,
+                ipa,
+                level,
+            } => write_call(f, "RTT_FOLD rd ipa level", &[rd, ipa, level]),
             Call::RttReadEntry { rd, ipa, level } => {
                 write_call(f, "RTT_READ_ENTRY rd ipa level", &[rd, ipa, level])
             }

@@ -43,7 +43,7 @@ fn push_escape(text: &mut String, piece: &str) -> Result<(), AllocError> {
     text.push_str(piece)
 }
 
-// A count and a line, in which `#` stands for the line's number, from 0 on.
+// A count and a line, in which `#` stands for the line's number, from 0 on, and `@` for it in three hex digits.
 fn push_repeated(alloc: Global, text: &mut String, repeated: &str) -> Result<()> {
     let (count, line) = repeated.split_once(' ').context("no line is repeated")?;
     let count = count.parse::<u32>().context("no count of lines")?;
@@ -57,12 +57,21 @@ fn push_repeated(alloc: Global, text: &mut String, repeated: &str) -> Result<()>
 }
 
 fn push_numbered(text: &mut String, line: &str, number: u32) -> Result<()> {
-    let mut pieces = line.split('#');
-    if let Some(first) = pieces.next() {
-        text.push_str(first)?;
+    for (place, piece) in line.split('#').enumerate() {
+        if place > 0 {
+            write!(text, "{number}")?;
+        }
+        push_hex_numbered(text, piece, number)?;
     }
-    for piece in pieces {
-        write!(text, "{number}{piece}")?;
+    Ok(())
+}
+
+fn push_hex_numbered(text: &mut String, piece: &str, number: u32) -> Result<()> {
+    for (place, part) in piece.split('@').enumerate() {
+        if place > 0 {
+            write!(text, "{number:03x}")?;
+        }
+        text.push_str(part)?;
     }
     Ok(())
 }

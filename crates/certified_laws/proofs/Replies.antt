@@ -7,6 +7,9 @@ use Rattle.rmm_spec.specs.declared.accepted.Accepted.TheVariants.{Done, Reaches}
 use Rattle.rmm_spec.specs.declared.accepted.StretchUse.{StretchUse}
 use Rattle.rmm_spec.specs.declared.accepted.StretchUse.TheVariants.{Init, Requested}
 use Rattle.rmm_spec.specs.declared.call.Call.{Call}
+use Rattle.rmm_spec.specs.declared.call.Call.TheVariants as call
+use Rattle.rmm_spec.specs.declared.call.Removal.{Removal}
+use Rattle.rmm_spec.specs.declared.call.Removal.TheVariants.{Destroy, Fold}
 use Rattle.rmm_spec.specs.declared.command.Command.{Command}
 use Rattle.rmm_spec.specs.declared.entry.Entry.{Entry}
 use Rattle.rmm_spec.specs.declared.entry.Entry.TheVariants.{Unassigned, Assigned, Table, UnassignedNs, AssignedNs}
@@ -147,12 +150,22 @@ word : (w : List ℕ) (i : ℕ) → AreWords w → slice_index w i < 2 ^ 64
 word w i words = slice_index_or-each (λ x. x < 2 ^ 64) w i 0 words (omega arith)
 
 -- a leaf with no granule names none
-EntryFits-after_table : (realm : RealmRecord) (ipa : ℕ) → EntryFits (entry_after_table realm ipa)
-EntryFits-after_table realm ipa = either EntryFits (nat_lt ipa (half realm)) (Unassigned Destroyed) UnassignedNs (omega arith) (omega arith)
+EntryFits-after_table : (realm : RealmRecord) (ipa : ℕ) (ripas : Ripas) → EntryFits (entry_after_table realm ipa ripas)
+EntryFits-after_table realm ipa ripas = either EntryFits (nat_lt ipa (half realm)) (Unassigned ripas) UnassignedNs (omega arith) (omega arith)
 
 -- ---- functions
 
--- where its words are allowed, what stands behind the rows of each of the 27 has texts and fits
+-- a table that is taken out
+HasText-remove : (removal : Removal) (s : State) (cpu rd ipa level : ℕ) → StateFits s → AllByRecursion IsTrue (words_of (call.RttRemove removal rd ipa level))
+    → AllHaveTexts (behind s cpu (call.RttRemove removal rd ipa level)).0 × HasText (Ok (behind s cpu (call.RttRemove removal rd ipa level)).1)
+unfolding behind words_of
+HasText-remove removal s cpu rd ipa level fits tests =
+    let last = leb-true level 3 tests.0 in (
+      (IsReply-input_error, (IsReply-input_error, (IsReply-walk s rd ipa _ (omega (arith, last)), (IsReply-table_error _ last, tt)))),
+      ((omega arith, (entry_at-fits s rd _ _ fits, tt)), EntryFits-after_table (realm_at s rd) ipa _),
+    )
+
+-- where its words are allowed, what stands behind the rows of each function has texts and fits
 HasText-behind : (f : FunctionId) (w : List ℕ) (s : State) (cpu : ℕ) → StateFits s → AreWords w → AllByRecursion IsTrue (words_of (call_from f w))
     → AllHaveTexts (behind s cpu (call_from f w)).0 × HasText (Ok (behind s cpu (call_from f w)).1)
 unfolding behind call_from words_of
@@ -185,11 +198,8 @@ HasText-behind function.RttCreate w s cpu fits words tests =
       (IsReply-input_error, (IsReply-input_error, (IsReply-walk s (slice_index w 0) (slice_index w 2) _ (omega (arith, level)), (IsReply-table_error _ (omega (arith, level)), tt)))),
       ((omega arith, tt), (word w 1 words, entry_at-fits s (slice_index w 0) _ _ fits)),
     )
-HasText-behind function.RttDestroy w s cpu fits words tests =
-    let level = leb-true (slice_index w 2) 3 tests.0 in (
-      (IsReply-input_error, (IsReply-input_error, (IsReply-walk s (slice_index w 0) (slice_index w 1) _ (omega (arith, level)), (IsReply-table_error _ level, tt)))),
-      ((omega arith, (entry_at-fits s (slice_index w 0) _ _ fits, tt)), EntryFits-after_table (realm_at s (slice_index w 0)) (slice_index w 1)),
-    )
+HasText-behind function.RttDestroy w s cpu fits words tests = HasText-remove Destroy s cpu (slice_index w 0) (slice_index w 1) (slice_index w 2) fits tests
+HasText-behind function.RttFold w s cpu fits words tests = HasText-remove Fold s cpu (slice_index w 0) (slice_index w 1) (slice_index w 2) fits tests
 HasText-behind function.RttMapUnprotected w s cpu fits words tests = (
   (IsReply-input_error, (IsReply-walk s (slice_index w 0) (slice_index w 1) 3 (omega arith), (IsReply-table_error 3 (omega arith), tt))),
   ((omega arith, tt), (word w 2 words, tt)),

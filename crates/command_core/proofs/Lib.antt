@@ -4,7 +4,7 @@ pub mod Wholes
 pub mod Tables
 pub mod SeenStates
 pub mod SeenTables
-pub mod InUse
+pub mod EntrySearch
 pub mod Changes
 pub mod Rising
 pub mod Fronts

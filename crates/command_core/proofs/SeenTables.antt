@@ -13,7 +13,7 @@ use Rattle.rmm_spec.specs.State.{State}
 use Rattle.rmm_spec.specs.Lookup.{any_below}
 use Rattle.rmm_spec.specs.Table.{TableRecord, place_number}
 use Rattle.rmm_spec.specs.TableCells.{leaf_of}
-use Rattle.rmm_spec.specs.Walk.{is_table, linked_entry, entry_at, reach, has_link, table_number}
+use Rattle.rmm_spec.specs.Walk.{is_table, linked_entry, entry_at, reach, has_link, table_number, has_entry}
 use Rattle.rmm_spec.specs.Cell.{Cell, Rtt, table_in, tables_of}
 use Rattle.rmm_spec.specs.Flat.{is_table_of}
 use Rattle.rmm_spec.specs.Shape.{HoldsTable}
@@ -152,7 +152,7 @@ entry-same granules cpu hold w g number t found above =
 pub links-same : (granules cpu : ℕ) (hold : Hold) (w : Whole granules cpu hold) (g : ℕ) (t : TableRecord) → cell_in g hold.cells ≡ Some (Rtt t)
     → place_number t.place ≡ 0
     → has_link (state granules cpu hold w) t.place.rd t.place.level 0 ≡ has_link (seen_state granules hold.cells) t.place.rd t.place.level 0
-unfolding has_link
+unfolding has_entry
 links-same granules cpu hold w g t found root =
     any_below-same 512 (λ k. is_table (entry_at (state granules cpu hold w) t.place.rd t.place.level (512 * 0 + k)))
     (λ k. is_table (entry_at (seen_state granules hold.cells) t.place.rd t.place.level (512 * 0 + k)))

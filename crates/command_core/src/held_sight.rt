@@ -10,7 +10,7 @@ use command_words::is_tag;
 use granule_cells::{Cell, Side};
 use granule_state::{Config, Pa};
 use realm_desc::{Realm, Rec};
-use rmm_spec::{Tag, Walked};
+use rmm_spec::{Entry, EntryTest, Tag, Walked};
 use table_entries::{entry_number, table_number};
 
 /// Held cells with the side table, on a machine of some size. It stands for the one state that the cells tell of. Who plans what to
@@ -114,12 +114,12 @@ impl<'a, H: Held> Sight for HeldSight<'a, H> {
         }
     }
 
-    fn is_in_use(&self, rd: u64, level: u8, number: u64) -> bool {
-        self.has_live(rd, level, number)
+    fn entry_at(&self, rd: u64, level: u8, number: u64) -> Entry {
+        self.entry(rd, level, number)
     }
 
-    fn has_link(&self, rd: u64, level: u8) -> bool {
-        self.links(rd, level, 0)
+    fn has_entry(&self, rd: u64, level: u8, number: u64, test: EntryTest) -> bool {
+        self.finds(rd, level, number, test)
     }
 
     fn has_rec(&self, rd: u64) -> bool {

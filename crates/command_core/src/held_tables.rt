@@ -1,6 +1,6 @@
 //! What the tables that are held tell of walks and entries.
 
-ghost use Rattle.std.specs.Prelude.{◌≡◌, ◌/◌, ◌&&◌, ◌||◌, nat_lt, if◌then◌else◌, length, Some, None, is_some, option_map, option_copied, IfSome, IsTrue};
+ghost use Rattle.std.specs.Prelude.{◌≡◌, ◌/◌, ◌&&◌, nat_le, if◌then◌else◌, length, Some, None, is_some, option_map, option_copied, IfSome, IsTrue};
 ghost use Rattle.std.specs.List.{list_any};
 ghost use Rattle.rmm_spec.specs.Flat.{is_table_of};
 ghost use Rattle.rmm_spec.specs.Local.{granules_held};
@@ -8,7 +8,6 @@ ghost use Rattle.rmm_spec.specs.Step.Words.{is_space};
 ghost use Rattle.rmm_spec.specs.Table.{place_number};
 ghost use Rattle.rmm_spec.specs.Update.{is_same_entry};
 ghost use Rattle.rmm_spec.specs.Walk.{is_table};
-ghost use Rattle.rtt_table.specs.Counts.{is_mapped};
 ghost use Rattle.shape_laws.specs.Whole as whole_spec;
 ghost use Rattle.walk_laws.specs.SeenState as spec;
 ghost use Rattle.command_core.specs.Standing as standing;
@@ -18,9 +17,9 @@ use crate::held_sight::HeldSight;
 use command_words::is_space;
 use granule_cells::Cell;
 use granule_state::Pa;
-use rmm_spec::{Entry, EntryChange, Place};
+use rmm_spec::{Entry, EntryChange, EntryTest, Place, Ripas};
 use rtt_table::Table;
-use table_entries::{is_table, linked, table_number};
+use table_entries::{is_table, linked, passes, table_number};
 
 /// How many entries a table has.
 const ENTRIES: u64 = 512;
@@ -150,18 +149,11 @@ fn whole_table_in<H: Held>(held: &H, granule: Pa) -> Option<&Table>
     }
 }
 
-// Whether a table of the level links to one below it: at the last level no link is one.
-fn links_down(table: &Table, level: u8) -> bool
-    ensures { result ≡ (nat_lt level 3 && list_any is_table table.now.entries) }
+// Whether a table of the level has links though it is of the last level, where they count for nothing.
+fn has_dead_link(table: &Table, level: u8) -> bool
+    ensures { result ≡ (nat_le 3 level && list_any is_table table.now.entries) }
 {
-    level < 3 && table.has_link()
-}
-
-// Whether an entry of a table of the level keeps it in use.
-fn keeps_use(table: &Table, level: u8) -> bool
-    ensures { result ≡ (list_any is_mapped table.now.entries || (nat_lt level 3 && list_any is_table table.now.entries)) }
-{
-    table.has_mapped() || links_down(table, level)
+    level >= 3 && table.has_link()
 }
 
 /// The granule of the first held table of that place.
@@ -338,25 +330,31 @@ impl<'a, H: Held> HeldSight<'a, H> {
         }
     }
 
-    /// Whether the table of that number has an entry that keeps it in use.
-    pub(crate) fn has_live(&self, rd: u64, level: u8, number: u64) -> bool
+    // Whether one of the entries of that table is one that is looked for, entry by entry.
+    #[tactic(auto, unfolding(rmm_spec::specs::Walk::has_entry))]
+    fn finds_each(&self, rd: u64, level: u8, number: u64, test: EntryTest) -> bool
         requires { number < 2 ^ 52 }
-        ensures { result ≡ walks.is_in_use (seen_state self.now.config.now.granules (H.cells self.now.held.now)) rd level number }
+        ensures { result ≡ walks.has_entry (seen_state self.now.config.now.granules (H.cells self.now.held.now)) rd level number test }
     {
-        match self.table_here(rd, level, number) {
-            Some(table) => keeps_use(table, level),
-            None => self.has_under(rd, level, number),
+        for place in 0..ENTRIES {
+            if passes(test, self.entry(rd, level, ENTRIES * number + place)) {
+                return true;
+            }
         }
+        false
     }
 
-    /// Whether the table of that number links to one below it.
-    pub(crate) fn links(&self, rd: u64, level: u8, number: u64) -> bool
+    /// Whether the table of that number has an entry that is looked for.
+    pub(crate) fn finds(&self, rd: u64, level: u8, number: u64, test: EntryTest) -> bool
         requires { number < 2 ^ 52 }
-        ensures { result ≡ walks.has_link (seen_state self.now.config.now.granules (H.cells self.now.held.now)) rd level number }
+        ensures { result ≡ walks.has_entry (seen_state self.now.config.now.granules (H.cells self.now.held.now)) rd level number test }
     {
         match self.table_here(rd, level, number) {
-            Some(table) => links_down(table, level),
-            None => self.has_under(rd, level, number),
+            Some(table) if has_dead_link(table, level) => self.finds_each(rd, level, number, test),
+            Some(table) => table.has(test),
+            None => {
+                passes(test, Entry::Unassigned(Ripas::Empty)) || self.has_under(rd, level, number)
+            }
         }
     }
 }

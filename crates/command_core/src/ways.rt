@@ -25,11 +25,13 @@ fn way_of(call: &Call) -> Option<Way>
     ensures { option_map way_seen result ≡ spec.way_of call.now }
 {
     match *call {
-        Call::RttCreate { rd, ipa, level, .. } | Call::RttDestroy { rd, ipa, level } => Some(Way {
-            rd,
-            ipa,
-            max: (level as u8).saturating_sub(1),
-        }),
+        Call::RttCreate { rd, ipa, level, .. } | Call::RttRemove { rd, ipa, level, .. } => Some(
+            Way {
+                rd,
+                ipa,
+                max: (level as u8).saturating_sub(1),
+            },
+        ),
         Call::RttReadEntry { rd, ipa, level } => Some(Way {
             rd,
             ipa,
@@ -72,7 +74,7 @@ pub(crate) fn part_below(call: &Call, entry: Entry) -> Option<u64>
     ensures { result ≡ spec.part_below call.now entry }
 {
     match (call, entry) {
-        (Call::RttDestroy { .. }, Entry::Table(granule))
+        (Call::RttRemove { .. }, Entry::Table(granule))
         | (Call::DataDestroy { .. }, Entry::Assigned(_, granule)) => Some(granule),
         _ => None,
     }

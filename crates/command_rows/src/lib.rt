@@ -1,4 +1,4 @@
-//! What each of the 27 commands is answered: its rows, in their order, over whatever can look up what they read.
+//! What each command is answered: its rows, in their order, over whatever can look up what they read.
 //! It promises the definitions' answer in the state that a `Sight` stands for, at every call, of a CPU outside of RECs and inside of one.
 //! A row stands once in code, for every program that decides commands; what a command changes is a value, and is made elsewhere.
 //! Nothing here changes a state, takes memory or waits.

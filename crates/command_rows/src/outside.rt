@@ -9,7 +9,7 @@ use crate::realm::{realm_activate, realm_create, realm_destroy};
 use crate::rec::{rec_create, rec_destroy, rec_enter};
 use crate::ripas::{rtt_init_ripas, rtt_set_ripas};
 use crate::sight::Sight;
-use crate::table::{rtt_create, rtt_destroy, rtt_read_entry};
+use crate::table::{rtt_create, rtt_read_entry, rtt_remove};
 use crate::unprotected::{rtt_map_unprotected, rtt_unmap_unprotected};
 use rmm_spec::{Accepted, Call, Reply};
 
@@ -60,7 +60,12 @@ pub fn answer_outside<S: Sight>(sight: &S, cpu: u8, call: &Call) -> Result<Accep
             ipa,
             level,
         } => rtt_create(sight, rd, rtt, ipa, level),
-        Call::RttDestroy { rd, ipa, level } => rtt_destroy(sight, rd, ipa, level),
+        Call::RttRemove {
+            removal,
+            rd,
+            ipa,
+            level,
+        } => rtt_remove(sight, removal, rd, ipa, level),
         Call::RttMapUnprotected { rd, ipa, page } => rtt_map_unprotected(sight, rd, ipa, page),
         Call::RttReadEntry { rd, ipa, level } => rtt_read_entry(sight, rd, ipa, level),
         Call::RttUnmapUnprotected { rd, ipa } => rtt_unmap_unprotected(sight, rd, ipa),

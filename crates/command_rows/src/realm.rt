@@ -7,7 +7,7 @@ use crate::reply::done;
 use crate::sight::Sight;
 use realm_desc::{HashAlgorithm, Space};
 use rec_steps::{input_error, realm_error};
-use rmm_spec::{Accepted, Change, RealmChange, RealmUpdate, Reply, Tag};
+use rmm_spec::{Accepted, Change, EntryTest, RealmChange, RealmUpdate, Reply, Tag};
 
 #[tactic(auto, unfolding(rmm_spec::specs::Step::Words::words_of, rmm_spec::specs::Step::Named::named))]
 #[inline(never)]
@@ -83,7 +83,7 @@ pub(crate) fn realm_destroy<S: Sight>(sight: &S, rd: u64) -> Result<Accepted, Re
     if sight.has_rec(rd) {
         return Err(realm_error(0));
     }
-    if sight.has_link(rd, realm.start_level()) {
+    if sight.has_entry(rd, realm.start_level(), 0, EntryTest::Link) {
         return Err(realm_error(0));
     }
     let root = realm.root.address();

@@ -6,7 +6,7 @@ ghost use Rattle.rmm_spec.specs.State.{State};
 ghost use Rattle.rmm_spec.specs.Walk as tables;
 
 use realm_desc::{Realm, Rec};
-use rmm_spec::{Tag, Walked};
+use rmm_spec::{Entry, EntryTest, Tag, Walked};
 
 /// Who can look up what the rows of commands read. It stands for one state, of which each look-up is an equation.
 pub trait Sight {
@@ -38,14 +38,14 @@ pub trait Sight {
         ensures end { result ≡ tables.walk (state self.now) rd ipa max }
         ensures within { result.level ≤ 3 };
 
-    /// Whether the table of that number has an entry that keeps it in use.
-    fn is_in_use(&self, rd: u64, level: u8, number: u64) -> bool
-        requires { number < 2 ^ 52 }
-        ensures { result ≡ tables.is_in_use (state self.now) rd level number };
+    /// The entry of that number at the level.
+    fn entry_at(&self, rd: u64, level: u8, number: u64) -> Entry
+        ensures { result ≡ tables.entry_at (state self.now) rd level number };
 
-    /// Whether the realm's root, whose level it is, links to a table below it.
-    fn has_link(&self, rd: u64, level: u8) -> bool
-        ensures { result ≡ tables.has_link (state self.now) rd level 0 };
+    /// Whether the table of that number has an entry that is looked for.
+    fn has_entry(&self, rd: u64, level: u8, number: u64, test: EntryTest) -> bool
+        requires { number < 2 ^ 52 }
+        ensures { result ≡ tables.has_entry (state self.now) rd level number test };
 
     /// Whether a REC belongs to the realm.
     fn has_rec(&self, rd: u64) -> bool

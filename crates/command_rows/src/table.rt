@@ -1,6 +1,6 @@
 //! The commands that put tables in, take them out and read their entries.
 
-ghost use Rattle.std.specs.Prelude.{◌≡◌};
+ghost use Rattle.std.specs.Prelude.{◌≡◌, ◌<◌, ◌^◌};
 ghost use Rattle.rmm_spec.specs.Step.Table as spec;
 
 use crate::reply::{done, done_with, table_error, told};
@@ -8,7 +8,7 @@ use crate::sight::Sight;
 use command_words::is_aligned;
 use realm_desc::Realm;
 use rec_steps::input_error;
-use rmm_spec::{Accepted, Change, Entry, Reply, Ripas, Tag};
+use rmm_spec::{Accepted, Change, Entry, EntryTest, Removal, Reply, Ripas, Tag};
 use table_entries::{
     entry_address, entry_ripas, entry_state, is_table, ripas_number, table_number,
 };
@@ -61,15 +61,16 @@ pub(crate) fn rtt_create<S: Sight>(
     }))
 }
 
-#[tactic(auto, unfolding(rmm_spec::specs::Step::Table::rtt_destroy, rmm_spec::specs::Step::Words::words_of, rmm_spec::specs::Step::Named::named, rmm_spec::specs::Lookup::realm_at))]
+#[tactic(auto, unfolding(rmm_spec::specs::Step::Table::rtt_remove, rmm_spec::specs::Step::Words::words_of, rmm_spec::specs::Step::Named::named, rmm_spec::specs::Lookup::realm_at))]
 #[inline(never)]
-pub(crate) fn rtt_destroy<S: Sight>(
+pub(crate) fn rtt_remove<S: Sight>(
     sight: &S,
+    removal: Removal,
     rd: u64,
     ipa: u64,
     level: u64,
 ) -> Result<Accepted, Reply>
-    ensures { result ≡ spec.rtt_destroy (S.state sight.now) rd ipa level }
+    ensures { result ≡ spec.rtt_remove (S.state sight.now) removal rd ipa level }
 {
     if level > 3 {
         return Err(input_error());
@@ -93,11 +94,11 @@ pub(crate) fn rtt_destroy<S: Sight>(
         return Err(table_error(end.level));
     }
     let number = table_number(level, ipa);
-    if sight.is_in_use(rd, level, number) {
+    let Some(ripas) = ripas_left(sight, removal, rd, level, number) else {
         return Err(table_error(level));
-    }
+    };
     let rtt = entry_address(end.entry);
-    let entry = entry_after_table(&realm, ipa);
+    let entry = entry_after_table(&realm, ipa, ripas);
     Ok(done_with(
         rtt,
         Change::TableDestroyed {
@@ -147,12 +148,38 @@ pub(crate) fn rtt_read_entry<S: Sight>(
     ]))
 }
 
-// What a stretch of addresses is where a table of it was taken out.
-fn entry_after_table(realm: &Realm, ipa: u64) -> Entry
-    ensures { result ≡ spec.entry_after_table realm.now ipa }
+// The RIPAS that a table leaves where it may be taken out.
+#[tactic(auto, unfolding(rmm_spec::specs::Step::Table::ripas_left))]
+fn ripas_left<S: Sight>(
+    sight: &S,
+    removal: Removal,
+    rd: u64,
+    level: u8,
+    number: u64,
+) -> Option<Ripas>
+    requires { number < 2 ^ 52 }
+    ensures { result ≡ spec.ripas_left removal (S.state sight.now) rd level number }
+{
+    match removal {
+        Removal::Destroy if sight.has_entry(rd, level, number, EntryTest::Live) => None,
+        Removal::Destroy => Some(Ripas::Destroyed),
+        Removal::Fold => {
+            let first = sight.entry_at(rd, level, 512 * number);
+            if sight.has_entry(rd, level, number, EntryTest::Unlike(first)) {
+                None
+            } else {
+                Some(entry_ripas(first))
+            }
+        }
+    }
+}
+
+// What a stretch of addresses is where a table of it was taken out and left this RIPAS.
+fn entry_after_table(realm: &Realm, ipa: u64, ripas: Ripas) -> Entry
+    ensures { result ≡ spec.entry_after_table realm.now ipa ripas }
 {
     if ipa < realm.protected_end() {
-        Entry::Unassigned(Ripas::Destroyed)
+        Entry::Unassigned(ripas)
     } else {
         Entry::UnassignedNs
     }

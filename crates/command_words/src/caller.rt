@@ -29,23 +29,6 @@ pub fn caller_of(call: &Call) -> Caller
         | Call::CpuOff
         | Call::SystemOff => Caller::Realm,
         Call::Exit => Caller::Rec,
-        Call::GranuleDelegate { .. }
-        | Call::GranuleUndelegate { .. }
-        | Call::DataCreate { .. }
-        | Call::DataCreateUnknown { .. }
-        | Call::DataDestroy { .. }
-        | Call::RealmActivate { .. }
-        | Call::RealmCreate { .. }
-        | Call::RealmDestroy { .. }
-        | Call::RecCreate { .. }
-        | Call::RecDestroy { .. }
-        | Call::RecEnter { .. }
-        | Call::RttCreate { .. }
-        | Call::RttDestroy { .. }
-        | Call::RttMapUnprotected { .. }
-        | Call::RttReadEntry { .. }
-        | Call::RttUnmapUnprotected { .. }
-        | Call::RttInitRipas { .. }
-        | Call::RttSetRipas { .. } => Caller::Host,
+        _ => Caller::Host,
     }
 }

@@ -110,7 +110,7 @@ pub fn named(call: &Call) -> Names
         Call::RealmActivate { rd }
         | Call::RealmDestroy { rd }
         | Call::DataDestroy { rd, .. }
-        | Call::RttDestroy { rd, .. }
+        | Call::RttRemove { rd, .. }
         | Call::RttMapUnprotected { rd, .. }
         | Call::RttReadEntry { rd, .. }
         | Call::RttUnmapUnprotected { rd, .. }

@@ -88,7 +88,7 @@ pub fn words_allow(call: &Call) -> bool
             aux1,
             ..
         } => are_apart(rec, aux0, aux1) && flags <= 1,
-        Call::RttCreate { ipa, level, .. } | Call::RttDestroy { ipa, level, .. } => {
+        Call::RttCreate { ipa, level, .. } | Call::RttRemove { ipa, level, .. } => {
             level <= 3 && is_aligned(ipa, (level as u8).saturating_sub(1))
         }
         Call::RttReadEntry { ipa, level, .. } => level <= 3 && is_aligned(ipa, level as u8),

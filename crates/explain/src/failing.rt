@@ -166,7 +166,7 @@ impl Place<'_> {
         match *call {
             Call::RealmCreate { vmid, .. } => Condition::VmidUsed { vmid },
             Call::RecCreate { mpidr, .. } => Condition::NotNextIndex { mpidr },
-            Call::RttCreate { rd, ipa, level, .. } | Call::RttDestroy { rd, ipa, level } => {
+            Call::RttCreate { rd, ipa, level, .. } | Call::RttRemove { rd, ipa, level, .. } => {
                 self.space_row(rd, ipa, level, level.checked_sub(1))
             }
             Call::RttReadEntry { rd, ipa, level } => self.space_row(rd, ipa, level, Some(level)),
@@ -256,12 +256,17 @@ impl Place<'_> {
                 level: below,
                 ..
             } if at.saturating_add(1) == below => Condition::EntryIsTable { ipa, level },
-            Call::RttDestroy {
+            Call::RttRemove {
+                removal,
                 ipa,
                 level: below,
                 ..
-            } if at == below => Condition::TableInUse { ipa, level },
-            Call::RttDestroy {
+            } if at == below => Condition::TableStays {
+                removal,
+                ipa,
+                level,
+            },
+            Call::RttRemove {
                 ipa,
                 level: below,
                 ..
@@ -271,7 +276,7 @@ impl Place<'_> {
                 level: below,
                 ..
             }
-            | Call::RttDestroy {
+            | Call::RttRemove {
                 ipa,
                 level: below,
                 ..

@@ -66,7 +66,7 @@ fn first_fault(call: &Call) -> WordFault
                 WordFault::SameGranule
             }
         }
-        Call::RttCreate { ipa, level, .. } | Call::RttDestroy { ipa, level, .. } => {
+        Call::RttCreate { ipa, level, .. } | Call::RttRemove { ipa, level, .. } => {
             level_fault(level, ipa, level.saturating_sub(1))
         }
         Call::RttReadEntry { ipa, level, .. } => level_fault(level, ipa, level),

@@ -5,7 +5,7 @@ use crate::walks::is_granule;
 use command_rows::Sight;
 use command_words::is_tag;
 use realm_desc::{Realm, Rec};
-use rmm_spec::{Tag, Walked};
+use rmm_spec::{Entry, EntryTest, Tag, Walked};
 use table_entries::{entry_number, table_number};
 
 #[tactic(auto, unfolding(crate::specs::Flat::state_of, rmm_spec::specs::Lookup::has_tag))]
@@ -51,12 +51,12 @@ impl Sight for FlatMachine {
         }
     }
 
-    fn is_in_use(&self, rd: u64, level: u8, number: u64) -> bool {
-        self.has_live(rd, level, number)
+    fn entry_at(&self, rd: u64, level: u8, number: u64) -> Entry {
+        self.entry(rd, level, number)
     }
 
-    fn has_link(&self, rd: u64, level: u8) -> bool {
-        self.has_table(rd, level, 0)
+    fn has_entry(&self, rd: u64, level: u8, number: u64, test: EntryTest) -> bool {
+        self.finds(rd, level, number, test)
     }
 
     fn has_rec(&self, rd: u64) -> bool {

@@ -7,10 +7,8 @@ use crate::kept::{Kept, Spot};
 use crate::machine::FlatMachine;
 use granule_state::{Config, granule_at};
 use realm_desc::{Realm, Rec};
-use rmm_spec::{Entry, Stretch, Tag};
-use table_entries::{
-    can_be_set, entry_number, entry_size, is_live, is_table, linked, table_number,
-};
+use rmm_spec::{Entry, EntryTest, Stretch, Tag};
+use table_entries::{can_be_set, entry_number, entry_size, linked, passes, table_number};
 
 /// How many entries a table has.
 pub(crate) const ENTRIES: u64 = 512;
@@ -98,28 +96,14 @@ impl FlatMachine {
         self.deepest(rd, ipa, max - 1)
     }
 
-    /// Whether a table has an entry that keeps it in use.
-    #[tactic(auto, unfolding(rmm_spec::specs::Walk::is_in_use))]
-    pub(crate) fn has_live(&self, rd: u64, level: u8, number: u64) -> bool
+    /// Whether a table has an entry that is looked for.
+    #[tactic(auto, unfolding(rmm_spec::specs::Walk::has_entry))]
+    pub(crate) fn finds(&self, rd: u64, level: u8, number: u64, test: EntryTest) -> bool
         requires { number < 2 ^ 52 }
-        ensures { result ≡ tables.is_in_use (state_of self.now) rd level number }
+        ensures { result ≡ tables.has_entry (state_of self.now) rd level number test }
     {
         for place in 0..ENTRIES {
-            if is_live(self.entry(rd, level, ENTRIES * number + place)) {
-                return true;
-            }
-        }
-        false
-    }
-
-    /// Whether a table links to one below it.
-    #[tactic(auto, unfolding(rmm_spec::specs::Walk::has_link))]
-    pub(crate) fn has_table(&self, rd: u64, level: u8, number: u64) -> bool
-        requires { number < 2 ^ 52 }
-        ensures { result ≡ tables.has_link (state_of self.now) rd level number }
-    {
-        for place in 0..ENTRIES {
-            if is_table(self.entry(rd, level, ENTRIES * number + place)) {
+            if passes(test, self.entry(rd, level, ENTRIES * number + place)) {
                 return true;
             }
         }

@@ -5,11 +5,12 @@ use Rattle.std.proofs.lemmas.Bool.{false≢true, lt-ltb, le-ltb, cases_lt}
 use Rattle.std.proofs.lemmas.Option.{none-some, same_Some}
 use Rattle.rmm_spec.specs.declared.entry.Entry.{Entry}
 use Rattle.rmm_spec.specs.declared.entry.Entry.TheVariants.{Unassigned, Table}
+use Rattle.rmm_spec.specs.declared.entry.EntryTest.{EntryTest}
 use Rattle.rmm_spec.specs.declared.tag.Ripas.TheVariants.{Empty}
 use Rattle.rmm_spec.specs.State.{State, RealmRecord}
 use Rattle.rmm_spec.specs.Lookup.{any_below}
 use Rattle.rmm_spec.specs.Step.Words.{is_space}
-use Rattle.rmm_spec.specs.Walk.{entry_at, linked_entry, is_table, is_live, is_in_use, has_link, table_size, full}
+use Rattle.rmm_spec.specs.Walk.{entry_at, linked_entry, passes, has_entry, table_size, full}
 use Rattle.rmm_spec.specs.Table.{TableRecord}
 use Rattle.rmm_spec.specs.Sound.{IsSound}
 use Rattle.rmm_spec.specs.Cell.{Cell, tables_of}
@@ -21,7 +22,7 @@ use Rattle.shape_laws.proofs.Finds.{table_granule-holds, holds-found}
 use Rattle.shape_laws.proofs.Ties.{IsTied-shaped, entry_leaf-some, leaf-found, link_or_leaf, entry_there, number-again, at_place, same_table, well_shaped-is_sound}
 use Rattle.rtt_table.proofs.Searches.{search-places}
 use Rattle.machine_cells.specs.declared.granules.Granules.{Granules}
-use Rattle.machine_cells.specs.Searches.{StandsAs, IsTable, is_above}
+use Rattle.machine_cells.specs.Searches.{StandsAs, IsTable, has_unlisted}
 use Rattle.machine_cells.specs.Whole.{cells_of, whole_of, count_of, state_in, IsShapedIn}
 use Rattle.machine_cells.proofs.WalkEnds.{entry-none}
 
@@ -79,25 +80,28 @@ module _ (g : Granules) (shaped : IsShapedIn g) (rd level number : ℕ) where
       (sym at ∙ each-entry t stands k (omega (arith, below, whole-table t stands)))))
       ∙ ap (λ n. any_below n (λ k. p (entry_at (state_in g) rd level (512 * number + k)))) (whole-table t stands)
 
-  pub in_use-table : (t : TableRecord) → StandsAs g rd level number t → list_any is_live t.entries ≡ is_in_use (state_in g) rd level number
-  unfolding is_in_use
-  in_use-table t stands = search-table is_live t stands
-
-  pub link-table : (t : TableRecord) → StandsAs g rd level number t → list_any is_table t.entries ≡ has_link (state_in g) rd level number
-  unfolding has_link
-  link-table t stands = search-table is_table t stands
+  pub has_entry-table : (t : TableRecord) (test : EntryTest) → StandsAs g rd level number t → list_any (passes test) t.entries ≡ has_entry (state_in g) rd level number test
+  unfolding has_entry
+  has_entry-table t test stands = search-table (passes test) t stands
 
 -- ---- where no table stands
 
--- only the first number may pass
-any_below-first : (n : ℕ) (p : ℕ → Bool) → ((k : ℕ) → 0 < k → k ≤ n → p k ≡ false) → any_below (suc n) p ≡ p 0
-any_below-first zero p others = by (p 0)
+-- where all numbers but the first are alike, the first or another passes
+any_below-first : (n : ℕ) (p : ℕ → Bool) (rest : Bool) → ((k : ℕ) → 0 < k → k ≤ suc n → p k ≡ rest) → any_below (suc (suc n)) p ≡ (p 0 || rest)
+any_below-first zero p rest others = rw (others 1 (omega arith) (omega arith)) (by rest (p 0))
   where
-    by : (b : Bool) → (b || false) ≡ b
-    by true = refl
-    by false = refl
-any_below-first (suc n) p others =
-    rw (others (suc n) (omega arith) (omega arith)) (any_below-first n p (λ k some below. others k some (omega (arith, below))))
+    by : (a b : Bool) → (a || (b || false)) ≡ (b || a)
+    by true true = refl
+    by true false = refl
+    by false true = refl
+    by false false = refl
+any_below-first (suc n) p rest others =
+    rw (others (suc (suc n)) (omega arith) (omega arith), any_below-first n p rest (λ k some below. others k some (omega (arith, below)))) (by rest (p 0))
+  where
+    by : (a b : Bool) → (a || (b || a)) ≡ (b || a)
+    by true true = refl
+    by true false = refl
+    by false b = refl
 
 module _ (s : State) (sound : IsSound s) (rd level number : ℕ) (none : s.table rd level number ≡ None) where
   -- below a table that doesn't stand none stands but the root
@@ -120,44 +124,23 @@ module _ (s : State) (sound : IsSound s) (rd level number : ℕ) (none : s.table
         | inr large ↦ absurd (omega (arith, start, large.1))
       ]
 
-  entry-below : (p : Entry → Bool) → ((g : ℕ) → p (Table g) ≡ true) → p (Unassigned Empty) ≡ false → (n : ℕ) → n / 512 ≡ number
-      → p (entry_at s rd level n) ≡ (nat_lt level 3 && is_some (s.table rd (level + 1) n))
-  entry-below p link vacant n up =
-      ap p (entry-none s sound rd level n (ap (s.table rd level) up ∙ none)) ∙ by (nat_lt level 3) (s.table rd (level + 1) n)
+  -- so all entries but the first have nothing
+  unlisted-none : (n : ℕ) → n / 512 ≡ number → 0 < n → entry_at s rd level n ≡ Unassigned Empty
+  unlisted-none n up some =
+      entry-none s sound rd level n (ap (s.table rd level) up ∙ none)
+      ∙ by (nat_lt level 3) (s.table rd (level + 1) n) (ap (λ l. s.table rd l n) (add-one level) ∙ below-none n up some _ refl)
     where
-      by : (b : Bool) (found : Option ℕ) → p (linked_entry (if b then found else None) None) ≡ (b && is_some found)
-      by true (Some g) = link g
-      by true None = vacant
-      by false found = vacant
+      by : (b : Bool) (found : Option ℕ) → found ≡ None → linked_entry (if b then found else None) None ≡ Unassigned Empty
+      by true found is = ap (λ (o : Option ℕ). linked_entry o None) is
+      by false found is = refl
 
-  search-none : (p : Entry → Bool) → ((g : ℕ) → p (Table g) ≡ true) → p (Unassigned Empty) ≡ false
-      → is_above s rd level number ≡ any_below 512 (λ k. p (entry_at s rd level (512 * number + k)))
-  search-none p link vacant =
+  pub has_entry-none : (test : EntryTest) → has_unlisted s rd level number test ≡ has_entry s rd level number test
+  unfolding has_entry
+  has_entry-none test =
       let first : 512 * number + 0 ≡ 512 * number = omega arith in
-      let top : (512 * number) / 512 ≡ number = omega arith in
-      sym (any_below-first 511 (λ k. p (entry_at s rd level (512 * number + k))) others
-      ∙ ap (λ n. p (entry_at s rd level n)) first
-      ∙ entry-below p link vacant (512 * number) top)
-    where
-      fails : (b : Bool) (found : Option ℕ) → found ≡ None → (b && is_some found) ≡ false
-      fails true found is = ap is_some is
-      fails false found is = refl
-
-      others : (k : ℕ) → 0 < k → k ≤ 511 → p (entry_at s rd level (512 * number + k)) ≡ false
-      others k some below =
-          let up : (512 * number + k) / 512 ≡ number = omega (arith, below) in
-          let later : 0 < 512 * number + k = omega (arith, some) in
-          entry-below p link vacant (512 * number + k) up
-          ∙ fails (nat_lt level 3) (s.table rd (level + 1) (512 * number + k))
-          (ap (λ l. s.table rd l (512 * number + k)) (add-one level) ∙ below-none (512 * number + k) up later _ refl)
-
-  pub in_use-none : is_above s rd level number ≡ is_in_use s rd level number
-  unfolding is_in_use
-  in_use-none = search-none is_live (λ g. refl) refl
-
-  pub link-none : is_above s rd level number ≡ has_link s rd level number
-  unfolding has_link
-  link-none = search-none is_table (λ g. refl) refl
+      sym (any_below-first 510 (λ k. passes test (entry_at s rd level (512 * number + k))) (passes test (Unassigned Empty))
+      (λ k some below. ap (passes test) (unlisted-none (512 * number + k) (omega (arith, below)) (omega (arith, some))))
+      ∙ ap (λ n. passes test (entry_at s rd level n) || passes test (Unassigned Empty)) first)
 
   -- the entry where no table has it
   pub unlisted-last : (n : ℕ) → n / 512 ≡ number → 3 ≤ level → Unassigned Empty ≡ entry_at s rd level n

@@ -1,10 +1,13 @@
 -- Tables that are looked up by their place, and where a stretch may end.
-use Rattle.std.specs.Prelude.{◌≡◌, ℕ, ◌+◌, ◌-◌, ◌*◌, Bool, ◌&&◌, nat_lt, nat_le, Option, Some, None, is_some}
+use Rattle.std.specs.Prelude.{◌≡◌, ℕ, ◌+◌, ◌-◌, ◌*◌, Bool, ◌&&◌, ◌||◌, nat_lt, nat_le, Option, Some, None}
 use Rattle.rmm_spec.specs.declared.accepted.Stretch.{Stretch}
+use Rattle.rmm_spec.specs.declared.entry.Entry.TheVariants.{Unassigned}
+use Rattle.rmm_spec.specs.declared.entry.EntryTest.{EntryTest}
+use Rattle.rmm_spec.specs.declared.tag.Ripas.TheVariants.{Empty}
 use Rattle.rmm_spec.specs.State.{State}
 use Rattle.rmm_spec.specs.Table.{TableRecord}
 use Rattle.rmm_spec.specs.Cell.{tables_of}
-use Rattle.rmm_spec.specs.Walk.{entry_size, table_size, table_number, is_multiple}
+use Rattle.rmm_spec.specs.Walk.{entry_size, table_size, entry_at, passes, table_number, is_multiple}
 use Rattle.machine_cells.specs.declared.granules.Granules.{Granules}
 use Rattle.machine_cells.specs.Whole.{cells_of, state_in}
 
@@ -19,9 +22,9 @@ abbrev pub IsTable : Granules → ℕ → ℕ → ℕ → Option TableRecord →
 IsTable g rd level number None = (state_in g).table rd level number ≡ None
 IsTable g rd level number (Some table) = StandsAs g rd level number table
 
--- whether a table stands below the first entry of a table of that number, at a level that has tables below it
-abbrev pub is_above : State → ℕ → ℕ → ℕ → Bool
-is_above s rd level number = nat_lt level 3 && is_some (s.table rd (level + 1) (512 * number))
+-- whether an entry of a table that doesn't stand is one that is looked for: a root may stand below the first, and the others have nothing
+abbrev pub has_unlisted : State → ℕ → ℕ → ℕ → EntryTest → Bool
+has_unlisted s rd level number test = passes test (entry_at s rd level (512 * number)) || passes test (Unassigned Empty)
 
 -- whether a stretch may end there, whatever its entries are
 unfoldable pub is_end : Stretch → ℕ → Bool

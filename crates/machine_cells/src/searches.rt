@@ -4,13 +4,13 @@ ghost use Rattle.std.specs.Prelude.{◌≡◌, ◌≤◌};
 ghost use Rattle.machine_cells.specs.Searches as search;
 
 use crate::granules::Granules;
-use rmm_spec::{Entry, Ripas, Stretch};
+use rmm_spec::{Entry, EntryTest, Ripas, Stretch};
 use rtt_table::Table;
-use table_entries::{can_be_set, entry_number, entry_size, table_number};
+use table_entries::{can_be_set, entry_number, entry_size, passes, table_number};
 
 impl Granules {
     ghost use Rattle.std.specs.Prelude.{◌≡◌, ◌^◌, ◌/◌, ◌<◌, ◌≤◌, IfSome, None, option_copied};
-    ghost use Rattle.rmm_spec.specs.Walk.{entry_at, is_in_use, has_link};
+    ghost use Rattle.rmm_spec.specs.Walk.{entry_at, has_entry};
     ghost use Rattle.rmm_spec.specs.Step.Ripas.{is_reached};
     ghost use Rattle.machine_cells.specs.Whole.{state_in, IsShapedIn};
     ghost use Rattle.machine_cells.specs.Searches.{IsTable};
@@ -53,36 +53,34 @@ impl Granules {
         }
     }
 
-    // Whether a root stands below a table of that number, which doesn't stand.
-    fn is_above_root(&self, rd: u64, level: u8, number: u64) -> bool
-        requires shaped { IsShapedIn self.now }
-        requires number { number < 2 ^ 55 }
-        ensures { result ≡ search.is_above (state_in self.now) rd level number }
+    /// The entry of that number at the level.
+    pub fn entry(&self, rd: u64, level: u8, number: u64) -> Entry
+        requires { IsShapedIn self.now }
+        ensures { result ≡ entry_at (state_in self.now) rd level number }
     {
-        level < 3 && self.table_at(rd, level + 1, 512 * number).is_some()
+        let table = self.table_here(rd, level, number / 512);
+        self.entry_in(table, rd, level, number)
     }
 
-    /// Whether the table of that number has an entry that keeps it in use.
-    pub fn is_in_use(&self, rd: u64, level: u8, number: u64) -> bool
+    // Whether an entry of a table that doesn't stand is one that is looked for.
+    fn has_unlisted(&self, rd: u64, level: u8, number: u64, test: EntryTest) -> bool
         requires shaped { IsShapedIn self.now }
         requires number { number < 2 ^ 55 }
-        ensures { result ≡ is_in_use (state_in self.now) rd level number }
+        ensures { result ≡ search.has_unlisted (state_in self.now) rd level number test }
     {
-        match self.table_here(rd, level, number) {
-            Some(table) => table.is_live(),
-            None => self.is_above_root(rd, level, number),
-        }
+        passes(test, self.entry(rd, level, 512 * number))
+            || passes(test, Entry::Unassigned(Ripas::Empty))
     }
 
-    /// Whether the table of that number links to one below it.
-    pub fn has_link(&self, rd: u64, level: u8, number: u64) -> bool
+    /// Whether the table of that number has an entry that is looked for.
+    pub fn has_entry(&self, rd: u64, level: u8, number: u64, test: EntryTest) -> bool
         requires shaped { IsShapedIn self.now }
         requires number { number < 2 ^ 55 }
-        ensures { result ≡ has_link (state_in self.now) rd level number }
+        ensures { result ≡ has_entry (state_in self.now) rd level number test }
     {
         match self.table_here(rd, level, number) {
-            Some(table) => table.has_link(),
-            None => self.is_above_root(rd, level, number),
+            Some(table) => table.has(test),
+            None => self.has_unlisted(rd, level, number, test),
         }
     }
 

@@ -5,7 +5,7 @@ use Rattle.std.proofs.lemmas.Bool.{cases_lt}
 use Rattle.std.proofs.lemmas.List.{get_or-take, get_or_past, length-take, length-take-le}
 use Rattle.std.proofs.lemmas.Nat.{be_bytes_8}
 use Rattle.rmm_spec.specs.declared.function_id.FunctionId.{FunctionId}
-use Rattle.rmm_spec.specs.declared.function_id.FunctionId.TheVariants.{GranuleDelegate, GranuleUndelegate, DataCreate, DataCreateUnknown, DataDestroy, RealmActivate, RealmCreate, RealmDestroy, RecCreate, RecDestroy, RecEnter, RttCreate, RttDestroy, RttMapUnprotected, RttReadEntry, RttUnmapUnprotected, RttInitRipas, RttSetRipas, MeasurementRead, MeasurementExtend, RealmConfig, IpaStateSet, IpaStateGet, HostCall, CpuOff, SystemOff, Exit}
+use Rattle.rmm_spec.specs.declared.function_id.FunctionId.TheVariants.{GranuleDelegate}
 use Rattle.rmm_spec.specs.Function.{number_of}
 use Rattle.rmm_spec.specs.Text.{fixed_hex, parts_of}
 use Rattle.rmm_spec.proofs.Texts.{fixed_hex-plain, length-fixed_hex}
@@ -17,32 +17,7 @@ use Rattle.rmi_codec.specs.Spaced.{parts_behind}
 pub number_of_text : (f : FunctionId) → (text_number f ≡ from_be_bytes w64 (fixed_hex 8 (number_of f))) × (to_be_bytes w64 (text_number f) ≡ fixed_hex 8 (number_of f))
 unfolding text_number number_of fixed_hex
 number_of_text GranuleDelegate = (refl, refl)
-number_of_text GranuleUndelegate = (refl, refl)
-number_of_text DataCreate = (refl, refl)
-number_of_text DataCreateUnknown = (refl, refl)
-number_of_text DataDestroy = (refl, refl)
-number_of_text RealmActivate = (refl, refl)
-number_of_text RealmCreate = (refl, refl)
-number_of_text RealmDestroy = (refl, refl)
-number_of_text RecCreate = (refl, refl)
-number_of_text RecDestroy = (refl, refl)
-number_of_text RecEnter = (refl, refl)
-number_of_text RttCreate = (refl, refl)
-number_of_text RttDestroy = (refl, refl)
-number_of_text RttMapUnprotected = (refl, refl)
-number_of_text RttReadEntry = (refl, refl)
-number_of_text RttUnmapUnprotected = (refl, refl)
-number_of_text RttInitRipas = (refl, refl)
-number_of_text RttSetRipas = (refl, refl)
-number_of_text MeasurementRead = (refl, refl)
-number_of_text MeasurementExtend = (refl, refl)
-number_of_text RealmConfig = (refl, refl)
-number_of_text IpaStateSet = (refl, refl)
-number_of_text IpaStateGet = (refl, refl)
-number_of_text HostCall = (refl, refl)
-number_of_text CpuOff = (refl, refl)
-number_of_text SystemOff = (refl, refl)
-number_of_text Exit = (refl, refl)
+number_of_text _ = (refl, refl)
 
 -- the first eight bytes of a line, one by one
 abbrev pub first_eight : List ℕ → List ℕ

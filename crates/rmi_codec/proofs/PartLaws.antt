@@ -11,7 +11,7 @@ use Rattle.std.proofs.lemmas.List.Splits.{join_with_byte-slice_split, slice_spli
 use Rattle.std.proofs.lemmas.List.Sums.{position_or_len_is, fails_before_first}
 use Rattle.arrayvec.specs.ArrayVec.{ArrayVec}
 use Rattle.rmm_spec.specs.declared.function_id.FunctionId.{FunctionId}
-use Rattle.rmm_spec.specs.declared.function_id.FunctionId.TheVariants.{GranuleDelegate, GranuleUndelegate, DataCreate, DataCreateUnknown, DataDestroy, RealmActivate, RealmCreate, RealmDestroy, RecCreate, RecDestroy, RecEnter, RttCreate, RttDestroy, RttMapUnprotected, RttReadEntry, RttUnmapUnprotected, RttInitRipas, RttSetRipas, MeasurementRead, MeasurementExtend, RealmConfig, IpaStateSet, IpaStateGet, HostCall, CpuOff, SystemOff, Exit}
+use Rattle.rmm_spec.specs.declared.function_id.FunctionId.TheVariants.{GranuleDelegate}
 use Rattle.rmm_spec.specs.declared.reply.Reply.{Reply}
 use Rattle.rmm_spec.specs.declared.reply.Reply.TheVariants as reply
 use Rattle.rmm_spec.specs.CommandText.{AreWords, IsReply, reply_parts}
@@ -169,29 +169,4 @@ no_other_form reply.Misplaced form rest parts next e ok err misplaced = misplace
 pub word_count-le : (f : FunctionId) → word_count f ≤ 10
 unfolding word_count
 word_count-le GranuleDelegate = lit≤ tt
-word_count-le GranuleUndelegate = lit≤ tt
-word_count-le DataCreate = lit≤ tt
-word_count-le DataCreateUnknown = lit≤ tt
-word_count-le DataDestroy = lit≤ tt
-word_count-le RealmActivate = lit≤ tt
-word_count-le RealmCreate = lit≤ tt
-word_count-le RealmDestroy = lit≤ tt
-word_count-le RecCreate = lit≤ tt
-word_count-le RecDestroy = lit≤ tt
-word_count-le RecEnter = lit≤ tt
-word_count-le RttCreate = lit≤ tt
-word_count-le RttDestroy = lit≤ tt
-word_count-le RttMapUnprotected = lit≤ tt
-word_count-le RttReadEntry = lit≤ tt
-word_count-le RttUnmapUnprotected = lit≤ tt
-word_count-le RttInitRipas = lit≤ tt
-word_count-le RttSetRipas = lit≤ tt
-word_count-le MeasurementRead = lit≤ tt
-word_count-le MeasurementExtend = lit≤ tt
-word_count-le RealmConfig = lit≤ tt
-word_count-le IpaStateSet = lit≤ tt
-word_count-le IpaStateGet = lit≤ tt
-word_count-le HostCall = lit≤ tt
-word_count-le CpuOff = lit≤ tt
-word_count-le SystemOff = lit≤ tt
-word_count-le Exit = lit≤ tt
+word_count-le _ = lit≤ tt

@@ -1,7 +1,7 @@
 -- The texts of the functions' numbers.
 use Rattle.std.specs.Prelude.{ℕ}
 use Rattle.rmm_spec.specs.declared.function_id.FunctionId.{FunctionId}
-use Rattle.rmm_spec.specs.declared.function_id.FunctionId.TheVariants.{GranuleDelegate, GranuleUndelegate, DataCreate, DataCreateUnknown, DataDestroy, RealmActivate, RealmCreate, RealmDestroy, RecCreate, RecDestroy, RecEnter, RttCreate, RttDestroy, RttMapUnprotected, RttReadEntry, RttUnmapUnprotected, RttInitRipas, RttSetRipas, MeasurementRead, MeasurementExtend, RealmConfig, IpaStateSet, IpaStateGet, HostCall, CpuOff, SystemOff, Exit}
+use Rattle.rmm_spec.specs.declared.function_id.FunctionId.TheVariants.{GranuleDelegate, GranuleUndelegate, DataCreate, DataCreateUnknown, DataDestroy, RealmActivate, RealmCreate, RealmDestroy, RecCreate, RecDestroy, RecEnter, RttCreate, RttDestroy, RttMapUnprotected, RttReadEntry, RttUnmapUnprotected, RttFold, RttInitRipas, RttSetRipas, MeasurementRead, MeasurementExtend, RealmConfig, IpaStateSet, IpaStateGet, HostCall, CpuOff, SystemOff, Exit}
 
 -- the eight bytes of a number's text, read as one number with the first byte highest
 unfoldable pub text_number : FunctionId → ℕ
@@ -21,6 +21,7 @@ text_number RttDestroy = 0x6334303030313565
 text_number RttMapUnprotected = 0x6334303030313566
 text_number RttReadEntry = 0x6334303030313631
 text_number RttUnmapUnprotected = 0x6334303030313632
+text_number RttFold = 0x6334303030313636
 text_number RttInitRipas = 0x6334303030313638
 text_number RttSetRipas = 0x6334303030313639
 text_number MeasurementRead = 0x6334303030313932

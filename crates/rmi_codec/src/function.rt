@@ -34,6 +34,7 @@ fn function_spelled(bytes: u64) -> Option<FunctionId>
         0x6334_3030_3031_3566 => FunctionId::RttMapUnprotected,
         0x6334_3030_3031_3631 => FunctionId::RttReadEntry,
         0x6334_3030_3031_3632 => FunctionId::RttUnmapUnprotected,
+        0x6334_3030_3031_3636 => FunctionId::RttFold,
         0x6334_3030_3031_3638 => FunctionId::RttInitRipas,
         0x6334_3030_3031_3639 => FunctionId::RttSetRipas,
         0x6334_3030_3031_3932 => FunctionId::MeasurementRead,
@@ -73,6 +74,7 @@ pub fn words_of(function: FunctionId) -> usize
         | FunctionId::RttDestroy
         | FunctionId::RttMapUnprotected
         | FunctionId::RttReadEntry
+        | FunctionId::RttFold
         | FunctionId::RttInitRipas
         | FunctionId::IpaStateSet => 3,
         FunctionId::RttCreate | FunctionId::RttSetRipas => 4,

@@ -11,7 +11,7 @@ use Rattle.rmm_spec.specs.declared.tag.Tag.{Tag}
 use Rattle.rmm_spec.specs.declared.tag.Tag.TheVariants.{Delegated}
 use Rattle.rmm_spec.specs.State.{State, RealmRecord}
 use Rattle.rmm_spec.specs.Lookup.{has_tag}
-use Rattle.rmm_spec.specs.Walk.{table_size, full, is_table, linked_entry, entry_at, is_live, is_in_use, has_link}
+use Rattle.rmm_spec.specs.Walk.{table_size, full, is_table, linked_entry, entry_at, is_live, is_in_use, has_link, has_entry}
 use Rattle.rmm_spec.specs.Step.Words.{is_space}
 use Rattle.rmm_spec.specs.Sound.{IsSound}
 use Rattle.rmm_spec.proofs.TagLaws.{tag-has_tag}
@@ -73,7 +73,7 @@ entry-page s rd level number granule ripas is =
 -- a table with a page is in use
 pub page-in_use : (s : State) (rd level number granule : ℕ) (ripas : Ripas) → IsSound s → s.leaf rd level number ≡ Some (Assigned ripas granule)
     → is_in_use s rd level (number / 512) ≡ false → ⊥
-unfolding is_in_use
+unfolding has_entry
 page-in_use s rd level number granule ripas sound is unused =
     let split : 512 * (number / 512) + number % 512 ≡ number = div-add-mod number 512 in
     let idle = any_below-false 512 (λ k. is_live (entry_at s rd level (512 * (number / 512) + k))) unused (number % 512) (omega arith) in
@@ -119,7 +119,7 @@ root-first s rd number granule r sound is table =
 -- a realm whose root has no link has no table below it
 unlinked-alone : (s : State) (rd : ℕ) (r : RealmRecord) → IsSound s → s.realm rd ≡ Some r → has_link s rd r.start_level 0 ≡ false
     → (d number : ℕ) → is_some (s.table rd (suc (r.start_level + d)) number) ≡ true → ⊥
-unfolding has_link
+unfolding has_entry
 unlinked-alone s rd r sound is unlinked zero number table =
     let level = r.start_level in
     let plain : level + zero ≡ level = omega arith in

@@ -8,17 +8,17 @@ use Rattle.rmm_spec.specs.Measure.{first_words, measurement_words, rem_start}
 use Rattle.rmm_spec.specs.Function.{number_of}
 use Rattle.rmm_spec.specs.Rows.{ok}
 use Rattle.rmm_spec.specs.Run.{JournalEntry}
-use Rattle.rmm_spec.specs.Script.{script_config, answered, replay, table_with_data_stays, data_granule_mapped_twice, ripas_change_in_two_parts, ripas_change_past_table, life_of_a_rec, off_and_out_of_range, ripas_before_a_realm_runs, realms_and_recs_come_and_go, words_out_of_range}
+use Rattle.rmm_spec.specs.Script.{script_config, answered, replay, table_with_data_stays, table_folds, data_granule_mapped_twice, ripas_change_in_two_parts, ripas_change_past_table, life_of_a_rec, off_and_out_of_range, ripas_before_a_realm_runs, realms_and_recs_come_and_go, words_out_of_range}
 use Rattle.rmm_spec.specs.State.{opening}
 use Rattle.rmm_spec.specs.Lookup.{is_granule, has_tag, is_inside, rec_inside, realm_at, rec_at, is_vmid_used, has_rec}
-use Rattle.rmm_spec.specs.Walk.{entry_size, table_size, entry_number, table_number, entry_at, reach, is_in_use, has_link}
+use Rattle.rmm_spec.specs.Walk.{entry_size, table_size, entry_number, table_number, entry_at, reach, has_entry}
 use Rattle.rmm_spec.specs.Step.{answer_of, outcome}
 use Rattle.rmm_spec.specs.Step.Words.{words_of}
 use Rattle.rmm_spec.specs.Step.Named.{named}
 use Rattle.rmm_spec.specs.Step.Granule.{granule_delegate, granule_undelegate}
 use Rattle.rmm_spec.specs.Step.Realm.{realm_create, realm_activate, realm_destroy}
 use Rattle.rmm_spec.specs.Step.Rec.{rec_create, rec_destroy, rec_enter}
-use Rattle.rmm_spec.specs.Step.Table.{rtt_create, rtt_destroy, rtt_read_entry}
+use Rattle.rmm_spec.specs.Step.Table.{rtt_create, rtt_remove, ripas_left, rtt_read_entry}
 use Rattle.rmm_spec.specs.Step.Data.{data_create, data_create_unknown, data_destroy}
 use Rattle.rmm_spec.specs.Step.Unprotected.{rtt_map_unprotected, rtt_unmap_unprotected}
 use Rattle.rmm_spec.specs.Step.Ripas.{rtt_init_ripas, rtt_set_ripas, is_reached, reached_change}
@@ -30,6 +30,7 @@ AreReplayed all scripts = AllByRecursion (λ (entries : List JournalEntry). is_s
 
 pub all_runs : AreReplayed true
     (table_with_data_stays
+    ∷ table_folds
     ∷ data_granule_mapped_twice
     ∷ ripas_change_in_two_parts
     ∷ ripas_change_past_table
@@ -39,8 +40,8 @@ pub all_runs : AreReplayed true
     ∷ realms_and_recs_come_and_go
     ∷ words_out_of_range
     ∷ [])
-unfolding replay opening table_with_data_stays data_granule_mapped_twice ripas_change_in_two_parts ripas_change_past_table life_of_a_rec off_and_out_of_range ripas_before_a_realm_runs realms_and_recs_come_and_go words_out_of_range call_from class_of changed realm_updated rec_updated is_granule has_tag is_inside rec_inside realm_at rec_at is_vmid_used has_rec entry_size table_size entry_number table_number entry_at reach is_in_use has_link answer_of outcome words_of named granule_delegate granule_undelegate realm_create realm_activate realm_destroy rec_create rec_destroy rec_enter rtt_create rtt_destroy rtt_read_entry data_create data_create_unknown data_destroy rtt_map_unprotected rtt_unmap_unprotected rtt_init_ripas rtt_set_ripas is_reached reached_change measurement_read measurement_extend realm_config ipa_state_set ipa_state_get host_call cpu_off system_off rec_exit number_of measurement_words first_words rem_start
-all_runs = (refl, (refl, (refl, (refl, (refl, (refl, (refl, (refl, (refl, tt)))))))))
+unfolding replay opening table_with_data_stays table_folds data_granule_mapped_twice ripas_change_in_two_parts ripas_change_past_table life_of_a_rec off_and_out_of_range ripas_before_a_realm_runs realms_and_recs_come_and_go words_out_of_range call_from class_of changed realm_updated rec_updated is_granule has_tag is_inside rec_inside realm_at rec_at is_vmid_used has_rec entry_size table_size entry_number table_number entry_at reach has_entry answer_of outcome words_of named granule_delegate granule_undelegate realm_create realm_activate realm_destroy rec_create rec_destroy rec_enter rtt_create rtt_remove ripas_left rtt_read_entry data_create data_create_unknown data_destroy rtt_map_unprotected rtt_unmap_unprotected rtt_init_ripas rtt_set_ripas is_reached reached_change measurement_read measurement_extend realm_config ipa_state_set ipa_state_get host_call cpu_off system_off rec_exit number_of measurement_words first_words rem_start
+all_runs = (refl, (refl, (refl, (refl, (refl, (refl, (refl, (refl, (refl, (refl, tt))))))))))
 
 -- an end past the table, an end over a page that was given, and a page that is given twice
 pub no_runs : AreReplayed false
@@ -48,5 +49,5 @@ pub no_runs : AreReplayed false
     ∷ (take 11 ripas_before_a_realm_runs ++ answered RttInitRipas (0x1000 ∷ 0 ∷ 0x3000 ∷ []) (ok (0x2000 ∷ [])) ∷ [])
     ∷ (data_granule_mapped_twice ++ answered DataCreateUnknown (0x6000 ∷ 0x5000 ∷ 0 ∷ []) (ok []) ∷ [])
     ∷ [])
-unfolding replay opening data_granule_mapped_twice ripas_change_past_table ripas_before_a_realm_runs call_from class_of changed realm_updated rec_updated is_granule has_tag is_inside rec_inside realm_at rec_at is_vmid_used has_rec entry_size table_size entry_number table_number entry_at reach is_in_use has_link answer_of outcome words_of named granule_delegate granule_undelegate realm_create realm_activate realm_destroy rec_create rec_destroy rec_enter rtt_create rtt_destroy rtt_read_entry data_create data_create_unknown data_destroy rtt_map_unprotected rtt_unmap_unprotected rtt_init_ripas rtt_set_ripas is_reached reached_change measurement_read measurement_extend realm_config ipa_state_set ipa_state_get host_call cpu_off system_off rec_exit number_of
+unfolding replay opening data_granule_mapped_twice ripas_change_past_table ripas_before_a_realm_runs call_from class_of changed realm_updated rec_updated is_granule has_tag is_inside rec_inside realm_at rec_at is_vmid_used has_rec entry_size table_size entry_number table_number entry_at reach has_entry answer_of outcome words_of named granule_delegate granule_undelegate realm_create realm_activate realm_destroy rec_create rec_destroy rec_enter rtt_create rtt_remove ripas_left rtt_read_entry data_create data_create_unknown data_destroy rtt_map_unprotected rtt_unmap_unprotected rtt_init_ripas rtt_set_ripas is_reached reached_change measurement_read measurement_extend realm_config ipa_state_set ipa_state_get host_call cpu_off system_off rec_exit number_of
 no_runs = (refl, (refl, (refl, tt)))

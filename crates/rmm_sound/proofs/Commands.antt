@@ -20,7 +20,7 @@ use Rattle.rmm_spec.specs.Step.Named.{named}
 use Rattle.rmm_spec.proofs.Behind.{behind}
 use Rattle.rmm_sound.proofs.ByRows.{row_holds}
 use Rattle.rmm_sound.proofs.Applies.{Applies, Follows, IsRunning, answer_applies, inside_running, idle_awaits_nothing}
-use Rattle.rmm_sound.proofs.TableCommands.{rtt_create_follows, rtt_destroy_follows}
+use Rattle.rmm_sound.proofs.TableCommands.{rtt_create_follows, rtt_remove_follows}
 use Rattle.rmm_sound.proofs.PageCommands.{data_create_follows, data_create_unknown_follows, data_destroy_follows, rtt_map_unprotected_follows, rtt_unmap_unprotected_follows}
 use Rattle.rmm_sound.proofs.RipasCommands.{rtt_init_ripas_follows, rtt_set_ripas_follows}
 
@@ -82,7 +82,7 @@ command_follows s cpu (call.RecEnter rec) sound whole placed (rec_tag, (not_new,
     let idle = (and_parts (is_none (rec_at s rec).cpu) (rec_at s rec).runnable ready).0 in
     (tt, (rec_tag, (idle, not-true (is_inside s cpu) placed, idle_awaits_nothing s rec sound rec_tag idle)))
 command_follows s cpu (call.RttCreate rd rtt ipa level) sound whole placed holds = rtt_create_follows s cpu rd rtt ipa level sound holds
-command_follows s cpu (call.RttDestroy rd ipa level) sound whole placed holds = rtt_destroy_follows s cpu rd ipa level sound holds
+command_follows s cpu (call.RttRemove removal rd ipa level) sound whole placed holds = rtt_remove_follows s cpu removal rd ipa level sound holds
 command_follows s cpu (call.DataCreate rd granule ipa source flags digest) sound whole placed holds = data_create_follows s cpu rd granule ipa source flags digest sound whole holds
 command_follows s cpu (call.DataCreateUnknown rd granule ipa) sound whole placed holds = data_create_unknown_follows s cpu rd granule ipa sound holds
 command_follows s cpu (call.DataDestroy rd ipa) sound whole placed holds = data_destroy_follows s cpu rd ipa sound holds

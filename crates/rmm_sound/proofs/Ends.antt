@@ -7,7 +7,7 @@ use Rattle.rmm_spec.specs.declared.accepted.StretchUse.{StretchUse}
 use Rattle.rmm_spec.specs.declared.accepted.StretchUse.TheVariants.{Init, Requested}
 use Rattle.rmm_spec.specs.declared.entry.Entry.{Entry}
 use Rattle.rmm_spec.specs.declared.entry.Entry.TheVariants.{Unassigned, UnassignedNs}
-use Rattle.rmm_spec.specs.declared.tag.Ripas.TheVariants.{Destroyed}
+use Rattle.rmm_spec.specs.declared.tag.Ripas.{Ripas}
 use Rattle.rmm_spec.specs.declared.tag.Tag.TheVariants.{Rd}
 use Rattle.rmm_spec.specs.State.{State, RealmRecord}
 use Rattle.rmm_spec.specs.Lookup.{has_tag, realm_at}
@@ -67,10 +67,10 @@ table_number-above level ipa below_root =
     ap (λ l. table_number l ipa) (sym up) ∙ table_number-suc (level - 1) ipa
 
 -- what a table leaves behind keeps no table in use, and fits its half
-pub after_table_fits : (r : RealmRecord) (ipa level number : ℕ) → number * entry_size level ≡ ipa
-    → IsVacant (entry_after_table r ipa) × IsLeafOf (entry_after_table r ipa) r level number
-after_table_fits r ipa level number begins =
-    choice (λ e. IsVacant e × IsLeafOf e r level number) _ (nat_lt ipa (half r)) (Unassigned Destroyed) UnassignedNs refl
+pub after_table_fits : (r : RealmRecord) (ipa level number : ℕ) (ripas : Ripas) → number * entry_size level ≡ ipa
+    → IsVacant (entry_after_table r ipa ripas) × IsLeafOf (entry_after_table r ipa ripas) r level number
+after_table_fits r ipa level number ripas begins =
+    choice (λ e. IsVacant e × IsLeafOf e r level number) _ (nat_lt ipa (half r)) (Unassigned ripas) UnassignedNs refl
     (λ lower. (tt, rw begins (ltb-true ipa (half r) lower)))
     (λ upper. (tt, rw begins (ltb-false ipa (half r) upper)))
 

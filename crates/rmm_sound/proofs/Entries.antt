@@ -4,7 +4,7 @@ use Rattle.std.proofs.lemmas.Bool.{or_cases, lt-ltb}
 use Rattle.rmm_spec.specs.declared.entry.Entry.{Entry}
 use Rattle.rmm_spec.specs.declared.entry.Entry.TheVariants.{Unassigned, Assigned, Table, UnassignedNs, AssignedNs}
 use Rattle.rmm_spec.specs.State.{State, RealmRecord}
-use Rattle.rmm_spec.specs.Walk.{entry_at, linked_entry, is_table, is_live, is_in_use}
+use Rattle.rmm_spec.specs.Walk.{entry_at, linked_entry, is_table, is_live, is_in_use, has_entry}
 use Rattle.rmm_spec.specs.Sound.{IsSound, IsLeafOf}
 use Rattle.rmm_spec.specs.Applicable.{IsVacant}
 use Rattle.rmm_sound.proofs.Cases.{both_ways}
@@ -96,7 +96,7 @@ not_in_use s sound rd level number (Some granule) at unused = both_ways (ap is_l
 -- below a table that is not in use are none
 pub childless_unused : (s : State) → IsSound s → (rd level number : ℕ) → is_in_use s rd level number ≡ false
     → (n : ℕ) → n / 512 ≡ number → s.table rd (suc level) n ≡ None
-unfolding is_in_use
+unfolding has_entry
 childless_unused s sound rd level number unused n in_table =
     let each : is_live (entry_at s rd level (512 * number + n % 512)) ≡ false =
     any_below-false 512 (λ k. is_live (entry_at s rd level (512 * number + k))) unused (n % 512) (omega arith) in

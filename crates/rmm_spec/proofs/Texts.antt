@@ -12,7 +12,7 @@ use Rattle.rmm_spec.specs.declared.command.Command.{Command}
 use Rattle.rmm_spec.specs.declared.event.Event.{Event}
 use Rattle.rmm_spec.specs.declared.event.Event.TheVariants.{Called, Returned}
 use Rattle.rmm_spec.specs.declared.function_id.FunctionId.{FunctionId}
-use Rattle.rmm_spec.specs.declared.function_id.FunctionId.TheVariants.{GranuleDelegate, GranuleUndelegate, DataCreate, DataCreateUnknown, DataDestroy, RealmActivate, RealmCreate, RealmDestroy, RecCreate, RecDestroy, RecEnter, RttCreate, RttDestroy, RttMapUnprotected, RttReadEntry, RttUnmapUnprotected, RttInitRipas, RttSetRipas, MeasurementRead, MeasurementExtend, RealmConfig, IpaStateSet, IpaStateGet, HostCall, CpuOff, SystemOff, Exit}
+use Rattle.rmm_spec.specs.declared.function_id.FunctionId.TheVariants.{GranuleDelegate, GranuleUndelegate, DataCreate, DataCreateUnknown, DataDestroy, RealmActivate, RealmCreate, RealmDestroy, RecCreate, RecDestroy, RecEnter, RttCreate, RttDestroy, RttMapUnprotected, RttReadEntry, RttUnmapUnprotected, RttFold, RttInitRipas, RttSetRipas, MeasurementRead, MeasurementExtend, RealmConfig, IpaStateSet, IpaStateGet, HostCall, CpuOff, SystemOff, Exit}
 use Rattle.rmm_spec.specs.declared.line.Line.{Line}
 use Rattle.rmm_spec.specs.declared.line.Line.TheVariants.{Keep, Unfinished}
 use Rattle.rmm_spec.specs.declared.reply.Reply.{Reply}
@@ -205,38 +205,17 @@ line_text-has_no_newline (part ∷ next ∷ parts) h =
 
 -- ---- functions
 
--- the function of a number
-function_numbered : ℕ → FunctionId
-function_numbered n =
-    if n == 0xc4000151 then GranuleDelegate else (
-    if n == 0xc4000152 then GranuleUndelegate else (
-    if n == 0xc4000153 then DataCreate else (
-    if n == 0xc4000154 then DataCreateUnknown else (
-    if n == 0xc4000155 then DataDestroy else (
-    if n == 0xc4000157 then RealmActivate else (
-    if n == 0xc4000158 then RealmCreate else (
-    if n == 0xc4000159 then RealmDestroy else (
-    if n == 0xc400015a then RecCreate else (
-    if n == 0xc400015b then RecDestroy else (
-    if n == 0xc400015c then RecEnter else (
-    if n == 0xc400015d then RttCreate else (
-    if n == 0xc400015e then RttDestroy else (
-    if n == 0xc400015f then RttMapUnprotected else (
-    if n == 0xc4000161 then RttReadEntry else (
-    if n == 0xc4000162 then RttUnmapUnprotected else (
-    if n == 0xc4000168 then RttInitRipas else (
-    if n == 0xc4000169 then RttSetRipas else (
-    if n == 0xc4000192 then MeasurementRead else (
-    if n == 0xc4000193 then MeasurementExtend else (
-    if n == 0xc4000196 then RealmConfig else (
-    if n == 0xc4000197 then IpaStateSet else (
-    if n == 0xc4000198 then IpaStateGet else (
-    if n == 0xc4000199 then HostCall else (
-    if n == 0x84000002 then CpuOff else (
-    if n == 0x84000008 then SystemOff else (
-    Exit))))))))))))))))))))))))))
+-- the first of some functions that has the number
+abbrev function_among : List FunctionId → ℕ → FunctionId
+function_among [] n = Exit
+function_among (f ∷ others) n = if number_of f == n then f else function_among others n
 
-function_numbered-number_of : (f : FunctionId) → function_numbered (number_of f) ≡ f
+-- the function of a number
+unfoldable pub function_numbered : ℕ → FunctionId
+function_numbered n =
+    function_among (GranuleDelegate ∷ GranuleUndelegate ∷ DataCreate ∷ DataCreateUnknown ∷ DataDestroy ∷ RealmActivate ∷ RealmCreate ∷ RealmDestroy ∷ RecCreate ∷ RecDestroy ∷ RecEnter ∷ RttCreate ∷ RttDestroy ∷ RttMapUnprotected ∷ RttReadEntry ∷ RttUnmapUnprotected ∷ RttFold ∷ RttInitRipas ∷ RttSetRipas ∷ MeasurementRead ∷ MeasurementExtend ∷ RealmConfig ∷ IpaStateSet ∷ IpaStateGet ∷ HostCall ∷ CpuOff ∷ SystemOff ∷ []) n
+
+pub function_numbered-number_of : (f : FunctionId) → function_numbered (number_of f) ≡ f
 unfolding function_numbered number_of
 function_numbered-number_of GranuleDelegate = refl
 function_numbered-number_of _ = refl

@@ -3,6 +3,7 @@
 use Rattle.std.specs.Prelude.{ℕ, zero, suc, ◌+◌, List, [], ◌∷◌, slice_index}
 use Rattle.rmm_spec.specs.declared.call.Call.{Call}
 use Rattle.rmm_spec.specs.declared.call.Call.TheVariants as call
+use Rattle.rmm_spec.specs.declared.call.Removal.TheVariants.{Destroy, Fold}
 use Rattle.rmm_spec.specs.declared.command.Command.{Command}
 use Rattle.rmm_spec.specs.declared.function_id.FunctionId.{FunctionId}
 use Rattle.rmm_spec.specs.declared.function_id.FunctionId.TheVariants as function
@@ -28,10 +29,11 @@ call_from function.RecCreate w =
 call_from function.RecDestroy w = call.RecDestroy (slice_index w 0)
 call_from function.RecEnter w = call.RecEnter (slice_index w 0)
 call_from function.RttCreate w = call.RttCreate (slice_index w 0) (slice_index w 1) (slice_index w 2) (slice_index w 3)
-call_from function.RttDestroy w = call.RttDestroy (slice_index w 0) (slice_index w 1) (slice_index w 2)
+call_from function.RttDestroy w = call.RttRemove Destroy (slice_index w 0) (slice_index w 1) (slice_index w 2)
 call_from function.RttMapUnprotected w = call.RttMapUnprotected (slice_index w 0) (slice_index w 1) (slice_index w 2)
 call_from function.RttReadEntry w = call.RttReadEntry (slice_index w 0) (slice_index w 1) (slice_index w 2)
 call_from function.RttUnmapUnprotected w = call.RttUnmapUnprotected (slice_index w 0) (slice_index w 1)
+call_from function.RttFold w = call.RttRemove Fold (slice_index w 0) (slice_index w 1) (slice_index w 2)
 call_from function.RttInitRipas w = call.RttInitRipas (slice_index w 0) (slice_index w 1) (slice_index w 2)
 call_from function.RttSetRipas w = call.RttSetRipas (slice_index w 0) (slice_index w 1) (slice_index w 2) (slice_index w 3)
 call_from function.MeasurementRead w = call.MeasurementRead (slice_index w 0)
@@ -63,21 +65,4 @@ class_of (call.HostCall imm) = ByRealm
 class_of call.CpuOff = ByRealm
 class_of call.SystemOff = ByRealm
 class_of call.Exit = ByExit
-class_of (call.GranuleDelegate granule) = ByHost
-class_of (call.GranuleUndelegate granule) = ByHost
-class_of (call.DataCreate rd granule ipa source flags digest) = ByHost
-class_of (call.DataCreateUnknown rd granule ipa) = ByHost
-class_of (call.DataDestroy rd ipa) = ByHost
-class_of (call.RealmActivate rd) = ByHost
-class_of (call.RealmCreate rd root width level vmid algo) = ByHost
-class_of (call.RealmDestroy rd) = ByHost
-class_of (call.RecCreate rd rec mpidr flags aux0 aux1) = ByHost
-class_of (call.RecDestroy rec) = ByHost
-class_of (call.RecEnter rec) = ByHost
-class_of (call.RttCreate rd rtt ipa level) = ByHost
-class_of (call.RttDestroy rd ipa level) = ByHost
-class_of (call.RttMapUnprotected rd ipa page) = ByHost
-class_of (call.RttReadEntry rd ipa level) = ByHost
-class_of (call.RttUnmapUnprotected rd ipa) = ByHost
-class_of (call.RttInitRipas rd base top) = ByHost
-class_of (call.RttSetRipas rd rec base top) = ByHost
+class_of _ = ByHost

@@ -1,7 +1,7 @@
 -- What each command may change: whatever it answers, the other parts of the state stay as they are.
 use Rattle.std.specs.Prelude.{◌≡◌, ℕ, Bool, false, ◌||◌, ◌==◌, List, [], ◌∷◌}
 use Rattle.rmm_spec.specs.declared.function_id.FunctionId.{FunctionId}
-use Rattle.rmm_spec.specs.declared.function_id.FunctionId.TheVariants.{GranuleDelegate, GranuleUndelegate, DataCreate, DataCreateUnknown, DataDestroy, RealmActivate, RealmCreate, RealmDestroy, RecCreate, RecDestroy, RecEnter, RttCreate, RttDestroy, RttMapUnprotected, RttReadEntry, RttUnmapUnprotected, RttInitRipas, RttSetRipas, MeasurementRead, MeasurementExtend, RealmConfig, IpaStateSet, IpaStateGet, HostCall, CpuOff, SystemOff, Exit}
+use Rattle.rmm_spec.specs.declared.function_id.FunctionId.TheVariants.{GranuleDelegate, GranuleUndelegate, DataCreate, DataCreateUnknown, DataDestroy, RealmActivate, RealmCreate, RealmDestroy, RecCreate, RecDestroy, RecEnter, RttCreate, RttDestroy, RttMapUnprotected, RttReadEntry, RttUnmapUnprotected, RttFold, RttInitRipas, RttSetRipas, MeasurementRead, MeasurementExtend, RealmConfig, IpaStateSet, IpaStateGet, HostCall, CpuOff, SystemOff, Exit}
 use Rattle.rmm_spec.specs.State.{State}
 
 -- the maps of a state
@@ -29,6 +29,7 @@ changed_parts RttDestroy = Tags ∷ Tables ∷ Leaves ∷ []
 changed_parts RttMapUnprotected = Leaves ∷ []
 changed_parts RttReadEntry = []
 changed_parts RttUnmapUnprotected = Leaves ∷ []
+changed_parts RttFold = Tags ∷ Tables ∷ Leaves ∷ []
 changed_parts RttInitRipas = Realms ∷ Leaves ∷ []
 changed_parts RttSetRipas = Recs ∷ Leaves ∷ []
 changed_parts MeasurementRead = []

@@ -2,7 +2,7 @@
 -- Arm's function identifiers (DEN0137, RMI and RSI commands; PSCI); Exit is this project's own.
 use Rattle.std.specs.Prelude.{ℕ}
 use Rattle.rmm_spec.specs.declared.function_id.FunctionId.{FunctionId}
-use Rattle.rmm_spec.specs.declared.function_id.FunctionId.TheVariants.{GranuleDelegate, GranuleUndelegate, DataCreate, DataCreateUnknown, DataDestroy, RealmActivate, RealmCreate, RealmDestroy, RecCreate, RecDestroy, RecEnter, RttCreate, RttDestroy, RttMapUnprotected, RttReadEntry, RttUnmapUnprotected, RttInitRipas, RttSetRipas, MeasurementRead, MeasurementExtend, RealmConfig, IpaStateSet, IpaStateGet, HostCall, CpuOff, SystemOff, Exit}
+use Rattle.rmm_spec.specs.declared.function_id.FunctionId.TheVariants.{GranuleDelegate, GranuleUndelegate, DataCreate, DataCreateUnknown, DataDestroy, RealmActivate, RealmCreate, RealmDestroy, RecCreate, RecDestroy, RecEnter, RttCreate, RttDestroy, RttMapUnprotected, RttReadEntry, RttUnmapUnprotected, RttFold, RttInitRipas, RttSetRipas, MeasurementRead, MeasurementExtend, RealmConfig, IpaStateSet, IpaStateGet, HostCall, CpuOff, SystemOff, Exit}
 
 -- the number of a function
 unfoldable pub number_of : FunctionId → ℕ
@@ -22,6 +22,7 @@ number_of RttDestroy = 0xc400015e
 number_of RttMapUnprotected = 0xc400015f
 number_of RttReadEntry = 0xc4000161
 number_of RttUnmapUnprotected = 0xc4000162
+number_of RttFold = 0xc4000166
 number_of RttInitRipas = 0xc4000168
 number_of RttSetRipas = 0xc4000169
 number_of MeasurementRead = 0xc4000192
@@ -52,6 +53,7 @@ word_count RttDestroy = 3
 word_count RttMapUnprotected = 3
 word_count RttReadEntry = 3
 word_count RttUnmapUnprotected = 2
+word_count RttFold = 3
 word_count RttInitRipas = 3
 word_count RttSetRipas = 4
 word_count MeasurementRead = 1

@@ -81,7 +81,7 @@ claims_opened _ = []
 unfoldable pub claims_closed : Call → List ℕ → List JournalEntry → List Claim
 claims_closed (call.RealmDestroy rd) words earlier = claim rd Rd rd ∷ claim (latest_root rd earlier) Rtt rd ∷ []
 claims_closed (call.RecDestroy rec) words earlier = rec_claims rec (latest_rec rec earlier)
-claims_closed (call.RttDestroy rd ipa level) words earlier = claim (slice_index words 0) Rtt rd ∷ []
+claims_closed (call.RttRemove removal rd ipa level) words earlier = claim (slice_index words 0) Rtt rd ∷ []
 claims_closed (call.DataDestroy rd ipa) words earlier = claim (slice_index words 0) Data rd ∷ []
 claims_closed _ words earlier = []
 

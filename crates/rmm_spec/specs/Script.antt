@@ -4,7 +4,7 @@ use Rattle.std.specs.Option.{option_and_then}
 use Rattle.rmm_spec.specs.declared.accepted.Accepted.{Accepted}
 use Rattle.rmm_spec.specs.declared.accepted.Accepted.TheVariants.{Done, Reaches}
 use Rattle.rmm_spec.specs.declared.function_id.FunctionId.{FunctionId}
-use Rattle.rmm_spec.specs.declared.function_id.FunctionId.TheVariants.{GranuleDelegate, DataCreate, DataCreateUnknown, DataDestroy, RealmActivate, RealmCreate, RealmDestroy, RecCreate, RecDestroy, RecEnter, RttCreate, RttDestroy, RttMapUnprotected, RttReadEntry, RttInitRipas, RttSetRipas, MeasurementRead, MeasurementExtend, IpaStateSet, IpaStateGet, HostCall, CpuOff, SystemOff, Exit}
+use Rattle.rmm_spec.specs.declared.function_id.FunctionId.TheVariants.{GranuleDelegate, GranuleUndelegate, DataCreate, DataCreateUnknown, DataDestroy, RealmActivate, RealmCreate, RealmDestroy, RecCreate, RecDestroy, RecEnter, RttCreate, RttDestroy, RttFold, RttMapUnprotected, RttReadEntry, RttInitRipas, RttSetRipas, MeasurementRead, MeasurementExtend, IpaStateSet, IpaStateGet, HostCall, CpuOff, SystemOff, Exit}
 use Rattle.rmm_spec.specs.declared.reply.Reply.{Reply}
 use Rattle.rmm_spec.specs.declared.reply.Reply.TheVariants as reply
 use Rattle.rmm_spec.specs.HistoryText.{Config}
@@ -79,6 +79,27 @@ table_with_data_stays =
     ∷ answered DataDestroy (0x1000 ∷ 0x1ff000 ∷ []) (ok (0x5000 ∷ []))
     ∷ answered RttDestroy (0x1000 ∷ 0 ∷ 3 ∷ []) (ok (0x4000 ∷ []))
     ∷ answered RttReadEntry (0x1000 ∷ 0 ∷ 3 ∷ []) (ok (2 ∷ 0 ∷ 0 ∷ 2 ∷ []))
+    ∷ [])
+
+-- a table folds once all its entries are RAM, and not before
+unfoldable pub table_folds : List JournalEntry
+table_folds =
+    (answered GranuleDelegate (0x1000 ∷ []) (ok ([]))
+    ∷ answered GranuleDelegate (0x2000 ∷ []) (ok ([]))
+    ∷ answered GranuleDelegate (0x3000 ∷ []) (ok ([]))
+    ∷ answered GranuleDelegate (0x4000 ∷ []) (ok ([]))
+    ∷ answered RealmCreate (0x1000 ∷ 0x2000 ∷ 39 ∷ 1 ∷ 1 ∷ 0 ∷ []) (ok ([]))
+    ∷ answered RttCreate (0x1000 ∷ 0x3000 ∷ 0 ∷ 2 ∷ []) (ok ([]))
+    ∷ answered RttCreate (0x1000 ∷ 0x4000 ∷ 0 ∷ 3 ∷ []) (ok ([]))
+    ∷ answered RttInitRipas (0x1000 ∷ 0 ∷ 0x1000 ∷ []) (ok (0x1000 ∷ []))
+    ∷ answered RttFold (0x1000 ∷ 0 ∷ 3 ∷ []) (reply.Err 4 3)
+    ∷ answered RttInitRipas (0x1000 ∷ 0x1000 ∷ 0x200000 ∷ []) (ok (0x200000 ∷ []))
+    ∷ answered RttFold (0x1000 ∷ 0 ∷ 3 ∷ []) (ok (0x4000 ∷ []))
+    ∷ answered RttReadEntry (0x1000 ∷ 0 ∷ 3 ∷ []) (ok (2 ∷ 0 ∷ 0 ∷ 1 ∷ []))
+    ∷ answered RttFold (0x1000 ∷ 0 ∷ 3 ∷ []) (reply.Err 4 2)
+    ∷ answered RttFold (0x1000 ∷ 0 ∷ 2 ∷ []) (reply.Err 4 2)
+    ∷ answered RttFold (0x1000 ∷ 0 ∷ 1 ∷ []) (reply.Err 1 0)
+    ∷ answered GranuleUndelegate (0x4000 ∷ []) (ok ([]))
     ∷ [])
 
 -- a page of one realm can't be given to another

@@ -26,7 +26,7 @@ use Rattle.rmm_spec.specs.Rows.{ok}
 use Rattle.rmm_spec.specs.Step.Granule.{granule_delegate, granule_undelegate}
 use Rattle.rmm_spec.specs.Step.Realm.{realm_create, realm_activate, realm_destroy}
 use Rattle.rmm_spec.specs.Step.Rec.{rec_create, rec_destroy, rec_enter}
-use Rattle.rmm_spec.specs.Step.Table.{rtt_create, rtt_destroy, rtt_read_entry}
+use Rattle.rmm_spec.specs.Step.Table.{rtt_create, rtt_remove, rtt_read_entry}
 use Rattle.rmm_spec.specs.Step.Data.{data_create, data_create_unknown, data_destroy}
 use Rattle.rmm_spec.specs.Step.Unprotected.{rtt_map_unprotected, rtt_unmap_unprotected}
 use Rattle.rmm_spec.specs.Step.Ripas.{rtt_init_ripas, rtt_set_ripas, IsReached, reached_change}
@@ -53,7 +53,7 @@ answer_of s cpu (call.RecCreate rd rec mpidr flags aux0 aux1) = rec_create s rd 
 answer_of s cpu (call.RecDestroy rec) = rec_destroy s rec
 answer_of s cpu (call.RecEnter rec) = rec_enter s cpu rec
 answer_of s cpu (call.RttCreate rd rtt ipa level) = rtt_create s rd rtt ipa level
-answer_of s cpu (call.RttDestroy rd ipa level) = rtt_destroy s rd ipa level
+answer_of s cpu (call.RttRemove removal rd ipa level) = rtt_remove s removal rd ipa level
 answer_of s cpu (call.RttMapUnprotected rd ipa page) = rtt_map_unprotected s rd ipa page
 answer_of s cpu (call.RttReadEntry rd ipa level) = rtt_read_entry s rd ipa level
 answer_of s cpu (call.RttUnmapUnprotected rd ipa) = rtt_unmap_unprotected s rd ipa

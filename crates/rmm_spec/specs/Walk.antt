@@ -1,13 +1,15 @@
 -- Translation tables: what an entry of each level covers, and the walk to the deepest table that covers an address.
 -- After DEN0137 (RTT walk), with granules of 4096 bytes, tables of 512 entries, and levels 0 to 3.
-use Rattle.std.specs.Prelude.{◌≡◌, ℕ, zero, suc, ◌+◌, ◌-◌, ◌*◌, ◌/◌, ◌%◌, ◌^◌, ◌<◌, ◌≤◌, Bool, true, false, ◌&&◌, ◌||◌, nat_lt, ◌==◌, if◌then◌else◌, Option, Some, None, is_some, unwrap_or}
+use Rattle.std.specs.Prelude.{◌≡◌, ℕ, zero, suc, ◌+◌, ◌-◌, ◌*◌, ◌/◌, ◌%◌, ◌^◌, ◌<◌, ◌≤◌, Bool, true, false, not, ◌&&◌, ◌||◌, nat_lt, ◌==◌, if◌then◌else◌, Option, Some, None, is_some, unwrap_or}
 use Rattle.rmm_spec.specs.declared.entry.Entry.{Entry}
+use Rattle.rmm_spec.specs.declared.entry.EntryTest.{EntryTest}
+use Rattle.rmm_spec.specs.declared.entry.EntryTest.TheVariants.{Live, Link, Unlike}
 use Rattle.rmm_spec.specs.declared.entry.Entry.TheVariants.{Unassigned, Assigned, Table, UnassignedNs, AssignedNs}
 use Rattle.rmm_spec.specs.declared.tag.Ripas.{Ripas}
 use Rattle.rmm_spec.specs.declared.tag.Ripas.TheVariants.{Empty, Ram, Destroyed}
 use Rattle.rmm_spec.specs.declared.walked.Walked.{Walked}
 use Rattle.rmm_spec.specs.State.{State, RealmRecord}
-use Rattle.rmm_spec.specs.Lookup.{any_below}
+use Rattle.rmm_spec.specs.Lookup.{any_below, ripas_number}
 
 -- how many bytes an entry of the level covers: a page at level 3, and 512 times as many at each level above
 unfoldable pub entry_size : ℕ → ℕ
@@ -94,6 +96,18 @@ is_assigned_ns UnassignedNs = false
 abbrev pub is_live : Entry → Bool
 is_live entry = is_assigned entry || is_assigned_ns entry || is_table entry
 
+-- whether the second entry isn't unassigned as the first is: of the same half, and with the same RIPAS
+abbrev pub is_unlike : Entry → Entry → Bool
+is_unlike (Unassigned ripas) (Unassigned other) = not (ripas_number ripas == ripas_number other)
+is_unlike UnassignedNs UnassignedNs = false
+is_unlike _ _ = true
+
+-- whether an entry is one that is looked for
+abbrev pub passes : EntryTest → Entry → Bool
+passes Live entry = is_live entry
+passes Link entry = is_table entry
+passes (Unlike first) entry = is_unlike first entry
+
 -- the granule or page that an entry names, and 0 where it names none
 abbrev pub entry_address : Entry → ℕ
 entry_address (Assigned ripas granule) = granule
@@ -157,10 +171,14 @@ pub record IsWalk (s : State) (rd ipa max level granule : ℕ) (entry : Entry) :
   pub deepest : (deeper : ℕ) → level < deeper → deeper ≤ max → s.table rd deeper (table_number deeper ipa) ≡ None
   pub is_entry : entry ≡ entry_for s rd level ipa
 
--- whether a table of that number at the level has an entry that keeps it in use
-unfoldable pub is_in_use : State → ℕ → ℕ → ℕ → Bool
-is_in_use s rd level number = any_below 512 (λ k. is_live (entry_at s rd level (512 * number + k)))
+-- whether a table of that number at the level has an entry that is looked for
+unfoldable pub has_entry : State → ℕ → ℕ → ℕ → EntryTest → Bool
+has_entry s rd level number test = any_below 512 (λ k. passes test (entry_at s rd level (512 * number + k)))
 
--- whether a table of that number at the level links to one below it
-unfoldable pub has_link : State → ℕ → ℕ → ℕ → Bool
-has_link s rd level number = any_below 512 (λ k. is_table (entry_at s rd level (512 * number + k)))
+-- whether it has an entry that keeps it in use
+abbrev pub is_in_use : State → ℕ → ℕ → ℕ → Bool
+is_in_use s rd level number = has_entry s rd level number Live
+
+-- whether it links to a table below it
+abbrev pub has_link : State → ℕ → ℕ → ℕ → Bool
+has_link s rd level number = has_entry s rd level number Link

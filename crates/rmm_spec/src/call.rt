@@ -2,6 +2,15 @@
 
 use crate::function_id::FunctionId;
 
+/// How a translation table is taken out.
+#[derive(Clone, Copy)]
+pub enum Removal {
+    /// RTT_DESTROY: none of its entries keeps it in use.
+    Destroy,
+    /// RTT_FOLD: all its entries are unassigned alike.
+    Fold,
+}
+
 /// A command as its function and words mean it. Functions are named as in DEN0137; which words there are is this profile's
 /// selection. Addresses and sizes are in bytes; a word that the caller left out is zero.
 #[derive(Clone, Copy)]
@@ -63,7 +72,8 @@ pub enum Call {
         ipa: u64,
         level: u64,
     },
-    RttDestroy {
+    RttRemove {
+        removal: Removal,
         rd: u64,
         ipa: u64,
         level: u64,
@@ -186,7 +196,8 @@ impl Call {
                 ipa: word(words, 2),
                 level: word(words, 3),
             },
-            FunctionId::RttDestroy => Call::RttDestroy {
+            FunctionId::RttDestroy => Call::RttRemove {
+                removal: Removal::Destroy,
                 rd: word(words, 0),
                 ipa: word(words, 1),
                 level: word(words, 2),
@@ -204,6 +215,12 @@ impl Call {
             FunctionId::RttUnmapUnprotected => Call::RttUnmapUnprotected {
                 rd: word(words, 0),
                 ipa: word(words, 1),
+            },
+            FunctionId::RttFold => Call::RttRemove {
+                removal: Removal::Fold,
+                rd: word(words, 0),
+                ipa: word(words, 1),
+                level: word(words, 2),
             },
             FunctionId::RttInitRipas => Call::RttInitRipas {
                 rd: word(words, 0),

@@ -17,3 +17,14 @@ pub enum Entry {
     /// The host's page at this address.
     AssignedNs(u64),
 }
+
+/// What is looked for among the entries of a table.
+#[derive(Clone, Copy)]
+pub enum EntryTest {
+    /// One that keeps its table in use.
+    Live,
+    /// A link to a table.
+    Link,
+    /// One that isn't unassigned as this one is.
+    Unlike(Entry),
+}

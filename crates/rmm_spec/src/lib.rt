@@ -21,10 +21,10 @@ mod verdict;
 mod walked;
 
 pub use accepted::{Accepted, Stretch, StretchUse};
-pub use call::Call;
+pub use call::{Call, Removal};
 pub use change::{Change, EntryChange, RealmChange, RealmUpdate, RecChange, RecUpdate, TagChange};
 pub use command::Command;
-pub use entry::Entry;
+pub use entry::{Entry, EntryTest};
 pub use event::Event;
 pub use function_id::FunctionId;
 pub use line::Line;

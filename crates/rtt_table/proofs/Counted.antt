@@ -1,7 +1,7 @@
 -- What becomes of a count when entries change, and what a count tells.
 use Rattle.std.proofs.Common.{◌≡◌, ℕ, zero, suc, ◌+◌, ◌-◌, ◌<◌, ◌≤◌, Bool, true, false, ◌||◌, if◌then◌else◌, List, [], ◌∷◌, ◌++◌, map, take, drop, replicate, length, Some, nat_lt, slice_get, slice_set, refl, sym, ap, ◌∙◌, arith}
 use Rattle.std.specs.List.{list_any, slice_range}
-use Rattle.std.proofs.lemmas.Bool.{ltb-true, ltb-false, lt-ltb, le-ltb}
+use Rattle.std.proofs.lemmas.Bool.{lt-ltb}
 use Rattle.std.proofs.lemmas.List.{drop-drop}
 use Rattle.std.proofs.lemmas.Option.{none-some, same_Some}
 use Rattle.rmm_spec.specs.declared.entry.Entry.{Entry}
@@ -10,7 +10,7 @@ use Rattle.rmm_spec.specs.declared.tag.Ripas.{Ripas}
 use Rattle.rmm_spec.specs.Update.{entry_with_ripas}
 use Rattle.rmm_spec.specs.Walk.{is_live, is_table}
 use Rattle.rmm_spec.specs.Table.{entries_with_ripas}
-use Rattle.rtt_table.specs.Counts.{is_mapped, one_if, count_of, AreCounts}
+use Rattle.rtt_table.specs.Counts.{one_if, count_of, AreCounts}
 
 -- ---- what a count tells
 
@@ -40,50 +40,6 @@ count-any test (e ∷ entries) = by (test e) (count-any test entries)
     by : (b : Bool) → nat_lt 0 (count_of test entries) ≡ list_any test entries → nat_lt 0 (one_if b + count_of test entries) ≡ (b || list_any test entries)
     by true rest = lt-ltb 0 (1 + count_of test entries) (omega arith)
     by false rest = let same : 0 + count_of test entries ≡ count_of test entries = omega arith in ap (λ n. nat_lt 0 n) same ∙ rest
-
--- a live entry is mapped or a link, and never both
-live-kinds : (e : Entry) → one_if (is_live e) ≡ one_if (is_mapped e) + one_if (is_table e)
-live-kinds (Unassigned ripas) = refl
-live-kinds (Assigned ripas granule) = refl
-live-kinds (Table granule) = refl
-live-kinds UnassignedNs = refl
-live-kinds (AssignedNs page) = refl
-
--- so what is live and no link is mapped
-count-kinds : (entries : List Entry) → count_of is_live entries ≡ count_of is_mapped entries + count_of is_table entries
-unfolding count_of
-count-kinds [] = refl
-count-kinds (e ∷ entries) = omega (arith, live-kinds e, count-kinds entries)
-
--- some entry is mapped where more are live than are links
-pub count-mapped : (entries : List Entry) → nat_lt (count_of is_table entries) (count_of is_live entries) ≡ list_any is_mapped entries
-count-mapped entries = by (list_any is_mapped entries) refl
-  where
-    by : (b : Bool) → list_any is_mapped entries ≡ b → nat_lt (count_of is_table entries) (count_of is_live entries) ≡ b
-    by true some =
-        let more : 0 < count_of is_mapped entries = ltb-true 0 (count_of is_mapped entries) (count-any is_mapped entries ∙ some) in
-        lt-ltb (count_of is_table entries) (count_of is_live entries) (omega (arith, more, count-kinds entries))
-    by false none =
-        let no_more : count_of is_mapped entries ≤ 0 = ltb-false 0 (count_of is_mapped entries) (count-any is_mapped entries ∙ none) in
-        le-ltb (count_of is_table entries) (count_of is_live entries) (omega (arith, no_more, count-kinds entries))
-
--- some entry is live where one is mapped or a link
-pub live-parts : (entries : List Entry) → list_any is_live entries ≡ (list_any is_mapped entries || list_any is_table entries)
-live-parts [] = refl
-live-parts (e ∷ entries) = kind e ∙ ap (λ b. (is_mapped e || is_table e) || b) (live-parts entries) ∙ regroup (is_mapped e) (is_table e) _ _
-  where
-    kind : (e : Entry) → (is_live e || list_any is_live entries) ≡ ((is_mapped e || is_table e) || list_any is_live entries)
-    kind (Unassigned ripas) = refl
-    kind (Assigned ripas granule) = refl
-    kind (Table granule) = refl
-    kind UnassignedNs = refl
-    kind (AssignedNs page) = refl
-
-    regroup : (a b c d : Bool) → ((a || b) || (c || d)) ≡ ((a || c) || (b || d))
-    regroup true b c d = refl
-    regroup false true true d = refl
-    regroup false true false d = refl
-    regroup false false c d = refl
 
 -- ---- what becomes of it
 

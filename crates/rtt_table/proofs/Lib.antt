@@ -2,3 +2,4 @@ pub mod Alike
 pub mod Counted
 pub mod Joined
 pub mod Searches
+mod Unlike

@@ -1,11 +1,7 @@
 -- How many entries of a table pass a test, and the two such counts that a table keeps.
-use Rattle.std.specs.Prelude.{◌≡◌, ℕ, ◌+◌, Bool, true, false, ◌||◌, List, [], ◌∷◌}
+use Rattle.std.specs.Prelude.{◌≡◌, ℕ, ◌+◌, Bool, true, false, List, [], ◌∷◌}
 use Rattle.rmm_spec.specs.declared.entry.Entry.{Entry}
-use Rattle.rmm_spec.specs.Walk.{is_live, is_table, is_assigned, is_assigned_ns}
-
--- whether an entry is live and no link
-abbrev pub is_mapped : Entry → Bool
-is_mapped entry = is_assigned entry || is_assigned_ns entry
+use Rattle.rmm_spec.specs.Walk.{is_live, is_table}
 
 -- what one entry adds to a count
 abbrev pub one_if : Bool → ℕ

@@ -1,14 +1,16 @@
 //! The entries of a table in two columns, nine bytes an entry.
 
 ghost use Rattle.std.specs.Prelude.{All, ◌≡◌, ◌<◌, ◌≤◌, ◌↔◌, IsTrue, length, map, replicate, Some, slice_get, slice_set};
+ghost use Rattle.std.specs.List.{list_any};
 ghost use Rattle.rmm_spec.specs.Table.{entries_with_ripas, AreAlike};
+ghost use Rattle.rmm_spec.specs.Walk.{is_unlike};
 ghost use Rattle.rtt_table.specs.Columns.{kind_with_ripas};
 
 use crate::kind::{Kind, entry_from, kind_of, kind_with_ripas};
-use rmm_spec::{Entry, Ripas};
+use rmm_spec::{Entry, EntryTest, Ripas};
 use std::marker::Model;
 use std::mem::size_of;
-use table_entries::entry_address;
+use table_entries::{entry_address, passes};
 
 /// How many entries a table has.
 pub const ENTRIES: usize = 512;
@@ -65,6 +67,15 @@ impl Columns {
     {
         self.kinds[at] = kind_of(entry);
         self.addresses[at] = entry_address(entry);
+    }
+
+    /// Whether some entry isn't unassigned as the given one is: that is told by the kinds.
+    pub fn has_unlike(&self, first: Entry) -> bool
+        ensures { result ≡ list_any (is_unlike first) self.now }
+    {
+        self.kinds
+            .iter()
+            .any(|kind| passes(EntryTest::Unlike(first), entry_from(*kind, 0)))
     }
 
     /// Whether all entries are equal.

@@ -2,13 +2,13 @@
 
 ghost use Rattle.std.specs.Prelude.{◌≡◌, ◌+◌, ◌<◌, ◌≤◌, ◌↔◌, if◌then◌else◌, IsTrue, IfOk, length, replicate, Some, slice_get, slice_set};
 ghost use Rattle.std.specs.List.{list_any};
-ghost use Rattle.rmm_spec.specs.Walk.{is_live, is_table};
+ghost use Rattle.rmm_spec.specs.Walk.{is_live, is_table, passes};
 ghost use Rattle.rmm_spec.specs.Table.{entry_index, entries_with_ripas, AreAlike};
-ghost use Rattle.rtt_table.specs.Counts.{is_mapped, one_if};
+ghost use Rattle.rtt_table.specs.Counts.{one_if};
 
 use crate::columns::{Columns, ENTRIES};
 use granule_state::Ipa;
-use rmm_spec::{Entry, Place, Ripas};
+use rmm_spec::{Entry, EntryTest, Place, Ripas};
 use std::alloc::{AllocError, Global};
 use std::marker::Model;
 use table_entries::{entry_number, is_live, is_table};
@@ -95,18 +95,23 @@ impl Table {
         self.links > 0
     }
 
-    /// Whether some entry is assigned.
-    pub fn has_mapped(&self) -> bool
-        ensures { result ≡ list_any is_mapped self.now.entries }
-    {
-        self.links < self.live
-    }
-
     /// A table has 512 entries.
     pub fn is_whole(&self)
         ensures { length self.now.entries ≡ 512 }
     {
         self.columns.is_whole();
+    }
+
+    /// Whether some entry is one that is looked for. A live one is never unassigned as another is, so entries are looked at only
+    /// where the counts tell of none.
+    pub fn has(&self, test: EntryTest) -> bool
+        ensures { result ≡ list_any (passes test) self.now.entries }
+    {
+        match test {
+            EntryTest::Live => self.is_live(),
+            EntryTest::Link => self.has_link(),
+            EntryTest::Unlike(first) => self.is_live() || self.columns.has_unlike(first),
+        }
     }
 
     /// Whether all 512 entries are equal.

@@ -3,7 +3,7 @@
 use crate::place::covers;
 use crate::table::{Table, index_of};
 use granule_state::Ipa;
-use rmm_spec::{Entry, Place, Ripas};
+use rmm_spec::{Entry, EntryTest, Place, Ripas};
 use std::test::Fail;
 
 #[test]
@@ -82,12 +82,26 @@ fn other_kinds_of_entry(rt: HostRuntime) -> Result<(), Fail> {
     assert!(rt; !table.is_live() && table.is_uniform());
     table.set_entry(7, Entry::AssignedNs(0x8000));
     assert!(rt; table.is_live() && !table.is_uniform());
-    assert!(rt; table.has_mapped() && !table.has_link());
+    assert!(rt; table.has(EntryTest::Live) && !table.has(EntryTest::Link));
     table.set_entry(7, Entry::Table(0x8000));
     assert!(rt; table.is_live() && !table.is_uniform());
-    assert!(rt; !table.has_mapped() && table.has_link());
+    assert!(rt; table.has(EntryTest::Live) && table.has(EntryTest::Link));
     table.set_entry(7, Entry::UnassignedNs);
     assert!(rt; !table.is_live() && !table.has_link());
+    Ok(())
+}
+
+#[test]
+fn entries_unlike_another(rt: HostRuntime) -> Result<(), Fail> {
+    let fill = Entry::Unassigned(Ripas::Ram);
+    let mut table = Table::new(rt.alloc(), place(), fill)?;
+    assert!(rt; !table.has(EntryTest::Unlike(fill)));
+    assert!(rt; table.has(EntryTest::Unlike(Entry::UnassignedNs)));
+    table.set_entry(511, Entry::Unassigned(Ripas::Empty));
+    assert!(rt; table.has(EntryTest::Unlike(fill)));
+    let page = Entry::AssignedNs(0);
+    let mapped = Table::new(rt.alloc(), place(), page)?;
+    assert!(rt; mapped.is_uniform() && mapped.has(EntryTest::Unlike(page)));
     Ok(())
 }
 

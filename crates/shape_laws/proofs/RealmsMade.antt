@@ -10,7 +10,7 @@ use Rattle.rmm_spec.specs.declared.tag.Tag.TheVariants as tag
 use Rattle.rmm_spec.specs.State.{State, RealmRecord}
 use Rattle.rmm_spec.specs.Lookup.{realm_at, has_vmid}
 use Rattle.rmm_spec.specs.Update.{is_same_table}
-use Rattle.rmm_spec.specs.Walk.{table_size, table_number, full, entry_at, has_link, is_table}
+use Rattle.rmm_spec.specs.Walk.{table_size, table_number, full, entry_at, has_link, is_table, has_entry}
 use Rattle.rmm_spec.specs.Table.{TableRecord, place_number}
 use Rattle.rmm_spec.specs.Change.{changed, new_realm}
 use Rattle.rmm_spec.specs.Sound.{IsSound}
@@ -169,7 +169,7 @@ root_alone s rd n g r sound at there =
 -- below it there is none
 none_below : (s : State) (rd : ℕ) (r : RealmRecord) → IsSound s → s.realm rd ≡ Some r → has_link s rd r.start_level 0 ≡ false
     → (k n : ℕ) (found : Option ℕ) → s.table rd (suc k + r.start_level) n ≡ found → found ≡ None
-unfolding has_link
+unfolding has_entry
 none_below s rd r sound at unlinked k n None there = refl
 none_below s rd r sound at unlinked zero n (Some g) there =
     let level : suc zero + r.start_level ≡ suc r.start_level = omega arith in

@@ -3,7 +3,7 @@
 use crate::machine::Machine;
 use command_rows::Sight;
 use realm_desc::{Realm, Rec};
-use rmm_spec::{Tag, Walked};
+use rmm_spec::{Entry, EntryTest, Tag, Walked};
 
 impl Sight for Machine {
     ghost use Rattle.rmm_spec.specs.Lookup.{has_rec, is_vmid_used};
@@ -36,13 +36,13 @@ impl Sight for Machine {
     }
 
     #[tactic(auto, unfolding(crate::specs::View::state_of))]
-    fn is_in_use(&self, rd: u64, level: u8, number: u64) -> bool {
-        self.granules.is_in_use(rd, level, number)
+    fn entry_at(&self, rd: u64, level: u8, number: u64) -> Entry {
+        self.granules.entry(rd, level, number)
     }
 
     #[tactic(auto, unfolding(crate::specs::View::state_of))]
-    fn has_link(&self, rd: u64, level: u8) -> bool {
-        self.granules.has_link(rd, level, 0)
+    fn has_entry(&self, rd: u64, level: u8, number: u64, test: EntryTest) -> bool {
+        self.granules.has_entry(rd, level, number, test)
     }
 
     #[tactic(auto, unfolding(crate::specs::View::state_of))]

@@ -5,7 +5,8 @@ ghost use Rattle.rmm_spec.specs.Walk as spec;
 ghost use Rattle.rmm_spec.specs.Step.Ripas as stretch;
 ghost use Rattle.rmm_spec.specs.Update.{entry_with_ripas};
 
-use rmm_spec::{Entry, Ripas, StretchUse};
+use crate::entry_reads::ripas_number;
+use rmm_spec::{Entry, EntryTest, Ripas, StretchUse};
 
 /// An entry links to the table below it, if there is one, and is its leaf otherwise; a leaf is no link.
 pub fn linked(below: Option<u64>, leaf: Option<Entry>) -> Entry
@@ -44,6 +45,30 @@ pub fn is_live(entry: Entry) -> bool
     match entry {
         Entry::Assigned(..) | Entry::AssignedNs(_) | Entry::Table(_) => true,
         Entry::Unassigned(_) | Entry::UnassignedNs => false,
+    }
+}
+
+/// Whether an entry is one that is looked for.
+pub fn passes(test: EntryTest, entry: Entry) -> bool
+    ensures { result ≡ spec.passes test entry }
+{
+    match test {
+        EntryTest::Live => is_live(entry),
+        EntryTest::Link => is_table(entry),
+        EntryTest::Unlike(first) => is_unlike(first, entry),
+    }
+}
+
+// Whether the second entry isn't unassigned as the first is.
+fn is_unlike(first: Entry, entry: Entry) -> bool
+    ensures { result ≡ spec.is_unlike first entry }
+{
+    match (first, entry) {
+        (Entry::Unassigned(ripas), Entry::Unassigned(other)) => {
+            ripas_number(ripas) != ripas_number(other)
+        }
+        (Entry::UnassignedNs, Entry::UnassignedNs) => false,
+        _ => true,
     }
 }
 

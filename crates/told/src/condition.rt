@@ -1,6 +1,6 @@
 //! Which condition of a command fails, with what it reads.
 
-use rmm_spec::Tag;
+use rmm_spec::{Removal, Tag};
 
 /// What RTT_READ_ENTRY reports of an entry.
 #[derive(Clone, Copy)]
@@ -90,7 +90,9 @@ pub enum Condition {
         ipa: u64,
         level: u8,
     },
-    TableInUse {
+    /// An entry of the table for the address keeps it from being taken out so.
+    TableStays {
+        removal: Removal,
         ipa: u64,
         level: u8,
     },

@@ -1,7 +1,7 @@
 //! A condition that fails, in words.
 
 use crate::condition::{Condition, EntryKind, EntryRead, WordFault};
-use rmm_spec::Tag;
+use rmm_spec::{Removal, Tag};
 use std::fmt;
 
 impl fmt::Display for Condition {
@@ -109,10 +109,24 @@ fn write_table_row<W: fmt::Write>(f: &mut fmt::Formatter<W>, row: Condition) -> 
         Condition::EntryIsNoTable { ipa, level } => {
             write!(f, "the entry for {ipa:x} at level {level} isn't TABLE")
         }
-        Condition::TableInUse { ipa, level } => {
+        Condition::TableStays {
+            removal: Removal::Destroy,
+            ipa,
+            level,
+        } => {
             write!(
                 f,
                 "an entry of the table for {ipa:x} at level {level} is in use"
+            )
+        }
+        Condition::TableStays {
+            removal: Removal::Fold,
+            ipa,
+            level,
+        } => {
+            write!(
+                f,
+                "the entries of the table for {ipa:x} at level {level} aren't all unassigned alike"
             )
         }
         Condition::Entry { ipa, needed, found } => write_entry(f, ipa, needed, found),

@@ -7,7 +7,7 @@ use Rattle.rmm_spec.specs.declared.command.Command.{Command}
 use Rattle.rmm_spec.specs.declared.event.Event.{Event}
 use Rattle.rmm_spec.specs.declared.event.Event.TheVariants.{Called, Returned}
 use Rattle.rmm_spec.specs.declared.function_id.FunctionId.{FunctionId}
-use Rattle.rmm_spec.specs.declared.function_id.FunctionId.TheVariants.{GranuleDelegate, GranuleUndelegate, DataCreate, DataCreateUnknown, DataDestroy, RealmActivate, RealmCreate, RealmDestroy, RecCreate, RecDestroy, RecEnter, RttCreate, RttDestroy, RttMapUnprotected, RttReadEntry, RttUnmapUnprotected, RttInitRipas, RttSetRipas, MeasurementRead, MeasurementExtend, RealmConfig, IpaStateSet, IpaStateGet, HostCall, CpuOff, SystemOff, Exit}
+use Rattle.rmm_spec.specs.declared.function_id.FunctionId.TheVariants.{GranuleDelegate}
 use Rattle.rmm_spec.specs.declared.line.Line.{Line}
 use Rattle.rmm_spec.specs.declared.line.Line.TheVariants.{Keep, Unfinished}
 use Rattle.rmm_spec.specs.declared.reply.Reply.{Reply}
@@ -17,7 +17,7 @@ use Rattle.rmm_spec.specs.CommandText.{command_parts, reply_parts}
 use Rattle.rmm_spec.specs.Function.{number_of}
 use Rattle.rmm_spec.specs.HistoryText.{Config, config_parts, event_parts}
 use Rattle.rmm_spec.specs.Text.{glyph, numeral, decimal, word, fixed_hex}
-use Rattle.rmm_spec.proofs.Texts.{numeral_some, numeral-zero}
+use Rattle.rmm_spec.proofs.Texts.{numeral_some, numeral-zero, function_numbered}
 
 -- what is read back from each image is read back from the list of images
 pub map-read : {X Y : Type 0} (f : X → Y) (read : Y → X) → ((x : X) → read (f x) ≡ x) → (xs : List X) → map read (map f xs) ≡ xs
@@ -68,18 +68,13 @@ read_word-word n = read_numeral-numeral 16 n (lit≤ tt)
 
 -- ---- functions
 
--- the first of some functions that has the number
-abbrev function_among : List FunctionId → ℕ → FunctionId
-function_among [] number = Exit
-function_among (f ∷ others) number = if number_of f == number then f else function_among others number
-
 -- the function that a part names
 read_function : List ℕ → FunctionId
-read_function part = function_among (GranuleDelegate ∷ GranuleUndelegate ∷ DataCreate ∷ DataCreateUnknown ∷ DataDestroy ∷ RealmActivate ∷ RealmCreate ∷ RealmDestroy ∷ RecCreate ∷ RecDestroy ∷ RecEnter ∷ RttCreate ∷ RttDestroy ∷ RttMapUnprotected ∷ RttReadEntry ∷ RttUnmapUnprotected ∷ RttInitRipas ∷ RttSetRipas ∷ MeasurementRead ∷ MeasurementExtend ∷ RealmConfig ∷ IpaStateSet ∷ IpaStateGet ∷ HostCall ∷ CpuOff ∷ SystemOff ∷ []) (read_numeral 16 part)
+read_function part = function_numbered (read_numeral 16 part)
 
 -- a function is read back from its number
 read_function-fixed_hex : (f : FunctionId) → read_function (fixed_hex 8 (number_of f)) ≡ f
-unfolding read_function fixed_hex number_of
+unfolding read_function fixed_hex number_of function_numbered
 read_function-fixed_hex GranuleDelegate = refl
 read_function-fixed_hex _ = refl
 

@@ -7,6 +7,7 @@ use Rattle.rmm_spec.specs.declared.accepted.Accepted.{Accepted}
 use Rattle.rmm_spec.specs.declared.accepted.Accepted.TheVariants.{Done, Reaches}
 use Rattle.rmm_spec.specs.declared.call.Call.{Call}
 use Rattle.rmm_spec.specs.declared.call.Call.TheVariants as call
+use Rattle.rmm_spec.specs.declared.call.Removal.{Removal}
 use Rattle.rmm_spec.specs.declared.entry.Entry.{Entry}
 use Rattle.rmm_spec.specs.declared.entry.Entry.TheVariants.{Assigned, Table}
 use Rattle.rmm_spec.specs.declared.tag.Tag.TheVariants as tag
@@ -64,12 +65,12 @@ last-placed held rd ipa end placed ends =
 
 -- ---- parts
 
--- the child that RTT_DESTROY takes out is held
-link-held : (rd ipa level : ℕ) (held : List HeldCell) (e : Entry) → is_part_held (part_below (call.RttDestroy rd ipa level) e) held ≡ true → is_table e ≡ true
+-- the child that is taken out is held
+link-held : (removal : Removal) (rd ipa level : ℕ) (held : List HeldCell) (e : Entry) → is_part_held (part_below (call.RttRemove removal rd ipa level) e) held ≡ true → is_table e ≡ true
     → is_held (entry_address e) held ≡ true
 unfolding part_below
-link-held rd ipa level held (Table child) part link = part
-link-held rd ipa level held _ part link = absurd (false≢true link)
+link-held removal rd ipa level held (Table child) part link = part
+link-held removal rd ipa level held _ part link = absurd (false≢true link)
 
 -- the page that DATA_DESTROY takes out is held
 page-held : (rd ipa : ℕ) (held : List HeldCell) (e : Entry) → is_part_held (part_below (call.DataDestroy rd ipa) e) held ≡ true → is_assigned e ≡ true
@@ -108,18 +109,18 @@ rtt_create-held granules held cpu rd rtt ipa level told walked (level_fits, (ali
     (above-placed held rd ipa level (reach t rd ipa (level - 1)) (end-placed granules held (way rd ipa (level - 1)) walked)
     (eqb-true (reach t rd ipa (level - 1)) (level - 1) ends) (omega (arith, under)) last)
 
-rtt_destroy-held : (granules : ℕ) (held : List HeldCell) (cpu rd ipa level : ℕ) → is_walk_held granules held (way rd ipa (level - 1)) ≡ true
-    → is_part_held (part_below (call.RttDestroy rd ipa level) (end_entry granules held (way rd ipa (level - 1)))) held ≡ true
-    → AllHold (with_front (seen_state granules held) (call.RttDestroy rd ipa level) (behind (seen_state granules held) cpu (call.RttDestroy rd ipa level)).0)
-    → IsHeldChange held (behind (seen_state granules held) cpu (call.RttDestroy rd ipa level)).1
+rtt_remove-held : (granules : ℕ) (held : List HeldCell) (cpu : ℕ) (removal : Removal) (rd ipa level : ℕ) → is_walk_held granules held (way rd ipa (level - 1)) ≡ true
+    → is_part_held (part_below (call.RttRemove removal rd ipa level) (end_entry granules held (way rd ipa (level - 1)))) held ≡ true
+    → AllHold (with_front (seen_state granules held) (call.RttRemove removal rd ipa level) (behind (seen_state granules held) cpu (call.RttRemove removal rd ipa level)).0)
+    → IsHeldChange held (behind (seen_state granules held) cpu (call.RttRemove removal rd ipa level)).1
 unfolding behind words_of named holds_change
-rtt_destroy-held granules held cpu rd ipa level walked part (level_fits, (aligned, (rd_tag, (above, (below, (linked, (unused, _))))))) =
+rtt_remove-held granules held cpu removal rd ipa level walked part (level_fits, (aligned, (rd_tag, (above, (below, (linked, (some, _))))))) =
     let t = seen_state granules held in
     let under : (realm_at t rd).start_level < level = ltb-true (realm_at t rd).start_level level above in
     let last : level ≤ 3 = leb-true level 3 level_fits in
     let parts = and_parts (reach t rd ipa (level - 1) == level - 1) (is_table (walk t rd ipa (level - 1)).entry) linked in
     and_from (is_held (entry_address (walk t rd ipa (level - 1)).entry) held) (is_some (table_placed held rd (level - 1) (table_number level ipa / 512)))
-    (link-held rd ipa level held (walk t rd ipa (level - 1)).entry part parts.1)
+    (link-held removal rd ipa level held (walk t rd ipa (level - 1)).entry part parts.1)
     (above-placed held rd ipa level (reach t rd ipa (level - 1)) (end-placed granules held (way rd ipa (level - 1)) walked)
     (eqb-true (reach t rd ipa (level - 1)) (level - 1) parts.0) (omega (arith, under)) last)
 
@@ -209,7 +210,7 @@ rows-held : (granules : ℕ) (held : List HeldCell) (cpu : ℕ) (c : Call) → a
     → AllHold (with_front (seen_state granules held) c (behind (seen_state granules held) cpu c).0) → IsHeldChange held (behind (seen_state granules held) cpu c).1
 unfolding way_of
 rows-held granules held cpu (call.RttCreate rd rtt ipa level) told settled rows = rtt_create-held granules held cpu rd rtt ipa level told settled.0 rows
-rows-held granules held cpu (call.RttDestroy rd ipa level) told settled rows = rtt_destroy-held granules held cpu rd ipa level settled.0 settled.1 rows
+rows-held granules held cpu (call.RttRemove removal rd ipa level) told settled rows = rtt_remove-held granules held cpu removal rd ipa level settled.0 settled.1 rows
 rows-held granules held cpu (call.RttReadEntry rd ipa level) told settled rows = read_entry-held granules held cpu rd ipa level
 rows-held granules held cpu (call.DataCreate rd granule ipa source flags digest) told settled rows =
     data_create-held granules held cpu rd granule ipa source flags digest told settled.0 rows

@@ -237,7 +237,7 @@ AreWayRealms c (Some w) = AllByRecursion (IsWayRealm w.rd) (named c)
 way-realms : (c : Call) → AreWayRealms c (way_of c)
 unfolding way_of named
 way-realms (call.RttCreate rd rtt ipa level) = (λ is. refl, (λ is. absurd (false≢true is), tt))
-way-realms (call.RttDestroy rd ipa level) = (λ is. refl, tt)
+way-realms (call.RttRemove removal rd ipa level) = (λ is. refl, tt)
 way-realms (call.RttReadEntry rd ipa level) = (λ is. refl, tt)
 way-realms (call.DataCreate rd granule ipa source flags digest) = (λ is. refl, (λ is. absurd (false≢true is), (λ is. absurd (false≢true is), tt)))
 way-realms (call.DataCreateUnknown rd granule ipa) = (λ is. refl, (λ is. absurd (false≢true is), tt))

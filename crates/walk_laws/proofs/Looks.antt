@@ -1,26 +1,30 @@
 -- Two states that agree on what the rows of a command look up answer it alike; and where they agree on all but tables, one refuses
 -- before the walk what the other does.
 use Rattle.std.proofs.Common.{◌≡◌, ℕ, zero, suc, ◌-◌, Bool, true, false, not, ◌&&◌, ◌==◌, if◌then◌else◌, List, [], ◌∷◌, Option, Some, None, Result, Ok, Err, nat_lt, refl, sym, ap, ◌∙◌}
-use Rattle.std.specs.Prelude.{is_some}
+use Rattle.std.specs.Prelude.{is_some, unwrap_or}
 use Rattle.std.specs.List.{AllByRecursion, list_all}
 use Rattle.std.proofs.lemmas.Bool.{false≢true, and_parts}
 use Rattle.std.proofs.lemmas.Option.{none-some}
 use Rattle.rmm_spec.specs.declared.accepted.Accepted.{Accepted}
 use Rattle.rmm_spec.specs.declared.call.Call.{Call}
 use Rattle.rmm_spec.specs.declared.call.Call.TheVariants as call
+use Rattle.rmm_spec.specs.declared.call.Removal.{Removal}
+use Rattle.rmm_spec.specs.declared.call.Removal.TheVariants.{Destroy, Fold}
 use Rattle.rmm_spec.specs.declared.change.Change.TheVariants.{TableDestroyed}
 use Rattle.rmm_spec.specs.declared.reply.Reply.{Reply}
+use Rattle.rmm_spec.specs.declared.tag.Ripas.{Ripas}
+use Rattle.rmm_spec.specs.declared.tag.Ripas.TheVariants.{Destroyed}
 use Rattle.rmm_spec.specs.declared.tag.Tag.{Tag}
 use Rattle.rmm_spec.specs.declared.tag.Tag.TheVariants as tag
 use Rattle.rmm_spec.specs.State.{State}
 use Rattle.rmm_spec.specs.Lookup.{has_tag, realm_at, rec_at, is_vmid_used, has_rec, rec_inside}
 use Rattle.rmm_spec.specs.Rows.{Row, Needed, decided, row, input, done, table_error}
-use Rattle.rmm_spec.specs.Walk.{table_number, full, is_table, entry_address, entry_at, entry_for, reach, is_in_use}
+use Rattle.rmm_spec.specs.Walk.{table_number, full, is_table, entry_address, entry_at, entry_for, reach, has_entry}
 use Rattle.rmm_spec.specs.Step.{answer_of}
 use Rattle.rmm_spec.specs.Step.Front.{with_front}
 use Rattle.rmm_spec.specs.Step.Words.{words_of}
 use Rattle.rmm_spec.specs.Step.Named.{named}
-use Rattle.rmm_spec.specs.Step.Table.{rtt_create, rtt_destroy, rtt_read_entry, entry_after_table}
+use Rattle.rmm_spec.specs.Step.Table.{rtt_create, rtt_remove, rtt_read_entry, entry_after_table, ripas_left}
 use Rattle.rmm_spec.specs.Step.Data.{data_create, data_create_unknown, data_destroy}
 use Rattle.rmm_spec.specs.Step.Unprotected.{rtt_map_unprotected, rtt_unmap_unprotected}
 use Rattle.rmm_spec.specs.Step.Ripas.{rtt_init_ripas, rtt_set_ripas}
@@ -49,10 +53,10 @@ pub record SameFront (s t : State) (c : Call) (way : Way) : Type 0 where
 abbrev pub is_linked : State → ℕ → ℕ → ℕ → Bool
 is_linked s rd ipa max = reach s rd ipa max == max && is_table (entry_for s rd (reach s rd ipa max) ipa)
 
--- the table that is to be taken out is in use in both, or in none
+-- the same is left of the table that is to be taken out
 abbrev pub SameUse : State → State → Call → Type 0
-SameUse s t (call.RttDestroy rd ipa level) = nat_lt (realm_at t rd).start_level level ≡ true → is_linked t rd ipa (level - 1) ≡ true
-    → is_in_use s rd level (table_number level ipa) ≡ is_in_use t rd level (table_number level ipa)
+SameUse s t (call.RttRemove removal rd ipa level) = nat_lt (realm_at t rd).start_level level ≡ true → is_linked t rd ipa (level - 1) ≡ true
+    → ripas_left removal s rd level (table_number level ipa) ≡ ripas_left removal t rd level (table_number level ipa)
 SameUse s t _ = Unit {0}
 
 pub record SameLooks (s t : State) (c : Call) (way : Way) : Type 0 where
@@ -62,27 +66,27 @@ pub record SameLooks (s t : State) (c : Call) (way : Way) : Type 0 where
 
 -- ---- answers
 
--- whether a table is in use is read of one that the walk links to
-used-same : (s t : State) (rd ipa level : ℕ) → SameUse s t (call.RttDestroy rd ipa level)
-    → (λ (u : Bool). decided (with_front t (call.RttDestroy rd ipa level)
+-- what is left is read of a table that the walk links to
+used-same : (s t : State) (removal : Removal) (rd ipa level : ℕ) → SameUse s t (call.RttRemove removal rd ipa level)
+    → (λ (left : Option Ripas). decided (with_front t (call.RttRemove removal rd ipa level)
     (input (nat_lt (realm_at t rd).start_level level) ∷ input (nat_lt ipa (full (realm_at t rd)))
-    ∷ row (is_linked t rd ipa (level - 1)) (table_error (reach t rd ipa (level - 1))) ∷ row (not u) (table_error level) ∷ []))
+    ∷ row (is_linked t rd ipa (level - 1)) (table_error (reach t rd ipa (level - 1))) ∷ row (is_some left) (table_error level) ∷ []))
     (done (entry_address (entry_for t rd (reach t rd ipa (level - 1)) ipa) ∷ [])
-    (TableDestroyed rd level (table_number level ipa) (entry_address (entry_for t rd (reach t rd ipa (level - 1)) ipa)) (entry_after_table (realm_at t rd) ipa))))
-    (is_in_use s rd level (table_number level ipa)) ≡ rtt_destroy t rd ipa level
-unfolding rtt_destroy words_of named
-used-same s t rd ipa level used = by (nat_lt (realm_at t rd).start_level level) refl (is_linked t rd ipa (level - 1)) refl
+    (TableDestroyed rd level (table_number level ipa) (entry_address (entry_for t rd (reach t rd ipa (level - 1)) ipa)) (entry_after_table (realm_at t rd) ipa (unwrap_or left Destroyed)))))
+    (ripas_left removal s rd level (table_number level ipa)) ≡ rtt_remove t removal rd ipa level
+unfolding rtt_remove words_of named
+used-same s t removal rd ipa level used = by (nat_lt (realm_at t rd).start_level level) refl (is_linked t rd ipa (level - 1)) refl
   where
-    rows : Bool → Result Accepted Reply
-    rows u = decided
-        (with_front t (call.RttDestroy rd ipa level)
+    rows : Option Ripas → Result Accepted Reply
+    rows left = decided
+        (with_front t (call.RttRemove removal rd ipa level)
         (input (nat_lt (realm_at t rd).start_level level) ∷ input (nat_lt ipa (full (realm_at t rd)))
-        ∷ row (is_linked t rd ipa (level - 1)) (table_error (reach t rd ipa (level - 1))) ∷ row (not u) (table_error level) ∷ []))
+        ∷ row (is_linked t rd ipa (level - 1)) (table_error (reach t rd ipa (level - 1))) ∷ row (is_some left) (table_error level) ∷ []))
         (done (entry_address (entry_for t rd (reach t rd ipa (level - 1)) ipa) ∷ [])
-        (TableDestroyed rd level (table_number level ipa) (entry_address (entry_for t rd (reach t rd ipa (level - 1)) ipa)) (entry_after_table (realm_at t rd) ipa)))
+        (TableDestroyed rd level (table_number level ipa) (entry_address (entry_for t rd (reach t rd ipa (level - 1)) ipa)) (entry_after_table (realm_at t rd) ipa (unwrap_or left Destroyed))))
 
     by : (a : Bool) → nat_lt (realm_at t rd).start_level level ≡ a → (b : Bool) → is_linked t rd ipa (level - 1) ≡ b
-        → rows (is_in_use s rd level (table_number level ipa)) ≡ rows (is_in_use t rd level (table_number level ipa))
+        → rows (ripas_left removal s rd level (table_number level ipa)) ≡ rows (ripas_left removal t rd level (table_number level ipa))
     by true above true linked = ap rows (used above linked)
     by true above false unlinked = rw unlinked refl
     by false above b linked = rw above refl
@@ -94,11 +98,11 @@ LooksAlike s t c (Some w) = SameLooks s t c w
 
 -- each command in turn, by what it looks up
 pub answer-same : (s t : State) (cpu : ℕ) (c : Call) → LooksAlike s t c (way_of c) → answer_of s cpu c ≡ answer_of t cpu c
-unfolding answer_of way_of keeps_realm named words_of rtt_create rtt_destroy rtt_read_entry data_create data_create_unknown data_destroy rtt_map_unprotected rtt_unmap_unprotected rtt_init_ripas rtt_set_ripas
+unfolding answer_of way_of keeps_realm named words_of rtt_create rtt_remove rtt_read_entry data_create data_create_unknown data_destroy rtt_map_unprotected rtt_unmap_unprotected rtt_init_ripas rtt_set_ripas
 answer-same s t cpu (call.RttCreate rd rtt ipa level) looks =
     rw (looks.front.names.0.0, looks.front.names.1.0.0, looks.front.space.width, looks.front.space.start, looks.walk.entry, looks.walk.level) refl
-answer-same s t cpu (call.RttDestroy rd ipa level) looks =
-    rw (looks.front.names.0.0, looks.front.space.width, looks.front.space.start, looks.walk.entry, looks.walk.level) (used-same s t rd ipa level looks.used)
+answer-same s t cpu (call.RttRemove removal rd ipa level) looks =
+    rw (looks.front.names.0.0, looks.front.space.width, looks.front.space.start, looks.walk.entry, looks.walk.level) (used-same s t removal rd ipa level looks.used)
 answer-same s t cpu (call.RttReadEntry rd ipa level) looks =
     rw (looks.front.names.0.0, looks.front.space.width, looks.front.space.start, looks.walk.entry, looks.walk.level) refl
 answer-same s t cpu (call.DataCreate rd granule ipa source flags digest) looks =
@@ -215,10 +219,14 @@ walk-tables s t w =
     let same = reach-tables s t w.rd w.ipa w.max in
     record { level = same; entry = ap (λ l. entry_for t w.rd l w.ipa) same }
 
--- and has the same tables in use
+-- and leaves the same of a table
+left-tables : (s t : State) (removal : Removal) (rd level number : ℕ) → ripas_left removal (with_tables_of s t) rd level number ≡ ripas_left removal t rd level number
+unfolding ripas_left has_entry entry_at
+left-tables s t Destroy rd level number = refl
+left-tables s t Fold rd level number = refl
+
 use-tables : (s t : State) (c : Call) → SameUse (with_tables_of s t) t c
-unfolding is_in_use entry_at
-use-tables s t (call.RttDestroy rd ipa level) = λ above linked. refl
+use-tables s t (call.RttRemove removal rd ipa level) = λ above linked. left-tables s t removal rd level (table_number level ipa)
 use-tables s t _ = tt
 
 -- what is named is as it was

@@ -3,12 +3,18 @@ use Rattle.std.proofs.Common.{◌≡◌, ℕ, ◌+◌, ◌*◌, ◌/◌, ◌≤�
 use Rattle.std.specs.Prelude.{IsTrue, is_some, unwrap_or}
 use Rattle.std.specs.Option.{option_and_then}
 use Rattle.std.proofs.lemmas.Bool.{false≢true, and_parts, or_cases, not-true}
+use Rattle.rmm_spec.specs.declared.call.Removal.{Removal}
+use Rattle.rmm_spec.specs.declared.call.Removal.TheVariants.{Destroy, Fold}
+use Rattle.rmm_spec.specs.declared.entry.EntryTest.{EntryTest}
+use Rattle.rmm_spec.specs.declared.entry.EntryTest.TheVariants.{Live, Unlike}
+use Rattle.rmm_spec.specs.declared.tag.Ripas.TheVariants.{Destroyed}
 use Rattle.rmm_spec.specs.declared.tag.Tag.{Tag}
 use Rattle.rmm_spec.specs.State.{State, RealmRecord}
 use Rattle.rmm_spec.specs.Lookup.{tag_number, is_granule, has_tag, realm_at, rec_at, no_realm, no_rec}
 use Rattle.rmm_spec.specs.Step.Words.{is_space}
+use Rattle.rmm_spec.specs.Step.Table.{ripas_left}
 use Rattle.rmm_spec.specs.Table.{TableRecord}
-use Rattle.rmm_spec.specs.Walk.{is_table, is_live, entry_at, entry_for, entry_number, table_number, reach, is_in_use}
+use Rattle.rmm_spec.specs.Walk.{is_table, passes, entry_at, entry_for, entry_ripas, entry_number, table_number, reach, has_entry}
 use Rattle.rmm_spec.specs.Cell.{Cell, Undelegated, Rd, tag_of, realm_in, rec_in, table_in, tables_of, realms_of}
 use Rattle.rmm_spec.specs.Flat.{flat_state, is_table_of}
 use Rattle.rmm_spec.specs.Shape.{Side, HoldsTable}
@@ -198,12 +204,24 @@ held-placed {granules} {side} {held} w g rd level number has holds =
     by None found there = absurd (false≢true there)
     by (Some c) found there = ap table_in (sym (whole_cell w g c found))
 
--- whether a table that is held is in use is told as the whole has it
-pub in_use-same : {granules : ℕ} {side : Side} {held : List HeldCell} (w : Whole granules side held) (g rd level number : ℕ)
-    → table_placed held rd level number ≡ Some g → is_in_use (state w) rd level number ≡ is_in_use (seen_state granules held) rd level number
-unfolding is_in_use
-in_use-same {granules} {side} {held} w g rd level number is =
-    any_below-same 512 (λ k. is_live (entry_at (state w) rd level (512 * number + k))) (λ k. is_live (entry_at (seen_state granules held) rd level (512 * number + k)))
+-- an entry that is looked for is found in a table that is held where the whole has it
+has_entry-same : {granules : ℕ} {side : Side} {held : List HeldCell} (w : Whole granules side held) (g rd level number : ℕ) (test : EntryTest)
+    → table_placed held rd level number ≡ Some g → has_entry (state w) rd level number test ≡ has_entry (seen_state granules held) rd level number test
+unfolding has_entry
+has_entry-same {granules} {side} {held} w g rd level number test is =
+    any_below-same 512 (λ k. passes test (entry_at (state w) rd level (512 * number + k))) (λ k. passes test (entry_at (seen_state granules held) rd level (512 * number + k)))
     (λ k within.
     let over : (512 * number + k) / 512 ≡ number = omega (arith, within) in
-    ap is_live (entry-same w g rd level (512 * number + k) (ap (table_placed held rd level) over ∙ is)))
+    ap (passes test) (entry-same w g rd level (512 * number + k) (ap (table_placed held rd level) over ∙ is)))
+
+-- so the same is left of it
+pub left-same : {granules : ℕ} {side : Side} {held : List HeldCell} (w : Whole granules side held) (removal : Removal) (g rd level number : ℕ)
+    → table_placed held rd level number ≡ Some g → ripas_left removal (state w) rd level number ≡ ripas_left removal (seen_state granules held) rd level number
+unfolding ripas_left
+left-same {granules} {side} {held} w Destroy g rd level number is =
+    ap (λ (found : Bool). if found then None else Some Destroyed) (has_entry-same w g rd level number Live is)
+left-same {granules} {side} {held} w Fold g rd level number is =
+    let e = entry_at (seen_state granules held) rd level (512 * number) in
+    let own : (512 * number) / 512 ≡ number = omega arith in
+    rw (entry-same w g rd level (512 * number) (ap (table_placed held rd level) own ∙ is))
+    (ap (λ (found : Bool). if found then None else Some (entry_ripas e)) (has_entry-same w g rd level number (Unlike e) is))

@@ -156,7 +156,7 @@ pub record IsHosts (c : Call) : Type 0 where
 pub hosts : (c : Call) → is_some (way_of c) ≡ true → IsHosts c
 unfolding class_of way_of answer_of
 hosts (call.RttCreate rd rtt ipa level) walks = record { host = refl; alike = λ s cpu. refl }
-hosts (call.RttDestroy rd ipa level) walks = record { host = refl; alike = λ s cpu. refl }
+hosts (call.RttRemove removal rd ipa level) walks = record { host = refl; alike = λ s cpu. refl }
 hosts (call.RttReadEntry rd ipa level) walks = record { host = refl; alike = λ s cpu. refl }
 hosts (call.DataCreate rd granule ipa source flags digest) walks = record { host = refl; alike = λ s cpu. refl }
 hosts (call.DataCreateUnknown rd granule ipa) walks = record { host = refl; alike = λ s cpu. refl }

@@ -6,6 +6,7 @@ use Rattle.std.proofs.lemmas.Bool.{false≢true, and_parts, not-true, ltb-true}
 use Rattle.std.proofs.lemmas.Option.{same_Some}
 use Rattle.rmm_spec.specs.declared.call.Call.{Call}
 use Rattle.rmm_spec.specs.declared.call.Call.TheVariants as call
+use Rattle.rmm_spec.specs.declared.call.Removal.{Removal}
 use Rattle.rmm_spec.specs.declared.entry.Entry.{Entry}
 use Rattle.rmm_spec.specs.declared.entry.Entry.TheVariants.{Table}
 use Rattle.rmm_spec.specs.declared.reply.Reply.{Reply}
@@ -29,7 +30,7 @@ use Rattle.walk_laws.specs.Held.{is_held}
 use Rattle.walk_laws.specs.SeenState.{table_behind, seen_state}
 use Rattle.walk_laws.specs.Walking.{Way, way, way_of, keeps_realm, part_below, is_walk_held, end_entry, is_part_held, is_told, are_told, is_table_error, is_way_settled}
 use Rattle.walk_laws.proofs.Looks.{SameRec, SameNamed, SameFront, SameUse, FrontsAlike, LooksAlike, answer-same, refused-same}
-use Rattle.walk_laws.proofs.Seen.{WalkEnd, realm-same, rec-same, told-tag, told-space, walk-end, held-placed, in_use-same}
+use Rattle.walk_laws.proofs.Seen.{WalkEnd, realm-same, rec-same, told-tag, told-space, walk-end, held-placed, left-same}
 use Rattle.walk_laws.proofs.Tables.{placed-found}
 use Rattle.walk_laws.proofs.Wholes.{Whole, state, sound}
 
@@ -129,7 +130,7 @@ IsWayTold c held (Some w) = is_told (keeps_realm c) held (needed w.rd tag.Rd) �
 way-told : (c : Call) (held : List HeldCell) → are_told c held ≡ true → IsWayTold c held (way_of c)
 unfolding named way_of
 way-told (call.RttCreate rd rtt ipa level) held told = head (call.RttCreate rd rtt ipa level) held told
-way-told (call.RttDestroy rd ipa level) held told = head (call.RttDestroy rd ipa level) held told
+way-told (call.RttRemove removal rd ipa level) held told = head (call.RttRemove removal rd ipa level) held told
 way-told (call.RttReadEntry rd ipa level) held told = head (call.RttReadEntry rd ipa level) held told
 way-told (call.DataCreate rd granule ipa source flags digest) held told = head (call.DataCreate rd granule ipa source flags digest) held told
 way-told (call.DataCreateUnknown rd granule ipa) held told = head (call.DataCreateUnknown rd granule ipa) held told
@@ -156,17 +157,17 @@ front-same {granules} {side} {held} w c route told realm = record {
 -- ---- a table below
 
 -- the child below a link
-link_below : (rd ipa level child : ℕ) (e : Entry) → e ≡ Table child → part_below (call.RttDestroy rd ipa level) e ≡ Some child
+link_below : (removal : Removal) (rd ipa level child : ℕ) (e : Entry) → e ≡ Table child → part_below (call.RttRemove removal rd ipa level) e ≡ Some child
 unfolding part_below
-link_below rd ipa level child e is = ap (λ (x : Entry). part_below (call.RttDestroy rd ipa level) x) is
+link_below removal rd ipa level child e is = ap (λ (x : Entry). part_below (call.RttRemove removal rd ipa level) x) is
 
--- the table that is to be taken out is held, so it is told whether it is in use
-used-told : {granules : ℕ} {side : Side} {held : List HeldCell} (w : Whole granules side held) (rd ipa level : ℕ)
+-- the table that is to be taken out is held, so it is told what is left of it
+used-told : {granules : ℕ} {side : Side} {held : List HeldCell} (w : Whole granules side held) (removal : Removal) (rd ipa level : ℕ)
     → WalkEnd (state w) (seen_state granules held) held (way rd ipa (level - 1))
-    → is_part_held (part_below (call.RttDestroy rd ipa level) (end_entry granules held (way rd ipa (level - 1)))) held ≡ true
-    → SameUse (state w) (seen_state granules held) (call.RttDestroy rd ipa level)
+    → is_part_held (part_below (call.RttRemove removal rd ipa level) (end_entry granules held (way rd ipa (level - 1)))) held ≡ true
+    → SameUse (state w) (seen_state granules held) (call.RttRemove removal rd ipa level)
 unfolding flat_state
-used-told {granules} {side} {held} w rd ipa level end part above linked =
+used-told {granules} {side} {held} w removal rd ipa level end part above linked =
     let t = seen_state granules held in
     let up = level - 1 in
     let parts = and_parts (reach t rd ipa up == up) (is_table (entry_for t rd (reach t rd ipa up) ipa)) linked in
@@ -184,18 +185,18 @@ used-told {granules} {side} {held} w rd ipa level end part above linked =
     let link = link_there (state w) (sound w) rd up (entry_number up ipa) table (ap is_table seen ∙ parts.1) in
     let child : end_entry granules held (way rd ipa up) ≡ Table link.0 = sym seen ∙ link.2 in
     let has : is_held link.0 held ≡ true =
-    subst (λ (o : Option ℕ). is_part_held o held ≡ true) (link_below rd ipa level link.0 (end_entry granules held (way rd ipa up)) child) part in
+    subst (λ (o : Option ℕ). is_part_held o held ≡ true) (link_below removal rd ipa level link.0 (end_entry granules held (way rd ipa up)) child) part in
     let holds = table_granule-holds granules (tables_of w.cells) rd (suc up) (entry_number up ipa) link.0 link.1 in
     let placed = held-placed w link.0 rd level (table_number level ipa) has
     (subst (λ l. HoldsTable (tables_of w.cells) link.0 rd l (table_number l ipa)) deep
     (subst (λ n. HoldsTable (tables_of w.cells) link.0 rd (suc up) n) (sym (table_number-suc up ipa)) holds)) in
-    in_use-same w placed.0 rd level (table_number level ipa) placed.1
+    left-same w removal placed.0 rd level (table_number level ipa) placed.1
 
 use-told : {granules : ℕ} {side : Side} {held : List HeldCell} (w : Whole granules side held) (c : Call)
     → ((route : Way) → way_of c ≡ Some route → WalkEnd (state w) (seen_state granules held) held route × (is_part_held (part_below c (end_entry granules held route)) held ≡ true))
     → SameUse (state w) (seen_state granules held) c
 unfolding way_of
-use-told {granules} {side} {held} w (call.RttDestroy rd ipa level) ends = let end = ends (way rd ipa (level - 1)) refl in used-told w rd ipa level end.0 end.1
+use-told {granules} {side} {held} w (call.RttRemove removal rd ipa level) ends = let end = ends (way rd ipa (level - 1)) refl in used-told w removal rd ipa level end.0 end.1
 use-told {granules} {side} {held} w _ ends = tt
 
 -- ---- answers

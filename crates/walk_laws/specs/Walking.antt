@@ -35,7 +35,7 @@ way rd ipa max = record { rd = rd; ipa = ipa; max = max }
 -- where a host's command walks, if it does
 unfoldable pub way_of : Call → Option Way
 way_of (call.RttCreate rd rtt ipa level) = Some (way rd ipa (level - 1))
-way_of (call.RttDestroy rd ipa level) = Some (way rd ipa (level - 1))
+way_of (call.RttRemove removal rd ipa level) = Some (way rd ipa (level - 1))
 way_of (call.RttReadEntry rd ipa level) = Some (way rd ipa level)
 way_of (call.DataCreate rd granule ipa source flags digest) = Some (way rd ipa 3)
 way_of (call.DataCreateUnknown rd granule ipa) = Some (way rd ipa 3)
@@ -54,7 +54,7 @@ keeps_realm _ = false
 
 -- the granule below the walk's end that a command takes out, by the entry there: a table that it reads first, or a page
 unfoldable pub part_below : Call → Entry → Option ℕ
-part_below (call.RttDestroy rd ipa level) (Table granule) = Some granule
+part_below (call.RttRemove removal rd ipa level) (Table granule) = Some granule
 part_below (call.DataDestroy rd ipa) (Assigned ripas granule) = Some granule
 part_below call entry = None
 

@@ -74,7 +74,7 @@ fn drawn_life(cpu: u64, random: &mut Xoshiro256PlusPlus) -> DeepLife
 // A command on any granules.
 fn stray_command(random: &mut Xoshiro256PlusPlus) -> Command {
     let (first, second) = (drawn_granule(random), drawn_granule(random));
-    match case(random, 16) {
+    match case(random, 17) {
         0 => command(FunctionId::GranuleDelegate, &[first]),
         1 => command(FunctionId::GranuleUndelegate, &[first]),
         2 => {
@@ -107,6 +107,7 @@ fn stray_walk(number: u32, random: &mut Xoshiro256PlusPlus) -> Command {
         12 => command(FunctionId::DataDestroy, &[rd, ipa]),
         13 => command(FunctionId::RttMapUnprotected, &[rd, ipa, granule]),
         14 => command(FunctionId::RttUnmapUnprotected, &[rd, ipa]),
+        15 => command(FunctionId::RttFold, &[rd, table, 3]),
         _ => command(FunctionId::RttReadEntry, &[rd, ipa, 3]),
     }
 }

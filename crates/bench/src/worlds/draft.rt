@@ -24,7 +24,7 @@ pub(crate) struct Draft {
 }
 
 impl Draft {
-    /// The scenario of a seed: a machine, programs of all 27 commands, and the turns of the schedule for which they were drafted.
+    /// The scenario of a seed: a machine, programs of all commands, and the turns of the schedule for which they were drafted.
     pub(crate) fn drawn(self, alloc: Global, seed: u64) -> Result<Scenario> {
         let mut dice = Dice::new(seed);
         let drawn = u64::from(self.cpus) + dice.below(u64::from(self.more) + 1);

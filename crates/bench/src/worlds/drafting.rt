@@ -103,6 +103,7 @@ fn likely_turns(function: FunctionId) -> u8 {
         FunctionId::RealmCreate | FunctionId::RealmDestroy | FunctionId::RecEnter => 7,
         FunctionId::RttCreate
         | FunctionId::RttDestroy
+        | FunctionId::RttFold
         | FunctionId::RttReadEntry
         | FunctionId::DataCreate
         | FunctionId::DataCreateUnknown

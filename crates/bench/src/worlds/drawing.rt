@@ -94,9 +94,9 @@ impl Granules<'_> {
     }
 }
 
-/// One of the 27 functions. Those that make something come more often than those that end it.
+/// One of the functions. Those that make something come more often than those that end it.
 pub(crate) fn drawn_function(dice: &mut Dice) -> FunctionId {
-    match dice.below(112) {
+    match dice.below(114) {
         0..14 => FunctionId::GranuleDelegate,
         14 => FunctionId::GranuleUndelegate,
         15 | 16 => FunctionId::RealmCreate,
@@ -118,7 +118,7 @@ pub(crate) fn drawn_function(dice: &mut Dice) -> FunctionId {
     }
 }
 
-// One of the ten that walk tables for the host, by a number from 66 on.
+// One of those that walk tables for the host, by a number from 66 on.
 fn drawn_walking_function(number: u64) -> FunctionId {
     match number {
         66..81 => FunctionId::RttCreate,
@@ -130,6 +130,7 @@ fn drawn_walking_function(number: u64) -> FunctionId {
         101 => FunctionId::RttUnmapUnprotected,
         102 | 103 => FunctionId::RttReadEntry,
         104..108 => FunctionId::RttInitRipas,
+        108 | 109 => FunctionId::RttFold,
         _ => FunctionId::RttSetRipas,
     }
 }

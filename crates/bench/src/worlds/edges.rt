@@ -7,7 +7,7 @@ use rmm_spec::Command;
 /// Nothing, the ends of a page, bits past any address, and the greatest word.
 const EDGES: [u64; 7] = [0, 1, 0xfff, 0x1000, 1 << 52, 1 << 63, u64::MAX];
 
-/// One of the 27 functions with likely words, of which one or two are edges.
+/// One of the functions with likely words, of which one or two are edges.
 pub(crate) fn edged_command(granules: Granules<'_>, dice: &mut Dice) -> Command {
     let function = drawn_function(dice);
     let mut command = drawn_command(function, granules, dice);

@@ -16,9 +16,10 @@ pub(crate) fn drawn_walk(
 ) -> Option<Command> {
     let rd = granules.draw(dice, Tag::Rd);
     match function {
-        FunctionId::RttCreate | FunctionId::RttDestroy | FunctionId::RttReadEntry => {
-            Some(drawn_table(function, rd, granules, dice))
-        }
+        FunctionId::RttCreate
+        | FunctionId::RttDestroy
+        | FunctionId::RttFold
+        | FunctionId::RttReadEntry => Some(drawn_table(function, rd, granules, dice)),
         FunctionId::DataCreate | FunctionId::DataCreateUnknown | FunctionId::DataDestroy => {
             Some(drawn_page(function, rd, granules, dice))
         }
@@ -47,7 +48,9 @@ fn drawn_table(function: FunctionId, rd: u64, granules: Granules<'_>, dice: &mut
             let rtt = granules.draw(dice, Tag::Delegated);
             command(function, &[rd, rtt, drawn_ipa(dice, covered(level)), level])
         }
-        FunctionId::RttDestroy => command(function, &[rd, drawn_ipa(dice, covered(level)), level]),
+        FunctionId::RttDestroy | FunctionId::RttFold => {
+            command(function, &[rd, drawn_ipa(dice, covered(level)), level])
+        }
         _ => command(function, &[rd, drawn_ipa(dice, covered(level + 1)), level]),
     }
 }

@@ -1,21 +1,25 @@
--- Translation tables are put in, taken out and read (DEN0137, RMI_RTT_CREATE, RMI_RTT_DESTROY, RMI_RTT_READ_ENTRY).
-use Rattle.std.specs.Prelude.{ℕ, ◌-◌, not, ◌&&◌, nat_lt, nat_le, ◌==◌, if◌then◌else◌, [], ◌∷◌, Result}
+-- Translation tables are put in, taken out and read (DEN0137, RMI_RTT_CREATE, RMI_RTT_DESTROY, RMI_RTT_FOLD, RMI_RTT_READ_ENTRY).
+use Rattle.std.specs.Prelude.{ℕ, ◌-◌, ◌*◌, not, ◌&&◌, nat_lt, nat_le, ◌==◌, if◌then◌else◌, [], ◌∷◌, Option, Some, None, is_some, unwrap_or, Result}
 use Rattle.rmm_spec.specs.declared.accepted.Accepted.{Accepted}
-use Rattle.rmm_spec.specs.declared.call.Call.TheVariants.{RttCreate, RttDestroy, RttReadEntry}
+use Rattle.rmm_spec.specs.declared.call.Call.TheVariants.{RttCreate, RttRemove, RttReadEntry}
+use Rattle.rmm_spec.specs.declared.call.Removal.{Removal}
+use Rattle.rmm_spec.specs.declared.call.Removal.TheVariants.{Destroy, Fold}
+use Rattle.rmm_spec.specs.declared.entry.EntryTest.TheVariants.{Unlike}
 use Rattle.rmm_spec.specs.declared.change.Change.TheVariants.{Unchanged, TableMade, TableDestroyed}
 use Rattle.rmm_spec.specs.declared.entry.Entry.{Entry}
 use Rattle.rmm_spec.specs.declared.entry.Entry.TheVariants.{Unassigned, UnassignedNs}
 use Rattle.rmm_spec.specs.declared.reply.Reply.{Reply}
+use Rattle.rmm_spec.specs.declared.tag.Ripas.{Ripas}
 use Rattle.rmm_spec.specs.declared.tag.Ripas.TheVariants.{Destroyed}
 use Rattle.rmm_spec.specs.State.{State, RealmRecord}
 use Rattle.rmm_spec.specs.Lookup.{realm_at, ripas_number}
-use Rattle.rmm_spec.specs.Walk.{table_number, walk, full, half, is_table, is_in_use, entry_address, entry_ripas, entry_state}
+use Rattle.rmm_spec.specs.Walk.{table_number, walk, full, half, is_table, is_in_use, has_entry, entry_at, entry_address, entry_ripas, entry_state}
 use Rattle.rmm_spec.specs.Rows.{row, input, decided, done, table_error}
 use Rattle.rmm_spec.specs.Step.Front.{with_front}
 
--- what a stretch of addresses is where a table of it was taken out
-abbrev pub entry_after_table : RealmRecord → ℕ → Entry
-entry_after_table realm ipa = if nat_lt ipa (half realm) then Unassigned Destroyed else UnassignedNs
+-- what a stretch of addresses is where a table of it was taken out and left this RIPAS
+abbrev pub entry_after_table : RealmRecord → ℕ → Ripas → Entry
+entry_after_table realm ipa ripas = if nat_lt ipa (half realm) then Unassigned ripas else UnassignedNs
 
 unfoldable pub rtt_create : State → ℕ → ℕ → ℕ → ℕ → Result Accepted Reply
 rtt_create s rd rtt ipa level =
@@ -30,20 +34,29 @@ rtt_create s rd rtt ipa level =
     ∷ []))
     (done [] (TableMade rd level (table_number level ipa) rtt end.entry))
 
-unfoldable pub rtt_destroy : State → ℕ → ℕ → ℕ → Result Accepted Reply
-rtt_destroy s rd ipa level =
+-- The RIPAS that a table leaves where it may be taken out. RTT_DESTROY asks that no entry keeps it in use, and RTT_FOLD that all
+-- are unassigned alike (own).
+unfoldable pub ripas_left : Removal → State → ℕ → ℕ → ℕ → Option Ripas
+ripas_left Destroy s rd level number = if is_in_use s rd level number then None else Some Destroyed
+ripas_left Fold s rd level number =
+    let first = entry_at s rd level (512 * number) in
+    if has_entry s rd level number (Unlike first) then None else Some (entry_ripas first)
+
+unfoldable pub rtt_remove : State → Removal → ℕ → ℕ → ℕ → Result Accepted Reply
+rtt_remove s removal rd ipa level =
     let realm = realm_at s rd in
     let end = walk s rd ipa (level - 1) in
     let number = table_number level ipa in
     let rtt = entry_address end.entry in
+    let left = ripas_left removal s rd level number in
     decided
-    (with_front s (RttDestroy rd ipa level)
+    (with_front s (RttRemove removal rd ipa level)
     (input (nat_lt realm.start_level level)  -- level_bound
     ∷ input (nat_lt ipa (full realm))  -- ipa_bound
     ∷ row (end.level == level - 1 && is_table end.entry) (table_error end.level)  -- rtt_walk, rtte_state
-    ∷ row (not (is_in_use s rd level number)) (table_error level)  -- rtt_live
+    ∷ row (is_some left) (table_error level)  -- rtt_live, own
     ∷ []))
-    (done (rtt ∷ []) (TableDestroyed rd level number rtt (entry_after_table realm ipa)))
+    (done (rtt ∷ []) (TableDestroyed rd level number rtt (entry_after_table realm ipa (unwrap_or left Destroyed))))
 
 unfoldable pub rtt_read_entry : State → ℕ → ℕ → ℕ → Result Accepted Reply
 rtt_read_entry s rd ipa level =

@@ -3,7 +3,7 @@
 -- it requires of base and top stands behind rows with other replies.
 use Rattle.std.specs.Prelude.{ℕ, ◌-◌, ◌^◌, Bool, not, ◌&&◌, ◌||◌, nat_lt, nat_le, ◌==◌, List, [], ◌∷◌}
 use Rattle.rmm_spec.specs.declared.call.Call.{Call}
-use Rattle.rmm_spec.specs.declared.call.Call.TheVariants.{DataCreate, DataCreateUnknown, DataDestroy, RealmCreate, RecCreate, RttCreate, RttDestroy, RttMapUnprotected, RttReadEntry, RttUnmapUnprotected, RttInitRipas, MeasurementRead, MeasurementExtend, IpaStateSet, IpaStateGet, HostCall}
+use Rattle.rmm_spec.specs.declared.call.Call.TheVariants.{DataCreate, DataCreateUnknown, DataDestroy, RealmCreate, RecCreate, RttCreate, RttRemove, RttMapUnprotected, RttReadEntry, RttUnmapUnprotected, RttInitRipas, MeasurementRead, MeasurementExtend, IpaStateSet, IpaStateGet, HostCall}
 use Rattle.rmm_spec.specs.Walk.{entry_size, is_multiple}
 
 abbrev pub is_page : ℕ → Bool
@@ -34,7 +34,7 @@ words_of (RttCreate rd rtt ipa level) =
     nat_le level 3  -- level_bound
     ∷ is_multiple ipa (entry_size (level - 1))  -- ipa_align
     ∷ []
-words_of (RttDestroy rd ipa level) =
+words_of (RttRemove removal rd ipa level) =
     nat_le level 3  -- level_bound
     ∷ is_multiple ipa (entry_size (level - 1))  -- ipa_align
     ∷ []

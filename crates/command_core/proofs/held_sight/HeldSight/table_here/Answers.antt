@@ -1,7 +1,7 @@
 use Rattle.std.proofs.Common.{ℕ, sym, ap, ◌∙◌}
 use Rattle.std.specs.Prelude.{option_copied}
 use Rattle.walk_laws.specs.SeenState.{table_held}
-use Rattle.command_core.proofs.InUse.{stands-found}
+use Rattle.command_core.proofs.EntrySearch.{stands-found}
 use Rattle.command_core.proofs.held_sight.HeldSight.table_here.Goals as goal
 
 pub returns-in-Some : goal.returns-in-Some

@@ -1,56 +1,39 @@
--- Whether an entry keeps a table in use, or links to one: by its counts where it is held, and elsewhere by the held tables under it.
-use Rattle.std.proofs.Common.{◌≡◌, ℕ, zero, suc, ◌+◌, ◌-◌, ◌*◌, ◌/◌, ◌%◌, ◌<◌, Bool, true, false, ◌&&◌, ◌||◌, ◌==◌, if◌then◌else◌, List, [], ◌∷◌, length, Option, Some, None, is_some, nat_lt, slice_get, refl, sym, ap, ◌∙◌, eq-eqb, arith}
+-- Whether a table has an entry that is looked for: by itself where it is held, and elsewhere by the held tables under it.
+use Rattle.std.proofs.Common.{◌≡◌, ℕ, zero, suc, ◌+◌, ◌-◌, ◌*◌, ◌/◌, ◌%◌, ◌<◌, Bool, true, false, ◌&&◌, ◌||◌, ◌==◌, if◌then◌else◌, List, [], ◌∷◌, length, get_or, Option, Some, None, is_some, nat_lt, nat_le, slice_get, refl, sym, ap, ◌∙◌, eq-eqb, arith}
 use Rattle.std.specs.Prelude.{IfSome}
 use Rattle.std.specs.List.{fold, list_any}
 use Rattle.std.specs.Option.{option_and_then}
-use Rattle.std.proofs.lemmas.Bool.{false≢true, or_left, or_right, false_from_ne_true}
+use Rattle.std.proofs.lemmas.Bool.{false≢true, or_left, or_right, false_from_ne_true, ltb-false, le-leb}
 use Rattle.std.proofs.lemmas.Bool.Decides.{nat_tests}
-use Rattle.std.proofs.lemmas.List.Folds.{fold_stays}
-use Rattle.std.proofs.lemmas.Option.{none-some}
+use Rattle.std.proofs.lemmas.List.Folds.{fold_stays, list_any_at}
+use Rattle.std.proofs.lemmas.Option.{none-some, get_or_from_slice_get}
 use Rattle.rmm_spec.specs.declared.entry.Entry.{Entry}
 use Rattle.rmm_spec.specs.declared.entry.Entry.TheVariants.{Unassigned, Assigned, Table, UnassignedNs, AssignedNs}
+use Rattle.rmm_spec.specs.declared.entry.EntryTest.{EntryTest}
+use Rattle.rmm_spec.specs.declared.entry.EntryTest.TheVariants.{Live, Link, Unlike}
 use Rattle.rmm_spec.specs.declared.tag.Ripas.TheVariants.{Empty}
 use Rattle.rmm_spec.specs.Lookup.{any_below}
 use Rattle.rmm_spec.specs.Table.{TableRecord, place_number}
 use Rattle.rmm_spec.specs.TableCells.{leaf_of}
-use Rattle.rmm_spec.specs.Walk.{is_live, is_table, linked_entry, entry_at, is_in_use, has_link}
+use Rattle.rmm_spec.specs.Walk.{is_table, passes, linked_entry, entry_at, has_entry}
 use Rattle.rmm_spec.specs.Flat.{is_table_of}
 use Rattle.rmm_spec.specs.Local.{HeldCell, granules_held}
 use Rattle.rmm_sound.proofs.Cases.{spot_hit}
 use Rattle.world_laws.proofs.Placed.{passing_below, any_below-from}
-use Rattle.rtt_table.specs.Counts.{is_mapped}
-use Rattle.rtt_table.proofs.Counted.{live-parts}
 use Rattle.rtt_table.proofs.Searches.{search-places}
 use Rattle.walk_laws.specs.SeenState.{found_or, table_held, table_placed, entry_in, entry_held, table_seen, leaf_seen, seen_state}
 use Rattle.walk_laws.proofs.Found.{placed-holds}
 use Rattle.command_core.specs.Standing.{StandsIn, IsHeldTable, is_under, is_above_held}
 use Rattle.command_core.proofs.Searches.{any_below-same}
-use Rattle.command_core.proofs.SeenTables.{entry-told}
+use Rattle.command_core.proofs.SeenTables.{entry-seen}
 
 -- ---- where the table is held
 
--- at the last level an entry that is no link is as live as it is mapped, and none links
-last-live : (e : Entry) → is_mapped e ≡ is_live (linked_entry None (leaf_of e))
-last-live (Unassigned ripas) = refl
-last-live (Assigned ripas granule) = refl
-last-live (Table granule) = refl
-last-live UnassignedNs = refl
-last-live (AssignedNs page) = refl
-
-last-unlinked : (e : Entry) → false ≡ is_table (linked_entry None (leaf_of e))
-last-unlinked (Unassigned ripas) = refl
-last-unlinked (Assigned ripas granule) = refl
-last-unlinked (Table granule) = refl
-last-unlinked UnassignedNs = refl
-last-unlinked (AssignedNs page) = refl
-
-no_entry : (entries : List Entry) → false ≡ list_any (λ e. false) entries
-no_entry [] = refl
-no_entry (e ∷ entries) = no_entry entries
-
-or_nothing : (b : Bool) → (b || false) ≡ b
-or_nothing true = refl
-or_nothing false = refl
+-- where a search finds nothing, each element fails the test
+none-at : {X : Type 0} (test : X → Bool) (xs : List X) (k : ℕ) (x : X) → k < length xs → slice_get xs k ≡ Some x → list_any test xs ≡ false → test x ≡ false
+none-at test xs k x below at none =
+    false_from_ne_true (test x)
+    (λ is. false≢true (sym none ∙ list_any_at test xs k x below (ap test (get_or_from_slice_get xs k x x at) ∙ is)))
 
 -- what is held in the granule where a table is found is the table
 pub stands-found : (held : List HeldCell) (rd level number granule : ℕ) (found : Option TableRecord) → table_placed held rd level number ≡ Some granule
@@ -71,35 +54,17 @@ module _ (granules : ℕ) (held : List HeldCell) (rd level number : ℕ) (t : Ta
       ∙ ap (slice_get t.entries) low
       ∙ at
 
-  search-held : (p q : Entry → Bool) → ((e : Entry) → q e ≡ p (if nat_lt level 3 then e else linked_entry None (leaf_of e)))
-      → list_any q t.entries ≡ any_below 512 (λ k. p (entry_at (seen_state granules held) rd level (512 * number + k)))
-  search-held p q same =
-      search-places q t.entries (λ k. p (entry_at (seen_state granules held) rd level (512 * number + k)))
-      (λ k e below at. same e ∙ ap p (sym (entry-told granules held rd level (512 * number + k) e (its_entry k (omega (arith, below, stands.is_whole)) e at))))
-      ∙ ap (λ n. any_below n (λ k. p (entry_at (seen_state granules held) rd level (512 * number + k)))) stands.is_whole
-
-  pub in_use-held : (list_any is_mapped t.entries || (nat_lt level 3 && list_any is_table t.entries)) ≡ is_in_use (seen_state granules held) rd level number
-  unfolding is_in_use
-  in_use-held = by (nat_lt level 3) refl
-    where
-      by : (b : Bool) → nat_lt level 3 ≡ b → (list_any is_mapped t.entries || (b && list_any is_table t.entries))
-          ≡ any_below 512 (λ k. is_live (entry_at (seen_state granules held) rd level (512 * number + k)))
-      by true less =
-          sym (live-parts t.entries) ∙ search-held is_live is_live (λ e. ap (λ b. is_live (if b then e else linked_entry None (leaf_of e))) (sym less))
-      by false last =
-          or_nothing (list_any is_mapped t.entries)
-          ∙ search-held is_live is_mapped (λ e. last-live e ∙ ap (λ b. is_live (if b then e else linked_entry None (leaf_of e))) (sym last))
-
-  pub link-held : (nat_lt level 3 && list_any is_table t.entries) ≡ has_link (seen_state granules held) rd level number
-  unfolding has_link
-  link-held = by (nat_lt level 3) refl
-    where
-      by : (b : Bool) → nat_lt level 3 ≡ b → (b && list_any is_table t.entries)
-          ≡ any_below 512 (λ k. is_table (entry_at (seen_state granules held) rd level (512 * number + k)))
-      by true less = search-held is_table is_table (λ e. ap (λ b. is_table (if b then e else linked_entry None (leaf_of e))) (sym less))
-      by false last =
-          no_entry t.entries
-          ∙ search-held is_table (λ e. false) (λ e. last-unlinked e ∙ ap (λ b. is_table (if b then e else linked_entry None (leaf_of e))) (sym last))
+  -- a search through the table is one through the state's entries, where no link at the last level is among them
+  pub search-held : (test : EntryTest) → (nat_le 3 level && list_any is_table t.entries) ≡ false
+      → list_any (passes test) t.entries ≡ has_entry (seen_state granules held) rd level number test
+  unfolding has_entry
+  search-held test leaves =
+      let last : nat_lt level 3 ≡ false → list_any is_table t.entries ≡ false =
+      λ past. ap (λ (b : Bool). b && list_any is_table t.entries) (sym (le-leb 3 level (ltb-false level 3 past))) ∙ leaves in
+      search-places (passes test) t.entries (λ k. passes test (entry_at (seen_state granules held) rd level (512 * number + k)))
+      (λ k e below at. ap (passes test) (sym (entry-seen granules held rd level (512 * number + k) e (its_entry k (omega (arith, below, stands.is_whole)) e at)
+      (λ past. none-at is_table t.entries k e below at (last past)))))
+      ∙ ap (λ n. any_below n (λ k. passes test (entry_at (seen_state granules held) rd level (512 * number + k)))) stands.is_whole
 
 -- ---- searches through what is held, for any of some numbers
 
@@ -150,9 +115,20 @@ found-below n p q there back gs =
 
 -- ---- where the table isn't held
 
+-- a link passes each test
+link_passes : (test : EntryTest) (granule : ℕ) → passes test (Table granule) ≡ true
+link_passes Live granule = refl
+link_passes Link granule = refl
+link_passes (Unlike (Unassigned ripas)) granule = refl
+link_passes (Unlike _) granule = refl
+
 none-below : (n : ℕ) → any_below n (λ k. false) ≡ false
 none-below zero = refl
 none-below (suc n) = none-below n
+
+-- a search that the last number passes finds it
+last-below : (n : ℕ) (test : ℕ → Bool) → test n ≡ true → any_below (suc n) test ≡ true
+last-below n test is = ap (λ (b : Bool). b || any_below n test) is
 
 -- a table is under one where its number is of that one's entries
 under-from : (rd level number k : ℕ) → k < 512 → (o : Option TableRecord) → is_table_of rd level (512 * number + k) o ≡ true → is_under rd level number o ≡ true
@@ -186,21 +162,22 @@ module _ (granules : ℕ) (held : List HeldCell) (rd level number : ℕ) (none :
       let above : level + 1 - 1 ≡ level = omega arith in
       rw (below, above, no_entry-held n up) refl
 
-  -- where no table has an entry, it is a link where a table stands below it
-  told-below : (p : Entry → Bool) → ((g : ℕ) → p (Table g) ≡ true) → p (Unassigned Empty) ≡ false → (n : ℕ) → n / 512 ≡ number
-      → p (entry_at (seen_state granules held) rd level n) ≡ (nat_lt level 3 && is_some (table_placed held rd (level + 1) n))
+  -- where no table has an entry, it is a link where a table stands below it, and else it has nothing
+  told-below : (test : EntryTest) (n : ℕ) → n / 512 ≡ number
+      → passes test (entry_at (seen_state granules held) rd level n)
+      ≡ (if nat_lt level 3 && is_some (table_placed held rd (level + 1) n) then true else passes test (Unassigned Empty))
   unfolding entry_at seen_state leaf_seen
-  told-below p link vacant n up = by (nat_lt level 3)
+  told-below test n up = by (nat_lt level 3)
     where
-      told : (o : Option ℕ) → p (linked_entry o None) ≡ is_some o
-      told (Some g) = link g
-      told None = vacant
+      told : (o : Option ℕ) → passes test (linked_entry o None) ≡ (if is_some o then true else passes test (Unassigned Empty))
+      told (Some g) = link_passes test g
+      told None = refl
 
-      by : (b : Bool) → p (linked_entry (if b then table_seen held rd (level + 1) n else None) (option_and_then leaf_of (entry_held held rd level n)))
-          ≡ (b && is_some (table_placed held rd (level + 1) n))
+      by : (b : Bool) → passes test (linked_entry (if b then table_seen held rd (level + 1) n else None) (option_and_then leaf_of (entry_held held rd level n)))
+          ≡ (if b && is_some (table_placed held rd (level + 1) n) then true else passes test (Unassigned Empty))
       by true =
-          (λ i. p (linked_entry (seen-placed n up i) (option_and_then leaf_of (no_entry-held n up i)))) ∙ told (table_placed held rd (level + 1) n)
-      by false = ap (λ (o : Option Entry). p (linked_entry None (option_and_then leaf_of o))) (no_entry-held n up) ∙ vacant
+          (λ i. passes test (linked_entry (seen-placed n up i) (option_and_then leaf_of (no_entry-held n up i)))) ∙ told (table_placed held rd (level + 1) n)
+      by false = ap (λ (o : Option Entry). passes test (linked_entry None (option_and_then leaf_of o))) (no_entry-held n up)
 
   placed-under : any_below 512 (λ k. is_some (table_placed held rd (level + 1) (512 * number + k)))
       ≡ list_any (λ g. is_under rd (level + 1) number (table_held held g)) (granules_held held)
@@ -211,24 +188,29 @@ module _ (granules : ℕ) (held : List HeldCell) (rd level number : ℕ) (none :
       (λ g is. under-at rd (level + 1) number (table_held held g) is)
       (granules_held held)
 
-  search-unheld : (p : Entry → Bool) → ((g : ℕ) → p (Table g) ≡ true) → p (Unassigned Empty) ≡ false
-      → is_above_held held rd level number ≡ any_below 512 (λ k. p (entry_at (seen_state granules held) rd level (512 * number + k)))
-  unfolding is_above_held
-  search-unheld p link vacant =
-      by (nat_lt level 3)
-      ∙ sym (any_below-same 512 (λ k. p (entry_at (seen_state granules held) rd level (512 * number + k)))
-      (λ k. nat_lt level 3 && is_some (table_placed held rd (level + 1) (512 * number + k)))
-      (λ k within. told-below p link vacant (512 * number + k) (omega (arith, within))))
+  -- some entry passes where one that has nothing does, or where a held table stands under this one
+  pub search-unheld : (test : EntryTest) → (passes test (Unassigned Empty) || is_above_held held rd level number) ≡ has_entry (seen_state granules held) rd level number test
+  unfolding has_entry is_above_held
+  search-unheld test =
+      by (passes test (Unassigned Empty)) (nat_lt level 3)
+      ∙ sym (any_below-same 512 (λ k. passes test (entry_at (seen_state granules held) rd level (512 * number + k)))
+      (λ k. if nat_lt level 3 && is_some (table_placed held rd (level + 1) (512 * number + k)) then true else passes test (Unassigned Empty))
+      (λ k within. told-below test (512 * number + k) (omega (arith, within))))
     where
-      by : (b : Bool) → (b && list_any (λ g. is_under rd (level + 1) number (table_held held g)) (granules_held held))
-          ≡ any_below 512 (λ k. b && is_some (table_placed held rd (level + 1) (512 * number + k)))
-      by true = sym placed-under
-      by false = sym (none-below 512)
+      either : (b : Bool) → (if b then true else true) ≡ true
+      either true = refl
+      either false = refl
 
-  pub in_use-unheld : is_above_held held rd level number ≡ is_in_use (seen_state granules held) rd level number
-  unfolding is_in_use
-  in_use-unheld = search-unheld is_live (λ g. refl) refl
+      plain : (b : Bool) → b ≡ (if b then true else false)
+      plain true = refl
+      plain false = refl
 
-  pub link-unheld : is_above_held held rd level number ≡ has_link (seen_state granules held) rd level number
-  unfolding has_link
-  link-unheld = search-unheld is_table (λ g. refl) refl
+      by : (vacant b : Bool) → (vacant || (b && list_any (λ g. is_under rd (level + 1) number (table_held held g)) (granules_held held)))
+          ≡ any_below 512 (λ k. if b && is_some (table_placed held rd (level + 1) (512 * number + k)) then true else vacant)
+      by true b = sym (last-below 511 (λ k. if b && is_some (table_placed held rd (level + 1) (512 * number + k)) then true else true) (either _))
+      by false true =
+          sym placed-under
+          ∙ any_below-same 512 (λ k. is_some (table_placed held rd (level + 1) (512 * number + k)))
+          (λ k. if is_some (table_placed held rd (level + 1) (512 * number + k)) then true else false)
+          (λ k within. plain (is_some (table_placed held rd (level + 1) (512 * number + k))))
+      by false false = sym (none-below 512)

@@ -1,0 +1,9 @@
+use Rattle.std.proofs.Common.{◌∙◌}
+use Rattle.rtt_table.specs.Columns.{joined}
+use Rattle.rtt_table.proofs.Unlike.{any-unlike}
+use Rattle.rtt_table.proofs.columns.Columns.has_unlike.Goals as goal
+
+pub returns : goal.returns
+returns c =
+    let t = c.self.inside in
+    rw (← c.self.view_is) (c.any.ensures ∙ any-unlike c.args.first (joined t.kinds t.addresses) t.kinds t.addresses c.self.invariant.1)
