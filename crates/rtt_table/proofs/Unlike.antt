@@ -1,7 +1,7 @@
 -- Whether an entry is unassigned as another is, told by its kind, and always answered no of a live one.
 use Rattle.std.proofs.Common.{◌≡◌, ℕ, Bool, true, false, ◌||◌, List, [], ◌∷◌, map, refl, sym, ap, ◌∙◌}
 use Rattle.std.specs.List.{list_any}
-use Rattle.std.proofs.lemmas.Bool.{false≢true}
+use Rattle.std.proofs.lemmas.Bool.{false≢true, or_right}
 use Rattle.rmm_spec.specs.declared.entry.Entry.{Entry}
 use Rattle.rmm_spec.specs.declared.entry.Entry.TheVariants.{Unassigned, Assigned, Table, UnassignedNs, AssignedNs}
 use Rattle.rmm_spec.specs.Walk.{is_live, is_unlike, entry_address}
@@ -13,7 +13,10 @@ use Rattle.rtt_table.proofs.Joined.{entry_back}
 -- the address doesn't count
 unlike-kind : (first : Entry) (address : ℕ) (kind : Kind) → is_unlike first (entry_from kind 0) ≡ is_unlike first (entry_from kind address)
 unlike-kind (Unassigned ripas) address UnassignedEmpty = refl
-unlike-kind _ address _ = refl
+unlike-kind (Unassigned ripas) address _ = refl
+unlike-kind UnassignedNs address UnassignedEmpty = refl
+unlike-kind UnassignedNs address _ = refl
+unlike-kind _ address kind = refl
 
 unlike-kinds : (first : Entry) (entries : List Entry)
     → list_any (λ kind. is_unlike first (entry_from kind 0)) (map kind_of entries) ≡ list_any (is_unlike first) entries
@@ -32,7 +35,10 @@ any-unlike first entries kinds addresses columns =
 -- a live entry isn't unassigned as any other is
 live-unlike : (first e : Entry) → (is_live e || is_unlike first e) ≡ is_unlike first e
 live-unlike (Unassigned ripas) (Unassigned other) = refl
-live-unlike _ _ = refl
+live-unlike (Unassigned ripas) _ = refl
+live-unlike UnassignedNs UnassignedNs = refl
+live-unlike UnassignedNs _ = refl
+live-unlike _ e = or_right (is_live e) true refl
 
 -- so where a live one is found, one that is looked for is
 pub live-any : (first : Entry) (entries : List Entry) → (list_any is_live entries || list_any (is_unlike first) entries) ≡ list_any (is_unlike first) entries

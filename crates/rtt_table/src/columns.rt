@@ -4,6 +4,7 @@ ghost use Rattle.std.specs.Prelude.{All, ◌≡◌, ◌<◌, ◌≤◌, ◌↔�
 ghost use Rattle.std.specs.List.{list_any};
 ghost use Rattle.rmm_spec.specs.Table.{entries_with_ripas, AreAlike};
 ghost use Rattle.rmm_spec.specs.Walk.{is_unlike};
+ghost use Rattle.rtt_table.specs.Columns as spec;
 ghost use Rattle.rtt_table.specs.Columns.{kind_with_ripas};
 
 use crate::kind::{Kind, entry_from, kind_of, kind_with_ripas};
@@ -73,9 +74,7 @@ impl Columns {
     pub fn has_unlike(&self, first: Entry) -> bool
         ensures { result ≡ list_any (is_unlike first) self.now }
     {
-        self.kinds
-            .iter()
-            .any(|kind| passes(EntryTest::Unlike(first), entry_from(*kind, 0)))
+        are_unlike(&self.kinds, first)
     }
 
     /// Whether all entries are equal.
@@ -107,6 +106,15 @@ fn are_at(addresses: &[u64], same: u64) -> bool
     ensures { IsTrue result ↔ All (λ a. a ≡ same) addresses.now }
 {
     addresses.iter().all(|address| *address == same)
+}
+
+// Whether some kind isn't that of an entry that is unassigned as the given one is.
+fn are_unlike(kinds: &[Kind], first: Entry) -> bool
+    ensures { result ≡ list_any (λ kind. is_unlike first (spec.entry_from kind 0)) kinds.now }
+{
+    kinds
+        .iter()
+        .any(|kind| passes(EntryTest::Unlike(first), entry_from(*kind, 0)))
 }
 
 // Changes the RIPAS of each kind that has one.
