@@ -172,12 +172,14 @@ pub(crate) fn placed<H: Held>(held: &H, rd: u64, level: u8, number: u64) -> Opti
 }
 
 impl<'a, H: Held> HeldSight<'a, H> {
-    ghost use Rattle.std.specs.Prelude.{◌≡◌, ◌<◌, ◌≤◌, ◌^◌, ◌+◌, nat_lt, None, if◌then◌else◌, option_copied, option_map, IfSome, IsTrue};
+    ghost use Rattle.std.specs.Prelude.{◌≡◌, ◌<◌, ◌≤◌, ◌^◌, ◌+◌, ◌||◌, nat_lt, None, if◌then◌else◌, option_copied, option_map, IfSome, IsTrue};
     ghost use Rattle.rmm_spec.specs.Step.Words.{is_space};
     ghost use Rattle.std.specs.Option.{option_and_then};
     ghost use Rattle.rmm_spec.specs.Table.{TableRecord};
     ghost use Rattle.rmm_spec.specs.Flat.{is_table_of};
     ghost use Rattle.rmm_spec.specs.Walk as walks;
+    ghost use Rattle.rmm_spec.specs.declared.entry.Entry.TheVariants.{Unassigned};
+    ghost use Rattle.rmm_spec.specs.declared.tag.Ripas.TheVariants.{Empty};
     ghost use Rattle.walk_laws.specs.SeenState as spec;
     ghost use Rattle.walk_laws.specs.SeenState.{seen_state};
     ghost use Rattle.command_core.specs.Standing.{IsHeldTable, is_above_held};
@@ -330,6 +332,13 @@ impl<'a, H: Held> HeldSight<'a, H> {
         }
     }
 
+    // Whether an entry of that table is one that is looked for, where the table isn't held: its entries have nothing, or link to a held one.
+    fn finds_unheld(&self, rd: u64, level: u8, number: u64, test: EntryTest) -> bool
+        ensures { result ≡ (walks.passes test (Unassigned Empty) || is_above_held (H.cells self.now.held.now) rd level number) }
+    {
+        passes(test, Entry::Unassigned(Ripas::Empty)) || self.has_under(rd, level, number)
+    }
+
     // Whether one of the entries of that table is one that is looked for, entry by entry.
     #[tactic(auto, unfolding(rmm_spec::specs::Walk::has_entry))]
     fn finds_each(&self, rd: u64, level: u8, number: u64, test: EntryTest) -> bool
@@ -350,11 +359,14 @@ impl<'a, H: Held> HeldSight<'a, H> {
         ensures { result ≡ walks.has_entry (seen_state self.now.config.now.granules (H.cells self.now.held.now)) rd level number test }
     {
         match self.table_here(rd, level, number) {
-            Some(table) if has_dead_link(table, level) => self.finds_each(rd, level, number, test),
-            Some(table) => table.has(test),
-            None => {
-                passes(test, Entry::Unassigned(Ripas::Empty)) || self.has_under(rd, level, number)
+            Some(table) => {
+                if has_dead_link(table, level) {
+                    self.finds_each(rd, level, number, test)
+                } else {
+                    table.has(test)
+                }
             }
+            None => self.finds_unheld(rd, level, number, test),
         }
     }
 }

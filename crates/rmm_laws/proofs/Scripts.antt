@@ -30,7 +30,6 @@ AreReplayed all scripts = AllByRecursion (λ (entries : List JournalEntry). is_s
 
 pub all_runs : AreReplayed true
     (table_with_data_stays
-    ∷ table_folds
     ∷ data_granule_mapped_twice
     ∷ ripas_change_in_two_parts
     ∷ ripas_change_past_table
@@ -39,6 +38,7 @@ pub all_runs : AreReplayed true
     ∷ ripas_before_a_realm_runs
     ∷ realms_and_recs_come_and_go
     ∷ words_out_of_range
+    ∷ table_folds
     ∷ [])
 unfolding replay opening table_with_data_stays table_folds data_granule_mapped_twice ripas_change_in_two_parts ripas_change_past_table life_of_a_rec off_and_out_of_range ripas_before_a_realm_runs realms_and_recs_come_and_go words_out_of_range call_from class_of changed realm_updated rec_updated is_granule has_tag is_inside rec_inside realm_at rec_at is_vmid_used has_rec entry_size table_size entry_number table_number entry_at reach has_entry answer_of outcome words_of named granule_delegate granule_undelegate realm_create realm_activate realm_destroy rec_create rec_destroy rec_enter rtt_create rtt_remove ripas_left rtt_read_entry data_create data_create_unknown data_destroy rtt_map_unprotected rtt_unmap_unprotected rtt_init_ripas rtt_set_ripas is_reached reached_change measurement_read measurement_extend realm_config ipa_state_set ipa_state_get host_call cpu_off system_off rec_exit number_of measurement_words first_words rem_start
 all_runs = (refl, (refl, (refl, (refl, (refl, (refl, (refl, (refl, (refl, (refl, tt))))))))))

@@ -67,6 +67,7 @@ pub fn worked_scripts_are_runs()
     ensures ripas_before_a_realm_runs { (last : State) × IsRun (opening script_config) script.ripas_before_a_realm_runs last }
     ensures realms_and_recs_come_and_go { (last : State) × IsRun (opening script_config) script.realms_and_recs_come_and_go last }
     ensures words_out_of_range { (last : State) × IsRun (opening script_config) script.words_out_of_range last }
+    ensures table_folds { (last : State) × IsRun (opening script_config) script.table_folds last }
 {}
 
 /// After the script that gives a page of one realm to another, the machine doesn't accept that.

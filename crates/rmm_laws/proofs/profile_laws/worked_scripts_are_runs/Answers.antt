@@ -1,4 +1,4 @@
-use Rattle.rmm_spec.specs.Script.{script_config, table_with_data_stays, data_granule_mapped_twice, ripas_change_in_two_parts, ripas_change_past_table, life_of_a_rec, off_and_out_of_range, ripas_before_a_realm_runs, realms_and_recs_come_and_go, words_out_of_range}
+use Rattle.rmm_spec.specs.Script.{script_config, table_with_data_stays, data_granule_mapped_twice, ripas_change_in_two_parts, ripas_change_past_table, life_of_a_rec, off_and_out_of_range, ripas_before_a_realm_runs, realms_and_recs_come_and_go, words_out_of_range, table_folds}
 use Rattle.rmm_spec.specs.State.{opening}
 use Rattle.rmm_laws.proofs.Replays.{replayed-run}
 use Rattle.rmm_laws.proofs.Scripts.{all_runs}
@@ -30,3 +30,6 @@ returns-clause-realms_and_recs_come_and_go c = replayed-run (opening script_conf
 
 pub returns-clause-words_out_of_range : goal.returns-clause-words_out_of_range
 returns-clause-words_out_of_range c = replayed-run (opening script_config) words_out_of_range all_runs.1.1.1.1.1.1.1.1.0
+
+pub returns-clause-table_folds : goal.returns-clause-table_folds
+returns-clause-table_folds c = replayed-run (opening script_config) table_folds all_runs.1.1.1.1.1.1.1.1.1.0

@@ -1,7 +1,8 @@
-use Rattle.std.proofs.Common.{ℕ, ◌+◌, ◌*◌, Bool, arith}
+use Rattle.std.proofs.Common.{◌≡◌, ℕ, ◌+◌, ◌*◌, Bool, false, sym, subst, arith}
+use Rattle.rmm_spec.specs.Lookup.{any_below}
 use Rattle.rmm_spec.specs.Walk.{passes, entry_at, has_entry}
+use Rattle.world_laws.proofs.Placed.{any_below-from}
 use Rattle.walk_laws.specs.SeenState.{seen_state}
-use Rattle.command_core.proofs.SeenTables.{found-within, none-within}
 use Rattle.command_core.proofs.held_sight.HeldSight.finds_each.Goals as goal
 
 pub returns-then-passes : goal.returns-then-passes
@@ -9,11 +10,13 @@ unfolding has_entry
 returns-then-passes g c =
     let a = c.args in
     let found : ℕ → Bool = λ k. passes a.test (entry_at (seen_state a.self.now.config.now.granules (g.H.Held.cells a.self.now.held.now)) a.rd a.level (512 * a.number + k)) in
-    found-within found c.loop-place.place (omega arith) (rw c.entry.ensures at c.if-passes.ensures)
+    let passed = rw c.entry.ensures at c.if-passes.ensures in
+    sym (any_below-from 512 found c.loop-place.place (omega arith) (sym passed))
 
 pub returns : goal.returns
 unfolding has_entry
 returns g c =
     let a = c.args in
     let found : ℕ → Bool = λ k. passes a.test (entry_at (seen_state a.self.now.config.now.granules (g.H.Held.cells a.self.now.held.now)) a.rd a.level (512 * a.number + k)) in
-    none-within found c.loop-place.place (omega (arith, c.loop-place-test.false, c.loop-place.auto.place-end)) c.loop-place.invariant
+    let all : c.loop-place.place ≡ 512 = omega (arith, c.loop-place-test.false, c.loop-place.auto.place-end) in
+    sym (subst (λ n. any_below n found ≡ false) all c.loop-place.invariant)
