@@ -112,9 +112,7 @@ fn are_at(addresses: &[u64], same: u64) -> bool
 fn are_unlike(kinds: &[Kind], first: Entry) -> bool
     ensures { result ≡ list_any (λ kind. is_unlike first (spec.entry_from kind 0)) kinds.now }
 {
-    kinds
-        .iter()
-        .any(|kind| passes(EntryTest::Unlike(first), entry_from(*kind, 0)))
+    kinds.iter().any(|kind| passes(EntryTest::Unlike(first), entry_from(*kind, 0)))
 }
 
 // Changes the RIPAS of each kind that has one.
