@@ -16,6 +16,7 @@ use rmm_spec::FunctionId;
 
 // How many digits the numbers of a line have at most: those of a call, and a word in hex.
 const DECIMAL: usize = 6;
+
 const HEX: usize = 16;
 
 // The number within the limit whose digits a text begins with, and how many they are. Another byte follows them.
