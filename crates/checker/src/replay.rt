@@ -50,6 +50,7 @@ impl Replay {
 
     /// Replays the next line: nothing where it passes, else why it fails. Memory is refused only where the line's call makes a
     /// table.
+    #[inline(always)]
     pub(crate) fn take_line(
         &mut self,
         history: &History,

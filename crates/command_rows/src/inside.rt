@@ -18,6 +18,7 @@ use table_entries::entry_ripas;
 
 /// What a call is answered in the state of the sight, given from inside of the REC.
 #[tactic(auto, unfolding(crate::specs::Answers::IsInside, crate::specs::Answers::inside_answer))]
+#[inline(never)]
 pub fn answer_inside<S: Sight>(sight: &S, rec: u64, call: &Call) -> Result<Accepted, Reply>
     requires inside { IsInside (S.state sight.now) rec call.now }
     ensures { result ≡ inside_answer (S.state sight.now) rec call.now }

@@ -78,6 +78,7 @@ pub(crate) fn rec_destroy<S: Sight>(sight: &S, address: u64) -> Result<Accepted,
 }
 
 #[tactic(auto, unfolding(rmm_spec::specs::Step::Rec::rec_enter, rmm_spec::specs::Step::Words::words_of, rmm_spec::specs::Step::Named::named))]
+#[inline(never)]
 pub(crate) fn rec_enter<S: Sight>(sight: &S, cpu: u8, address: u64) -> Result<Accepted, Reply>
     requires { IsOwned (S.state sight.now) (RecEnter address) }
     ensures { result ≡ spec.rec_enter (S.state sight.now) cpu address }

@@ -50,6 +50,7 @@ pub(crate) fn rtt_init_ripas<S: Sight>(
 }
 
 #[tactic(auto, unfolding(rmm_spec::specs::Step::Ripas::rtt_set_ripas, rmm_spec::specs::Step::Words::words_of, rmm_spec::specs::Step::Named::named, rmm_spec::specs::Lookup::rec_at, realm_desc::specs::View::rec_record))]
+#[inline(never)]
 pub(crate) fn rtt_set_ripas<S: Sight>(
     sight: &S,
     rd: u64,

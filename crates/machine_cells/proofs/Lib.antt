@@ -9,6 +9,5 @@ pub mod HeldEntries
 pub mod Stretches
 pub mod OneChanged
 pub mod Tagged
-pub mod NewRoots
 pub mod CanMake
 pub mod Made

@@ -14,30 +14,15 @@ use Rattle.rmm_spec.specs.Cell.{put}
 use Rattle.shape_laws.specs.Whole.{cell_with_realm, cell_with_rec, cell_with_entries, changed_at}
 use Rattle.machine_cells.specs.declared.cell_list.CellList.{CellList}
 use Rattle.granule_cells.specs.declared.cell.Cell.{Cell}
-use Rattle.granule_cells.specs.declared.cell.Cell.TheVariants.{Undelegated, Rtt}
+use Rattle.granule_cells.specs.declared.cell.Cell.TheVariants.{Undelegated, Rd, Rec, Rtt}
 use Rattle.granule_cells.specs.Seen.{cell_of}
 use Rattle.machine_cells.specs.Whole.{cells_of, cells_in}
 use Rattle.machine_cells.proofs.Kept.{mapped-set, kept_at-granule}
 
--- ---- what a cell has
-
+-- what has a realm's record is its descriptor
 pub realm_cell : (c : spec.Cell) (r : RealmRecord) → Some r ≡ spec.realm_in c → c ≡ spec.Rd r
 realm_cell (spec.Rd other) r is = ap spec.Rd (sym (same_Some r other is))
 realm_cell _ r is = absurd (none-some r (sym is))
-
-pub rec_cell : (c : spec.Cell) (r : RecRecord) → Some r ≡ spec.rec_in c → c ≡ spec.Rec r
-rec_cell (spec.Rec other) r is = ap spec.Rec (sym (same_Some r other is))
-rec_cell _ r is = absurd (none-some r (sym is))
-
-pub no_realm-same : (c : spec.Cell) (update : RealmUpdate) → None ≡ spec.realm_in c → cell_with_realm update c ≡ c
-no_realm-same (spec.Rd r) update none = absurd (none-some r none)
-no_realm-same _ update none = refl
-
-pub no_rec-same : (c : spec.Cell) (update : RecUpdate) → None ≡ spec.rec_in c → cell_with_rec update c ≡ c
-no_rec-same (spec.Rec r) update none = absurd (none-some r none)
-no_rec-same _ update none = refl
-
--- ---- a whole
 
 -- a cell that stays as it is
 pub put-same : (cells : ℕ → spec.Cell) (granule : ℕ) (c : spec.Cell) → c ≡ cells granule → cells ≡ put cells granule c
@@ -52,39 +37,15 @@ outside : (list : CellList) (address : ℕ) → is_granule list.config.granules 
 unfolding cells_of
 outside list address none = rw none refl
 
--- what holds a record is a granule
-pub realm-granule : (list : CellList) (rd : ℕ) (r : RealmRecord) → Some r ≡ spec.realms_of (cells_of list) rd → IsTrue (is_granule list.config.granules rd)
-realm-granule list rd r is = by (is_granule list.config.granules rd) refl
+-- nothing changes where there is no granule and the change leaves the host's cells
+pub outside-same : (list : CellList) (granule : ℕ) (change : spec.Cell → spec.Cell) → change spec.Undelegated ≡ spec.Undelegated
+    → (IsTrue (is_granule list.config.granules granule) → ⊥) → cells_of list ≡ changed_at (cells_of list) granule change
+outside-same list granule change kept none = by (is_granule list.config.granules granule) refl
   where
-    by : (b : Bool) → is_granule list.config.granules rd ≡ b → b ≡ true
-    by true at = refl
-    by false at = absurd (none-some r (ap spec.realm_in (sym (outside list rd at)) ∙ sym is))
-
-pub rec-granule : (list : CellList) (rec : ℕ) (r : RecRecord) → Some r ≡ spec.recs_of (cells_of list) rec → IsTrue (is_granule list.config.granules rec)
-rec-granule list rec r is = by (is_granule list.config.granules rec) refl
-  where
-    by : (b : Bool) → is_granule list.config.granules rec ≡ b → b ≡ true
-    by true at = refl
-    by false at = absurd (none-some r (ap spec.rec_in (sym (outside list rec at)) ∙ sym is))
-
--- a realm updated, or none there
-pub realm-updated : (cells : ℕ → spec.Cell) (rd : ℕ) (update : RealmUpdate) (r new : RealmRecord) → Some r ≡ spec.realms_of cells rd
-    → spec.Rd new ≡ cell_with_realm update (spec.Rd r) → put cells rd (spec.Rd new) ≡ changed_at cells rd (cell_with_realm update)
-realm-updated cells rd update r new is after = ap (put cells rd) (after ∙ ap (cell_with_realm update) (sym (realm_cell (cells rd) r is)))
-
-pub rec-updated : (cells : ℕ → spec.Cell) (rec : ℕ) (update : RecUpdate) (r new : RecRecord) → Some r ≡ spec.recs_of cells rec
-    → spec.Rec new ≡ cell_with_rec update (spec.Rec r) → put cells rec (spec.Rec new) ≡ changed_at cells rec (cell_with_rec update)
-rec-updated cells rec update r new is after = ap (put cells rec) (after ∙ ap (cell_with_rec update) (sym (rec_cell (cells rec) r is)))
-
--- nothing is updated where there is no granule
-pub entries-outside : (list : CellList) (granule : ℕ) (change : List Entry → List Entry) → (IsTrue (is_granule list.config.granules granule) → ⊥)
-    → cells_of list ≡ changed_at (cells_of list) granule (cell_with_entries change)
-entries-outside list granule change none = by (is_granule list.config.granules granule) refl
-  where
-    by : (b : Bool) → is_granule list.config.granules granule ≡ b → cells_of list ≡ changed_at (cells_of list) granule (cell_with_entries change)
+    by : (b : Bool) → is_granule list.config.granules granule ≡ b → cells_of list ≡ changed_at (cells_of list) granule change
     by true at = absurd (none at)
     by false at =
-        put-same (cells_of list) granule _ (ap (cell_with_entries change) (outside list granule at) ∙ sym (outside list granule at))
+        put-same (cells_of list) granule _ (ap change (outside list granule at) ∙ kept ∙ sym (outside list granule at))
 
 -- a granule's cell is set to what becomes of it
 pub set-at : (list : CellList) (granule place : ℕ) (read new : Cell) (change : spec.Cell → spec.Cell) → IsTrue (is_granule list.config.granules granule)
@@ -96,6 +57,23 @@ set-at list granule place read new change is at is_read after =
     mapped-set cell_of list.config.granules list.cells.items Undelegated new granule place placed is at
     ∙ ap (put (cells_in list.config.granules list.cells.items) granule)
     (after ∙ ap (λ (x : Cell). change (cell_of x)) (kept_at-granule list.config.granules granule place list.cells.items Undelegated read placed is at is_read))
+
+-- only a realm's descriptor and a REC have records
+pub not_realm-same : (c : Cell) (update : RealmUpdate) → ((r : RealmRecord) → c ≡ Rd r → ⊥) → cell_with_realm update (cell_of c) ≡ cell_of c
+not_realm-same (Rd r) update none = absurd (none r refl)
+not_realm-same _ update none = refl
+
+pub not_rec-same : (c : Cell) (update : RecUpdate) → ((r : RecRecord) → c ≡ Rec r → ⊥) → cell_with_rec update (cell_of c) ≡ cell_of c
+not_rec-same (Rec r) update none = absurd (none r refl)
+not_rec-same _ update none = refl
+
+-- what is read of a REC's cell is the REC there
+pub rec-read : (list : CellList) (granule place : ℕ) (read : Cell) (r : RecRecord) → IsTrue (is_granule list.config.granules granule)
+    → place ≡ granule / 4096 → read ≡ slice_index_or list.cells.items place read → read ≡ Rec r → spec.recs_of (cells_of list) granule ≡ Some r
+unfolding cells_of
+rec-read list granule place read r is at is_read rec =
+    let placed : length list.cells.items ≡ list.config.granules = omega (arith, list.each, list.cells.ok.0) in
+    ap (λ (x : Cell). spec.rec_in (cell_of x)) (sym (kept_at-granule list.config.granules granule place list.cells.items Undelegated read placed is at is_read) ∙ rec)
 
 -- only a table has entries
 pub not_table-same : (c : Cell) (change : List Entry → List Entry) → ((t : TableRecord) → c ≡ Rtt t → ⊥) → cell_with_entries change (cell_of c) ≡ cell_of c

@@ -6,7 +6,7 @@ ghost use Rattle.rmm_spec.specs.Lookup.{is_granule};
 
 use granule_cells::Cell;
 use granule_state::{Config, GRANULE_BYTES, Pa, granule_at};
-use realm_desc::{Realm, Rec};
+use realm_desc::Realm;
 use rtt_table::Table;
 use rtt_walk::Cells;
 use std::alloc::{AllocError, Global};
@@ -22,7 +22,7 @@ pub(crate) struct CellList {
 impl CellList {
     ghost use Rattle.std.specs.Prelude.{◌≡◌, ◌/◌, ◌<◌, IfOk, IsTrue, is_some, option_map, option_copied, unwrap_or, vec_len};
     ghost use Rattle.rmm_spec.specs.Cell as spec;
-    ghost use Rattle.rmm_spec.specs.Cell.{put, realms_of, recs_of, tables_of};
+    ghost use Rattle.rmm_spec.specs.Cell.{put, realms_of, tables_of};
     ghost use Rattle.rmm_spec.specs.Lookup.{is_granule};
     ghost use Rattle.granule_cells.specs.Seen.{cell_of};
     ghost use Rattle.machine_cells.specs.Whole.{cells_of};
@@ -57,16 +57,6 @@ impl CellList {
     {
         match self.cell(address) {
             Some(Cell::Rd(realm)) => Some(realm),
-            _ => None,
-        }
-    }
-
-    /// The REC that lies in the granule at the address, where one does.
-    pub(crate) fn rec_in(&self, address: u64) -> Option<&Rec>
-        ensures { option_copied result ≡ recs_of (cells_of self.now) address }
-    {
-        match self.cell(address) {
-            Some(Cell::Rec(rec)) => Some(rec),
             _ => None,
         }
     }

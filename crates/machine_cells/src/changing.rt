@@ -13,9 +13,6 @@ use rmm_spec::{Entry, EntryChange, Place, RealmChange, RecChange, Ripas, Tag, Ta
 use rtt_table::Table;
 use std::alloc::{AllocError, Global};
 
-/// How many entries of a root are of the protected half.
-const PROTECTED: usize = 256;
-
 #[tactic(auto, using(crate::proofs::Tagged::granule_tagged), unfolding(shape_laws::specs::Whole::cells_changed, shape_laws::specs::Whole::side_changed, shape_laws::specs::Whole::places_changed))]
 impl Granules {
     ghost use Rattle.std.specs.Prelude.{◌≡◌, OnOk, OnErr};
@@ -32,6 +29,7 @@ impl Granules {
         self.list.change_tag(Some(TagChange { granule, tag }));
     }
 
+    #[inline(never)]
     pub(crate) fn make_realm(
         &mut self,
         rd: u64,
@@ -56,6 +54,7 @@ impl Granules {
         Ok(())
     }
 
+    #[inline(never)]
     pub(crate) fn destroy_realm(&mut self, rd: u64, root: u64)
         requires shaped { IsShapedIn self.old }
         requires can { CanDestroyRealm (state_in self.old) rd root }
@@ -67,6 +66,7 @@ impl Granules {
         self.list.put(root, Cell::Delegated);
     }
 
+    #[inline(never)]
     pub(crate) fn make_rec(
         &mut self,
         rd: u64,
@@ -94,6 +94,7 @@ impl Granules {
         self.list.put(rd, Cell::Rd(realm));
     }
 
+    #[inline(never)]
     pub(crate) fn destroy_rec(&mut self, rec: u64, aux0: u64, aux1: u64)
         requires shaped { IsShapedIn self.old }
         requires can { CanDestroyRec (state_in self.old) rec aux0 aux1 }
@@ -106,6 +107,7 @@ impl Granules {
         self.list.put(aux1, Cell::Delegated);
     }
 
+    #[inline(never)]
     pub(crate) fn change_records(&mut self, realm: Option<RealmChange>, rec: Option<RecChange>)
         requires shaped { IsShapedIn self.old }
         requires can { CanApply (state_in self.old) (change.RecordsChanged realm rec) }
@@ -117,6 +119,7 @@ impl Granules {
         self.list.change_rec(rec);
     }
 
+    #[inline(never)]
     pub(crate) fn make_table(
         &mut self,
         rd: u64,
@@ -151,6 +154,7 @@ impl Granules {
         Ok(())
     }
 
+    #[inline(never)]
     pub(crate) fn destroy_table(&mut self, rd: u64, level: u8, number: u64, rtt: u64, entry: Entry)
         requires shaped { IsShapedIn self.old }
         requires can { CanDestroyTable (state_in self.old) rd level number rtt entry }
@@ -163,6 +167,7 @@ impl Granules {
         self.list.put(rtt, Cell::Delegated);
     }
 
+    #[inline(never)]
     pub(crate) fn change_entries(
         &mut self,
         rd: u64,
@@ -206,9 +211,10 @@ fn root_table(alloc: Global, rd: u64, width: u8, level: u8) -> Result<Table, All
         base: 0,
         width,
     };
-    let mut table = Table::new(alloc, place, Entry::UnassignedNs)?;
-    for at in 0..PROTECTED {
-        table.set_entry(at, Entry::Unassigned(Ripas::Empty));
-    }
-    Ok(table)
+    Table::halves(
+        alloc,
+        place,
+        Entry::Unassigned(Ripas::Empty),
+        Entry::UnassignedNs,
+    )
 }

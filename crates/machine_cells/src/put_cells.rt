@@ -41,12 +41,12 @@ impl CellList {
         let Some(RealmChange { rd, update }) = change else {
             return;
         };
-        let Some(realm) = self.realm_in(rd) else {
+        let Some(place) = self.place_of(rd) else {
             return;
         };
-        let mut realm = *realm;
-        realm.update(update);
-        self.put(rd, Cell::Rd(realm));
+        if let Cell::Rd(realm) = &mut self.cells[place] {
+            realm.update(update);
+        }
     }
 
     /// Updates the REC that is there, where one is updated.
@@ -58,12 +58,12 @@ impl CellList {
         let Some(RecChange { rec, update }) = change else {
             return;
         };
-        let Some(record) = self.rec_in(rec) else {
+        let Some(place) = self.place_of(rec) else {
             return;
         };
-        let mut record = *record;
-        record.update(update);
-        self.put(rec, Cell::Rec(record));
+        if let Cell::Rec(record) = &mut self.cells[place] {
+            record.update(update);
+        }
     }
 
     /// Changes the entries of the table that is there, where a granule is given.

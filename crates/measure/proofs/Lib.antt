@@ -1,1 +1,2 @@
+mod KnownRims
 pub mod WordBytes

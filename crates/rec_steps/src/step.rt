@@ -41,6 +41,7 @@ impl RecStep {
     }
 
     /// The step of the realm and the REC at these addresses, as the definitions accept it.
+    #[inline(never)]
     pub fn accepted(self, rd: u64, rec: u64) -> Accepted
         ensures { result ≡ accepted_at rd rec self }
     {

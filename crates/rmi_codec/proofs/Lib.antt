@@ -1,3 +1,4 @@
+mod DigitTable
 pub mod FaultLaws
 mod HeadLaws
 pub mod NumberLaws

@@ -1,6 +1,6 @@
 //! Lines at the front of a text, read before it is known where they end. A line that isn't read so may be one all the same.
 
-ghost use Rattle.std.specs.Prelude.{◌≡◌, ◌+◌, ◌<◌, ◌≤◌, [], ◌∷◌, ◌++◌, length, get_or, map, take, IfSome};
+ghost use Rattle.std.specs.Prelude.{◌≡◌, ◌+◌, ◌<◌, ◌≤◌, ◌^◌, [], ◌∷◌, ◌++◌, length, get_or, map, take, IfSome};
 ghost use Rattle.rmm_spec.specs.Function.{number_of};
 ghost use Rattle.rmm_spec.specs.Text.{fixed_hex, numeral, word};
 ghost use Rattle.rmm_spec.specs.CommandText.{AreWords, IsCommand, command_text, reply_text};
@@ -14,8 +14,13 @@ use crate::numeral::{digit_of, with_digit};
 use rmi_view::CommandRef;
 use rmm_spec::FunctionId;
 
+// How many digits the numbers of a line have at most: those of a call, and a word in hex.
+const DECIMAL: usize = 6;
+
+const HEX: usize = 16;
+
 // The number within the limit whose digits a text begins with, and how many they are. Another byte follows them.
-#[inline(always)]
+#[inline(never)]
 fn numeral_front(text: &[u8], base: u64, most: u64) -> Option<(u64, usize)>
     requires least { 2 ≤ base }
     requires most { base ≤ 16 }
@@ -49,18 +54,73 @@ fn numeral_front(text: &[u8], base: u64, most: u64) -> Option<(u64, usize)>
     None
 }
 
-// The number within the limit at a place, and the place behind it.
+// The number that the digits at a text's front spell, up to so many of them, and how many they are. None of them needs a test for
+// the text's end or for the number's size.
 #[inline(always)]
-fn numeral_at(text: &[u8], at: usize, base: u64, most: u64) -> Option<(u64, usize)>
+fn digits_front(text: &[u8], base: u64, width: usize) -> Option<(u64, usize)>
+    requires least { 2 ≤ base }
+    requires most { base ≤ 16 }
+    requires some { 1 ≤ width }
+    requires width { base ^ width ≤ 2 ^ 64 }
+    requires long { width < length text.now }
+    ensures found { IfSome result (λ p. take p.1 text.now ≡ numeral base p.0) }
+    ensures inside { IfSome result (λ p. p.1 < length text.now) }
+{
+    let first = digit_of(text[0], base);
+    if first >= base {
+        return None;
+    }
+    if first == 0 {
+        return Some((0, 1));
+    }
+    let mut number = first;
+    let mut count: usize = 1;
+    while count < width {
+        let digit = digit_of(text[count], base);
+        if digit >= base {
+            return Some((number, count));
+        }
+        number = number * base + digit;
+        count += 1;
+    }
+    Some((number, count))
+}
+
+// The number within the limit whose digits, up to so many, a text begins with, and how many they are. Another byte follows them.
+#[inline(always)]
+fn limited_front(text: &[u8], base: u64, width: usize, most: u64) -> Option<(u64, usize)>
+    requires least { 2 ≤ base }
+    requires most { base ≤ 16 }
+    requires some { 1 ≤ width }
+    requires width { base ^ width ≤ 2 ^ 64 }
+    ensures found { IfSome result (λ p. take p.1 text.now ≡ numeral base p.0) }
+    ensures within { IfSome result (λ p. p.0 ≤ most) }
+    ensures inside { IfSome result (λ p. p.1 < length text.now) }
+{
+    if text.len() <= width {
+        return numeral_front(text, base, most);
+    }
+    let (number, count) = digits_front(text, base, width)?;
+    if number > most {
+        return None;
+    }
+    Some((number, count))
+}
+
+// The same at a place, and the place behind it.
+#[inline(always)]
+fn numeral_at(text: &[u8], at: usize, base: u64, width: usize, most: u64) -> Option<(u64, usize)>
     requires place { at ≤ length text.now }
     requires least { 2 ≤ base }
     requires most { base ≤ 16 }
+    requires some { 1 ≤ width }
+    requires width { base ^ width ≤ 2 ^ 64 }
     ensures found { IfSome result (λ p. take p.1 text.now ≡ take at text.now ++ numeral base p.0) }
     ensures within { IfSome result (λ p. p.0 ≤ most) }
     ensures inside { IfSome result (λ p. p.1 < length text.now) }
     ensures on { IfSome result (λ p. at ≤ p.1) }
 {
-    let (number, count) = numeral_front(text.split_at(at).1, base, most)?;
+    let (number, count) = limited_front(text.split_at(at).1, base, width, most)?;
     Some((number, at + count))
 }
 
@@ -90,7 +150,7 @@ pub fn head_at(text: &[u8], cpus: u8, calls: u32) -> Option<(u8, u32, usize)>
         return None;
     }
     let most = calls.checked_sub(1)?;
-    let (number, end) = numeral_at(text, 4, 10, u64::from(most))?;
+    let (number, end) = numeral_at(text, 4, 10, DECIMAL, u64::from(most))?;
     Some((cpu as u8, number as u32, end))
 }
 
@@ -125,7 +185,7 @@ fn words_at<'w>(words: &'w mut [u64; 10], text: &[u8], at: usize) -> Option<(&'w
         if count == words.len() {
             return None;
         }
-        let (word, next) = numeral_at(text, end + 1, 16, u64::MAX)?;
+        let (word, next) = numeral_at(text, end + 1, 16, HEX, u64::MAX)?;
         words[count] = word;
         count += 1;
         end = next;
@@ -205,11 +265,11 @@ pub fn err_at(text: &[u8], at: usize) -> Option<(u8, u8, usize)>
     if rest.split_at(5).0 != b" err ".as_slice() {
         return None;
     }
-    let (status, middle) = numeral_at(text, at + 5, 10, 255)?;
+    let (status, middle) = numeral_at(text, at + 5, 10, DECIMAL, 255)?;
     if text[middle] != b' ' {
         return None;
     }
-    let (index, end) = numeral_at(text, middle + 1, 10, 255)?;
+    let (index, end) = numeral_at(text, middle + 1, 10, DECIMAL, 255)?;
     if text[end] != b'\n' {
         return None;
     }

@@ -8,6 +8,24 @@ ghost use Rattle.rmi_codec.specs.Beginning.{IsBeginning};
 
 use std::alloc::AllocError;
 
+// The hex digit that each byte shows, and 255 where it shows none.
+const HEX_DIGITS: [u8; 256] = [
+    255, 255, 255, 255, 255, 255, 255, 255, 255, 255, 255, 255, 255, 255, 255, 255, 255, 255, 255,
+    255, 255, 255, 255, 255, 255, 255, 255, 255, 255, 255, 255, 255, 255, 255, 255, 255, 255, 255,
+    255, 255, 255, 255, 255, 255, 255, 255, 255, 255, 0, 1, 2, 3, 4, 5, 6, 7, 8, 9, 255, 255, 255,
+    255, 255, 255, 255, 255, 255, 255, 255, 255, 255, 255, 255, 255, 255, 255, 255, 255, 255, 255,
+    255, 255, 255, 255, 255, 255, 255, 255, 255, 255, 255, 255, 255, 255, 255, 255, 255, 10, 11,
+    12, 13, 14, 15, 255, 255, 255, 255, 255, 255, 255, 255, 255, 255, 255, 255, 255, 255, 255, 255,
+    255, 255, 255, 255, 255, 255, 255, 255, 255, 255, 255, 255, 255, 255, 255, 255, 255, 255, 255,
+    255, 255, 255, 255, 255, 255, 255, 255, 255, 255, 255, 255, 255, 255, 255, 255, 255, 255, 255,
+    255, 255, 255, 255, 255, 255, 255, 255, 255, 255, 255, 255, 255, 255, 255, 255, 255, 255, 255,
+    255, 255, 255, 255, 255, 255, 255, 255, 255, 255, 255, 255, 255, 255, 255, 255, 255, 255, 255,
+    255, 255, 255, 255, 255, 255, 255, 255, 255, 255, 255, 255, 255, 255, 255, 255, 255, 255, 255,
+    255, 255, 255, 255, 255, 255, 255, 255, 255, 255, 255, 255, 255, 255, 255, 255, 255, 255, 255,
+    255, 255, 255, 255, 255, 255, 255, 255, 255, 255, 255, 255, 255, 255, 255, 255, 255, 255, 255,
+    255, 255, 255, 255,
+];
+
 // The digit of a base that a byte shows, and no less than the base where it shows none. No branch depends on the byte:
 // digits can't be foreseen.
 #[inline(always)]
@@ -16,17 +34,10 @@ pub(crate) fn digit_of(byte: u8, base: u64) -> u64
     ensures shown { result < base → glyph result ≡ byte }
     ensures none { base ≤ result → (d : ℕ) → d < base → glyph d ≢ byte }
 {
-    let wide = u32::from(byte);
-    let low = wide.wrapping_sub(u32::from(b'0'));
     if base <= 10 {
-        return u64::from(low);
+        return u64::from(u32::from(byte).wrapping_sub(u32::from(b'0')));
     }
-    let letter = wide.wrapping_sub(u32::from(b'a'));
-    if low < 10 {
-        u64::from(low)
-    } else {
-        u64::from(letter) + 10
-    }
+    u64::from(HEX_DIGITS[usize::from(byte)])
 }
 
 // The number with one digit more, where it is within the limit. Where the limit is small, the product can't pass 64 bits.

@@ -125,6 +125,20 @@ counts-copies n entries e live links is_one is_other copies first one second oth
   of_links = (second ∙ ap (λ (b : Bool). if b then n else 0) other) ∙ (sym (count-copies is_table n e) ∙ ap (λ (xs : List Entry). count_of is_table xs) (sym copies));
 }
 
+-- those of copies of one entry and copies of another
+pub counts-halves : (n m : ℕ) (lower upper : Entry) (live links : ℕ)
+    → live ≡ (if is_live lower then n else 0) + (if is_live upper then m else 0)
+    → links ≡ (if is_table lower then n else 0) + (if is_table upper then m else 0)
+    → AreCounts (replicate n lower ++ replicate m upper) live links
+counts-halves n m lower upper live links first second = record {
+  of_live = first ∙ both is_live;
+  of_links = second ∙ both is_table;
+}
+  where
+    both : (test : Entry → Bool)
+        → (if test lower then n else 0) + (if test upper then m else 0) ≡ count_of test (replicate n lower ++ replicate m upper)
+    both test = omega (arith, count-append test (replicate n lower) (replicate m upper), count-copies test n lower, count-copies test m upper)
+
 -- those of entries of which one is replaced
 pub counts-set : (entries : List Entry) (live links live' links' at : ℕ) (old new : Entry) → AreCounts entries live links → slice_get entries at ≡ Some old
     → live' + one_if (is_live old) ≡ live + one_if (is_live new) → links' + one_if (is_table old) ≡ links + one_if (is_table new)

@@ -1,7 +1,7 @@
 -- Columns of entries, and the entries that they stand for.
 use Rattle.std.proofs.Common.{◌≡◌, ℕ, zero, suc, ◌+◌, ◌-◌, ◌≤◌, List, [], ◌∷◌, ◌++◌, map, take, drop, replicate, length, set, refl, sym, ap, ◌∙◌, subst, arith}
 use Rattle.std.specs.List.{slice_range}
-use Rattle.std.proofs.lemmas.List.{map-set, drop-drop, length-map}
+use Rattle.std.proofs.lemmas.List.{map-append, map-set, drop-drop, length-map}
 use borrow.Rule.Slice.PartMut.{put_mid}
 use Rattle.rmm_spec.specs.declared.entry.Entry.{Entry}
 use Rattle.rmm_spec.specs.declared.entry.Entry.TheVariants.{Unassigned, Assigned, Table, UnassignedNs, AssignedNs}
@@ -49,6 +49,33 @@ map-copies f (suc n) x = ap (λ ys. f x ∷ ys) (map-copies f n x)
 -- those of copies of one entry
 pub columns-copies : (n : ℕ) (e : Entry) → AreColumns (replicate n e) (replicate n (kind_of e)) (replicate n (entry_address e))
 columns-copies n e = record { of_kinds = sym (map-copies kind_of n e); of_addresses = sym (map-copies entry_address n e) }
+
+-- those of copies of one entry and copies of another
+pub columns-halves : (n m : ℕ) (lower upper : Entry)
+    → AreColumns (replicate n lower ++ replicate m upper)
+    (replicate n (kind_of lower) ++ replicate m (kind_of upper)) (replicate n (entry_address lower) ++ replicate m (entry_address upper))
+columns-halves n m lower upper = record { of_kinds = both kind_of; of_addresses = both entry_address }
+  where
+    both : {Y : Type 0} (f : Entry → Y)
+        → replicate n (f lower) ++ replicate m (f upper) ≡ map f (replicate n lower ++ replicate m upper)
+    both f = (λ i. sym (map-copies f n lower) i ++ sym (map-copies f m upper) i) ∙ sym (map-append f (replicate n lower) (replicate m upper))
+
+-- the first half of a column set to what another entry tells
+halves-set : {X : Type 0} (lower upper : X) (written : List X) → written ≡ replicate 256 lower
+    → put_mid 0 256 (replicate 512 upper) written ≡ replicate 256 lower ++ replicate 256 upper
+halves-set lower upper written is = ap (λ front. front ++ replicate 256 upper) is
+
+-- so the columns are those of copies of one entry and copies of another
+pub columns-written : (lower upper : Entry) (kl ku : Kind) (al au : ℕ) (kinds : List Kind) (addresses : List ℕ)
+    → kl ≡ kind_of lower → ku ≡ kind_of upper → al ≡ entry_address lower → au ≡ entry_address upper
+    → kinds ≡ replicate 256 kl → addresses ≡ replicate 256 al
+    → AreColumns (replicate 256 lower ++ replicate 256 upper) (put_mid 0 256 (replicate 512 ku) kinds) (put_mid 0 256 (replicate 512 au) addresses)
+columns-written lower upper kl ku al au kinds addresses of_kl of_ku of_al of_au of_kinds of_addresses =
+    let halves = columns-halves 256 256 lower upper in
+    record {
+      of_kinds = (halves-set kl ku kinds of_kinds ∙ (λ i. replicate 256 (of_kl i) ++ replicate 256 (of_ku i))) ∙ halves.of_kinds;
+      of_addresses = (halves-set al au addresses of_addresses ∙ (λ i. replicate 256 (of_al i) ++ replicate 256 (of_au i))) ∙ halves.of_addresses;
+    }
 
 -- those of entries of which one is replaced
 pub columns-set : (entries : List Entry) (kinds : List Kind) (addresses : List ℕ) (at : ℕ) (e : Entry) → AreColumns entries kinds addresses

@@ -1,6 +1,6 @@
 //! The entries of a table in two columns, nine bytes an entry.
 
-ghost use Rattle.std.specs.Prelude.{All, ◌≡◌, ◌<◌, ◌≤◌, ◌↔◌, IsTrue, length, map, replicate, Some, slice_get, slice_set};
+ghost use Rattle.std.specs.Prelude.{All, ◌≡◌, ◌++◌, ◌<◌, ◌≤◌, ◌↔◌, IsTrue, length, map, replicate, Some, slice_get, slice_set};
 ghost use Rattle.std.specs.List.{list_any};
 ghost use Rattle.rmm_spec.specs.Table.{entries_with_ripas, AreAlike};
 ghost use Rattle.rmm_spec.specs.Walk.{is_unlike};
@@ -15,6 +15,9 @@ use table_entries::{entry_address, passes};
 
 /// How many entries a table has.
 pub const ENTRIES: usize = 512;
+
+/// How many stand in one half of its addresses.
+pub const HALF: usize = 256;
 
 /// 512 entries: the address that each names, or 0, and what each is.
 #[derive(Drop)]
@@ -44,6 +47,17 @@ impl Columns {
     {
         let addresses = [entry_address(fill); ENTRIES];
         let kinds = [kind_of(fill); ENTRIES];
+        Columns { addresses, kinds }
+    }
+
+    /// 256 copies of one entry, and 256 of another behind them.
+    pub fn halves(lower: Entry, upper: Entry) -> Self
+        ensures { result ≡ replicate 256 lower ++ replicate 256 upper }
+    {
+        let mut addresses = [entry_address(upper); ENTRIES];
+        let mut kinds = [kind_of(upper); ENTRIES];
+        addresses[..HALF].fill(entry_address(lower));
+        kinds[..HALF].fill(kind_of(lower));
         Columns { addresses, kinds }
     }
 

@@ -1,6 +1,6 @@
 //! A table and its methods.
 
-ghost use Rattle.std.specs.Prelude.{◌≡◌, ◌+◌, ◌<◌, ◌≤◌, ◌↔◌, if◌then◌else◌, IsTrue, IfOk, length, replicate, Some, slice_get, slice_set};
+ghost use Rattle.std.specs.Prelude.{◌≡◌, ◌+◌, ◌++◌, ◌<◌, ◌≤◌, ◌↔◌, if◌then◌else◌, IsTrue, IfOk, length, replicate, Some, slice_get, slice_set};
 ghost use Rattle.std.specs.List.{list_any};
 ghost use Rattle.rmm_spec.specs.Walk.{is_live, is_table, passes};
 ghost use Rattle.rmm_spec.specs.Table.{entry_index, entries_with_ripas, AreAlike};
@@ -54,6 +54,25 @@ impl Table {
             columns,
             live: all_or_none(is_live(fill)),
             links: all_or_none(is_table(fill)),
+        })
+    }
+
+    /// A table of 256 copies of one entry, and 256 of another behind them.
+    #[inline(never)]
+    pub fn halves(
+        alloc: Global,
+        place: Place,
+        lower: Entry,
+        upper: Entry,
+    ) -> Result<Self, AllocError>
+        ensures { IfOk result (λ t. t ≡ record { place = place; entries = replicate 256 lower ++ replicate 256 upper }) }
+    {
+        let columns = Box::new(alloc, Columns::halves(lower, upper))?;
+        Ok(Table {
+            place,
+            columns,
+            live: half_or_none(is_live(lower)) + half_or_none(is_live(upper)),
+            links: half_or_none(is_table(lower)) + half_or_none(is_table(upper)),
         })
     }
 
@@ -143,6 +162,14 @@ fn all_or_none(passes: bool) -> u16
     ensures { result ≡ (if passes then 512 else 0) }
 {
     if passes { 512 } else { 0 }
+}
+
+// How many entries of a half pass a test, where all are copies of one.
+fn half_or_none(passes: bool) -> u16
+    ensures is { result ≡ (if passes then 256 else 0) }
+    ensures most { result ≤ 256 }
+{
+    if passes { 256 } else { 0 }
 }
 
 // A count after one entry went and another came.

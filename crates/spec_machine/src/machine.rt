@@ -84,6 +84,7 @@ impl Machine {
     }
 
     /// Takes one step, as `offer` does, with a command and a reply that lie elsewhere.
+    #[inline(always)]
     #[tactic(auto, unfolding(crate::specs::View::state_of))]
     pub fn offer_seen(
         &mut self,

@@ -17,6 +17,7 @@ impl Machine {
     ghost use Rattle.spec_machine.specs.View.{state_of};
 
     /// Sets the stretch up to the end that the reply tells, where that is allowed. Else it changes nothing.
+    #[inline(never)]
     pub(crate) fn reach(&mut self, stretch: &Stretch, reply: ReplyRef<'_>) -> bool
         requires level { stretch.now.level ≤ 3 }
         requires can { (top : ℕ) → IsReached (state_of self.old) stretch.now top

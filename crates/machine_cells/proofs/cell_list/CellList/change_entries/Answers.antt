@@ -6,14 +6,14 @@ use Rattle.granule_cells.specs.declared.cell.Cell.TheVariants.{Rtt}
 use Rattle.granule_cells.specs.Seen.{cell_of}
 use Rattle.machine_cells.specs.Whole.{cells_of}
 use Rattle.machine_cells.proofs.Kept.{place_within}
-use Rattle.machine_cells.proofs.OneChanged.{entries-outside, set-at, not_table-same}
+use Rattle.machine_cells.proofs.OneChanged.{outside-same, set-at, not_table-same}
 use Rattle.machine_cells.proofs.cell_list.CellList.change_entries.Goals as goal
 
 pub returns-in_default-place_of-clause-cells : goal.returns-in_default-place_of-clause-cells
 returns-in_default-place_of-clause-cells c =
     let list = c.args.self.now in
     subst (λ at. cells_of list ≡ cells_with_entries (cells_of list) (entries_changed c.args.change) at) (sym c.in-Some.is)
-    (entries-outside list c.in-Some.granule (entries_changed c.args.change) c.in_default-place_of.ensures)
+    (outside-same list c.in-Some.granule (cell_with_entries (entries_changed c.args.change)) refl c.in_default-place_of.ensures)
 
 pub index_mut-requires : goal.index_mut-requires
 index_mut-requires c =

@@ -1,18 +1,42 @@
-use Rattle.std.proofs.Common.{ap, ◌∙◌}
+use Rattle.std.proofs.Common.{ap, refl, sym, ◌∙◌, arith}
 use Rattle.rmm_spec.specs.Cell as spec
+use Rattle.shape_laws.specs.Whole.{cell_with_realm}
+use Rattle.granule_cells.specs.declared.cell.Cell.{Cell}
+use Rattle.granule_cells.specs.declared.cell.Cell.TheVariants.{Rd}
+use Rattle.granule_cells.specs.Seen.{cell_of}
 use Rattle.machine_cells.specs.Whole.{cells_of}
-use Rattle.machine_cells.proofs.OneChanged.{no_realm-same, put-same, realm-granule, realm-updated}
+use Rattle.machine_cells.proofs.Kept.{place_within}
+use Rattle.machine_cells.proofs.OneChanged.{outside-same, set-at, not_realm-same}
 use Rattle.machine_cells.proofs.cell_list.CellList.change_realm.Goals as goal
 
-pub returns-in_default-realm_in-clause-cells : goal.returns-in_default-realm_in-clause-cells
-returns-in_default-realm_in-clause-cells c =
-    let cells = cells_of c.args.self.now in
-    rw c.in-Some.is (put-same cells c.in-Some.field-0.rd _ (no_realm-same (cells c.in-Some.field-0.rd) c.in-Some.field-0.update c.in_default-realm_in.ensures))
+pub returns-in_default-place_of-clause-cells : goal.returns-in_default-place_of-clause-cells
+returns-in_default-place_of-clause-cells c =
+    rw c.in-Some.is (outside-same c.args.self.now c.in-Some.field-0.rd (cell_with_realm c.in-Some.field-0.update) refl c.in_default-place_of.ensures)
 
-pub put-requires : goal.put-requires
-put-requires c = realm-granule c.args.self.now c.in-Some.field-0.rd _ c.in-Some-realm_in.ensures
+pub index_mut-requires : goal.index_mut-requires
+index_mut-requires c =
+    let list = c.args.self.now in
+    omega (arith, c.in-Some-place_of.ensures.1, list.each, place_within list.config.granules c.in-Some.field-0.rd c.in-Some-place_of.ensures.0)
 
-pub returns-clause-cells : goal.returns-clause-cells
-returns-clause-cells c =
-    let cells = cells_of c.args.self.now in
-    rw c.in-Some.is (c.put.ensures.cells ∙ realm-updated cells c.in-Some.field-0.rd c.in-Some.field-0.update _ _ c.in-Some-realm_in.ensures (ap spec.Rd c.update.ensures))
+pub returns-in-Rd-clause-cells : goal.returns-in-Rd-clause-cells
+unfolding cells_of
+returns-in-Rd-clause-cells c =
+    let list = c.args.self.now in
+    let update = c.in-Some.field-0.update in
+    rw c.in-Some.is
+    (set-at list c.in-Some.field-0.rd c.in-Some-place_of.place c.index_mut.result.now (Rd c.update.new.self) (cell_with_realm update)
+    c.in-Some-place_of.ensures.0 c.in-Some-place_of.ensures.1 c.index_mut.ensures.value
+    (ap spec.Rd c.update.ensures ∙ ap (λ (x : Cell). cell_with_realm update (cell_of x)) (sym c.in-Rd.is)))
+
+pub returns-in_default-index_mut : goal.returns-in_default-index_mut
+unfolding cells_of
+returns-in_default-index_mut c =
+    let list = c.args.self.now in
+    let update = c.in-Some.field-0.update in
+    record {
+      size = refl;
+      cells = rw c.in-Some.is
+          (set-at list c.in-Some.field-0.rd c.in-Some-place_of.place c.index_mut.result.now c.index_mut.result.now (cell_with_realm update)
+          c.in-Some-place_of.ensures.0 c.in-Some-place_of.ensures.1 c.index_mut.ensures.value
+          (sym (not_realm-same c.index_mut.result.now update c.in_default-index_mut.not-Rd)));
+    }

@@ -2,7 +2,7 @@ use Rattle.std.proofs.Common.{◌++◌, take}
 use Rattle.std.proofs.lemmas.List.{append-nil}
 use Rattle.rmm_spec.specs.Measure.{words_bytes}
 use Rattle.measure.proofs.WordBytes.{words_bytes-take_more}
-use Rattle.measure.proofs.feed.feed_words.Goals as goal
+use Rattle.measure.proofs.feed.feed_each.Goals as goal
 
 pub loop-word-init : goal.loop-word-init
 unfolding words_bytes
