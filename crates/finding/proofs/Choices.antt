@@ -1,0 +1,164 @@
+-- The next call that is tried first, CPU by CPU.
+use Rattle.std.proofs.Common.{◌≡◌, ℕ, ◌+◌, ◌^◌, ◌<◌, ◌≤◌, ◌⊎◌, inl, inr, List, get_or, Option, Some, None, refl, sym, ◌∙◌, ap, subst, arith}
+use Rattle.std.specs.Option.{MatchOption, IfSome}
+use Rattle.std.proofs.lemmas.Bool.{cases_lt}
+use Rattle.std.proofs.lemmas.Option.{slice_get_within}
+use Rattle.rmm_spec.specs.declared.event.Event.{Event}
+use Rattle.rmm_spec.specs.declared.event.Event.TheVariants.{Returned}
+use Rattle.rmm_spec.specs.declared.reply.Reply.{Reply}
+use Rattle.rmm_spec.specs.HistoryText.{History, IsHistory}
+use Rattle.rmm_spec.specs.Linearization.{IsReturned, IsKnown, IsFinished}
+use Rattle.history.specs.Calls.{ArePlacesOf}
+use Rattle.history.specs.declared.history.Places.{Places}
+use Rattle.checker.proofs.Calls.{HasOnePlaces}
+use Rattle.finding.specs.Choice.{pending_rank, rank_at, rank_of, least_of, IsNextCall, IsLeast, IsSooner}
+use Rattle.finding.specs.declared.choice.Choice.{Choice}
+
+-- a finished call is tried at the place of its return
+pub rank_returned : (events : List Event) → HasOnePlaces events → (cpu number place : ℕ) (given : Reply) (places : Places) → ArePlacesOf events cpu number places
+    → IsReturned events place cpu number given → rank_at cpu places.returned ≡ place
+rank_returned events one cpu number place given places are is_returned = at places.returned are.returned
+  where
+    at : (o : Option ℕ) → MatchOption o (¬ IsFinished events cpu number) (λ p. (told : Reply) × IsReturned events p cpu number told) → rank_at cpu o ≡ place
+    at None pending = absurd (pending (place, given, is_returned))
+    at (Some p) told = one.one_return p place cpu number told.0 given told.1 is_returned
+
+-- a call that hasn't returned is tried behind all returns
+pub rank_pending : (events : List Event) (cpu number : ℕ) (places : Places) → ArePlacesOf events cpu number places
+    → ¬ IsFinished events cpu number → rank_at cpu places.returned ≡ pending_rank cpu
+rank_pending events cpu number places are pending = at places.returned are.returned
+  where
+    at : (o : Option ℕ) → MatchOption o (¬ IsFinished events cpu number) (λ p. (told : Reply) × IsReturned events p cpu number told)
+        → rank_at cpu o ≡ pending_rank cpu
+    at None none = refl
+    at (Some p) told = absurd (pending (p, told.0, told.1))
+
+-- a call that is tried before all that haven't returned has returned at its rank
+pub returned_first : (events : List Event) (choice : Choice) → ArePlacesOf events choice.cpu choice.number choice.places → rank_of choice < 1000000
+    → (given : Reply) × IsReturned events (rank_of choice) choice.cpu choice.number given
+returned_first events choice are = at choice.places.returned are.returned
+  where
+    at : (o : Option ℕ) → MatchOption o (¬ IsFinished events choice.cpu choice.number) (λ p. (told : Reply) × IsReturned events p choice.cpu choice.number told)
+        → rank_at choice.cpu o < 1000000 → (given : Reply) × IsReturned events (rank_at choice.cpu o) choice.cpu choice.number given
+    at None pending below = absurd (omega (arith, below))
+    at (Some p) told below = told
+
+-- every rank is small
+pub rank_small : (history : History) → IsHistory history → (choice : Choice) → ArePlacesOf history.events choice.cpu choice.number choice.places → choice.cpu < 8
+    → rank_of choice < 2 ^ 31
+rank_small history is_history choice are few = at choice.places.returned are.returned
+  where
+    at : (o : Option ℕ)
+        → MatchOption o (¬ IsFinished history.events choice.cpu choice.number) (λ p. (told : Reply) × IsReturned history.events p choice.cpu choice.number told)
+        → rank_at choice.cpu o < 2 ^ 31
+    at None pending = omega (arith, few)
+    at (Some p) told =
+        let within = slice_get_within history.events p (Returned choice.cpu choice.number told.0) told.1 in
+        let lines = is_history.lines in
+        omega (arith, within, lines)
+
+-- no CPU yet
+pub IsLeast-none : (events : List Event) (counts : List ℕ) (from least : ℕ) → IsLeast events counts from 0 least
+IsLeast-none events counts from least = record {
+  returned = λ cpu place given within. absurd (omega (arith, within));
+  pending = λ cpu within. absurd (omega (arith, within));
+}
+
+-- what is said of more CPUs is said of fewer
+pub IsLeast-fewer : (events : List Event) (counts : List ℕ) (from bound fewer least : ℕ) → fewer ≤ bound → IsLeast events counts from bound least
+    → IsLeast events counts from fewer least
+IsLeast-fewer events counts from bound fewer least few all = record {
+  returned = λ cpu place given within. all.returned cpu place given (omega (arith, within, few));
+  pending = λ cpu within. all.pending cpu (omega (arith, within, few));
+}
+
+-- a CPU that has no next call
+pub IsLeast-past : (events : List Event) → HasOnePlaces events → (counts : List ℕ) (from bound least : ℕ) → IsLeast events counts from bound least
+    → ¬ IsKnown events bound (get_or counts bound 0) → IsLeast events counts from (bound + 1) least
+IsLeast-past events one counts from bound least so_far unknown = record {
+  returned = λ cpu place given within is_returned late. elim (cases_lt cpu bound) [
+    | inl before ↦ so_far.returned cpu place given before is_returned late
+    | inr after ↦
+        let at : cpu ≡ bound = omega (arith, after, within) in
+        absurd (unknown (one.is_known bound (get_or counts bound 0)
+        (subst (λ (c : ℕ). IsFinished events c (get_or counts c 0)) at (place, given, is_returned))))
+  ];
+  pending = λ cpu within known none late. elim (cases_lt cpu bound) [
+    | inl before ↦ so_far.pending cpu before known none late
+    | inr after ↦
+        let at : cpu ≡ bound = omega (arith, after, within) in
+        absurd (unknown (subst (λ (c : ℕ). IsKnown events c (get_or counts c 0)) at known))
+  ];
+}
+
+-- a CPU's next call may be tried sooner than those before
+pub IsLeast-sooner : (history : History) → HasOnePlaces history.events → (counts : List ℕ) (from bound : ℕ) (best sooner : Option Choice) (choice : Choice)
+    → IsLeast history.events counts from bound (least_of best) → IsNextCall history counts 0 choice → choice.cpu ≡ bound
+    → IsSooner best choice from sooner → IsLeast history.events counts from (bound + 1) (least_of sooner)
+IsLeast-sooner history one counts from bound best sooner choice so_far next of_cpu is_sooner = record {
+  returned = λ cpu place given within is_returned late. elim (cases_lt cpu bound) [
+    | inl before ↦
+        let least = so_far.returned cpu place given before is_returned late in
+        let no_later = is_sooner.no_later in
+        omega (arith, least, no_later)
+    | inr after ↦
+        let at : cpu ≡ choice.cpu = omega (arith, after, within, of_cpu) in
+        let here : IsReturned history.events place choice.cpu (get_or counts choice.cpu 0) given =
+        subst (λ (c : ℕ). IsReturned history.events place c (get_or counts c 0) given) at is_returned in
+        let is_next : IsReturned history.events place choice.cpu choice.number given =
+        subst (λ (n : ℕ). IsReturned history.events place choice.cpu n given) (sym next.numbered) here in
+        let rank = rank_returned history.events one choice.cpu choice.number place given choice.places next.places is_next in
+        let least = is_sooner.least (omega (arith, late, rank)) in
+        omega (arith, least, rank)
+  ];
+  pending = λ cpu within known none late. elim (cases_lt cpu bound) [
+    | inl before ↦
+        let least = so_far.pending cpu before known none late in
+        let no_later = is_sooner.no_later in
+        omega (arith, least, no_later)
+    | inr after ↦
+        let at : cpu ≡ choice.cpu = omega (arith, after, within, of_cpu) in
+        let here : ¬ IsFinished history.events choice.cpu (get_or counts choice.cpu 0) =
+        subst (λ (c : ℕ). ¬ IsFinished history.events c (get_or counts c 0)) at none in
+        let is_next : ¬ IsFinished history.events choice.cpu choice.number =
+        subst (λ (n : ℕ). ¬ IsFinished history.events choice.cpu n) (sym next.numbered) here in
+        let rank = rank_pending history.events choice.cpu choice.number choice.places next.places is_next in
+        let least = is_sooner.least (omega (arith, late, rank, at)) in
+        omega (arith, least, rank, at)
+  ];
+}
+
+-- what is said of the call that was found holds of the one that is tried first
+pub IsNextCall-sooner : (history : History) (counts : List ℕ) (from : ℕ) (best sooner : Option Choice) (choice : Choice)
+    → IfSome best (IsNextCall history counts from) → IsNextCall history counts 0 choice
+    → IsSooner best choice from sooner → IfSome sooner (IsNextCall history counts from)
+IsNextCall-sooner history counts from best sooner choice so_far next is_sooner = elim is_sooner.which [
+  | inl same ↦ subst (λ (o : Option Choice). IfSome o (IsNextCall history counts from)) (sym same) so_far
+  | inr new ↦
+      let is_next : IsNextCall history counts from choice =
+      record { of_machine = next.of_machine; numbered = next.numbered; places = next.places; ranked = new.1 } in
+      subst (λ (o : Option Choice). IfSome o (IsNextCall history counts from)) (sym new.0) is_next
+]
+
+-- ---- which of two is tried first
+
+-- the second is tried before the rank
+pub IsSooner-kept : (best : Option Choice) (choice : Choice) (from : ℕ) → rank_of choice < from → IsSooner best choice from best
+IsSooner-kept best choice from early = record {
+  which = inl refl;
+  no_later = omega arith;
+  least = λ late. absurd (omega (arith, early, late));
+}
+
+-- there is no first
+pub IsSooner-none : (choice : Choice) (from : ℕ) → from ≤ rank_of choice → rank_of choice < 2 ^ 32 → IsSooner None choice from (Some choice)
+IsSooner-none choice from late small = record { which = inr (refl, late); no_later = omega (arith, small); least = λ _. omega arith }
+
+-- the first is tried first
+pub IsSooner-first : (first choice : Choice) (from : ℕ) → rank_of first ≤ rank_of choice → IsSooner (Some first) choice from (Some first)
+IsSooner-first first choice from before = record { which = inl refl; no_later = omega arith; least = λ _. before }
+
+-- the second is
+pub IsSooner-second : (first choice : Choice) (from : ℕ) → from ≤ rank_of choice → rank_of choice < rank_of first
+    → IsSooner (Some first) choice from (Some choice)
+IsSooner-second first choice from late before = record { which = inr (refl, late); no_later = omega (arith, before); least = λ _. omega arith }

@@ -1,0 +1,7 @@
+pub mod Choices
+pub mod TriedLaws
+pub mod Attempts
+pub mod EndLaws
+pub mod Searches
+pub mod Offers
+pub mod LeftBehind

@@ -1,0 +1,439 @@
+-- A search as it tries a line, grows by one and takes one back.
+use Rattle.std.proofs.Common.{◌≡◌, ◌≢◌, ℕ, zero, suc, ◌+◌, ◌-◌, ◌^◌, ◌<◌, ◌≤◌, ◌⊎◌, inl, inr, List, [], ◌∷◌, ◌++◌, map, length, take, get_or, set, Option, Some, None, refl, sym, ◌∙◌, ap, subst, arith, get_or-set_same, get_or-set_other}
+use Rattle.std.specs.List.{slice_get, AllByRecursion}
+use Rattle.std.specs.Option.{IfSome, option_to_list}
+use Rattle.std.proofs.Math.Seq.{take-append_seam}
+use Rattle.std.proofs.lemmas.Bool.{cases_eq}
+use Rattle.std.proofs.lemmas.Bool.Decides.{eqb_tells}
+use Rattle.std.proofs.lemmas.List.{append-nil, length-set, map-append, take-append-le}
+use Rattle.std.proofs.lemmas.Option.{none-some, slice_get_within, slice_get-map}
+use Rattle.rmm_spec.specs.declared.line.Line.{Line}
+use Rattle.rmm_spec.specs.declared.line.Line.TheVariants.{Keep, Unfinished}
+use Rattle.rmm_spec.specs.HistoryText.{History, IsHistory}
+use Rattle.rmm_spec.specs.CertificateText.{IsLine, IsCertificate}
+use Rattle.rmm_spec.specs.Rows.{ok}
+use Rattle.rmm_spec.specs.State.{State, opening}
+use Rattle.rmm_spec.specs.FirstFault.{IsRefused, Passes}
+use Rattle.rmm_spec.specs.Linearization.{IsLinearization, cpu_named, number_named}
+use Rattle.checker.proofs.Elements.{slice_get-append_left, slice_get_push, slice_get_push_cases}
+use Rattle.spec_machine.specs.View.{state_of}
+use Rattle.spec_machine.specs.declared.machine.Machine.{Machine}
+use Rattle.order_laws.specs.Order.{count_of, IsNext, LeadsNowhere, Reaches, ReturnBehind, Grows}
+use Rattle.order_laws.proofs.Counts.{count_of-same, count_of-other, count_of-nil}
+use Rattle.order_laws.proofs.Growth.{IsLinearization-from_Reaches, Reaches-nil, Reaches-push}
+use Rattle.order_laws.proofs.Nowhere.{nowhere_by, nowhere_unless}
+use Rattle.order_laws.proofs.Settled.{nowhere_settled}
+use Rattle.order_laws.proofs.Short.{length-lines}
+use Rattle.finding.specs.Attempt.{IsAttempt, MayTry}
+use Rattle.finding.specs.Choice.{rank_of, IsNextCall, IsLeast}
+use Rattle.finding.specs.Search.{AreCounts, AreFrames, Continues, IsFrame, IsGiven, IsLonger, IsRefusedHere, IsSearch, StandsAt, lines_of}
+use Rattle.finding.specs.Tried.{Tried, CallLeadsNowhere}
+use Rattle.finding.specs.declared.choice.Choice.{Choice}
+use Rattle.finding.specs.declared.frame.Frame.{Frame}
+use Rattle.finding.specs.declared.search.Search.{Search}
+use Rattle.finding.specs.declared.search.Progress.{Progress}
+use Rattle.finding.specs.declared.search.Progress.TheVariants.{Going, Whole, Exhausted}
+use Rattle.finding.proofs.TriedLaws.{Tried-none, Tried-all, Tried-passed, Tried-ended, all_named, all_nowhere, HasOpen-first, ReturnBehind-called, too_late}
+use Rattle.finding.proofs.Attempts.{of_a_line}
+use Rattle.finding.proofs.Choices.{rank_pending, rank_small, returned_first}
+
+-- ---- lines of frames
+
+pub lines_of-push : (frames : List Frame) (frame : Frame) → lines_of (frames ++ frame ∷ []) ≡ lines_of frames ++ frame.line ∷ []
+lines_of-push frames frame = map-append (λ (f : Frame). f.line) frames (frame ∷ [])
+
+-- ---- counts
+
+-- no line
+pub AreCounts-nil : AreCounts (0 ∷ 0 ∷ 0 ∷ 0 ∷ 0 ∷ 0 ∷ 0 ∷ 0 ∷ []) []
+AreCounts-nil = record {
+  size = refl;
+  each = λ cpu within. zeros cpu ∙ sym (count_of-nil cpu);
+}
+  where
+    zeros : (cpu : ℕ) → get_or {A = ℕ} (0 ∷ 0 ∷ 0 ∷ 0 ∷ 0 ∷ 0 ∷ 0 ∷ 0 ∷ []) cpu 0 ≡ 0
+    zeros zero = refl
+    zeros (suc zero) = refl
+    zeros (suc (suc zero)) = refl
+    zeros (suc (suc (suc zero))) = refl
+    zeros (suc (suc (suc (suc zero)))) = refl
+    zeros (suc (suc (suc (suc (suc zero))))) = refl
+    zeros (suc (suc (suc (suc (suc (suc zero)))))) = refl
+    zeros (suc (suc (suc (suc (suc (suc (suc zero))))))) = refl
+    zeros (suc (suc (suc (suc (suc (suc (suc (suc cpu)))))))) = refl
+
+-- one line more
+pub AreCounts-push : (counts : List ℕ) (lines : List Line) (line : Line) (cpu count : ℕ) → AreCounts counts lines → cpu_named line ≡ cpu → cpu < 8
+    → count ≡ count_of cpu lines + 1 → AreCounts (set counts cpu count) (lines ++ line ∷ [])
+AreCounts-push counts lines line cpu count are of_cpu within counted = record {
+  size = length-set counts cpu count ∙ are.size;
+  each = λ other inside. elim (eqb_tells (cpu_named line) other) [
+    | inl same ↦
+        let at : cpu ≡ other = sym of_cpu ∙ same.1 in
+        let size = are.size in
+        let lt : cpu < length counts = omega (arith, size, within) in
+        ap (λ (c : ℕ). get_or (set counts cpu count) c 0) (sym at) ∙ get_or-set_same counts cpu count 0 lt ∙ counted
+        ∙ ap (λ (c : ℕ). count_of c lines + 1) at ∙ sym (count_of-same other lines line same.1)
+    | inr differ ↦
+        let ne : other ≢ cpu = λ at. differ.1 (of_cpu ∙ sym at) in
+        get_or-set_other counts cpu other count 0 ne ∙ are.each other inside ∙ sym (count_of-other other lines line differ.0)
+  ];
+}
+
+-- the last line taken back
+pub AreCounts-pop : (counts : List ℕ) (lines : List Line) (line : Line) (cpu count : ℕ) → AreCounts counts (lines ++ line ∷ []) → cpu_named line ≡ cpu → cpu < 8
+    → count ≡ count_of cpu lines → AreCounts (set counts cpu count) lines
+AreCounts-pop counts lines line cpu count are of_cpu within counted = record {
+  size = length-set counts cpu count ∙ are.size;
+  each = λ other inside. elim (eqb_tells (cpu_named line) other) [
+    | inl same ↦
+        let at : cpu ≡ other = sym of_cpu ∙ same.1 in
+        let size = are.size in
+        let lt : cpu < length counts = omega (arith, size, within) in
+        ap (λ (c : ℕ). get_or (set counts cpu count) c 0) (sym at) ∙ get_or-set_same counts cpu count 0 lt ∙ counted
+        ∙ ap (λ (c : ℕ). count_of c lines) at
+    | inr differ ↦
+        let ne : other ≢ cpu = λ at. differ.1 (of_cpu ∙ sym at) in
+        get_or-set_other counts cpu other count 0 ne ∙ are.each other inside ∙ count_of-other other lines line differ.0
+  ];
+}
+
+-- ---- frames
+
+-- one frame more
+pub AreFrames-push : (history : History) (frames : List Frame) (frame : Frame) → AreFrames history frames → StandsAt history (lines_of frames) frame
+    → AreFrames history (frames ++ frame ∷ [])
+AreFrames-push history frames frame are last = λ i one is. elim (slice_get_push_cases frames frame i one is) [
+  | inl before ↦
+      let within = slice_get_within frames i one before in
+      subst (λ (fs : List Frame). StandsAt history (lines_of fs) one) (sym (take-append-le i frames (frame ∷ []) (omega (arith, within)))) (are i one before)
+  | inr at ↦
+      subst (λ (f : Frame). StandsAt history (lines_of (take i (frames ++ frame ∷ []))) f) (sym at.1)
+      (subst (λ (fs : List Frame). StandsAt history (lines_of fs) frame)
+      (sym (ap (λ (n : ℕ). take n (frames ++ frame ∷ [])) at.0 ∙ take-append_seam frames (frame ∷ []))) last)
+]
+
+-- the last frame taken off
+pub AreFrames-pop : (history : History) (frames : List Frame) (frame : Frame) → AreFrames history (frames ++ frame ∷ []) → AreFrames history frames
+AreFrames-pop history frames frame are = λ i one is.
+    let within = slice_get_within frames i one is in
+    subst (λ (fs : List Frame). StandsAt history (lines_of fs) one) (take-append-le i frames (frame ∷ []) (omega (arith, within)))
+    (are i one (slice_get-append_left frames (frame ∷ []) i one is))
+
+pub last_frame : (history : History) (frames : List Frame) (frame : Frame) → AreFrames history (frames ++ frame ∷ []) → StandsAt history (lines_of frames) frame
+last_frame history frames frame are =
+    subst (λ (fs : List Frame). StandsAt history (lines_of fs) frame) (take-append_seam frames (frame ∷ []))
+    (are (length frames) frame (slice_get_push frames frame))
+
+-- ---- the certificate
+
+are_lines : (history : History) (frames : List Frame) → ((i : ℕ) (frame : Frame) → slice_get frames i ≡ Some frame → IsLine frame.line)
+    → AllByRecursion IsLine (lines_of frames)
+are_lines history [] each = tt
+are_lines history (frame ∷ frames) each = (each 0 frame refl, are_lines history frames (λ i one is. each (suc i) one is))
+
+pub IsCertificate-search : (history : History) → IsHistory history → (search : Search) → IsSearch history search → IsCertificate (lines_of search.frames.items)
+IsCertificate-search history is_history search is_search =
+    let few = length-lines history.events (lines_of search.frames.items) is_search.reached.passes.names in
+    let lines = is_history.lines in
+    record {
+      each = are_lines history search.frames.items (λ i frame is. (is_search.frames i frame is).is_frame.is_line);
+      count = omega (arith, few, lines);
+    }
+
+-- ---- steps
+
+-- a line names one of eight CPUs
+few_cpus : (line : Line) → IsLine line → cpu_named line < 8
+few_cpus (Keep cpu number) is_line = is_line.0
+few_cpus (Unfinished cpu number claimed) is_line = is_line.0
+
+-- so does the last frame's
+pub few_of_frame : (history : History) (search : Search) → IsSearch history search → (frames : List Frame) (frame : Frame)
+    → search.frames.items ≡ frames ++ frame ∷ [] → cpu_named frame.line < 8
+few_of_frame history search is_search frames frame is =
+    let last = last_frame history frames frame (subst (λ (fs : List Frame). AreFrames history fs) is is_search.frames) in
+    few_cpus frame.line last.is_frame.is_line
+
+module _ (history : History) (is_history : IsHistory history) (old new : Search) (is_search : IsSearch history old) where
+  -- other things are left to try
+  pub IsSearch-tried : new.frames.items ≡ old.frames.items → new.counts ≡ old.counts
+      → IfSome new.machine (λ machine. Reaches history (lines_of old.frames.items) (state_of machine))
+      → Tried history (lines_of old.frames.items) new.from new.above → IsSearch history new
+  IsSearch-tried frames counts machine tried = record {
+    frames = subst (λ (fs : List Frame). AreFrames history fs) (sym frames) is_search.frames;
+    state = is_search.state;
+    reached = subst (λ (fs : List Frame). Reaches history (lines_of fs) is_search.state) (sym frames) is_search.reached;
+    machine = subst (λ (fs : List Frame). IfSome new.machine (λ machine. Reaches history (lines_of fs) (state_of machine))) (sym frames) machine;
+    counts = subst (λ (cs : List ℕ). AreCounts cs (lines_of new.frames.items)) (sym counts)
+        (subst (λ (fs : List Frame). AreCounts old.counts (lines_of fs)) (sym frames) is_search.counts);
+    tried = subst (λ (fs : List Frame). Tried history (lines_of fs) new.from new.above) (sym frames) tried;
+  }
+
+  -- the order has grown by a line
+  pub IsSearch-grown : (frame : Frame) (state next : State) (machine : Machine) → Reaches history (lines_of old.frames.items) state
+      → Grows history (lines_of old.frames.items) state frame.line next → IsLine frame.line
+      → (LeadsNowhere history (lines_of old.frames.items ++ frame.line ∷ []) → Tried history (lines_of old.frames.items) frame.from frame.above)
+      → new.frames.items ≡ old.frames.items ++ frame ∷ [] → (cpu number : ℕ) → cpu_named frame.line ≡ cpu → number_named frame.line ≡ number → cpu < 8
+      → new.counts ≡ set old.counts cpu (number + 1) → new.from ≡ 0 → new.above ≡ None → new.machine ≡ Some machine → state_of machine ≡ next
+      → IsSearch history new
+  IsSearch-grown frame state next machine reached grows is_line resumes frames cpu number of_cpu numbered within counts from above held leads =
+      let lines = lines_of old.frames.items in
+      let longer : lines_of new.frames.items ≡ lines ++ frame.line ∷ [] = ap lines_of frames ∙ lines_of-push old.frames.items frame in
+      let further = Reaches-push history is_history lines state reached frame.line next grows in
+      let stands : StandsAt history lines frame =
+      record { state = state; reached = reached; is_frame = record { is_line = is_line; next = grows.next; resumes = resumes } } in
+      let counted : number + 1 ≡ count_of cpu lines + 1 =
+      ap (λ (n : ℕ). n + 1) (sym numbered ∙ grows.next.numbered ∙ ap (λ (c : ℕ). count_of c lines) of_cpu) in
+      let are : AreCounts (set old.counts cpu (number + 1)) (lines ++ frame.line ∷ []) =
+      AreCounts-push old.counts lines frame.line cpu (number + 1) is_search.counts of_cpu within counted in
+      record {
+        frames = subst (λ (fs : List Frame). AreFrames history fs) (sym frames) (AreFrames-push history old.frames.items frame is_search.frames stands);
+        state = next;
+        reached = subst (λ (ls : List Line). Reaches history ls next) (sym longer) further;
+        machine = subst (λ (m : Option Machine). IfSome m (λ x. Reaches history (lines_of new.frames.items) (state_of x))) (sym held)
+            (subst (λ (s : State). Reaches history (lines_of new.frames.items) s) (sym leads)
+            (subst (λ (ls : List Line). Reaches history ls next) (sym longer) further));
+        counts = subst (λ (cs : List ℕ). AreCounts cs (lines_of new.frames.items)) (sym counts)
+            (subst (λ (ls : List Line). AreCounts (set old.counts cpu (number + 1)) ls) (sym longer) are);
+        tried = subst (λ (f : ℕ). Tried history (lines_of new.frames.items) f new.above) (sym from)
+            (subst (λ (a : Option ℕ). Tried history (lines_of new.frames.items) 0 a) (sym above) (Tried-none history (lines_of new.frames.items)));
+      }
+
+  -- the last line was taken back
+  pub IsSearch-back : (frame : Frame) → old.frames.items ≡ new.frames.items ++ frame ∷ [] → LeadsNowhere history (lines_of old.frames.items)
+      → new.counts ≡ set old.counts (cpu_named frame.line) (number_named frame.line) → new.from ≡ frame.from → new.above ≡ frame.above
+      → new.machine ≡ None → IsSearch history new
+  IsSearch-back frame frames nowhere counts from above none =
+      let lines = lines_of new.frames.items in
+      let longer : lines_of old.frames.items ≡ lines ++ frame.line ∷ [] = ap lines_of frames ∙ lines_of-push new.frames.items frame in
+      let were : AreFrames history (new.frames.items ++ frame ∷ []) = subst (λ (fs : List Frame). AreFrames history fs) frames is_search.frames in
+      let last = last_frame history new.frames.items frame were in
+      let of_line = last.is_frame.is_line in
+      let are : AreCounts (set old.counts (cpu_named frame.line) (number_named frame.line)) lines =
+      AreCounts-pop old.counts lines frame.line (cpu_named frame.line) (number_named frame.line)
+      (subst (λ (ls : List Line). AreCounts old.counts ls) longer is_search.counts) refl (few_cpus frame.line of_line) last.is_frame.next.numbered in
+      record {
+        frames = AreFrames-pop history new.frames.items frame were;
+        state = last.state;
+        reached = last.reached;
+        machine = subst (λ (m : Option Machine). IfSome m (λ x. Reaches history lines (state_of x))) (sym none) tt;
+        counts = subst (λ (cs : List ℕ). AreCounts cs lines) (sym counts) are;
+        tried = subst (λ (f : ℕ). Tried history lines f new.above) (sym from)
+            (subst (λ (a : Option ℕ). Tried history lines frame.from a) (sym above)
+            (last.is_frame.resumes (subst (λ (ls : List Line). LeadsNowhere history ls) longer nowhere)));
+      }
+
+-- lines that pass lead to a state by each machine that is behind them
+pub Reaches-machine : (history : History) (lines : List Line) (state other : State) → Reaches history lines state → Passes history lines other
+    → Reaches history lines other
+Reaches-machine history lines state other reached passes =
+    record { passes = passes; named = reached.named; first = reached.first; in_time = reached.in_time }
+
+-- no line
+pub IsSearch-nil : (history : History) (new : Search) → new.frames.items ≡ [] → new.counts ≡ 0 ∷ 0 ∷ 0 ∷ 0 ∷ 0 ∷ 0 ∷ 0 ∷ 0 ∷ [] → new.from ≡ 0
+    → new.above ≡ None → new.machine ≡ None → IsSearch history new
+IsSearch-nil history new frames counts from above none = record {
+  frames = subst (λ (fs : List Frame). AreFrames history fs) (sym frames) (λ i frame is. absurd (none-some frame is));
+  state = opening history.config;
+  reached = subst (λ (fs : List Frame). Reaches history (lines_of fs) (opening history.config)) (sym frames) (Reaches-nil history);
+  machine = subst (λ (m : Option Machine). IfSome m (λ x. Reaches history (lines_of new.frames.items) (state_of x))) (sym none) tt;
+  counts = subst (λ (cs : List ℕ). AreCounts cs (lines_of new.frames.items)) (sym counts)
+      (subst (λ (fs : List Frame). AreCounts (0 ∷ 0 ∷ 0 ∷ 0 ∷ 0 ∷ 0 ∷ 0 ∷ 0 ∷ []) (lines_of fs)) (sym frames) AreCounts-nil);
+  tried = subst (λ (f : ℕ). Tried history (lines_of new.frames.items) f new.above) (sym from)
+      (subst (λ (a : Option ℕ). Tried history (lines_of new.frames.items) 0 a) (sym above) (Tried-none history (lines_of new.frames.items)));
+}
+
+-- ---- what the next calls tell
+
+module _ (history : History) (is_history : IsHistory history) (search : Search) (is_search : IsSearch history search) where
+  -- no finished call is left
+  pub Whole-search : (least : ℕ) → IsLeast history.events search.counts 0 history.config.cpus least → 1000000 ≤ least
+      → IsLinearization history (lines_of search.frames.items)
+  Whole-search least is_least past =
+      IsLinearization-from_Reaches history (lines_of search.frames.items) is_search.state is_search.reached
+      (all_named history is_history (lines_of search.frames.items) is_search.state is_search.reached search.counts is_search.counts least is_least past)
+
+  -- one is, and no call is left to try
+  pub nowhere_left : (first : Choice) → IsNextCall history search.counts 0 first → rank_of first < 1000000 → (least : ℕ)
+      → IsLeast history.events search.counts search.from history.config.cpus least → 2 ^ 32 ≤ least
+      → LeadsNowhere history (lines_of search.frames.items)
+  nowhere_left first next below least is_least past =
+      let told = returned_first history.events first next.places below in
+      all_nowhere history is_history (lines_of search.frames.items) is_search.state is_search.reached search.counts is_search.counts search.from search.above
+      is_search.tried least is_least
+      (HasOpen-first history is_history (lines_of search.frames.items) is_search.state is_search.reached search.counts is_search.counts 0 first next
+      (rank_of first, told.0, told.1)) past
+
+  -- a call that was made by the first return can come next
+  pub soon_enough : (first choice : Choice) → IsLeast history.events search.counts 0 history.config.cpus (rank_of first) → (from : ℕ)
+      → IsNextCall history search.counts from choice → choice.places.called ≤ rank_of first
+      → ReturnBehind history.events (lines_of search.frames.items) choice.places.called
+  soon_enough first choice is_least from next early =
+      ReturnBehind-called history is_history (lines_of search.frames.items) is_search.state is_search.reached search.counts is_search.counts (rank_of first)
+      is_least choice.places.called choice.cpu choice.number next.places.called.0 next.places.called.1 early
+
+  -- one that was made behind it can't
+  pub Tried-late : (first choice : Choice) → IsNextCall history search.counts 0 first → rank_of first < 1000000
+      → IsNextCall history search.counts search.from choice
+      → IsLeast history.events search.counts search.from history.config.cpus (rank_of choice) → rank_of first < choice.places.called
+      → Tried history (lines_of search.frames.items) (rank_of choice + 1) None
+  Tried-late first choice is_first below next is_least late =
+      let told = returned_first history.events first is_first.places below in
+      Tried-passed history is_history (lines_of search.frames.items) is_search.state is_search.reached search.counts is_search.counts search.from search.above
+      is_search.tried choice next is_least
+      (too_late history is_history (lines_of search.frames.items) is_search.state is_search.reached search.counts is_search.counts 0 search.from first choice
+      is_first next (rank_of first) told.0 told.1 late)
+
+-- ---- what an attempt leads to
+
+module _ (history : History) (is_history : IsHistory history) (search : Search) (is_search : IsSearch history search) (choice : Choice) (next : IsNextCall history search.counts search.from choice) (is_least : IsLeast history.events search.counts search.from history.config.cpus (rank_of choice)) where
+  -- the call may be tried, with the ends that are left
+  pub MayTry-search : (state : State) → Reaches history (lines_of search.frames.items) state → (above : Option ℕ)
+      → ((bound : ℕ) → above ≡ Some bound → (search.above ≡ Some bound) × (rank_of choice ≡ search.from))
+      → MayTry history (lines_of search.frames.items) state choice above
+  MayTry-search state reached above left = record {
+    is_history = is_history;
+    reached = reached;
+    places = next.places;
+    numbered = next.numbered
+        ∙ is_search.counts.each choice.cpu (let most = is_history.config.most_cpus in let within = next.of_machine in omega (arith, within, most));
+    ended = λ end bound is within.
+        nowhere_unless history is_history (lines_of search.frames.items) state reached (Unfinished choice.cpu choice.number (ok (end ∷ []))) (λ is_next.
+        let held = left bound is in
+        let rank = rank_pending history.events choice.cpu choice.number choice.places next.places is_next.kind in
+        is_search.tried.ended choice.cpu choice.number end bound is_next.kind (sym rank ∙ held.1) held.0 within);
+  }
+
+  -- each line of the call leads nowhere
+  pub Tried-call : CallLeadsNowhere history (lines_of search.frames.items) choice.cpu choice.number
+      → Tried history (lines_of search.frames.items) (rank_of choice + 1) None
+  Tried-call nowhere =
+      Tried-passed history is_history (lines_of search.frames.items) is_search.state is_search.reached search.counts is_search.counts search.from search.above
+      is_search.tried choice next is_least nowhere
+
+  -- the line that was tried leads nowhere
+  pub Tried-frame : (frame : Frame) → IsAttempt history (lines_of search.frames.items) choice frame
+      → LeadsNowhere history (lines_of search.frames.items ++ frame.line ∷ [])
+      → Tried history (lines_of search.frames.items) frame.from frame.above
+  Tried-frame frame attempt nowhere = elim (attempt.left nowhere) [
+    | inl passed ↦
+        subst (λ (f : ℕ). Tried history (lines_of search.frames.items) f frame.above) (sym passed.from)
+        (subst (λ (a : Option ℕ). Tried history (lines_of search.frames.items) (rank_of choice + 1) a) (sym passed.above) (Tried-call passed.nowhere))
+    | inr ended ↦
+        subst (λ (f : ℕ). Tried history (lines_of search.frames.items) f frame.above) (sym ended.from)
+        (Tried-ended history is_history (lines_of search.frames.items) is_search.state is_search.reached search.counts is_search.counts search.from search.above
+        is_search.tried choice next is_least frame.above ended.nowhere)
+  ]
+
+  -- the machine refuses its reply
+  pub Tried-refused : (frame : Frame) (state : State) → IsAttempt history (lines_of search.frames.items) choice frame
+      → Reaches history (lines_of search.frames.items) state → IsRefused history.events state frame.line
+      → Tried history (lines_of search.frames.items) frame.from frame.above
+  Tried-refused frame state attempt reached refused =
+      Tried-frame frame attempt (nowhere_by history is_history (lines_of search.frames.items) state reached frame.line
+      (λ entry new is_entry step. absurd (refused entry new is_entry step)))
+
+  -- the machine gives it
+  pub Grows-given : (frame : Frame) (state new : State) → IsAttempt history (lines_of search.frames.items) choice frame
+      → ReturnBehind history.events (lines_of search.frames.items) choice.places.called
+      → IsGiven history.events frame.line choice.places.called state new → Grows history (lines_of search.frames.items) state frame.line new
+  Grows-given frame state new attempt soon given = record {
+    next = record {
+      known = (choice.places.called, given.command, given.is_called);
+      kind = attempt.kind;
+      numbered = attempt.numbered ∙ next.numbered ∙ is_search.counts.each choice.cpu (cpus choice.cpu next.of_machine)
+          ∙ ap (λ (c : ℕ). count_of c (lines_of search.frames.items)) (sym attempt.of_cpu);
+    };
+    called = choice.places.called;
+    command = given.command;
+    is_called = given.is_called;
+    soon = soon;
+    entry = given.entry;
+    is_entry = given.is_entry;
+    step = given.step;
+  }
+    where
+      cpus : (cpu : ℕ) → cpu < history.config.cpus → cpu < 8
+      cpus cpu within = let most = is_history.config.most_cpus in omega (arith, within, most)
+
+-- a call that is refused here makes the order longer, and changes nothing
+unfoldable pub Grows-refused : (history : History) → IsHistory history → (lines : List Line) (state : State) (counts : List ℕ) (choice : Choice) → AreCounts counts lines
+    → IsNextCall history counts 0 choice → ReturnBehind history.events lines choice.places.called → IsRefusedHere history state choice
+    → Grows history lines state (Keep choice.cpu choice.number) state
+Grows-refused history is_history lines state counts choice are next soon refused = record {
+  next = record {
+    known = (choice.places.called, refused.command, refused.is_called);
+    kind = (refused.place, refused.given, refused.is_returned);
+    numbered = next.numbered ∙ are.each choice.cpu (let most = is_history.config.most_cpus in let within = next.of_machine in omega (arith, within, most));
+  };
+  called = choice.places.called;
+  command = refused.command;
+  is_called = refused.is_called;
+  soon = soon;
+  entry = record { cpu = choice.cpu; command = refused.command; given = refused.given };
+  is_entry = record { cpu = refl; called = choice.places.called; is_called = refused.is_called; given = (refused.place, refused.is_returned) };
+  step = refused.step;
+}
+
+-- ---- what a search is after each way of a step
+
+module _ (history : History) (is_history : IsHistory history) (search : Search) (is_search : IsSearch history search) (choice : Choice) (machine : Machine) (reached : Reaches history (lines_of search.frames.items) (state_of machine)) (new : Search) where
+  -- a call that is refused here stands in the order
+  pub IsSearch-settled : (next : IsNextCall history search.counts 0 choice) (bound : ℕ) → choice.places.called ≤ bound → IsRefusedHere history (state_of machine) choice
+      → IsLeast history.events search.counts 0 history.config.cpus bound
+      → IsLonger search.frames.items search.counts (Some machine) choice
+      (record { line = Keep choice.cpu choice.number; from = 2 ^ 32 - 1; above = None }) new
+      → IsSearch history new
+  unfolding Grows-refused
+  IsSearch-settled next bound early refused is_least longer =
+      let lines = lines_of search.frames.items in
+      let soon = ReturnBehind-called history is_history lines (state_of machine) reached search.counts is_search.counts bound is_least choice.places.called
+      choice.cpu choice.number next.places.called.0 next.places.called.1 early in
+      let grows = Grows-refused history is_history lines (state_of machine) search.counts choice is_search.counts next soon refused in
+      let at = of_a_line history is_history choice next.places in
+      IsSearch-grown history is_history search new is_search (record { line = Keep choice.cpu choice.number; from = 2 ^ 32 - 1; above = None })
+      (state_of machine) (state_of machine) machine reached grows at
+      (λ nowhere. Tried-all history lines _ _ (nowhere_settled history is_history lines (state_of machine) reached choice.cpu choice.number grows refused.refusal nowhere))
+      longer.frames choice.cpu choice.number refl refl at.0 longer.counts longer.from longer.above longer.machine refl
+
+  module _ (next : IsNextCall history search.counts search.from choice) (is_least : IsLeast history.events search.counts search.from history.config.cpus (rank_of choice)) (frame : Frame) (attempt : IsAttempt history (lines_of search.frames.items) choice frame) where
+    -- a call that is given its reply stands in the order
+    pub IsSearch-given : (later : Machine) → ReturnBehind history.events (lines_of search.frames.items) choice.places.called
+        → IsGiven history.events frame.line choice.places.called (state_of machine) (state_of later)
+        → IsLonger search.frames.items search.counts (Some later) choice frame new → IsSearch history new
+    IsSearch-given later soon given longer =
+        let at = of_a_line history is_history choice next.places in
+        IsSearch-grown history is_history search new is_search frame (state_of machine) (state_of later) later reached
+        (Grows-given history is_history search is_search choice next is_least frame (state_of machine) (state_of later) attempt soon given)
+        attempt.is_line (Tried-frame history is_history search is_search choice next is_least frame attempt)
+        longer.frames choice.cpu choice.number attempt.of_cpu attempt.numbered at.0 longer.counts longer.from longer.above longer.machine refl
+
+    -- one that is refused it is left behind
+    pub IsSearch-refused : (later : Machine) → state_of later ≡ state_of machine → IsRefused history.events (state_of machine) frame.line
+        → new.frames.items ≡ search.frames.items → new.counts ≡ search.counts → new.machine ≡ Some later → new.from ≡ frame.from → new.above ≡ frame.above
+        → IsSearch history new
+    IsSearch-refused later kept refused frames counts held from above =
+        let tried = Tried-refused history is_history search is_search choice next is_least frame (state_of machine) attempt reached refused in
+        IsSearch-tried history is_history search new is_search frames counts
+        (subst (λ (m : Option Machine). IfSome m (λ x. Reaches history (lines_of search.frames.items) (state_of x))) (sym held)
+        (subst (Reaches history (lines_of search.frames.items)) (sym kept) reached))
+        (subst (λ (f : ℕ). Tried history (lines_of search.frames.items) f new.above) (sym from)
+        (subst (λ (a : Option ℕ). Tried history (lines_of search.frames.items) frame.from a) (sym above) tried))
+
+-- ---- bounds of a call that may come next
+
+pub rank_of_next : (history : History) → IsHistory history → (counts : List ℕ) (from : ℕ) (choice : Choice) → IsNextCall history counts from choice
+    → rank_of choice < 2 ^ 31
+rank_of_next history is_history counts from choice next =
+    rank_small history is_history choice next.places (of_a_line history is_history choice next.places).0
+
+pub number_of_next : (history : History) → IsHistory history → (counts : List ℕ) (from : ℕ) (choice : Choice) → IsNextCall history counts from choice
+    → choice.number < 1000000
+number_of_next history is_history counts from choice next = (of_a_line history is_history choice next.places).1
+
+-- whatever a step tells, it leaves a search
+pub IsSearch-continued : (history : History) (search : Search) (progress : Progress) → Continues progress history search → IsSearch history search
+IsSearch-continued history search Going is_search = is_search
+IsSearch-continued history search Whole is = is.0
+IsSearch-continued history search Exhausted is = is.0

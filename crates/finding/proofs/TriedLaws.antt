@@ -1,0 +1,246 @@
+-- What was tried behind an order, call by call in the order in which they are tried.
+use Rattle.std.proofs.Common.{◌≡◌, ℕ, ◌+◌, ◌^◌, ◌<◌, ◌≤◌, List, [], ◌∷◌, ◌++◌, inl, inr, length, get_or, Option, Some, None, refl, sym, ◌∙◌, ap, subst, arith, append_assoc}
+use Rattle.std.specs.List.{slice_get}
+use Rattle.std.specs.Option.{MatchOption}
+use Rattle.std.proofs.lemmas.Bool.{cases_lt}
+use Rattle.std.proofs.lemmas.Option.{none-some, slice_get_within}
+use Rattle.rmm_spec.specs.declared.command.Command.{Command}
+use Rattle.rmm_spec.specs.declared.event.Event.TheVariants.{Called, Returned}
+use Rattle.rmm_spec.specs.declared.line.Line.{Line}
+use Rattle.rmm_spec.specs.declared.line.Line.TheVariants.{Keep, Unfinished}
+use Rattle.rmm_spec.specs.declared.reply.Reply.{Reply}
+use Rattle.rmm_spec.specs.HistoryText.{History, IsHistory}
+use Rattle.rmm_spec.specs.Rows.{ok}
+use Rattle.rmm_spec.specs.State.{State}
+use Rattle.rmm_spec.specs.Linearization.{IsCalled, IsReturned, IsKnown, IsFinished, IsLinearization, cpu_named, number_named, ReturnsBefore}
+use Rattle.rmm_spec.proofs.Places.{call_is_event, finished_is_known}
+use Rattle.order_laws.specs.Order.{count_of, HasOpen, IsNext, LeadsNowhere, Reaches, ReturnBehind}
+use Rattle.order_laws.proofs.CallOrder.{finished_below, returns_in_order}
+use Rattle.order_laws.proofs.Nowhere.{nowhere_after, nowhere_past, nowhere_unless}
+use Rattle.finding.specs.Attempt.{EndsLeadNowhere}
+use Rattle.finding.specs.Choice.{pending_rank, rank_at, rank_of, least_of, IsNextCall, IsLeast}
+use Rattle.finding.specs.Search.{AreCounts}
+use Rattle.finding.specs.Tried.{Tried, CallLeadsNowhere}
+use Rattle.finding.specs.declared.choice.Choice.{Choice}
+
+-- nothing was tried yet
+pub Tried-none : (history : History) (lines : List Line) → Tried history lines 0 None
+Tried-none history lines = record {
+  returned = λ cpu number place given is_returned below. absurd (omega (arith, below));
+  pending = λ cpu number claimed pending below. absurd (omega (arith, below));
+  ended = λ cpu number end bound pending at is. absurd (none-some bound is);
+}
+
+-- where the lines lead nowhere, each line behind them does
+pub Tried-all : (history : History) (lines : List Line) (from : ℕ) (above : Option ℕ) → LeadsNowhere history lines → Tried history lines from above
+Tried-all history lines from above nowhere = record {
+  returned = λ cpu number place given is_returned below. behind (Keep cpu number);
+  pending = λ cpu number claimed pending below. behind (Unfinished cpu number claimed);
+  ended = λ cpu number end bound pending at is within. behind (Unfinished cpu number (ok (end ∷ [])));
+}
+  where
+    behind : (line : Line) → LeadsNowhere history (lines ++ line ∷ [])
+    behind line = record { none = λ more valid. nowhere.none (line ∷ more) (subst (IsLinearization history) (append_assoc lines (line ∷ []) more) valid) }
+
+module _ (history : History) (is_history : IsHistory history) (lines : List Line) (state : State) (reached : Reaches history lines state) (counts : List ℕ) (are_counts : AreCounts counts lines) where
+  -- a call is of one of the machine's CPUs
+  of_machine : (cpu number : ℕ) → IsKnown history.events cpu number → cpu < history.config.cpus
+  of_machine cpu number known = (call_is_event history known.0 cpu number known.1 is_history known.2).0
+
+  few_cpus : (cpu : ℕ) → cpu < history.config.cpus → cpu < 8
+  few_cpus cpu within = let most = is_history.config.most_cpus in omega (arith, within, most)
+
+  -- the count that is kept of a CPU
+  counted : (cpu : ℕ) → cpu < history.config.cpus → get_or counts cpu 0 ≡ count_of cpu lines
+  counted cpu within = are_counts.each cpu (few_cpus cpu within)
+
+  finished_of_machine : (cpu number : ℕ) → IsFinished history.events cpu number → cpu < history.config.cpus
+  finished_of_machine cpu number finished = of_machine cpu number (finished_is_known cpu number history.events (is_history.records cpu) finished)
+
+  -- a return stands in the history
+  return_within : (place cpu number : ℕ) (given : Reply) → IsReturned history.events place cpu number given → place < 1000000
+  return_within place cpu number given is_returned =
+      let within = slice_get_within history.events place (Returned cpu number given) is_returned in
+      let few = is_history.lines in
+      omega (arith, within, few)
+
+  module _ (from : ℕ) (above : Option ℕ) (tried : Tried history lines from above) (least : ℕ) (is_least : IsLeast history.events counts from history.config.cpus least) where
+    -- a finished call that is tried before the least one
+    pub before_returned : (cpu number place : ℕ) (given : Reply) → IsReturned history.events place cpu number given → place < least
+        → LeadsNowhere history (lines ++ Keep cpu number ∷ [])
+    before_returned cpu number place given is_returned below = elim (cases_lt place from) [
+      | inl early ↦ tried.returned cpu number place given is_returned early
+      | inr late ↦ nowhere_unless history is_history lines state reached (Keep cpu number) (λ next.
+          let within = of_machine cpu number next.known in
+          let numbered : number ≡ get_or counts cpu 0 = next.numbered ∙ sym (counted cpu within) in
+          let is_next : IsReturned history.events place cpu (get_or counts cpu 0) given =
+          subst (λ (n : ℕ). IsReturned history.events place cpu n given) numbered is_returned in
+          let no_sooner = is_least.returned cpu place given within is_next late in
+          absurd (omega (arith, no_sooner, below)))
+    ]
+
+    -- one that hasn't returned
+    pub before_pending : (cpu number : ℕ) (claimed : Reply) → ¬ IsFinished history.events cpu number → pending_rank cpu < least
+        → LeadsNowhere history (lines ++ Unfinished cpu number claimed ∷ [])
+    before_pending cpu number claimed pending below = elim (cases_lt (pending_rank cpu) from) [
+      | inl early ↦ tried.pending cpu number claimed pending early
+      | inr late ↦ nowhere_unless history is_history lines state reached (Unfinished cpu number claimed) (λ next.
+          let within = of_machine cpu number next.known in
+          let numbered : number ≡ get_or counts cpu 0 = next.numbered ∙ sym (counted cpu within) in
+          let is_next : IsKnown history.events cpu (get_or counts cpu 0) = subst (λ (n : ℕ). IsKnown history.events cpu n) numbered next.known in
+          let is_pending : ¬ IsFinished history.events cpu (get_or counts cpu 0) =
+          subst (λ (n : ℕ). ¬ IsFinished history.events cpu n) numbered pending in
+          let no_sooner = is_least.pending cpu within is_next is_pending late in
+          absurd (omega (arith, no_sooner, below)))
+    ]
+
+    -- no call is left to try
+    pub all_nowhere : HasOpen history.events lines → 2 ^ 32 ≤ least → LeadsNowhere history lines
+    all_nowhere is_open past = nowhere_after history is_history lines state reached is_open each
+      where
+        each : (line : Line) → IsNext history.events lines line → LeadsNowhere history (lines ++ line ∷ [])
+        each (Keep cpu number) next =
+            let finished = next.kind in
+            let within = return_within finished.0 cpu number finished.1 finished.2 in
+            before_returned cpu number finished.0 finished.1 finished.2 (omega (arith, past, within))
+        each (Unfinished cpu number claimed) next =
+            let within = few_cpus cpu (of_machine cpu number next.known) in
+            before_pending cpu number claimed next.kind (omega (arith, past, within))
+
+  module _ (from : ℕ) (above : Option ℕ) (tried : Tried history lines from above) (choice : Choice) (next : IsNextCall history counts from choice) (is_least : IsLeast history.events counts from history.config.cpus (rank_of choice)) where
+    -- the call that is tried at a finished call's rank is that call
+    returned_here : CallLeadsNowhere history lines choice.cpu choice.number → (cpu number place : ℕ) (given : Reply)
+        → IsReturned history.events place cpu number given → rank_of choice ≡ place → LeadsNowhere history (lines ++ Keep cpu number ∷ [])
+    returned_here nowhere cpu number place given is_returned = at choice.places.returned next.places.returned
+      where
+        at : (o : Option ℕ) → MatchOption o (¬ IsFinished history.events choice.cpu choice.number)
+            (λ p. (told : Reply) × IsReturned history.events p choice.cpu choice.number told)
+            → rank_at choice.cpu o ≡ place → LeadsNowhere history (lines ++ Keep cpu number ∷ [])
+        at None pending same =
+            let within = return_within place cpu number given is_returned in
+            absurd (omega (arith, within, same))
+        at (Some p) told same =
+            let both : Some (Returned cpu number given) ≡ Some (Returned choice.cpu choice.number told.0) =
+            sym is_returned ∙ ap (λ (q : ℕ). slice_get history.events q) (sym same) ∙ told.1 in
+            let of_cpu : cpu ≡ choice.cpu = cc in
+            let numbered : number ≡ choice.number = cc in
+            nowhere (Keep cpu number) of_cpu numbered (place, given, is_returned)
+
+    -- and so where it hasn't returned
+    pending_cpu : (cpu : ℕ) → rank_of choice ≡ pending_rank cpu → cpu ≡ choice.cpu
+    pending_cpu cpu = at choice.places.returned next.places.returned
+      where
+        at : (o : Option ℕ) → MatchOption o (¬ IsFinished history.events choice.cpu choice.number)
+            (λ p. (told : Reply) × IsReturned history.events p choice.cpu choice.number told)
+            → rank_at choice.cpu o ≡ pending_rank cpu → cpu ≡ choice.cpu
+        at None pending same = omega (arith, same)
+        at (Some p) told same =
+            let within = return_within p choice.cpu choice.number told.0 told.1 in
+            absurd (omega (arith, within, same))
+
+    -- a next call of the CPU is the choice
+    pending_here : (cpu number : ℕ) (claimed : Reply) → cpu ≡ choice.cpu
+        → (number ≡ choice.number → LeadsNowhere history (lines ++ Unfinished cpu number claimed ∷ []))
+        → LeadsNowhere history (lines ++ Unfinished cpu number claimed ∷ [])
+    pending_here cpu number claimed of_cpu nowhere =
+        nowhere_unless history is_history lines state reached (Unfinished cpu number claimed) (λ is_next.
+        let within = of_machine cpu number is_next.known in
+        let numbered : number ≡ choice.number =
+        is_next.numbered ∙ sym (counted cpu within) ∙ ap (λ (c : ℕ). get_or counts c 0) of_cpu ∙ sym next.numbered in
+        nowhere numbered)
+
+    -- each line of the call leads nowhere
+    pub Tried-passed : CallLeadsNowhere history lines choice.cpu choice.number → Tried history lines (rank_of choice + 1) None
+    Tried-passed nowhere = record {
+      returned = λ cpu number place given is_returned below. elim (cases_lt place (rank_of choice)) [
+        | inl before ↦ before_returned from above tried (rank_of choice) is_least cpu number place given is_returned before
+        | inr at ↦ returned_here nowhere cpu number place given is_returned (omega (arith, at, below))
+      ];
+      pending = λ cpu number claimed pending below. elim (cases_lt (pending_rank cpu) (rank_of choice)) [
+        | inl before ↦ before_pending from above tried (rank_of choice) is_least cpu number claimed pending before
+        | inr at ↦
+            let of_cpu = pending_cpu cpu (omega (arith, at, below)) in
+            pending_here cpu number claimed of_cpu (λ numbered. nowhere (Unfinished cpu number claimed) of_cpu numbered pending)
+      ];
+      ended = λ cpu number end bound pending at is. absurd (none-some bound is);
+    }
+
+    -- each that isn't below the bound leads nowhere
+    pub Tried-ended : (bound : Option ℕ) → EndsLeadNowhere history lines choice bound → Tried history lines (rank_of choice) bound
+    Tried-ended bound nowhere = record {
+      returned = λ cpu number place given is_returned before.
+          before_returned from above tried (rank_of choice) is_least cpu number place given is_returned before;
+      pending = λ cpu number claimed pending before.
+          before_pending from above tried (rank_of choice) is_least cpu number claimed pending before;
+      ended = λ cpu number end least_end pending at is within.
+          let of_cpu = pending_cpu cpu (sym at) in
+          pending_here cpu number (ok (end ∷ [])) of_cpu (λ numbered.
+          subst (λ (c : ℕ). LeadsNowhere history (lines ++ Unfinished c number (ok (end ∷ [])) ∷ [])) (sym of_cpu)
+          (subst (λ (n : ℕ). LeadsNowhere history (lines ++ Unfinished choice.cpu n (ok (end ∷ [])) ∷ [])) (sym numbered)
+          (nowhere end least_end is within)));
+    }
+
+  -- each open call returned at the least rank or behind it
+  open_late : (least : ℕ) → IsLeast history.events counts 0 history.config.cpus least → (cpu number returned : ℕ) (given : Reply)
+      → IsReturned history.events returned cpu number given → count_of cpu lines ≤ number → least ≤ returned
+  open_late least is_least cpu number returned given is_returned is_open =
+      let within = finished_of_machine cpu number (returned, given, is_returned) in
+      let first = finished_below history is_history cpu (count_of cpu lines) number is_open (returned, given, is_returned) in
+      let below = returns_in_order history is_history cpu (count_of cpu lines) number first.0 returned first.1 given is_open first.2 is_returned in
+      let is_next : IsReturned history.events first.0 cpu (get_or counts cpu 0) first.1 =
+      subst (λ (n : ℕ). IsReturned history.events first.0 cpu n first.1) (sym (counted cpu within)) first.2 in
+      let no_sooner = is_least.returned cpu first.0 first.1 within is_next (omega arith) in
+      omega (arith, below, no_sooner)
+
+  -- a call that was made before that can come next
+  pub ReturnBehind-called : (least : ℕ) → IsLeast history.events counts 0 history.config.cpus least → (called cpu number : ℕ) (command : Command)
+      → IsCalled history.events called cpu number command → called ≤ least → ReturnBehind history.events lines called
+  ReturnBehind-called least is_least called cpu number command is_called early = λ other other_number returned given is_returned is_open.
+      let late = open_late least is_least other other_number returned given is_returned is_open in
+      elim (cases_lt called returned) [
+        | inl before ↦ before
+        | inr after ↦
+            let at : called ≡ returned = omega (arith, after, late, early) in
+            let both : Some (Called cpu number command) ≡ Some (Returned other other_number given) =
+            sym is_called ∙ ap (λ (p : ℕ). slice_get history.events p) at ∙ is_returned in
+            absurd (let bad : ⊥ = cc in bad)
+      ]
+
+  -- no finished call is open
+  pub all_named : (least : ℕ) → IsLeast history.events counts 0 history.config.cpus least → 1000000 ≤ least
+      → (cpu number : ℕ) → IsFinished history.events cpu number → number < count_of cpu lines
+  all_named least is_least past cpu number finished = elim (cases_lt number (count_of cpu lines)) [
+    | inl below ↦ below
+    | inr is_open ↦
+        let late = open_late least is_least cpu number finished.0 finished.1 finished.2 is_open in
+        let within = return_within finished.0 cpu number finished.1 finished.2 in
+        absurd (omega (arith, past, late, within))
+  ]
+
+  -- a finished next call is open
+  pub HasOpen-first : (from : ℕ) (choice : Choice) → IsNextCall history counts from choice → IsFinished history.events choice.cpu choice.number
+      → HasOpen history.events lines
+  HasOpen-first from choice next finished =
+      let at : choice.number ≡ count_of choice.cpu lines = next.numbered ∙ counted choice.cpu next.of_machine in
+      record { cpu = choice.cpu; number = choice.number; finished = finished; unnamed = omega (arith, at) }
+
+  -- an open call returned before the choice was made
+  pub too_late : (first_from from : ℕ) (first choice : Choice) → IsNextCall history counts first_from first → IsNextCall history counts from choice
+      → (returned : ℕ) (given : Reply) → IsReturned history.events returned first.cpu first.number given → returned < choice.places.called
+      → CallLeadsNowhere history lines choice.cpu choice.number
+  too_late first_from from first choice is_first next returned given is_returned before line of_cpu numbered kind =
+      let at : first.number ≡ count_of first.cpu lines = is_first.numbered ∙ counted first.cpu is_first.of_machine in
+      let called = next.places.called in
+      let returns : ReturnsBefore history.events first.cpu first.number choice.cpu choice.number = record {
+        returned = returned;
+        given = given;
+        is_returned = is_returned;
+        called = choice.places.called;
+        command = called.0;
+        is_called = called.1;
+        before = before;
+      } in
+      nowhere_past history is_history lines state reached line first.cpu first.number (returned, given, is_returned)
+      (λ below. omega (arith, below, at))
+      (subst (λ (n : ℕ). ReturnsBefore history.events first.cpu first.number (cpu_named line) n) (sym numbered)
+      (subst (λ (c : ℕ). ReturnsBefore history.events first.cpu first.number c choice.number) (sym of_cpu) returns))

@@ -1,0 +1,6 @@
+-- The steps so far.
+use Rattle.finding.specs.Search.{IsSearch}
+use Rattle.finding.proofs.longest.greatest_length.Given as goal
+
+abbrev pub invariant-loop-step : goal.invariant-loop-step
+invariant-loop-step l = IsSearch l.history.recorded l.search

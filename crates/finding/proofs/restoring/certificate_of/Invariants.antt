@@ -1,0 +1,7 @@
+-- The lines so far.
+use Rattle.std.proofs.Common.{◌≡◌, take}
+use Rattle.finding.specs.Search.{lines_of}
+use Rattle.finding.proofs.restoring.certificate_of.Given as goal
+
+abbrev pub invariant-loop-frame : goal.invariant-loop-frame
+invariant-loop-frame l = l.certificate.lines ≡ lines_of (take l.frame-index l.frames)

@@ -1,0 +1,16 @@
+-- The last line taken back, where there is one.
+use Rattle.std.proofs.Common.{◌∙◌, refl, sym, ap, arith}
+use Rattle.finding.specs.Search.{lines_of}
+use Rattle.finding.proofs.Searches.{IsSearch-back, few_of_frame}
+use Rattle.finding.proofs.search.Search.take_back.Goals as goal
+
+pub bounds-self-cpu : goal.bounds-self-cpu
+bounds-self-cpu c =
+    let few = few_of_frame c.args.history.now.recorded c.args.self.now c.requires.is_search c.pop.new.self.items c.in-Some.frame
+    c.in-Some.ensures.items in
+    omega (arith, few, c.name_of-cpu.ensures.cpu)
+
+pub returns : goal.returns
+returns c =
+    IsSearch-back c.args.history.now.recorded c.well_formed-2.ensures c.args.self.now _ c.requires.is_search c.in-Some.frame c.in-Some.ensures.items
+    c.requires.nowhere (rw (c.name_of-cpu.ensures.cpu, c.name_of-cpu.ensures.number) refl) refl refl refl

@@ -1,0 +1,85 @@
+-- The next line of a call: none is left, or the machine gives it its reply, or refuses it.
+use Rattle.std.proofs.Common.{refl, sym}
+use Rattle.std.proofs.lemmas.Result.{on_ok_weaker}
+use Rattle.finding.specs.Search.{lines_of}
+use Rattle.spec_machine.specs.View.{state_of}
+use Rattle.finding.proofs.Searches.{IsCertificate-search, IsSearch-given, IsSearch-refused, IsSearch-tried, MayTry-search, Tried-call, number_of_next, rank_of_next}
+use Rattle.finding.proofs.search.Search.try_choice.Goals as goal
+
+pub machine_at-requires-clause-certificate : goal.machine_at-requires-clause-certificate
+machine_at-requires-clause-certificate c =
+    rw c.deref.ensures.value (IsCertificate-search c.args.history.now.recorded c.well_formed-2.ensures c.args.self.now c.requires.is_search)
+
+pub pass-requires : goal.pass-requires
+pass-requires c =
+    rank_of_next c.args.history.now.recorded c.well_formed-2.ensures c.args.self.now.counts c.args.self.now.from c.args.choice c.requires.next
+
+pub returns-in_default : goal.returns-in_default
+returns-in_default c =
+    let history = c.args.history.now.recorded in
+    let search = c.args.self.now in
+    let wf = c.well_formed-2.ensures in
+    let reached = rw c.deref.ensures.value at c.in_ok-machine.ensures in
+    let may = MayTry-search history wf search c.requires.is_search c.args.choice c.requires.next c.requires.least (state_of c.in_ok-machine.machine) reached
+    c.above_for-above.result c.above_for-above.ensures in
+    rw c.pass.ensures
+    (IsSearch-tried history wf search _ c.requires.is_search refl refl reached
+    (Tried-call history wf search c.requires.is_search c.args.choice c.requires.next c.requires.least (c.in_default.ensures (lines_of search.frames.items) may)))
+
+pub offer-requires-clause-of_cpu : goal.offer-requires-clause-of_cpu
+offer-requires-clause-of_cpu c =
+    let history = c.args.history.now.recorded in
+    let search = c.args.self.now in
+    let reached = rw c.deref.ensures.value at c.in_ok-machine.ensures in
+    (c.in-Some.ensures (lines_of search.frames.items)
+    (MayTry-search history c.well_formed-2.ensures search c.requires.is_search c.args.choice c.requires.next c.requires.least (state_of c.in_ok-machine.machine)
+    reached c.above_for-above.result c.above_for-above.ensures)).of_cpu
+
+pub offer-requires-clause-numbered : goal.offer-requires-clause-numbered
+offer-requires-clause-numbered c =
+    let history = c.args.history.now.recorded in
+    let search = c.args.self.now in
+    let reached = rw c.deref.ensures.value at c.in_ok-machine.ensures in
+    (c.in-Some.ensures (lines_of search.frames.items)
+    (MayTry-search history c.well_formed-2.ensures search c.requires.is_search c.args.choice c.requires.next c.requires.least (state_of c.in_ok-machine.machine)
+    reached c.above_for-above.result c.above_for-above.ensures)).numbered
+
+pub offer-requires-clause-kind : goal.offer-requires-clause-kind
+offer-requires-clause-kind c =
+    let history = c.args.history.now.recorded in
+    let search = c.args.self.now in
+    let reached = rw c.deref.ensures.value at c.in_ok-machine.ensures in
+    (c.in-Some.ensures (lines_of search.frames.items)
+    (MayTry-search history c.well_formed-2.ensures search c.requires.is_search c.args.choice c.requires.next c.requires.least (state_of c.in_ok-machine.machine)
+    reached c.above_for-above.result c.above_for-above.ensures)).kind
+
+pub push-requires-clause-number : goal.push-requires-clause-number
+push-requires-clause-number c =
+    number_of_next c.args.history.now.recorded c.well_formed-2.ensures c.args.self.now.counts c.args.self.now.from c.args.choice c.requires.next
+
+pub returns-then-given : goal.returns-then-given
+returns-then-given c =
+    let history = c.args.history.now.recorded in
+    let search = c.args.self.now in
+    let machine = c.in_ok-machine.machine in
+    let reached = rw c.deref.ensures.value at c.in_ok-machine.ensures in
+    let given = rw c.if-given.true at c.in_ok-given.ensures.given in
+    let attempt = c.in-Some.ensures (lines_of search.frames.items)
+    (MayTry-search history c.well_formed-2.ensures search c.requires.is_search c.args.choice c.requires.next c.requires.least (state_of machine)
+    reached c.above_for-above.result c.above_for-above.ensures) in
+    on_ok_weaker c.push.result (λ longer.
+    IsSearch-given history c.well_formed-2.ensures search c.requires.is_search c.args.choice machine reached c.push.new.self c.requires.next c.requires.least
+    c.in-Some.frame attempt c.offer.new.machine c.requires.soon given longer) c.push.ensures
+
+pub returns : goal.returns
+returns c =
+    let history = c.args.history.now.recorded in
+    let search = c.args.self.now in
+    let machine = c.in_ok-machine.machine in
+    let reached = rw c.deref.ensures.value at c.in_ok-machine.ensures in
+    let refused = rw c.if-given.false at c.in_ok-given.ensures.given in
+    let attempt = c.in-Some.ensures (lines_of search.frames.items)
+    (MayTry-search history c.well_formed-2.ensures search c.requires.is_search c.args.choice c.requires.next c.requires.least (state_of machine)
+    reached c.above_for-above.result c.above_for-above.ensures) in
+    IsSearch-refused history c.well_formed-2.ensures search c.requires.is_search c.args.choice machine reached _ c.requires.next c.requires.least
+    c.in-Some.frame attempt c.offer.new.machine (c.in_ok-given.ensures.kept c.if-given.false) refused refl refl refl refl refl

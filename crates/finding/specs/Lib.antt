@@ -1,0 +1,6 @@
+pub mod Choice
+pub mod Ends
+pub mod Tried
+pub mod Attempt
+pub mod Search
+pub mod Found

@@ -1,0 +1,85 @@
+-- What a search holds.
+use Rattle.std.specs.Prelude.{◌≡◌, ℕ, ◌<◌, List, [], ◌∷◌, ◌++◌, map, take, length, slice_get, slice_index, slice_set, Some, None, Option, IfSome, ◌+◌}
+use Rattle.rmm_spec.specs.declared.command.Command.{Command}
+use Rattle.rmm_spec.specs.declared.event.Event.{Event}
+use Rattle.rmm_spec.specs.declared.line.Line.{Line}
+use Rattle.rmm_spec.specs.declared.reply.Reply.{Reply}
+use Rattle.rmm_spec.specs.Run.{JournalEntry}
+use Rattle.rmm_spec.specs.Step.{Step}
+use Rattle.rmm_spec.specs.HistoryText.{History}
+use Rattle.rmm_spec.specs.CertificateText.{IsLine}
+use Rattle.rmm_spec.specs.State.{State}
+use Rattle.rmm_spec.specs.Linearization.{IsCalled, IsReturned, IsEntryOf, IsLinearization, cpu_named, number_named}
+use Rattle.spec_machine.specs.View.{state_of}
+use Rattle.spec_machine.specs.declared.machine.Machine.{Machine}
+use Rattle.order_laws.specs.Order.{IsNext, IsRefusal, LeadsNowhere, Reaches, count_of}
+use Rattle.finding.specs.Tried.{Tried}
+use Rattle.finding.specs.declared.choice.Choice.{Choice}
+use Rattle.finding.specs.declared.frame.Frame.{Frame}
+use Rattle.finding.specs.declared.search.Search.{Search}
+use Rattle.finding.specs.declared.search.Progress.{Progress}
+use Rattle.finding.specs.declared.search.Progress.TheVariants as progress
+
+abbrev pub lines_of : List Frame → List Line
+lines_of frames = map (λ (frame : Frame). frame.line) frames
+
+-- the line can come next behind the lines, and has a text; where it leads nowhere, what is left to try is known
+pub record IsFrame (history : History) (before : List Line) (frame : Frame) : Type 0 where
+  pub is_line : IsLine frame.line
+  pub next : IsNext history.events before frame.line
+  pub resumes : LeadsNowhere history (before ++ frame.line ∷ []) → Tried history before frame.from frame.above
+
+-- a frame among others: some state is reached by the lines before it
+pub record StandsAt (history : History) (before : List Line) (frame : Frame) : Type 0 where
+  pub state : State
+  pub reached : Reaches history before state
+  pub is_frame : IsFrame history before frame
+
+abbrev pub AreFrames : History → List Frame → Type 0
+AreFrames history frames =
+    (i : ℕ) (frame : Frame) → slice_get frames i ≡ Some frame → StandsAt history (lines_of (take i frames)) frame
+
+-- how many calls of each CPU the lines name
+pub record AreCounts (counts : List ℕ) (lines : List Line) : Type 0 where
+  pub size : length counts ≡ 8
+  pub each : (cpu : ℕ) → cpu < 8 → slice_index counts cpu ≡ count_of cpu lines
+
+pub record IsSearch (history : History) (search : Search) : Type 0 where
+  pub frames : AreFrames history search.frames.items
+  pub state : State
+  pub reached : Reaches history (lines_of search.frames.items) state
+  pub machine : IfSome search.machine (λ machine. Reaches history (lines_of search.frames.items) (state_of machine))
+  pub counts : AreCounts search.counts (lines_of search.frames.items)
+  pub tried : Tried history (lines_of search.frames.items) search.from search.above
+
+-- the search has one line more, behind which nothing was tried
+pub record IsLonger (old_frames : List Frame) (old_counts : List ℕ) (held : Option Machine) (choice : Choice) (frame : Frame) (new : Search) : Type 0 where
+  pub frames : new.frames.items ≡ old_frames ++ frame ∷ []
+  pub counts : new.counts ≡ slice_set old_counts choice.cpu (choice.number + 1)
+  pub from : new.from ≡ 0
+  pub above : new.above ≡ None
+  pub machine : new.machine ≡ held
+
+-- the call has returned with a refusal that the specification gives it in the state
+pub record IsRefusedHere (history : History) (state : State) (choice : Choice) : Type 0 where
+  pub place : ℕ
+  pub given : Reply
+  pub is_returned : IsReturned history.events place choice.cpu choice.number given
+  pub refusal : IsRefusal given
+  pub command : Command
+  pub is_called : IsCalled history.events choice.places.called choice.cpu choice.number command
+  pub step : Step state choice.cpu command given state
+
+-- the machine gives the one commit that the line claims
+pub record IsGiven (events : List Event) (line : Line) (called : ℕ) (old new : State) : Type 0 where
+  pub command : Command
+  pub is_called : IsCalled events called (cpu_named line) (number_named line) command
+  pub entry : JournalEntry
+  pub is_entry : IsEntryOf events line entry
+  pub step : Step old entry.cpu entry.command entry.given new
+
+-- what a step leaves
+abbrev pub Continues : Progress → History → Search → Type 0
+Continues progress.Going history search = IsSearch history search
+Continues progress.Whole history search = IsSearch history search × IsLinearization history (lines_of search.frames.items)
+Continues progress.Exhausted history search = IsSearch history search × LeadsNowhere history []

@@ -1,0 +1,70 @@
+//! How far an order gets.
+
+ghost use Rattle.std.specs.Prelude.{IfOk, OnOk};
+ghost use Rattle.rmm_spec.specs.FirstFault.{Passes};
+ghost use Rattle.rmm_spec.specs.State.{State};
+ghost use Rattle.finding.specs.Search.{IsSearch};
+
+use crate::search::{Progress, Search};
+use certificate::Certificate;
+use history::History;
+use std::alloc::{AllocError, Global};
+use std::cmp::max;
+
+/// The longest order that a search of so many steps begins, and the first of that length: its lines pass.
+pub fn longest_order(
+    alloc: Global,
+    history: &History,
+    limit: u64,
+) -> Result<Certificate, AllocError>
+    ensures { IfOk result (λ certificate. (state : State) × Passes history.now.recorded certificate.lines state) }
+{
+    let most = greatest_length(alloc, history, limit)?;
+    let mut search = Search::new(alloc, history);
+    go_until(&mut search, alloc, history, limit, most)?;
+    search.certificate(alloc, history)
+}
+
+/// How many lines the longest order has that a search of so many steps begins.
+fn greatest_length(alloc: Global, history: &History, limit: u64) -> Result<usize, AllocError> {
+    let mut search = Search::new(alloc, history);
+    let mut most = 0;
+    for _step in 0..limit {
+        if !goes_on(&mut search, alloc, history)? {
+            break;
+        }
+        most = max(most, search.len());
+    }
+    Ok(most)
+}
+
+/// Takes so many steps at most, until the order has so many lines.
+fn go_until(
+    search: &mut Search,
+    alloc: Global,
+    history: &History,
+    limit: u64,
+    most: usize,
+) -> Result<(), AllocError>
+    requires { IsSearch history.now.recorded search.old }
+    ensures { OnOk result (IsSearch history.now.recorded search.new) }
+{
+    for _step in 0..limit {
+        if search.len() == most {
+            return Ok(());
+        }
+        if !goes_on(search, alloc, history)? {
+            return Ok(());
+        }
+    }
+    Ok(())
+}
+
+/// Takes a step, and tells whether there may be another.
+fn goes_on(search: &mut Search, alloc: Global, history: &History) -> Result<bool, AllocError>
+    requires { IsSearch history.now.recorded search.old }
+    ensures { OnOk result (IsSearch history.now.recorded search.new) }
+{
+    let progress = search.step(alloc, history)?;
+    Ok(matches!(progress, Progress::Going))
+}

@@ -1,0 +1,278 @@
+//! An order that is begun.
+
+ghost use Rattle.std.specs.Prelude.{◌≡◌, ℕ, ◌+◌, ◌^◌, ◌<◌, [], ◌++◌, ◌∷◌, slice_set, false, Some, None, IfOk, OnOk};
+ghost use Rattle.std.specs.Bool.{MatchBool};
+ghost use Rattle.rmm_spec.specs.FirstFault.{IsRefused};
+ghost use Rattle.rmm_spec.specs.Linearization.{IsFinished, IsOfItsKind, IsReplyOf, IsReturned, cpu_named, number_named};
+ghost use Rattle.rmi_view.specs.Seen.{reply_seen};
+ghost use Rattle.history.specs.Calls.{ArePlacesOf};
+ghost use Rattle.order_laws.specs.Order.{LeadsNowhere, Reaches, ReturnBehind};
+ghost use Rattle.finding.specs.Choice.{IsLeast, IsNextCall, rank_of};
+ghost use Rattle.finding.specs.Search.{IsGiven, lines_of};
+ghost use Rattle.spec_machine.specs.View.{state_of};
+
+use crate::attempt::attempt;
+use crate::choice::{Choice, PENDING, next_choice, rank};
+use crate::frame::{Frame, name_of};
+use crate::refused::refused_choice;
+use crate::restoring::{certificate_of, machine_at};
+use certificate::Certificate;
+use history::History;
+use rmi_view::ReplyRef;
+use rmm_spec::Line;
+use spec_machine::Machine;
+use std::alloc::{AllocError, Global};
+
+/// The lines of an order that is begun, what is left to try behind them, and how many calls of each CPU stand there. The machine
+/// behind them is kept until a line is taken back.
+#[derive(Drop)]
+pub(crate) struct Search {
+    pub(crate) frames: Vec<Frame>,
+    pub(crate) counts: [u32; 8],
+    pub(crate) from: u32,
+    pub(crate) above: Option<u64>,
+    pub(crate) machine: Option<Machine>,
+    // no call was tried behind these lines yet
+    pub(crate) fresh: bool,
+}
+
+/// How a search goes on.
+#[derive(Clone, Copy)]
+pub(crate) enum Progress {
+    Going,
+    /// The order is a linearization.
+    Whole,
+    /// There is none.
+    Exhausted,
+}
+
+impl Search {
+    ghost use Rattle.finding.specs.Search.{Continues, IsLonger, IsSearch};
+
+    /// No line yet.
+    pub(crate) fn new(alloc: Global, history: &History) -> Search
+        ensures { IsSearch history.now.recorded result }
+    {
+        history.well_formed();
+        Search {
+            frames: Vec::new(alloc),
+            counts: [0; 8],
+            from: 0,
+            above: None,
+            machine: None,
+            fresh: true,
+        }
+    }
+
+    /// How many lines there are.
+    pub(crate) fn len(&self) -> usize {
+        self.frames.len()
+    }
+
+    /// The certificate of the lines.
+    pub(crate) fn certificate(
+        &self,
+        alloc: Global,
+        history: &History,
+    ) -> Result<Certificate, AllocError>
+        requires { IsSearch history.now.recorded self.now }
+        ensures { IfOk result (λ certificate. certificate.lines ≡ lines_of self.now.frames.items) }
+    {
+        history.well_formed();
+        certificate_of(alloc, &self.frames)
+    }
+
+    /// Tries one line, or takes one back.
+    pub(crate) fn step(&mut self, alloc: Global, history: &History) -> Result<Progress, AllocError>
+        requires { IsSearch history.now.recorded self.old }
+        ensures { IfOk result (λ progress. Continues progress history.now.recorded self.new) }
+    {
+        history.well_formed();
+        let Some(first) = next_choice(history, &self.counts, 0) else {
+            return Ok(Progress::Whole);
+        };
+        let bound = rank(&first);
+        if bound >= PENDING {
+            return Ok(Progress::Whole);
+        }
+        if self.fresh {
+            self.settle(alloc, history, bound)?;
+            return Ok(Progress::Going);
+        }
+        let Some(choice) = next_choice(history, &self.counts, self.from) else {
+            return Ok(self.take_back(history));
+        };
+        if bound < choice.places.called {
+            self.pass(choice);
+            return Ok(Progress::Going);
+        }
+        self.try_choice(alloc, history, choice)?;
+        Ok(Progress::Going)
+    }
+
+    /// Goes on behind a call that can't come next.
+    fn pass(&mut self, choice: Choice)
+        requires { rank_of choice < 2 ^ 31 }
+        ensures { self.new ≡ record self.old { from = rank_of choice + 1; above = None } }
+    {
+        self.from = rank(&choice) + 1;
+        self.above = None;
+    }
+
+    /// Takes the last line back, and goes on behind it.
+    fn take_back(&mut self, history: &History) -> Progress
+        requires is_search { IsSearch history.now.recorded self.old }
+        requires nowhere { LeadsNowhere history.now.recorded (lines_of self.old.frames.items) }
+        ensures { Continues result history.now.recorded self.new }
+    {
+        history.well_formed();
+        let Some(frame) = self.frames.pop() else {
+            return Progress::Exhausted;
+        };
+        let (cpu, number) = name_of(&frame.line);
+        self.counts[cpu as usize] = number;
+        self.from = frame.from;
+        self.above = frame.above;
+        self.machine = None;
+        self.fresh = false;
+        Progress::Going
+    }
+
+    /// Makes the order one line longer by a call that was refused, where the specification refuses it here. That changes nothing, so
+    /// that nothing else need be tried.
+    fn settle(&mut self, alloc: Global, history: &History, bound: u32) -> Result<(), AllocError>
+        requires is_search { IsSearch history.now.recorded self.old }
+        requires least { IsLeast history.now.recorded.events self.old.counts 0 history.now.recorded.config.cpus bound }
+        ensures { OnOk result (IsSearch history.now.recorded self.new) }
+    {
+        history.well_formed();
+        let machine = machine_at(alloc, history, &self.frames, self.machine.take())?;
+        let found = refused_choice(history, &machine, &self.counts, bound);
+        self.machine = Some(machine);
+        let Some(choice) = found else {
+            self.fresh = false;
+            return Ok(());
+        };
+        let frame = Frame {
+            line: Line::Keep {
+                cpu: choice.cpu,
+                number: choice.number,
+            },
+            from: u32::MAX,
+            above: None,
+        };
+        self.push(choice, frame)
+    }
+
+    /// The ends that are left to try for a call.
+    fn above_for(&self, choice: Choice) -> Option<u64>
+        ensures { (above : ℕ) → result ≡ Some above → (self.now.above ≡ Some above) × (rank_of choice ≡ self.now.from) }
+    {
+        if rank(&choice) == self.from {
+            self.above
+        } else {
+            None
+        }
+    }
+
+    /// Tries the next line of a call.
+    fn try_choice(
+        &mut self,
+        alloc: Global,
+        history: &History,
+        choice: Choice,
+    ) -> Result<(), AllocError>
+        requires is_search { IsSearch history.now.recorded self.old }
+        requires next { IsNextCall history.now.recorded self.old.counts self.old.from choice }
+        requires least { IsLeast history.now.recorded.events self.old.counts self.old.from history.now.recorded.config.cpus (rank_of choice) }
+        requires soon { ReturnBehind history.now.recorded.events (lines_of self.old.frames.items) choice.places.called }
+        ensures { OnOk result (IsSearch history.now.recorded self.new) }
+    {
+        history.well_formed();
+        let above = self.above_for(choice);
+        let mut machine = machine_at(alloc, history, &self.frames, self.machine.take())?;
+        let Some(frame) = attempt(history, &machine, choice, above) else {
+            self.machine = Some(machine);
+            self.pass(choice);
+            return Ok(());
+        };
+        let given = offer(&mut machine, history, choice, &frame.line)?;
+        self.machine = Some(machine);
+        if given {
+            return self.push(choice, frame);
+        }
+        self.from = frame.from;
+        self.above = frame.above;
+        Ok(())
+    }
+
+    /// Makes the order one line longer.
+    fn push(&mut self, choice: Choice, frame: Frame) -> Result<(), AllocError>
+        requires cpu { choice.cpu < 8 }
+        requires number { choice.number < 1000000 }
+        ensures { OnOk result (IsLonger self.old.frames.items self.old.counts self.old.machine choice frame self.new) }
+    {
+        self.frames.push(frame)?;
+        self.counts[choice.cpu as usize] = choice.number + 1;
+        self.from = 0;
+        self.above = None;
+        self.fresh = true;
+        Ok(())
+    }
+}
+
+/// Whether the machine gives the call its reply: the recorded one, or the one that the line claims.
+fn offer(
+    machine: &mut Machine,
+    history: &History,
+    choice: Choice,
+    line: &Line,
+) -> Result<bool, AllocError>
+    requires places { ArePlacesOf history.now.recorded.events choice.cpu choice.number choice.places }
+    requires of_cpu { cpu_named line.now ≡ choice.cpu }
+    requires numbered { number_named line.now ≡ choice.number }
+    requires kind { IsOfItsKind history.now.recorded.events line.now }
+    ensures given { IfOk result (λ given. MatchBool given
+        (IsGiven history.now.recorded.events line.now choice.places.called (state_of machine.old) (state_of machine.new))
+        (IsRefused history.now.recorded.events (state_of machine.old) line.now)) }
+    ensures kept { IfOk result (λ given. given ≡ false → state_of machine.new ≡ state_of machine.old) }
+{
+    history.well_formed();
+    let Some(command) = history.command_at(choice.places.called as usize) else {
+        unreachable!()
+    };
+    let reply = reply_of(history, choice, line);
+    let given = machine.offer_seen(choice.cpu, command, reply)?;
+    Ok(given)
+}
+
+/// The reply of a line: the recorded one, or the one that it claims.
+fn reply_of<'a>(history: &'a History, choice: Choice, line: &'a Line) -> ReplyRef<'a>
+    requires places { ArePlacesOf history.now.recorded.events choice.cpu choice.number choice.places }
+    requires of_cpu { cpu_named line.now ≡ choice.cpu }
+    requires numbered { number_named line.now ≡ choice.number }
+    requires kind { IsOfItsKind history.now.recorded.events line.now }
+    ensures { IsReplyOf history.now.recorded.events line.now (reply_seen result) }
+{
+    history.well_formed();
+    match line {
+        Line::Keep { .. } => recorded(history, choice),
+        Line::Unfinished { reply, .. } => ReplyRef::of(reply),
+    }
+}
+
+/// The reply that the history records of a finished call.
+fn recorded<'a>(history: &'a History, choice: Choice) -> ReplyRef<'a>
+    requires places { ArePlacesOf history.now.recorded.events choice.cpu choice.number choice.places }
+    requires finished { IsFinished history.now.recorded.events choice.cpu choice.number }
+    ensures { (place : ℕ) × IsReturned history.now.recorded.events place choice.cpu choice.number (reply_seen result) }
+{
+    history.well_formed();
+    let Some(returned) = choice.places.returned else {
+        unreachable!()
+    };
+    let Some(reply) = history.reply_at(returned as usize) else {
+        unreachable!()
+    };
+    reply
+}
