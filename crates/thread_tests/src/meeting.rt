@@ -4,13 +4,12 @@ ghost use Rattle.std.specs.Prelude.{◌≡◌, IfOk, IfSome};
 ghost use Rattle.event_queue.specs.View.{CanDrain};
 ghost use Rattle.monitor.specs.Executed.{ArePaired};
 
-use crate::gated::{Cpu, last_cpu};
-use crate::monitored::{Answer, write_answer};
+use crate::cpu::{Answer, Cpu, two_cpus};
 use checker::{check, verdict_text};
 use granule_state::Config;
 use history::History;
 use monitor::{Monitor, Open, ScribePass, Site, fit_a_history, meet};
-use rmi_codec::push_decimal;
+use rmi_codec::{push_decimal, write_reply};
 use std::alloc::{AllocError, Global};
 use std::marker::Brand;
 use std::sync::Wait;
@@ -41,6 +40,17 @@ fn ask_apart<S: Site + Send + Sync, R: Threads + Wait + Sync>(
         || (),
     )
     .0
+}
+
+/// Appends a line of what a CPU was answered: a ticket and a reply.
+fn write_answer(answer: &Answer, out: &mut Vec<u8>) -> Result<(), Fail> {
+    let Ok(done) = answer else {
+        return Err("an answer".into());
+    };
+    push_decimal(out, done.ticket as u64)?;
+    out.extend_from_slice(b" ")?;
+    write_reply(&done.reply, out)?;
+    Ok(out.extend_from_slice(b"\n")?)
 }
 
 /// A CPU is asked, and the answer's line is appended.
@@ -173,9 +183,7 @@ fn run_two<S: Site + Send + Sync, R: Threads + Wait + Sync>(
     requires granules { config.granules ≡ S.granules }
     requires two { config.cpus ≡ 2 }
 {
-    let (monitor, mut tokens, mut passes, scribe) = Monitor::<S>::new(alloc, blank, config, 16)?;
-    let second = last_cpu(&monitor, &mut tokens, &mut passes)?;
-    let first = last_cpu(&monitor, &mut tokens, &mut passes)?;
+    let (monitor, first, second, scribe) = two_cpus::<S>(alloc, blank, config)?;
     if first.token.cpu() != 0 || second.token.cpu() != 1 {
         return Err("CPU 0 and CPU 1".into());
     }
