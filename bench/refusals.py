@@ -55,6 +55,20 @@ STOPPED = {
             "yes 2",
         ),
     ],
+    "drained_tickets": [
+        (
+            "no memory/stopped/drained 1/0 ok/stopped",
+            "rmh1 4 2/c 0 0 c4000151 1000/c 1 0 c4000151 1000/r 1 0 ok",
+            "k 1 0",
+            "yes 1",
+        ),
+        (
+            "0 ok/drained 2/no memory/stopped/1 ok",
+            "rmh1 4 2/c 0 0 c4000151 1000/r 0 0 ok/c 1 0 c4000151 1000/c 0 1 c4000152 1000/r 0 1 ok",
+            "k 0 0/k 0 1",
+            "yes 2",
+        ),
+    ],
     "refused_commit": [
         ("no memory/stopped/0 ok", "rmh1 4 2/c 0 0 c4000151 1000/c 1 0 c4000151 1000/r 1 0 ok", "k 1 0", "yes 1"),
         ("0 ok/no memory/stopped", "rmh1 4 2/c 0 0 c4000151 1000/r 0 0 ok/c 1 0 c4000151 1000", "k 0 0", "yes 1"),

@@ -65,19 +65,27 @@ fn give_delegated<R: Wait>(rt: &R, granules: &Granules, mut hold: Hold, pa: Pa)
     give_home(rt, granules, hold, pa);
 }
 
+/// Whether a granule is found as it was given home, while another one is held.
+fn comes_back<R: Wait>(rt: &R, granules: &Granules, low: Pa, high: Pa) -> bool
+    requires low { IsTrue (is_granule granules.now.granules low) }
+    requires high { IsTrue (is_granule granules.now.granules high) }
+{
+    let below = hold_of(rt, granules, low);
+    let hold = hold_of(rt, granules, high);
+    let tags = (tag_of(&below, low), tag_of(&hold, high));
+    give_delegated(rt, granules, hold, high);
+    let hold = hold_of(rt, granules, high);
+    let found = (tag_of(&hold, low), tag_of(&hold, high));
+    give_home(rt, granules, hold, high);
+    give_home(rt, granules, below, low);
+    tags == (Some(Tag::Undelegated), Some(Tag::Undelegated))
+        && found == (None, Some(Tag::Delegated))
+}
+
 #[test]
 fn given_cells_come_back(rt: HostRuntime) -> Result<(), Fail> {
     let (granules, low, high) = four_granules(rt.alloc())?;
-    let below = hold_of(&rt, &granules, low);
-    let hold = hold_of(&rt, &granules, high);
-    assert!(rt; tag_of(&below, low) == Some(Tag::Undelegated));
-    assert!(rt; tag_of(&hold, high) == Some(Tag::Undelegated));
-    give_delegated(&rt, &granules, hold, high);
-    let hold = hold_of(&rt, &granules, high);
-    assert!(rt; tag_of(&hold, high) == Some(Tag::Delegated));
-    assert!(rt; tag_of(&hold, low).is_none());
-    give_home(&rt, &granules, hold, high);
-    give_home(&rt, &granules, below, low);
+    assert!(rt; comes_back(&rt, &granules, low, high));
     Ok(())
 }
 

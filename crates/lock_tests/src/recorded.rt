@@ -84,36 +84,88 @@ fn drains<R: Wait>(
     matches!(recorder.drain(rt, scribe, history), Ok(taken) if taken == count)
 }
 
+/// Both CPUs call, the first returns where there is no room, two events are drained, the second returns, and one is drained.
+/// Whether the first return alone is refused, and stops its pass with its call open.
+fn refuses_first_return<R: Wait>(
+    rt: &R,
+    recorder: &Recorder,
+    first: &mut CpuPass,
+    second: &mut CpuPass,
+    scribe: &mut ScribePass,
+    history: &mut History,
+) -> bool
+    requires first { first.old.queue ≡ recorder.now.queue }
+    requires second { second.old.queue ≡ recorder.now.queue }
+    requires scribe { CanDrain recorder.now.queue scribe.old history.old.recorded }
+{
+    let first_calls = calls(rt, recorder, first, 0, "c4000151 1000");
+    let second_calls = calls(rt, recorder, second, 0, "c4000151 2000");
+    let first_returns = returns(rt, recorder, first);
+    let two_drained = drains(rt, recorder, scribe, history, 2);
+    let second_returns = returns(rt, recorder, second);
+    let one_drained = drains(rt, recorder, scribe, history, 1);
+    let is_stopped = !first_returns && first.is_stopped() && first.is_open();
+    let goes_on = second_returns && !second.is_stopped() && !second.is_open();
+    first_calls && second_calls && two_drained && one_drained && is_stopped && goes_on
+}
+
 #[test]
 fn refused_return_stops_its_pass(rt: HostRuntime) -> Result<(), Fail> {
     let mut history = empty(rt.alloc(), 4, 2)?;
     let (recorder, mut first, mut second, mut scribe) = of_two_cpus(rt.alloc())?;
-    let first_calls = calls(&rt, &recorder, &mut first, 0, "c4000151 1000");
-    let second_calls = calls(&rt, &recorder, &mut second, 0, "c4000151 2000");
-    let first_returns = returns(&rt, &recorder, &mut first);
-    let two_drained = drains(&rt, &recorder, &mut scribe, &mut history, 2);
-    let second_returns = returns(&rt, &recorder, &mut second);
-    let one_drained = drains(&rt, &recorder, &mut scribe, &mut history, 1);
-    assert!(rt; first_calls && second_calls && two_drained && one_drained);
-    assert!(rt; !first_returns && first.is_stopped() && first.is_open());
-    assert!(rt; second_returns && !second.is_stopped() && !second.is_open());
+    let is_so = refuses_first_return(
+        &rt,
+        &recorder,
+        &mut first,
+        &mut second,
+        &mut scribe,
+        &mut history,
+    );
+    assert!(rt; is_so);
     let text = "rmh1 4 2\nc 0 0 c4000151 1000\nc 1 0 c4000151 2000\nr 1 0 ok\n";
     assert!(rt; has_text(rt.alloc(), &history, text)?);
     Ok(())
+}
+
+/// Both CPUs call and return, and two events are drained between. Whether nothing is refused.
+fn return_both<R: Wait>(
+    rt: &R,
+    recorder: &Recorder,
+    first: &mut CpuPass,
+    second: &mut CpuPass,
+    scribe: &mut ScribePass,
+    history: &mut History,
+) -> bool
+    requires first { first.old.queue ≡ recorder.now.queue }
+    requires second { second.old.queue ≡ recorder.now.queue }
+    requires scribe { CanDrain recorder.now.queue scribe.old history.old.recorded }
+    ensures first { (first.new.queue ≡ first.old.queue) × (first.new.cpu ≡ first.old.cpu) }
+    ensures second { (second.new.queue ≡ second.old.queue) × (second.new.cpu ≡ second.old.cpu) }
+    ensures scribe { CanDrain recorder.now.queue scribe.new history.new.recorded }
+    ensures cpus { scribe.new.cpus ≡ scribe.old.cpus }
+{
+    let first_calls = calls(rt, recorder, first, 0, "c4000151 1000");
+    let second_calls = calls(rt, recorder, second, 0, "c4000151 2000");
+    let two_drained = drains(rt, recorder, scribe, history, 2);
+    let second_returns = returns(rt, recorder, second);
+    let first_returns = returns(rt, recorder, first);
+    first_calls && second_calls && two_drained && second_returns && first_returns
 }
 
 #[test]
 fn rest_makes_each_list_whole(rt: HostRuntime) -> Result<(), Fail> {
     let mut history = empty(rt.alloc(), 4, 2)?;
     let (recorder, mut first, mut second, mut scribe) = of_two_cpus(rt.alloc())?;
-    let first_calls = calls(&rt, &recorder, &mut first, 0, "c4000151 1000");
-    let second_calls = calls(&rt, &recorder, &mut second, 0, "c4000151 2000");
-    let two_drained = drains(&rt, &recorder, &mut scribe, &mut history, 2);
-    let second_returns = returns(&rt, &recorder, &mut second);
-    let first_returns = returns(&rt, &recorder, &mut first);
+    let is_so = return_both(
+        &rt,
+        &recorder,
+        &mut first,
+        &mut second,
+        &mut scribe,
+        &mut history,
+    );
     let mut passes = [first, second];
-    assert!(rt; first_calls && second_calls && two_drained && second_returns && first_returns);
-    assert!(rt; fit_a_history(&passes));
+    assert!(rt; is_so && fit_a_history(&passes));
     recorder.drain_rest(&rt, &mut scribe, &mut passes, &mut history)?;
     let text = "rmh1 4 2\nc 0 0 c4000151 1000\nc 1 0 c4000151 2000\nr 1 0 ok\nr 0 0 ok\n";
     assert!(rt; has_text(rt.alloc(), &history, text)?);
@@ -236,9 +288,7 @@ fn four_threads_record_while_one_drains(rt: HostRuntime) -> Result<(), Fail> {
     );
     recorder.drain(&rt, &mut scribe, &mut history)?;
     assert!(rt; line_count(rt.alloc(), &history)? == 8001);
-    for cpu in 0..4 {
-        assert!(rt; has_thousand(&history, cpu), "{cpu}");
-    }
+    assert!(rt; (0..4).all(|cpu| has_thousand(&history, cpu)));
     Ok(())
 }
 

@@ -89,15 +89,48 @@ fn delegate_on<S: Site>(
     }
 }
 
-/// Delegates a granule on the cells of one machine, and then on those of another. Returns both answers, how many commits the
-/// journal and the token have, and the tags of the two cells.
+/// Delegates a granule on the cells of one machine, and then on those of another. Whether the second commit disagrees, and
+/// nothing is left of it in journal, token and cells.
 #[tactic(auto, unfolding(rmm_spec::specs::Lookup::is_granule))]
+fn disagrees_elsewhere<S: Site, R: Wait>(
+    rt: &R,
+    alloc: Global,
+    config: &Config,
+    journal: &mut Journal<S>,
+    token: &mut CpuToken<S>,
+    granules: &Granules,
+    others: &Granules,
+) -> bool
+    requires size { config.now.granules ≡ S.granules }
+    requires four { S.granules ≡ 4 }
+    requires granules { granules.now.granules ≡ S.granules }
+    requires others { others.now.granules ≡ S.granules }
+{
+    let mut hold = hold_of(rt, granules, 0x1000);
+    let first = delegate_on(alloc, config, journal, token, &mut hold, 0x1000);
+    let mut other = hold_of(rt, others, 0x1000);
+    let second = delegate_on(alloc, config, journal, token, &mut other, 0x1000);
+    let tags = (tag_of(&hold, 0x1000), tag_of(&other, 0x1000));
+    give_home(rt, granules, hold);
+    give_home(rt, others, other);
+    is_done(&first, 0, &ok())
+        && matches!(&second, Some(Err(CommitFault::Disagrees)))
+        && tags == (Some(Tag::Delegated), Some(Tag::Undelegated))
+        && journal.len() == 1
+        && token.mine().len() == 1
+}
+
+fn tag_of(hold: &Hold, address: u64) -> Option<Tag> {
+    Some(hold.cell(Pa::new(address))?.tag())
+}
+
+/// Whether that is so on a new journal.
 fn delegate_twice<S: Site, R: Wait>(
     rt: &R,
     alloc: Global,
     blank: Blank,
     config: Config,
-) -> Result<(Answer, Answer, usize, usize, Option<Tag>, Option<Tag>), Fail>
+) -> Result<bool, Fail>
     requires name { blank.name ≡ S.name }
     requires parts { blank.parts ≡ S.parts }
     requires one_each { blank.parts ≡ config.cpus }
@@ -108,45 +141,86 @@ fn delegate_twice<S: Site, R: Wait>(
     let mut token = tokens.pop().ok_or("a token")?;
     let granules = Granules::new(alloc, &config)?;
     let others = Granules::new(alloc, &config)?;
-    let mut hold = hold_of(rt, &granules, 0x1000);
-    let first = delegate_on(alloc, &config, &mut journal, &mut token, &mut hold, 0x1000);
-    let mut other = hold_of(rt, &others, 0x1000);
-    let second = delegate_on(alloc, &config, &mut journal, &mut token, &mut other, 0x1000);
-    let tag = hold.cell(Pa::new(0x1000)).map(|cell| cell.tag());
-    let other_tag = other.cell(Pa::new(0x1000)).map(|cell| cell.tag());
-    give_home(rt, &granules, hold);
-    give_home(rt, &others, other);
-    Ok((
-        first,
-        second,
-        journal.len(),
-        token.mine().len(),
-        tag,
-        other_tag,
+    Ok(disagrees_elsewhere(
+        rt,
+        alloc,
+        &config,
+        &mut journal,
+        &mut token,
+        &granules,
+        &others,
     ))
 }
 
 #[test]
 fn other_cells_disagree(rt: HostRuntime) -> Result<(), Fail> {
     let config = Config::new(4, 1).ok_or("a machine of this size")?;
-    let seen = delegate_twice::<Brand, _>(&rt, rt.alloc(), Blank::new(1), config)?;
-    let (first, second, commits, mine, tag, other_tag) = seen;
-    assert!(rt; is_done(&first, 0, &ok()));
-    assert!(rt; matches!(second, Some(Err(CommitFault::Disagrees))));
-    assert!(rt; commits == 1 && mine == 1);
-    assert!(rt; tag == Some(Tag::Delegated) && other_tag == Some(Tag::Undelegated));
+    assert!(rt; delegate_twice::<Brand, _>(&rt, rt.alloc(), Blank::new(1), config)?);
     Ok(())
 }
 
-/// Three commits of two CPUs, the first of which is stopped after its first. Returns the answers, and whether the journal and
-/// the tokens have what they should.
+/// Three commits of two CPUs, the first of which is stopped after its first. Whether they are answered as they should be.
+fn answers_of_two<S: Site>(
+    alloc: Global,
+    config: &Config,
+    journal: &mut Journal<S>,
+    first: &mut CpuToken<S>,
+    second: &mut CpuToken<S>,
+    low: &mut Hold,
+    high: &mut Hold,
+) -> bool
+    requires size { config.now.granules ≡ S.granules }
+    requires low { AreGranules S.granules (hold_cells low.old) }
+    requires high { AreGranules S.granules (hold_cells high.old) }
+    ensures low { AreGranules S.granules (hold_cells low.new) }
+    ensures high { AreGranules S.granules (hold_cells high.new) }
+{
+    let one = delegate_on(alloc, config, journal, first, low, 0x1000);
+    let two = delegate_on(alloc, config, journal, second, low, 0x1000);
+    first.stop();
+    let three = delegate_on(alloc, config, journal, first, high, 0x2000);
+    is_done(&one, 0, &ok()) && is_done(&two, 1, &Reply::Err(1, 0)) && is_done(&three, 2, &ok())
+}
+
+/// Whether the journal and the tokens have what they should then.
+fn are_listed<S: Site>(journal: &Journal<S>, first: &CpuToken<S>, second: &CpuToken<S>) -> bool {
+    journal.len() == 3
+        && first.cpu() == 0
+        && first.is_stopped()
+        && first.mine().len() == 2
+        && is_one_delegate(second.mine(), 1, 0x1000, &Reply::Err(1, 0))
+}
+
+/// Whether both is so on these granules.
 #[tactic(auto, unfolding(rmm_spec::specs::Lookup::is_granule))]
+fn commit_on<S: Site, R: Wait>(
+    rt: &R,
+    alloc: Global,
+    config: &Config,
+    journal: &mut Journal<S>,
+    first: &mut CpuToken<S>,
+    second: &mut CpuToken<S>,
+    granules: &Granules,
+) -> bool
+    requires size { config.now.granules ≡ S.granules }
+    requires four { S.granules ≡ 4 }
+    requires granules { granules.now.granules ≡ S.granules }
+{
+    let mut low = hold_of(rt, granules, 0x1000);
+    let mut high = hold_of(rt, granules, 0x2000);
+    let are_right = answers_of_two(alloc, config, journal, first, second, &mut low, &mut high);
+    give_home(rt, granules, low);
+    give_home(rt, granules, high);
+    are_right && are_listed(journal, first, second)
+}
+
+/// Whether both is so on a new journal.
 fn commits_of_two<S: Site, R: Wait>(
     rt: &R,
     alloc: Global,
     blank: Blank,
     config: Config,
-) -> Result<([Answer; 3], bool), Fail>
+) -> Result<bool, Fail>
     requires name { blank.name ≡ S.name }
     requires parts { blank.parts ≡ S.parts }
     requires one_each { blank.parts ≡ config.cpus }
@@ -159,33 +233,21 @@ fn commits_of_two<S: Site, R: Wait>(
     let mut second = tokens.pop().ok_or("a token for CPU 1")?;
     let mut first = tokens.pop().ok_or("a token for CPU 0")?;
     let granules = Granules::new(alloc, &config)?;
-    let mut low = hold_of(rt, &granules, 0x1000);
-    let mut high = hold_of(rt, &granules, 0x2000);
-    let answers = [
-        delegate_on(alloc, &config, &mut journal, &mut first, &mut low, 0x1000),
-        delegate_on(alloc, &config, &mut journal, &mut second, &mut low, 0x1000),
-        {
-            first.stop();
-            delegate_on(alloc, &config, &mut journal, &mut first, &mut high, 0x2000)
-        },
-    ];
-    give_home(rt, &granules, low);
-    give_home(rt, &granules, high);
-    let listed = journal.len() == 3
-        && first.cpu() == 0
-        && first.is_stopped()
-        && first.mine().len() == 2
-        && is_one_delegate(second.mine(), 1, 0x1000, &Reply::Err(1, 0));
-    Ok((answers, listed))
+    Ok(commit_on(
+        rt,
+        alloc,
+        &config,
+        &mut journal,
+        &mut first,
+        &mut second,
+        &granules,
+    ))
 }
 
 #[test]
 fn both_delegate_one_granule(rt: HostRuntime) -> Result<(), Fail> {
     let config = Config::new(4, 2).ok_or("a machine of this size")?;
-    let (answers, listed) = commits_of_two::<Brand, _>(&rt, rt.alloc(), Blank::new(2), config)?;
-    let [first, second, third] = answers;
-    assert!(rt; is_done(&first, 0, &ok()) && is_done(&second, 1, &Reply::Err(1, 0)));
-    assert!(rt; is_done(&third, 2, &ok()) && listed);
+    assert!(rt; commits_of_two::<Brand, _>(&rt, rt.alloc(), Blank::new(2), config)?);
     Ok(())
 }
 

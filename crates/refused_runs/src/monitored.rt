@@ -36,6 +36,13 @@ pub(crate) const THREE_TICKETS: [Step; 3] = [
     Step::Execute(0, "c4000152 1000"),
 ];
 
+pub(crate) const DRAINED_TICKETS: [Step; 4] = [
+    Step::Execute(0, DELEGATE),
+    Step::Drain,
+    Step::Execute(1, DELEGATE),
+    Step::Execute(0, "c4000152 1000"),
+];
+
 pub(crate) const DRAINED_QUEUE: [Step; 4] = [
     Step::Execute(0, DELEGATE),
     Step::Execute(1, "c4000151 2000"),

@@ -2,14 +2,16 @@
 
 use crate::fault::Fault;
 use crate::judged::{check_script, feed_script, offer_script};
-use crate::monitored::{DRAINED_QUEUE, FULL_QUEUE, SAME_GRANULE, THREE_TICKETS, monitor_steps};
+use crate::monitored::{
+    DRAINED_QUEUE, DRAINED_TICKETS, FULL_QUEUE, SAME_GRANULE, THREE_TICKETS, monitor_steps,
+};
 use crate::script::{DELEGATED_GRANULE, PAGE_OF_TWO_REALMS, RIPAS_CHANGE};
 use crate::turned::play_turns;
 use std::alloc::Global;
 use std::sync::Wait;
 
 /// All names, in the order in which the rows are played where no word names one.
-pub(crate) const NAMES: [&str; 10] = [
+pub(crate) const NAMES: [&str; 11] = [
     "granule",
     "granule_fed",
     "page",
@@ -18,6 +20,7 @@ pub(crate) const NAMES: [&str; 10] = [
     "turns",
     "full_queue",
     "three_tickets",
+    "drained_tickets",
     "refused_commit",
     "drained_queue",
 ];
@@ -41,6 +44,8 @@ pub(crate) enum Row {
     FullQueue,
     /// A monitor whose CPUs delegate one granule, which is then taken back.
     ThreeTickets,
+    /// The same, and what the first command recorded is drained at once.
+    DrainedTickets,
     /// A monitor whose CPUs delegate one granule, so that a refused commit lets the other in.
     RefusedCommit,
     /// A monitor whose queue is full until it is drained.
@@ -58,6 +63,7 @@ impl Row {
             "turns" => Row::Turns,
             "full_queue" => Row::FullQueue,
             "three_tickets" => Row::ThreeTickets,
+            "drained_tickets" => Row::DrainedTickets,
             "refused_commit" => Row::RefusedCommit,
             "drained_queue" => Row::DrainedQueue,
             _ => return None,
@@ -80,6 +86,7 @@ impl Row {
             Row::Turns => play_turns(alloc, out),
             Row::FullQueue => monitor_steps(rt, alloc, 1, 1, &FULL_QUEUE, out),
             Row::ThreeTickets => monitor_steps(rt, alloc, 2, 16, &THREE_TICKETS, out),
+            Row::DrainedTickets => monitor_steps(rt, alloc, 2, 16, &DRAINED_TICKETS, out),
             Row::RefusedCommit => monitor_steps(rt, alloc, 2, 16, &SAME_GRANULE, out),
             Row::DrainedQueue => monitor_steps(rt, alloc, 2, 1, &DRAINED_QUEUE, out),
         }

@@ -13,6 +13,27 @@ fn command(function: FunctionId, word: u64) -> Command {
     Command { function, words }
 }
 
+// Whether that text stands once the command is appended.
+fn has_appended(
+    out: &mut Vec<u8>,
+    function: FunctionId,
+    word: u64,
+    text: &[u8],
+) -> Result<bool, Fail> {
+    write_command(&command(function, word), out)?;
+    Ok(out.as_slice() == text)
+}
+
+#[test]
+fn writes_commands(rt: HostRuntime) -> Result<(), Fail> {
+    let mut out = Vec::new(rt.alloc());
+    let text = b"c4000152 ffffffffffffffff00000001 0";
+    let (front, _) = text.split_at(25);
+    assert!(rt; has_appended(&mut out, FunctionId::GranuleUndelegate, u64::MAX, front)?);
+    assert!(rt; has_appended(&mut out, FunctionId::Exit, 0, text)?);
+    Ok(())
+}
+
 // The reply `ok 1 2 .. a`.
 fn counting() -> Reply {
     let mut words = ArrayVec::new();
@@ -24,37 +45,41 @@ fn counting() -> Reply {
     Reply::Ok(words)
 }
 
-fn written(alloc: Global, reply: &Reply) -> Result<Vec<u8>, Fail> {
+fn is_written(alloc: Global, reply: &Reply, text: &[u8]) -> Result<bool, Fail> {
     let mut out = Vec::new(alloc);
     write_reply(reply, &mut out)?;
-    Ok(out)
+    Ok(out.as_slice() == text)
 }
 
 #[test]
-fn writes(rt: HostRuntime) -> Result<(), Fail> {
-    let mut out = Vec::new(rt.alloc());
-    write_command(&command(FunctionId::GranuleUndelegate, u64::MAX), &mut out)?;
-    assert!(rt; out.as_slice() == b"c4000152 ffffffffffffffff".as_slice());
-    write_command(&command(FunctionId::Exit, 0), &mut out)?;
-    assert!(rt; out.as_slice() == b"c4000152 ffffffffffffffff00000001 0".as_slice());
-    let counted = written(rt.alloc(), &counting())?;
-    assert!(rt; counted.as_slice() == b"ok 1 2 3 4 5 6 7 8 9 a".as_slice());
-    let refused = written(rt.alloc(), &Reply::Err(10, 0))?;
-    assert!(rt; refused.as_slice() == b"err 10 0".as_slice());
-    let misplaced = written(rt.alloc(), &Reply::Misplaced)?;
-    assert!(rt; misplaced.as_slice() == b"misplaced".as_slice());
+fn writes_replies(rt: HostRuntime) -> Result<(), Fail> {
+    assert!(rt; is_written(rt.alloc(), &counting(), b"ok 1 2 3 4 5 6 7 8 9 a")?);
+    assert!(rt; is_written(rt.alloc(), &Reply::Err(10, 0), b"err 10 0")?);
+    assert!(rt; is_written(rt.alloc(), &Reply::Misplaced, b"misplaced")?);
     Ok(())
+}
+
+// Whether no text is read. The last is empty.
+fn none_is_read(texts: &str) -> bool {
+    for text in texts.split(' ') {
+        if decimal_from(text.as_bytes()).is_some() {
+            return false;
+        }
+    }
+    true
+}
+
+fn are_read() -> bool {
+    decimal_from(b"0") == Some(0)
+        && decimal_from(b"999999") == Some(999_999)
+        && decimal_from(b"18446744073709551615") == Some(u64::MAX)
 }
 
 #[test]
 fn decimals(rt: HostRuntime) -> Result<(), Fail> {
-    assert!(rt; decimal_from(b"0") == Some(0));
-    assert!(rt; decimal_from(b"999999") == Some(999_999));
-    assert!(rt; decimal_from(b"18446744073709551615") == Some(u64::MAX));
-    for text in "18446744073709551616 99999999999999999999 00 +1 a".split(' ') {
-        assert!(rt; decimal_from(text.as_bytes()).is_none());
-    }
-    assert!(rt; decimal_from(b"").is_none());
+    assert!(rt; are_read());
+    let others = "18446744073709551616 99999999999999999999 00 +1 a ";
+    assert!(rt; none_is_read(others));
     let mut out = Vec::new(rt.alloc());
     push_decimal(&mut out, u64::MAX)?;
     assert!(rt; out.as_slice() == b"18446744073709551615".as_slice());

@@ -7,6 +7,19 @@ use rmm_spec::{Command, FunctionId, Reply};
 use std::alloc::Global;
 use std::test::Fail;
 
+// The event that a line of a history's text states.
+fn event(line: &str) -> Result<Event, Fail> {
+    let (kind, rest) = line.split_once(' ').ok_or("no event")?;
+    let (cpu, rest) = rest.split_once(' ').ok_or("no CPU")?;
+    let (number, text) = rest.split_once(' ').ok_or("no number")?;
+    let (cpu, number) = (cpu.parse::<u8>()?, number.parse::<u32>()?);
+    if kind == "c" {
+        called(cpu, number, text)
+    } else {
+        returned(cpu, number, text)
+    }
+}
+
 pub(crate) fn called(cpu: u8, number: u32, command: &str) -> Result<Event, Fail> {
     Ok(Event::Called {
         cpu,
@@ -36,126 +49,177 @@ pub(crate) fn record(history: &mut History, event: Event) -> Result<(), Fail> {
     Ok(())
 }
 
+fn record_lines(history: &mut History, lines: &str) -> Result<(), Fail> {
+    for line in lines.lines() {
+        record(history, event(line)?)?;
+    }
+    Ok(())
+}
+
+// One of four events, of which two calls come first.
+fn nth_event(nth: u8, number: u32) -> Result<Event, Fail> {
+    match nth {
+        0 => called(0, number, "c4000151 1000"),
+        1 => called(1, number, "c4000152 2000"),
+        2 => returned(1, number, "err 1 0"),
+        _ => returned(0, number, "ok"),
+    }
+}
+
+// Whether there is memory for an event, which is then pushed. A push that is refused behind that is a failure.
+fn push_in_room(history: &mut History, event: Event) -> Result<bool, Fail> {
+    let before = history.len();
+    if history.make_room().is_err() {
+        return if history.len() == before {
+            Ok(false)
+        } else {
+            Err(Fail::from("a refusal that isn't without effect"))
+        };
+    }
+    record(history, event)?;
+    if history.len().wrapping_sub(before) == 1 {
+        Ok(true)
+    } else {
+        Err(Fail::from("not one event more"))
+    }
+}
+
 // An allocation may be refused in `make_room`, and never in the push after it.
 #[test]
 fn push_after_make_room_is_never_refused(rt: HostRuntime) -> Result<(), Fail> {
     let mut history = empty(rt.alloc(), 4, 2)?;
     for number in 0..9 {
-        for event in [
-            called(0, number, "c4000151 1000")?,
-            called(1, number, "c4000152 2000")?,
-            returned(1, number, "err 1 0")?,
-            returned(0, number, "ok")?,
-        ] {
-            let before = history.len();
-            if history.make_room().is_err() {
-                assert!(rt; history.len() == before);
+        for nth in 0..4 {
+            if !push_in_room(&mut history, nth_event(nth, number)?)? {
                 return Ok(());
             }
-            assert!(rt; history.fits(&event) && history.has_room());
-            assert!(rt; history.push(event).is_ok());
-            assert!(rt; history.len() == before + 1);
         }
     }
     assert!(rt; history.len() == 36);
     Ok(())
 }
 
-#[test]
-fn fits_what_can_follow(rt: HostRuntime) -> Result<(), Fail> {
-    let mut history = empty(rt.alloc(), 4, 1)?;
-    assert!(rt; history.is_empty());
-    assert!(rt; !history.fits(&returned(0, 0, "ok")?));
-    assert!(rt; !history.fits(&called(1, 0, "c4000151 1000")?));
-    assert!(rt; !history.fits(&called(0, 1, "c4000151 1000")?));
+fn none_fits(history: &History, lines: &str) -> Result<bool, Fail> {
+    for line in lines.lines() {
+        if history.fits(&event(line)?) {
+            return Ok(false);
+        }
+    }
+    Ok(true)
+}
+
+// A call with fewer words than its function takes.
+fn short_call() -> Result<Event, Fail> {
     let Command { words, .. } = read_command("c4000151 1000")?;
     let command = Command {
         function: FunctionId::RealmCreate,
         words,
     };
-    assert!(rt;
-        !history.fits(&Event::Called {
-            cpu: 0,
-            number: 0,
-            command
-        })
-    );
+    Ok(Event::Called {
+        cpu: 0,
+        number: 0,
+        command,
+    })
+}
 
-    record(&mut history, called(0, 0, "c4000151 1000")?)?;
-    assert!(rt; !history.fits(&called(0, 1, "c4000151 1000")?));
-    assert!(rt; !history.fits(&returned(0, 1, "ok")?));
-    assert!(rt; history.fits(&returned(0, 0, "misplaced")?));
+#[test]
+fn fits_what_can_follow(rt: HostRuntime) -> Result<(), Fail> {
+    let mut history = empty(rt.alloc(), 4, 1)?;
+    let first = "r 0 0 ok\nc 1 0 c4000151 1000\nc 0 1 c4000151 1000\n";
+    assert!(rt; history.is_empty() && none_fits(&history, first)?);
+    assert!(rt; !history.fits(&short_call()?));
+    record_lines(&mut history, "c 0 0 c4000151 1000\n")?;
+    assert!(rt; none_fits(&history, "c 0 1 c4000151 1000\nr 0 1 ok\n")?);
+    assert!(rt; history.fits(&event("r 0 0 misplaced")?));
     Ok(())
 }
 
 const TEXT: &str = "rmh1 4096 8\nc 7 0 c4000151 fff000\nc 0 0 c4000152 ffffffffffffffff\n\
                     r 7 0 ok 0 a\nc 7 1 c4000151 0\nr 0 0 err 255 10\nr 7 1 misplaced\n";
 
+const EVENTS: &str = "c 7 0 c4000151 fff000\nc 0 0 c4000152 ffffffffffffffff\n\
+                      r 7 0 ok 0 a\nc 7 1 c4000151 0\nr 0 0 err 255 10\nr 7 1 misplaced\n";
+
+// Whether the text is appended to what stands already.
 fn has_text(alloc: Global, history: &History) -> Result<bool, Fail> {
     let mut text = Vec::new(alloc);
+    text.extend_from_slice(b"before ")?;
     write(history, &mut text)?;
-    Ok(text.as_slice() == TEXT.as_bytes())
+    Ok(text.as_slice().strip_prefix(b"before ".as_slice()) == Some(TEXT.as_bytes()))
 }
 
 #[test]
 fn writes_what_is_recorded(rt: HostRuntime) -> Result<(), Fail> {
     let mut history = empty(rt.alloc(), 4096, 8)?;
-    record(&mut history, called(7, 0, "c4000151 fff000")?)?;
-    record(&mut history, called(0, 0, "c4000152 ffffffffffffffff")?)?;
-    record(&mut history, returned(7, 0, "ok 0 a")?)?;
-    record(&mut history, called(7, 1, "c4000151 0")?)?;
-    record(&mut history, returned(0, 0, "err 255 10")?)?;
-    record(&mut history, returned(7, 1, "misplaced")?)?;
-    let mut text = Vec::new(rt.alloc());
-    text.extend_from_slice(b"before ")?;
-    write(&history, &mut text)?;
-    assert!(rt; text.as_slice().strip_prefix(b"before ".as_slice()) == Some(TEXT.as_bytes()));
-
+    record_lines(&mut history, EVENTS)?;
+    assert!(rt; has_text(rt.alloc(), &history)?);
     let again = read_back(rt.alloc(), &history)?;
-    assert!(rt; again.len() == 6);
-    assert!(rt; has_text(rt.alloc(), &again)?);
+    assert!(rt; again.len() == 6 && has_text(rt.alloc(), &again)?);
     Ok(())
+}
+
+// Whether the second call of CPU 7 stands in the text's lines 5 and 7.
+fn has_last_call(history: &History) -> Result<bool, Fail> {
+    let command = read_command("c4000151 0")?;
+    let call = history.call_of(7, 1).ok_or("no call")?;
+    let answer = call.answer.ok_or("no answer")?;
+    let is_answer = answer.returned == 7 && matches!(answer.reply, Reply::Misplaced);
+    Ok(is_answer && call.called == 5 && call.command == command)
 }
 
 #[test]
 fn copies_each_event(rt: HostRuntime) -> Result<(), Fail> {
     let history = read(rt.alloc(), TEXT.as_bytes())?;
     let again = history.copy(rt.alloc())?;
-    assert!(rt; again.len() == 6);
-    assert!(rt; has_text(rt.alloc(), &again)?);
-    let call = again.call_of(7, 1).ok_or("no call")?;
-    assert!(rt; call.called == 5);
-    assert!(rt; call.command == read_command("c4000151 0")?);
-    let answer = call.answer.ok_or("no answer")?;
-    assert!(rt; answer.returned == 7);
-    assert!(rt; matches!(answer.reply, Reply::Misplaced));
+    assert!(rt; again.len() == 6 && has_text(rt.alloc(), &again)?);
+    assert!(rt; has_last_call(&again)?);
     Ok(())
+}
+
+fn has_its_sizes(history: &History) -> bool {
+    let config = history.config();
+    (config.granules(), config.cpus()) == (4, 1) && history.len() == 2
+}
+
+fn has_its_places(history: &History) -> bool {
+    match history.places_of(0, 0) {
+        Some(places) => (places.called, places.returned) == (0, Some(1)),
+        None => false,
+    }
+}
+
+fn has_its_call(history: &History) -> Result<bool, Fail> {
+    let call = history.call_of(0, 0).ok_or("no call")?;
+    let answer = call.answer.ok_or("no answer")?;
+    let is_answer = answer.returned == 3
+        && matches!(answer.reply, Reply::Ok(words) if words.is_empty());
+    let command = history.command_at(0).ok_or("no command")?;
+    Ok(
+        is_answer
+            && call.called == 2
+            && call.command == command.to_command()
+            && call.command.function == FunctionId::GranuleDelegate
+            && call.command.words.as_slice() == [0x1000].as_slice(),
+    )
+}
+
+fn has_its_events(history: &History) -> bool {
+    if history.len() != 2 {
+        return false;
+    }
+    history.command_at(1).is_none()
+        && history.reply_at(0).is_none()
+        && matches!(history.reply_at(1), Some(ReplyRef::Ok(words)) if words.is_empty())
+        && history.called_at(0) == Some((0, 0))
+        && history.called_at(1).is_none()
 }
 
 #[test]
 fn finds_the_call_that_was_read(rt: HostRuntime) -> Result<(), Fail> {
-    let text = b"rmh1 4 1\nc 0 0 c4000151 1000\nr 0 0 ok\n";
-    let history = read(rt.alloc(), text)?;
-    let config = history.config();
-    assert!(rt; (config.granules(), config.cpus()) == (4, 1));
-    assert!(rt; history.len() == 2);
-    let places = history.places_of(0, 0).ok_or("no places")?;
-    assert!(rt; (places.called, places.returned) == (0, Some(1)));
-    assert!(rt; history.places_of(0, 1).is_none());
-    let call = history.call_of(0, 0).ok_or("no call")?;
-    assert!(rt; call.called == 2);
-    assert!(rt; call.command.function == FunctionId::GranuleDelegate);
-    assert!(rt; call.command.words.as_slice() == [0x1000].as_slice());
-    let command = history.command_at(0).ok_or("no command")?;
-    assert!(rt; command.to_command() == call.command);
-    assert!(rt; history.command_at(1).is_none());
-    let answer = call.answer.ok_or("no answer")?;
-    assert!(rt; answer.returned == 3);
-    assert!(rt; history.reply_at(0).is_none());
-    assert!(rt; matches!(history.reply_at(1), Some(ReplyRef::Ok(words)) if words.is_empty()));
-    assert!(rt; matches!(answer.reply, Reply::Ok(words) if words.is_empty()));
-    assert!(rt; history.call_of(0, 1).is_none());
-    assert!(rt; history.called_at(0) == Some((0, 0)));
-    assert!(rt; history.called_at(1).is_none());
+    let history = read(rt.alloc(), b"rmh1 4 1\nc 0 0 c4000151 1000\nr 0 0 ok\n")?;
+    assert!(rt; has_its_sizes(&history) && has_its_places(&history));
+    assert!(rt; has_its_call(&history)?);
+    assert!(rt; has_its_events(&history));
+    assert!(rt; history.places_of(0, 1).is_none() && history.call_of(0, 1).is_none());
     Ok(())
 }

@@ -75,49 +75,79 @@ fn reads_a_text_as_it_is_whole_however_it_is_cut(rt: HostRuntime) -> Result<(), 
     Ok(())
 }
 
+// Whether a reader tells at this piece that line 2 is bad.
+fn is_told(reader: &mut Reader, piece: &[u8]) -> bool {
+    matches!(reader.feed(piece), Err(HistoryFault::BadLine(2)))
+}
+
+// Whether a line of so many bytes is told before its end exactly where it is that long, and at its end.
+fn is_long_line_told(alloc: Global, line: &[u8], is_long: bool) -> Result<bool, Fail> {
+    let mut reader = Reader::new(alloc);
+    reader.feed(b"rmh1 4 1\n")?;
+    let is_early = reader.feed(line).is_err();
+    let is_late = is_told(&mut reader, b"\n");
+    Ok(is_early == is_long && is_late && bad_line_of_history(reader.finish())? == 2)
+}
+
+// The same of a certificate's line.
+fn is_long_claim_told(line: &[u8], is_long: bool) -> Result<bool, Fail> {
+    let mut reader = certificate::Reader::new();
+    let (taken, told) = reader.next(b"k 0 0\n")?;
+    let is_first = taken == 6 && told.is_some();
+    let is_early = reader.next(line).is_err();
+    let is_late = matches!(reader.next(b"\n"), Err(CertFault::BadLine(2)));
+    let is_last = matches!(reader.finish(), Err(CertFault::BadLine(2)));
+    Ok(is_first && is_early == is_long && is_late && is_last)
+}
+
 // A line without its newline is bad as soon as more than 256 bytes of it have come.
 #[test]
 fn tells_a_line_that_is_too_long(rt: HostRuntime) -> Result<(), Fail> {
-    for (count, is_told) in [(255, false), (256, false), (257, true), (1_000_000, true)] {
+    for (count, is_long) in [(255, false), (256, false), (257, true), (1_000_000, true)] {
         let line = vec![in rt.alloc(); b'c'; count]?;
-        let mut reader = Reader::new(rt.alloc());
-        reader.feed(b"rmh1 4 1\n")?;
-        assert!(rt; reader.feed(line.as_slice()).is_err() == is_told);
-        assert!(rt; matches!(reader.feed(b"\n"), Err(HistoryFault::BadLine(2))));
-        assert!(rt; bad_line_of_history(reader.finish())? == 2);
-
-        let mut reader = certificate::Reader::new();
-        let (taken, told) = reader.next(b"k 0 0\n")?;
-        assert!(rt; taken == 6 && told.is_some());
-        assert!(rt; reader.next(line.as_slice()).is_err() == is_told);
-        assert!(rt; matches!(reader.next(b"\n"), Err(CertFault::BadLine(2))));
-        assert!(rt; matches!(reader.finish(), Err(CertFault::BadLine(2))));
+        assert!(rt; is_long_line_told(rt.alloc(), line.as_slice(), is_long)?);
+        assert!(rt; is_long_claim_told(line.as_slice(), is_long)?);
     }
     Ok(())
+}
+
+fn is_told_again(reader: &mut Reader) -> bool {
+    for _time in 0..3 {
+        if !is_told(reader, b" x\n") {
+            return false;
+        }
+    }
+    is_told(reader, b"")
 }
 
 #[test]
 fn tells_the_same_fault_from_then_on(rt: HostRuntime) -> Result<(), Fail> {
     let mut reader = Reader::new(rt.alloc());
     reader.feed(b"rmh1 4 1\nc 0 0")?;
-    for _ in 0..3 {
-        assert!(rt; matches!(reader.feed(b" x\n"), Err(HistoryFault::BadLine(2))));
-    }
-    assert!(rt; matches!(reader.feed(b""), Err(HistoryFault::BadLine(2))));
+    assert!(rt; is_told_again(&mut reader));
     assert!(rt; bad_line_of_history(reader.finish())? == 2);
     Ok(())
+}
+
+fn record_call(history: &mut History, number: u32) -> Result<(), Fail> {
+    record(history, called(0, number, "c4000151 1000")?)?;
+    record(history, returned(0, number, "ok")?)
 }
 
 // A header and 249 calls that have returned.
 fn many_lines(alloc: Global) -> Result<Vec<u8>, Fail> {
     let mut history = empty(alloc, 4, 1)?;
     for number in 0..249 {
-        record(&mut history, called(0, number, "c4000151 1000")?)?;
-        record(&mut history, returned(0, number, "ok")?)?;
+        record_call(&mut history, number)?;
     }
     let mut text = Vec::new(alloc);
     history::write(&history, &mut text)?;
     Ok(text)
+}
+
+// Whether the reader tells at this piece that line 500 is bad.
+fn is_late_told(reader: &mut Reader, piece: &[u8]) -> bool {
+    matches!(reader.feed(piece), Err(HistoryFault::BadLine(500)))
 }
 
 // Of a longer text the lines up to the bad one are enough.
@@ -125,18 +155,8 @@ fn many_lines(alloc: Global) -> Result<Vec<u8>, Fail> {
 fn tells_a_bad_line_before_the_rest(rt: HostRuntime) -> Result<(), Fail> {
     let mut reader = Reader::new(rt.alloc());
     reader.feed(many_lines(rt.alloc())?.as_slice())?;
-    assert!(rt;
-        matches!(
-            reader.feed(b"c 0 250 c4000151 1000\n"),
-            Err(HistoryFault::BadLine(500))
-        )
-    );
-    assert!(rt;
-        matches!(
-            reader.feed(b"c 0 249 c4000151 1000\n"),
-            Err(HistoryFault::BadLine(500))
-        )
-    );
+    assert!(rt; is_late_told(&mut reader, b"c 0 250 c4000151 1000\n"));
+    assert!(rt; is_late_told(&mut reader, b"c 0 249 c4000151 1000\n"));
     assert!(rt; bad_line_of_history(reader.finish())? == 500);
     Ok(())
 }

@@ -1,14 +1,14 @@
 //! Two CPUs on threads of their own, one of which a gate holds up.
 
-ghost use Rattle.std.specs.Prelude.{◌≡◌, IsTrue, IfOk, IfSome};
+ghost use Rattle.std.specs.Prelude.{◌≡◌};
 ghost use Rattle.event_queue.specs.View.{CanDrain};
-ghost use Rattle.monitor.specs.Cpus.{ArePairs};
 ghost use Rattle.monitor.specs.Executed.{ArePaired};
 
-use crate::monitored::{Answer, ok};
+use crate::cpu::{Answer, Cpu, two_cpus};
+use arrayvec::ArrayVec;
 use granule_state::Config;
-use monitor::{CpuPass, CpuToken, Gate, History, Monitor, Open, ScribePass, Site};
-use rmi_codec::{read_command, read_reply};
+use monitor::{Gate, History, Monitor, ScribePass, Site};
+use rmi_codec::read_reply;
 use rmm_spec::{Command, Reply};
 use std::alloc::{AllocError, Global};
 use std::marker::Brand;
@@ -69,93 +69,6 @@ impl Gate for Turnstile {
     }
 }
 
-/// A CPU's token and pass.
-#[derive(Drop)]
-pub struct Cpu<S: Site> {
-    pub token: CpuToken<S>,
-    pub pass: CpuPass,
-}
-
-impl<S: Site> Cpu<S> {
-    /// The CPU after the commands of the script, a line each, or nothing where one isn't executed.
-    fn prepare<R: Wait>(
-        mut self,
-        rt: &R,
-        alloc: Global,
-        monitor: &Monitor<S>,
-        script: &str,
-    ) -> Option<Cpu<S>>
-        requires { ArePaired monitor.now self.token self.pass }
-        ensures { IfSome result (λ cpu. ArePaired monitor.now cpu.token cpu.pass) }
-    {
-        for text in script.lines() {
-            let command = read_command(text).ok()?;
-            if self.pass.next_number() > 999_999 {
-                return None;
-            }
-            monitor
-                .execute(rt, alloc, &mut self.token, &mut self.pass, &Open, command)
-                .ok()?;
-        }
-        Some(self)
-    }
-
-    /// The CPU after the command of a text, and what it is answered, or nothing where the text isn't a command's.
-    pub fn ask<R: Wait, G: Gate>(
-        mut self,
-        rt: &R,
-        alloc: Global,
-        monitor: &Monitor<S>,
-        gate: &G,
-        text: &str,
-    ) -> Option<(Cpu<S>, Answer)>
-        requires { ArePaired monitor.now self.token self.pass }
-        ensures pair { IfSome result (λ asked. ArePaired monitor.now asked.0.token asked.0.pass) }
-        ensures cpu { IfSome result (λ asked. asked.0.token.cpu ≡ self.token.cpu) }
-    {
-        let command = read_command(text).ok()?;
-        if self.pass.next_number() > 999_999 {
-            return None;
-        }
-        let answer = monitor.execute(rt, alloc, &mut self.token, &mut self.pass, gate, command);
-        Some((self, answer))
-    }
-
-    /// The same once CPU 0 is held up.
-    fn ask_second<R: Wait>(
-        self,
-        rt: &R,
-        alloc: Global,
-        monitor: &Monitor<S>,
-        gate: &Turnstile,
-        text: &str,
-        answered: &AtomicBool,
-    ) -> Option<Answer>
-        requires { ArePaired monitor.now self.token self.pass }
-    {
-        if !wait_for(&gate.first_came) {
-            return None;
-        }
-        let answer = self.ask(rt, alloc, monitor, gate, text);
-        answered.store(true, Ordering::SeqCst);
-        Some(answer?.1)
-    }
-}
-
-/// The CPU of the last token and the last pass.
-pub fn last_cpu<S: Site>(
-    monitor: &Monitor<S>,
-    tokens: &mut Vec<CpuToken<S>>,
-    passes: &mut Vec<CpuPass>,
-) -> Result<Cpu<S>, Fail>
-    requires { ArePairs monitor.now tokens.old.items passes.old.items }
-    ensures { IfOk result (λ cpu. ArePaired monitor.now cpu.token cpu.pass × ArePairs monitor.now tokens.new.items passes.new.items) }
-{
-    let token = tokens.pop().ok_or("a token")?;
-    let pass = passes.pop().ok_or("a pass")?;
-    Ok(Cpu { token, pass })
-}
-
 /// Two calls, of which CPU 0 makes one and is held up in it while CPU 1 makes the other.
 #[derive(Clone, Copy)]
 enum Pair {
@@ -196,6 +109,26 @@ impl Pair {
     }
 }
 
+/// A CPU is asked once CPU 0 is held up.
+fn ask_second<S: Site, R: Wait>(
+    rt: &R,
+    alloc: Global,
+    monitor: &Monitor<S>,
+    gate: &Turnstile,
+    cpu: Cpu<S>,
+    text: &str,
+    answered: &AtomicBool,
+) -> Option<Answer>
+    requires { ArePaired monitor.now cpu.token cpu.pass }
+{
+    if !wait_for(&gate.first_came) {
+        return None;
+    }
+    let answer = cpu.ask(rt, alloc, monitor, gate, text);
+    answered.store(true, Ordering::SeqCst);
+    Some(answer?.1)
+}
+
 /// Both CPUs on threads of their own: CPU 1 is asked once CPU 0 is held up.
 fn ask_both<S: Site + Send + Sync, R: Threads + Wait + Sync>(
     rt: &R,
@@ -216,7 +149,7 @@ fn ask_both<S: Site + Send + Sync, R: Threads + Wait + Sync>(
         { Some(first.ask(rt, alloc, monitor, gate, pair.first())?.1) },
         || -> Option<Answer>
             requires { ArePaired monitor.now second.token second.pass }
-        { second.ask_second(rt, alloc, monitor, gate, pair.second(), answered) },
+        { ask_second(rt, alloc, monitor, gate, second, pair.second(), answered) },
     )
 }
 
@@ -234,9 +167,7 @@ fn ask_apart<S: Site + Send + Sync, R: Threads + Wait + Sync>(
     requires one_each { blank.parts ≡ config.cpus }
     requires granules { config.granules ≡ S.granules }
 {
-    let (monitor, mut tokens, mut passes, _scribe) = Monitor::<S>::new(alloc, blank, config, 64)?;
-    let second = last_cpu(&monitor, &mut tokens, &mut passes)?;
-    let first = last_cpu(&monitor, &mut tokens, &mut passes)?;
+    let (monitor, first, second, _scribe) = two_cpus::<S>(alloc, blank, config)?;
     let first = first
         .prepare(rt, alloc, &monitor, pair.script())
         .ok_or("a script")?;
@@ -252,6 +183,10 @@ fn ask_apart<S: Site + Send + Sync, R: Threads + Wait + Sync>(
         &gate.is_open,
     );
     Ok((first, second, gate.ran_out.load(Ordering::SeqCst)))
+}
+
+fn ok() -> Reply {
+    Reply::Ok(ArrayVec::new())
 }
 
 /// Whether the command was executed to its end, with this reply.
@@ -351,9 +286,7 @@ fn delegate_same<S: Site + Send + Sync, R: Threads + Wait + Sync>(
     requires one_each { blank.parts ≡ config.cpus }
     requires granules { config.granules ≡ S.granules }
 {
-    let (monitor, mut tokens, mut passes, scribe) = Monitor::<S>::new(alloc, blank, config, 16)?;
-    let second = last_cpu(&monitor, &mut tokens, &mut passes)?;
-    let first = last_cpu(&monitor, &mut tokens, &mut passes)?;
+    let (monitor, first, second, scribe) = two_cpus::<S>(alloc, blank, config)?;
     let history = History::new(alloc, config);
     let (gate, answered) = (Turnstile::new(), AtomicBool::new(false));
     let ((first, second), stayed_out) = thread::join(

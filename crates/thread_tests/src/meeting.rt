@@ -1,16 +1,18 @@
 //! Two CPUs that meet between their commands, on one thread and on threads of their own.
 
-ghost use Rattle.std.specs.Prelude.{◌≡◌, IfOk, IfSome};
+ghost use Rattle.std.specs.Prelude.{◌≡◌, [], ◌∷◌, IfOk, IfSome};
 ghost use Rattle.event_queue.specs.View.{CanDrain};
+ghost use Rattle.monitor.specs.Cpus.{AreCpus};
 ghost use Rattle.monitor.specs.Executed.{ArePaired};
 
-use crate::gated::{Cpu, last_cpu};
-use crate::monitored::{Answer, write_answer};
+use crate::cpu::{Answer, Cpu, two_cpus};
 use checker::{check, verdict_text};
 use granule_state::Config;
 use history::History;
-use monitor::{Monitor, Open, ScribePass, Site, fit_a_history, meet};
-use rmi_codec::push_decimal;
+use monitor::{
+    Certificate, CpuPass, CpuToken, Monitor, Open, ScribePass, Site, fit_a_history, meet,
+};
+use rmi_codec::{push_decimal, write_reply};
 use std::alloc::{AllocError, Global};
 use std::marker::Brand;
 use std::sync::Wait;
@@ -41,6 +43,17 @@ fn ask_apart<S: Site + Send + Sync, R: Threads + Wait + Sync>(
         || (),
     )
     .0
+}
+
+/// Appends a line of what a CPU was answered: a ticket and a reply.
+fn write_answer(answer: &Answer, out: &mut Vec<u8>) -> Result<(), Fail> {
+    let Ok(done) = answer else {
+        return Err("an answer".into());
+    };
+    push_decimal(out, done.ticket as u64)?;
+    out.extend_from_slice(b" ")?;
+    write_reply(&done.reply, out)?;
+    Ok(out.extend_from_slice(b"\n")?)
 }
 
 /// A CPU is asked, and the answer's line is appended.
@@ -122,40 +135,81 @@ fn tell_in_turn<S: Site + Send + Sync, R: Threads + Wait + Sync>(
     Ok((first, second))
 }
 
-/// Closes the run of two CPUs, and appends its certificate and the verdict's line.
-fn close_two<S: Site, R: Wait>(
+fn both_tokens<S: Site>(
+    alloc: Global,
+    first: CpuToken<S>,
+    second: CpuToken<S>,
+) -> Result<Vec<CpuToken<S>>, AllocError>
+    ensures { IfOk result (λ list. list.items ≡ first ∷ second ∷ []) }
+{
+    let mut tokens = Vec::with_capacity(alloc, 2)?;
+    tokens.push(first)?;
+    tokens.push(second)?;
+    Ok(tokens)
+}
+
+fn both_passes(alloc: Global, first: CpuPass, second: CpuPass) -> Result<Vec<CpuPass>, AllocError>
+    ensures { IfOk result (λ list. list.items ≡ first ∷ second ∷ []) }
+{
+    let mut passes = Vec::with_capacity(alloc, 2)?;
+    passes.push(first)?;
+    passes.push(second)?;
+    Ok(passes)
+}
+
+/// The tokens and the passes of two CPUs.
+fn parted<S: Site>(
+    alloc: Global,
+    _monitor: &Monitor<S>,
+    first: Cpu<S>,
+    second: Cpu<S>,
+) -> Result<(Vec<CpuToken<S>>, Vec<CpuPass>), AllocError>
+    requires two { _monitor.now.config.cpus ≡ 2 }
+    requires first { ArePaired _monitor.now first.token first.pass × (first.token.cpu ≡ 0) }
+    requires second { ArePaired _monitor.now second.token second.pass × (second.token.cpu ≡ 1) }
+    ensures { IfOk result (λ parts. AreCpus _monitor.now parts.0.items parts.1.items) }
+{
+    let tokens = both_tokens(alloc, first.token, second.token)?;
+    let passes = both_passes(alloc, first.pass, second.pass)?;
+    Ok((tokens, passes))
+}
+
+/// Appends the certificate and the verdict's line.
+fn push_judged(
+    alloc: Global,
+    recorded: &History,
+    order: &Certificate,
+    out: &mut Vec<u8>,
+) -> Result<(), AllocError> {
+    let mut text = Vec::new(alloc);
+    history::write(recorded, &mut text)?;
+    let mut lines = Vec::new(alloc);
+    certificate::write(order, &mut lines)?;
+    out.extend_from_slice(lines.as_slice())?;
+    let verdict = check(alloc, text.as_slice(), lines.as_slice())?;
+    verdict_text(&verdict, out)
+}
+
+/// Closes the run, and appends its certificate and the verdict's line.
+fn close<S: Site, R: Wait>(
     rt: &R,
     alloc: Global,
     monitor: Monitor<S>,
-    first: Cpu<S>,
-    second: Cpu<S>,
+    tokens: Vec<CpuToken<S>>,
+    passes: Vec<CpuPass>,
     scribe: ScribePass,
     history: History,
     out: &mut Vec<u8>,
 ) -> Result<(), Fail>
-    requires two { monitor.config.cpus ≡ 2 }
-    requires first { ArePaired monitor first.token first.pass × (first.token.cpu ≡ 0) }
-    requires second { ArePaired monitor second.token second.pass × (second.token.cpu ≡ 1) }
+    requires cpus { AreCpus monitor tokens.items passes.items }
     requires drain { CanDrain monitor.queue scribe history.recorded }
     requires config { history.recorded.config ≡ monitor.config }
 {
-    let mut tokens = Vec::with_capacity(alloc, 2)?;
-    tokens.push(first.token)?;
-    tokens.push(second.token)?;
-    let mut passes = Vec::with_capacity(alloc, 2)?;
-    passes.push(first.pass)?;
-    passes.push(second.pass)?;
     if !fit_a_history(&passes) {
         return Err("a history with room for the rest".into());
     }
     let (recorded, order) = monitor.close(rt, alloc, tokens, passes, scribe, history)?;
-    let mut text = Vec::new(alloc);
-    history::write(&recorded, &mut text)?;
-    let mut lines = Vec::new(alloc);
-    certificate::write(&order, &mut lines)?;
-    let verdict = check(alloc, text.as_slice(), lines.as_slice())?;
-    out.extend_from_slice(lines.as_slice())?;
-    Ok(verdict_text(&verdict, out)?)
+    Ok(push_judged(alloc, &recorded, &order, out)?)
 }
 
 /// Appends what two CPUs are told and have seen, and then the certificate and the verdict's line.
@@ -173,15 +227,14 @@ fn run_two<S: Site + Send + Sync, R: Threads + Wait + Sync>(
     requires granules { config.granules ≡ S.granules }
     requires two { config.cpus ≡ 2 }
 {
-    let (monitor, mut tokens, mut passes, scribe) = Monitor::<S>::new(alloc, blank, config, 16)?;
-    let second = last_cpu(&monitor, &mut tokens, &mut passes)?;
-    let first = last_cpu(&monitor, &mut tokens, &mut passes)?;
+    let (monitor, first, second, scribe) = two_cpus::<S>(alloc, blank, config)?;
     if first.token.cpu() != 0 || second.token.cpu() != 1 {
         return Err("CPU 0 and CPU 1".into());
     }
     let (first, second) = tell_in_turn(rt, alloc, &monitor, first, second, is_apart, out)?;
+    let (tokens, passes) = parted(alloc, &monitor, first, second)?;
     let history = History::new(alloc, config);
-    close_two(rt, alloc, monitor, first, second, scribe, history, out)
+    close(rt, alloc, monitor, tokens, passes, scribe, history, out)
 }
 
 /// What the run of two CPUs appends.

@@ -4,7 +4,7 @@ use Rattle.commit_tickets.specs.View.{TokenView}
 use Rattle.event_queue.specs.View.{CpuView}
 use Rattle.monitor.specs.Cpus.{ArePairs}
 use Rattle.monitor.proofs.CpuLists.{pairs-popped}
-use Rattle.thread_tests.proofs.gated.last_cpu.Goals as goal
+use Rattle.thread_tests.proofs.cpu.last_cpu.Goals as goal
 
 pub returns : goal.returns
 returns g c =
