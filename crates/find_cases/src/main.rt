@@ -1,6 +1,6 @@
 //! Looks for an order of each history of the folder where it runs, and prints its name with the verdict on what was found, or `none`.
-//! What should be found stands in the file `stdout` beside this crate: whether there is an order is the answer of `bench/orders.py`, and
-//! an order's count is that of the calls that returned, with those added that have to have taken effect.
+//! What should be found stands in the file `stdout` beside this crate: whether there is an order was told by a plain search over all
+//! orders, written apart, and an order's count is that of the calls that returned, with those added that have to have taken effect.
 //! It reads every `.history` there in the order of their names; no clause says more than that it is safe.
 //! It depends on the crates that read histories, find orders and judge them, and nothing depends on it.
 #![tactic(auto)]
