@@ -9,7 +9,9 @@ mod granule;
 mod granules;
 mod hold;
 mod locking;
+mod soon;
 
 pub use granules::Granules;
 pub use hold::Hold;
 pub use locking::{free_all, lock_for};
+pub use soon::lock_soon;

@@ -50,7 +50,7 @@ impl<S: Site> Monitor<S> {
         recorder.drain_rest(rt, &mut scribe, passes.as_mut_slice(), &mut history)?;
         let mut tokens = tokens;
         let tokens = tokens.as_mut_slice();
-        let mut journal = journal.into_inner();
+        let mut journal = journal.into_inner().into_inner();
         journal.audit(tokens);
         let _size = journal.config();
         let _books = journal.books();

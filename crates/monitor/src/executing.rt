@@ -16,7 +16,7 @@ use crate::monitor::Monitor;
 use crate::refused::Refused;
 use commit_tickets::{CommitFault, CpuToken, Done, Site, commit};
 use event_queue::CpuPass;
-use granule_lock::{Hold, free_all, lock_for};
+use granule_lock::{Hold, free_all, lock_for, lock_soon};
 use rmi_view::{copied_command, copied_reply};
 use rmm_spec::Command;
 use std::alloc::Global;
@@ -111,7 +111,7 @@ impl<S: Site> Monitor<S> {
         ensures fault { IfErr result (λ fault. HasFailed token.old fault token.new) }
         ensures cause { IfErr result (λ fault. HadCause self.now.config fault command.now token.old) }
     {
-        let mut locked = self.journal.lock(rt);
+        let mut locked = lock_soon(rt, &*self.journal);
         let journal = &mut *locked;
         let _size = journal.config();
         let _books = journal.books();

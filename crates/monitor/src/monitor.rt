@@ -7,6 +7,7 @@ ghost use Rattle.event_queue.specs.View.{CanDrain, before_calls};
 ghost use Rattle.monitor.specs.Cpus.{AreCpus};
 
 use commit_tickets::{CpuToken, Journal, Site};
+use crossbeam_utils::CachePadded;
 use event_queue::{CpuPass, History, Recorder, ScribePass};
 use granule_lock::Granules;
 use granule_state::Config;
@@ -21,7 +22,8 @@ use std::sync::{Mutex, Wait};
 pub struct Monitor<S: Site> {
     pub(crate) config: Config,
     pub(crate) granules: Granules,
-    pub(crate) journal: Mutex<Journal<S>>,
+    // what a CPU writes there slows no other that reads what lies beside it
+    pub(crate) journal: CachePadded<Mutex<Journal<S>>>,
     pub(crate) recorder: Recorder,
 }
 
@@ -66,7 +68,7 @@ impl<S: Site> Monitor<S> {
         let monitor = Monitor {
             config,
             granules: Granules::new(alloc, &config)?,
-            journal: Mutex::new(journal),
+            journal: CachePadded::new(Mutex::new(journal)),
             recorder,
         };
         Ok((monitor, tokens, passes, scribe))
