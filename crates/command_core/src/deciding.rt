@@ -73,7 +73,7 @@ fn settled_answer<'a, H: Held>(
 }
 
 // What the command's rows answer in the state that the held cells tell of.
-fn rows_answer<H: Held>(
+pub(crate) fn rows_answer<H: Held>(
     sight: &HeldSight<'_, H>,
     call: &Call,
     cpu: u8,

@@ -5,6 +5,7 @@
 //! The world of turns and the monitor's threads depend on it.
 #![tactic(auto)]
 
+mod apart;
 mod applying;
 mod change_room;
 mod deciding;
@@ -29,6 +30,7 @@ mod unshaped;
 mod walks;
 mod ways;
 
+pub use apart::decide_apart;
 pub use applying::apply;
 pub use change_room::Room;
 pub use deciding::decide;

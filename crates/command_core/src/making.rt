@@ -180,7 +180,7 @@ fn fits_entries(change: &EntryChange) -> bool
 
 // Whether the records that are held are what the change updates.
 #[tactic(auto, unfolding(walk_laws::specs::TableCells::holds_change))]
-fn fits_cells<H: Held>(held: &H, change: &Change) -> bool
+pub(crate) fn fits_cells<H: Held>(held: &H, change: &Change) -> bool
     ensures { result ≡ spec.fits_cells (H.cells held.now) change.now }
 {
     match change {

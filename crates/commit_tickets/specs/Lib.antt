@@ -4,3 +4,4 @@ pub mod Listed
 pub mod Opening
 pub mod Told
 pub mod View
+pub mod Planned

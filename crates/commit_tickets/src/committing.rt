@@ -10,13 +10,15 @@ ghost use Rattle.command_core.specs.Sides.{side_of};
 ghost use Rattle.granule_lock.specs.HeldCells.{hold_cells};
 ghost use Rattle.commit_tickets.specs.declared.fault.CommitFault.TheVariants.{Disagrees};
 ghost use Rattle.commit_tickets.specs.Faults.{HasCause};
+ghost use Rattle.commit_tickets.specs.Planned.{IsPlanned};
 ghost use Rattle.commit_tickets.specs.View.{entry, hold_with};
 
 use crate::fault::CommitFault;
 use crate::journal::{Journal, JournalEntry};
+use crate::plan::{Plan, decided};
 use crate::site::Site;
 use crate::token::{Committed, CpuToken};
-use command_core::{applied_decisions_are_local, apply, decide, room};
+use command_core::{applied_decisions_are_local, apply, room};
 use granule_lock::Hold;
 use rmi_view::copied_reply;
 use rmm_spec::{Command, Reply};
@@ -64,6 +66,43 @@ pub fn commit<S: Site>(
     ensures kept_token { IfErr result (λ fault. token.new ≡ record token.old { room = token.new.room; fault = Some fault }) }
     ensures kept_hold { OnErr result (hold.new ≡ hold.old) }
 {
+    commit_planned(alloc, journal, token, hold, command, None)
+}
+
+/// Commits as `commit` does, what was decided before if there is a plan. So a journal behind a lock is held for a shorter time.
+pub fn commit_planned<S: Site>(
+    alloc: Global,
+    journal: &mut Journal<S>,
+    token: &mut CpuToken<S>,
+    hold: &mut Hold,
+    command: &Command,
+    plan: Option<Plan>,
+) -> Result<Done, CommitFault>
+    requires settled { IsTrue (is_settled S.granules (call_of command.now) (place_of token.old.place) (hold_cells hold.old)) }
+    requires planned { IsPlanned S.granules command.now token.old.cpu (place_of token.old.place) (hold_cells hold.old) plan }
+    ensures ticket { IfOk result (λ done. done.ticket ≡ length journal.old.entries) }
+    ensures journal { IfOk result (λ done. journal.new ≡ record journal.old {
+      entries = journal.old.entries ++ entry token.old.cpu command.now done.reply ∷ [];
+      side = journal.new.side;
+      room = journal.new.room;
+    }) }
+    ensures token { IfOk result (λ done. token.new ≡ record token.old {
+      place = token.new.place;
+      mine = token.old.mine ++ record { ticket = done.ticket; command = command.now; reply = done.reply } ∷ [];
+      room = token.new.room;
+      fault = None;
+      seen = done.ticket + 1;
+    }) }
+    ensures told { IfOk result (λ done. token.old.seen ≤ done.ticket) }
+    ensures short { length journal.old.entries < token.old.seen → result ≡ Err Disagrees }
+    ensures step { IfOk result (λ done. LocalStep S.granules token.old.cpu command.now done.reply
+        (hold_with journal.old token.old (hold_cells hold.old)) (hold_with journal.new token.new (hold_cells hold.new))) }
+    ensures cause { IfErr result (λ fault. HasCause fault S.granules command.now journal.old token.old (hold_cells hold.old)) }
+    ensures kept_journal { OnErr result (journal.new ≡ record journal.old { side = journal.new.side; room = journal.new.room }) }
+    ensures kept_side { OnErr result (side_of journal.new.side ≡ side_of journal.old.side) }
+    ensures kept_token { IfErr result (λ fault. token.new ≡ record token.old { room = token.new.room; fault = Some fault }) }
+    ensures kept_hold { OnErr result (hold.new ≡ hold.old) }
+{
     applied_decisions_are_local();
     let cpu = token.cpu;
     if (journal.len() as u64) < token.seen {
@@ -72,13 +111,14 @@ pub fn commit<S: Site>(
     }
     // what each `?` answers
     token.fault = Some(CommitFault::NoMemory);
-    let (reply, change) = decide(
+    let (reply, change) = decided(
         &journal.config,
         command,
         cpu,
         &token.place,
         hold,
         &journal.side,
+        plan,
     );
     let room = room(alloc, &mut journal.side, &change)?;
     journal.entries.reserve(1)?;

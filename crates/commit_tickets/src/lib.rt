@@ -14,14 +14,16 @@ mod listing;
 mod meeting;
 mod numbers;
 mod opening;
+mod plan;
 mod same;
 mod site;
 mod token;
 
-pub use committing::{Done, commit};
+pub use committing::{Done, commit, commit_planned};
 pub use fault::CommitFault;
 pub use journal::{Journal, JournalEntry};
 pub use meeting::meet;
 pub use numbers::Numbers;
+pub use plan::{Plan, planned};
 pub use site::Site;
 pub use token::{Committed, CpuToken};

@@ -14,7 +14,7 @@ ghost use Rattle.monitor.specs.declared.refused.Refused.TheVariants as refused;
 use crate::gate::Gate;
 use crate::monitor::Monitor;
 use crate::refused::Refused;
-use commit_tickets::{CommitFault, CpuToken, Done, Site, commit};
+use commit_tickets::{CommitFault, CpuToken, Done, Site, commit_planned, planned};
 use event_queue::CpuPass;
 use granule_lock::{Hold, free_all, lock_for, lock_soon};
 use rmi_view::{copied_command, copied_reply};
@@ -91,7 +91,7 @@ impl<S: Site> Monitor<S> {
         done
     }
 
-    // Commits a command that is called, on what is held, under the journal's lock. That the journal is then a run of this machine is what its
+    // Commits a command that is called, on what is held: decides what it can, and then takes the journal's lock. That the journal is then a run of this machine is what its
     // size and its books show.
     fn commit_held<R: Wait>(
         &self,
@@ -111,11 +111,12 @@ impl<S: Site> Monitor<S> {
         ensures fault { IfErr result (λ fault. HasFailed token.old fault token.new) }
         ensures cause { IfErr result (λ fault. HadCause self.now.config fault command.now token.old) }
     {
+        let plan = planned(&self.config, token, hold, command);
         let mut locked = lock_soon(rt, &*self.journal);
         let journal = &mut *locked;
         let _size = journal.config();
         let _books = journal.books();
-        commit(alloc, journal, token, hold, command)
+        commit_planned(alloc, journal, token, hold, command, plan)
     }
 
     // Records the return of what was done. Where the queue is full, the CPU is stopped.

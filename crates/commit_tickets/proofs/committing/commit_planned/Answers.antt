@@ -9,13 +9,13 @@ use Rattle.commit_tickets.specs.View.{JournalView, entry}
 use Rattle.commit_tickets.proofs.Disagreements.{refused-disagree}
 use Rattle.commit_tickets.proofs.Rising.{RiseWithin-append}
 use Rattle.commit_tickets.proofs.Runs.{IsRun-append}
-use Rattle.commit_tickets.proofs.committing.commit.Goals as goal
+use Rattle.commit_tickets.proofs.committing.commit_planned.Goals as goal
 
 pub returns-then-not-branch-clause-cause : goal.returns-then-not-branch-clause-cause
 returns-then-not-branch-clause-cause g c =
     inl
-    (refused-disagree g.S.Site.granules c.args.command.now _ c.args.journal.now _ c.args.token.now (hold_cells c.args.hold.now) c.decide-reply.result.0
-    c.decide-reply.result.1 (state_of c.journal.inside.books) c.journal.view_is c.token.view_is c.journal.invariant.1 c.decide-reply.ensures.decides
+    (refused-disagree g.S.Site.granules c.args.command.now _ c.args.journal.now _ c.args.token.now (hold_cells c.args.hold.now) c.decided-reply.result.0
+    c.decided-reply.result.1 (state_of c.journal.inside.books) c.journal.view_is c.token.view_is c.journal.invariant.1 c.decided-reply.ensures.decides
     c.journal.invariant.0 (c.in_ok-offer.ensures.only c.if-not-branch.true))
 
 pub invariant_of-journal-2 : goal.invariant_of-journal-2
