@@ -99,7 +99,7 @@ settled-makes granules cpu c hold few = by (is_unshaped granules c hold.place ho
     by false = answer-makes granules hold (rows_answer granules cpu c hold.cells (Some hold.side) hold.place) few
 
 -- an answer as the decision of a command
-pub IsDecidedAs : ℕ → ℕ → Command → Hold → Result Accepted Reply → Type 0
+abbrev pub IsDecidedAs : ℕ → ℕ → Command → Hold → Result Accepted Reply → Type 0
 IsDecidedAs granules cpu command hold (Err refusal) = IsDecision granules cpu command hold refusal Unchanged
 IsDecidedAs granules cpu command hold (Ok (Done words change)) = IsDecision granules cpu command hold (reply.Ok words) change
 IsDecidedAs granules cpu command hold (Ok (Reaches stretch)) = ⊥
@@ -110,7 +110,7 @@ unfolding new_cells
 decided_as granules cpu command hold (Err refusal) answered makes = record {
   decides = answered.is_local;
   can = record { held = tt; tables = tt; here = tt };
-  makes = record { fits = tt; counts = tt };
+  makes = record { fits = refl; counts = refl };
 }
 decided_as granules cpu command hold (Ok (Done words change)) answered makes =
     record { decides = answered.is_local; can = answered.can; makes = makes }

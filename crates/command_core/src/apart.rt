@@ -1,7 +1,6 @@
 //! What is answered to a command without a look at the side table.
 
 ghost use Rattle.std.specs.Prelude.{◌≡◌, IsTrue, IfSome, option_map, option_copied};
-ghost use Rattle.rmm_spec.specs.declared.accepted.Accepted.TheVariants as accepted;
 ghost use Rattle.rmm_spec.specs.Call.{call_of};
 ghost use Rattle.rmm_spec.specs.Shape.{Side};
 ghost use Rattle.command_core.specs.Apart as spec;
@@ -75,39 +74,35 @@ fn asks_aside(call: &Call) -> bool
     matches!(call, Call::RealmCreate { .. } | Call::RealmDestroy { .. })
 }
 
-// The answer, where its change can be made of what is held. A stretch is set as far as its rows allow.
+// The answer, where no REC is made, and its change can be made of what is held. A stretch is set as far as its rows allow.
 fn made_apart<H: Held>(
     sight: &HeldSight<'_, H>,
     answer: Result<Accepted, Reply>,
 ) -> Option<Result<Accepted, Reply>>
     ensures { result ≡ spec.made_apart sight.now.config.now.granules (H.cells sight.now.held.now) answer }
 {
-    match answer {
-        Ok(Accepted::Done { words, change }) => change_apart(sight.held, words, change),
+    let (words, change) = match answer {
+        Ok(Accepted::Done { words, change }) => (words, change),
         Ok(Accepted::Reaches(stretch)) => {
             let top = sight.furthest(&stretch);
             let mut words = ArrayVec::new();
             words.push(top);
-            change_apart(sight.held, words, reached_change(&stretch, top))
+            (words, reached_change(&stretch, top))
         }
-        Err(refusal) => Some(Err(refusal)),
-    }
-}
-
-// What is done, where no REC is made and the change can be made of what is held.
-fn change_apart<H: Held>(
-    held: &H,
-    words: ArrayVec<u64, 10>,
-    change: Change,
-) -> Option<Result<Accepted, Reply>>
-    ensures { result ≡ spec.change_apart (H.cells held.now) (accepted.Done words change) change }
-{
-    if matches!(change, Change::RecMade { .. }) {
+        Err(refusal) => return Some(Err(refusal)),
+    };
+    if makes_rec(&change) {
         return None;
     }
-    if fits_cells(held, &change) {
+    if fits_cells(sight.held, &change) {
         Some(Ok(Accepted::Done { words, change }))
     } else {
         Some(Err(Reply::Misplaced))
     }
+}
+
+fn makes_rec(change: &Change) -> bool
+    ensures { result ≡ spec.makes_rec change.now }
+{
+    matches!(change, Change::RecMade { .. })
 }
