@@ -36,6 +36,21 @@ pub(crate) fn recorded<S: Site + Send + Sync, R: Threads + Wait + Sync>(
     let (monitor, cpus, scribe) = started::<S>(alloc, blank, config, capacity)?;
     let history = History::new(alloc, config);
     let (cpus, scribe, history) = worked(rt, alloc, &monitor, jobs, cpus, scribe, history)?;
+    closed(rt, alloc, monitor, cpus, scribe, history)
+}
+
+fn closed<S: Site, R: Wait>(
+    rt: &R,
+    alloc: Global,
+    monitor: Monitor<S>,
+    cpus: Vec<Cpu<S>>,
+    scribe: ScribePass,
+    history: History,
+) -> Result<(History, Certificate)>
+    requires cpus { All (λ cpu. ArePaired monitor cpu.token cpu.pass) cpus.items }
+    requires scribe { CanDrain monitor.queue scribe history.recorded }
+    requires config { history.recorded.config ≡ monitor.config }
+{
     let (tokens, passes) = parted(alloc, &monitor, cpus)?;
     if !fit_a_history(passes.as_slice()) {
         bail!("more events than a history has");

@@ -1,6 +1,7 @@
 //! Rounds of fixed programs, so that a script can time them.
 
-ghost use Rattle.std.specs.Prelude.{◌≡◌};
+ghost use Rattle.std.specs.Prelude.{◌≡◌, ◌<◌, All, IfOk};
+ghost use Rattle.monitor.specs.Executed.{ArePaired};
 
 use crate::lives::Life;
 use crate::monitors::cpu::Cpu;
@@ -11,8 +12,10 @@ use crate::pages::Pages;
 use crate::timing::Timing;
 use anyhow::{Context, Result, bail};
 use granule_state::Config;
-use monitor::Site;
+use monitor::{Monitor, Site};
+use rmm_spec::Command;
 use std::alloc::{AllocError, Global};
+use std::io;
 use std::marker::Brand;
 use std::sync::ledger::Blank;
 use std::sync::{Mutex, Wait};
@@ -86,14 +89,40 @@ fn round<S: Site + Send + Sync, R: Threads + Wait + Clock + Sync>(
     requires granules { config.granules ≡ S.granules }
 {
     let (monitor, cpus, _scribe) = started::<S>(alloc, blank, config, CAPACITY)?;
-    let before = first_jobs(alloc, kind)?;
-    let cpus = work_all(rt, alloc, &monitor, None, before.as_slice(), cpus);
+    let cpus = prepared(rt, alloc, &monitor, kind, cpus)?;
+    Ok(measured(rt, alloc, &monitor, kind, cpus)?)
+}
+
+// The CPUs once what isn't timed was executed.
+fn prepared<S: Site + Send + Sync, R: Threads + Wait + Sync>(
+    rt: &R,
+    alloc: Global,
+    monitor: &Monitor<S>,
+    kind: Kind,
+    cpus: Vec<Cpu<S>>,
+) -> Result<Vec<Cpu<S>>, AllocError>
+    requires { All (λ cpu. ArePaired monitor.now cpu.token cpu.pass) cpus.items }
+    ensures { IfOk result (λ left. All (λ cpu. ArePaired monitor.now cpu.token cpu.pass) left.items) }
+{
+    let jobs = first_jobs(alloc, kind)?;
+    Ok(work_all(rt, alloc, monitor, None, jobs.as_slice(), cpus))
+}
+
+fn measured<S: Site + Send + Sync, R: Threads + Wait + Clock + Sync>(
+    rt: &R,
+    alloc: Global,
+    monitor: &Monitor<S>,
+    kind: Kind,
+    cpus: Vec<Cpu<S>>,
+) -> io::Result<Timing>
+    requires { All (λ cpu. ArePaired monitor.now cpu.token cpu.pass) cpus.items }
+{
     let made = calls_of(&cpus);
     let jobs = fixed_jobs(alloc, kind)?;
     let one = Mutex::new(());
     let lock = if kind.is_locked { Some(&one) } else { None };
     let start = Instant::now(rt)?;
-    let cpus = work_all(rt, alloc, &monitor, lock, jobs.as_slice(), cpus);
+    let cpus = work_all(rt, alloc, monitor, lock, jobs.as_slice(), cpus);
     let time = start.elapsed(rt)?;
     let count = calls_of(&cpus).wrapping_sub(made);
     Ok(Timing { count, time })
@@ -111,28 +140,40 @@ fn calls_of<S: Site>(cpus: &[Cpu<S>]) -> u64 {
 // What isn't timed: CPU 0 makes the tables of all eight.
 fn first_jobs(alloc: Global, kind: Kind) -> Result<Vec<Job>, AllocError> {
     let mut program = Vec::new(alloc);
-    if kind.is_walking {
-        for cpu in 0..8 {
-            Pages::new(cpu, kind.is_shared).push_made(&mut program)?;
-        }
-    }
+    push_tables(&mut program, kind)?;
     let mut jobs = Vec::new(alloc);
     jobs.push(Job::new(program, false))?;
     Ok(jobs)
 }
 
-// Lives of realms for eight CPUs, all at one place or each at its own, or the page of each mapped again and again.
+fn push_tables(program: &mut Vec<Command>, kind: Kind) -> Result<(), AllocError> {
+    if kind.is_walking {
+        for cpu in 0..8 {
+            Pages::new(cpu, kind.is_shared).push_made(program)?;
+        }
+    }
+    Ok(())
+}
+
+// What each of eight CPUs executes.
 fn fixed_jobs(alloc: Global, kind: Kind) -> Result<Vec<Job>, AllocError> {
     let mut jobs = Vec::new(alloc);
     for cpu in 0..8 {
-        let mut program = Vec::new(alloc);
-        if kind.is_walking {
-            Pages::new(cpu, kind.is_shared).push_rounds(&mut program, u64::from(COMMANDS / 3))?;
-        } else {
-            let place = if kind.is_shared { 0 } else { cpu };
-            Life::new(place, place).push_next(&mut program, COMMANDS)?;
-        }
-        jobs.push(Job::new(program, false))?;
+        jobs.push(Job::new(fixed_program(alloc, kind, cpu)?, false))?;
     }
     Ok(jobs)
+}
+
+// Lives of realms, all at one place or each CPU's at its own, or the page of each mapped again and again.
+fn fixed_program(alloc: Global, kind: Kind, cpu: u64) -> Result<Vec<Command>, AllocError>
+    requires { cpu < 8 }
+{
+    let mut program = Vec::new(alloc);
+    if kind.is_walking {
+        Pages::new(cpu, kind.is_shared).push_rounds(&mut program, u64::from(COMMANDS / 3))?;
+    } else {
+        let place = if kind.is_shared { 0 } else { cpu };
+        Life::new(place, place).push_next(&mut program, COMMANDS)?;
+    }
+    Ok(program)
 }

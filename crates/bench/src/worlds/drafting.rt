@@ -11,7 +11,7 @@ use anyhow::{Result, bail};
 use arrayvec::ArrayVec;
 use granule_state::Config;
 use rmm_spec::{Accepted, Command, FunctionId, Reply, Stretch};
-use spec_machine::Machine;
+use spec_machine::{Machine, OwnerRow};
 use std::alloc::Global;
 
 /// One of so many commands is taken as it is drawn.
@@ -37,26 +37,43 @@ pub(crate) fn drafted_programs(
 ) -> Result<Vec<Vec<Command>>> {
     let mut machine = Machine::new(alloc, *config)?;
     let mut programs = empty_programs(alloc, config)?;
-    let mut busy = [0; 8];
     let mut rows = Vec::new(alloc);
+    let mut busy = [0; 8];
     for _command in 0..u64::from(config.cpus()) * u64::from(draft.commands) {
-        rows.clear();
-        machine.owner_report(&mut rows)?;
         let cpu = idle_cpu(&mut schedule, &mut busy);
-        let granules = Granules {
-            rows: rows.as_slice(),
-            cpu,
-            sharing,
-        };
-        let command = drafted_command(&machine, granules, dice);
-        carry_out(&mut machine, cpu, &command)?;
-        busy[usize::from(cpu % 8)] = likely_turns(command.function);
-        if let Some(program) = programs.get_mut(usize::from(cpu)) {
-            program.push(command)?;
-            push_edged(&mut machine, granules, draft.edged, program, dice)?;
-        }
+        let program = programs.get_mut(usize::from(cpu));
+        let function = push_drafted(&mut machine, &mut rows, cpu, sharing, draft, program, dice)?;
+        busy[usize::from(cpu % 8)] = likely_turns(function);
     }
     Ok(programs)
+}
+
+// Drafts the next commands of a CPU for the machine as it stands, carries them out, and appends them to its program. Returns
+// the function of the first.
+fn push_drafted(
+    machine: &mut Machine,
+    rows: &mut Vec<OwnerRow>,
+    cpu: u8,
+    sharing: Sharing,
+    draft: Draft,
+    program: Option<&mut Vec<Command>>,
+    dice: &mut Dice,
+) -> Result<FunctionId> {
+    rows.clear();
+    machine.owner_report(rows)?;
+    let granules = Granules {
+        rows: rows.as_slice(),
+        cpu,
+        sharing,
+    };
+    let command = drafted_command(machine, granules, dice);
+    carry_out(machine, cpu, &command)?;
+    let function = command.function;
+    if let Some(program) = program {
+        program.push(command)?;
+        push_edged(machine, granules, draft.edged, program, dice)?;
+    }
+    Ok(function)
 }
 
 // Appends so many commands with edges as words, and carries them out.

@@ -10,7 +10,9 @@ use crate::worlds::edges::edged_command;
 use anyhow::{Context, Result, bail};
 use flat_machine::{Stepped, TwoMachines};
 use granule_state::Config;
-use std::alloc::Global;
+use rmm_spec::Command;
+use spec_machine::{Machine, OwnerRow};
+use std::alloc::{AllocError, Global};
 
 /// How many steps a run has.
 const STEPS: u64 = 160;
@@ -60,32 +62,57 @@ fn compare_run(alloc: Global, seed: u64) -> Result<Counts> {
     let sharing = Sharing::drawn(&mut dice);
     let config = Config::new(sharing.granules(cpus), cpus).context("no such machine")?;
     let mut machines = TwoMachines::new(alloc, config)?;
+    let mut rows = Vec::new(alloc);
+    compare_steps(&mut machines, &mut rows, cpus, sharing, &mut dice)
+}
+
+fn compare_steps(
+    machines: &mut TwoMachines,
+    rows: &mut Vec<OwnerRow>,
+    cpus: u64,
+    sharing: Sharing,
+    dice: &mut Dice,
+) -> Result<Counts>
+    requires { (0 < cpus) × (cpus < 9) }
+{
     let mut life = DeepLife::new(0, 0);
     let begun = dice.below(MOST_BEGUN);
-    let mut rows = Vec::new(alloc);
     let mut counts = Counts::default();
     for step in 0..STEPS {
-        rows.clear();
-        machines.machine().owner_report(&mut rows)?;
-        let granules = Granules {
-            rows: rows.as_slice(),
-            cpu: drawn_cpu(&mut dice, cpus, step < begun),
-            sharing,
-        };
+        let cpu = drawn_cpu(dice, cpus, step < begun);
         let command = if step < begun {
             life.next()
-        } else if dice.one_in(EDGED) {
-            edged_command(granules, &mut dice)
         } else {
-            drafted_command(machines.machine(), granules, &mut dice)
+            next_command(machines.machine(), rows, cpu, sharing, dice)?
         };
-        let stepped = machines.execute(granules.cpu, &command)?;
-        counts.count(stepped);
+        counts.count(machines.execute(cpu, &command)?);
         if counts.same != counts.steps {
             break;
         }
     }
     Ok(counts)
+}
+
+// A command that is drawn for the machine as it stands.
+fn next_command(
+    machine: &Machine,
+    rows: &mut Vec<OwnerRow>,
+    cpu: u8,
+    sharing: Sharing,
+    dice: &mut Dice,
+) -> Result<Command, AllocError> {
+    rows.clear();
+    machine.owner_report(rows)?;
+    let granules = Granules {
+        rows: rows.as_slice(),
+        cpu,
+        sharing,
+    };
+    Ok(if dice.one_in(EDGED) {
+        edged_command(granules, dice)
+    } else {
+        drafted_command(machine, granules, dice)
+    })
 }
 
 // The life is the first CPU's.

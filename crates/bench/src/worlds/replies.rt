@@ -36,9 +36,7 @@ pub(crate) fn compare_replies(
     let mut all: u64 = 0;
     let mut equal: u64 = 0;
     for seed in first..first.saturating_add(count) {
-        let history = history_of(alloc, draft, seed)?;
-        let machine = Machine::new(alloc, history.config())?;
-        let same = equal_replies(machine, &history, commands)?;
+        let same = equal_of(alloc, draft, seed, commands)?;
         equal = equal.wrapping_add(u64::from(same));
         all = all.wrapping_add(u64::from(commands));
         if same != commands {
@@ -52,6 +50,13 @@ pub(crate) fn compare_replies(
     Ok(())
 }
 
+// How many replies of a world are equal.
+fn equal_of(alloc: Global, draft: Draft, seed: u64, commands: u32) -> Result<u32> {
+    let history = history_of(alloc, draft, seed)?;
+    let mut machine = Machine::new(alloc, history.config())?;
+    equal_replies(&mut machine, &history, commands)
+}
+
 // The run of a program on one CPU.
 fn history_of(alloc: Global, draft: Draft, seed: u64) -> Result<History> {
     let mut world = opened_for(alloc, &draft.drawn(alloc, seed)?)?;
@@ -60,13 +65,13 @@ fn history_of(alloc: Global, draft: Draft, seed: u64) -> Result<History> {
 }
 
 // How many calls the machine answers as they were answered, before the first that it doesn't.
-fn equal_replies(mut machine: Machine, history: &History, commands: u32) -> Result<u32> {
+fn equal_replies(machine: &mut Machine, history: &History, commands: u32) -> Result<u32> {
     let mut equal: u32 = 0;
     for number in 0..commands {
         let Some(call) = history.call_of(0, number) else {
             break;
         };
-        if !is_equal(&mut machine, &call)? {
+        if !is_equal(machine, &call)? {
             break;
         }
         equal = number + 1;

@@ -1,8 +1,8 @@
 //! Random runs, of which each text is judged on the way and at the end.
 
-use crate::judged::{are_yes, replies_of};
+use crate::judged::replies_of;
 use crate::worlds::draft::Draft;
-use crate::worlds::turning::{finish, opened_for, turned};
+use crate::worlds::turning::{finish, is_world_yes, opened_for, turned};
 use anyhow::{Result, bail};
 use scenario::Due;
 use std::alloc::Global;
@@ -52,16 +52,28 @@ pub(crate) fn judge_runs(rt: &impl Print, alloc: Global, first: u64, count: u64)
 fn judge_run(rt: &impl Print, alloc: Global, seed: u64, counts: &mut Counts) -> Result<()> {
     let scenario = DRAFT.drawn(alloc, seed)?;
     let mut world = opened_for(alloc, &scenario)?;
-    let turns = scenario.turns();
-    for part in turns.chunks((turns.len() / PLACES).max(1)) {
-        go_on(&mut world, alloc, part)?;
-        judge(rt, alloc, seed, &world, counts)?;
-    }
-    finish(&mut world, alloc)?;
-    judge(rt, alloc, seed, &world, counts)?;
+    judge_turns(rt, alloc, seed, &mut world, scenario.turns(), counts)?;
     let (replies, ok) = replies_of(&world.history(alloc)?);
     counts.replies = counts.replies.wrapping_add(replies);
     counts.ok = counts.ok.wrapping_add(ok);
+    Ok(())
+}
+
+// Takes the turns and finishes the world, which is judged on the way and then.
+fn judge_turns(
+    rt: &impl Print,
+    alloc: Global,
+    seed: u64,
+    world: &mut World,
+    turns: &[Due],
+    counts: &mut Counts,
+) -> Result<()> {
+    for part in turns.chunks((turns.len() / PLACES).max(1)) {
+        go_on(world, alloc, part)?;
+        counts.count(is_world_yes(rt, alloc, seed, world)?);
+    }
+    finish(world, alloc)?;
+    counts.count(is_world_yes(rt, alloc, seed, world)?);
     Ok(())
 }
 
@@ -72,16 +84,9 @@ fn go_on(world: &mut World, alloc: Global, turns: &[Due]) -> Result<()> {
     Ok(())
 }
 
-fn judge(
-    rt: &impl Print,
-    alloc: Global,
-    seed: u64,
-    world: &World,
-    counts: &mut Counts,
-) -> Result<()> {
-    let (history, certificate) = (world.history(alloc)?, world.certificate(alloc)?);
-    let is_yes = are_yes(rt, alloc, seed, &history, &certificate)?;
-    counts.judgements = counts.judgements.wrapping_add(1);
-    counts.yes = counts.yes.wrapping_add(u64::from(is_yes));
-    Ok(())
+impl Counts {
+    fn count(&mut self, is_yes: bool) {
+        self.judgements = self.judgements.wrapping_add(1);
+        self.yes = self.yes.wrapping_add(u64::from(is_yes));
+    }
 }

@@ -1,14 +1,14 @@
 //! Runs in which each CPU is ended at each turn, stopped in one sweep and told to give up in another, of which each is judged.
 
-use crate::judged::are_yes;
 use crate::worlds::draft::{Draft, scenario_of};
-use crate::worlds::turning::{finish, opened_for, turned};
+use crate::worlds::turning::{finish, is_world_yes, opened_for, turned};
 use anyhow::{Context, Result, bail};
 use granule_state::Config;
 use rmi_codec::read_command;
+use rmm_spec::Command;
 use scenario::{Due, Scenario};
-use std::alloc::Global;
-use world::Will;
+use std::alloc::{AllocError, Global};
+use world::{Will, World};
 
 /// Two CPUs delegate one granule.
 const ONE_GRANULE: [&str; 2] = ["c4000151 1000", "c4000151 1000"];
@@ -63,12 +63,21 @@ pub(crate) fn judge_stops(rt: &impl Print, alloc: Global, first: u64, count: u64
 fn written(alloc: Global, granules: u64, texts: [&str; 2], alone: u64) -> Result<Scenario> {
     let mut programs = Vec::new(alloc);
     for text in texts {
-        let mut program = Vec::new(alloc);
-        for line in text.lines() {
-            program.push(read_command(line)?)?;
-        }
-        programs.push(program)?;
+        programs.push(program_of(alloc, text)?)?;
     }
+    let config = Config::new(granules, 2).context("no such machine")?;
+    scenario_of(config, programs, 1, turns_of(alloc, alone)?)
+}
+
+fn program_of(alloc: Global, text: &str) -> Result<Vec<Command>> {
+    let mut program = Vec::new(alloc);
+    for line in text.lines() {
+        program.push(read_command(line)?)?;
+    }
+    Ok(program)
+}
+
+fn turns_of(alloc: Global, alone: u64) -> Result<Vec<Due>, AllocError> {
     let first = Due {
         cpu: 0,
         will: Will::Go,
@@ -80,8 +89,7 @@ fn written(alloc: Global, granules: u64, texts: [&str; 2], alone: u64) -> Result
             ..first
         })?;
     }
-    let config = Config::new(granules, 2).context("no such machine")?;
-    scenario_of(config, programs, 1, turns)
+    Ok(turns)
 }
 
 // Judges a run for each turn, and one behind the last, for each CPU and each way to end it there.
@@ -126,16 +134,21 @@ fn ended(
     end: Due,
 ) -> Result<bool> {
     let mut world = opened_for(alloc, scenario)?;
-    for (number, turn) in scenario.turns().iter().enumerate() {
-        if number == place {
-            turned(&mut world, alloc, end.cpu, end.will)?;
-        }
-        turned(&mut world, alloc, turn.cpu, Will::Go)?;
-    }
-    if place == scenario.turns().len() {
-        turned(&mut world, alloc, end.cpu, end.will)?;
-    }
+    end_at(&mut world, alloc, scenario.turns(), place, end)?;
     finish(&mut world, alloc)?;
-    let (history, certificate) = (world.history(alloc)?, world.certificate(alloc)?);
-    Ok(are_yes(rt, alloc, seed, &history, &certificate)?)
+    is_world_yes(rt, alloc, seed, &world)
+}
+
+// Takes the turns, and ends a CPU before the one at this place.
+fn end_at(world: &mut World, alloc: Global, turns: &[Due], place: usize, end: Due) -> Result<()> {
+    for (number, turn) in turns.iter().enumerate() {
+        if number == place {
+            turned(world, alloc, end.cpu, end.will)?;
+        }
+        turned(world, alloc, turn.cpu, Will::Go)?;
+    }
+    if place == turns.len() {
+        turned(world, alloc, end.cpu, end.will)?;
+    }
+    Ok(())
 }

@@ -1,5 +1,6 @@
 //! Worlds, opened and turned.
 
+use crate::judged::are_yes;
 use anyhow::{Result, bail};
 use granule_state::Config;
 use rmm_spec::Command;
@@ -27,6 +28,17 @@ pub(crate) fn turned(world: &mut World, alloc: Global, cpu: u8, will: Will) -> R
         bail!("no such CPU");
     }
     Ok(world.turn(alloc, cpu, will)?)
+}
+
+/// Whether the texts of the world so far are judged yes.
+pub(crate) fn is_world_yes(
+    rt: &impl Print,
+    alloc: Global,
+    seed: u64,
+    world: &World,
+) -> Result<bool> {
+    let (history, certificate) = (world.history(alloc)?, world.certificate(alloc)?);
+    Ok(are_yes(rt, alloc, seed, &history, &certificate)?)
 }
 
 /// All CPUs go on until none of them makes a step.
