@@ -2,7 +2,7 @@
 //! It promises that the order found is a linearization, and that where none is told no certificate at all is one.
 //! It tries depth first, what returned first before the rest, and calls that haven't returned last, with each reply that the
 //! specification gives them; it takes no step behind the limit that it is given.
-//! The program `rmmfind` depends on it.
+//! Nothing but `find_cases` depends on it yet.
 #![tactic(auto)]
 
 mod attempt;
