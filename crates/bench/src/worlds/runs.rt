@@ -28,7 +28,8 @@ struct Counts {
     ok: u64,
 }
 
-/// Judges so many runs, prints each judgement that isn't `yes`, and then how many were. An error where one wasn't.
+/// Judges so many runs, prints each judgement that isn't `yes`, and then how many were. An error where one wasn't, and where
+/// half of the commands or more were refused.
 pub(crate) fn judge_runs(rt: &impl Print, alloc: Global, first: u64, count: u64) -> Result<()> {
     let mut counts = Counts::default();
     for seed in first..first.saturating_add(count) {
@@ -40,11 +41,12 @@ pub(crate) fn judge_runs(rt: &impl Print, alloc: Global, first: u64, count: u64)
         replies,
         ok,
     } = counts;
-    println!(rt;
-        "runs: {yes} of {judgements} judgements are yes, {ok} of {replies} replies are ok"
-    )?;
+    println!(rt; "runs: {yes} of {judgements} judgements are yes")?;
     if yes != judgements {
         bail!("not every judgement is yes");
+    }
+    if ok <= replies / 2 {
+        bail!("most commands were refused");
     }
     Ok(())
 }
