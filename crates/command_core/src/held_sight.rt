@@ -77,7 +77,7 @@ impl<'a, H: Held> Sight for HeldSight<'a, H> {
     ghost use Rattle.std.specs.Prelude.{option_map, option_copied};
     ghost use Rattle.command_core.specs.Sides.{side_of, are_vmids_told, are_recs_told};
 
-    ghost state = { λ s. seen_state s.config.now.granules (H.cells s.held.now) };
+    ghost state = { λ s. seen_state s.config.now (H.cells s.held.now) };
 
     ghost uses_vmid = { λ s. are_vmids_told (option_map side_of (option_copied s.side)) };
 

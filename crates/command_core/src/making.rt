@@ -231,7 +231,7 @@ fn fits_cells<H: Held>(held: &H, change: &Change) -> bool
 // Whether a REC that is made can be counted.
 fn can_count(config: &Config, granules: u64, side: &Side, change: &Change) -> bool
     requires { granules ≡ config.now.granules }
-    ensures { result ≡ spec.can_count config.now.granules (side_of side.now) change.now }
+    ensures { result ≡ spec.can_count config.now (side_of side.now) change.now }
 {
     match change {
         Change::RecMade { rd, .. } => {
@@ -251,7 +251,7 @@ pub(crate) fn can_make<H: Held>(
     change: &Change,
 ) -> bool
     requires { granules ≡ config.now.granules }
-    ensures { result ≡ spec.can_make config.now.granules (H.cells held.now) (side_of side.now) change.now }
+    ensures { result ≡ spec.can_make config.now (H.cells held.now) (side_of side.now) change.now }
 {
     fits_cells(held, change) && can_count(config, granules, side, change)
 }

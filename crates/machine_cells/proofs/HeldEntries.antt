@@ -3,6 +3,7 @@ use Rattle.std.proofs.Common.{◌≡◌, ℕ, zero, suc, ◌+◌, ◌*◌, ◌/�
 use Rattle.std.specs.List.{list_any}
 use Rattle.std.proofs.lemmas.Bool.{false≢true, lt-ltb, le-ltb, cases_lt}
 use Rattle.std.proofs.lemmas.Option.{none-some, same_Some}
+use Rattle.rmm_spec.specs.HistoryText.{Config}
 use Rattle.rmm_spec.specs.declared.entry.Entry.{Entry}
 use Rattle.rmm_spec.specs.declared.entry.Entry.TheVariants.{Unassigned, Table}
 use Rattle.rmm_spec.specs.declared.entry.EntryTest.{EntryTest}
@@ -29,22 +30,22 @@ use Rattle.machine_cells.proofs.WalkEnds.{entry-none}
 -- ---- one entry
 
 -- an entry of a table of the whole is the flat state's
-entry-held : (granules : ℕ) (side : Side) (places : ℕ → CpuPlace) (cells : ℕ → Cell) → (w : IsWellShaped granules side places cells)
+entry-held : (config : Config) (side : Side) (places : ℕ → CpuPlace) (cells : ℕ → Cell) → (w : IsWellShaped config side places cells)
     → (g rd level number : ℕ) (e : Entry) → (holds : HoldsTable (tables_of cells) g rd level (number / 512))
-    → slice_get holds.table.entries (number % 512) ≡ Some e → entry_at (flat_state granules cells) rd level number ≡ e
+    → slice_get holds.table.entries (number % 512) ≡ Some e → entry_at (flat_state config cells) rd level number ≡ e
 unfolding flat_state
-entry-held granules side places cells w g rd level number e holds at =
-    let s = flat_state granules cells in
-    let sound = well_shaped-is_sound granules side places cells w in
-    let found : (g rd level number : ℕ) → HoldsTable (tables_of cells) g rd level number → table_granule granules (tables_of cells) rd level number ≡ Some g =
-    λ g rd level number holds. holds-found granules (tables_of cells) g rd level number (IsTied-shaped granules side places cells w).tables.found holds in
+entry-held config side places cells w g rd level number e holds at =
+    let s = flat_state config cells in
+    let sound = well_shaped-is_sound config side places cells w in
+    let found : (g rd level number : ℕ) → HoldsTable (tables_of cells) g rd level number → table_granule config.granules (tables_of cells) rd level number ≡ Some g =
+    λ g rd level number holds. holds-found config.granules (tables_of cells) g rd level number (IsTied-shaped config side places cells w).tables.found holds in
     elim (link_or_leaf e) [
       | inl link ↦ entry-link s sound rd level number link.0 (found link.0 rd (suc level) number
           (subst (λ n. HoldsTable (tables_of cells) link.0 rd (suc level) n) (number-again number)
           (at_place (λ a b c. HoldsTable (tables_of cells) link.0 a (suc b) (512 * c + number % 512)) holds
           (w.tables.links g (number % 512) link.0 holds.table holds.is_held (at ∙ ap Some link.1))))) ∙ sym link.1
       | inr leaf ↦ entry-leaf s sound rd level number e
-          (leaf-found granules (tables_of cells) rd level number g holds.table (found g rd level (number / 512) holds) holds.is_held
+          (leaf-found config.granules (tables_of cells) rd level number g holds.table (found g rd level (number / 512) holds) holds.is_held
           ∙ entry_leaf-some holds.table.entries (number % 512) e at leaf)
     ]
 

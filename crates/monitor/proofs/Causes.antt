@@ -27,7 +27,7 @@ same-run config other entries last same run =
 pub fault-had_cause : (config : Config) (command : Command) (token : TokenView) (journal : JournalView) (last : State) (cells : List HeldCell)
     (size : ℕ) (result : Result Done CommitFault) → config.granules ≡ size → journal.config.granules ≡ size
     → IsRun (opening journal.config) journal.entries last → AreGranules config.granules cells
-    → IsTrue (is_settled config.granules (call_of command) (place_of token.place) cells)
+    → IsTrue (is_settled config (call_of command) (place_of token.place) cells)
     → IfErr result (λ fault. HasCause fault size command journal token cells) → IfErr result (λ fault. HadCause config fault command token)
 fault-had_cause config command token journal last cells size (Ok done) is_size is_journal run granules settled cause = tt
 fault-had_cause config command token journal last cells size (Err fault) is_size is_journal run granules settled cause =

@@ -26,7 +26,7 @@ pub record HadCause (config : Config) (fault : CommitFault) (command : Command) 
   pub same_size : journal.config.granules ≡ config.granules
   pub run : IsRun (opening config) journal.entries last
   pub granules : AreGranules config.granules cells
-  pub settled : IsTrue (is_settled config.granules (call_of command) (place_of token.place) cells)
+  pub settled : IsTrue (is_settled config (call_of command) (place_of token.place) cells)
   pub cause : HasCause fault config.granules command journal token cells
 
 -- an answer for a fault is given only where the fault had its cause

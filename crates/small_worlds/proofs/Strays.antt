@@ -2,6 +2,7 @@
 use Rattle.std.proofs.Common.{◌≡◌, ℕ, ◌+◌, ◌<◌, ◌≤◌, Bool, true, false, ◌==◌, if◌then◌else◌, IsTrue, List, [], ◌∷◌, ◌++◌, map, None, Ok, inr, refl, sym, ◌∙◌, subst, arith, eq-eqb}
 use Rattle.std.specs.Prelude.{Contains}
 use Rattle.std.proofs.lemmas.Bool.{or_left}
+use Rattle.rmm_spec.specs.HistoryText.{Config}
 use Rattle.rmm_spec.specs.declared.call.Call.TheVariants.{RecDestroy}
 use Rattle.rmm_spec.specs.declared.command.Command.{Command}
 use Rattle.rmm_spec.specs.declared.event.Event.{Event}
@@ -201,10 +202,10 @@ recs-answered = (
 own_part : (c : RecRecord) → IsTrue (names_part (Rec c) c.aux0)
 own_part c = or_left (c.aux0 == c.aux0) (c.aux1 == c.aux0) (eq-eqb c.aux0 c.aux0 refl)
 
-unguarded : (granules rec stray : ℕ) (c : RecRecord) → is_granule granules c.aux0 ≡ true → (rec ≡ c.aux0 → ⊥) → (stray ≡ c.aux0 → ⊥) → (rec ≡ stray → ⊥)
-    → IsUnguardedTake granules (named (RecDestroy rec)) (held_at rec (Rec c) ∷ held_at stray RecAux ∷ []) c.aux0
+unguarded : (config : Config) (rec stray : ℕ) (c : RecRecord) → is_granule config.granules c.aux0 ≡ true → (rec ≡ c.aux0 → ⊥) → (stray ≡ c.aux0 → ⊥) → (rec ≡ stray → ⊥)
+    → IsUnguardedTake config (named (RecDestroy rec)) (held_at rec (Rec c) ∷ held_at stray RecAux ∷ []) c.aux0
 unfolding named
-unguarded granules rec stray c is_lock own other apart =
+unguarded config rec stray c is_lock own other apart =
     let mine = held_at rec (Rec c) in
     let strange = held_at stray RecAux in
     record {

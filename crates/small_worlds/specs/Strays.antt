@@ -26,15 +26,15 @@ granules_below zero = []
 granules_below (suc n) = granules_below n ++ n * 4096 ∷ []
 
 -- all granules of a whole, held by a CPU outside of RECs
-abbrev pub hold_all : ℕ → Whole → Hold
-hold_all granules w = record { cells = map (λ granule. held_at granule (w.cells granule)) (granules_below granules); side = w.side; place = Outside }
+abbrev pub hold_all : Config → Whole → Hold
+hold_all config w = record { cells = map (λ granule. held_at granule (w.cells granule)) (granules_below config.granules); side = w.side; place = Outside }
 
 -- CPU 0 calls each of the commands, takes all granules, commits and returns
-abbrev pub all_accepted : ℕ → Whole → List Accepted → List Move
-all_accepted granules w [] = []
-all_accepted granules w (a ∷ others) =
-    (move.Call 0 ∷ served_by 0 (granules_below granules) (ok []) (hold_all granules (whole_changed granules w a.change)))
-    ++ all_accepted granules (whole_changed granules w a.change) others
+abbrev pub all_accepted : Config → Whole → List Accepted → List Move
+all_accepted config w [] = []
+all_accepted config w (a ∷ others) =
+    (move.Call 0 ∷ served_by 0 (granules_below config.granules) (ok []) (hold_all config (whole_changed config w a.change)))
+    ++ all_accepted config (whole_changed config w a.change) others
 
 abbrev pub untouched : Whole
 untouched = record { cells = λ _. Undelegated; side = record { vmids = λ _. None; rec_counts = λ _. 0 }; places = λ _. Outside }

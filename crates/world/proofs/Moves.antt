@@ -299,7 +299,7 @@ module _ (s : own.World) (cpu : ℕ) (within : cpu < s.history.recorded.config.c
   pub committed : (cells : Cells) (side : own_side.Side) (mid cpus : Cpus) (reserved entries : List Commitment) (config : Config) (number : ℕ)
       (opened command again : Command) (learnt : Option ℕ) (given told : Reply) → config ≡ s.history.recorded.config
       → (views_of s.cpus).phase cpu ≡ Deciding number opened learnt → command ≡ opened
-      → MakesStep config.granules cpu command given (cells_of s.cells) (cells_of cells) (side_of s.side) (side_of side) (views_of s.cpus) (views_of mid)
+      → MakesStep config cpu command given (cells_of s.cells) (cells_of cells) (side_of s.side) (side_of side) (views_of s.cpus) (views_of mid)
       → views_of cpus ≡ record (views_of mid) { waits = put (views_of mid).waits cpu None; phase = put (views_of mid).phase cpu (Decided number command given) }
       → reserved ≡ s.journal.items → again ≡ command → told ≡ given
       → entries ≡ reserved ++ record { cpu = cpu; number = number; command = again; given = told } ∷ []
