@@ -13,8 +13,8 @@ use Rattle.told.specs.declared.condition.Condition.TheVariants as condition
 
 -- the tag of the granule at the address, or nothing where there is none
 abbrev pub IsFound : State → ℕ → Option Tag → Type 0
-IsFound s granule None = is_granule s.granules granule ≡ false
-IsFound s granule (Some tag) = IsTrue (is_granule s.granules granule) × (s.tag granule ≡ tag)
+IsFound s granule None = is_granule s.config.granules granule ≡ false
+IsFound s granule (Some tag) = IsTrue (is_granule s.config.granules granule) × (s.tag granule ≡ tag)
 
 -- the command names the granule and needs the tag of it
 abbrev pub IsNeeded : Call → ℕ → Tag → Type 0

@@ -24,7 +24,7 @@ use Rattle.shape_laws.proofs.Ties.{IsTied-shaped, entry_leaf-some, leaf-found, l
 use Rattle.rtt_table.proofs.Searches.{search-places}
 use Rattle.machine_cells.specs.declared.granules.Granules.{Granules}
 use Rattle.machine_cells.specs.Searches.{StandsAs, IsTable, has_unlisted}
-use Rattle.machine_cells.specs.Whole.{cells_of, whole_of, count_of, state_in, IsShapedIn}
+use Rattle.machine_cells.specs.Whole.{cells_of, whole_of, config_of, count_of, state_in, IsShapedIn}
 use Rattle.machine_cells.proofs.WalkEnds.{entry-none}
 
 -- ---- one entry
@@ -56,7 +56,7 @@ entry-stands g shaped rd level number t e stands at =
     let w = whole_of g in
     let holds = table_granule-holds (count_of g) (tables_of w.cells) rd level (number / 512) stands.granule stands.is_found in
     let same = same_table (tables_of w.cells) stands.granule t holds.table stands.is_held holds.is_held in
-    sym (entry-held (count_of g) w.side w.places w.cells shaped stands.granule rd level number e holds (ap (λ (t : TableRecord). slice_get t.entries (number % 512)) (sym same) ∙ at))
+    sym (entry-held (config_of g) w.side w.places w.cells shaped stands.granule rd level number e holds (ap (λ (t : TableRecord). slice_get t.entries (number % 512)) (sym same) ∙ at))
 
 -- ---- searches through a table
 

@@ -29,7 +29,7 @@ has_tag-read config cells address read tag granule is =
     sameb-tag_number read tag ∙ ap (λ t. tag_number t == tag_number tag) is ∙ rw granule refl
 
 -- what is no granule has no tag
-pub has_tag-none : (s : State) (address : ℕ) (tag : Tag) → is_granule s.granules address ≡ false → false ≡ has_tag s address tag
+pub has_tag-none : (s : State) (address : ℕ) (tag : Tag) → is_granule s.config.granules address ≡ false → false ≡ has_tag s address tag
 unfolding has_tag
 has_tag-none s address tag none = rw none refl
 

@@ -24,8 +24,8 @@ cells-new granules n cells is = λ i address.
 pub places-new : (n : ℕ) → places_in (replicate n Outside) ≡ (λ _. shape.Outside)
 places-new n = λ i cpu. ap place_of (get_or-replicate_all n cpu Outside _ refl) i
 
-pub opening-state : (config other : Config) (cells : ℕ → spec.Cell) → other ≡ config → cells ≡ (λ _. spec.Undelegated) → flat_state other.granules cells ≡ opening config
-opening-state config other cells same is = (λ i. flat_state (same i).granules (is i)) ∙ flat_state-opening config
+pub opening-state : (config other : Config) (cells : ℕ → spec.Cell) → other ≡ config → cells ≡ (λ _. spec.Undelegated) → flat_state other cells ≡ opening config
+opening-state config other cells same is = (λ i. flat_state (same i) (is i)) ∙ flat_state-opening config
 
 nothing : shape.Side
 nothing = record { vmids = λ _. None; rec_counts = λ _. 0 }

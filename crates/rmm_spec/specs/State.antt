@@ -47,7 +47,7 @@ pub record RecRecord : Type 0 where
 -- Tables and leaves go by realm, level and number. An entry of level l covers 2 ^ (12 + 9 * (3 - l)) bytes, its number
 -- is the address over that, and a table's number is that of the entry above it. A leaf is an entry that is no Table.
 pub record State : Type 0 where
-  pub granules : ℕ
+  pub config : Config
   pub tag : ℕ → Tag
   pub realm : ℕ → Option RealmRecord
   pub rec : ℕ → Option RecRecord
@@ -57,7 +57,7 @@ pub record State : Type 0 where
 -- the state in which every granule is the host's, and nothing else is there
 unfoldable pub opening : Config → State
 opening config = record {
-  granules = config.granules;
+  config = config;
   tag = λ _. Undelegated;
   realm = λ _. None;
   rec = λ _. None;
