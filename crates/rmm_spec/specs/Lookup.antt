@@ -1,11 +1,14 @@
 -- What rows read off a state: tests, searches, and records with what is read where none is.
 use Rattle.std.specs.Prelude.{ℕ, zero, suc, ◌*◌, ◌%◌, Bool, true, false, ◌&&◌, ◌||◌, nat_lt, ◌==◌, if◌then◌else◌, [], Option, Some, None, unwrap_or}
+use Rattle.rmm_spec.specs.declared.measurement.Measurement.TheVariants.{Sha256}
 use Rattle.rmm_spec.specs.declared.tag.RealmState.{RealmState}
 use Rattle.rmm_spec.specs.declared.tag.RealmState.TheVariants.{New, Active, SystemOff}
 use Rattle.rmm_spec.specs.declared.tag.Ripas.{Ripas}
 use Rattle.rmm_spec.specs.declared.tag.Ripas.TheVariants.{Empty, Ram, Destroyed}
 use Rattle.rmm_spec.specs.declared.tag.Tag.{Tag}
 use Rattle.rmm_spec.specs.declared.tag.Tag.TheVariants.{Undelegated, Delegated, Rd, Rec, RecAux, Data, Rtt}
+use Rattle.rmm_spec.specs.declared.version.Version.{Version}
+use Rattle.rmm_spec.specs.declared.version.Version.TheVariants.{One, Two}
 use Rattle.rmm_spec.specs.State.{RealmRecord, Request, RecRecord, State}
 
 abbrev pub tag_number : Tag → ℕ
@@ -22,6 +25,15 @@ abbrev pub ripas_number : Ripas → ℕ
 ripas_number Empty = 0
 ripas_number Ram = 1
 ripas_number Destroyed = 2
+
+-- the hashes that a realm can be measured by: SHA-256 and SHA-512
+abbrev pub is_hash : ℕ → Bool
+is_hash algo = algo == 0 || algo == 1
+
+-- whether a version has the hash
+abbrev pub allows_hash : Version → ℕ → Bool
+allows_hash One algo = algo == 0
+allows_hash Two algo = is_hash algo
 
 -- whether a number is the address of one of so many granules
 unfoldable pub is_granule : ℕ → ℕ → Bool
@@ -73,7 +85,7 @@ no_realm = record {
   algo = 0;
   root = 0;
   next_index = 0;
-  rim = [];
+  rim = Sha256 [];
   rems = [];
 }
 
