@@ -77,7 +77,7 @@ accepts : (cpu granule : ℕ) → is_granule 4 granule ≡ true → LocalStep tw
 accepts cpu granule is_lock =
     subst (λ b. LocalStep two_cpus cpu (delegate granule) (ok []) (holding_at granule Undelegated) (holding_at granule (if b then Delegated else Undelegated)))
     (eq-eqb granule granule refl)
-    (delegate-is_local 4 cpu granule (delegate granule) (holding_at granule Undelegated) (call_of-delegate granule) refl is_lock
+    (delegate-is_local two_cpus cpu granule (delegate granule) (holding_at granule Undelegated) (call_of-delegate granule) refl is_lock
     (Contains-head (held_at granule Undelegated) []))
 
 names_it : (granule : ℕ) → Contains (named (call_of (delegate granule))) (needed granule tag.Undelegated)
@@ -86,7 +86,7 @@ names_it granule = Contains-head (needed granule tag.Undelegated) []
 
 refuses : (cpu granule : ℕ) → LocalStep two_cpus cpu (delegate granule) input_error (holding_at granule Delegated) (holding_at granule Delegated)
 refuses cpu granule =
-    tags-are_local 4 cpu (delegate granule) (holding_at granule Delegated) (held_at granule Delegated) (needed granule tag.Undelegated) (class_of-delegate granule) refl
+    tags-are_local two_cpus cpu (delegate granule) (holding_at granule Delegated) (held_at granule Delegated) (needed granule tag.Undelegated) (class_of-delegate granule) refl
     (Contains-head (held_at granule Delegated) []) (names_it granule) refl refl
 
 is_lock : is_granule 4 0x1000 ≡ true

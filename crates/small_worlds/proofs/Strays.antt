@@ -118,7 +118,7 @@ next-by w a number rest journal events shaped outside answered stays =
             events = events ++ Called 0 number a.command ∷ [] ++ Returned 0 number (ok []) ∷ [];
           })
           (serve anything asked 0 number a.command (ok []) (hold_all nine_granules new) (granules_below 9) is_cpu refl refl nine_taken
-          (takes_anything asked 0 [] (granules_below 9)) (accepted-is_local 9 0 a.command a.change w shaped answered stays)),
+          (takes_anything asked 0 [] (granules_below 9)) (accepted-is_local nine_granules 0 a.command a.change w shaped answered stays)),
     )
 
 -- each of these is answered ok in its turn
@@ -307,12 +307,12 @@ unfolding call_from is_granule cells_changed realm_updated
 strays_wait j e = record {
   zero_may = record {
     deciding = record { number = 11; command = destroys 0x3000; learnt = None; is_deciding = refl };
-    take = unguarded 9 0x3000 0x7000 (rec_of 0 0x4000 0x5000) refl (λ same. omega arith) (λ same. omega arith) (λ same. omega arith);
+    take = unguarded nine_granules 0x3000 0x7000 (rec_of 0 0x4000 0x5000) refl (λ same. omega arith) (λ same. omega arith) (λ same. omega arith);
   };
   one_holds = Contains-tail 0x6000 (0x4000 ∷ []) 0x4000 (Contains-head 0x4000 []);
   one_may = record {
     deciding = record { number = 0; command = destroys 0x6000; learnt = None; is_deciding = refl };
-    take = unguarded 9 0x6000 0x4000 (rec_of 1 0x7000 0x8000) refl (λ same. omega arith) (λ same. omega arith) (λ same. omega arith);
+    take = unguarded nine_granules 0x6000 0x4000 (rec_of 1 0x7000 0x8000) refl (λ same. omega arith) (λ same. omega arith) (λ same. omega arith);
   };
   zero_holds = Contains-tail 0x3000 (0x7000 ∷ []) 0x7000 (Contains-head 0x7000 []);
 }
