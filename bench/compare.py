@@ -1,7 +1,7 @@
 #!/usr/bin/env python3
 """Compares the built program with judge.py on short pairs of texts, of which most are broken somewhere.
 
-usage: compare.py [--program PATH] [--jobs COUNT] [PAIRS [SEED]]
+usage: compare.py [--program PATH] [--jobs COUNT] [--version 2] [PAIRS [SEED]]
 
 The histories are those of explore.py on up to 40 granules and 8 CPUs. A pair is left as it is, or has one of its replies,
 words, lines or bytes changed. It prints how often each kind of verdict came and, of the pairs with yes, how often each
@@ -33,8 +33,8 @@ PAIRS_A_TASK = 200
 class CountingMachine(Machine):
     """Counts how each command was answered: accepted, misplaced, or refused by a row."""
 
-    def __init__(self, granules):
-        super().__init__(granules)
+    def __init__(self, granules, version):
+        super().__init__(granules, version)
         self.answers = collections.Counter()
 
     def answer(self, cpu, function, words, choose=max):
