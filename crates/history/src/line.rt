@@ -1,6 +1,6 @@
 //! The first line of a history.
 
-ghost use Rattle.std.specs.Prelude.{◌≡◌, ⊥, IsTrue, IfSome, IfNone};
+ghost use Rattle.std.specs.Prelude.{◌≡◌, IsTrue, IfSome, IfNone};
 ghost use Rattle.rmm_spec.specs.declared.version.Version.{Version};
 ghost use Rattle.rmm_spec.specs.HistoryText.{is_version, mark, version_of};
 ghost use Rattle.rmm_spec.specs.Text.{parts_of};
