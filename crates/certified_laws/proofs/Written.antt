@@ -1,5 +1,5 @@
 -- What every run keeps of what can be written: events have texts, each CPU's are a record, and the journal's replies have texts.
-use Rattle.std.proofs.Common.{◌≡◌, ℕ, ◌+◌, ◌<◌, Bool, true, false, ◌==◌, eqb, List, [], ◌∷◌, ◌++◌, map, length, Option, Some, None, slice_get, ◌⊎◌, inl, inr, refl, sym, ◌∙◌, subst, eqb-true, eq-eqb}
+use Rattle.std.proofs.Common.{◌≡◌, ℕ, ◌+◌, ◌<◌, Bool, true, false, ◌==◌, eqb, List, [], ◌∷◌, ◌++◌, length, Option, Some, None, slice_get, ◌⊎◌, inl, inr, refl, sym, ◌∙◌, subst, eqb-true, eq-eqb}
 use Rattle.std.specs.Prelude.{IsSome}
 use Rattle.std.specs.List.{AllByRecursion}
 use Rattle.std.proofs.lemmas.Bool.{false≢true}
@@ -10,9 +10,9 @@ use Rattle.rmm_spec.specs.declared.event.Event.TheVariants.{Called, Returned}
 use Rattle.rmm_spec.specs.declared.reply.Reply.{Reply}
 use Rattle.rmm_spec.specs.CommandText.{IsCommand, IsReply}
 use Rattle.rmm_spec.specs.HistoryText.{Config, Stand, start, stand_after, stand_from, subhistory_of, cpu_of, IsEvent}
-use Rattle.rmm_spec.specs.Cell.{Cell, put}
+use Rattle.rmm_spec.specs.Cell.{put}
 use Rattle.rmm_spec.specs.Flat.{flat_state}
-use Rattle.rmm_spec.specs.Local.{Hold, Agrees, put_all}
+use Rattle.rmm_spec.specs.Local.{Hold, put_all}
 use Rattle.rmm_spec.specs.World.{World, Phase, Between, Deciding, Decided, GivenUp, Stopped, Commitment, opening_world, phase_learnt, without_granule, Move, Moves, Happens, HappenAll, Commits}
 use Rattle.rmm_spec.specs.World as world
 use Rattle.rmm_spec.proofs.Places.{IsEvent-slice_get}

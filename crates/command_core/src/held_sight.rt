@@ -10,7 +10,7 @@ use command_words::is_tag;
 use granule_cells::{Cell, Side};
 use granule_state::{Config, Pa};
 use realm_desc::{Realm, Rec};
-use rmm_spec::{Entry, EntryTest, Tag, Walked};
+use rmm_spec::{Entry, EntryTest, Tag, Version, Walked};
 use table_entries::{entry_number, table_number};
 
 /// Held cells with the side table, on a machine of some size. It stands for the one state that the cells tell of. Who plans what to
@@ -82,6 +82,10 @@ impl<'a, H: Held> Sight for HeldSight<'a, H> {
     ghost uses_vmid = { λ s. are_vmids_told (option_map side_of (option_copied s.side)) };
 
     ghost has_recs = { λ s. are_recs_told (option_map side_of (option_copied s.side)) };
+
+    fn version(&self) -> Version {
+        self.config.version()
+    }
 
     fn has_tag(&self, address: u64, tag: Tag) -> bool {
         is_granule(self.config, address) && is_tag(self.tag(address), tag)

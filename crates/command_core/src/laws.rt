@@ -1,6 +1,7 @@
 //! What the core rests on: each law is the contract of a function that does nothing.
 
 ghost use Rattle.std.specs.Prelude.{◌≡◌, ℕ, true, IsTrue, List, Result};
+ghost use Rattle.rmm_spec.specs.HistoryText.{Config};
 ghost use Rattle.rmm_spec.specs.declared.accepted.Accepted.{Accepted};
 ghost use Rattle.rmm_spec.specs.declared.call.Call.{Call};
 ghost use Rattle.rmm_spec.specs.declared.change.Change.{Change};

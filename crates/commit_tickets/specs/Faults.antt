@@ -38,7 +38,7 @@ MakesTable config command journal token cells =
     DecidesTable config token.cpu command (hold_with journal token cells) ⊎ AcceptsTable token.cpu command journal.config journal.entries
 
 -- Some local step on what is held has a reply that the machine doesn't give after the journal's entries.
-pub record Disagree (config : Config) (cpu : ℕ) (command : Command) (hold : Hold) (config : Config) (entries : List JournalEntry) : Type 0 where
+pub record Disagree (config : Config) (cpu : ℕ) (command : Command) (hold : Hold) (entries : List JournalEntry) : Type 0 where
   pub given : Reply
   pub new : Hold
   pub step : LocalStep config cpu command given hold new
@@ -50,4 +50,4 @@ abbrev pub HasCause : CommitFault → Config → Command → JournalView → Tok
 HasCause NoMemory config command journal token cells =
     (journal.room ≡ 0) ⊎ ((token.room ≡ 0) ⊎ MakesTable config command journal token cells)
 HasCause Disagrees config command journal token cells =
-    Disagree config token.cpu command (hold_with journal token cells) journal.config journal.entries ⊎ (length journal.entries < token.seen)
+    Disagree config token.cpu command (hold_with journal token cells) journal.entries ⊎ (length journal.entries < token.seen)

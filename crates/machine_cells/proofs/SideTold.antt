@@ -26,7 +26,7 @@ module _ (config : Config) (side : Side) (places : ℕ → CpuPlace) (cells : �
   pub has_rec-counted : (rd : ℕ) → nat_lt 0 (side.rec_counts rd) ≡ has_rec (flat_state config cells) rd
   unfolding has_rec flat_state
   has_rec-counted rd =
-      ap (nat_lt 0) (w.realms.counted rd) ∙ sym (any_below-count_below config (λ k. is_owned_by rd (recs_of cells (k * 4096))))
+      ap (nat_lt 0) (w.realms.counted rd) ∙ sym (any_below-count_below config.granules (λ k. is_owned_by rd (recs_of cells (k * 4096))))
 
   vmid_owner : (vmid : ℕ) (o : Option RealmRecord) → has_vmid vmid o ≡ true → (realm : RealmRecord) × (o ≡ Some realm) × (realm.vmid ≡ vmid)
   vmid_owner vmid None has = absurd (false≢true has)

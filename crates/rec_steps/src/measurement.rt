@@ -9,8 +9,8 @@ ghost use Rattle.rec_steps.specs.Answers.{answer_at, IsStep};
 use crate::reply::input_error;
 use crate::step::RecStep;
 use arrayvec::ArrayVec;
-use realm_desc::Realm;
 use measure::{words, words8};
+use realm_desc::Realm;
 use rmm_spec::{Measurement, RealmUpdate, Reply};
 
 #[tactic(auto, unfolding(rmm_spec::specs::Step::RealmCall::measurement_read, rmm_spec::specs::Step::Words::words_of, rmm_spec::specs::Step::Named::named))]

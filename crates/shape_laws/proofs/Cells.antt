@@ -164,17 +164,17 @@ pub record Views : Type 0 where
 abbrev pub views_of : (ℕ → Cell) → Views
 views_of cells = record { tags = tags_of cells; realms = realms_of cells; recs = recs_of cells; tables = tables_of cells }
 
-abbrev pub flat_views : ℕ → Views → State
-flat_views granules v = record {
-  granules = granules;
+abbrev pub flat_views : Config → Views → State
+flat_views config v = record {
+  config = config;
   tag = v.tags;
   realm = v.realms;
   rec = v.recs;
-  table = table_granule granules v.tables;
-  leaf = leaf_in_tables granules v.tables;
+  table = table_granule config.granules v.tables;
+  leaf = leaf_in_tables config.granules v.tables;
 }
 
-pub flat_state-views : (config : Config) (cells : ℕ → Cell) → flat_state config cells ≡ flat_views config.granules (views_of cells)
+pub flat_state-views : (config : Config) (cells : ℕ → Cell) → flat_state config cells ≡ flat_views config (views_of cells)
 unfolding flat_state
 flat_state-views config cells = refl
 

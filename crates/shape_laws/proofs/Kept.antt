@@ -32,7 +32,7 @@ IsChangedShape config w change =
 pub record Makes (config : Config) (w : Whole) (change : Change) : Type 0 where
   pub views : Views
   pub seen : views_of (cells_changed config w.cells change) ≡ views
-  pub flat : flat_views config.granules views ≡ changed (flat_state config w.cells) change
+  pub flat : flat_views config views ≡ changed (flat_state config w.cells) change
   pub tied : IsTied config.granules (side_changed w.cells w.side change) (places_changed w.cells w.places change) views
 
 -- what is owed is enough
@@ -41,7 +41,7 @@ pub kept : (config : Config) (w : Whole) (change : Change) → IsShaped config w
 kept config w change shaped can makes =
     let new = cells_changed config w.cells change in
     let s = flat_state config w.cells in
-    let flat : flat_state config new ≡ changed s change = flat_state-views config new ∙ ap (flat_views config.granules) makes.seen ∙ makes.flat in
+    let flat : flat_state config new ≡ changed s change = flat_state-views config new ∙ ap (flat_views config) makes.seen ∙ makes.flat in
     let sound : IsSound (flat_state config new) =
     subst IsSound (sym flat) (changed_sound s change (well_shaped-is_sound config w.side w.places w.cells shaped) can) in
     let tied : IsTied config.granules (side_changed w.cells w.side change) (places_changed w.cells w.places change) (views_of new) =

@@ -1,6 +1,7 @@
 //! What changes keep of wholes: each law is the contract of a function that does nothing.
 
 ghost use Rattle.std.specs.Prelude.{◌≡◌, ℕ, List, [], ◌∷◌, Ok};
+ghost use Rattle.rmm_spec.specs.HistoryText.{Config};
 ghost use Rattle.rmm_spec.specs.declared.accepted.Accepted.TheVariants.{Reaches};
 ghost use Rattle.rmm_spec.specs.declared.accepted.Stretch.{Stretch};
 ghost use Rattle.rmm_spec.specs.declared.change.Change.{Change};

@@ -1,5 +1,6 @@
 -- Small worlds, written out: what two CPUs do on a few granules, and takes by other rules than the rising one.
 use Rattle.std.specs.Prelude.{◌≡◌, ℕ, zero, suc, ◌≤◌, false, ◌⊎◌, IsTrue, List, [], ◌∷◌, ◌++◌, map, Contains, length, None}
+use Rattle.rmm_spec.specs.declared.version.Version.TheVariants.{One}
 use Rattle.rmm_spec.specs.declared.command.Command.{Command}
 use Rattle.rmm_spec.specs.declared.event.Event.{Event}
 use Rattle.rmm_spec.specs.declared.event.Event.TheVariants.{Called}
@@ -79,7 +80,7 @@ served_by cpu granules given held =
 -- ---- two CPUs that delegate one granule
 
 abbrev pub two_cpus : Config
-two_cpus = record { granules = 4; cpus = 2 }
+two_cpus = record { granules = 4; cpus = 2; version = One }
 
 abbrev pub delegate : ℕ → Command
 delegate granule = command_of function.GranuleDelegate (granule ∷ [])

@@ -1,5 +1,6 @@
 -- Two CPUs that each destroy a REC of one realm, and hold an auxiliary granule of the other's.
 use Rattle.std.specs.Prelude.{ℕ, zero, suc, ◌*◌, List, [], ◌∷◌, ◌++◌, map, None}
+use Rattle.rmm_spec.specs.declared.version.Version.TheVariants.{One}
 use Rattle.rmm_spec.specs.declared.change.Change.{Change}
 use Rattle.rmm_spec.specs.declared.change.Change.TheVariants.{Retagged, RealmMade, RecMade}
 use Rattle.rmm_spec.specs.declared.command.Command.{Command}
@@ -40,7 +41,7 @@ abbrev pub untouched : Whole
 untouched = record { cells = λ _. Undelegated; side = record { vmids = λ _. None; rec_counts = λ _. 0 }; places = λ _. Outside }
 
 abbrev pub nine_granules : Config
-nine_granules = record { granules = 9; cpus = 2 }
+nine_granules = record { granules = 9; cpus = 2; version = One }
 
 abbrev pub lends : ℕ → Accepted
 lends granule = record { command = delegate granule; change = Retagged (record { granule = granule; tag = tag.Delegated }) }
@@ -70,5 +71,5 @@ each_destroys (suc cpu) = destroys 0x6000 ∷ []
 -- each takes its REC, and an auxiliary granule of the other's
 abbrev pub strays_taken : List Move
 strays_taken =
-    all_accepted 9 untouched two_recs_made
+    all_accepted nine_granules untouched two_recs_made
     ++ (move.Call 0 ∷ move.Call 1 ∷ move.Take 0 0x3000 ∷ move.Take 1 0x6000 ∷ move.Take 0 0x7000 ∷ move.Take 1 0x4000 ∷ [])

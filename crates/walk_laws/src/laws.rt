@@ -1,6 +1,7 @@
 //! What walks rest on: each law is the contract of a function that does nothing.
 
 ghost use Rattle.std.specs.Prelude.{◌≡◌, ℕ, ◌+◌, ◌≤◌, ◌||◌, true, List, Some, Ok, is_some};
+ghost use Rattle.rmm_spec.specs.HistoryText.{Config};
 ghost use Rattle.rmm_spec.specs.declared.accepted.Accepted.TheVariants.{Reaches};
 ghost use Rattle.rmm_spec.specs.declared.accepted.Stretch.{Stretch};
 ghost use Rattle.rmm_spec.specs.declared.call.Call.{Call};

@@ -2,6 +2,7 @@
 
 ghost use Rattle.std.specs.Prelude.{◌≡◌, ℕ, true, false, ◌==◌, ◌⊎◌, List, [], Contains};
 ghost use Rattle.std.specs.List.{list_all};
+ghost use Rattle.rmm_spec.specs.HistoryText.{Config};
 ghost use Rattle.rmm_spec.specs.declared.call.Call.TheVariants.{GranuleDelegate, GranuleUndelegate};
 ghost use Rattle.rmm_spec.specs.declared.command.Command.{Command};
 ghost use Rattle.rmm_spec.specs.declared.reply.Reply.{Reply};
