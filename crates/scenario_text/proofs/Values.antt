@@ -1,12 +1,14 @@
 -- Lists of texts and what they are the texts of.
-use Rattle.std.proofs.Common.{◌≡◌, ◌<◌, pos, List, [], ◌∷◌, length, map, sum, refl, sym, ap, ◌∙◌}
+use Rattle.std.proofs.Common.{◌≡◌, ◌<◌, pos, List, [], ◌∷◌, length, map, sum, refl, sym, ap, ◌∙◌, lit≤}
 use Rattle.std.specs.List.{AllByRecursion}
 use Rattle.std.proofs.lemmas.List.{length-map}
 use Rattle.rmm_spec.specs.declared.command.Command.{Command}
 use Rattle.rmm_spec.specs.CommandText.{IsCommand, command_text}
 use Rattle.scenario_text.specs.declared.limits.Sizes.{Sizes}
 use Rattle.rmm_spec.specs.declared.turn.Due.{Due}
-use Rattle.rmm_spec.specs.Scenario.{Stated, IsStatedBy, AreInRange, IsCommandText, turn_text}
+use Rattle.rmm_spec.specs.declared.version.Version.{Version}
+use Rattle.rmm_spec.specs.declared.version.Version.TheVariants.{One, Two}
+use Rattle.rmm_spec.specs.Scenario.{Stated, IsStatedBy, AreInRange, IsBetween, IsCommandText, turn_text, version_number}
 use Rattle.scenario_text.specs.Sizes.{AreSizes}
 
 -- The texts of commands can be read.
@@ -23,6 +25,11 @@ pub lengths-texts : (programs : List (List Command)) → map length (map (map co
 lengths-texts [] = refl
 lengths-texts (program ∷ programs) = λ i. length-map program command_text i ∷ lengths-texts programs i
 
+-- A version has one of the numbers.
+pub version_number-between : (version : Version) → IsBetween 1 2 (pos (version_number version))
+version_number-between One = (lit≤ tt, lit≤ tt)
+version_number-between Two = (lit≤ tt, lit≤ tt)
+
 -- Numbers that are held as they are stated are in range.
 pub AreInRange-sizes : (stated : Stated) (sizes : Sizes) → AreSizes stated sizes → AreInRange stated
 AreInRange-sizes stated sizes are = record {
@@ -32,6 +39,7 @@ AreInRange-sizes stated sizes are = record {
   few = are.few;
   queue = rw are.queue are.queue_within;
   limit = rw are.limit are.limit_within;
+  version = rw are.version (version_number-between sizes.config.version);
 }
 
 -- What is stated is the scenario of the numbers, commands and turns that are read from it.
@@ -55,4 +63,5 @@ IsStatedBy-parts stated sizes programs turns are texts commands turn_texts cpus 
   queue = are.queue;
   turns = turn_texts;
   limit = are.limit;
+  version = are.version;
 }

@@ -1,7 +1,7 @@
 -- The numbers of a scenario as they are held.
 use Rattle.std.specs.Prelude.{◌≡◌, ◌≤◌, pos, length, map, sum}
 use Rattle.rmm_spec.specs.HistoryText.{IsConfig}
-use Rattle.rmm_spec.specs.Scenario.{Stated}
+use Rattle.rmm_spec.specs.Scenario.{Stated, version_number}
 use Rattle.scenario_text.specs.declared.limits.Sizes.{Sizes}
 
 -- These are the numbers that are stated, within their ranges.
@@ -9,6 +9,7 @@ pub record AreSizes (stated : Stated) (sizes : Sizes) : Type 0 where
   pub config : IsConfig sizes.config
   pub granules : stated.granules ≡ pos sizes.config.granules
   pub cpus : stated.cpus ≡ pos sizes.config.cpus
+  pub version : stated.version ≡ pos (version_number sizes.config.version)
   pub programs : length stated.programs ≡ sizes.config.cpus
   pub few : sum (map length stated.programs) ≤ 499999
   pub queue : stated.queue ≡ pos sizes.queue

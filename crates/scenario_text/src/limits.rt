@@ -28,13 +28,14 @@ pub(crate) fn sizes_of(stated: &Stated<'_>) -> Option<Sizes>
     let cpus = number_between(stated.cpus, 1, 8)?;
     let queue = number_between(stated.queue, 1, 65_536)?;
     let limit = number_between(stated.limit, 1, 10_000_000)?;
+    let version = number_between(stated.version, 1, 2)?;
     if stated.programs.len() as u64 != cpus {
         return None;
     }
     if !are_few(stated.programs.as_slice()) {
         return None;
     }
-    let config = Config::new(granules, cpus)?;
+    let config = Config::with_version(granules, cpus, version)?;
     Some(Sizes {
         config,
         queue: queue as usize,
