@@ -157,13 +157,12 @@ unfolding can_make new_cells
 applied-fits config cpu hold w Unchanged can fits = refl
 applied-fits config cpu hold w (Retagged change) can fits = retag-fits (state config cpu hold w) change can
 applied-fits config cpu hold w (RealmMade rd root width level vmid algo) can fits =
-    and_from (is_space width level && algo == 0) true
-    (and_from (is_space width level) (algo == 0) can.space (eq-eqb algo 0 can.is_algo)) refl
+    and_from (is_space width level && is_hash algo) true (and_from (is_space width level) (is_hash algo) can.space can.hashes) refl
 applied-fits config cpu hold w (RealmDestroyed rd root) can fits = refl
 applied-fits config cpu hold w (RecMade rd rec mpidr flags aux0 aux1) can fits =
-    and_from (counts_in mpidr (known_cell hold.cells rd)) (is_granule config.granules rd && nat_le (hold.side.rec_counts rd) config)
+    and_from (counts_in mpidr (known_cell hold.cells rd)) (is_granule config.granules rd && nat_le (hold.side.rec_counts rd) config.granules)
     (counts config cpu hold w rd mpidr can.rd_tag can.index_fits fits.held.1.1.1.0)
-    (and_from (is_granule config.granules rd) (nat_le (hold.side.rec_counts rd) config) (tagged config w.cells rd tag.Rd can.rd_tag).0 (few_recs config cpu hold w rd))
+    (and_from (is_granule config.granules rd) (nat_le (hold.side.rec_counts rd) config.granules) (tagged config w.cells rd tag.Rd can.rd_tag).0 (few_recs config cpu hold w rd))
 applied-fits config cpu hold w (RecDestroyed rec aux0 aux1) can fits = refl
 applied-fits config cpu hold w (RecordsChanged None None) can fits = refl
 applied-fits config cpu hold w (RecordsChanged (Some realm) None) can fits =
@@ -197,18 +196,18 @@ more-granule granules rd few is =
     let past : nat_lt rd (4096 * 4096) ≡ true = grind (arith, nat_tests) in
     and_from (rd % 4096 == 0) (nat_lt rd (4096 * 4096)) parts.0 past
 
-count-more : (config : Config) (side : Side) (change : Change) → config.granules ≤ 4096 → can_count config side change ≡ true → can_count 4096 side change ≡ true
-count-more config side (RecMade rd rec mpidr flags aux0 aux1) few is =
-    let parts = and_parts (is_granule config.granules rd) (nat_le (side.rec_counts rd) config) is in
+count-more : (granules : ℕ) (side : Side) (change : Change) → granules ≤ 4096 → can_count granules side change ≡ true → can_count 4096 side change ≡ true
+count-more granules side (RecMade rd rec mpidr flags aux0 aux1) few is =
+    let parts = and_parts (is_granule granules rd) (nat_le (side.rec_counts rd) granules) is in
     let least = parts.1 in
     let most : nat_le (side.rec_counts rd) 4096 ≡ true = grind (arith, nat_tests) in
-    and_from (is_granule 4096 rd) (nat_le (side.rec_counts rd) 4096) (more-granule config.granules rd few parts.0) most
-count-more config side _ few is = refl
+    and_from (is_granule 4096 rd) (nat_le (side.rec_counts rd) 4096) (more-granule granules rd few parts.0) most
+count-more granules side _ few is = refl
 
 -- what can be made on a machine can be made on a larger one
 pub makes : (config : Config) (held : List HeldCell) (side : Side) (place : CpuPlace) (change : Change) → config.granules ≤ 4096
     → can_make config held side change ≡ true → CanMake (hold_of held side place) change
 unfolding can_make
 makes config held side place change few is =
-    let parts = and_parts (fits_cells held change) (can_count config side change) is in
-    record { fits = parts.0; counts = count-more config side change few parts.1 }
+    let parts = and_parts (fits_cells held change) (can_count config.granules side change) is in
+    record { fits = parts.0; counts = count-more config.granules side change few parts.1 }

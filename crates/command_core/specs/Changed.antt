@@ -27,7 +27,7 @@ use Rattle.rmm_spec.specs.Rows.{ok}
 use Rattle.rmm_spec.specs.Step.{outcome}
 use Rattle.rmm_spec.specs.Step.Ripas.{IsReached}
 use Rattle.rmm_spec.specs.State.{RecRecord}
-use Rattle.rmm_spec.specs.Lookup.{is_granule}
+use Rattle.rmm_spec.specs.Lookup.{is_granule, is_hash}
 use Rattle.rmm_spec.specs.declared.change.EntryChange.{EntryChange}
 use Rattle.rmm_spec.specs.declared.change.EntryChange.TheVariants.{Replaced, RipasSet}
 use Rattle.rmm_spec.specs.declared.change.TagChange.{TagChange}
@@ -179,7 +179,7 @@ fits_entries (RipasSet first last ripas) = nat_lt first last && nat_le last ((fi
 -- the records are what the change updates
 abbrev pub fits_cells : List HeldCell → Change → Bool
 fits_cells held (Retagged change) = is_plain change.tag
-fits_cells held (RealmMade rd root width level vmid algo) = is_space width level && algo == 0
+fits_cells held (RealmMade rd root width level vmid algo) = is_space width level && is_hash algo
 fits_cells held (RecMade rd rec mpidr flags aux0 aux1) = counts_in mpidr (known_cell held rd)
 fits_cells held (RecordsChanged realm rec) = fits_realm_change held realm && fits_rec_change held rec
 fits_cells held (TableMade rd level number rtt entry) =
@@ -191,12 +191,12 @@ fits_cells held (EntriesChanged rd level entries page realm rec) =
 fits_cells held _ = true
 
 -- a REC that is made is counted at a granule's address, and no realm has more RECs than there are granules
-abbrev pub can_count : Config → Side → Change → Bool
-can_count config side (RecMade rd rec mpidr flags aux0 aux1) = is_granule config.granules rd && nat_le (side.rec_counts rd) config
-can_count config side _ = true
+abbrev pub can_count : ℕ → Side → Change → Bool
+can_count granules side (RecMade rd rec mpidr flags aux0 aux1) = is_granule granules rd && nat_le (side.rec_counts rd) granules
+can_count granules side _ = true
 
 unfoldable pub can_make : Config → List HeldCell → Side → Change → Bool
-can_make config held side change = fits_cells held change && can_count config side change
+can_make config held side change = fits_cells held change && can_count config.granules side change
 
 -- a machine has 4096 granules at most
 pub record CanMake (hold : Hold) (change : Change) : Type 0 where

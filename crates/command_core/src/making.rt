@@ -190,7 +190,7 @@ fn fits_cells<H: Held>(held: &H, change: &Change) -> bool
             level,
             algo,
             ..
-        } => is_space(u64::from(*width), u64::from(*level)) && *algo == 0,
+        } => is_space(u64::from(*width), u64::from(*level)) && (*algo == 0 || *algo == 1),
         Change::RecMade { rd, mpidr, .. } => counts_in(*mpidr, held.cell(Pa::new(*rd))),
         Change::RecordsChanged { realm, rec } => fits_realm(held, realm) && fits_rec(held, rec),
         Change::TableMade {
@@ -231,7 +231,7 @@ fn fits_cells<H: Held>(held: &H, change: &Change) -> bool
 // Whether a REC that is made can be counted.
 fn can_count(config: &Config, granules: u64, side: &Side, change: &Change) -> bool
     requires { granules ≡ config.now.granules }
-    ensures { result ≡ spec.can_count config.now (side_of side.now) change.now }
+    ensures { result ≡ spec.can_count config.now.granules (side_of side.now) change.now }
 {
     match change {
         Change::RecMade { rd, .. } => {

@@ -243,7 +243,7 @@ fn next_to_read<H: Held>(
 
 // An exit takes the REC alone.
 fn next_inside<H: Held>(sight: &HeldSight<'_, H>, call: &Call, rec: Pa, rd: Pa) -> Next
-    ensures { result ≡ spec.next_inside (class_of call.now) sight.now.config.now.granules call.now rec rd (H.cells sight.now.held.now) }
+    ensures { result ≡ spec.next_inside (class_of call.now) sight.now.config.now call.now rec rd (H.cells sight.now.held.now) }
 {
     let names = two(
         needed(rec.address(), Tag::Rec),

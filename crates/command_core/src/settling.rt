@@ -116,7 +116,7 @@ fn is_met<H: Held>(sight: &HeldSight<'_, H>, call: &Call) -> bool
 }
 
 fn is_settled_outside<H: Held>(sight: &HeldSight<'_, H>, call: &Call) -> bool
-    ensures { result ≡ spec.is_settled_outside (class_of call.now) sight.now.config.now.granules call.now (H.cells sight.now.held.now) }
+    ensures { result ≡ spec.is_settled_outside (class_of call.now) sight.now.config.now call.now (H.cells sight.now.held.now) }
 {
     match caller_of(call) {
         Caller::Host => !words_fit(sight.config, call) || is_met(sight, call),
@@ -135,7 +135,7 @@ fn is_read_over<H: Held>(sight: &HeldSight<'_, H>, call: &Call, rec: Pa, rd: Pa)
 }
 
 fn is_settled_inside<H: Held>(sight: &HeldSight<'_, H>, call: &Call, rec: Pa, rd: Pa) -> bool
-    ensures { result ≡ spec.is_settled_inside (class_of call.now) sight.now.config.now.granules call.now rec rd (H.cells sight.now.held.now) }
+    ensures { result ≡ spec.is_settled_inside (class_of call.now) sight.now.config.now call.now rec rd (H.cells sight.now.held.now) }
 {
     match caller_of(call) {
         Caller::Host => true,

@@ -315,7 +315,7 @@ module _ (s : own.World) (cpu : ℕ) (within : cpu < s.history.recorded.config.c
   committed cells side mid cpus reserved entries config number opened command again learnt given told same_config was_open same made_step is kept_journal same_again same_told pushed =
       let old = views_of s.cpus in
       let is_open = was_open ∙ (λ i. Deciding number (sym same i) learnt) in
-      let step = subst (λ (c : Config). MakesStep c.granules cpu command given (cells_of s.cells) (cells_of cells) (side_of s.side) (side_of side) old (views_of mid))
+      let step = subst (λ (c : Config). MakesStep c cpu command given (cells_of s.cells) (cells_of cells) (side_of s.side) (side_of side) old (views_of mid))
       same_config made_step in
       let more = pushed ∙ (λ i. kept_journal i ++ record { cpu = cpu; number = number; command = same_again i; given = same_told i } ∷ []) in
       let f : Fields = record {

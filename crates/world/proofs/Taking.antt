@@ -42,7 +42,7 @@ not_deciding phase.Stopped none number command learnt is = false≢true (ap is_d
 
 -- what is planned on what the world has comes next in it
 pub next-planned : (w : World) (cpu : ℕ) (n : Next) (config : Config) (place : CpuPlace) (held : List HeldCell) (number : ℕ) (command : Command)
-    (learnt : Option ℕ) → w.phase cpu ≡ Deciding number command learnt → config.granules ≡ w.config.granules → place ≡ w.place cpu → held ≡ held_cells w cpu
+    (learnt : Option ℕ) → w.phase cpu ≡ Deciding number command learnt → config ≡ w.config → place ≡ w.place cpu → held ≡ held_cells w cpu
     → n ≡ plan.next config (call_of command) place learnt held
     → IsPlanned config command place learnt held n → is_settled config (call_of command) place held ≡ is_ready n → IsNext w cpu n
 next-planned w cpu n config place held number command learnt deciding has_granules at holds is planned settled = record {

@@ -33,7 +33,7 @@ unfolding world_of world_from
 step-requires-clause-settled c =
     let w = world_of c.args.self.now in
     let is_open = sym c.phase.ensures ∙ ap phase_in c.in-Deciding.is in
-    (λ i. is_settled ((ap (λ (config : Config). config.granules) c.config-config.ensures) i) (call_of (c.copied_command-command.ensures i)) (w.place c.args.cpu)
+    (λ i. is_settled (c.config-config.ensures i) (call_of (c.copied_command-command.ensures i)) (w.place c.args.cpu)
     (held_cells w c.args.cpu)) ∙ subst (RecordsIn w c.args.cpu) is_open (records-commit w c.args.cpu c.requires.ready)
 
 pub step-requires-clause-distinct : goal.step-requires-clause-distinct
