@@ -1,7 +1,8 @@
 //! Whether the numbers of a scenario are within their ranges.
 
 ghost use Rattle.std.specs.Prelude.{◌≡◌, ◌↔◌, ◌≤◌, ℕ, pos, IsTrue, IfSome, IfNone, length, map, sum, vec_len};
-ghost use Rattle.rmm_spec.specs.Scenario.{AreInRange, IsBetween};
+ghost use Rattle.rmm_spec.specs.HistoryText.{is_version, version_of};
+ghost use Rattle.rmm_spec.specs.Scenario.{AreInRange, IsBetween, version_number};
 ghost use Rattle.scenario_text.specs.Seen.{seen_lists, stated_seen};
 ghost use Rattle.scenario_text.specs.Sizes.{AreSizes};
 
@@ -28,7 +29,7 @@ pub(crate) fn sizes_of(stated: &Stated<'_>) -> Option<Sizes>
     let cpus = number_between(stated.cpus, 1, 8)?;
     let queue = number_between(stated.queue, 1, 65_536)?;
     let limit = number_between(stated.limit, 1, 10_000_000)?;
-    let version = number_between(stated.version, 1, 2)?;
+    let version = version_from(stated.version)?;
     if stated.programs.len() as u64 != cpus {
         return None;
     }
@@ -41,6 +42,16 @@ pub(crate) fn sizes_of(stated: &Stated<'_>) -> Option<Sizes>
         queue: queue as usize,
         limit: limit as u32,
     })
+}
+
+// A version's number, which is 1 or 2.
+fn version_from(number: i64) -> Option<u64>
+    ensures found { IfSome result (λ n. number ≡ pos (version_number (version_of n))) }
+    ensures is { IfSome result (λ n. IsTrue (is_version n)) }
+    ensures none { IfNone result (¬ IsBetween 1 2 number) }
+{
+    let version = number_between(number, 1, 2)?;
+    if version == 2 { Some(2) } else { Some(1) }
 }
 
 // A number that lies between two others, or is one of them.
