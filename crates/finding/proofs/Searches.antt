@@ -1,12 +1,11 @@
 -- A search as it tries a line, grows by one and takes one back.
-use Rattle.std.proofs.Common.{◌≡◌, ◌≢◌, ℕ, zero, suc, ◌+◌, ◌-◌, ◌^◌, ◌<◌, ◌≤◌, ◌⊎◌, inl, inr, List, [], ◌∷◌, ◌++◌, map, length, take, get_or, set, Option, Some, None, refl, sym, ◌∙◌, ap, subst, arith, get_or-set_same, get_or-set_other}
+use Rattle.std.proofs.Common.{◌≡◌, ◌≢◌, ℕ, zero, suc, ◌+◌, ◌-◌, ◌^◌, ◌<◌, ◌≤◌, inl, inr, List, [], ◌∷◌, ◌++◌, length, take, get_or, set, Option, Some, None, refl, sym, ◌∙◌, ap, subst, arith, get_or-set_same, get_or-set_other}
 use Rattle.std.specs.List.{slice_get, AllByRecursion}
-use Rattle.std.specs.Option.{IfSome, option_to_list}
+use Rattle.std.specs.Option.{IfSome}
 use Rattle.std.proofs.Math.Seq.{take-append_seam}
-use Rattle.std.proofs.lemmas.Bool.{cases_eq}
 use Rattle.std.proofs.lemmas.Bool.Decides.{eqb_tells}
-use Rattle.std.proofs.lemmas.List.{append-nil, length-set, map-append, take-append-le}
-use Rattle.std.proofs.lemmas.Option.{none-some, slice_get_within, slice_get-map}
+use Rattle.std.proofs.lemmas.List.{length-set, map-append, take-append-le}
+use Rattle.std.proofs.lemmas.Option.{none-some, slice_get_within}
 use Rattle.rmm_spec.specs.declared.line.Line.{Line}
 use Rattle.rmm_spec.specs.declared.line.Line.TheVariants.{Keep, Unfinished}
 use Rattle.rmm_spec.specs.HistoryText.{History, IsHistory}
@@ -18,7 +17,7 @@ use Rattle.rmm_spec.specs.Linearization.{IsLinearization, cpu_named, number_name
 use Rattle.checker.proofs.Elements.{slice_get-append_left, slice_get_push, slice_get_push_cases}
 use Rattle.spec_machine.specs.View.{state_of}
 use Rattle.spec_machine.specs.declared.machine.Machine.{Machine}
-use Rattle.order_laws.specs.Order.{count_of, IsNext, LeadsNowhere, Reaches, ReturnBehind, Grows}
+use Rattle.order_laws.specs.Order.{count_of, LeadsNowhere, Reaches, ReturnBehind, Grows}
 use Rattle.order_laws.proofs.Counts.{count_of-same, count_of-other, count_of-nil}
 use Rattle.order_laws.proofs.Growth.{IsLinearization-from_Reaches, Reaches-nil, Reaches-push}
 use Rattle.order_laws.proofs.Nowhere.{nowhere_by, nowhere_unless}
@@ -26,7 +25,7 @@ use Rattle.order_laws.proofs.Settled.{nowhere_settled}
 use Rattle.order_laws.proofs.Short.{length-lines}
 use Rattle.finding.specs.Attempt.{IsAttempt, MayTry}
 use Rattle.finding.specs.Choice.{rank_of, IsNextCall, IsLeast}
-use Rattle.finding.specs.Search.{AreCounts, AreFrames, Continues, IsFrame, IsGiven, IsLonger, IsRefusedHere, IsSearch, StandsAt, lines_of}
+use Rattle.finding.specs.Search.{AreCounts, AreFrames, Continues, IsGiven, IsLonger, IsRefusedHere, IsSearch, StandsAt, lines_of}
 use Rattle.finding.specs.Tried.{Tried, CallLeadsNowhere}
 use Rattle.finding.specs.declared.choice.Choice.{Choice}
 use Rattle.finding.specs.declared.frame.Frame.{Frame}
@@ -382,11 +381,11 @@ module _ (history : History) (is_history : IsHistory history) (search : Search) 
   -- a call that is refused here stands in the order
   pub IsSearch-settled : (next : IsNextCall history search.counts 0 choice) (bound : ℕ) → choice.places.called ≤ bound → IsRefusedHere history (state_of machine) choice
       → IsLeast history.events search.counts 0 history.config.cpus bound
-      → IsLonger search.frames.items search.counts (Some machine) choice
+      → (count : ℕ) → IsLonger search.frames.items search.counts (Some machine) count choice
       (record { line = Keep choice.cpu choice.number; from = 2 ^ 32 - 1; above = None }) new
       → IsSearch history new
   unfolding Grows-refused
-  IsSearch-settled next bound early refused is_least longer =
+  IsSearch-settled next bound early refused is_least count longer =
       let lines = lines_of search.frames.items in
       let soon = ReturnBehind-called history is_history lines (state_of machine) reached search.counts is_search.counts bound is_least choice.places.called
       choice.cpu choice.number next.places.called.0 next.places.called.1 early in
@@ -401,8 +400,8 @@ module _ (history : History) (is_history : IsHistory history) (search : Search) 
     -- a call that is given its reply stands in the order
     pub IsSearch-given : (later : Machine) → ReturnBehind history.events (lines_of search.frames.items) choice.places.called
         → IsGiven history.events frame.line choice.places.called (state_of machine) (state_of later)
-        → IsLonger search.frames.items search.counts (Some later) choice frame new → IsSearch history new
-    IsSearch-given later soon given longer =
+        → (count : ℕ) → IsLonger search.frames.items search.counts (Some later) count choice frame new → IsSearch history new
+    IsSearch-given later soon given count longer =
         let at = of_a_line history is_history choice next.places in
         IsSearch-grown history is_history search new is_search frame (state_of machine) (state_of later) later reached
         (Grows-given history is_history search is_search choice next is_least frame (state_of machine) (state_of later) attempt soon given)
@@ -433,7 +432,7 @@ pub number_of_next : (history : History) → IsHistory history → (counts : Lis
 number_of_next history is_history counts from choice next = (of_a_line history is_history choice next.places).1
 
 -- whatever a step tells, it leaves a search
-pub IsSearch-continued : (history : History) (search : Search) (progress : Progress) → Continues progress history search → IsSearch history search
-IsSearch-continued history search Going is_search = is_search
-IsSearch-continued history search Whole is = is.0
-IsSearch-continued history search Exhausted is = is.0
+pub IsSearch-continued : (history : History) (old new : Search) (progress : Progress) → Continues progress history old new → IsSearch history new
+IsSearch-continued history old new Going is = is.0
+IsSearch-continued history old new Whole is = is.0
+IsSearch-continued history old new Exhausted is = is.0
