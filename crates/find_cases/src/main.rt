@@ -13,8 +13,8 @@ use std::alloc::Global;
 use std::fs;
 use std::rt::Files;
 
-/// How many steps a search takes.
-const STEPS: u64 = 100_000;
+/// How many offers a search makes.
+const OFFERS: u64 = 100_000;
 
 fn main(rt: HostRuntime) -> Result<()> {
     for file in &files(&rt)? {
@@ -44,7 +44,7 @@ fn outcome(alloc: Global, bytes: &[u8]) -> Result<String> {
         Err(HistoryFault::BadLine(line)) => return Ok(format!(in alloc; "fault history {line}")?),
         Err(HistoryFault::NoMemory) => bail!("no memory"),
     };
-    match find(alloc, &history, STEPS)? {
+    match find(alloc, &history, OFFERS)? {
         Found::Order(order) => {
             let mut line = Vec::new(alloc);
             let judged = judged_order(alloc, &history, &order)?;
@@ -53,6 +53,6 @@ fn outcome(alloc: Global, bytes: &[u8]) -> Result<String> {
             Ok(String::from_str(alloc, text.trim_end())?)
         }
         Found::None => Ok(String::from_str(alloc, "none")?),
-        Found::GaveUp => Ok(String::from_str(alloc, "gave up")?),
+        Found::GaveUp(_) => Ok(String::from_str(alloc, "gave up")?),
     }
 }

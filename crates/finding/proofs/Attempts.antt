@@ -1,19 +1,17 @@
 -- The lines of a call that can come next: its recorded reply, or what the specification answers.
-use Rattle.std.proofs.Common.{◌≡◌, ℕ, ◌+◌, ◌<◌, ◌≤◌, ◌⊎◌, inl, inr, List, [], ◌∷◌, ◌++◌, Option, Some, None, Result, Ok, Err, refl, sym, ◌∙◌, ap, subst, arith}
-use Rattle.std.specs.Option.{MatchOption, IfSome}
+use Rattle.std.proofs.Common.{◌≡◌, ℕ, ◌+◌, ◌<◌, ◌≤◌, inl, inr, List, [], ◌∷◌, ◌++◌, Option, Some, None, Result, Ok, refl, sym, ap, subst, arith}
+use Rattle.std.specs.Option.{MatchOption}
 use Rattle.std.proofs.lemmas.Bool.{cases_lt}
 use Rattle.std.proofs.lemmas.Option.{none-some, same_Some}
 use Rattle.rmm_spec.specs.declared.accepted.Accepted.{Accepted}
-use Rattle.rmm_spec.specs.declared.accepted.Accepted.TheVariants.{Done, Reaches}
+use Rattle.rmm_spec.specs.declared.accepted.Accepted.TheVariants.{Reaches}
 use Rattle.rmm_spec.specs.declared.accepted.Stretch.{Stretch}
-use Rattle.rmm_spec.specs.declared.change.Change.{Change}
 use Rattle.rmm_spec.specs.declared.command.Command.{Command}
 use Rattle.rmm_spec.specs.declared.line.Line.{Line}
 use Rattle.rmm_spec.specs.declared.line.Line.TheVariants.{Keep, Unfinished}
 use Rattle.rmm_spec.specs.declared.reply.Reply.{Reply}
 use Rattle.rmm_spec.specs.declared.reply.Reply.TheVariants as reply
 use Rattle.rmm_spec.specs.Call.{call_of}
-use Rattle.rmm_spec.specs.CertificateText.{IsLine}
 use Rattle.rmm_spec.specs.CommandText.{IsReply}
 use Rattle.rmm_spec.specs.HistoryText.{History, IsHistory}
 use Rattle.rmm_spec.specs.Rows.{ok}
@@ -21,7 +19,7 @@ use Rattle.rmm_spec.specs.Run.{JournalEntry}
 use Rattle.rmm_spec.specs.State.{State}
 use Rattle.rmm_spec.specs.Step.{Step, CarriesOut, outcome}
 use Rattle.rmm_spec.specs.Step.Ripas.{IsReached}
-use Rattle.rmm_spec.specs.Linearization.{IsFinished, IsReturned, IsEntryOf, cpu_named, number_named}
+use Rattle.rmm_spec.specs.Linearization.{IsFinished, IsReturned, IsEntryOf}
 use Rattle.rmm_spec.proofs.Places.{call_is_event}
 use Rattle.history.specs.Calls.{ArePlacesOf}
 use Rattle.checker.proofs.Calls.{same_command}
@@ -29,7 +27,7 @@ use Rattle.checker.proofs.Judging.{HasOnePlaces-from_history}
 use Rattle.order_laws.specs.Order.{LeadsNowhere}
 use Rattle.order_laws.proofs.CallOrder.{few_calls}
 use Rattle.order_laws.proofs.Nowhere.{nowhere_by}
-use Rattle.finding.specs.Attempt.{EndsLeadNowhere, MayTry, IsAnswered, IsPassed, IsEnded, IsAttempt, IsTriedNext}
+use Rattle.finding.specs.Attempt.{EndsLeadNowhere, MayTry, IsAnswered, IsAttempt}
 use Rattle.finding.specs.Choice.{rank_of}
 use Rattle.finding.specs.Ends.{IsBelow, IsEnd}
 use Rattle.finding.specs.Tried.{CallLeadsNowhere}

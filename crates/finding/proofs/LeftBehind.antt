@@ -1,5 +1,5 @@
 -- The machine that a judgement leaves behind lines that pass is behind all of them, and lines of frames make a certificate.
-use Rattle.std.proofs.Common.{◌≡◌, ℕ, zero, suc, ◌+◌, ◌<◌, ◌≤◌, List, [], ◌∷◌, ◌++◌, map, length, take, Some, refl, sym, ◌∙◌, ap, subst, arith}
+use Rattle.std.proofs.Common.{◌≡◌, ℕ, zero, suc, ◌+◌, List, [], ◌∷◌, ◌++◌, take, Some, ◌∙◌, ap, subst, arith}
 use Rattle.std.specs.List.{slice_get, AllByRecursion}
 use Rattle.std.proofs.lemmas.List.{take_all}
 use Rattle.std.proofs.lemmas.Option.{none-some, same_Some}
@@ -11,7 +11,7 @@ use Rattle.rmm_spec.specs.declared.verdict.Verdict.TheVariants as verdict
 use Rattle.rmm_spec.specs.CertificateText.{IsLine}
 use Rattle.rmm_spec.specs.HistoryText.{History}
 use Rattle.rmm_spec.specs.State.{State, opening}
-use Rattle.rmm_spec.specs.FirstFault.{FirstFault, FailsAt, Passes}
+use Rattle.rmm_spec.specs.FirstFault.{FirstFault, Passes}
 use Rattle.rmm_spec.specs.Judgement.{JudgesOrder}
 use Rattle.checker.specs.Judged.{IsLeftBy}
 use Rattle.checker.proofs.Calls.{HasOnePlaces}

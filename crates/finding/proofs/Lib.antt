@@ -3,5 +3,7 @@ pub mod TriedLaws
 pub mod Attempts
 pub mod EndLaws
 pub mod Searches
-pub mod Offers
+pub mod OfferLaws
 pub mod LeftBehind
+pub mod KeptLaws
+pub mod Moving

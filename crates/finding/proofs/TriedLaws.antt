@@ -1,5 +1,5 @@
 -- What was tried behind an order, call by call in the order in which they are tried.
-use Rattle.std.proofs.Common.{◌≡◌, ℕ, ◌+◌, ◌^◌, ◌<◌, ◌≤◌, List, [], ◌∷◌, ◌++◌, inl, inr, length, get_or, Option, Some, None, refl, sym, ◌∙◌, ap, subst, arith, append_assoc}
+use Rattle.std.proofs.Common.{◌≡◌, ℕ, ◌+◌, ◌^◌, ◌<◌, ◌≤◌, List, [], ◌∷◌, ◌++◌, inl, inr, get_or, Option, Some, None, sym, ◌∙◌, ap, subst, arith, append_assoc}
 use Rattle.std.specs.List.{slice_get}
 use Rattle.std.specs.Option.{MatchOption}
 use Rattle.std.proofs.lemmas.Bool.{cases_lt}
@@ -12,14 +12,14 @@ use Rattle.rmm_spec.specs.declared.reply.Reply.{Reply}
 use Rattle.rmm_spec.specs.HistoryText.{History, IsHistory}
 use Rattle.rmm_spec.specs.Rows.{ok}
 use Rattle.rmm_spec.specs.State.{State}
-use Rattle.rmm_spec.specs.Linearization.{IsCalled, IsReturned, IsKnown, IsFinished, IsLinearization, cpu_named, number_named, ReturnsBefore}
+use Rattle.rmm_spec.specs.Linearization.{IsCalled, IsReturned, IsKnown, IsFinished, IsLinearization, cpu_named, ReturnsBefore}
 use Rattle.rmm_spec.proofs.Places.{call_is_event, finished_is_known}
 use Rattle.order_laws.specs.Order.{count_of, HasOpen, IsNext, LeadsNowhere, Reaches, ReturnBehind}
 use Rattle.order_laws.proofs.CallOrder.{finished_below, returns_in_order}
 use Rattle.order_laws.proofs.Nowhere.{nowhere_after, nowhere_past, nowhere_unless}
 use Rattle.finding.specs.Attempt.{EndsLeadNowhere}
-use Rattle.finding.specs.Choice.{pending_rank, rank_at, rank_of, least_of, IsNextCall, IsLeast}
-use Rattle.finding.specs.Search.{AreCounts}
+use Rattle.finding.specs.Choice.{pending_rank, rank_at, rank_of, IsNextCall, IsLeast}
+use Rattle.finding.specs.Counts.{AreCounts}
 use Rattle.finding.specs.Tried.{Tried, CallLeadsNowhere}
 use Rattle.finding.specs.declared.choice.Choice.{Choice}
 

@@ -11,7 +11,7 @@ use Rattle.rmm_spec.specs.HistoryText.{History, IsHistory}
 use Rattle.rmm_spec.specs.Rows.{ok}
 use Rattle.rmm_spec.specs.State.{State}
 use Rattle.rmm_spec.specs.Step.{outcome}
-use Rattle.rmm_spec.specs.Linearization.{IsCalled, IsFinished, IsOfItsKind, cpu_named, number_named}
+use Rattle.rmm_spec.specs.Linearization.{IsCalled, IsOfItsKind, cpu_named, number_named}
 use Rattle.history.specs.Calls.{ArePlacesOf}
 use Rattle.order_laws.specs.Order.{LeadsNowhere, Reaches, count_of}
 use Rattle.finding.specs.Choice.{rank_of}

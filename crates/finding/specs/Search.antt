@@ -1,5 +1,5 @@
 -- What a search holds.
-use Rattle.std.specs.Prelude.{◌≡◌, ℕ, ◌<◌, List, [], ◌∷◌, ◌++◌, map, take, length, slice_get, slice_index, slice_set, Some, None, Option, IfSome, ◌+◌}
+use Rattle.std.specs.Prelude.{◌≡◌, ℕ, ◌<◌, ◌*◌, ◌-◌, ◌^◌, ◌⊎◌, Bool, true, false, List, [], ◌∷◌, ◌++◌, map, take, length, slice_get, slice_index, slice_set, Some, None, Option, IfSome, ◌+◌}
 use Rattle.rmm_spec.specs.declared.command.Command.{Command}
 use Rattle.rmm_spec.specs.declared.event.Event.{Event}
 use Rattle.rmm_spec.specs.declared.line.Line.{Line}
@@ -12,10 +12,13 @@ use Rattle.rmm_spec.specs.State.{State}
 use Rattle.rmm_spec.specs.Linearization.{IsCalled, IsReturned, IsEntryOf, IsLinearization, cpu_named, number_named}
 use Rattle.spec_machine.specs.View.{state_of}
 use Rattle.spec_machine.specs.declared.machine.Machine.{Machine}
-use Rattle.order_laws.specs.Order.{IsNext, IsRefusal, LeadsNowhere, Reaches, count_of}
+use Rattle.order_laws.specs.Order.{IsNext, IsRefusal, LeadsNowhere, Reaches}
+use Rattle.finding.specs.Counts.{AreCounts}
+use Rattle.finding.specs.Kept.{AreNowhere}
 use Rattle.finding.specs.Tried.{Tried}
 use Rattle.finding.specs.declared.choice.Choice.{Choice}
 use Rattle.finding.specs.declared.frame.Frame.{Frame}
+use Rattle.finding.specs.declared.kept.Kept.{Kept}
 use Rattle.finding.specs.declared.search.Search.{Search}
 use Rattle.finding.specs.declared.search.Progress.{Progress}
 use Rattle.finding.specs.declared.search.Progress.TheVariants as progress
@@ -39,11 +42,6 @@ abbrev pub AreFrames : History → List Frame → Type 0
 AreFrames history frames =
     (i : ℕ) (frame : Frame) → slice_get frames i ≡ Some frame → StandsAt history (lines_of (take i frames)) frame
 
--- how many calls of each CPU the lines name
-pub record AreCounts (counts : List ℕ) (lines : List Line) : Type 0 where
-  pub size : length counts ≡ 8
-  pub each : (cpu : ℕ) → cpu < 8 → slice_index counts cpu ≡ count_of cpu lines
-
 pub record IsSearch (history : History) (search : Search) : Type 0 where
   pub frames : AreFrames history search.frames.items
   pub state : State
@@ -51,14 +49,18 @@ pub record IsSearch (history : History) (search : Search) : Type 0 where
   pub machine : IfSome search.machine (λ machine. Reaches history (lines_of search.frames.items) (state_of machine))
   pub counts : AreCounts search.counts (lines_of search.frames.items)
   pub tried : Tried history (lines_of search.frames.items) search.from search.above
+  pub kept : AreNowhere history search.kept.configurations.items
 
 -- the search has one line more, behind which nothing was tried
-pub record IsLonger (old_frames : List Frame) (old_counts : List ℕ) (held : Option Machine) (choice : Choice) (frame : Frame) (new : Search) : Type 0 where
+pub record IsLonger (old_frames : List Frame) (old_counts : List ℕ) (held : Option Machine) (count : ℕ) (known : Kept) (choice : Choice) (frame : Frame) (new : Search) : Type 0 where
   pub frames : new.frames.items ≡ old_frames ++ frame ∷ []
   pub counts : new.counts ≡ slice_set old_counts choice.cpu (choice.number + 1)
   pub from : new.from ≡ 0
   pub above : new.above ≡ None
   pub machine : new.machine ≡ held
+  pub fresh : new.fresh ≡ true
+  pub offers : new.offers.count ≡ count
+  pub kept : new.kept ≡ known
 
 -- the call has returned with a refusal that the specification gives it in the state
 pub record IsRefusedHere (history : History) (state : State) (choice : Choice) : Type 0 where
@@ -78,8 +80,24 @@ pub record IsGiven (events : List Event) (line : Line) (called : ℕ) (old new :
   pub is_entry : IsEntryOf events line entry
   pub step : Step old entry.cpu entry.command entry.given new
 
+-- how much can be done before the next offer: lines can be settled, or what is left to try and the lines be taken back
+abbrev pub left_with : Bool → ℕ → ℕ → ℕ
+left_with true lines from = 2 ^ 61 + (2 ^ 20 - lines)
+left_with false lines from = lines * 2 ^ 40 + (2 ^ 33 - from)
+
+abbrev pub left_of : Search → ℕ
+left_of search = left_with search.fresh (length search.frames.items) search.from
+
+-- an offer was made, or less is left to be done before one
+pub record Moves (old new : Search) : Type 0 where
+  pub further : (old.offers.count < new.offers.count) ⊎ ((old.offers.count ≡ new.offers.count) × (left_of new < left_of old))
+
+-- the search is one still, and has come further
+abbrev pub GoesOn : History → Search → Search → Type 0
+GoesOn history old new = IsSearch history new × Moves old new
+
 -- what a step leaves
-abbrev pub Continues : Progress → History → Search → Type 0
-Continues progress.Going history search = IsSearch history search
-Continues progress.Whole history search = IsSearch history search × IsLinearization history (lines_of search.frames.items)
-Continues progress.Exhausted history search = IsSearch history search × LeadsNowhere history []
+abbrev pub Continues : Progress → History → Search → Search → Type 0
+Continues progress.Going history old new = GoesOn history old new
+Continues progress.Whole history old new = IsSearch history new × IsLinearization history (lines_of new.frames.items)
+Continues progress.Exhausted history old new = IsSearch history new × LeadsNowhere history []

@@ -1,9 +1,9 @@
 //! How far an order gets.
 
-ghost use Rattle.std.specs.Prelude.{IfOk, OnOk};
+ghost use Rattle.std.specs.Prelude.{IfOk, IsTrue, OnOk, ◌<◌, ◌-◌, ◌^◌};
 ghost use Rattle.rmm_spec.specs.FirstFault.{Passes};
 ghost use Rattle.rmm_spec.specs.State.{State};
-ghost use Rattle.finding.specs.Search.{IsSearch};
+ghost use Rattle.finding.specs.Search.{GoesOn, IsSearch};
 
 use crate::search::{Progress, Search};
 use certificate::Certificate;
@@ -11,7 +11,7 @@ use history::History;
 use std::alloc::{AllocError, Global};
 use std::cmp::max;
 
-/// The longest order that a search of so many steps begins, and the first of that length: its lines pass.
+/// The longest order that a search of so many offers begins, and the first of that length: its lines pass.
 pub fn longest_order(
     alloc: Global,
     history: &History,
@@ -25,11 +25,12 @@ pub fn longest_order(
     search.certificate(alloc, history)
 }
 
-/// How many lines the longest order has that a search of so many steps begins.
+/// How many lines the longest order has that a search of so many offers begins.
 fn greatest_length(alloc: Global, history: &History, limit: u64) -> Result<usize, AllocError> {
+    history.well_formed();
     let mut search = Search::new(alloc, history);
     let mut most = 0;
-    for _step in 0..limit {
+    'going: while search.offers.count() < limit {
         if !goes_on(&mut search, alloc, history)? {
             break;
         }
@@ -38,7 +39,7 @@ fn greatest_length(alloc: Global, history: &History, limit: u64) -> Result<usize
     Ok(most)
 }
 
-/// Takes so many steps at most, until the order has so many lines.
+/// Goes on until the order has so many lines, or so many offers are made.
 fn go_until(
     search: &mut Search,
     alloc: Global,
@@ -49,11 +50,9 @@ fn go_until(
     requires { IsSearch history.now.recorded search.old }
     ensures { OnOk result (IsSearch history.now.recorded search.new) }
 {
-    for _step in 0..limit {
-        if search.len() == most {
-            return Ok(());
-        }
-        if !goes_on(search, alloc, history)? {
+    history.well_formed();
+    'going: while search.offers.count() < limit {
+        if search.len() == most || !goes_on(search, alloc, history)? {
             return Ok(());
         }
     }
@@ -62,8 +61,9 @@ fn go_until(
 
 /// Takes a step, and tells whether there may be another.
 fn goes_on(search: &mut Search, alloc: Global, history: &History) -> Result<bool, AllocError>
-    requires { IsSearch history.now.recorded search.old }
-    ensures { OnOk result (IsSearch history.now.recorded search.new) }
+    requires is_search { IsSearch history.now.recorded search.old }
+    requires few { search.old.offers.count < 2 ^ 64 - 1 }
+    ensures { IfOk result (λ goes. IsSearch history.now.recorded search.new × (IsTrue goes → GoesOn history.now.recorded search.old search.new)) }
 {
     let progress = search.step(alloc, history)?;
     Ok(matches!(progress, Progress::Going))

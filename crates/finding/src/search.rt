@@ -1,6 +1,6 @@
 //! An order that is begun.
 
-ghost use Rattle.std.specs.Prelude.{◌≡◌, ℕ, ◌+◌, ◌^◌, ◌<◌, [], ◌++◌, ◌∷◌, slice_set, false, Some, None, IfOk, OnOk};
+ghost use Rattle.std.specs.Prelude.{◌≡◌, ℕ, ◌+◌, ◌-◌, ◌^◌, ◌<◌, [], ◌++◌, ◌∷◌, slice_set, false, Some, None, IfOk, OnOk, IsTrue};
 ghost use Rattle.std.specs.Bool.{MatchBool};
 ghost use Rattle.rmm_spec.specs.FirstFault.{IsRefused};
 ghost use Rattle.rmm_spec.specs.Linearization.{IsFinished, IsOfItsKind, IsReplyOf, IsReturned, cpu_named, number_named};
@@ -9,11 +9,14 @@ ghost use Rattle.history.specs.Calls.{ArePlacesOf};
 ghost use Rattle.order_laws.specs.Order.{LeadsNowhere, Reaches, ReturnBehind};
 ghost use Rattle.finding.specs.Choice.{IsLeast, IsNextCall, rank_of};
 ghost use Rattle.finding.specs.Search.{IsGiven, lines_of};
+ghost use Rattle.spec_machine.specs.Offers.{one_more};
 ghost use Rattle.spec_machine.specs.View.{state_of};
 
 use crate::attempt::attempt;
 use crate::choice::{Choice, PENDING, next_choice, rank};
 use crate::frame::{Frame, name_of};
+use crate::kept::Kept;
+use crate::offers::Offers;
 use crate::refused::refused_choice;
 use crate::restoring::{certificate_of, machine_at};
 use certificate::Certificate;
@@ -34,6 +37,8 @@ pub(crate) struct Search {
     pub(crate) machine: Option<Machine>,
     // no call was tried behind these lines yet
     pub(crate) fresh: bool,
+    pub(crate) offers: Offers,
+    pub(crate) kept: Kept,
 }
 
 /// How a search goes on.
@@ -47,7 +52,7 @@ pub(crate) enum Progress {
 }
 
 impl Search {
-    ghost use Rattle.finding.specs.Search.{Continues, IsLonger, IsSearch};
+    ghost use Rattle.finding.specs.Search.{Continues, GoesOn, IsLonger, IsSearch};
 
     /// No line yet.
     pub(crate) fn new(alloc: Global, history: &History) -> Search
@@ -61,6 +66,8 @@ impl Search {
             above: None,
             machine: None,
             fresh: true,
+            offers: Offers::none(),
+            kept: Kept::new(alloc),
         }
     }
 
@@ -84,8 +91,9 @@ impl Search {
 
     /// Tries one line, or takes one back.
     pub(crate) fn step(&mut self, alloc: Global, history: &History) -> Result<Progress, AllocError>
-        requires { IsSearch history.now.recorded self.old }
-        ensures { IfOk result (λ progress. Continues progress history.now.recorded self.new) }
+        requires is_search { IsSearch history.now.recorded self.old }
+        requires few { self.old.offers.count < 2 ^ 64 - 1 }
+        ensures { IfOk result (λ progress. Continues progress history.now.recorded self.old self.new) }
     {
         history.well_formed();
         let Some(first) = next_choice(history, &self.counts, 0) else {
@@ -96,11 +104,10 @@ impl Search {
             return Ok(Progress::Whole);
         }
         if self.fresh {
-            self.settle(alloc, history, bound)?;
-            return Ok(Progress::Going);
+            return self.arrive(alloc, history, bound);
         }
         let Some(choice) = next_choice(history, &self.counts, self.from) else {
-            return Ok(self.take_back(history));
+            return self.leave(alloc, history);
         };
         if bound < choice.places.called {
             self.pass(choice);
@@ -119,11 +126,48 @@ impl Search {
         self.above = None;
     }
 
+    /// Goes on behind lines that were come to just now: it takes the last one back where it is known that they lead nowhere, or
+    /// settles what it can.
+    fn arrive(
+        &mut self,
+        alloc: Global,
+        history: &History,
+        bound: u32,
+    ) -> Result<Progress, AllocError>
+        requires is_search { IsSearch history.now.recorded self.old }
+        requires least { IsLeast history.now.recorded.events self.old.counts 0 history.now.recorded.config.cpus bound }
+        requires fresh { IsTrue self.old.fresh }
+        ensures { IfOk result (λ progress. Continues progress history.now.recorded self.old self.new) }
+    {
+        history.well_formed();
+        let machine = machine_at(alloc, history, &self.frames, self.machine.take())?;
+        let known = self.kept.has(&self.counts, &machine);
+        self.machine = Some(machine);
+        if known {
+            return Ok(self.take_back(history));
+        }
+        self.settle(alloc, history, bound)?;
+        Ok(Progress::Going)
+    }
+
+    /// Keeps that the lines lead nowhere, and takes the last one back.
+    fn leave(&mut self, alloc: Global, history: &History) -> Result<Progress, AllocError>
+        requires is_search { IsSearch history.now.recorded self.old }
+        requires nowhere { LeadsNowhere history.now.recorded (lines_of self.old.frames.items) }
+        ensures { IfOk result (λ progress. Continues progress history.now.recorded self.old self.new) }
+    {
+        history.well_formed();
+        let machine = machine_at(alloc, history, &self.frames, self.machine.take())?;
+        self.kept.keep(alloc, history, &self.counts, &machine)?;
+        self.machine = Some(machine);
+        Ok(self.take_back(history))
+    }
+
     /// Takes the last line back, and goes on behind it.
     fn take_back(&mut self, history: &History) -> Progress
         requires is_search { IsSearch history.now.recorded self.old }
         requires nowhere { LeadsNowhere history.now.recorded (lines_of self.old.frames.items) }
-        ensures { Continues result history.now.recorded self.new }
+        ensures { Continues result history.now.recorded self.old self.new }
     {
         history.well_formed();
         let Some(frame) = self.frames.pop() else {
@@ -143,7 +187,8 @@ impl Search {
     fn settle(&mut self, alloc: Global, history: &History, bound: u32) -> Result<(), AllocError>
         requires is_search { IsSearch history.now.recorded self.old }
         requires least { IsLeast history.now.recorded.events self.old.counts 0 history.now.recorded.config.cpus bound }
-        ensures { OnOk result (IsSearch history.now.recorded self.new) }
+        requires fresh { IsTrue self.old.fresh }
+        ensures { OnOk result (GoesOn history.now.recorded self.old self.new) }
     {
         history.well_formed();
         let machine = machine_at(alloc, history, &self.frames, self.machine.take())?;
@@ -186,7 +231,9 @@ impl Search {
         requires next { IsNextCall history.now.recorded self.old.counts self.old.from choice }
         requires least { IsLeast history.now.recorded.events self.old.counts self.old.from history.now.recorded.config.cpus (rank_of choice) }
         requires soon { ReturnBehind history.now.recorded.events (lines_of self.old.frames.items) choice.places.called }
-        ensures { OnOk result (IsSearch history.now.recorded self.new) }
+        requires fresh { self.old.fresh ≡ false }
+        requires few { self.old.offers.count < 2 ^ 64 - 1 }
+        ensures { OnOk result (GoesOn history.now.recorded self.old self.new) }
     {
         history.well_formed();
         let above = self.above_for(choice);
@@ -196,7 +243,7 @@ impl Search {
             self.pass(choice);
             return Ok(());
         };
-        let given = offer(&mut machine, history, choice, &frame.line)?;
+        let given = offer(&mut self.offers, &mut machine, history, choice, &frame.line)?;
         self.machine = Some(machine);
         if given {
             return self.push(choice, frame);
@@ -210,7 +257,7 @@ impl Search {
     fn push(&mut self, choice: Choice, frame: Frame) -> Result<(), AllocError>
         requires cpu { choice.cpu < 8 }
         requires number { choice.number < 1000000 }
-        ensures { OnOk result (IsLonger self.old.frames.items self.old.counts self.old.machine choice frame self.new) }
+        ensures { OnOk result (IsLonger self.old.frames.items self.old.counts self.old.machine self.old.offers.count self.old.kept choice frame self.new) }
     {
         self.frames.push(frame)?;
         self.counts[choice.cpu as usize] = choice.number + 1;
@@ -223,6 +270,7 @@ impl Search {
 
 /// Whether the machine gives the call its reply: the recorded one, or the one that the line claims.
 fn offer(
+    offers: &mut Offers,
     machine: &mut Machine,
     history: &History,
     choice: Choice,
@@ -236,13 +284,14 @@ fn offer(
         (IsGiven history.now.recorded.events line.now choice.places.called (state_of machine.old) (state_of machine.new))
         (IsRefused history.now.recorded.events (state_of machine.old) line.now)) }
     ensures kept { IfOk result (λ given. given ≡ false → state_of machine.new ≡ state_of machine.old) }
+    ensures counted { offers.new.count ≡ one_more offers.old.count }
 {
     history.well_formed();
     let Some(command) = history.command_at(choice.places.called as usize) else {
         unreachable!()
     };
     let reply = reply_of(history, choice, line);
-    let given = machine.offer_seen(choice.cpu, command, reply)?;
+    let given = offers.make(machine, choice.cpu, command, reply)?;
     Ok(given)
 }
 

@@ -1,9 +1,8 @@
 use Rattle.std.proofs.Common.{sym, ◌∙◌}
 use Rattle.rmi_view.specs.Seen.{command_seen}
 use Rattle.checker.proofs.Calls.{told_at_call}
-use Rattle.finding.proofs.Attempts.{IsAttempt-kept, of_a_line}
-use Rattle.finding.proofs.Choices.{rank_small}
-use Rattle.finding.proofs.Offers.{called_place, finished_at, none_at}
+use Rattle.finding.proofs.Attempts.{IsAttempt-kept}
+use Rattle.finding.proofs.OfferLaws.{called_place, finished_at, none_at}
 use Rattle.finding.proofs.attempt.attempt.Goals as goal
 
 pub returns-then-is_some : goal.returns-then-is_some

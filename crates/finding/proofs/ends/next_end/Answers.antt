@@ -1,4 +1,3 @@
-use Rattle.std.proofs.Common.{arith}
 use Rattle.finding.proofs.EndLaws.{greatest_end, no_end}
 use Rattle.finding.proofs.ends.next_end.Goals as goal
 

@@ -1,7 +1,7 @@
 use Rattle.rmi_view.specs.Seen.{command_seen, reply_seen}
 use Rattle.spec_machine.specs.View.{state_of}
 use Rattle.checker.proofs.Judging.{HasOnePlaces-from_history}
-use Rattle.finding.proofs.Offers.{offered}
+use Rattle.finding.proofs.OfferLaws.{offered}
 use Rattle.finding.proofs.search.offer.Goals as goal
 
 pub returns-clause-given : goal.returns-clause-given
@@ -9,4 +9,4 @@ returns-clause-given c =
     let history = c.args.history.now.recorded in
     offered history.events (HasOnePlaces-from_history history c.well_formed-2.ensures) c.args.line.now c.args.choice c.requires.places c.requires.of_cpu
     c.requires.numbered (command_seen c.in-Some.command) c.in-Some.ensures.some (reply_seen c.reply_of-reply.result) c.reply_of-reply.ensures
-    (state_of c.args.machine.now) (state_of c.offer_seen.new.self) c.in_ok-given.given c.in_ok-given.ensures.step c.in_ok-given.ensures.only
+    (state_of c.args.machine.now) (state_of c.make.new.machine) c.in_ok-given.given c.in_ok-given.ensures.step c.in_ok-given.ensures.only

@@ -1,6 +1,8 @@
 -- A call that is refused here, where one is found.
+use Rattle.std.proofs.Common.{refl, sym}
 use Rattle.std.proofs.lemmas.Result.{on_ok_weaker}
-use Rattle.finding.proofs.Searches.{IsCertificate-search, IsSearch-settled, number_of_next}
+use Rattle.finding.proofs.Moving.{Moves-settled, Moves-stale, few_frames}
+use Rattle.finding.proofs.Searches.{IsCertificate-search, IsSearch-settled, IsSearch-tried, number_of_next}
 use Rattle.finding.proofs.search.Search.settle.Goals as goal
 
 pub machine_at-requires-clause-certificate : goal.machine_at-requires-clause-certificate
@@ -11,9 +13,24 @@ pub push-requires-clause-number : goal.push-requires-clause-number
 push-requires-clause-number c =
     number_of_next c.args.history.now.recorded c.well_formed-2.ensures c.args.self.now.counts 0 c.in-Some.choice c.in-Some.ensures.next
 
+pub returns-in_default : goal.returns-in_default
+returns-in_default c =
+    let history = c.args.history.now.recorded in
+    let search = c.args.self.now in
+    let is_search = c.requires.is_search in
+    let few = few_frames history c.well_formed-2.ensures search is_search in
+    let reached = rw c.deref.ensures.value at c.in_ok-machine.ensures in
+    (IsSearch-tried history c.well_formed-2.ensures search _ is_search refl refl reached is_search.tried is_search.kept, Moves-stale search _ few c.requires.fresh refl refl refl)
+
 pub returns : goal.returns
 returns c =
-    on_ok_weaker c.push.result (λ longer.
-    IsSearch-settled c.args.history.now.recorded c.well_formed-2.ensures c.args.self.now c.requires.is_search c.in-Some.choice c.in_ok-machine.machine
-    (rw c.deref.ensures.value at c.in_ok-machine.ensures) c.push.new.self c.in-Some.ensures.next c.args.bound c.in-Some.ensures.bound
-    c.in-Some.ensures.refused c.requires.least longer) c.push.ensures
+    let history = c.args.history.now.recorded in
+    let search = c.args.self.now in
+    let is_search = c.requires.is_search in
+    let few = few_frames history c.well_formed-2.ensures search is_search in
+    on_ok_weaker c.push.result (λ longer. (
+      IsSearch-settled history c.well_formed-2.ensures search is_search c.in-Some.choice c.in_ok-machine.machine
+          (rw c.deref.ensures.value at c.in_ok-machine.ensures) c.push.new.self c.in-Some.ensures.next c.args.bound c.in-Some.ensures.bound
+          c.in-Some.ensures.refused c.requires.least search.offers.count longer,
+      Moves-settled search c.push.new.self _ few c.requires.fresh longer.fresh longer.frames (sym longer.offers),
+    )) c.push.ensures

@@ -1,26 +1,26 @@
 -- The order is whole, or a line is tried, or the last one is taken back.
-use Rattle.std.proofs.Common.{arith, refl}
-use Rattle.finding.proofs.Choices.{rank_small}
+use Rattle.std.proofs.Common.{None, arith, refl}
+use Rattle.finding.proofs.Moving.{Moves-passed}
 use Rattle.finding.proofs.Searches.{IsSearch-tried, Tried-late, Whole-search, nowhere_left, rank_of_next, soon_enough}
 use Rattle.finding.proofs.search.Search.step.Goals as goal
 
 pub returns-in_default : goal.returns-in_default
 returns-in_default c =
-    (c.requires, Whole-search c.args.history.now.recorded c.well_formed-2.ensures c.args.self.now c.requires _ c.in_default.ensures.least (omega arith))
+    (c.requires.is_search, Whole-search c.args.history.now.recorded c.well_formed-2.ensures c.args.self.now c.requires.is_search _ c.in_default.ensures.least (omega arith))
 
 pub returns-then-bound-ge-PENDING : goal.returns-then-bound-ge-PENDING
 returns-then-bound-ge-PENDING c = (
-  c.requires,
-  Whole-search c.args.history.now.recorded c.well_formed-2.ensures c.args.self.now c.requires _ c.in-Some.ensures.least
+  c.requires.is_search,
+  Whole-search c.args.history.now.recorded c.well_formed-2.ensures c.args.self.now c.requires.is_search _ c.in-Some.ensures.least
       (omega (arith, c.rank-bound.ensures.rank, c.if-bound-ge-PENDING.true)),
 )
 
-pub settle-requires-clause-least : goal.settle-requires-clause-least
-settle-requires-clause-least c = rw c.rank-bound.ensures.rank c.in-Some.ensures.least
+pub arrive-requires-clause-least : goal.arrive-requires-clause-least
+arrive-requires-clause-least c = rw c.rank-bound.ensures.rank c.in-Some.ensures.least
 
-pub take_back-requires-clause-nowhere : goal.take_back-requires-clause-nowhere
-take_back-requires-clause-nowhere c =
-    nowhere_left c.args.history.now.recorded c.well_formed-2.ensures c.args.self.now c.requires c.in-Some.first c.in-Some.ensures.next
+pub leave-requires-clause-nowhere : goal.leave-requires-clause-nowhere
+leave-requires-clause-nowhere c =
+    nowhere_left c.args.history.now.recorded c.well_formed-2.ensures c.args.self.now c.requires.is_search c.in-Some.first c.in-Some.ensures.next
     (omega (arith, c.rank-bound.ensures.rank, c.if-bound-ge-PENDING.false)) _ c.in_default-next_choice.ensures.least (omega arith)
 
 pub pass-requires : goal.pass-requires
@@ -32,14 +32,19 @@ pub returns-then-bound-choice : goal.returns-then-bound-choice
 returns-then-bound-choice c =
     let history = c.args.history.now.recorded in
     let search = c.args.self.now in
-    rw c.pass.ensures
-    (IsSearch-tried history c.well_formed-2.ensures search _ c.requires refl refl c.requires.machine
-    (Tried-late history c.well_formed-2.ensures search c.requires c.in-Some.first c.in-Some-next_choice.choice c.in-Some.ensures.next
-    (omega (arith, c.rank-bound.ensures.rank, c.if-bound-ge-PENDING.false)) c.in-Some-next_choice.ensures.next c.in-Some-next_choice.ensures.least
-    (omega (arith, c.rank-bound.ensures.rank, c.if-bound-choice.true))))
+    let next = c.in-Some-next_choice.ensures.next in
+    let small = rank_of_next history c.well_formed-2.ensures search.counts search.from c.in-Some-next_choice.choice next in
+    let ranked = next.ranked in
+    rw c.pass.ensures (
+      IsSearch-tried history c.well_formed-2.ensures search _ c.requires.is_search refl refl c.requires.is_search.machine
+          (Tried-late history c.well_formed-2.ensures search c.requires.is_search c.in-Some.first c.in-Some-next_choice.choice c.in-Some.ensures.next
+          (omega (arith, c.rank-bound.ensures.rank, c.if-bound-ge-PENDING.false)) next c.in-Some-next_choice.ensures.least
+          (omega (arith, c.rank-bound.ensures.rank, c.if-bound-choice.true))) c.requires.is_search.kept,
+      Moves-passed search _ None c.if-self.false (omega (arith, ranked)) (omega (arith, small)),
+    )
 
 pub try_choice-requires-clause-soon : goal.try_choice-requires-clause-soon
 try_choice-requires-clause-soon c =
-    soon_enough c.args.history.now.recorded c.well_formed-2.ensures c.args.self.now c.requires c.in-Some.first c.in-Some-next_choice.choice
+    soon_enough c.args.history.now.recorded c.well_formed-2.ensures c.args.self.now c.requires.is_search c.in-Some.first c.in-Some-next_choice.choice
     c.in-Some.ensures.least c.args.self.now.from c.in-Some-next_choice.ensures.next
     (omega (arith, c.rank-bound.ensures.rank, c.if-bound-choice.false))

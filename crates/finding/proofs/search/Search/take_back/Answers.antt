@@ -1,6 +1,6 @@
 -- The last line taken back, where there is one.
-use Rattle.std.proofs.Common.{◌∙◌, refl, sym, ap, arith}
-use Rattle.finding.specs.Search.{lines_of}
+use Rattle.std.proofs.Common.{refl, arith}
+use Rattle.finding.proofs.Moving.{Moves-back, few_frames}
 use Rattle.finding.proofs.Searches.{IsSearch-back, few_of_frame}
 use Rattle.finding.proofs.search.Search.take_back.Goals as goal
 
@@ -12,5 +12,9 @@ bounds-self-cpu c =
 
 pub returns : goal.returns
 returns c =
-    IsSearch-back c.args.history.now.recorded c.well_formed-2.ensures c.args.self.now _ c.requires.is_search c.in-Some.frame c.in-Some.ensures.items
-    c.requires.nowhere (rw (c.name_of-cpu.ensures.cpu, c.name_of-cpu.ensures.number) refl) refl refl refl
+    let history = c.args.history.now.recorded in
+    let search = c.args.self.now in (
+      IsSearch-back history c.well_formed-2.ensures search _ c.requires.is_search c.in-Some.frame c.in-Some.ensures.items
+          c.requires.nowhere (rw (c.name_of-cpu.ensures.cpu, c.name_of-cpu.ensures.number) refl) refl refl refl refl,
+      Moves-back search _ c.in-Some.frame (few_frames history c.well_formed-2.ensures search c.requires.is_search) c.in-Some.ensures.items refl refl,
+    )

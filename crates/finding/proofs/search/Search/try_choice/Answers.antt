@@ -1,8 +1,10 @@
 -- The next line of a call: none is left, or the machine gives it its reply, or refuses it.
-use Rattle.std.proofs.Common.{refl, sym}
+use Rattle.std.proofs.Common.{◌+◌, None, Some, refl, ◌∙◌, arith}
 use Rattle.std.proofs.lemmas.Result.{on_ok_weaker}
+use Rattle.finding.specs.Choice.{rank_of}
 use Rattle.finding.specs.Search.{lines_of}
 use Rattle.spec_machine.specs.View.{state_of}
+use Rattle.finding.proofs.Moving.{Moves-offered, Moves-passed}
 use Rattle.finding.proofs.Searches.{IsCertificate-search, IsSearch-given, IsSearch-refused, IsSearch-tried, MayTry-search, Tried-call, number_of_next, rank_of_next}
 use Rattle.finding.proofs.search.Search.try_choice.Goals as goal
 
@@ -22,9 +24,16 @@ returns-in_default c =
     let reached = rw c.deref.ensures.value at c.in_ok-machine.ensures in
     let may = MayTry-search history wf search c.requires.is_search c.args.choice c.requires.next c.requires.least (state_of c.in_ok-machine.machine) reached
     c.above_for-above.result c.above_for-above.ensures in
-    rw c.pass.ensures
-    (IsSearch-tried history wf search _ c.requires.is_search refl refl reached
-    (Tried-call history wf search c.requires.is_search c.args.choice c.requires.next c.requires.least (c.in_default.ensures (lines_of search.frames.items) may)))
+    let small = rank_of_next history wf search.counts search.from c.args.choice c.requires.next in
+    let ranked = c.requires.next.ranked in
+    rw c.pass.ensures (
+      IsSearch-tried history wf search _ c.requires.is_search refl refl reached
+          (Tried-call history wf search c.requires.is_search c.args.choice c.requires.next c.requires.least (c.in_default.ensures (lines_of search.frames.items) may)) c.requires.is_search.kept,
+      record {
+        further = (Moves-passed (record search { machine = Some c.in_ok-machine.machine }) (rank_of c.args.choice + 1) None c.requires.fresh
+            (omega (arith, ranked)) (omega (arith, small))).further;
+      },
+    )
 
 pub offer-requires-clause-of_cpu : goal.offer-requires-clause-of_cpu
 offer-requires-clause-of_cpu c =
@@ -67,9 +76,11 @@ returns-then-given c =
     let attempt = c.in-Some.ensures (lines_of search.frames.items)
     (MayTry-search history c.well_formed-2.ensures search c.requires.is_search c.args.choice c.requires.next c.requires.least (state_of machine)
     reached c.above_for-above.result c.above_for-above.ensures) in
-    on_ok_weaker c.push.result (λ longer.
-    IsSearch-given history c.well_formed-2.ensures search c.requires.is_search c.args.choice machine reached c.push.new.self c.requires.next c.requires.least
-    c.in-Some.frame attempt c.offer.new.machine c.requires.soon given longer) c.push.ensures
+    on_ok_weaker c.push.result (λ longer. (
+      IsSearch-given history c.well_formed-2.ensures search c.requires.is_search c.args.choice machine reached c.push.new.self c.requires.next c.requires.least
+          c.in-Some.frame attempt c.offer.new.machine c.requires.soon given c.offer.new.offers.count longer,
+      Moves-offered search c.push.new.self c.requires.few (longer.offers ∙ c.in_ok-given.ensures.counted),
+    )) c.push.ensures
 
 pub returns : goal.returns
 returns c =
@@ -80,6 +91,8 @@ returns c =
     let refused = rw c.if-given.false at c.in_ok-given.ensures.given in
     let attempt = c.in-Some.ensures (lines_of search.frames.items)
     (MayTry-search history c.well_formed-2.ensures search c.requires.is_search c.args.choice c.requires.next c.requires.least (state_of machine)
-    reached c.above_for-above.result c.above_for-above.ensures) in
-    IsSearch-refused history c.well_formed-2.ensures search c.requires.is_search c.args.choice machine reached _ c.requires.next c.requires.least
-    c.in-Some.frame attempt c.offer.new.machine (c.in_ok-given.ensures.kept c.if-given.false) refused refl refl refl refl refl
+    reached c.above_for-above.result c.above_for-above.ensures) in (
+      IsSearch-refused history c.well_formed-2.ensures search c.requires.is_search c.args.choice machine reached _ c.requires.next c.requires.least
+          c.in-Some.frame attempt c.offer.new.machine (c.in_ok-given.ensures.kept c.if-given.false) refused refl refl refl refl refl refl,
+      Moves-offered search _ c.requires.few c.in_ok-given.ensures.counted,
+    )

@@ -1,5 +1,5 @@
 -- What the machine says to the line of a call, and what is told of a call's places.
-use Rattle.std.proofs.Common.{◌≡◌, ℕ, ◌<◌, ◌≤◌, Bool, true, false, List, [], ◌∷◌, ◌++◌, length, Option, Some, None, is_some, Bor, IsTrue, refl, sym, ◌∙◌, ap, subst, arith}
+use Rattle.std.proofs.Common.{◌≡◌, ℕ, ◌<◌, Bool, true, false, List, length, Option, Some, None, is_some, Bor, IsTrue, refl, sym, ◌∙◌, ap, subst}
 use Rattle.std.specs.Bool.{MatchBool}
 use Rattle.std.specs.Option.{MatchOption}
 use Rattle.std.proofs.lemmas.Option.{slice_get_within}
@@ -9,7 +9,6 @@ use Rattle.rmm_spec.specs.declared.event.Event.TheVariants.{Called, Returned}
 use Rattle.rmm_spec.specs.declared.line.Line.{Line}
 use Rattle.rmm_spec.specs.declared.line.Line.TheVariants.{Keep, Unfinished}
 use Rattle.rmm_spec.specs.declared.reply.Reply.{Reply}
-use Rattle.rmm_spec.specs.declared.reply.Reply.TheVariants as reply
 use Rattle.rmm_spec.specs.State.{State}
 use Rattle.rmm_spec.specs.Step.{Step}
 use Rattle.rmm_spec.specs.FirstFault.{IsRefused}
@@ -19,10 +18,10 @@ use Rattle.rmi_view.specs.declared.reply.ReplyRef.{ReplyRef}
 use Rattle.rmi_view.specs.declared.reply.ReplyRef.TheVariants as seen
 use Rattle.history.specs.Calls.{ArePlacesOf}
 use Rattle.history.specs.declared.history.Places.{Places}
-use Rattle.checker.proofs.Calls.{HasOnePlaces, told_at_call, told_at_return}
+use Rattle.checker.proofs.Calls.{HasOnePlaces, told_at_call}
 use Rattle.checker.proofs.Faults.{IsRefused-from_step}
 use Rattle.order_laws.specs.Order.{IsRefusal}
-use Rattle.finding.specs.Search.{IsGiven, IsRefusedHere}
+use Rattle.finding.specs.Search.{IsGiven}
 use Rattle.finding.specs.declared.choice.Choice.{Choice}
 
 -- ---- places

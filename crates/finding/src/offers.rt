@@ -1,0 +1,54 @@
+//! How many offers a search has made.
+
+use rmi_view::{CommandRef, ReplyRef};
+use spec_machine::Machine;
+use std::alloc::AllocError;
+
+/// A count of offers to machines. Nothing but an offer makes it greater.
+#[derive(Drop)]
+pub struct Offers {
+    count: u64,
+}
+
+impl Offers {
+    ghost use Rattle.std.specs.Prelude.{◌≡◌, IfOk, IsTrue, false};
+    ghost use Rattle.rmm_spec.specs.State.{State};
+    ghost use Rattle.rmm_spec.specs.Step.{Step};
+    ghost use Rattle.rmi_view.specs.Seen.{command_seen, reply_seen};
+    ghost use Rattle.spec_machine.specs.Offers.{one_more};
+    ghost use Rattle.spec_machine.specs.View.{state_of};
+
+    /// No offer yet.
+    pub(crate) fn none() -> Offers
+        ensures { result.count ≡ 0 }
+    {
+        Offers { count: 0 }
+    }
+
+    /// How many there were, up to the greatest number.
+    pub fn count(&self) -> u64
+        ensures { result ≡ self.now.count }
+    {
+        self.count
+    }
+
+    /// Offers the machine a reply to the command of this CPU, and tells whether the machine took it, as `Machine::offer_seen` does.
+    pub(crate) fn make(
+        &mut self,
+        machine: &mut Machine,
+        cpu: u8,
+        command: CommandRef<'_>,
+        reply: ReplyRef<'_>,
+    ) -> Result<bool, AllocError>
+        ensures step { IfOk result (λ given. IsTrue given
+            → Step (state_of machine.old) cpu (command_seen command.entry) (reply_seen reply.entry) (state_of machine.new)) }
+        ensures only { IfOk result (λ given. given ≡ false
+            → (next : State) → ¬ Step (state_of machine.old) cpu (command_seen command.entry) (reply_seen reply.entry) next) }
+        ensures kept { IfOk result (λ given. given ≡ false → state_of machine.new ≡ state_of machine.old) }
+        ensures made { machine.new.offers ≡ one_more machine.old.offers }
+        ensures counted { self.new.count ≡ one_more self.old.count }
+    {
+        self.count = self.count.saturating_add(1);
+        machine.offer_seen(cpu, command, reply)
+    }
+}
