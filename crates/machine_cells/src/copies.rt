@@ -12,11 +12,11 @@ use std::alloc::{AllocError, Global};
 
 impl Granules {
     ghost use Rattle.std.specs.Prelude.{◌≡◌, IfOk};
-    ghost use Rattle.machine_cells.specs.Whole.{count_of, whole_of};
+    ghost use Rattle.machine_cells.specs.Whole.{config_of, whole_of};
 
     /// The same granules once more.
     pub fn copy(&self) -> Result<Granules, AllocError>
-        ensures count { IfOk result (λ g. count_of g ≡ count_of self.now) }
+        ensures config { IfOk result (λ g. config_of g ≡ config_of self.now) }
         ensures whole { IfOk result (λ g. whole_of g ≡ whole_of self.now) }
     {
         let list = self.list.copy(self.alloc)?;

@@ -6,7 +6,7 @@ ghost use Rattle.machine_cells.specs.Kept.{cells_in};
 
 use crate::copies::copied_cell;
 use crate::granules::Granules;
-use crate::same::same_cell;
+use crate::same::{same_cell, same_config};
 use granule_cells::Cell;
 use granule_state::Config;
 use std::alloc::{AllocError, Global};
@@ -51,7 +51,7 @@ impl Granules {
     pub fn is_at(&self, kept: &KeptState) -> bool
         ensures { IsTrue result → kept_state kept.now ≡ state_in self.now }
     {
-        self.list.config.granules() == kept.config.granules()
+        same_config(&kept.config, &self.list.config)
             && are_same_blocks(kept.blocks.as_slice(), self.list.cells.as_slice())
     }
 }

@@ -3,13 +3,32 @@
 ghost use Rattle.std.specs.Prelude.{◌≡◌, IsTrue};
 
 use granule_cells::Cell;
+use granule_state::Config;
 use measure::Rem;
 use realm_desc::{HashAlgorithm, PendingExit, Realm, Rec, RipasRequest, Space};
-use rmm_spec::Place;
+use rmm_spec::{Measurement, Place, Version};
 use rtt_table::Table;
 
 /// How many entries a table has.
 pub(crate) const ENTRIES: usize = 512;
+
+/// Whether two machines have the same size and rules.
+pub(crate) fn same_config(one: &Config, other: &Config) -> bool
+    ensures { IsTrue result → one.now ≡ other.now }
+{
+    one.granules() == other.granules()
+        && one.cpus() == other.cpus()
+        && same_version(one.version(), other.version())
+}
+
+fn same_version(one: Version, other: Version) -> bool
+    ensures { IsTrue result → one ≡ other }
+{
+    match one {
+        Version::One => matches!(other, Version::One),
+        Version::Two => matches!(other, Version::Two),
+    }
+}
 
 /// Whether the same lies in two granules.
 pub(crate) fn same_cell(one: &Cell, other: &Cell) -> bool
@@ -45,7 +64,7 @@ fn same_realm(one: &Realm, other: &Realm) -> bool
         && same_algorithm(one.algorithm, other.algorithm)
         && one.root == other.root
         && one.next_index == other.next_index
-        && one.rim.as_bytes() == other.rim.as_bytes()
+        && same_measurement(one.rim.measurement(), other.rim.measurement())
         && have_same_rems(&one.rems, &other.rems)
 }
 
@@ -66,7 +85,22 @@ fn have_same_rems(one: &[Rem], other: &[Rem]) -> bool
 fn same_rem(one: &Rem, other: &Rem) -> bool
     ensures { IsTrue result → one.now ≡ other.now }
 {
-    one.as_bytes() == other.as_bytes()
+    same_measurement(one.measurement(), other.measurement())
+}
+
+fn same_measurement(one: &Measurement, other: &Measurement) -> bool
+    ensures { IsTrue result → one.now ≡ other.now }
+{
+    match one {
+        Measurement::Sha256(bytes) => match other {
+            Measurement::Sha256(second) => bytes == second,
+            Measurement::Sha512(_) => false,
+        },
+        Measurement::Sha512(bytes) => match other {
+            Measurement::Sha512(second) => bytes == second,
+            Measurement::Sha256(_) => false,
+        },
+    }
 }
 
 fn same_algorithm(one: HashAlgorithm, other: HashAlgorithm) -> bool
@@ -74,6 +108,7 @@ fn same_algorithm(one: HashAlgorithm, other: HashAlgorithm) -> bool
 {
     match one {
         HashAlgorithm::Sha256 => matches!(other, HashAlgorithm::Sha256),
+        HashAlgorithm::Sha512 => matches!(other, HashAlgorithm::Sha512),
     }
 }
 
