@@ -148,21 +148,18 @@ impl Machine {
         ensures only_tables { OnErr result (IsTrue (makes_table command.entry.function)) }
         ensures only_accepted { OnErr result (IsOk (outcome (state_of self.old) cpu (call_of (command_seen command.entry)))) }
     {
-        let outcome = self.outcome_seen(cpu, command);
-        match &outcome {
-            Err(refusal) => Ok(reply.is(refusal)),
-            Ok(accepted) => match accepted {
-                Accepted::Done { words, change } => {
-                    if !is_ok(reply, words) {
-                        return Ok(false);
-                    }
-                    let Ok(()) = self.apply(change) else {
-                        return Err(AllocError);
-                    };
-                    Ok(true)
+        match self.outcome_seen(cpu, command) {
+            Err(refusal) => Ok(reply.is(&refusal)),
+            Ok(Accepted::Done { words, change }) => {
+                if !is_ok(reply, &words) {
+                    return Ok(false);
                 }
-                Accepted::Reaches(stretch) => Ok(self.reach(stretch, reply)),
-            },
+                let Ok(()) = self.apply(&change) else {
+                    return Err(AllocError);
+                };
+                Ok(true)
+            }
+            Ok(Accepted::Reaches(stretch)) => Ok(self.reach(&stretch, reply)),
         }
     }
 
