@@ -1,5 +1,5 @@
 -- Whether a table has an entry that is looked for: by itself where it is held, and elsewhere by the held tables under it.
-use Rattle.std.proofs.Common.{◌≡◌, ℕ, zero, suc, ◌+◌, ◌-◌, ◌*◌, ◌/◌, ◌%◌, ◌<◌, Bool, true, false, ◌&&◌, ◌||◌, ◌==◌, if◌then◌else◌, List, [], ◌∷◌, length, get_or, Option, Some, None, is_some, nat_lt, nat_le, slice_get, refl, sym, ap, ◌∙◌, eq-eqb, arith}
+use Rattle.std.proofs.Common.{◌≡◌, ℕ, zero, suc, ◌+◌, ◌-◌, ◌*◌, ◌/◌, ◌%◌, ◌<◌, Bool, true, false, ◌&&◌, ◌||◌, ◌==◌, if◌then◌else◌, List, [], ◌∷◌, length, Option, Some, None, is_some, nat_lt, nat_le, slice_get, refl, sym, ap, ◌∙◌, eq-eqb, arith}
 use Rattle.std.specs.Prelude.{IfSome}
 use Rattle.std.specs.List.{fold, list_any}
 use Rattle.std.specs.Option.{option_and_then}
@@ -9,7 +9,7 @@ use Rattle.std.proofs.lemmas.List.Folds.{fold_stays, list_any_at}
 use Rattle.std.proofs.lemmas.Option.{none-some, get_or_from_slice_get}
 use Rattle.rmm_spec.specs.HistoryText.{Config}
 use Rattle.rmm_spec.specs.declared.entry.Entry.{Entry}
-use Rattle.rmm_spec.specs.declared.entry.Entry.TheVariants.{Unassigned, Assigned, Table, UnassignedNs, AssignedNs}
+use Rattle.rmm_spec.specs.declared.entry.Entry.TheVariants.{Unassigned, Table}
 use Rattle.rmm_spec.specs.declared.entry.EntryTest.{EntryTest}
 use Rattle.rmm_spec.specs.declared.entry.EntryTest.TheVariants.{Live, Link, Unlike}
 use Rattle.rmm_spec.specs.declared.tag.Ripas.TheVariants.{Empty}

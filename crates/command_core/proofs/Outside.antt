@@ -12,6 +12,7 @@ use Rattle.rmm_spec.specs.declared.change.RecUpdate.TheVariants.{Entered}
 use Rattle.rmm_spec.specs.declared.reply.Reply.{Reply}
 use Rattle.rmm_spec.specs.declared.tag.Tag.TheVariants as tag
 use Rattle.rmm_spec.specs.Call.{ByHost, class_of}
+use Rattle.rmm_spec.specs.Flat.{flat_state}
 use Rattle.rmm_spec.specs.State.{State, RealmRecord, RecRecord}
 use Rattle.rmm_spec.specs.Lookup.{is_granule, has_tag, realm_at, rec_at, is_vmid_used, has_rec}
 use Rattle.rmm_spec.specs.Rows.{Needed, rec_error}
@@ -69,6 +70,11 @@ held-at held c = each-named held (λ n. is_held n.granule held ≡ true) (λ n i
 
 -- ---- what is looked up
 
+same_version : (config : Config) (cpu : ℕ) (hold : Hold) (w : Whole config cpu hold)
+    → (state config cpu hold w).config.version ≡ (seen_state config hold.cells).config.version
+unfolding flat_state seen_state
+same_version config cpu hold w = refl
+
 -- a whole and what is held agree on what is named, where all that is named is held
 agreeing : (config : Config) (cpu : ℕ) (hold : Hold) (w : Whole config cpu hold) (c : Call) → holds_all (named c) hold.cells ≡ true
     → SameOwner (state config cpu hold w) (seen_state config hold.cells) (entered c)
@@ -77,6 +83,7 @@ agreeing : (config : Config) (cpu : ℕ) (hold : Hold) (w : Whole config cpu hol
 agreeing config cpu hold w c all owner root =
     let s : State = state config cpu hold w in
     let t : State = seen_state config hold.cells in record {
+      version = same_version config cpu hold w;
       tags = each-named hold.cells (λ n. has_tag s n.granule n.tag ≡ has_tag t n.granule n.tag) (λ n. tag-same config cpu hold w n.granule n.tag) (named c) all;
       realms = each-named hold.cells (λ n. realm_at s n.granule ≡ realm_at t n.granule) (λ n. realm-same config cpu hold w n.granule) (named c) all;
       recs = each-named hold.cells (λ n. rec_at s n.granule ≡ rec_at t n.granule) (λ n. rec-same config cpu hold w n.granule) (named c) all;

@@ -103,7 +103,7 @@ pub few_recs : (config : Config) (cpu : ℕ) (hold : Hold) → Whole config cpu 
 few_recs config cpu hold w rd =
     let counted = w.shaped.realms.counted rd in
     let most = counted-le config.granules (λ k. is_owned_by rd (recs_of w.cells (k * 4096))) in
-    let few : hold.side.rec_counts rd ≤ config = omega (arith, counted, most) in
+    let few : hold.side.rec_counts rd ≤ config.granules = omega (arith, counted, most) in
     grind (arith, nat_tests)
 
 -- ---- inside of a REC
