@@ -1,6 +1,7 @@
 -- Steps of the plan, one further.
 use Rattle.std.proofs.Common.{◌≡◌, ℕ, List, [], ◌∷◌, ◌++◌, None, refl, sym, subst}
 use Rattle.rmm_spec.specs.declared.call.Call.{Call}
+use Rattle.rmm_spec.specs.HistoryText.{Config}
 use Rattle.rmm_spec.specs.Shape.{CpuPlace}
 use Rattle.rmm_spec.specs.Local.{HeldCell}
 use Rattle.granule_lock.specs.Locked.{Locking, locking, IsPlannedStep, ArePlannedSteps, IsReached}
