@@ -17,7 +17,12 @@ impl fmt::Display for Condition {
                 needed,
                 found,
             } => write_tag(f, granule, needed, found),
-            Condition::NoHash { version, algo } => write_about(f, "algo ", algo, isnt_hash(version)),
+            Condition::NoHash { version, algo } => write_about(
+                f,
+                "algo ",
+                algo,
+                isnt_hash(version),
+            ),
             Condition::VmidUsed { vmid } => write_about(f, "a realm has VMID ", vmid, ""),
             Condition::RealmNotNew { rd } => write_about(f, "the realm at ", rd, " isn't NEW"),
             Condition::RealmNew => f.write_str("the REC's realm is NEW"),
