@@ -31,37 +31,38 @@ version_number-between One = (lit≤ tt, lit≤ tt)
 version_number-between Two = (lit≤ tt, lit≤ tt)
 
 -- Numbers that are held as they are stated are in range.
-pub AreInRange-sizes : (stated : Stated) (sizes : Sizes) → AreSizes stated sizes → AreInRange stated
-AreInRange-sizes stated sizes are = record {
-  granules = rw are.granules (are.config.some_granules, are.config.most_granules);
-  cpus = rw are.cpus (are.config.some_cpus, are.config.most_cpus);
-  programs = are.cpus ∙ ap pos (sym are.programs);
+pub AreInRange-sizes : (stated : Stated) (sizes : Sizes) → AreSizes stated sizes → stated.version ≡ pos (version_number sizes.config.version)
+    → AreInRange stated
+AreInRange-sizes stated sizes are version = record {
+  granules = rw are.numbers.granules (are.numbers.config.some_granules, are.numbers.config.most_granules);
+  cpus = rw are.numbers.cpus (are.numbers.config.some_cpus, are.numbers.config.most_cpus);
+  programs = are.numbers.cpus ∙ ap pos (sym are.programs);
   few = are.few;
-  queue = rw are.queue are.queue_within;
-  limit = rw are.limit are.limit_within;
-  version = rw are.version (version_number-between sizes.config.version);
+  queue = rw are.numbers.queue are.numbers.queue_within;
+  limit = rw are.numbers.limit are.numbers.limit_within;
+  version = rw version (version_number-between sizes.config.version);
 }
 
 -- What is stated is the scenario of the numbers, commands and turns that are read from it.
 pub IsStatedBy-parts : (stated : Stated) (sizes : Sizes) (programs : List (List Command)) (turns : List Due) → AreSizes stated sizes
-    → stated.programs ≡ map (map command_text) programs → AllByRecursion (AllByRecursion IsCommand) programs
+    → stated.version ≡ pos (version_number sizes.config.version) → stated.programs ≡ map (map command_text) programs → AllByRecursion (AllByRecursion IsCommand) programs
     → stated.turns ≡ map turn_text turns → AllByRecursion (λ turn. turn.cpu < sizes.config.cpus) turns
     → IsStatedBy stated (record { config = sizes.config; programs = programs; queue = sizes.queue; turns = turns; limit = sizes.limit })
-IsStatedBy-parts stated sizes programs turns are texts commands turn_texts cpus = record {
+IsStatedBy-parts stated sizes programs turns are version texts commands turn_texts cpus = record {
   is_scenario = record {
-    config = are.config;
+    config = are.numbers.config;
     programs = sym (length-map programs (map command_text)) ∙ ap length (sym texts) ∙ are.programs;
     commands = commands;
     few = rw (ap (λ lists. sum (map length lists)) texts ∙ ap sum (lengths-texts programs)) at are.few;
-    queue = are.queue_within;
+    queue = are.numbers.queue_within;
     turns = cpus;
-    limit = are.limit_within;
+    limit = are.numbers.limit_within;
   };
-  granules = are.granules;
-  cpus = are.cpus;
+  granules = are.numbers.granules;
+  cpus = are.numbers.cpus;
   programs = texts;
-  queue = are.queue;
+  queue = are.numbers.queue;
   turns = turn_texts;
-  limit = are.limit;
-  version = are.version;
+  limit = are.numbers.limit;
+  version = version;
 }

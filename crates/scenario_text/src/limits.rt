@@ -4,7 +4,7 @@ ghost use Rattle.std.specs.Prelude.{◌≡◌, ◌↔◌, ◌≤◌, ℕ, pos, I
 ghost use Rattle.rmm_spec.specs.HistoryText.{IsConfig, is_version, version_of};
 ghost use Rattle.rmm_spec.specs.Scenario.{AreInRange, IsBetween, version_number};
 ghost use Rattle.scenario_text.specs.Seen.{seen_lists, stated_seen};
-ghost use Rattle.scenario_text.specs.Sizes.{AreSizes};
+ghost use Rattle.scenario_text.specs.Sizes.{AreNumbers, AreSizes};
 
 use crate::keys::Stated;
 use granule_state::Config;
@@ -23,17 +23,28 @@ pub(crate) struct Sizes {
 /// The numbers that are stated, where all are within their ranges, each CPU has a program, and there are few enough commands.
 pub(crate) fn sizes_of(stated: &Stated<'_>) -> Option<Sizes>
     ensures found { IfSome result (AreSizes (stated_seen stated.now)) }
+    ensures version { IfSome result (λ sizes. (stated_seen stated.now).version ≡ pos (version_number sizes.config.version)) }
     ensures none { IfNone result (¬ AreInRange (stated_seen stated.now)) }
 {
-    let config = config_of(stated.granules, stated.cpus, stated.version)?;
-    let queue = number_between(stated.queue, 1, 65_536)?;
-    let limit = number_between(stated.limit, 1, 10_000_000)?;
-    if stated.programs.len() as u64 != u64::from(config.cpus()) {
+    let sizes = numbers_of(stated)?;
+    if stated.programs.len() as u64 != u64::from(sizes.config.cpus()) {
         return None;
     }
     if !are_few(stated.programs.as_slice()) {
         return None;
     }
+    Some(sizes)
+}
+
+// The numbers that are stated, where all are within their ranges.
+fn numbers_of(stated: &Stated<'_>) -> Option<Sizes>
+    ensures found { IfSome result (AreNumbers (stated_seen stated.now)) }
+    ensures version { IfSome result (λ sizes. (stated_seen stated.now).version ≡ pos (version_number sizes.config.version)) }
+    ensures none { IfNone result (¬ AreInRange (stated_seen stated.now)) }
+{
+    let config = config_of(stated.granules, stated.cpus, stated.version)?;
+    let queue = number_between(stated.queue, 1, 65_536)?;
+    let limit = number_between(stated.limit, 1, 10_000_000)?;
     Some(Sizes {
         config,
         queue: queue as usize,
