@@ -1,7 +1,7 @@
 #!/usr/bin/env python3
 """Compares the built program with judge.py on short pairs of texts, of which most are broken somewhere.
 
-usage: compare.py [--program PATH] [--jobs COUNT] [PAIRS [SEED]]
+usage: compare.py [--program PATH] [--jobs COUNT] [--version 2] [PAIRS [SEED]]
 
 The histories are those of explore.py on up to 40 granules and 8 CPUs. A pair is left as it is, or has one of its replies,
 words, lines or bytes changed. It prints how often each kind of verdict came and, of the pairs with yes, how often each
@@ -33,8 +33,8 @@ PAIRS_A_TASK = 200
 class CountingMachine(Machine):
     """Counts how each command was answered: accepted, misplaced, or refused by a row."""
 
-    def __init__(self, granules):
-        super().__init__(granules)
+    def __init__(self, granules, version):
+        super().__init__(granules, version)
         self.answers = collections.Counter()
 
     def answer(self, cpu, function, words, choose=max):
@@ -108,9 +108,9 @@ def changed_bytes(text, draw):
 CHANGES = [with_other_reply] * 3 + [with_other_word, with_other_lines]
 
 
-def pair(draw):
+def pair(draw, version):
     """Two texts, and the answers of the machine that was asked for them."""
-    machine = CountingMachine(draw.choice([2, 8, 16, 24, 32, 40, 40, 40]))
+    machine = CountingMachine(draw.choice([2, 8, 16, 24, 32, 40, 40, 40]), version)
     source = Explorer(machine, draw)
     count, lines = draw.choice([1, 1, 2, 4, 8]), draw.choice([20, 100, 200, 400])
     texts = list(run(machine, source, count, draw.randint(1, lines), draw, draw.choice([max, min, draw.choice])))
@@ -125,13 +125,13 @@ def pair(draw):
 
 def compare(task):
     """Judges the pairs of a task with both. How often each verdict and each answer came, and the first difference."""
-    program, count, seed = task
+    program, version, count, seed = task
     draw = random.Random(seed)
     verdicts, answers = collections.Counter(), collections.Counter()
     with tempfile.TemporaryDirectory() as folder:
         paths = [os.path.join(folder, name) for name in ("history", "certificate")]
         for _ in range(count):
-            texts, given = pair(draw)
+            texts, given = pair(draw, version)
             for path, text in zip(paths, texts):
                 with open(path, "w", encoding="ascii", newline="") as file:
                     file.write(text)
@@ -148,13 +148,14 @@ def compare(task):
 
 def tasks(words):
     for first in range(0, words.pairs, PAIRS_A_TASK):
-        yield words.program, min(PAIRS_A_TASK, words.pairs - first), f"{words.seed} {first}"
+        yield words.program, words.version, min(PAIRS_A_TASK, words.pairs - first), f"{words.seed} {first}"
 
 
 def main():
     parser = argparse.ArgumentParser(usage=__doc__)
     parser.add_argument("--program", default=PROGRAM)
     parser.add_argument("--jobs", type=int, default=os.cpu_count())
+    parser.add_argument("--version", type=int, choices=[1, 2], default=1)
     parser.add_argument("pairs", type=int, nargs="?", default=1000)
     parser.add_argument("seed", type=int, nargs="?", default=1)
     words = parser.parse_args()

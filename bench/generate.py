@@ -1,7 +1,7 @@
 #!/usr/bin/env python3
 """Writes a history and a certificate that rmmcheck accepts.
 
-usage: generate.py LOAD LINES PREFIX [SEED]
+usage: generate.py [--version 2] LOAD LINES PREFIX [SEED]
 
 Eight CPUs work on 4096 granules. Under the load `granules` they delegate and undelegate them. Under the other loads each
 CPU makes realms and destroys them all the time, on 512 granules of its own: `realms` with RECs and with VMIDs that all CPUs
@@ -11,7 +11,7 @@ pages and extensions that are measured; `mixed` with all of this and with RECs t
 Each CPU calls, commits and returns in turns that are drawn at random, so that up to eight calls overlap; the certificate's
 order is that of the commits, and a reply is what the machine of machine.py gives at the commit. PREFIX.history has LINES
 lines, its header counted. Calls that are open at the end stand in PREFIX.certificate as unfinished lines where they have
-committed, and not at all where they haven't.
+committed, and not at all where they haven't. Under version 2 each realm's hash is drawn, and version 1 draws nothing for it.
 """
 import argparse
 import random
@@ -36,7 +36,7 @@ class Cpu:
 
 def run(machine, source, count, lines, draw, choose=max):
     """The lines of both texts where so many CPUs call what the source tells, until the history has so many lines."""
-    history = [f"rmh1 {machine.granules} {count}"]
+    history = [f"rmh{machine.version} {machine.granules} {count}"]
     certificate = []
     cpus = [Cpu(number) for number in range(count)]
     while len(history) < lines:
@@ -62,12 +62,13 @@ def run(machine, source, count, lines, draw, choose=max):
 
 def main():
     parser = argparse.ArgumentParser(usage=__doc__)
+    parser.add_argument("--version", type=int, choices=[1, 2], default=1)
     parser.add_argument("load", choices=LOADS)
     parser.add_argument("lines", type=int)
     parser.add_argument("prefix")
     parser.add_argument("seed", type=int, nargs="?", default=1)
     words = parser.parse_args()
-    draw, machine = random.Random(words.seed), Machine(GRANULES)
+    draw, machine = random.Random(words.seed), Machine(GRANULES, words.version)
     texts = run(machine, LOADS[words.load](machine, draw), CPUS, words.lines, draw)
     for name, text in zip(("history", "certificate"), texts):
         with open(f"{words.prefix}.{name}", "w", encoding="ascii", newline="\n") as out:

@@ -42,27 +42,27 @@ def examples():
 
 
 def steps_of(history, certificate):
-    """How many granules and CPUs, and each step as (cpu, function, words, reply), in the certificate's order."""
+    """The machine at its beginning, how many CPUs there are, and each step as (cpu, function, words, reply), in the certificate's order."""
     with open(os.path.join(EXAMPLES, f"{history}.history"), encoding="ascii") as file:
         text = file.read()
-    granules, calls = read_history(text)
+    machine, calls = read_history(text)
     with open(os.path.join(EXAMPLES, f"{certificate}.certificate"), encoding="ascii") as file:
         lines = list(read_certificate(file.read()))
     steps = [(cpu, *calls[cpu, n][1:3], claimed or calls[cpu, n][4]) for cpu, n, claimed in lines]
-    return granules, int(text.split()[2]), steps
+    return machine, int(text.split()[2]), steps
 
 
-def replayed(granules, steps):
-    machine = Machine(granules)
+def replayed(opening, steps):
+    machine = Machine(opening.granules, opening.version)
     for step in steps:
         if not gives(machine, *step):
             sys.exit(f"{step}: another reply")
     return machine
 
 
-def texts_of(granules, cpus, steps):
+def texts_of(opening, cpus, steps):
     """A history in which each step is answered before the next, and its certificate."""
-    history, certificate, made = [f"rmh1 {granules} {cpus}"], [], collections.Counter()
+    history, certificate, made = [f"rmh{opening.version} {opening.granules} {cpus}"], [], collections.Counter()
     for cpu, function, words, reply in steps:
         history.append(" ".join(["c", str(cpu), str(made[cpu]), function, *(f"{word:x}" for word in words)]))
         history.append(f"r {cpu} {made[cpu]} {reply}")
@@ -124,8 +124,8 @@ class Asking:
         self.program = program
         self.paths = [os.path.join(folder, name) for name in ("history", "certificate")]
 
-    def expect(self, granules, cpus, steps):
-        for path, text in zip(self.paths, texts_of(granules, cpus, steps)):
+    def expect(self, opening, cpus, steps):
+        for path, text in zip(self.paths, texts_of(opening, cpus, steps)):
             with open(path, "w", encoding="ascii") as file:
                 file.write(text)
         done = subprocess.run([self.program, "check", *self.paths], stdout=subprocess.PIPE, text=True, check=False)
@@ -135,10 +135,10 @@ class Asking:
         return f"{done.stdout!r}: {steps[int(failed[1]) - 1] if failed else steps[-1]}"
 
 
-def send(asking, granules, cpus, steps, place, counts):
+def send(asking, opening, cpus, steps, place, counts):
     """Sends all commands in the state after so many steps. The first difference, where there is one."""
     script = steps[:place]
-    machine, refused = replayed(granules, script), []
+    machine, refused = replayed(opening, script), []
     for function, words in hostile_commands(machine, steps, place):
         for cpu in range(cpus):
             reply = machine.answer(cpu, function, words)
@@ -147,20 +147,20 @@ def send(asking, granules, cpus, steps, place, counts):
             if not reply.startswith("ok"):
                 refused.append(step)
                 continue
-            machine = replayed(granules, script)
-            if difference := asking.expect(granules, cpus, [*script, step]):
+            machine = replayed(opening, script)
+            if difference := asking.expect(opening, cpus, [*script, step]):
                 return difference
-    return asking.expect(granules, cpus, [*script, *refused])
+    return asking.expect(opening, cpus, [*script, *refused])
 
 
 def send_all(task):
     program, (history, certificate) = task
-    granules, cpus, steps = steps_of(history, certificate)
+    opening, cpus, steps = steps_of(history, certificate)
     counts = collections.Counter()
     with tempfile.TemporaryDirectory() as folder:
         asking = Asking(program, folder)
         for place in range(len(steps) + 1):
-            if difference := send(asking, granules, cpus, steps, place, counts):
+            if difference := send(asking, opening, cpus, steps, place, counts):
                 return history, len(steps) + 1, counts, difference
     return history, len(steps) + 1, counts, None
 

@@ -17,7 +17,7 @@ from machine import Machine
 MOST_LINES = 1_000_000
 DECIMAL = r"(?:0|[1-9][0-9]*)"
 WORD = r"(?:0|[1-9a-f][0-9a-f]{0,15})"
-HEADER = re.compile(rf"rmh1 ({DECIMAL}) ({DECIMAL})\Z")
+HEADER = re.compile(rf"rmh([12]) ({DECIMAL}) ({DECIMAL})\Z")
 CALL = re.compile(rf"c ([0-7]) ({DECIMAL}) ([0-9a-f]{{8}})((?: {WORD})*)\Z")
 REPLY = rf"(ok(?: {WORD}){{0,10}}|err {DECIMAL} {DECIMAL}|misplaced)"
 RETURN = re.compile(rf"r ([0-7]) ({DECIMAL}) {REPLY}\Z")
@@ -45,15 +45,15 @@ def lines_of(text):
 
 
 def read_history(text):
-    """The number of granules, and each call as (place, function, words, place of return or None, reply)."""
-    granules = cpus = None
+    """The machine at its beginning, and each call as (place, function, words, place of return or None, reply)."""
+    machine = cpus = None
     calls, made, opened = {}, {}, {}
     for number, line in lines_of(text):
         if number == 1:
             match = HEADER.match(line)
-            if not match or not 1 <= int(match[1]) <= 4096 or not 1 <= int(match[2]) <= 8:
+            if not match or not 1 <= int(match[2]) <= 4096 or not 1 <= int(match[3]) <= 8:
                 raise BadLine(1)
-            granules, cpus = int(match[1]), int(match[2])
+            machine, cpus = Machine(int(match[2]), int(match[1])), int(match[3])
         elif match := CALL.match(line):
             cpu, n = int(match[1]), int(match[2])
             if cpu >= cpus or cpu in opened or n != made.get(cpu, 0):
@@ -70,9 +70,9 @@ def read_history(text):
             calls[cpu, n][3:] = number, match[3]
         else:
             raise BadLine(number)
-    if granules is None:
+    if machine is None:
         raise BadLine(1)
-    return granules, calls
+    return machine, calls
 
 
 def read_certificate(text):
@@ -99,8 +99,8 @@ def gives(machine, cpu, function, words, reply):
     return machine.answer(cpu, function, words, as_claimed) == reply
 
 
-def judge_order(granules, calls, lines):
-    named, machine, last_call = set(), Machine(granules), 0
+def judge_order(machine, calls, lines):
+    named, last_call = set(), 0
     for step, (cpu, n, claimed) in enumerate(lines, 1):
         if (cpu, n) not in calls:
             return 1, f"no {step} unknown"
@@ -123,14 +123,14 @@ def judge_order(granules, calls, lines):
 
 def judge(history, certificate):
     try:
-        granules, calls = read_history(history)
+        machine, calls = read_history(history)
     except BadLine as bad:
         return 2, f"fault history {bad}"
     try:
         lines = list(read_certificate(certificate))
     except BadLine as bad:
         return 2, f"fault certificate {bad}"
-    return judge_order(granules, calls, lines)
+    return judge_order(machine, calls, lines)
 
 
 def main():

@@ -65,6 +65,9 @@ class Lives:
     def undelegation(self, granules):
         return [(GRANULE_UNDELEGATE, [granule]) for granule in self.draw.sample(granules, len(granules) // 2)]
 
+    def algo(self):
+        return self.draw.randrange(2) if self.machine.version == 2 else 0
+
     def own_vmid(self, cpu):
         return cpu * OWN_VMIDS + self.draw.randrange(OWN_VMIDS)
 
@@ -80,7 +83,7 @@ class Realms(Lives):
         rd, root, *others = granules = self.granules(cpu, 2 + 3 * recs)
         width, level = self.draw.choice(SPACES)
         yield from self.delegation(granules)
-        yield REALM_CREATE, [rd, root, width, level, self.draw.randrange(256), 0]
+        yield REALM_CREATE, [rd, root, width, level, self.draw.randrange(256), self.algo()]
         for index in range(recs):
             rec, aux0, aux1 = others[3 * index:3 * index + 3]
             yield REC_CREATE, [rd, rec, index, self.draw.randrange(2), aux0, aux1]
@@ -94,7 +97,7 @@ class Realms(Lives):
         near = [self.draw.randrange(GRANULES + 1) * PAGE_BYTES for _ in range(5)]
         number = self.draw.randrange(9)
         return self.draw.choice([
-            (REALM_CREATE, [near[0], near[1], 0x27, self.draw.randrange(2), self.draw.randrange(257), 0]),
+            (REALM_CREATE, [near[0], near[1], 0x27, self.draw.randrange(2), self.draw.randrange(257), self.algo()]),
             (REALM_ACTIVATE, [near[0]]),
             (REALM_DESTROY, [near[0]]),
             (REC_CREATE, [near[0], near[1], number, self.draw.randrange(3), near[2], near[self.draw.randrange(2, 4)]]),
@@ -123,7 +126,7 @@ class Tables(Lives):
         spots += [(base + table * TABLE_BYTES, LAST_LEVEL) for base in bases for table in range(tables)]
         rd, root, *others = granules = self.granules(cpu, 2 + len(spots) + pages)
         yield from self.delegation(granules)
-        yield REALM_CREATE, [rd, root, width, level, self.own_vmid(cpu), 0]
+        yield REALM_CREATE, [rd, root, width, level, self.own_vmid(cpu), self.algo()]
         for (ipa, below), rtt in zip(spots, others):
             yield RTT_CREATE, [rd, rtt, ipa, below]
         yield from self.filled(rd, bases, tables, others[len(spots):])

@@ -14,6 +14,8 @@ from tables import (ASSIGNED, ASSIGNED_NS, DESTROYED, ENTRIES, FREE_NS, LAST_LEV
 UNDELEGATED, DELEGATED, RD, REC, REC_AUX, DATA, RTT = "undelegated", "delegated", "rd", "rec", "aux", "data", "rtt"
 NEW, ACTIVE, OFF = "new", "active", "off"
 SPACES = {(0x27, 1), (0x30, 0)}
+# the hashes of each version, by algo
+HASHES = {1: [hashlib.sha256], 2: [hashlib.sha256, hashlib.sha512]}
 MOST_RECS = 8
 INPUT_ERROR, REALM_ERROR, SYSTEM_OFF_ERROR, REC_ERROR = "err 1 0", "err 2 0", "err 2 1", "err 3 0"
 
@@ -26,23 +28,24 @@ def is_page(address):
     return address % PAGE_BYTES == 0
 
 
-def measured(old, words):
-    """SHA-256 of the old measurement and of words, each written as 8 bytes with the lowest first."""
-    return hashlib.sha256(old + struct.pack(f"<{len(words)}Q", *words)).digest()
+def measured(hashed, old, words):
+    """The hash of the old measurement and of words, each written as 8 bytes with the lowest first."""
+    return hashed(old + struct.pack(f"<{len(words)}Q", *words)).digest()
 
 
 class Realm:
-    def __init__(self, width, level, vmid, algo, root):
+    def __init__(self, width, level, vmid, algo, root, hashed):
         self.state = NEW
         self.width = width
         self.level = level
         self.vmid = vmid
         self.algo = algo
+        self.hashed = hashed
         self.root = root
         self.made_recs = 0
         self.recs = set()
-        self.rim = measured(b"", [int(REALM_CREATE, 16), width, level, algo])
-        self.rems = [bytes(32)] * 4
+        self.rim = measured(hashed, b"", [int(REALM_CREATE, 16), width, level, algo])
+        self.rems = [bytes(hashed().digest_size)] * 4
 
     @property
     def full(self):
@@ -53,7 +56,7 @@ class Realm:
         return 1 << (self.width - 1)
 
     def measure(self, function, *words):
-        self.rim = measured(self.rim, [int(function, 16), *words])
+        self.rim = measured(self.hashed, self.rim, [int(function, 16), *words])
 
 
 class Rec:
@@ -86,8 +89,9 @@ class Machine:
     `row` is the number of the row that refused the last command, as docs/PROFILE.md counts them, and 0 where none did.
     """
 
-    def __init__(self, granules):
+    def __init__(self, granules, version=1):
         self.granules = granules
+        self.version = version
         self.tags = {}
         self.realms = {}
         self.recs = {}
@@ -172,12 +176,13 @@ class Machine:
         self.need(rd != root)
         self.need((width, level) in SPACES)
         self.need(vmid <= 0xFF)
-        self.need(algo == 0)
         self.need_tag(rd, DELEGATED)
         self.need_tag(root, DELEGATED)
+        hashes = HASHES[self.version]
+        self.need(algo < len(hashes))
         self.need(vmid not in self.vmids)
         self.tags[rd], self.tags[root] = RD, RTT
-        self.realms[rd] = Realm(width, level, vmid, algo, new_root(root, level))
+        self.realms[rd] = Realm(width, level, vmid, algo, new_root(root, level), hashes[algo])
         self.vmids.add(vmid)
 
     def activate_realm(self, rd):
@@ -399,13 +404,14 @@ class Machine:
     def read_measurement(self, rec, index):
         self.need(index <= 4)
         realm = self.realms[rec.rd]
-        return struct.unpack("<4Q", realm.rems[index - 1] if index else realm.rim)
+        measurement = realm.rems[index - 1] if index else realm.rim
+        return struct.unpack(f"<{len(measurement) // 8}Q", measurement)
 
     def extend_measurement(self, rec, index, size, *values):
         self.need(1 <= index <= 4)
         self.need(1 <= size <= 0x40)
-        rems = self.realms[rec.rd].rems
-        rems[index - 1] = hashlib.sha256(rems[index - 1] + struct.pack("<8Q", *values)[:size]).digest()
+        realm = self.realms[rec.rd]
+        realm.rems[index - 1] = realm.hashed(realm.rems[index - 1] + struct.pack("<8Q", *values)[:size]).digest()
 
     def config(self, rec):
         realm = self.realms[rec.rd]

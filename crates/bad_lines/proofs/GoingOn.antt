@@ -2,7 +2,9 @@
 use Rattle.std.proofs.Common.{◌≡◌, ℕ, zero, suc, ◌-◌, ◌<◌, ◌≤◌, List, [], ◌∷◌, ◌++◌, length, take, drop, codes, Some, slice_get, inl, inr, refl, sym, ap, subst, arith, lit<, lit≤}
 use Rattle.std.specs.Prelude.{◌↔◌, ⊤}
 use Rattle.rmm_spec.specs.declared.function_id.FunctionId.TheVariants as function
+use Rattle.rmm_spec.specs.declared.version.Version.TheVariants.{One}
 use Rattle.rmm_spec.specs.Function.{number_of, word_count}
+use Rattle.rmm_spec.specs.HistoryText.{mark}
 use Rattle.rmm_spec.specs.Text.{decimal, word, fixed_hex}
 use Rattle.bad_lines.specs.declared.wanted.Role.{Role}
 use Rattle.bad_lines.specs.declared.wanted.Role.TheVariants as role
@@ -85,7 +87,7 @@ granules_rest = rest_behind wanted.Granules wanted.Cpus (decimal 1) ((1, lit≤ 
 
 -- some line goes on from each place
 rest_from : (w : Wanted) → IsLive w → HasRest w
-rest_from wanted.Format live = rest_behind wanted.Format wanted.Granules (codes "rmh1") (refl, refl) granules_rest
+rest_from wanted.Format live = rest_behind wanted.Format wanted.Granules (mark One) ((One, refl), refl) granules_rest
 rest_from wanted.Granules live = granules_rest
 rest_from wanted.Cpus live = cpus_rest
 rest_from (wanted.EventLetter cpus) live = rest_behind (wanted.EventLetter cpus) (wanted.Cpu cpus role.Call) (codes "c") (live, inl (refl, refl)) (cpu_rest cpus role.Call live)

@@ -67,15 +67,15 @@ header_to : (line : List (List ℕ)) → GoesOn wanted.Format line → IsHeader 
 header_to [] h = absurd h
 header_to (part ∷ rest) h =
     let numbers = granules_to rest (subst (λ n. GoesOn n rest) h.1.1 h.2) in (
-      record { granules = numbers.0; cpus = numbers.1 },
+      record { granules = numbers.0; cpus = numbers.1; version = h.1.0.0 },
       record { some_granules = numbers.2; most_granules = omega (arith, numbers.3); some_cpus = numbers.4; most_cpus = omega (arith, numbers.5) },
-      λ i. h.1.0 i ∷ numbers.6 i,
+      λ i. h.1.0.1 i ∷ numbers.6 i,
     )
 
 header_from : (line : List (List ℕ)) → IsHeader line → GoesOn wanted.Format line
 header_from line (config, is_config, e) = subst (GoesOn wanted.Format) (sym e) (
   wanted.Granules,
-  (refl, refl),
+  ((config.version, refl), refl),
   (
     wanted.Cpus,
     ((config.granules, is_config.some_granules, omega (arith, is_config.most_granules), refl), refl),

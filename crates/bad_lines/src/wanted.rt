@@ -2,7 +2,7 @@
 
 ghost use Rattle.std.specs.Prelude.{◌≡◌, ◌↔◌, [], ◌∷◌, Some, false, IsTrue, IfSome, MatchOption};
 ghost use Rattle.rmm_spec.specs.Text.{parts_of};
-ghost use Rattle.bad_lines.specs.Wanted.{IsNumber, IsWord, Leads, MayEnd, behind_number};
+ghost use Rattle.bad_lines.specs.Wanted.{IsFormat, IsNumber, IsWord, Leads, MayEnd, behind_number};
 ghost use Rattle.bad_lines.specs.declared.wanted.Wanted.TheVariants as wanted;
 
 use rmi_codec::{Parts, decimal_from, next_word, words_of};
@@ -57,7 +57,7 @@ impl Wanted {
         ensures only { (next : Wanted) → Leads self part.now next → result ≡ Some next }
     {
         match self {
-            Wanted::Format => when(part == b"rmh1".as_slice(), Wanted::Granules),
+            Wanted::Format => when(is_format(part), Wanted::Granules),
             Wanted::Granules => when(is_number(part, 1, 4097), Wanted::Cpus),
             Wanted::Cpus => when(is_number(part, 1, 9), Wanted::End),
             Wanted::EventLetter { cpus } => event_letter(cpus, part),
@@ -113,6 +113,13 @@ fn when(holds: bool, next: Wanted) -> Option<Wanted>
     ensures { MatchOption result (holds ≡ false) (λ found. IsTrue holds × (found ≡ next)) }
 {
     if holds { Some(next) } else { None }
+}
+
+// Whether a part is the name of a version's format.
+fn is_format(part: &[u8]) -> bool
+    ensures { IsTrue result ↔ IsFormat part.now }
+{
+    part == b"rmh1".as_slice() || part == b"rmh2".as_slice()
 }
 
 // Whether a part is a decimal from the least number to below the limit.

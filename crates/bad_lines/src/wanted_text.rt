@@ -8,7 +8,7 @@ use std::fmt;
 impl fmt::Display for Wanted {
     fn fmt<W: fmt::Write>(&self, f: &mut fmt::Formatter<W>) -> fmt::Result {
         f.write_str(match *self {
-            Wanted::Format => "rmh1",
+            Wanted::Format => "rmh1 or rmh2",
             Wanted::Granules => "how many granules there are, from 1 to 4096",
             Wanted::Cpus => "how many CPUs there are, from 1 to 8",
             Wanted::EventLetter { .. } => "c for a call, or r for a return",

@@ -2,14 +2,22 @@
 
 use anyhow::{Result, bail};
 use measure::{Rem, Rim, begin, extend_bytes, extend_words, words};
+use rmm_spec::Measurement;
 
 /// Prints the last measurement as four words. Each extension hashes 96 bytes: the 32 of the measurement, and 64 bytes or eight words.
 pub(crate) fn extend(rt: &impl Print, kind: &str, count: u64) -> Result<()> {
-    let [w0, w1, w2, w3] = match kind {
-        "bytes" => words(extended_by_bytes(count).as_bytes()),
-        "words" => words(extended_by_words(count).as_bytes()),
+    match kind {
+        "bytes" => print(rt, extended_by_bytes(count).measurement()),
+        "words" => print(rt, extended_by_words(count).measurement()),
         _ => bail!("bytes or words?"),
+    }
+}
+
+fn print(rt: &impl Print, measurement: &Measurement) -> Result<()> {
+    let Measurement::Sha256(bytes) = measurement else {
+        bail!("no measurement by SHA-256");
     };
+    let [w0, w1, w2, w3] = words(bytes);
     println!(rt; "{w0:x} {w1:x} {w2:x} {w3:x}")?;
     Ok(())
 }
@@ -20,7 +28,7 @@ fn extended_by_bytes(count: u64) -> Rem {
     for i in 0..64 {
         block[i] = i as u8;
     }
-    let mut rem = Rem::start();
+    let mut rem = Rem::start(0);
     for _ in 0..count {
         rem = extend_bytes(&rem, &block);
     }

@@ -25,16 +25,20 @@ impl Script {
         }
     }
 
-    /// `CPUS DELEGATED`: so many granules, from 0x1000 on, are delegated by CPU 0.
+    /// `CPUS DELEGATED`, behind `rmh2 ` for version 2: so many granules, from 0x1000 on, are delegated by CPU 0.
     pub(crate) fn on(alloc: Global, machine: &str) -> Result<Script> {
-        let (cpus, delegated) = machine
+        let (mark, sizes) = match machine.strip_prefix("rmh2 ") {
+            Some(sizes) => ("rmh2", sizes),
+            None => ("rmh1", machine),
+        };
+        let (cpus, delegated) = sizes
             .split_once(' ')
             .context("no count of CPUs and one of delegated granules")?;
         let delegated = delegated
             .parse::<u8>()
             .context("no count of delegated granules")?;
         let mut script = Script::none(alloc);
-        write!(script.history, "rmh1 16 {cpus}\n")?;
+        write!(script.history, "{mark} 16 {cpus}\n")?;
         for number in 0..delegated {
             let command = format!(in alloc; "c4000151 {:x}", (u64::from(number) + 1) * 0x1000)?;
             script.push(0, command.as_str(), "ok")?;

@@ -1,6 +1,7 @@
 -- What a reply says of the machine's answer: with `ok` it accepts the command, and with any other nothing changes.
 use Rattle.std.proofs.Common.{◌≡◌, ℕ, true, false, Result, Ok, Err, refl, sym, ap, ◌∙◌, subst}
 use Rattle.std.specs.Prelude.{IsOk}
+use Rattle.rmm_spec.specs.HistoryText.{Config}
 use Rattle.rmm_spec.specs.declared.accepted.Accepted.{Accepted}
 use Rattle.rmm_spec.specs.declared.command.Command.{Command}
 use Rattle.rmm_spec.specs.declared.reply.Reply.{Reply}
@@ -28,17 +29,17 @@ step-accepts s cpu command given next accepted step = by (outcome s cpu (call_of
 
 -- so is it in a world of which a local step with that reply can be made
 pub local-accepts : (w : World) (cpu : ℕ) (command : Command) (given : Reply) (held : Hold) → IsShapedWorld w → is_accepted given ≡ true
-    → LocalStep w.config.granules cpu command given (hold_of w cpu) held → IsOk (outcome (flat_state w.config.granules w.cells) cpu (call_of command))
+    → LocalStep w.config cpu command given (hold_of w cpu) held → IsOk (outcome (flat_state w.config w.cells) cpu (call_of command))
 local-accepts w cpu command given held shaped accepted step =
-    step-accepts (flat_state w.config.granules w.cells) cpu command given (flat_state w.config.granules (put_all w.cells held.cells)) accepted
+    step-accepts (flat_state w.config w.cells) cpu command given (flat_state w.config (put_all w.cells held.cells)) accepted
     (step.right w.cells w.place shaped (Agrees-own w.cells (w.taken cpu)) refl).0
 
 -- a refusal is a local step that changes nothing
-pub refused-is_local : (granules cpu : ℕ) (command : Command) (given : Reply) (old new : Hold) → is_accepted given ≡ false
-    → LocalStep granules cpu command given old new → LocalStep granules cpu command given old old
-refused-is_local granules cpu command given old new refused step =
-    unchanged-is_local granules cpu command given old (λ cells places shaped agrees place.
-    let s = flat_state granules cells in
-    let next = flat_state granules (put_all cells new.cells) in
+pub refused-is_local : (config : Config) (cpu : ℕ) (command : Command) (given : Reply) (old new : Hold) → is_accepted given ≡ false
+    → LocalStep config cpu command given old new → LocalStep config cpu command given old old
+refused-is_local config cpu command given old new refused step =
+    unchanged-is_local config cpu command given old (λ cells places shaped agrees place.
+    let s = flat_state config cells in
+    let next = flat_state config (put_all cells new.cells) in
     let made = (step.right cells places shaped agrees place).0 in
     subst (λ (after : State). Step s cpu command given after) (step-refuses s next cpu command given made refused) made)

@@ -74,7 +74,7 @@ judged-run config programs moves w is_config have happen room =
     }
 
 -- each granule of a certified world is at most one realm's
-pub isolated-certified : (w : World) (certified : IsCertified w) → IsIsolated certified.linearization.entries (flat_state w.config.granules w.cells)
+pub isolated-certified : (w : World) (certified : IsCertified w) → IsIsolated certified.linearization.entries (flat_state w.config w.cells)
 isolated-certified w certified =
     let of = certified.linearization in
     subst (λ (s : State). IsIsolated of.entries s) certified.is_flat (run-isolated w.config of.entries of.last of.run.run)

@@ -21,6 +21,8 @@ use Rattle.rmm_spec.specs.declared.tag.Ripas.{Ripas}
 use Rattle.rmm_spec.specs.declared.tag.Ripas.TheVariants.{Empty, Ram, Destroyed}
 use Rattle.rmm_spec.specs.CommandText.{IsReply, AreWords}
 use Rattle.rmm_spec.specs.Call.{call_from, call_of, class_of}
+use Rattle.rmm_spec.specs.declared.measurement.Measurement.{Measurement}
+use Rattle.rmm_spec.specs.declared.measurement.Measurement.TheVariants.{Sha256, Sha512}
 use Rattle.rmm_spec.specs.Measure.{first_words, measurement_words}
 use Rattle.rmm_spec.specs.State.{State, RealmRecord, Request, Pending, Psci, RipasChange, HostCall}
 use Rattle.rmm_spec.specs.Lookup.{realm_at, rec_at, rec_inside, ripas_number}
@@ -140,10 +142,11 @@ IsReply-exit request (Some RipasChange) asked waits =
     (omega arith, (omega arith, (asked.0, (asked.1, (ripas_number-word request.ripas, tt)))))
 IsReply-exit request (Some (HostCall imm)) asked waits = (omega arith, (omega arith, (waits, (omega arith, (omega arith, tt)))))
 
--- a measurement is four words
-IsReply-measurement : (bytes : List ℕ) → AreWords (measurement_words bytes) → IsReply (ok (measurement_words bytes))
+-- a measurement is four words or eight
+IsReply-measurement : (measurement : Measurement) → AreWords (measurement_words measurement) → IsReply (ok (measurement_words measurement))
 unfolding measurement_words first_words
-IsReply-measurement bytes words = (omega arith, words)
+IsReply-measurement (Sha256 bytes) words = (omega arith, words)
+IsReply-measurement (Sha512 bytes) words = (omega arith, words)
 
 -- each of a command's words
 word : (w : List ℕ) (i : ℕ) → AreWords w → slice_index w i < 2 ^ 64
@@ -183,7 +186,7 @@ HasText-behind function.DataDestroy w s cpu fits words tests = (
 )
 HasText-behind function.RealmActivate w s cpu fits words tests = ((IsReply-realm_error, tt), ((omega arith, tt), tt))
 HasText-behind function.RealmCreate w s cpu fits words tests = (
-  (IsReply-input_error, tt),
+  (IsReply-input_error, (IsReply-input_error, tt)),
   ((omega arith, tt), (word w 1 words, word w 2 words, word w 5 words)),
 )
 HasText-behind function.RealmDestroy w s cpu fits words tests = ((IsReply-realm_error, (IsReply-realm_error, tt)), ((omega arith, tt), tt))

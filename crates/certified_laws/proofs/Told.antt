@@ -4,6 +4,8 @@ use Rattle.std.specs.Prelude.{⊤}
 use Rattle.std.specs.Int.{to_be_bytes, from_le_bytes}
 use Rattle.std.specs.List.{AllByRecursion}
 use Rattle.sha2.specs.Sha256.{sha256, digest_bytes}
+use Rattle.sha2.specs.Sha512 as wide
+use Rattle.sha2.specs.Sha512.{sha512}
 use Rattle.rmm_spec.specs.declared.change.Change.{Change}
 use Rattle.rmm_spec.specs.declared.change.Change.TheVariants.{Unchanged, Retagged, RealmMade, RealmDestroyed, RecMade, RecDestroyed, RecordsChanged, TableMade, TableDestroyed, EntriesChanged}
 use Rattle.rmm_spec.specs.declared.change.EntryChange.{EntryChange}
@@ -23,7 +25,9 @@ use Rattle.rmm_spec.specs.declared.tag.Tag.{Tag}
 use Rattle.rmm_spec.specs.Function.{number_of}
 use Rattle.rmm_spec.specs.HistoryText.{Config}
 use Rattle.rmm_spec.specs.CommandText.{AreWords}
-use Rattle.rmm_spec.specs.Measure.{rim_begin, rim_extended, rem_start, rem_extended, first_words, measurement_words}
+use Rattle.rmm_spec.specs.declared.measurement.Measurement.{Measurement}
+use Rattle.rmm_spec.specs.declared.measurement.Measurement.TheVariants.{Sha256, Sha512}
+use Rattle.rmm_spec.specs.Measure.{extended, rim_begin, rim_extended, rem_start, rem_extended, first_words, measurement_words}
 use Rattle.rmm_spec.specs.State.{State, RealmRecord, RecRecord, Request, Pending, Psci, RipasChange, HostCall, opening}
 use Rattle.rmm_spec.specs.Update.{with_tag, with_realm, without_realm, with_root, with_rec, without_rec, with_table, without_table, is_same_entry, is_same_table, entry_with_ripas}
 use Rattle.rmm_spec.specs.Lookup.{realm_at, rec_at, request_of, no_realm, no_rec, no_request}
@@ -85,10 +89,21 @@ AreBytes-digest_bytes hash (suc n) =
     append-each (λ b. b < 256) (digest_bytes hash n) (to_be_bytes w32 (slice_index hash n)) (AreBytes-digest_bytes hash n)
     (omega arith, (omega arith, (omega arith, (omega arith, tt))))
 
+AreBytes-wide_digest_bytes : (hash : List ℕ) (n : ℕ) → AreBytes (wide.digest_bytes hash n)
+unfolding wide.digest_bytes
+AreBytes-wide_digest_bytes hash zero = tt
+AreBytes-wide_digest_bytes hash (suc n) =
+    append-each (λ b. b < 256) (wide.digest_bytes hash n) (to_be_bytes w64 (slice_index hash n)) (AreBytes-wide_digest_bytes hash n)
+    (omega arith, (omega arith, (omega arith, (omega arith, (omega arith, (omega arith, (omega arith, (omega arith, tt))))))))
+
 -- a hash is bytes
 AreBytes-sha256 : (message : List ℕ) → AreBytes (sha256 message)
 unfolding sha256
 AreBytes-sha256 message = AreBytes-digest_bytes _ 8
+
+AreBytes-sha512 : (message : List ℕ) → AreBytes (sha512 message)
+unfolding sha512
+AreBytes-sha512 message = AreBytes-wide_digest_bytes _ 8
 
 -- eight bytes are a word
 from_le_bytes-word : (bytes : List ℕ) → AreBytes bytes → from_le_bytes w64 bytes < 2 ^ 64
@@ -120,11 +135,16 @@ PendingFits (HostCall imm) = imm < 2 ^ 64
 abbrev pub RecFits : RecRecord → Type 0
 RecFits rec = EachIn RequestFits rec.request × EachIn PendingFits rec.pending
 
+-- a measurement is of bytes
+abbrev pub AreMeasured : Measurement → Type 0
+AreMeasured (Sha256 bytes) = AreBytes bytes
+AreMeasured (Sha512 bytes) = AreBytes bytes
+
 pub record RealmFits (realm : RealmRecord) : Type 0 where
   pub width : realm.width < 2 ^ 64
   pub algo : realm.algo < 2 ^ 64
-  pub rim : AreBytes realm.rim
-  pub rems : AllByRecursion AreBytes realm.rems
+  pub rim : AreMeasured realm.rim
+  pub rems : AllByRecursion AreMeasured realm.rems
 
 -- each number of the state that a reply can tell fits into a word
 pub record StateFits (s : State) : Type 0 where
@@ -185,35 +205,46 @@ entry_at-fits s rd level number fits =
     linked_entry-fits _ (s.leaf rd level number)
     (either (EachIn (λ g. g < 2 ^ 64)) (nat_lt level 3) _ None (fits.tables rd _ number) tt) (fits.leaves rd level number)
 
-measurement_at-fits : (realm : RealmRecord) (index : ℕ) → RealmFits realm → AreBytes (measurement_at realm index)
+measurement_at-fits : (realm : RealmRecord) (index : ℕ) → RealmFits realm → AreMeasured (measurement_at realm index)
 measurement_at-fits realm index fits =
-    either AreBytes (index == 0) realm.rim _ fits.rim (slice_index_or-each AreBytes realm.rems _ [] fits.rems tt)
+    either AreMeasured (index == 0) realm.rim _ fits.rim (slice_index_or-each AreMeasured realm.rems _ (Sha256 []) fits.rems tt)
+
+AreWords-measured : (measurement : Measurement) → AreMeasured measurement → AreWords (measurement_words measurement)
+unfolding measurement_words
+AreWords-measured (Sha256 bytes) are = AreWords-first_words 4 bytes are
+AreWords-measured (Sha512 bytes) are = AreWords-first_words 8 bytes are
 
 pub AreWords-measurement : (realm : RealmRecord) (index : ℕ) → RealmFits realm → AreWords (measurement_words (measurement_at realm index))
-unfolding measurement_words
-AreWords-measurement realm index fits = AreWords-first_words 4 _ (measurement_at-fits realm index fits)
+AreWords-measurement realm index fits = AreWords-measured _ (measurement_at-fits realm index fits)
 
 -- ---- records that change
 
 -- a realm with another RIM
-RealmFits-rim : (realm : RealmRecord) (rim : List ℕ) → AreBytes rim → RealmFits realm → RealmFits (record realm { rim = rim })
+RealmFits-rim : (realm : RealmRecord) (rim : Measurement) → AreMeasured rim → RealmFits realm → RealmFits (record realm { rim = rim })
 RealmFits-rim realm rim bytes fits = record { width = fits.width; algo = fits.algo; rim = bytes; rems = fits.rems }
 
-AreBytes-rim_extended : (rim words : List ℕ) → AreBytes (rim_extended rim words)
+-- what a measurement becomes is of bytes, whatever it was
+AreMeasured-extended : (measurement : Measurement) (bytes : List ℕ) → AreMeasured (extended measurement bytes)
+AreMeasured-extended (Sha256 old) bytes = AreBytes-sha256 _
+AreMeasured-extended (Sha512 old) bytes = AreBytes-sha512 _
+
+AreMeasured-rim_extended : (rim : Measurement) (words : List ℕ) → AreMeasured (rim_extended rim words)
 unfolding rim_extended
-AreBytes-rim_extended rim words = AreBytes-sha256 _
+AreMeasured-rim_extended rim words = AreMeasured-extended rim _
 
-AreBytes-rem_extended : (old bytes : List ℕ) → AreBytes (rem_extended old bytes)
+AreMeasured-rem_extended : (rem : Measurement) (bytes : List ℕ) → AreMeasured (rem_extended rem bytes)
 unfolding rem_extended
-AreBytes-rem_extended old bytes = AreBytes-sha256 _
+AreMeasured-rem_extended rem bytes = AreMeasured-extended rem bytes
 
-AreBytes-rim_begin : (width level algo : ℕ) → AreBytes (rim_begin width level algo)
+AreMeasured-rim_begin : (width level algo : ℕ) → AreMeasured (rim_begin width level algo)
 unfolding rim_begin
-AreBytes-rim_begin width level algo = AreBytes-sha256 _
+AreMeasured-rim_begin width level algo = either AreMeasured (algo == 1) (Sha512 _) (Sha256 _) (AreBytes-sha512 _) (AreBytes-sha256 _)
 
-AreBytes-rem_start : AreBytes rem_start
+AreMeasured-rem_start : (algo : ℕ) → AreMeasured (rem_start algo)
 unfolding rem_start
-AreBytes-rem_start = replicate-each (λ b. b < 256) 32 0 (omega arith)
+AreMeasured-rem_start algo =
+    either AreMeasured (algo == 1) (Sha512 (replicate 64 0)) (Sha256 (replicate 32 0))
+    (replicate-each (λ b. b < 256) 64 0 (omega arith)) (replicate-each (λ b. b < 256) 32 0 (omega arith))
 
 -- each update of a record keeps it fitting
 RealmFits-updated : (update : RealmUpdate) (realm : RealmRecord) → RealmFits realm → RealmFits (realm_updated update realm)
@@ -221,22 +252,22 @@ unfolding realm_updated
 RealmFits-updated realm_update.Activated realm fits = record { width = fits.width; algo = fits.algo; rim = fits.rim; rems = fits.rems }
 RealmFits-updated realm_update.TurnedOff realm fits = record { width = fits.width; algo = fits.algo; rim = fits.rim; rems = fits.rems }
 RealmFits-updated (realm_update.RecCounted mpidr flags) realm fits =
-    record { width = fits.width; algo = fits.algo; rim = AreBytes-rim_extended realm.rim _; rems = fits.rems }
-RealmFits-updated (realm_update.PageMeasured ipa flags digest) realm fits = RealmFits-rim realm _ (AreBytes-rim_extended realm.rim _) fits
-RealmFits-updated (realm_update.StretchMeasured base top) realm fits = RealmFits-rim realm _ (AreBytes-rim_extended realm.rim _) fits
+    record { width = fits.width; algo = fits.algo; rim = AreMeasured-rim_extended realm.rim _; rems = fits.rems }
+RealmFits-updated (realm_update.PageMeasured ipa flags digest) realm fits = RealmFits-rim realm _ (AreMeasured-rim_extended realm.rim _) fits
+RealmFits-updated (realm_update.StretchMeasured base top) realm fits = RealmFits-rim realm _ (AreMeasured-rim_extended realm.rim _) fits
 RealmFits-updated (realm_update.MeasurementExtended index size values) realm fits = record {
   width = fits.width;
   algo = fits.algo;
   rim = fits.rim;
-  rems = slice_set-each AreBytes realm.rems _ _ fits.rems (AreBytes-rem_extended (measurement_at realm index) _);
+  rems = slice_set-each AreMeasured realm.rems _ _ fits.rems (AreMeasured-rem_extended (measurement_at realm index) _);
 }
 
 RealmFits-new : (root width level vmid algo : ℕ) → width < 2 ^ 64 → algo < 2 ^ 64 → RealmFits (new_realm root width level vmid algo)
 RealmFits-new root width level vmid algo is_width is_algo = record {
   width = is_width;
   algo = is_algo;
-  rim = AreBytes-rim_begin width level algo;
-  rems = replicate-each AreBytes 4 rem_start AreBytes-rem_start;
+  rim = AreMeasured-rim_begin width level algo;
+  rems = replicate-each AreMeasured 4 (rem_start algo) (AreMeasured-rem_start algo);
 }
 
 RecFits-updated : (update : RecUpdate) (rec : RecRecord) → RecUpdateFits update → RecFits rec → RecFits (rec_updated update rec)

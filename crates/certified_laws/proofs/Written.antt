@@ -1,5 +1,5 @@
 -- What every run keeps of what can be written: events have texts, each CPU's are a record, and the journal's replies have texts.
-use Rattle.std.proofs.Common.{◌≡◌, ℕ, ◌+◌, ◌<◌, Bool, true, false, ◌==◌, eqb, List, [], ◌∷◌, ◌++◌, map, length, Option, Some, None, slice_get, ◌⊎◌, inl, inr, refl, sym, ◌∙◌, subst, eqb-true, eq-eqb}
+use Rattle.std.proofs.Common.{◌≡◌, ℕ, ◌+◌, ◌<◌, Bool, true, false, ◌==◌, eqb, List, [], ◌∷◌, ◌++◌, length, Option, Some, None, slice_get, ◌⊎◌, inl, inr, refl, sym, ◌∙◌, subst, eqb-true, eq-eqb}
 use Rattle.std.specs.Prelude.{IsSome}
 use Rattle.std.specs.List.{AllByRecursion}
 use Rattle.std.proofs.lemmas.Bool.{false≢true}
@@ -10,9 +10,9 @@ use Rattle.rmm_spec.specs.declared.event.Event.TheVariants.{Called, Returned}
 use Rattle.rmm_spec.specs.declared.reply.Reply.{Reply}
 use Rattle.rmm_spec.specs.CommandText.{IsCommand, IsReply}
 use Rattle.rmm_spec.specs.HistoryText.{Config, Stand, start, stand_after, stand_from, subhistory_of, cpu_of, IsEvent}
-use Rattle.rmm_spec.specs.Cell.{Cell, put}
+use Rattle.rmm_spec.specs.Cell.{put}
 use Rattle.rmm_spec.specs.Flat.{flat_state}
-use Rattle.rmm_spec.specs.Local.{Hold, Agrees, put_all}
+use Rattle.rmm_spec.specs.Local.{Hold, put_all}
 use Rattle.rmm_spec.specs.World.{World, Phase, Between, Deciding, Decided, GivenUp, Stopped, Commitment, opening_world, phase_learnt, without_granule, Move, Moves, Happens, HappenAll, Commits}
 use Rattle.rmm_spec.specs.World as world
 use Rattle.rmm_spec.proofs.Places.{IsEvent-slice_get}
@@ -91,7 +91,7 @@ pub record IsWritten (w : World) : Type 0 where
   pub events : AllByRecursion (IsEvent w.config.cpus) w.events
   pub stands : AreAtStands w.phase w.events
   pub replies : (i : ℕ) (c : Commitment) → slice_get w.journal i ≡ Some c → IsReply c.given
-  pub fits : StateFits (flat_state w.config.granules w.cells)
+  pub fits : StateFits (flat_state w.config w.cells)
 
 -- a phase alone changes, and what is held
 IsWritten-phase : (w : World) (taken : ℕ → List ℕ) (cpu : ℕ) (p : Phase) → IsWritten w → AtStand p (stand_of w.events cpu)
@@ -144,14 +144,14 @@ IsWritten-Returns old cpu new accounted written happens =
 
 -- the command of an open call has a text, and so the reply that the machine gives, and the next state fits
 IsReply-Commits : (old : World) (cpu : ℕ) (given : Reply) (held : Hold) (new : World) → IsAccounted old → IsWritten old → Commits old cpu given held new
-    → IsReply given × StateFits (flat_state old.config.granules (put_all old.cells held.cells))
+    → IsReply given × StateFits (flat_state old.config (put_all old.cells held.cells))
 IsReply-Commits old cpu given held new accounted written commits =
     let number = commits.deciding.number in
     let command = commits.deciding.command in
     let phase = subst (λ q. AtPhase q cpu old.journal old.events) commits.deciding.is_deciding (accounted.phases cpu) in
     let is_event = IsEvent-slice_get old.config.cpus old.events phase.1.0 (Called cpu number command) written.events phase.1.1 in
     let right = commits.step.right old.cells old.place accounted.shaped (Agrees-own old.cells (old.taken cpu)) refl in
-    IsReply-Step (flat_state old.config.granules old.cells) cpu command given (flat_state old.config.granules (put_all old.cells held.cells))
+    IsReply-Step (flat_state old.config old.cells) cpu command given (flat_state old.config (put_all old.cells held.cells))
     written.fits is_event.1.words right.0
 
 IsWritten-Commits : (old : World) (cpu : ℕ) (given : Reply) (held : Hold) (new : World) → IsAccounted old → IsWritten old → Commits old cpu given held new

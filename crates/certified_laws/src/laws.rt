@@ -34,6 +34,6 @@ pub fn programs_leave_room()
 /// part of the journal. It follows from the law on the machine's own runs.
 pub fn certified_worlds_are_isolated()
     ensures now { (w : World) (certified : IsCertified w)
-        → IsIsolated certified.linearization.entries (flat_state w.config.granules w.cells) }
+        → IsIsolated certified.linearization.entries (flat_state w.config w.cells) }
     ensures throughout { (w : World) (certified : IsCertified w) → IsIsolatedThroughout (history_of w) certified.linearization.entries }
 {}

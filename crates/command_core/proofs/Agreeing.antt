@@ -37,8 +37,9 @@ SameOwner s t rec = IfSome rec (λ r. realm_at s (rec_at s r).owner ≡ realm_at
 abbrev pub SameRoot : State → State → Option ℕ → Type 0
 SameRoot s t rd = IfSome rd (λ r. has_link s r (realm_at s r).start_level 0 ≡ has_link t r (realm_at t r).start_level 0)
 
--- of each granule that is named the tag, the realm and the REC are the same in both
+-- the rules, and of each granule that is named the tag, the realm and the REC, are the same in both
 pub record SameLookUps (s t : State) (c : Call) : Type 0 where
+  pub version : s.config.version ≡ t.config.version
   pub tags : (k : ℕ) → IfSome (slice_get (named c) k) (λ (n : Needed). has_tag s n.granule n.tag ≡ has_tag t n.granule n.tag)
   pub realms : (k : ℕ) → IfSome (slice_get (named c) k) (λ (n : Needed). realm_at s n.granule ≡ realm_at t n.granule)
   pub recs : (k : ℕ) → IfSome (slice_get (named c) k) (λ (n : Needed). rec_at s n.granule ≡ rec_at t n.granule)
@@ -53,7 +54,8 @@ unfolding outside_answer answer_of class_of words_of named granule_delegate gran
 outside_answer-same vmids recs s t cpu (call.GranuleDelegate granule) walks same = let tag = same.tags 0 in cc
 outside_answer-same vmids recs s t cpu _ walks same =
     let first = same.tags 0 in let second = same.tags 1 in let third = same.tags 2 in let fourth = same.tags 3 in
-    let realm = same.realms 0 in let rec = same.recs 0 in let owner = same.owner in let root = same.root in cc
+    let realm = same.realms 0 in let rec = same.recs 0 in let owner = same.owner in let root = same.root in
+    let version = same.version in cc
 
 -- the address whose entry a realm's call reads
 unfoldable pub asked : Call → Option ℕ

@@ -4,6 +4,7 @@ use Rattle.std.specs.Prelude.{IsTrue, Contains, is_some}
 use Rattle.std.specs.List.{AllByRecursion}
 use Rattle.std.proofs.lemmas.Bool.{false≢true, and_parts}
 use Rattle.std.proofs.lemmas.List.Elements.{All-contains, All-from_recursion}
+use Rattle.rmm_spec.specs.HistoryText.{Config}
 use Rattle.rmm_spec.specs.declared.change.RecChange.{RecChange}
 use Rattle.rmm_spec.specs.declared.accepted.Accepted.{Accepted}
 use Rattle.rmm_spec.specs.declared.accepted.Accepted.TheVariants.{Done, Reaches}
@@ -44,116 +45,116 @@ use Rattle.command_core.proofs.Wholes.{Whole, state, same_at, rec_cell}
 
 -- ---- granules with two tags are two
 
-unfolded_tag : (granules : ℕ) (cells : ℕ → Cell) (g : ℕ) (t : Tag) → IsTrue (has_tag (flat_state granules cells) g t) → (tag_number (tag_of (cells g)) == tag_number t) ≡ true
+unfolded_tag : (config : Config) (cells : ℕ → Cell) (g : ℕ) (t : Tag) → IsTrue (has_tag (flat_state config cells) g t) → (tag_number (tag_of (cells g)) == tag_number t) ≡ true
 unfolding has_tag flat_state
-unfolded_tag granules cells g t has = (and_parts (is_granule granules g) (tag_number (tag_of (cells g)) == tag_number t) has).1
+unfolded_tag config cells g t has = (and_parts (is_granule config.granules g) (tag_number (tag_of (cells g)) == tag_number t) has).1
 
-tags_apart : (granules : ℕ) (cells : ℕ → Cell) (g h : ℕ) (t u : Tag) → IsTrue (has_tag (flat_state granules cells) g t) → IsTrue (has_tag (flat_state granules cells) h u)
+tags_apart : (config : Config) (cells : ℕ → Cell) (g h : ℕ) (t u : Tag) → IsTrue (has_tag (flat_state config cells) g t) → IsTrue (has_tag (flat_state config cells) h u)
     → (tag_number t == tag_number u) ≡ false → g ≡ h → ⊥
-tags_apart granules cells g h t u first second apart same =
-    let one = eqb-true (tag_number (tag_of (cells g))) (tag_number t) (unfolded_tag granules cells g t first) in
-    let two = eqb-true (tag_number (tag_of (cells h))) (tag_number u) (unfolded_tag granules cells h u second) in
+tags_apart config cells g h t u first second apart same =
+    let one = eqb-true (tag_number (tag_of (cells g))) (tag_number t) (unfolded_tag config cells g t first) in
+    let two = eqb-true (tag_number (tag_of (cells h))) (tag_number u) (unfolded_tag config cells h u second) in
     false≢true (sym apart ∙ eq-eqb (tag_number t) (tag_number u) (sym one ∙ (ap (λ x. tag_number (tag_of (cells x))) same ∙ two)))
 
 -- ---- cells
 
-abbrev pub walk_whole : (granules cpu : ℕ) (hold : Hold) → Whole granules cpu hold → walks.Whole granules hold.side hold.cells
-walk_whole granules cpu hold w = record { cells = w.cells; places = w.places; shaped = w.shaped; agrees = w.agrees }
+abbrev pub walk_whole : (config : Config) (cpu : ℕ) (hold : Hold) → Whole config cpu hold → walks.Whole config hold.side hold.cells
+walk_whole config cpu hold w = record { cells = w.cells; places = w.places; shaped = w.shaped; agrees = w.agrees }
 
-cells-changed : (granules cpu : ℕ) (hold : Hold) (w : Whole granules cpu hold) (change : Change) → CanApply (state granules cpu hold w) change
-    → CanChange cpu hold change → cells_changed granules w.cells change ≡ put_all w.cells (new_cells hold.cells change)
+cells-changed : (config : Config) (cpu : ℕ) (hold : Hold) (w : Whole config cpu hold) (change : Change) → CanApply (state config cpu hold w) change
+    → CanChange cpu hold change → cells_changed config w.cells change ≡ put_all w.cells (new_cells hold.cells change)
 unfolding cells_changed new_cells
-cells-changed granules cpu hold w Unchanged can fits = refl
-cells-changed granules cpu hold w (Retagged change) can fits =
-    ap (λ c. put w.cells change.granule (cell_with_tag change.tag c)) (same_at granules cpu hold w change.granule fits.held.0)
-cells-changed granules cpu hold w (RealmMade rd root width level vmid algo) can fits = refl
-cells-changed granules cpu hold w (RealmDestroyed rd root) can fits = refl
-cells-changed granules cpu hold w (RecMade rd rec mpidr flags aux0 aux1) can fits =
-    let a = tags_apart granules w.cells rd rec tag.Rd tag.Delegated can.rd_tag can.rec_tag refl in
-    let b = tags_apart granules w.cells rd aux0 tag.Rd tag.Delegated can.rd_tag can.aux0_tag refl in
-    let c = tags_apart granules w.cells rd aux1 tag.Rd tag.Delegated can.rd_tag can.aux1_tag refl in
+cells-changed config cpu hold w Unchanged can fits = refl
+cells-changed config cpu hold w (Retagged change) can fits =
+    ap (λ c. put w.cells change.granule (cell_with_tag change.tag c)) (same_at config cpu hold w change.granule fits.held.0)
+cells-changed config cpu hold w (RealmMade rd root width level vmid algo) can fits = refl
+cells-changed config cpu hold w (RealmDestroyed rd root) can fits = refl
+cells-changed config cpu hold w (RecMade rd rec mpidr flags aux0 aux1) can fits =
+    let a = tags_apart config w.cells rd rec tag.Rd tag.Delegated can.rd_tag can.rec_tag refl in
+    let b = tags_apart config w.cells rd aux0 tag.Rd tag.Delegated can.rd_tag can.aux0_tag refl in
+    let c = tags_apart config w.cells rd aux1 tag.Rd tag.Delegated can.rd_tag can.aux1_tag refl in
     let whole = put (put (put w.cells rec (Rec _)) aux0 RecAux) aux1 RecAux in
     let at_rd : whole rd ≡ known_cell hold.cells rd =
     put-other (put (put w.cells rec (Rec _)) aux0 RecAux) aux1 RecAux rd c
-    ∙ (put-other (put w.cells rec (Rec _)) aux0 RecAux rd b ∙ (put-other w.cells rec (Rec _) rd a ∙ same_at granules cpu hold w rd fits.held.1.1.1.0)) in
+    ∙ (put-other (put w.cells rec (Rec _)) aux0 RecAux rd b ∙ (put-other w.cells rec (Rec _) rd a ∙ same_at config cpu hold w rd fits.held.1.1.1.0)) in
     ap (λ x. put whole rd (cell_with_realm (RecCounted mpidr flags) x)) at_rd
-cells-changed granules cpu hold w (RecDestroyed rec aux0 aux1) can fits = refl
-cells-changed granules cpu hold w (RecordsChanged None None) can fits = refl
-cells-changed granules cpu hold w (RecordsChanged (Some realm) None) can fits =
-    ap (λ c. put w.cells realm.rd (cell_with_realm realm.update c)) (same_at granules cpu hold w realm.rd fits.held.0)
-cells-changed granules cpu hold w (RecordsChanged None (Some rec)) can fits =
-    ap (λ c. put w.cells rec.rec (cell_with_rec rec.update c)) (same_at granules cpu hold w rec.rec fits.held.0)
-cells-changed granules cpu hold w (RecordsChanged (Some realm) (Some rec)) can fits =
-    let apart = tags_apart granules w.cells rec.rec realm.rd tag.Rec tag.Rd can.1.0 can.0.0 refl in
-    let at_rd = same_at granules cpu hold w realm.rd fits.held.0 in
+cells-changed config cpu hold w (RecDestroyed rec aux0 aux1) can fits = refl
+cells-changed config cpu hold w (RecordsChanged None None) can fits = refl
+cells-changed config cpu hold w (RecordsChanged (Some realm) None) can fits =
+    ap (λ c. put w.cells realm.rd (cell_with_realm realm.update c)) (same_at config cpu hold w realm.rd fits.held.0)
+cells-changed config cpu hold w (RecordsChanged None (Some rec)) can fits =
+    ap (λ c. put w.cells rec.rec (cell_with_rec rec.update c)) (same_at config cpu hold w rec.rec fits.held.0)
+cells-changed config cpu hold w (RecordsChanged (Some realm) (Some rec)) can fits =
+    let apart = tags_apart config w.cells rec.rec realm.rd tag.Rec tag.Rd can.1.0 can.0.0 refl in
+    let at_rd = same_at config cpu hold w realm.rd fits.held.0 in
     let at_rec : put w.cells realm.rd (cell_with_realm realm.update (w.cells realm.rd)) rec.rec ≡ known_cell hold.cells rec.rec =
-    put-other w.cells realm.rd (cell_with_realm realm.update (w.cells realm.rd)) rec.rec apart ∙ same_at granules cpu hold w rec.rec fits.held.1.0 in
+    put-other w.cells realm.rd (cell_with_realm realm.update (w.cells realm.rd)) rec.rec apart ∙ same_at config cpu hold w rec.rec fits.held.1.0 in
     ap (λ c. put (put w.cells realm.rd (cell_with_realm realm.update (w.cells realm.rd))) rec.rec (cell_with_rec rec.update c)) at_rec
     ∙ ap (λ c. put (put w.cells realm.rd (cell_with_realm realm.update c)) rec.rec (cell_with_rec rec.update (known_cell hold.cells rec.rec))) at_rd
-cells-changed granules cpu hold w (TableMade rd level number rtt entry) can fits =
-    tables-changed (walk_whole granules cpu hold w) (TableMade rd level number rtt entry) can fits.tables
-cells-changed granules cpu hold w (TableDestroyed rd level number rtt entry) can fits =
-    tables-changed (walk_whole granules cpu hold w) (TableDestroyed rd level number rtt entry) can fits.tables
-cells-changed granules cpu hold w (EntriesChanged rd level entries page realm rec) can fits =
-    tables-changed (walk_whole granules cpu hold w) (EntriesChanged rd level entries page realm rec) can fits.tables
+cells-changed config cpu hold w (TableMade rd level number rtt entry) can fits =
+    tables-changed (walk_whole config cpu hold w) (TableMade rd level number rtt entry) can fits.tables
+cells-changed config cpu hold w (TableDestroyed rd level number rtt entry) can fits =
+    tables-changed (walk_whole config cpu hold w) (TableDestroyed rd level number rtt entry) can fits.tables
+cells-changed config cpu hold w (EntriesChanged rd level entries page realm rec) can fits =
+    tables-changed (walk_whole config cpu hold w) (EntriesChanged rd level entries page realm rec) can fits.tables
 
 -- ---- beside the cells
 
-side-changed : (granules cpu : ℕ) (hold : Hold) (w : Whole granules cpu hold) (change : Change) → CanChange cpu hold change
+side-changed : (config : Config) (cpu : ℕ) (hold : Hold) (w : Whole config cpu hold) (change : Change) → CanChange cpu hold change
     → side_changed w.cells hold.side change ≡ side_changed (known_cell hold.cells) hold.side change
 unfolding side_changed new_cells
-side-changed granules cpu hold w (RealmDestroyed rd root) fits =
-    ap (λ c. side_without_vmid hold.side c) (same_at granules cpu hold w rd fits.held.0)
-side-changed granules cpu hold w (RecDestroyed rec aux0 aux1) fits =
-    ap (λ c. side_without_rec hold.side c) (same_at granules cpu hold w rec fits.held.0)
-side-changed granules cpu hold w _ fits = refl
+side-changed config cpu hold w (RealmDestroyed rd root) fits =
+    ap (λ c. side_without_vmid hold.side c) (same_at config cpu hold w rd fits.held.0)
+side-changed config cpu hold w (RecDestroyed rec aux0 aux1) fits =
+    ap (λ c. side_without_rec hold.side c) (same_at config cpu hold w rec fits.held.0)
+side-changed config cpu hold w _ fits = refl
 
 -- a place that is put in where it was
-same_place : (granules cpu : ℕ) (hold : Hold) (w : Whole granules cpu hold) → w.places ≡ put w.places cpu hold.place
-same_place granules cpu hold w = sym (put-same w.places cpu hold.place w.placed)
+same_place : (config : Config) (cpu : ℕ) (hold : Hold) (w : Whole config cpu hold) → w.places ≡ put w.places cpu hold.place
+same_place config cpu hold w = sym (put-same w.places cpu hold.place w.placed)
 
-place-rec : (granules cpu : ℕ) (hold : Hold) (w : Whole granules cpu hold) (address : ℕ) (u : RecUpdate) (c : Cell) → w.cells address ≡ c
+place-rec : (config : Config) (cpu : ℕ) (hold : Hold) (w : Whole config cpu hold) (address : ℕ) (u : RecUpdate) (c : Cell) → w.cells address ≡ c
     → IsOnCpu cpu hold.place address u → places_of_rec w.places address u c ≡ put w.places cpu (place_with_rec hold.place address u c)
-place-rec granules cpu hold w address (update.Entered on) (Rec rec) is here = ap (λ x. put w.places x (Inside address rec.owner)) here
-place-rec granules cpu hold w address (update.Entered on) _ is here = same_place granules cpu hold w
-place-rec granules cpu hold w address update.Exited c is here =
+place-rec config cpu hold w address (update.Entered on) (Rec rec) is here = ap (λ x. put w.places x (Inside address rec.owner)) here
+place-rec config cpu hold w address (update.Entered on) _ is here = same_place config cpu hold w
+place-rec config cpu hold w address update.Exited c is here =
     let runs = (w.shaped.recs.inside cpu address here.0).0 (w.placed ∙ here.1) in
     let cell : c ≡ Rec runs.it = sym is ∙ rec_cell (w.cells address) runs.it runs.is_rec in
     subst (λ x. places_of_rec w.places address update.Exited x ≡ put w.places cpu Outside) (sym cell)
     (rw (runs.is_on) refl)
-place-rec granules cpu hold w address _ c is here = same_place granules cpu hold w
+place-rec config cpu hold w address _ c is here = same_place config cpu hold w
 
 -- a request that is moved on leaves the CPU where it is
 moved-here : (cpu : ℕ) (place : CpuPlace) (rec : ℕ) (u : RecUpdate) → is_moved u ≡ true → IsOnCpu cpu place rec u
 moved-here cpu place rec (update.RequestMoved base) moved = tt
 moved-here cpu place rec _ moved = absurd (false≢true moved)
 
-places-changed : (granules cpu : ℕ) (hold : Hold) (w : Whole granules cpu hold) (change : Change) → CanChange cpu hold change
+places-changed : (config : Config) (cpu : ℕ) (hold : Hold) (w : Whole config cpu hold) (change : Change) → CanChange cpu hold change
     → places_changed w.cells w.places change ≡ put w.places cpu (new_place hold.cells hold.place change)
 unfolding places_changed new_place new_cells holds_change
-places-changed granules cpu hold w (RecordsChanged realm None) fits = same_place granules cpu hold w
-places-changed granules cpu hold w (RecordsChanged None (Some rec)) fits =
-    let same = same_at granules cpu hold w rec.rec fits.held.0 in
+places-changed config cpu hold w (RecordsChanged realm None) fits = same_place config cpu hold w
+places-changed config cpu hold w (RecordsChanged None (Some rec)) fits =
+    let same = same_at config cpu hold w rec.rec fits.held.0 in
     subst (λ c. places_of_rec w.places rec.rec rec.update (w.cells rec.rec) ≡ put w.places cpu (place_with_rec hold.place rec.rec rec.update c)) same
-    (place-rec granules cpu hold w rec.rec rec.update (w.cells rec.rec) refl fits.here)
-places-changed granules cpu hold w (RecordsChanged (Some realm) (Some rec)) fits =
-    let same = same_at granules cpu hold w rec.rec fits.held.1.0 in
+    (place-rec config cpu hold w rec.rec rec.update (w.cells rec.rec) refl fits.here)
+places-changed config cpu hold w (RecordsChanged (Some realm) (Some rec)) fits =
+    let same = same_at config cpu hold w rec.rec fits.held.1.0 in
     subst (λ c. places_of_rec w.places rec.rec rec.update (w.cells rec.rec) ≡ put w.places cpu (place_with_rec hold.place rec.rec rec.update c)) same
-    (place-rec granules cpu hold w rec.rec rec.update (w.cells rec.rec) refl fits.here)
-places-changed granules cpu hold w (EntriesChanged rd level entries page realm rec) fits =
+    (place-rec config cpu hold w rec.rec rec.update (w.cells rec.rec) refl fits.here)
+places-changed config cpu hold w (EntriesChanged rd level entries page realm rec) fits =
     by rec (and_parts (holds_page hold.cells page && holds_realm hold.cells realm && holds_rec hold.cells rec)
     (is_some (table_placed hold.cells rd level (table_changed entries))) fits.tables).0
   where
     by : (r : Option RecChange) → (holds_page hold.cells page && holds_realm hold.cells realm && holds_rec hold.cells r) ≡ true
         → places_with_rec_change w.cells w.places r ≡ put w.places cpu (place_with_rec_change hold.cells hold.place r)
-    by None holds = same_place granules cpu hold w
+    by None holds = same_place config cpu hold w
     by (Some change) holds =
         let of_rec = (and_parts (holds_page hold.cells page && holds_realm hold.cells realm) (holds_rec hold.cells (Some change)) holds).1 in
         let parts = and_parts (is_held change.rec hold.cells) (is_moved change.update) of_rec in
-        let same = same_at granules cpu hold w change.rec parts.0 in
+        let same = same_at config cpu hold w change.rec parts.0 in
         subst (λ c. places_of_rec w.places change.rec change.update (w.cells change.rec) ≡ put w.places cpu (place_with_rec hold.place change.rec change.update c)) same
-        (place-rec granules cpu hold w change.rec change.update (w.cells change.rec) refl (moved-here cpu hold.place change.rec change.update parts.1))
-places-changed granules cpu hold w _ fits = same_place granules cpu hold w
+        (place-rec config cpu hold w change.rec change.update (w.cells change.rec) refl (moved-here cpu hold.place change.rec change.update parts.1))
+places-changed config cpu hold w _ fits = same_place config cpu hold w
 
 -- ---- answers
 
@@ -178,39 +179,39 @@ all_held hold changes each h has =
     (All-from_recursion (λ (x : HeldCell). IsTrue (is_held x.granule hold.cells)) changes each) has)
 
 -- what every whole that agrees answers is a local step
-pub answers-local : (granules cpu : ℕ) (command : Command) (hold : Hold) (answer : Result Accepted Reply) → CanAnswer cpu hold answer
-    → ((w : Whole granules cpu hold) → outcome (state granules cpu hold w) cpu (call_of command) ≡ answer)
-    → Answers granules cpu command hold answer
+pub answers-local : (config : Config) (cpu : ℕ) (command : Command) (hold : Hold) (answer : Result Accepted Reply) → CanAnswer cpu hold answer
+    → ((w : Whole config cpu hold) → outcome (state config cpu hold w) cpu (call_of command) ≡ answer)
+    → Answers config cpu command hold answer
 unfolding new_cells new_place side_changed
-answers-local granules cpu command hold (Err refusal) can each =
-    unchanged-is_local granules cpu command refusal hold
+answers-local config cpu command hold (Err refusal) can each =
+    unchanged-is_local config cpu command refusal hold
     (λ cells places shaped agrees placed.
-    Step-refused (flat_state granules cells) cpu command refusal
+    Step-refused (flat_state config cells) cpu command refusal
     (each (record { cells = cells; places = places; shaped = shaped; agrees = agrees; placed = placed })))
-answers-local granules cpu command hold (Ok (Done words change)) can each =
-    step-is_local granules cpu command (ok words.items) hold (new_cells hold.cells change)
+answers-local config cpu command hold (Ok (Done words change)) can each =
+    step-is_local config cpu command (ok words.items) hold (new_cells hold.cells change)
     (side_changed (known_cell hold.cells) hold.side change) (new_place hold.cells hold.place change)
     (all_held hold (new_cells hold.cells change) can.held)
     (λ cells places shaped agrees placed.
-    let w : Whole granules cpu hold = record { cells = cells; places = places; shaped = shaped; agrees = agrees; placed = placed } in
-    let s = flat_state granules cells in
-    let applies = done_applies s cpu command words.items change (well_shaped-is_sound granules hold.side places cells shaped) (each w) in
-    let kept = done-keeps_shape granules (record { cells = cells; side = hold.side; places = places }) cpu command words.items change shaped (each w) in
-    let of_cells = cells-changed granules cpu hold w change applies can in (
-      subst (λ whole. Step s cpu command (ok words.items) (flat_state granules whole)) of_cells kept.1,
-      subst (λ whole. IsWellShaped granules (side_changed (known_cell hold.cells) hold.side change) (put places cpu (new_place hold.cells hold.place change)) whole) of_cells
-          (subst (λ p. IsWellShaped granules (side_changed (known_cell hold.cells) hold.side change) p (cells_changed granules cells change)) (places-changed granules cpu hold w change can)
-          (subst (λ side. IsWellShaped granules side (places_changed cells places change) (cells_changed granules cells change)) (side-changed granules cpu hold w change can) kept.0)),
+    let w : Whole config cpu hold = record { cells = cells; places = places; shaped = shaped; agrees = agrees; placed = placed } in
+    let s = flat_state config cells in
+    let applies = done_applies s cpu command words.items change (well_shaped-is_sound config hold.side places cells shaped) (each w) in
+    let kept = done-keeps_shape config (record { cells = cells; side = hold.side; places = places }) cpu command words.items change shaped (each w) in
+    let of_cells = cells-changed config cpu hold w change applies can in (
+      subst (λ whole. Step s cpu command (ok words.items) (flat_state config whole)) of_cells kept.1,
+      subst (λ whole. IsWellShaped config (side_changed (known_cell hold.cells) hold.side change) (put places cpu (new_place hold.cells hold.place change)) whole) of_cells
+          (subst (λ p. IsWellShaped config (side_changed (known_cell hold.cells) hold.side change) p (cells_changed config cells change)) (places-changed config cpu hold w change can)
+          (subst (λ side. IsWellShaped config side (places_changed cells places change) (cells_changed config cells change)) (side-changed config cpu hold w change can) kept.0)),
     ))
-answers-local granules cpu command hold (Ok (Reaches stretch)) can each = absurd can
+answers-local config cpu command hold (Ok (Reaches stretch)) can each = absurd can
 
 -- where each whole answers so, none leads to a stretch
-each-furthest : (granules cpu : ℕ) (command : Command) (hold : Hold) (answer : Result Accepted Reply) → CanAnswer cpu hold answer
-    → ((w : Whole granules cpu hold) → outcome (state granules cpu hold w) cpu (call_of command) ≡ answer)
-    → IsFurthest granules cpu command hold (given_of answer)
-each-furthest granules cpu command hold answer can each = record {
+each-furthest : (config : Config) (cpu : ℕ) (command : Command) (hold : Hold) (answer : Result Accepted Reply) → CanAnswer cpu hold answer
+    → ((w : Whole config cpu hold) → outcome (state config cpu hold w) cpu (call_of command) ≡ answer)
+    → IsFurthest config cpu command hold (given_of answer)
+each-furthest config cpu command hold answer can each = record {
   right = λ cells places stretch top shaped agrees placed leads reached.
-      let w : Whole granules cpu hold = record { cells = cells; places = places; shaped = shaped; agrees = agrees; placed = placed } in
+      let w : Whole config cpu hold = record { cells = cells; places = places; shaped = shaped; agrees = agrees; placed = placed } in
       absurd (unled answer can stretch (sym (each w) ∙ leads));
 }
   where
@@ -219,11 +220,11 @@ each-furthest granules cpu command hold answer can each = record {
     unled (Ok (Done words change)) can stretch same = cc
     unled (Ok (Reaches other)) can stretch same = can
 
-pub is_answer : (granules cpu : ℕ) (command : Command) (hold : Hold) (answer : Result Accepted Reply) → CanAnswer cpu hold answer
-    → ((w : Whole granules cpu hold) → outcome (state granules cpu hold w) cpu (call_of command) ≡ answer)
-    → IsAnswer granules cpu command hold answer
-is_answer granules cpu command hold answer can each = record {
+pub is_answer : (config : Config) (cpu : ℕ) (command : Command) (hold : Hold) (answer : Result Accepted Reply) → CanAnswer cpu hold answer
+    → ((w : Whole config cpu hold) → outcome (state config cpu hold w) cpu (call_of command) ≡ answer)
+    → IsAnswer config cpu command hold answer
+is_answer config cpu command hold answer can each = record {
   can = can;
-  is_local = answers-local granules cpu command hold answer can each;
-  is_furthest = each-furthest granules cpu command hold answer can each;
+  is_local = answers-local config cpu command hold answer can each;
+  is_furthest = each-furthest config cpu command hold answer can each;
 }

@@ -1,5 +1,5 @@
 -- Whether a table has an entry that is looked for: by itself where it is held, and elsewhere by the held tables under it.
-use Rattle.std.proofs.Common.{◌≡◌, ℕ, zero, suc, ◌+◌, ◌-◌, ◌*◌, ◌/◌, ◌%◌, ◌<◌, Bool, true, false, ◌&&◌, ◌||◌, ◌==◌, if◌then◌else◌, List, [], ◌∷◌, length, get_or, Option, Some, None, is_some, nat_lt, nat_le, slice_get, refl, sym, ap, ◌∙◌, eq-eqb, arith}
+use Rattle.std.proofs.Common.{◌≡◌, ℕ, zero, suc, ◌+◌, ◌-◌, ◌*◌, ◌/◌, ◌%◌, ◌<◌, Bool, true, false, ◌&&◌, ◌||◌, ◌==◌, if◌then◌else◌, List, [], ◌∷◌, length, Option, Some, None, is_some, nat_lt, nat_le, slice_get, refl, sym, ap, ◌∙◌, eq-eqb, arith}
 use Rattle.std.specs.Prelude.{IfSome}
 use Rattle.std.specs.List.{fold, list_any}
 use Rattle.std.specs.Option.{option_and_then}
@@ -7,8 +7,9 @@ use Rattle.std.proofs.lemmas.Bool.{false≢true, or_left, or_right, false_from_n
 use Rattle.std.proofs.lemmas.Bool.Decides.{nat_tests}
 use Rattle.std.proofs.lemmas.List.Folds.{fold_stays, list_any_at}
 use Rattle.std.proofs.lemmas.Option.{none-some, get_or_from_slice_get}
+use Rattle.rmm_spec.specs.HistoryText.{Config}
 use Rattle.rmm_spec.specs.declared.entry.Entry.{Entry}
-use Rattle.rmm_spec.specs.declared.entry.Entry.TheVariants.{Unassigned, Assigned, Table, UnassignedNs, AssignedNs}
+use Rattle.rmm_spec.specs.declared.entry.Entry.TheVariants.{Unassigned, Table}
 use Rattle.rmm_spec.specs.declared.entry.EntryTest.{EntryTest}
 use Rattle.rmm_spec.specs.declared.entry.EntryTest.TheVariants.{Live, Link, Unlike}
 use Rattle.rmm_spec.specs.declared.tag.Ripas.TheVariants.{Empty}
@@ -42,7 +43,7 @@ stands-found held rd level number granule None at is whole =
     let holds = placed-holds held rd level number granule at in absurd (none-some holds.table (is ∙ holds.is_held))
 stands-found held rd level number granule (Some t) at is whole = record { granule = granule; is_found = at; is_held = sym is; is_whole = whole }
 
-module _ (granules : ℕ) (held : List HeldCell) (rd level number : ℕ) (t : TableRecord) (stands : StandsIn held rd level number t) where
+module _ (config : Config) (held : List HeldCell) (rd level number : ℕ) (t : TableRecord) (stands : StandsIn held rd level number t) where
   its_entry : (k : ℕ) → k < 512 → (e : Entry) → slice_get t.entries k ≡ Some e → entry_held held rd level (512 * number + k) ≡ Some e
   unfolding entry_held
   its_entry k below e at =
@@ -56,15 +57,15 @@ module _ (granules : ℕ) (held : List HeldCell) (rd level number : ℕ) (t : Ta
 
   -- a search through the table is one through the state's entries, where no link at the last level is among them
   pub search-held : (test : EntryTest) → (nat_le 3 level && list_any is_table t.entries) ≡ false
-      → list_any (passes test) t.entries ≡ has_entry (seen_state granules held) rd level number test
+      → list_any (passes test) t.entries ≡ has_entry (seen_state config held) rd level number test
   unfolding has_entry
   search-held test leaves =
       let last : nat_lt level 3 ≡ false → list_any is_table t.entries ≡ false =
       λ past. ap (λ (b : Bool). b && list_any is_table t.entries) (sym (le-leb 3 level (ltb-false level 3 past))) ∙ leaves in
-      search-places (passes test) t.entries (λ k. passes test (entry_at (seen_state granules held) rd level (512 * number + k)))
-      (λ k e below at. ap (passes test) (sym (entry-seen granules held rd level (512 * number + k) e (its_entry k (omega (arith, below, stands.is_whole)) e at)
+      search-places (passes test) t.entries (λ k. passes test (entry_at (seen_state config held) rd level (512 * number + k)))
+      (λ k e below at. ap (passes test) (sym (entry-seen config held rd level (512 * number + k) e (its_entry k (omega (arith, below, stands.is_whole)) e at)
       (λ past. none-at is_table t.entries k e below at (last past)))))
-      ∙ ap (λ n. any_below n (λ k. passes test (entry_at (seen_state granules held) rd level (512 * number + k)))) stands.is_whole
+      ∙ ap (λ n. any_below n (λ k. passes test (entry_at (seen_state config held) rd level (512 * number + k)))) stands.is_whole
 
 -- ---- searches through what is held, for any of some numbers
 
@@ -148,7 +149,7 @@ under-at rd level number (Some t) is =
       rw (eq-eqb t.place.rd rd here, eq-eqb t.place.level level at, eq-eqb (place_number t.place) (512 * number + place_number t.place % 512) again) refl,
     ))
 
-module _ (granules : ℕ) (held : List HeldCell) (rd level number : ℕ) (none : table_placed held rd level number ≡ None) where
+module _ (config : Config) (held : List HeldCell) (rd level number : ℕ) (none : table_placed held rd level number ≡ None) where
   no_entry-held : (n : ℕ) → n / 512 ≡ number → entry_held held rd level n ≡ None
   unfolding entry_held
   no_entry-held n up =
@@ -164,7 +165,7 @@ module _ (granules : ℕ) (held : List HeldCell) (rd level number : ℕ) (none :
 
   -- where no table has an entry, it is a link where a table stands below it, and else it has nothing
   told-below : (test : EntryTest) (n : ℕ) → n / 512 ≡ number
-      → passes test (entry_at (seen_state granules held) rd level n)
+      → passes test (entry_at (seen_state config held) rd level n)
       ≡ (if nat_lt level 3 && is_some (table_placed held rd (level + 1) n) then true else passes test (Unassigned Empty))
   unfolding entry_at seen_state leaf_seen
   told-below test n up = by (nat_lt level 3)
@@ -189,11 +190,11 @@ module _ (granules : ℕ) (held : List HeldCell) (rd level number : ℕ) (none :
       (granules_held held)
 
   -- some entry passes where one that has nothing does, or where a held table stands under this one
-  pub search-unheld : (test : EntryTest) → (passes test (Unassigned Empty) || is_above_held held rd level number) ≡ has_entry (seen_state granules held) rd level number test
+  pub search-unheld : (test : EntryTest) → (passes test (Unassigned Empty) || is_above_held held rd level number) ≡ has_entry (seen_state config held) rd level number test
   unfolding has_entry is_above_held
   search-unheld test =
       by (passes test (Unassigned Empty)) (nat_lt level 3)
-      ∙ sym (any_below-same 512 (λ k. passes test (entry_at (seen_state granules held) rd level (512 * number + k)))
+      ∙ sym (any_below-same 512 (λ k. passes test (entry_at (seen_state config held) rd level (512 * number + k)))
       (λ k. if nat_lt level 3 && is_some (table_placed held rd (level + 1) (512 * number + k)) then true else passes test (Unassigned Empty))
       (λ k within. told-below test (512 * number + k) (omega (arith, within))))
     where

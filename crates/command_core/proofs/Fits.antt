@@ -3,6 +3,7 @@ use Rattle.std.proofs.Common.{◌≡◌, ℕ, ◌+◌, ◌*◌, ◌/◌, ◌^◌
 use Rattle.std.specs.Prelude.{IsTrue, nat_le, nat_lt, ◌%◌, is_some}
 use Rattle.std.proofs.lemmas.Bool.{false≢true, and_parts, and_from, ltb-true}
 use Rattle.std.proofs.lemmas.Bool.Decides.{nat_tests}
+use Rattle.rmm_spec.specs.HistoryText.{Config}
 use Rattle.rmm_spec.specs.declared.change.Change.{Change}
 use Rattle.rmm_spec.specs.declared.change.Change.TheVariants.{Unchanged, Retagged, RealmMade, RealmDestroyed, RecMade, RecDestroyed, RecordsChanged, TableMade, TableDestroyed, EntriesChanged}
 use Rattle.rmm_spec.specs.declared.change.RealmUpdate.{RealmUpdate}
@@ -14,7 +15,7 @@ use Rattle.rmm_spec.specs.declared.tag.Tag.{Tag}
 use Rattle.rmm_spec.specs.declared.tag.Tag.TheVariants as tag
 use Rattle.rmm_spec.specs.Applicable.{IsRealmUpdate, CanUpdateRec, CanRetag, CanChangeRealm, CanChangeRec, GoesWith, CanChangeEntries, CanApply}
 use Rattle.rmm_spec.specs.State.{State, RealmRecord, RecRecord}
-use Rattle.rmm_spec.specs.Lookup.{tag_number, is_granule, has_tag, realm_at, rec_at}
+use Rattle.rmm_spec.specs.Lookup.{tag_number, is_granule, is_hash, has_tag, realm_at, rec_at}
 use Rattle.rmm_spec.specs.Step.Words.{is_space}
 use Rattle.rmm_spec.specs.Cell.{Cell, Rd, Rec, tag_of}
 use Rattle.rmm_spec.specs.Flat.{flat_state}
@@ -57,10 +58,10 @@ rec_update-fits s rec _ can = refl
 
 -- ---- records of a whole
 
-tagged : (granules : ℕ) (cells : ℕ → Cell) (g : ℕ) (t : Tag) → IsTrue (has_tag (flat_state granules cells) g t)
-    → (is_granule granules g ≡ true) × ((tag_number (tag_of (cells g)) == tag_number t) ≡ true)
+tagged : (config : Config) (cells : ℕ → Cell) (g : ℕ) (t : Tag) → IsTrue (has_tag (flat_state config cells) g t)
+    → (is_granule config.granules g ≡ true) × ((tag_number (tag_of (cells g)) == tag_number t) ≡ true)
 unfolding has_tag flat_state
-tagged granules cells g t has = and_parts (is_granule granules g) (tag_number (tag_of (cells g)) == tag_number t) has
+tagged config cells g t has = and_parts (is_granule config.granules g) (tag_number (tag_of (cells g)) == tag_number t) has
 
 realm_there : (c : Cell) → (tag_number (tag_of c) == 2) ≡ true → (realm : RealmRecord) × (c ≡ Rd realm)
 realm_there (Rd realm) is = (realm, refl)
@@ -70,28 +71,28 @@ rec_there : (c : Cell) → (tag_number (tag_of c) == 3) ≡ true → (rec : RecR
 rec_there (Rec rec) is = (rec, refl)
 rec_there _ is = absurd (false≢true is)
 
-counts : (granules cpu : ℕ) (hold : Hold) (w : Whole granules cpu hold) (rd mpidr : ℕ) → IsTrue (has_tag (state granules cpu hold w) rd tag.Rd)
-    → IsTrue (mpidr == (realm_at (state granules cpu hold w) rd).next_index && nat_lt mpidr 8) → IsTrue (is_held rd hold.cells)
+counts : (config : Config) (cpu : ℕ) (hold : Hold) (w : Whole config cpu hold) (rd mpidr : ℕ) → IsTrue (has_tag (state config cpu hold w) rd tag.Rd)
+    → IsTrue (mpidr == (realm_at (state config cpu hold w) rd).next_index && nat_lt mpidr 8) → IsTrue (is_held rd hold.cells)
     → counts_in mpidr (known_cell hold.cells rd) ≡ true
-counts granules cpu hold w rd mpidr has index held =
-    let realm = realm_there (w.cells rd) (tagged granules w.cells rd tag.Rd has).1 in
-    subst (λ (c : Cell). counts_in mpidr c ≡ true) (sym realm.1 ∙ same_at granules cpu hold w rd held)
-    (subst (λ (r : RealmRecord). (mpidr == r.next_index && nat_lt mpidr 8) ≡ true) (realm_at-cell granules w.cells rd realm.0 realm.1) index)
+counts config cpu hold w rd mpidr has index held =
+    let realm = realm_there (w.cells rd) (tagged config w.cells rd tag.Rd has).1 in
+    subst (λ (c : Cell). counts_in mpidr c ≡ true) (sym realm.1 ∙ same_at config cpu hold w rd held)
+    (subst (λ (r : RealmRecord). (mpidr == r.next_index && nat_lt mpidr 8) ≡ true) (realm_at-cell config w.cells rd realm.0 realm.1) index)
 
-realm-fits : (granules cpu : ℕ) (hold : Hold) (w : Whole granules cpu hold) (rd : ℕ) (u : RealmUpdate) → IsTrue (has_tag (state granules cpu hold w) rd tag.Rd)
+realm-fits : (config : Config) (cpu : ℕ) (hold : Hold) (w : Whole config cpu hold) (rd : ℕ) (u : RealmUpdate) → IsTrue (has_tag (state config cpu hold w) rd tag.Rd)
     → IsRealmUpdate u → IsTrue (is_held rd hold.cells) → fits_realm u (known_cell hold.cells rd) ≡ true
-realm-fits granules cpu hold w rd u has can held =
-    let realm = realm_there (w.cells rd) (tagged granules w.cells rd tag.Rd has).1 in
-    subst (λ (c : Cell). fits_realm u c ≡ true) (sym realm.1 ∙ same_at granules cpu hold w rd held) (realm_update-fits u can)
+realm-fits config cpu hold w rd u has can held =
+    let realm = realm_there (w.cells rd) (tagged config w.cells rd tag.Rd has).1 in
+    subst (λ (c : Cell). fits_realm u c ≡ true) (sym realm.1 ∙ same_at config cpu hold w rd held) (realm_update-fits u can)
 
-rec-fits : (granules cpu : ℕ) (hold : Hold) (w : Whole granules cpu hold) (rec : ℕ) (u : RecUpdate) → IsTrue (has_tag (state granules cpu hold w) rec tag.Rec)
-    → CanUpdateRec (state granules cpu hold w) (rec_at (state granules cpu hold w) rec) u → IsTrue (is_held rec hold.cells)
+rec-fits : (config : Config) (cpu : ℕ) (hold : Hold) (w : Whole config cpu hold) (rec : ℕ) (u : RecUpdate) → IsTrue (has_tag (state config cpu hold w) rec tag.Rec)
+    → CanUpdateRec (state config cpu hold w) (rec_at (state config cpu hold w) rec) u → IsTrue (is_held rec hold.cells)
     → fits_rec u (known_cell hold.cells rec) ≡ true
-rec-fits granules cpu hold w rec u has can held =
-    let it = rec_there (w.cells rec) (tagged granules w.cells rec tag.Rec has).1 in
-    subst (λ (c : Cell). fits_rec u c ≡ true) (sym it.1 ∙ same_at granules cpu hold w rec held)
-    (subst (λ (r : RecRecord). is_rec_update r u ≡ true) (rec_at-cell granules w.cells rec it.0 it.1)
-    (rec_update-fits (state granules cpu hold w) (rec_at (state granules cpu hold w) rec) u can))
+rec-fits config cpu hold w rec u has can held =
+    let it = rec_there (w.cells rec) (tagged config w.cells rec tag.Rec has).1 in
+    subst (λ (c : Cell). fits_rec u c ≡ true) (sym it.1 ∙ same_at config cpu hold w rec held)
+    (subst (λ (r : RecRecord). is_rec_update r u ≡ true) (rec_at-cell config w.cells rec it.0 it.1)
+    (rec_update-fits (state config cpu hold w) (rec_at (state config cpu hold w) rec) u can))
 
 -- ---- changes
 
@@ -106,11 +107,11 @@ small-base n width level within space = elim (space_cases width level space) [
   | inr large ↦ (let less : n < 2 ^ 0x30 = subst (λ x. n < 2 ^ x) large.0 within in grind (arith, nat_tests))
 ]
 
-base-fits : (granules cpu : ℕ) (hold : Hold) (w : Whole granules cpu hold) (rd level number : ℕ) → IsTrue (has_tag (state granules cpu hold w) rd tag.Rd)
-    → IsTableOf (realm_at (state granules cpu hold w) rd) level number → nat_lt (number * table_size level) (2 ^ 64) ≡ true
-base-fits granules cpu hold w rd level number has place =
-    let realm = realm_there (w.cells rd) (tagged granules w.cells rd tag.Rd has).1 in
-    let same = realm_at-cell granules w.cells rd realm.0 realm.1 in
+base-fits : (config : Config) (cpu : ℕ) (hold : Hold) (w : Whole config cpu hold) (rd level number : ℕ) → IsTrue (has_tag (state config cpu hold w) rd tag.Rd)
+    → IsTableOf (realm_at (state config cpu hold w) rd) level number → nat_lt (number * table_size level) (2 ^ 64) ≡ true
+base-fits config cpu hold w rd level number has place =
+    let realm = realm_there (w.cells rd) (tagged config w.cells rd tag.Rd has).1 in
+    let same = realm_at-cell config w.cells rd realm.0 realm.1 in
     small-base (number * table_size level) realm.0.width realm.0.start_level
     (subst (λ (r : RealmRecord). number * table_size level < 2 ^ r.width) same place.inside)
     (w.shaped.realms.spaces rd realm.0 (ap realm_in realm.1))
@@ -131,16 +132,16 @@ entries-fit s rd level (RipasSet first last ripas) page can =
     let one : last ≤ (first / 512 + 1) * 512 = can.0.one_table in
     and_from (nat_lt first last) (nat_le last ((first / 512 + 1) * 512)) (grind (arith, nat_tests)) (grind (arith, nat_tests))
 
-realm_change-fits : (granules cpu : ℕ) (hold : Hold) (w : Whole granules cpu hold) (change : Option RealmChange) → CanChangeRealm (state granules cpu hold w) change
+realm_change-fits : (config : Config) (cpu : ℕ) (hold : Hold) (w : Whole config cpu hold) (change : Option RealmChange) → CanChangeRealm (state config cpu hold w) change
     → holds_realm hold.cells change ≡ true → fits_realm_change hold.cells change ≡ true
-realm_change-fits granules cpu hold w None can held = refl
-realm_change-fits granules cpu hold w (Some change) can held = realm-fits granules cpu hold w change.rd change.update can.0 can.1 held
+realm_change-fits config cpu hold w None can held = refl
+realm_change-fits config cpu hold w (Some change) can held = realm-fits config cpu hold w change.rd change.update can.0 can.1 held
 
-rec_change-fits : (granules cpu : ℕ) (hold : Hold) (w : Whole granules cpu hold) (change : Option RecChange) → CanChangeRec (state granules cpu hold w) change
+rec_change-fits : (config : Config) (cpu : ℕ) (hold : Hold) (w : Whole config cpu hold) (change : Option RecChange) → CanChangeRec (state config cpu hold w) change
     → holds_rec hold.cells change ≡ true → fits_rec_change hold.cells change ≡ true
-rec_change-fits granules cpu hold w None can held = refl
-rec_change-fits granules cpu hold w (Some change) can held =
-    rec-fits granules cpu hold w change.rec change.update can.0 can.1 (and_parts (is_held change.rec hold.cells) (is_moved change.update) held).0
+rec_change-fits config cpu hold w None can held = refl
+rec_change-fits config cpu hold w (Some change) can held =
+    rec-fits config cpu hold w change.rec change.update can.0 can.1 (and_parts (is_held change.rec hold.cells) (is_moved change.update) held).0
 
 parts-held : (held : List HeldCell) (rd level : ℕ) (entries : EntryChange) (page : Option TagChange) (realm : Option RealmChange) (rec : Option RecChange)
     → holds_change held (EntriesChanged rd level entries page realm rec) ≡ true → (holds_realm held realm ≡ true) × (holds_rec held rec ≡ true)
@@ -150,40 +151,39 @@ parts-held held rd level entries page realm rec holds =
     let parts = and_parts (holds_page held page && holds_realm held realm) (holds_rec held rec) all.0 in
     ((and_parts (holds_page held page) (holds_realm held realm) parts.0).1, parts.1)
 
-pub applied-fits : (granules cpu : ℕ) (hold : Hold) (w : Whole granules cpu hold) (change : Change) → CanApply (state granules cpu hold w) change
-    → CanChange cpu hold change → can_make granules hold.cells hold.side change ≡ true
+pub applied-fits : (config : Config) (cpu : ℕ) (hold : Hold) (w : Whole config cpu hold) (change : Change) → CanApply (state config cpu hold w) change
+    → CanChange cpu hold change → can_make config hold.cells hold.side change ≡ true
 unfolding can_make new_cells
-applied-fits granules cpu hold w Unchanged can fits = refl
-applied-fits granules cpu hold w (Retagged change) can fits = retag-fits (state granules cpu hold w) change can
-applied-fits granules cpu hold w (RealmMade rd root width level vmid algo) can fits =
-    and_from (is_space width level && algo == 0) true
-    (and_from (is_space width level) (algo == 0) can.space (eq-eqb algo 0 can.is_algo)) refl
-applied-fits granules cpu hold w (RealmDestroyed rd root) can fits = refl
-applied-fits granules cpu hold w (RecMade rd rec mpidr flags aux0 aux1) can fits =
-    and_from (counts_in mpidr (known_cell hold.cells rd)) (is_granule granules rd && nat_le (hold.side.rec_counts rd) granules)
-    (counts granules cpu hold w rd mpidr can.rd_tag can.index_fits fits.held.1.1.1.0)
-    (and_from (is_granule granules rd) (nat_le (hold.side.rec_counts rd) granules) (tagged granules w.cells rd tag.Rd can.rd_tag).0 (few_recs granules cpu hold w rd))
-applied-fits granules cpu hold w (RecDestroyed rec aux0 aux1) can fits = refl
-applied-fits granules cpu hold w (RecordsChanged None None) can fits = refl
-applied-fits granules cpu hold w (RecordsChanged (Some realm) None) can fits =
-    let one = realm-fits granules cpu hold w realm.rd realm.update can.0.0 can.0.1 fits.held.0 in
+applied-fits config cpu hold w Unchanged can fits = refl
+applied-fits config cpu hold w (Retagged change) can fits = retag-fits (state config cpu hold w) change can
+applied-fits config cpu hold w (RealmMade rd root width level vmid algo) can fits =
+    and_from (is_space width level && is_hash algo) true (and_from (is_space width level) (is_hash algo) can.space can.hashes) refl
+applied-fits config cpu hold w (RealmDestroyed rd root) can fits = refl
+applied-fits config cpu hold w (RecMade rd rec mpidr flags aux0 aux1) can fits =
+    and_from (counts_in mpidr (known_cell hold.cells rd)) (is_granule config.granules rd && nat_le (hold.side.rec_counts rd) config.granules)
+    (counts config cpu hold w rd mpidr can.rd_tag can.index_fits fits.held.1.1.1.0)
+    (and_from (is_granule config.granules rd) (nat_le (hold.side.rec_counts rd) config.granules) (tagged config w.cells rd tag.Rd can.rd_tag).0 (few_recs config cpu hold w rd))
+applied-fits config cpu hold w (RecDestroyed rec aux0 aux1) can fits = refl
+applied-fits config cpu hold w (RecordsChanged None None) can fits = refl
+applied-fits config cpu hold w (RecordsChanged (Some realm) None) can fits =
+    let one = realm-fits config cpu hold w realm.rd realm.update can.0.0 can.0.1 fits.held.0 in
     rw one refl
-applied-fits granules cpu hold w (RecordsChanged None (Some rec)) can fits =
-    let one = rec-fits granules cpu hold w rec.rec rec.update can.1.0 can.1.1 fits.held.0 in
+applied-fits config cpu hold w (RecordsChanged None (Some rec)) can fits =
+    let one = rec-fits config cpu hold w rec.rec rec.update can.1.0 can.1.1 fits.held.0 in
     rw one refl
-applied-fits granules cpu hold w (RecordsChanged (Some realm) (Some rec)) can fits =
-    let first = realm-fits granules cpu hold w realm.rd realm.update can.0.0 can.0.1 fits.held.0 in
-    let second = rec-fits granules cpu hold w rec.rec rec.update can.1.0 can.1.1 fits.held.1.0 in
+applied-fits config cpu hold w (RecordsChanged (Some realm) (Some rec)) can fits =
+    let first = realm-fits config cpu hold w realm.rd realm.update can.0.0 can.0.1 fits.held.0 in
+    let second = rec-fits config cpu hold w rec.rec rec.update can.1.0 can.1.1 fits.held.1.0 in
     rw (first, second) refl
-applied-fits granules cpu hold w (TableMade rd level number rtt entry) can fits =
-    rw (fits.tables, base-fits granules cpu hold w rd level number can.rd_tag can.place) refl
-applied-fits granules cpu hold w (TableDestroyed rd level number rtt entry) can fits = rw fits.tables refl
-applied-fits granules cpu hold w (EntriesChanged rd level entries page realm rec) can fits =
+applied-fits config cpu hold w (TableMade rd level number rtt entry) can fits =
+    rw (fits.tables, base-fits config cpu hold w rd level number can.rd_tag can.place) refl
+applied-fits config cpu hold w (TableDestroyed rd level number rtt entry) can fits = rw fits.tables refl
+applied-fits config cpu hold w (EntriesChanged rd level entries page realm rec) can fits =
     let holds = parts-held hold.cells rd level entries page realm rec fits.tables in
-    let of_page = page-fits (state granules cpu hold w) rd level entries page can.1 in
-    let of_entries = entries-fit (state granules cpu hold w) rd level entries page can.1 in
-    let of_realm = realm_change-fits granules cpu hold w realm can.2 holds.0 in
-    let of_rec = rec_change-fits granules cpu hold w rec can.3 holds.1 in
+    let of_page = page-fits (state config cpu hold w) rd level entries page can.1 in
+    let of_entries = entries-fit (state config cpu hold w) rd level entries page can.1 in
+    let of_realm = realm_change-fits config cpu hold w realm can.2 holds.0 in
+    let of_rec = rec_change-fits config cpu hold w rec can.3 holds.1 in
     rw (fits.tables, of_page, of_entries, of_realm, of_rec) refl
 
 -- ---- a machine's size
@@ -205,9 +205,9 @@ count-more granules side (RecMade rd rec mpidr flags aux0 aux1) few is =
 count-more granules side _ few is = refl
 
 -- what can be made on a machine can be made on a larger one
-pub makes : (granules : ℕ) (held : List HeldCell) (side : Side) (place : CpuPlace) (change : Change) → granules ≤ 4096
-    → can_make granules held side change ≡ true → CanMake (hold_of held side place) change
+pub makes : (config : Config) (held : List HeldCell) (side : Side) (place : CpuPlace) (change : Change) → config.granules ≤ 4096
+    → can_make config held side change ≡ true → CanMake (hold_of held side place) change
 unfolding can_make
-makes granules held side place change few is =
-    let parts = and_parts (fits_cells held change) (can_count granules side change) is in
-    record { fits = parts.0; counts = count-more granules side change few parts.1 }
+makes config held side place change few is =
+    let parts = and_parts (fits_cells held change) (can_count config.granules side change) is in
+    record { fits = parts.0; counts = count-more config.granules side change few parts.1 }

@@ -3,6 +3,7 @@ use Rattle.std.proofs.Common.{◌≡◌, ℕ, Bool, true, false, not, ◌&&◌, 
 use Rattle.std.specs.Prelude.{IsTrue, Contains, is_some}
 use Rattle.std.specs.List.{list_any, list_all}
 use Rattle.std.proofs.lemmas.Bool.{false≢true, and_parts, not-true}
+use Rattle.rmm_spec.specs.HistoryText.{Config}
 use Rattle.rmm_spec.specs.declared.call.Call.{Call}
 use Rattle.rmm_spec.specs.declared.call.Call.TheVariants as call
 use Rattle.rmm_spec.specs.declared.command.Command.{Command}
@@ -104,38 +105,38 @@ named-cell names held right n has holds = by (cell_in n.granule held) refl holds
 -- ---- refusals
 
 -- an address that is no granule has no tag
-tag-no_granule : (granules : ℕ) (held : List HeldCell) (n : Needed) → is_granule granules n.granule ≡ false
-    → has_tag (seen_state granules held) n.granule n.tag ≡ false
+tag-no_granule : (config : Config) (held : List HeldCell) (n : Needed) → is_granule config.granules n.granule ≡ false
+    → has_tag (seen_state config held) n.granule n.tag ≡ false
 unfolding has_tag seen_state
-tag-no_granule granules held n none = rw none refl
+tag-no_granule config held n none = rw none refl
 
-tag-wrong : (granules : ℕ) (held : List HeldCell) (n : Needed) (c : Cell) → cell_in n.granule held ≡ Some c
-    → (tag_number (tag_of c) == tag_number n.tag) ≡ false → has_tag (seen_state granules held) n.granule n.tag ≡ false
+tag-wrong : (config : Config) (held : List HeldCell) (n : Needed) (c : Cell) → cell_in n.granule held ≡ Some c
+    → (tag_number (tag_of c) == tag_number n.tag) ≡ false → has_tag (seen_state config held) n.granule n.tag ≡ false
 unfolding has_tag seen_state
-tag-wrong granules held n c found wrong = by (is_granule granules n.granule)
+tag-wrong config held n c found wrong = by (is_granule config.granules n.granule)
   where
     by : (b : Bool) → (b && tag_number (tag_of (if b then cell_or (cell_in n.granule held) (realm_behind held n.granule) else Undelegated)) == tag_number n.tag) ≡ false
     by true = ap (λ (o : Option Cell). tag_number (tag_of (cell_or o (realm_behind held n.granule))) == tag_number n.tag) found ∙ wrong
     by false = refl
 
 -- what the words refuse, or a tag of what is held, is refused in front by the state that the cells tell of
-pub front-refused : (granules : ℕ) (held : List HeldCell) (c : Call) → (not (words_fit granules c) || has_wrong (named c) held) ≡ true
-    → IsRefusedInFront (seen_state granules held) c
+pub front-refused : (config : Config) (held : List HeldCell) (c : Call) → (not (words_fit config c) || has_wrong (named c) held) ≡ true
+    → IsRefusedInFront (seen_state config held) c
 unfolding words_fit
-front-refused granules held c is =
-    by (list_all (λ allowed. allowed) (words_of c)) (list_all (λ (n : Needed). is_granule granules n.granule) (named c)) refl refl is
+front-refused config held c is =
+    by (list_all (λ allowed. allowed) (words_of c)) (list_all (λ (n : Needed). is_granule config.granules n.granule) (named c)) refl refl is
   where
-    by : (b d : Bool) → list_all (λ allowed. allowed) (words_of c) ≡ b → list_all (λ (n : Needed). is_granule granules n.granule) (named c) ≡ d
-        → (not (b && d) || has_wrong (named c) held) ≡ true → IsRefusedInFront (seen_state granules held) c
+    by : (b d : Bool) → list_all (λ allowed. allowed) (words_of c) ≡ b → list_all (λ (n : Needed). is_granule config.granules n.granule) (named c) ≡ d
+        → (not (b && d) || has_wrong (named c) held) ≡ true → IsRefusedInFront (seen_state config held) c
     by false d words names is = by_words words
     by true false words names is =
-        let name = some-fails (λ (n : Needed). is_granule granules n.granule) (named c) names in
+        let name = some-fails (λ (n : Needed). is_granule config.granules n.granule) (named c) names in
         let at = slice_get-from_Contains (named c) name.it name.has in
-        by_tag at.0 name.it at.1 (tag-no_granule granules held name.it name.is)
+        by_tag at.0 name.it at.1 (tag-no_granule config held name.it name.is)
     by true true words names is =
         let w = wrong_tag (named c) held is in
         let at = slice_get-from_Contains (named c) w.n w.has_n in
-        by_tag at.0 w.n at.1 (tag-wrong granules held w.n w.h.cell (ap (λ g. cell_in g held) w.same ∙ w.found) w.wrong)
+        by_tag at.0 w.n at.1 (tag-wrong config held w.n w.h.cell (ap (λ g. cell_in g held) w.same ∙ w.found) w.wrong)
 
 outside-front : (vmids recs : ℕ → Bool) (s : State) (cpu : ℕ) (c : Call) → class_of c ≡ ByHost → IsRefusedInFront s c
     → outside_answer vmids recs s cpu c ≡ Err input_error
@@ -146,23 +147,23 @@ outside-front vmids recs s cpu (call.RealmDestroy rd) host refused = decided-fro
 outside-front vmids recs s cpu c host refused = ap (λ k. host_answer k s cpu c) host ∙ answer_of-front s cpu c refused
 
 -- and so it is by every whole that agrees
-pub refused-answer : (granules cpu : ℕ) (command : Command) (hold : Hold) (vmids recs : ℕ → Bool) → class_of (call_of command) ≡ ByHost → hold.place ≡ Outside
-    → (not (words_fit granules (call_of command)) || has_wrong (named (call_of command)) hold.cells) ≡ true
-    → (outside_answer vmids recs (seen_state granules hold.cells) cpu (call_of command) ≡ Err input_error)
-    × LocalStep granules cpu command input_error hold hold
+pub refused-answer : (config : Config) (cpu : ℕ) (command : Command) (hold : Hold) (vmids recs : ℕ → Bool) → class_of (call_of command) ≡ ByHost → hold.place ≡ Outside
+    → (not (words_fit config (call_of command)) || has_wrong (named (call_of command)) hold.cells) ≡ true
+    → (outside_answer vmids recs (seen_state config hold.cells) cpu (call_of command) ≡ Err input_error)
+    × LocalStep config cpu command input_error hold hold
 unfolding words_fit
-refused-answer granules cpu command hold vmids recs host place is = (
-  outside-front vmids recs (seen_state granules hold.cells) cpu (call_of command) host (front-refused granules hold.cells (call_of command) is),
-  by (list_all (λ allowed. allowed) (words_of (call_of command))) (list_all (λ (n : Needed). is_granule granules n.granule) (named (call_of command))) refl refl is,
+refused-answer config cpu command hold vmids recs host place is = (
+  outside-front vmids recs (seen_state config hold.cells) cpu (call_of command) host (front-refused config hold.cells (call_of command) is),
+  by (list_all (λ allowed. allowed) (words_of (call_of command))) (list_all (λ (n : Needed). is_granule config.granules n.granule) (named (call_of command))) refl refl is,
 )
   where
     by : (b d : Bool) → list_all (λ allowed. allowed) (words_of (call_of command)) ≡ b
-        → list_all (λ (n : Needed). is_granule granules n.granule) (named (call_of command)) ≡ d
-        → (not (b && d) || has_wrong (named (call_of command)) hold.cells) ≡ true → LocalStep granules cpu command input_error hold hold
-    by false d words names is = words-are_local granules cpu command hold host place words
+        → list_all (λ (n : Needed). is_granule config.granules n.granule) (named (call_of command)) ≡ d
+        → (not (b && d) || has_wrong (named (call_of command)) hold.cells) ≡ true → LocalStep config cpu command input_error hold hold
+    by false d words names is = words-are_local config cpu command hold host place words
     by true false words names is =
-        let name = some-fails (λ (n : Needed). is_granule granules n.granule) (named (call_of command)) names in
-        addresses-are_local granules cpu command hold name.it host place name.has name.is
+        let name = some-fails (λ (n : Needed). is_granule config.granules n.granule) (named (call_of command)) names in
+        addresses-are_local config cpu command hold name.it host place name.has name.is
     by true true words names is =
         let w = wrong_tag (named (call_of command)) hold.cells is in
-        tags-are_local granules cpu command hold w.h w.n host place w.has_h w.has_n w.same w.wrong
+        tags-are_local config cpu command hold w.h w.n host place w.has_h w.has_n w.same w.wrong

@@ -2,6 +2,7 @@
 use Rattle.std.proofs.Common.{◌≡◌, ℕ, Bool, true, false, not, ◌&&◌, ◌||◌, ◌==◌, if◌then◌else◌, List, [], ◌∷◌, Some, Err, refl, sym, ap, ◌∙◌, subst, eqb-true, None, Ok, nat_lt}
 use Rattle.std.specs.Prelude.{is_none, is_some}
 use Rattle.std.proofs.lemmas.Bool.{false≢true, and_parts, or_parts, not-false, and_from}
+use Rattle.rmm_spec.specs.HistoryText.{Config}
 use Rattle.rmm_spec.specs.declared.call.Call.{Call}
 use Rattle.rmm_spec.specs.declared.call.Call.TheVariants as call
 use Rattle.rmm_spec.specs.declared.change.Change.TheVariants.{Unchanged, RecordsChanged}
@@ -51,34 +52,34 @@ record Fits (granules rec rd : ℕ) (held : List HeldCell) : Type 0 where
   right : has_wrong (names rec rd) held ≡ false
   owner : has_other_owner rd (cell_in rec held) ≡ false
 
-fitting : (granules rec rd : ℕ) (held : List HeldCell) → is_misplaced granules rec rd held ≡ false → Fits granules rec rd held
+fitting : (config : Config) (rec rd : ℕ) (held : List HeldCell) → is_misplaced config rec rd held ≡ false → Fits config.granules rec rd held
 unfolding is_misplaced
-fitting granules rec rd held fits =
-    let locks = is_granule granules rec && is_granule granules rd && not (rec == rd) in
+fitting config rec rd held fits =
+    let locks = is_granule config.granules rec && is_granule config.granules rd && not (rec == rd) in
     let first = or_parts (not locks || has_wrong (names rec rd) held) (has_other_owner rd (cell_in rec held)) fits in
     let second = or_parts (not locks) (has_wrong (names rec rd) held) first.0 in
-    let third = and_parts (is_granule granules rec && is_granule granules rd) (not (rec == rd)) (not-false locks second.0) in
-    let fourth = and_parts (is_granule granules rec) (is_granule granules rd) third.0 in
+    let third = and_parts (is_granule config.granules rec && is_granule config.granules rd) (not (rec == rd)) (not-false locks second.0) in
+    let fourth = and_parts (is_granule config.granules rec) (is_granule config.granules rd) third.0 in
     record { of_rec = fourth.0; of_rd = fourth.1; right = second.1; owner = first.1 }
 
-pub fitting-granule : (granules rec rd : ℕ) (held : List HeldCell) → is_misplaced granules rec rd held ≡ false → is_granule granules rec ≡ true
-fitting-granule granules rec rd held fits = (fitting granules rec rd held fits).of_rec
+pub fitting-granule : (config : Config) (rec rd : ℕ) (held : List HeldCell) → is_misplaced config rec rd held ≡ false → is_granule config.granules rec ≡ true
+fitting-granule config rec rd held fits = (fitting config rec rd held fits).of_rec
 
 rec-tag : (c : Cell) → tag_of c ≡ tag.Rec → (it : RecRecord) × (c ≡ Rec it)
 rec-tag (Rec it) is = (it, refl)
 rec-tag _ is = absurd cc
 
 -- the REC is one of that realm
-record FittingRec (granules rec rd : ℕ) (held : List HeldCell) : Type 0 where
+record FittingRec (config : Config) (rec rd : ℕ) (held : List HeldCell) : Type 0 where
   it : RecRecord
   found : cell_in rec held ≡ Some (Rec it)
-  seen : rec_at (seen_state granules held) rec ≡ it
+  seen : rec_at (seen_state config held) rec ≡ it
   owner : it.owner ≡ rd
-  tagged : has_tag (seen_state granules held) rec tag.Rec ≡ true
+  tagged : has_tag (seen_state config held) rec tag.Rec ≡ true
 
-fitting-rec : (granules rec rd : ℕ) (held : List HeldCell) → is_misplaced granules rec rd held ≡ false → is_held rec held ≡ true → FittingRec granules rec rd held
-fitting-rec granules rec rd held fits holds =
-    let parts = fitting granules rec rd held fits in
+fitting-rec : (config : Config) (rec rd : ℕ) (held : List HeldCell) → is_misplaced config rec rd held ≡ false → is_held rec held ≡ true → FittingRec config rec rd held
+fitting-rec config rec rd held fits holds =
+    let parts = fitting config rec rd held fits in
     let at = named-cell (names rec rd) held parts.right (needed rec tag.Rec) (Contains-head (needed rec tag.Rec) (needed rd tag.Rd ∷ [])) holds in
     let rec_cell = rec-tag at.cell at.tagged in
     let found : cell_in rec held ≡ Some (Rec rec_cell.0) = at.found ∙ ap (λ (c : Cell). Some c) rec_cell.1 in
@@ -86,25 +87,25 @@ fitting-rec granules rec rd held fits holds =
     record {
       it = rec_cell.0;
       found = found;
-      seen = rec-seen granules held rec rec_cell.0 parts.of_rec found;
+      seen = rec-seen config held rec rec_cell.0 parts.of_rec found;
       owner = eqb-true rec_cell.0.owner rd (not-false (rec_cell.0.owner == rd) same);
-      tagged = tag-seen granules held rec at.cell tag.Rec parts.of_rec at.found at.tagged;
+      tagged = tag-seen config held rec at.cell tag.Rec parts.of_rec at.found at.tagged;
     }
 
 realm-tag : (c : Cell) → tag_of c ≡ tag.Rd → (realm : RealmRecord) × (c ≡ Rd realm)
 realm-tag (Rd realm) is = (realm, refl)
 realm-tag _ is = absurd cc
 
-record FittingRealm (granules rd : ℕ) (held : List HeldCell) : Type 0 where
+record FittingRealm (config : Config) (rd : ℕ) (held : List HeldCell) : Type 0 where
   realm : RealmRecord
   found : cell_in rd held ≡ Some (Rd realm)
-  seen : realm_at (seen_state granules held) rd ≡ realm
-  tagged : has_tag (seen_state granules held) rd tag.Rd ≡ true
+  seen : realm_at (seen_state config held) rd ≡ realm
+  tagged : has_tag (seen_state config held) rd tag.Rd ≡ true
 
-fitting-realm : (granules rec rd : ℕ) (held : List HeldCell) → is_misplaced granules rec rd held ≡ false → is_held rd held ≡ true
-    → FittingRealm granules rd held
-fitting-realm granules rec rd held fits holds =
-    let parts = fitting granules rec rd held fits in
+fitting-realm : (config : Config) (rec rd : ℕ) (held : List HeldCell) → is_misplaced config rec rd held ≡ false → is_held rd held ≡ true
+    → FittingRealm config rd held
+fitting-realm config rec rd held fits holds =
+    let parts = fitting config rec rd held fits in
     let at = named-cell (names rec rd) held parts.right (needed rd tag.Rd)
     (Contains-tail (needed rec tag.Rec) (needed rd tag.Rd ∷ []) (needed rd tag.Rd) (Contains-head (needed rd tag.Rd) [])) holds in
     let realm = realm-tag at.cell at.tagged in
@@ -112,45 +113,45 @@ fitting-realm granules rec rd held fits holds =
     record {
       realm = realm.0;
       found = found;
-      seen = realm-seen granules held rd realm.0 parts.of_rd found;
-      tagged = tag-seen granules held rd at.cell tag.Rd parts.of_rd at.found at.tagged;
+      seen = realm-seen config held rd realm.0 parts.of_rd found;
+      tagged = tag-seen config held rd at.cell tag.Rd parts.of_rd at.found at.tagged;
     }
 
 or_right : (b c : Bool) → b ≡ false → (b || c) ≡ true → c ≡ true
 or_right false c fails is = is
 or_right true c fails is = absurd (false≢true (sym fails))
 
-pub fitting-place : (granules : ℕ) (c : Call) (rec rd : ℕ) (held : List HeldCell) → is_misfit granules c rec rd held ≡ false → is_misplaced granules rec rd held ≡ false
-fitting-place granules c rec rd held fits = (or_parts (is_misplaced granules rec rd held) (is_misfit_way granules held (way_inside c rec rd held)) fits).0
+pub fitting-place : (config : Config) (c : Call) (rec rd : ℕ) (held : List HeldCell) → is_misfit config c rec rd held ≡ false → is_misplaced config rec rd held ≡ false
+fitting-place config c rec rd held fits = (or_parts (is_misplaced config rec rd held) (is_misfit_way config held (way_inside c rec rd held)) fits).0
 
 -- what a realm's call holds where it is settled, and its walk is over
-record ReadHeld (granules : ℕ) (c : Call) (rec rd : ℕ) (held : List HeldCell) : Type 0 where
+record ReadHeld (config : Config) (c : Call) (rec rd : ℕ) (held : List HeldCell) : Type 0 where
   of_rec : is_held rec held ≡ true
   of_rd : is_held rd held ≡ true
-  over : is_read_over granules held (way_inside c rec rd held) ≡ true
+  over : is_read_over config held (way_inside c rec rd held) ≡ true
 
-read-held : (granules : ℕ) (c : Call) (rec rd : ℕ) (held : List HeldCell) → is_misfit granules c rec rd held ≡ false
-    → is_settled_inside ByRealm granules c rec rd held ≡ true → ReadHeld granules c rec rd held
-read-held granules c rec rd held fits settled =
-    let all = or_right (is_misfit granules c rec rd held) (is_held rec held && is_held rd held && is_read_over granules held (way_inside c rec rd held)) fits settled in
-    let parts = and_parts (is_held rec held && is_held rd held) (is_read_over granules held (way_inside c rec rd held)) all in
+read-held : (config : Config) (c : Call) (rec rd : ℕ) (held : List HeldCell) → is_misfit config c rec rd held ≡ false
+    → is_settled_inside ByRealm config c rec rd held ≡ true → ReadHeld config c rec rd held
+read-held config c rec rd held fits settled =
+    let all = or_right (is_misfit config c rec rd held) (is_held rec held && is_held rd held && is_read_over config held (way_inside c rec rd held)) fits settled in
+    let parts = and_parts (is_held rec held && is_held rd held) (is_read_over config held (way_inside c rec rd held)) all in
     let both = and_parts (is_held rec held) (is_held rd held) parts.0 in
     record { of_rec = both.0; of_rd = both.1; over = parts.1 }
 
 -- a command whose place fits may be given there
-pub settled-inside : (granules : ℕ) (c : Call) (rec rd : ℕ) (held : List HeldCell) (k : Class) → is_misfit granules c rec rd held ≡ false
-    → is_settled_inside k granules c rec rd held ≡ true → IsInsideBy k (seen_state granules held) rec
-settled-inside granules c rec rd held ByHost fits settled = tt
-settled-inside granules c rec rd held ByRealm fits settled =
-    let both = read-held granules c rec rd held fits settled in
-    let placed = fitting-place granules c rec rd held fits in
-    let one = fitting-rec granules rec rd held placed both.of_rec in
-    let realm = fitting-realm granules rec rd held placed both.of_rd in (
+pub settled-inside : (config : Config) (c : Call) (rec rd : ℕ) (held : List HeldCell) (k : Class) → is_misfit config c rec rd held ≡ false
+    → is_settled_inside k config c rec rd held ≡ true → IsInsideBy k (seen_state config held) rec
+settled-inside config c rec rd held ByHost fits settled = tt
+settled-inside config c rec rd held ByRealm fits settled =
+    let both = read-held config c rec rd held fits settled in
+    let placed = fitting-place config c rec rd held fits in
+    let one = fitting-rec config rec rd held placed both.of_rec in
+    let realm = fitting-realm config rec rd held placed both.of_rd in (
       one.tagged,
-      subst (λ x. has_tag (seen_state granules held) x tag.Rd ≡ true) (sym (ap (λ (r : RecRecord). r.owner) one.seen ∙ one.owner)) realm.tagged,
+      subst (λ x. has_tag (seen_state config held) x tag.Rd ≡ true) (sym (ap (λ (r : RecRecord). r.owner) one.seen ∙ one.owner)) realm.tagged,
     )
-settled-inside granules c rec rd held ByExit fits settled =
-    (fitting-rec granules rec rd held (fitting-place granules c rec rd held fits) (or_right (is_misfit granules c rec rd held) (is_held rec held) fits settled)).tagged
+settled-inside config c rec rd held ByExit fits settled =
+    (fitting-rec config rec rd held (fitting-place config c rec rd held fits) (or_right (is_misfit config c rec rd held) (is_held rec held) fits settled)).tagged
 
 -- ---- realm calls
 
@@ -199,98 +200,98 @@ refused-get t rec rd ipa realm owner at unprotected = rw (owner, at) (by _ (is_p
     by a true false is = refl
     by a false d is = refl
 
-row-told : (granules cpu : ℕ) (hold : Hold) (rec rd : ℕ) (c : Call) (w : Whole granules cpu hold) → is_misfit granules c rec rd hold.cells ≡ false
-    → is_settled_inside ByRealm granules c rec rd hold.cells ≡ true
-    → rec_at (state granules cpu hold w) rec ≡ rec_at (seen_state granules hold.cells) rec
-    → realm_at (state granules cpu hold w) (rec_at (state granules cpu hold w) rec).owner ≡ realm_at (seen_state granules hold.cells) (rec_at (seen_state granules hold.cells) rec).owner
-    → is_none (rec_at (seen_state granules hold.cells) rec).pending ≡ true
-    → call_row (state granules cpu hold w) rec c ≡ call_row (seen_state granules hold.cells) rec c
+row-told : (config : Config) (cpu : ℕ) (hold : Hold) (rec rd : ℕ) (c : Call) (w : Whole config cpu hold) → is_misfit config c rec rd hold.cells ≡ false
+    → is_settled_inside ByRealm config c rec rd hold.cells ≡ true
+    → rec_at (state config cpu hold w) rec ≡ rec_at (seen_state config hold.cells) rec
+    → realm_at (state config cpu hold w) (rec_at (state config cpu hold w) rec).owner ≡ realm_at (seen_state config hold.cells) (rec_at (seen_state config hold.cells) rec).owner
+    → is_none (rec_at (seen_state config hold.cells) rec).pending ≡ true
+    → call_row (state config cpu hold w) rec c ≡ call_row (seen_state config hold.cells) rec c
 unfolding call_row way_inside asked
-row-told granules cpu hold rec rd (call.IpaStateGet ipa) w fits settled recs realms ready =
-    get-told (walk_whole granules cpu hold w) rec rd ipa held.of_rec owner (ap (λ b. b || is_some (table_behind hold.cells rd)) held.of_rd)
+row-told config cpu hold rec rd (call.IpaStateGet ipa) w fits settled recs realms ready =
+    get-told (walk_whole config cpu hold w) rec rd ipa held.of_rec owner (ap (λ b. b || is_some (table_behind hold.cells rd)) held.of_rd)
     (by (is_protected realm.realm ipa) refl)
   where
     t : State
-    t = seen_state granules hold.cells
+    t = seen_state config hold.cells
 
-    placed : is_misplaced granules rec rd hold.cells ≡ false
-    placed = fitting-place granules (call.IpaStateGet ipa) rec rd hold.cells fits
+    placed : is_misplaced config rec rd hold.cells ≡ false
+    placed = fitting-place config (call.IpaStateGet ipa) rec rd hold.cells fits
 
-    held : ReadHeld granules (call.IpaStateGet ipa) rec rd hold.cells
-    held = read-held granules (call.IpaStateGet ipa) rec rd hold.cells fits settled
+    held : ReadHeld config (call.IpaStateGet ipa) rec rd hold.cells
+    held = read-held config (call.IpaStateGet ipa) rec rd hold.cells fits settled
 
-    one : FittingRec granules rec rd hold.cells
-    one = fitting-rec granules rec rd hold.cells placed held.of_rec
+    one : FittingRec config rec rd hold.cells
+    one = fitting-rec config rec rd hold.cells placed held.of_rec
 
-    realm : FittingRealm granules rd hold.cells
-    realm = fitting-realm granules rec rd hold.cells placed held.of_rd
+    realm : FittingRealm config rd hold.cells
+    realm = fitting-realm config rec rd hold.cells placed held.of_rd
 
-    owner : (rec_at (seen_state granules hold.cells) rec).owner ≡ rd
+    owner : (rec_at (seen_state config hold.cells) rec).owner ≡ rd
     owner = ap (λ (r : RecRecord). r.owner) one.seen ∙ one.owner
 
-    over : is_read_over granules hold.cells (if is_none one.it.pending && is_protected realm.realm ipa then Some (way rd ipa 3) else None) ≡ true
-    over = subst (λ o. is_read_over granules hold.cells (way_to_read rd ipa o (Some (Rd realm.realm))) ≡ true) one.found
-        (subst (λ o. is_read_over granules hold.cells (way_to_read rd ipa (cell_in rec hold.cells) o) ≡ true) realm.found held.over)
+    over : is_read_over config hold.cells (if is_none one.it.pending && is_protected realm.realm ipa then Some (way rd ipa 3) else None) ≡ true
+    over = subst (λ o. is_read_over config hold.cells (way_to_read rd ipa o (Some (Rd realm.realm))) ≡ true) one.found
+        (subst (λ o. is_read_over config hold.cells (way_to_read rd ipa (cell_in rec hold.cells) o) ≡ true) realm.found held.over)
 
-    by : (b : Bool) → is_protected realm.realm ipa ≡ b → (is_walk_held granules hold.cells (way rd ipa 3) || is_refused_early (ipa_state_get t rec ipa)) ≡ true
+    by : (b : Bool) → is_protected realm.realm ipa ≡ b → (is_walk_held config hold.cells (way rd ipa 3) || is_refused_early (ipa_state_get t rec ipa)) ≡ true
     by true protected =
         let idle : is_none one.it.pending ≡ true = ap (λ (r : RecRecord). is_none r.pending) (sym one.seen) ∙ ready in
-        let walked : is_read_over granules hold.cells (Some (way rd ipa 3)) ≡ true =
-        subst (λ b. is_read_over granules hold.cells (if b then Some (way rd ipa 3) else None) ≡ true) (and_from (is_none one.it.pending) (is_protected realm.realm ipa) idle protected) over in
-        ap (λ b. b || is_refused_early (ipa_state_get t rec ipa)) (and_parts (is_walk_held granules hold.cells (way rd ipa 3)) (is_none (spare granules true hold.cells (way rd ipa 3))) walked).0
-    by false unprotected = or_second (is_walk_held granules hold.cells (way rd ipa 3)) (is_refused_early (ipa_state_get t rec ipa)) (refused-get t rec rd ipa realm.realm owner realm.seen unprotected)
-row-told granules cpu hold rec rd c w fits settled recs realms ready = call_row-same (state granules cpu hold w) (seen_state granules hold.cells) rec c refl recs realms
+        let walked : is_read_over config hold.cells (Some (way rd ipa 3)) ≡ true =
+        subst (λ b. is_read_over config hold.cells (if b then Some (way rd ipa 3) else None) ≡ true) (and_from (is_none one.it.pending) (is_protected realm.realm ipa) idle protected) over in
+        ap (λ b. b || is_refused_early (ipa_state_get t rec ipa)) (and_parts (is_walk_held config hold.cells (way rd ipa 3)) (is_none (spare config true hold.cells (way rd ipa 3))) walked).0
+    by false unprotected = or_second (is_walk_held config hold.cells (way rd ipa 3)) (is_refused_early (ipa_state_get t rec ipa)) (refused-get t rec rd ipa realm.realm owner realm.seen unprotected)
+row-told config cpu hold rec rd c w fits settled recs realms ready = call_row-same (state config cpu hold w) (seen_state config hold.cells) rec c refl recs realms
 
 -- ---- any command
 
 -- its change is one of what is held, and each whole that agrees answers the same
-pub record IsToldInside (granules cpu : ℕ) (hold : Hold) (rec : ℕ) (c : Call) : Type 0 where
-  pub can : CanAnswer cpu hold (inside_answer (seen_state granules hold.cells) rec c)
-  pub same : (w : Whole granules cpu hold) → inside_answer (state granules cpu hold w) rec c ≡ inside_answer (seen_state granules hold.cells) rec c
+pub record IsToldInside (config : Config) (cpu : ℕ) (hold : Hold) (rec : ℕ) (c : Call) : Type 0 where
+  pub can : CanAnswer cpu hold (inside_answer (seen_state config hold.cells) rec c)
+  pub same : (w : Whole config cpu hold) → inside_answer (state config cpu hold w) rec c ≡ inside_answer (seen_state config hold.cells) rec c
 
-pub fitting-told : (granules cpu : ℕ) (hold : Hold) (rec rd : ℕ) (c : Call) → hold.place ≡ Inside rec rd
-    → is_misfit granules c rec rd hold.cells ≡ false → is_settled_inside (class_of c) granules c rec rd hold.cells ≡ true → IsToldInside granules cpu hold rec c
+pub fitting-told : (config : Config) (cpu : ℕ) (hold : Hold) (rec rd : ℕ) (c : Call) → hold.place ≡ Inside rec rd
+    → is_misfit config c rec rd hold.cells ≡ false → is_settled_inside (class_of c) config c rec rd hold.cells ≡ true → IsToldInside config cpu hold rec c
 unfolding inside_answer
-fitting-told granules cpu hold rec rd c place fits settled = record { can = can (class_of c) settled; same = λ w. same w (class_of c) settled }
+fitting-told config cpu hold rec rd c place fits settled = record { can = can (class_of c) settled; same = λ w. same w (class_of c) settled }
   where
     t : State
-    t = seen_state granules hold.cells
+    t = seen_state config hold.cells
 
-    rec-held : is_settled_inside ByExit granules c rec rd hold.cells ≡ true → is_held rec hold.cells ≡ true
-    rec-held is = or_right (is_misfit granules c rec rd hold.cells) (is_held rec hold.cells) fits is
+    rec-held : is_settled_inside ByExit config c rec rd hold.cells ≡ true → is_held rec hold.cells ≡ true
+    rec-held is = or_right (is_misfit config c rec rd hold.cells) (is_held rec hold.cells) fits is
 
-    both-held : is_settled_inside ByRealm granules c rec rd hold.cells ≡ true → (is_held rec hold.cells ≡ true) × (is_held rd hold.cells ≡ true)
-    both-held is = let both = read-held granules c rec rd hold.cells fits is in (both.of_rec, both.of_rd)
+    both-held : is_settled_inside ByRealm config c rec rd hold.cells ≡ true → (is_held rec hold.cells ≡ true) × (is_held rd hold.cells ≡ true)
+    both-held is = let both = read-held config c rec rd hold.cells fits is in (both.of_rec, both.of_rd)
 
     owner-held : (is_held rec hold.cells ≡ true) × (is_held rd hold.cells ≡ true) → is_held (rec_at t rec).owner hold.cells ≡ true
     owner-held both =
-        let one = fitting-rec granules rec rd hold.cells (fitting-place granules c rec rd hold.cells fits) both.0 in
+        let one = fitting-rec config rec rd hold.cells (fitting-place config c rec rd hold.cells fits) both.0 in
         subst (λ x. is_held x hold.cells ≡ true) (sym (ap (λ (r : RecRecord). r.owner) one.seen ∙ one.owner)) both.1
 
     can-wait : (b : Bool) → CanAnswer cpu hold (call_row t rec c) → CanAnswer cpu hold (if b then call_row t rec c else Err reply.Misplaced)
     can-wait true later = later
     can-wait false later = tt
 
-    can : (k : Class) → is_settled_inside k granules c rec rd hold.cells ≡ true → CanAnswer cpu hold (class_answer k t rec c)
+    can : (k : Class) → is_settled_inside k config c rec rd hold.cells ≡ true → CanAnswer cpu hold (class_answer k t rec c)
     can ByHost is = tt
     can ByRealm is =
         let both = both-held is in
         can-wait (is_none (rec_at t rec).pending) (can-call cpu hold t rec c both.0 (owner-held both))
     can ByExit is = can-exit cpu hold t rec rd place (rec-held is)
 
-    same : (w : Whole granules cpu hold) (k : Class) → is_settled_inside k granules c rec rd hold.cells ≡ true
-        → class_answer k (state granules cpu hold w) rec c ≡ class_answer k t rec c
+    same : (w : Whole config cpu hold) (k : Class) → is_settled_inside k config c rec rd hold.cells ≡ true
+        → class_answer k (state config cpu hold w) rec c ≡ class_answer k t rec c
     same w ByHost is = refl
     same w ByRealm is =
-        let s = state granules cpu hold w in
+        let s = state config cpu hold w in
         let both = both-held is in
-        let recs = rec-same granules cpu hold w rec both.0 in
-        let realms = ap (λ (r : RecRecord). realm_at s r.owner) recs ∙ realm-same granules cpu hold w (rec_at t rec).owner (owner-held both) in
+        let recs = rec-same config cpu hold w rec both.0 in
+        let realms = ap (λ (r : RecRecord). realm_at s r.owner) recs ∙ realm-same config cpu hold w (rec_at t rec).owner (owner-held both) in
         (λ i. if is_none (recs i).pending then call_row s rec c else Err reply.Misplaced)
-        ∙ waits (is_none (rec_at t rec).pending) refl (λ ready. row-told granules cpu hold rec rd c w fits is recs realms ready)
+        ∙ waits (is_none (rec_at t rec).pending) refl (λ ready. row-told config cpu hold rec rd c w fits is recs realms ready)
       where
-        waits : (b : Bool) → is_none (rec_at t rec).pending ≡ b → (is_none (rec_at t rec).pending ≡ true → call_row (state granules cpu hold w) rec c ≡ call_row t rec c)
-            → (if b then call_row (state granules cpu hold w) rec c else Err reply.Misplaced) ≡ (if b then call_row t rec c else Err reply.Misplaced)
+        waits : (b : Bool) → is_none (rec_at t rec).pending ≡ b → (is_none (rec_at t rec).pending ≡ true → call_row (state config cpu hold w) rec c ≡ call_row t rec c)
+            → (if b then call_row (state config cpu hold w) rec c else Err reply.Misplaced) ≡ (if b then call_row t rec c else Err reply.Misplaced)
         waits true ready rows = rows ready
         waits false pending rows = refl
-    same w ByExit is = rec_exit-same (state granules cpu hold w) t rec (rec-same granules cpu hold w rec (rec-held is))
+    same w ByExit is = rec_exit-same (state config cpu hold w) t rec (rec-same config cpu hold w rec (rec-held is))

@@ -1,6 +1,7 @@
 -- What is answered can be made of what is held, or no whole agrees with that.
 use Rattle.std.proofs.Common.{◌≡◌, ℕ, [], ◌∷◌, subst, Bool, true, false, if◌then◌else◌, Result, Ok, Err, sym, ◌∙◌, refl}
 use Rattle.std.proofs.lemmas.Bool.{false≢true}
+use Rattle.rmm_spec.specs.HistoryText.{Config}
 use Rattle.rmm_spec.specs.declared.accepted.Accepted.{Accepted}
 use Rattle.rmm_spec.specs.declared.accepted.Accepted.TheVariants.{Done, Reaches}
 use Rattle.rmm_spec.specs.declared.command.Command.{Command}
@@ -21,37 +22,37 @@ use Rattle.command_core.proofs.Fits.{applied-fits}
 use Rattle.command_core.proofs.Wholes.{Whole, state}
 
 -- a refusal leads to no stretch
-pub refused : (granules cpu : ℕ) (command : Command) (hold : Hold) (given : Reply) → ((end : ℕ) → given ≡ ok (end ∷ []) → ⊥)
-    → LocalStep granules cpu command given hold hold → IsAnswer granules cpu command hold (Err given)
+pub refused : (config : Config) (cpu : ℕ) (command : Command) (hold : Hold) (given : Reply) → ((end : ℕ) → given ≡ ok (end ∷ []) → ⊥)
+    → LocalStep config cpu command given hold hold → IsAnswer config cpu command hold (Err given)
 unfolding new_cells new_place side_changed
-refused granules cpu command hold given refuses step = record {
+refused config cpu command hold given refuses step = record {
   can = tt;
   is_local = step;
   is_furthest = record {
     right = λ cells places stretch top shaped agrees placed leads reached.
-        let chosen : CarriesOut (Ok (Reaches stretch)) (flat_state granules cells) given (flat_state granules (put_all cells hold.cells)) =
-        subst (λ a. CarriesOut a (flat_state granules cells) given (flat_state granules (put_all cells hold.cells))) leads
+        let chosen : CarriesOut (Ok (Reaches stretch)) (flat_state config cells) given (flat_state config (put_all cells hold.cells)) =
+        subst (λ a. CarriesOut a (flat_state config cells) given (flat_state config (put_all cells hold.cells))) leads
         (step.right cells places shaped agrees placed).0 in
         absurd (refuses chosen.0 chosen.1.1);
   };
 }
 
 -- where no whole agrees, anything is a local step
-pub no_whole : (granules cpu : ℕ) (command : Command) (hold : Hold) → (Whole granules cpu hold → ⊥) → IsAnswer granules cpu command hold (Err reply.Misplaced)
-no_whole granules cpu command hold none = is_answer granules cpu command hold (Err reply.Misplaced) tt (λ w. absurd (none w))
+pub no_whole : (config : Config) (cpu : ℕ) (command : Command) (hold : Hold) → (Whole config cpu hold → ⊥) → IsAnswer config cpu command hold (Err reply.Misplaced)
+no_whole config cpu command hold none = is_answer config cpu command hold (Err reply.Misplaced) tt (λ w. absurd (none w))
 
 -- what each whole that agrees answers can be made of what is held, or there is no such whole
-pub made-answered : (granules cpu : ℕ) (command : Command) (hold : Hold) (answer : Result Accepted Reply) → CanAnswer cpu hold answer
-    → ((w : Whole granules cpu hold) → outcome (state granules cpu hold w) cpu (call_of command) ≡ answer)
-    → IsAnswer granules cpu command hold (made_answer granules hold.cells hold.side answer)
-made-answered granules cpu command hold (Err refusal) can each = is_answer granules cpu command hold (Err refusal) can each
-made-answered granules cpu command hold (Ok (Reaches stretch)) can each = absurd can
-made-answered granules cpu command hold (Ok (Done words change)) can each = by (can_make granules hold.cells hold.side change) refl
+pub made-answered : (config : Config) (cpu : ℕ) (command : Command) (hold : Hold) (answer : Result Accepted Reply) → CanAnswer cpu hold answer
+    → ((w : Whole config cpu hold) → outcome (state config cpu hold w) cpu (call_of command) ≡ answer)
+    → IsAnswer config cpu command hold (made_answer config hold.cells hold.side answer)
+made-answered config cpu command hold (Err refusal) can each = is_answer config cpu command hold (Err refusal) can each
+made-answered config cpu command hold (Ok (Reaches stretch)) can each = absurd can
+made-answered config cpu command hold (Ok (Done words change)) can each = by (can_make config hold.cells hold.side change) refl
   where
-    by : (b : Bool) → can_make granules hold.cells hold.side change ≡ b
-        → IsAnswer granules cpu command hold (if b then Ok (Done words change) else Err reply.Misplaced)
-    by true fits = is_answer granules cpu command hold (Ok (Done words change)) can each
-    by false unfit = no_whole granules cpu command hold (λ w.
-        let s = state granules cpu hold w in
-        let applies = done_applies s cpu command words.items change (well_shaped-is_sound granules hold.side w.places w.cells w.shaped) (each w) in
-        false≢true (sym unfit ∙ applied-fits granules cpu hold w change applies can))
+    by : (b : Bool) → can_make config hold.cells hold.side change ≡ b
+        → IsAnswer config cpu command hold (if b then Ok (Done words change) else Err reply.Misplaced)
+    by true fits = is_answer config cpu command hold (Ok (Done words change)) can each
+    by false unfit = no_whole config cpu command hold (λ w.
+        let s = state config cpu hold w in
+        let applies = done_applies s cpu command words.items change (well_shaped-is_sound config hold.side w.places w.cells w.shaped) (each w) in
+        false≢true (sym unfit ∙ applied-fits config cpu hold w change applies can))

@@ -3,6 +3,7 @@ use Rattle.std.proofs.Common.{◌≡◌, ℕ, ◌*◌, Bool, true, false, not, �
 use Rattle.std.specs.Prelude.{is_none, is_some}
 use Rattle.std.proofs.lemmas.Bool.{false≢true, and_parts, and_from, false_from_ne_true, not-true}
 use Rattle.std.proofs.lemmas.Option.{same_Some}
+use Rattle.rmm_spec.specs.HistoryText.{Config}
 use Rattle.rmm_spec.specs.declared.call.Call.{Call}
 use Rattle.rmm_spec.specs.declared.call.Call.TheVariants.{RealmDestroy, RecDestroy, RecEnter}
 use Rattle.rmm_spec.specs.declared.tag.Tag.TheVariants as tag
@@ -34,9 +35,9 @@ or_cases true c is = inl refl
 or_cases false c is = inr is
 
 -- a granule that holds something is one
-no_granule : (granules cpu : ℕ) (hold : Hold) (w : Whole granules cpu hold) (g : ℕ) → (tag_number (tag_of (w.cells g)) == 0) ≡ false
-    → not (is_granule granules g) ≡ true → ⊥
-no_granule granules cpu hold w g tagged none = false≢true (sym (not-true (is_granule granules g) none) ∙ tagged_granule granules cpu hold w g tagged)
+no_granule : (config : Config) (cpu : ℕ) (hold : Hold) (w : Whole config cpu hold) (g : ℕ) → (tag_number (tag_of (w.cells g)) == 0) ≡ false
+    → not (is_granule config.granules g) ≡ true → ⊥
+no_granule config cpu hold w g tagged none = false≢true (sym (not-true (is_granule config.granules g) none) ∙ tagged_granule config cpu hold w g tagged)
 
 -- ---- a realm's root
 
@@ -45,9 +46,9 @@ table_tag (Rtt table) is = refl
 table_tag _ is = absurd (false≢true is)
 
 -- the place of a realm's root
-root-placed : (granules cpu : ℕ) (hold : Hold) (w : Whole granules cpu hold) (rd : ℕ) (realm : RealmRecord) (t : TableRecord)
+root-placed : (config : Config) (cpu : ℕ) (hold : Hold) (w : Whole config cpu hold) (rd : ℕ) (realm : RealmRecord) (t : TableRecord)
     → realms_of w.cells rd ≡ Some realm → tables_of w.cells realm.root ≡ Some t → is_place rd realm.start_level 0 realm.width t.place ≡ true
-root-placed granules cpu hold w rd realm t is_realm is_table =
+root-placed config cpu hold w rd realm t is_realm is_table =
     and_from (t.place.rd == rd && t.place.level == realm.start_level && t.place.base == 0 * table_size realm.start_level) (t.place.width == realm.width)
     (and_from (t.place.rd == rd && t.place.level == realm.start_level) (t.place.base == 0 * table_size realm.start_level)
     (and_from (t.place.rd == rd) (t.place.level == realm.start_level) (eq-eqb t.place.rd rd of_rd) (eq-eqb t.place.level realm.start_level of_level))
@@ -77,31 +78,31 @@ root-placed granules cpu hold w rd realm t is_realm is_table =
         let one : own.0 ≡ realm = same_Some own.0 realm (sym own.1 ∙ (ap (realms_of w.cells) of_rd ∙ is_realm)) in
         own.2.width ∙ ap (λ (r : RealmRecord). r.width) one
 
-root-none : (granules cpu : ℕ) (hold : Hold) (w : Whole granules cpu hold) (rd : ℕ) (o : Option Cell) → cell_in rd hold.cells ≡ o
-    → is_misfit_root granules hold.cells rd o ≡ true → ⊥
-root-none granules cpu hold w rd (Some (Rd realm)) found bad =
-    by (or_cases (not (is_granule granules realm.root)) (is_other_table rd realm.start_level 0 realm.width (cell_in realm.root hold.cells)) bad)
+root-none : (config : Config) (cpu : ℕ) (hold : Hold) (w : Whole config cpu hold) (rd : ℕ) (o : Option Cell) → cell_in rd hold.cells ≡ o
+    → is_misfit_root config hold.cells rd o ≡ true → ⊥
+root-none config cpu hold w rd (Some (Rd realm)) found bad =
+    by (or_cases (not (is_granule config.granules realm.root)) (is_other_table rd realm.start_level 0 realm.width (cell_in realm.root hold.cells)) bad)
   where
     is_realm : realms_of w.cells rd ≡ Some realm
-    is_realm = ap realm_in (whole_cell granules cpu hold w rd (Rd realm) found)
+    is_realm = ap realm_in (whole_cell config cpu hold w rd (Rd realm) found)
 
     there : is_some (table_in (w.cells realm.root)) ≡ true
     there = ap (λ (o : Option TableRecord). is_some o) (w.shaped.tables.roots rd realm is_realm).is_held
 
     no_table : (c : Cell) → cell_in realm.root hold.cells ≡ Some c → is_some (table_in c) ≡ true
-    no_table c root = ap (λ (x : Cell). is_some (table_in x)) (sym (whole_cell granules cpu hold w realm.root c root)) ∙ there
+    no_table c root = ap (λ (x : Cell). is_some (table_in x)) (sym (whole_cell config cpu hold w realm.root c root)) ∙ there
 
     other : (p : Option Cell) → cell_in realm.root hold.cells ≡ p → is_other_table rd realm.start_level 0 realm.width p ≡ true → ⊥
     other None root is = false≢true is
     other (Some (Rtt t)) root is =
         false≢true (sym (not-true (is_place rd realm.start_level 0 realm.width t.place) is)
-        ∙ root-placed granules cpu hold w rd realm t is_realm (ap table_in (whole_cell granules cpu hold w realm.root (Rtt t) root)))
+        ∙ root-placed config cpu hold w rd realm t is_realm (ap table_in (whole_cell config cpu hold w realm.root (Rtt t) root)))
     other (Some c) root is = false≢true (no_table c root)
 
-    by : (not (is_granule granules realm.root) ≡ true) ⊎ (is_other_table rd realm.start_level 0 realm.width (cell_in realm.root hold.cells) ≡ true) → ⊥
-    by (inl none) = no_granule granules cpu hold w realm.root (table_tag (w.cells realm.root) there) none
+    by : (not (is_granule config.granules realm.root) ≡ true) ⊎ (is_other_table rd realm.start_level 0 realm.width (cell_in realm.root hold.cells) ≡ true) → ⊥
+    by (inl none) = no_granule config cpu hold w realm.root (table_tag (w.cells realm.root) there) none
     by (inr is) = other (cell_in realm.root hold.cells) refl is
-root-none granules cpu hold w rd _ found bad = false≢true bad
+root-none config cpu hold w rd _ found bad = false≢true bad
 
 -- ---- a REC's two others
 
@@ -109,51 +110,51 @@ aux_tag : (c : Cell) → is_aux c ≡ true → (tag_number (tag_of c) == 0) ≡ 
 aux_tag RecAux is = refl
 aux_tag _ is = absurd (false≢true is)
 
-bad_aux-none : (granules cpu : ℕ) (hold : Hold) (w : Whole granules cpu hold) (aux : ℕ) → is_aux (w.cells aux) ≡ true → is_bad_aux granules aux hold.cells ≡ true → ⊥
-bad_aux-none granules cpu hold w aux is_one bad = by (or_cases (not (is_granule granules aux)) (is_other_aux (cell_in aux hold.cells)) bad)
+bad_aux-none : (config : Config) (cpu : ℕ) (hold : Hold) (w : Whole config cpu hold) (aux : ℕ) → is_aux (w.cells aux) ≡ true → is_bad_aux config aux hold.cells ≡ true → ⊥
+bad_aux-none config cpu hold w aux is_one bad = by (or_cases (not (is_granule config.granules aux)) (is_other_aux (cell_in aux hold.cells)) bad)
   where
     other : (p : Option Cell) → cell_in aux hold.cells ≡ p → is_other_aux p ≡ true → ⊥
     other None found is = false≢true is
     other (Some c) found is =
-        false≢true (sym (not-true (is_aux c) is) ∙ (ap is_aux (sym (whole_cell granules cpu hold w aux c found)) ∙ is_one))
+        false≢true (sym (not-true (is_aux c) is) ∙ (ap is_aux (sym (whole_cell config cpu hold w aux c found)) ∙ is_one))
 
-    by : (not (is_granule granules aux) ≡ true) ⊎ (is_other_aux (cell_in aux hold.cells) ≡ true) → ⊥
-    by (inl none) = no_granule granules cpu hold w aux (aux_tag (w.cells aux) is_one) none
+    by : (not (is_granule config.granules aux) ≡ true) ⊎ (is_other_aux (cell_in aux hold.cells) ≡ true) → ⊥
+    by (inl none) = no_granule config cpu hold w aux (aux_tag (w.cells aux) is_one) none
     by (inr is) = other (cell_in aux hold.cells) refl is
 
-auxes-none : (granules cpu : ℕ) (hold : Hold) (w : Whole granules cpu hold) (rec : ℕ) (o : Option Cell) → cell_in rec hold.cells ≡ o
-    → has_bad_aux granules o hold.cells ≡ true → ⊥
-auxes-none granules cpu hold w rec (Some (Rec it)) found bad =
-    by (or_cases (is_bad_aux granules it.aux0 hold.cells) (is_held it.aux0 hold.cells && (it.aux0 == it.aux1 || is_bad_aux granules it.aux1 hold.cells))
-    (and_parts (is_none it.cpu) (are_bad_auxes granules it hold.cells) bad).1)
+auxes-none : (config : Config) (cpu : ℕ) (hold : Hold) (w : Whole config cpu hold) (rec : ℕ) (o : Option Cell) → cell_in rec hold.cells ≡ o
+    → has_bad_aux config o hold.cells ≡ true → ⊥
+auxes-none config cpu hold w rec (Some (Rec it)) found bad =
+    by (or_cases (is_bad_aux config it.aux0 hold.cells) (is_held it.aux0 hold.cells && (it.aux0 == it.aux1 || is_bad_aux config it.aux1 hold.cells))
+    (and_parts (is_none it.cpu) (are_bad_auxes config it hold.cells) bad).1)
   where
     is_rec : rec_in (w.cells rec) ≡ Some it
-    is_rec = ap rec_in (whole_cell granules cpu hold w rec (Rec it) found)
+    is_rec = ap rec_in (whole_cell config cpu hold w rec (Rec it) found)
 
-    second : ((it.aux0 == it.aux1) ≡ true) ⊎ (is_bad_aux granules it.aux1 hold.cells ≡ true) → ⊥
+    second : ((it.aux0 == it.aux1) ≡ true) ⊎ (is_bad_aux config it.aux1 hold.cells ≡ true) → ⊥
     second (inl same) = false≢true (sym (w.shaped.recs.two rec it is_rec) ∙ same)
-    second (inr is) = bad_aux-none granules cpu hold w it.aux1 (w.shaped.recs.aux1 rec it is_rec) is
+    second (inr is) = bad_aux-none config cpu hold w it.aux1 (w.shaped.recs.aux1 rec it is_rec) is
 
-    by : (is_bad_aux granules it.aux0 hold.cells ≡ true)
-        ⊎ ((is_held it.aux0 hold.cells && (it.aux0 == it.aux1 || is_bad_aux granules it.aux1 hold.cells)) ≡ true) → ⊥
-    by (inl is) = bad_aux-none granules cpu hold w it.aux0 (w.shaped.recs.aux0 rec it is_rec) is
-    by (inr is) = second (or_cases (it.aux0 == it.aux1) (is_bad_aux granules it.aux1 hold.cells)
-        (and_parts (is_held it.aux0 hold.cells) (it.aux0 == it.aux1 || is_bad_aux granules it.aux1 hold.cells) is).1)
-auxes-none granules cpu hold w rec _ found bad = false≢true bad
+    by : (is_bad_aux config it.aux0 hold.cells ≡ true)
+        ⊎ ((is_held it.aux0 hold.cells && (it.aux0 == it.aux1 || is_bad_aux config it.aux1 hold.cells)) ≡ true) → ⊥
+    by (inl is) = bad_aux-none config cpu hold w it.aux0 (w.shaped.recs.aux0 rec it is_rec) is
+    by (inr is) = second (or_cases (it.aux0 == it.aux1) (is_bad_aux config it.aux1 hold.cells)
+        (and_parts (is_held it.aux0 hold.cells) (it.aux0 == it.aux1 || is_bad_aux config it.aux1 hold.cells) is).1)
+auxes-none config cpu hold w rec _ found bad = false≢true bad
 
 -- ---- a REC's realm
 
-owner-none : (granules cpu : ℕ) (hold : Hold) (w : Whole granules cpu hold) (rec : ℕ) (o : Option Cell) → cell_in rec hold.cells ≡ o
-    → has_bad_owner granules rec o ≡ true → ⊥
-owner-none granules cpu hold w rec (Some (Rec it)) found bad =
-    let cell = whole_cell granules cpu hold w rec (Rec it) found in
+owner-none : (config : Config) (cpu : ℕ) (hold : Hold) (w : Whole config cpu hold) (rec : ℕ) (o : Option Cell) → cell_in rec hold.cells ≡ o
+    → has_bad_owner config rec o ≡ true → ⊥
+owner-none config cpu hold w rec (Some (Rec it)) found bad =
+    let cell = whole_cell config cpu hold w rec (Rec it) found in
     let realm = realm_cell (w.cells it.owner) (w.shaped.recs.owned rec it (ap rec_in cell)) in
-    let granule = tagged_granule granules cpu hold w it.owner (ap (λ (c : Cell). tag_number (tag_of c) == 0) realm.1) in
+    let granule = tagged_granule config cpu hold w it.owner (ap (λ (c : Cell). tag_number (tag_of c) == 0) realm.1) in
     let apart : (it.owner == rec) ≡ false = false_from_ne_true (it.owner == rec) (λ same.
     false≢true (ap (λ (c : Cell). tag_number (tag_of c) == 2) (sym cell ∙ (sym (ap w.cells (eqb-true it.owner rec same)) ∙ realm.1)))) in
-    false≢true (sym (not-true (can_learn granules rec it.owner) bad)
-    ∙ and_from (is_granule granules it.owner) (not (it.owner == rec)) granule (ap not apart))
-owner-none granules cpu hold w rec _ found bad = false≢true bad
+    false≢true (sym (not-true (can_learn config rec it.owner) bad)
+    ∙ and_from (is_granule config.granules it.owner) (not (it.owner == rec)) granule (ap not apart))
+owner-none config cpu hold w rec _ found bad = false≢true bad
 
 -- ---- a CPU's place
 
@@ -161,10 +162,10 @@ cells_apart : (c d : Cell) (it : RecRecord) (realm : RealmRecord) → c ≡ Rec 
 cells_apart c d it realm first second same = false≢true (ap (λ (x : Cell). tag_number (tag_of x) == 2) (sym first ∙ (same ∙ second)))
 
 -- what is held at the two granules has their tags
-right_tags : (granules cpu : ℕ) (hold : Hold) (w : Whole granules cpu hold) (rec rd : ℕ) → hold.place ≡ Inside rec rd
+right_tags : (config : Config) (cpu : ℕ) (hold : Hold) (w : Whole config cpu hold) (rec rd : ℕ) → hold.place ≡ Inside rec rd
     → has_wrong (needed rec tag.Rec ∷ needed rd tag.Rd ∷ []) hold.cells ≡ true → ⊥
-right_tags granules cpu hold w rec rd place is =
-    let here = inside-cells granules cpu hold w rec rd place in
+right_tags config cpu hold w rec rd place is =
+    let here = inside-cells config cpu hold w rec rd place in
     let wrong = wrong_tag (needed rec tag.Rec ∷ needed rd tag.Rd ∷ []) hold.cells is in
     let tags : tag_of (w.cells wrong.n.granule) ≡ wrong.n.tag =
     each_of_two (λ (n : Needed). tag_of (w.cells n.granule) ≡ n.tag) (needed rec tag.Rec) (needed rd tag.Rd)
@@ -173,35 +174,35 @@ right_tags granules cpu hold w rec rd place is =
     false≢true (sym wrong.wrong
     ∙ eq-eqb (tag_number (tag_of wrong.h.cell)) (tag_number wrong.n.tag) (ap (λ (c : Cell). tag_number (tag_of c)) (sym cell) ∙ ap tag_number tags))
 
-misplaced-none : (granules cpu : ℕ) (hold : Hold) (w : Whole granules cpu hold) (rec rd : ℕ) → hold.place ≡ Inside rec rd
-    → is_misplaced granules rec rd hold.cells ≡ true → ⊥
+misplaced-none : (config : Config) (cpu : ℕ) (hold : Hold) (w : Whole config cpu hold) (rec rd : ℕ) → hold.place ≡ Inside rec rd
+    → is_misplaced config rec rd hold.cells ≡ true → ⊥
 unfolding is_misplaced
-misplaced-none granules cpu hold w rec rd place misfit =
+misplaced-none config cpu hold w rec rd place misfit =
     by (or_cases (not locks || has_wrong (needed rec tag.Rec ∷ needed rd tag.Rd ∷ []) hold.cells) (has_other_owner rd (cell_in rec hold.cells)) misfit)
   where
     locks : Bool
-    locks = is_granule granules rec && is_granule granules rd && not (rec == rd)
+    locks = is_granule config.granules rec && is_granule config.granules rd && not (rec == rd)
 
     here : InsideCells w.cells rec rd
-    here = inside-cells granules cpu hold w rec rd place
+    here = inside-cells config cpu hold w rec rd place
 
     apart : (rec == rd) ≡ false
     apart = false_from_ne_true (rec == rd) (λ same. cells_apart (w.cells rec) (w.cells rd) here.it here.realm here.is_rec here.is_realm (ap w.cells (eqb-true rec rd same)))
 
     fits : locks ≡ true
-    fits = and_from (is_granule granules rec && is_granule granules rd) (not (rec == rd))
-        (and_from (is_granule granules rec) (is_granule granules rd)
-        (tagged_granule granules cpu hold w rec (ap (λ (c : Cell). tag_number (tag_of c) == 0) here.is_rec))
-        (tagged_granule granules cpu hold w rd (ap (λ (c : Cell). tag_number (tag_of c) == 0) here.is_realm)))
+    fits = and_from (is_granule config.granules rec && is_granule config.granules rd) (not (rec == rd))
+        (and_from (is_granule config.granules rec) (is_granule config.granules rd)
+        (tagged_granule config cpu hold w rec (ap (λ (c : Cell). tag_number (tag_of c) == 0) here.is_rec))
+        (tagged_granule config cpu hold w rd (ap (λ (c : Cell). tag_number (tag_of c) == 0) here.is_realm)))
         (ap not apart)
 
     first : (not locks ≡ true) ⊎ (has_wrong (needed rec tag.Rec ∷ needed rd tag.Rd ∷ []) hold.cells ≡ true) → ⊥
     first (inl none) = false≢true (sym (not-true locks none) ∙ fits)
-    first (inr wrong) = right_tags granules cpu hold w rec rd place wrong
+    first (inr wrong) = right_tags config cpu hold w rec rd place wrong
 
     other : (o : Option Cell) → cell_in rec hold.cells ≡ o → has_other_owner rd o ≡ true → ⊥
     other (Some (Rec it)) found is =
-        let same : here.it ≡ it = same_Some here.it it (ap rec_in (sym here.is_rec ∙ whole_cell granules cpu hold w rec (Rec it) found)) in
+        let same : here.it ≡ it = same_Some here.it it (ap rec_in (sym here.is_rec ∙ whole_cell config cpu hold w rec (Rec it) found)) in
         false≢true (sym (not-true (it.owner == rd) is) ∙ eq-eqb it.owner rd (ap (λ (r : RecRecord). r.owner) (sym same) ∙ here.is_owner))
     other _ found is = false≢true is
 
@@ -211,35 +212,35 @@ misplaced-none granules cpu hold w rec rd place misfit =
 
 -- ---- any command
 
-part-none : (granules cpu : ℕ) (hold : Hold) (w : Whole granules cpu hold) (c : Call) → has_misfit_part granules c hold.cells ≡ true → ⊥
+part-none : (config : Config) (cpu : ℕ) (hold : Hold) (w : Whole config cpu hold) (c : Call) → has_misfit_part config c hold.cells ≡ true → ⊥
 unfolding has_misfit_part
-part-none granules cpu hold w (RealmDestroy rd) bad = root-none granules cpu hold w rd (cell_in rd hold.cells) refl bad
-part-none granules cpu hold w (RecDestroy rec) bad = auxes-none granules cpu hold w rec (cell_in rec hold.cells) refl bad
-part-none granules cpu hold w (RecEnter rec) bad = owner-none granules cpu hold w rec (cell_in rec hold.cells) refl bad
-part-none granules cpu hold w _ bad = false≢true bad
+part-none config cpu hold w (RealmDestroy rd) bad = root-none config cpu hold w rd (cell_in rd hold.cells) refl bad
+part-none config cpu hold w (RecDestroy rec) bad = auxes-none config cpu hold w rec (cell_in rec hold.cells) refl bad
+part-none config cpu hold w (RecEnter rec) bad = owner-none config cpu hold w rec (cell_in rec hold.cells) refl bad
+part-none config cpu hold w _ bad = false≢true bad
 
-way-none : (granules cpu : ℕ) (hold : Hold) → Whole granules cpu hold → (o : Option Way) → is_misfit_way granules hold.cells o ≡ true → ⊥
-way-none granules cpu hold w None bad = false≢true bad
-way-none granules cpu hold w (Some way) bad =
+way-none : (config : Config) (cpu : ℕ) (hold : Hold) → Whole config cpu hold → (o : Option Way) → is_misfit_way config hold.cells o ≡ true → ⊥
+way-none config cpu hold w None bad = false≢true bad
+way-none config cpu hold w (Some way) bad =
     misfit-none (record { cells = w.cells; places = w.places; shaped = w.shaped; agrees = w.agrees }) way.rd way.ipa bad
 
-pub unshaped-none : (granules cpu : ℕ) (hold : Hold) (c : Call) → is_unshaped granules c hold.place hold.cells ≡ true → Whole granules cpu hold → ⊥
+pub unshaped-none : (config : Config) (cpu : ℕ) (hold : Hold) (c : Call) → is_unshaped config c hold.place hold.cells ≡ true → Whole config cpu hold → ⊥
 unfolding is_unshaped
-unshaped-none granules cpu hold c bad w = by hold.place refl bad
+unshaped-none config cpu hold c bad w = by hold.place refl bad
   where
-    outside : (has_misfit_part granules c hold.cells ≡ true) ⊎ (is_misfit_way granules hold.cells (way_taken c) ≡ true) → ⊥
-    outside (inl part) = part-none granules cpu hold w c part
-    outside (inr way) = way-none granules cpu hold w (way_taken c) way
+    outside : (has_misfit_part config c hold.cells ≡ true) ⊎ (is_misfit_way config hold.cells (way_taken c) ≡ true) → ⊥
+    outside (inl part) = part-none config cpu hold w c part
+    outside (inr way) = way-none config cpu hold w (way_taken c) way
 
     inside : (rec rd : ℕ) → hold.place ≡ Inside rec rd
-        → (is_misplaced granules rec rd hold.cells ≡ true) ⊎ (is_misfit_way granules hold.cells (way_inside c rec rd hold.cells) ≡ true) → ⊥
-    inside rec rd place (inl misplaced) = misplaced-none granules cpu hold w rec rd place misplaced
-    inside rec rd place (inr way) = way-none granules cpu hold w (way_inside c rec rd hold.cells) way
+        → (is_misplaced config rec rd hold.cells ≡ true) ⊎ (is_misfit_way config hold.cells (way_inside c rec rd hold.cells) ≡ true) → ⊥
+    inside rec rd place (inl misplaced) = misplaced-none config cpu hold w rec rd place misplaced
+    inside rec rd place (inr way) = way-none config cpu hold w (way_inside c rec rd hold.cells) way
 
-    by : (p : CpuPlace) → hold.place ≡ p → is_unshaped granules c p hold.cells ≡ true → ⊥
-    by Outside place is = outside (or_cases (has_misfit_part granules c hold.cells) (is_misfit_way granules hold.cells (way_taken c)) is)
+    by : (p : CpuPlace) → hold.place ≡ p → is_unshaped config c p hold.cells ≡ true → ⊥
+    by Outside place is = outside (or_cases (has_misfit_part config c hold.cells) (is_misfit_way config hold.cells (way_taken c)) is)
     by (Inside rec rd) place is =
-        inside rec rd place (or_cases (is_misplaced granules rec rd hold.cells) (is_misfit_way granules hold.cells (way_inside c rec rd hold.cells)) is)
+        inside rec rd place (or_cases (is_misplaced config rec rd hold.cells) (is_misfit_way config hold.cells (way_inside c rec rd hold.cells)) is)
 
 -- they settle it, so that no more is taken or freed
 or_middle : (a b c : Bool) → b ≡ true → (a || b || c) ≡ true
@@ -247,18 +248,18 @@ or_middle true b c is = refl
 or_middle false true c is = refl
 or_middle false false c is = absurd (false≢true is)
 
-pub unshaped-settled : (granules : ℕ) (c : Call) (place : CpuPlace) (held : List HeldCell) → is_unshaped granules c place held ≡ true
-    → is_settled granules c place held ≡ true
+pub unshaped-settled : (config : Config) (c : Call) (place : CpuPlace) (held : List HeldCell) → is_unshaped config c place held ≡ true
+    → is_settled config c place held ≡ true
 unfolding is_unshaped is_settled
-unshaped-settled granules c Outside held unshaped = by (class_of c)
+unshaped-settled config c Outside held unshaped = by (class_of c)
   where
-    by : (k : Class) → is_settled_outside k granules c held ≡ true
-    by ByHost = or_middle (not (words_fit granules c) || has_wrong (named c) held) (is_unshaped_outside granules c held) (is_all_held granules c held (way_taken c)) unshaped
+    by : (k : Class) → is_settled_outside k config c held ≡ true
+    by ByHost = or_middle (not (words_fit config c) || has_wrong (named c) held) (is_unshaped_outside config c held) (is_all_held config c held (way_taken c)) unshaped
     by ByRealm = refl
     by ByExit = refl
-unshaped-settled granules c (Inside rec rd) held unshaped = by (class_of c)
+unshaped-settled config c (Inside rec rd) held unshaped = by (class_of c)
   where
-    by : (k : Class) → is_settled_inside k granules c rec rd held ≡ true
+    by : (k : Class) → is_settled_inside k config c rec rd held ≡ true
     by ByHost = refl
-    by ByRealm = ap (λ b. b || (is_held rec held && is_held rd held && is_read_over granules held (way_inside c rec rd held))) unshaped
+    by ByRealm = ap (λ b. b || (is_held rec held && is_held rd held && is_read_over config held (way_inside c rec rd held))) unshaped
     by ByExit = ap (λ b. b || is_held rec held) unshaped

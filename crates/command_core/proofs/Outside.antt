@@ -3,6 +3,7 @@ use Rattle.std.proofs.Common.{◌≡◌, ℕ, true, false, ◌&&◌, ◌||◌, L
 use Rattle.std.specs.Prelude.{is_some, is_none, IfSome, slice_get}
 use Rattle.std.specs.List.{list_all}
 use Rattle.std.proofs.lemmas.Bool.{false≢true, and_parts}
+use Rattle.rmm_spec.specs.HistoryText.{Config}
 use Rattle.rmm_spec.specs.declared.accepted.Accepted.{Accepted}
 use Rattle.rmm_spec.specs.declared.call.Call.{Call}
 use Rattle.rmm_spec.specs.declared.call.Call.TheVariants as call
@@ -11,6 +12,7 @@ use Rattle.rmm_spec.specs.declared.change.RecUpdate.TheVariants.{Entered}
 use Rattle.rmm_spec.specs.declared.reply.Reply.{Reply}
 use Rattle.rmm_spec.specs.declared.tag.Tag.TheVariants as tag
 use Rattle.rmm_spec.specs.Call.{ByHost, class_of}
+use Rattle.rmm_spec.specs.Flat.{flat_state}
 use Rattle.rmm_spec.specs.State.{State, RealmRecord, RecRecord}
 use Rattle.rmm_spec.specs.Lookup.{is_granule, has_tag, realm_at, rec_at, is_vmid_used, has_rec}
 use Rattle.rmm_spec.specs.Rows.{Needed, rec_error}
@@ -40,14 +42,14 @@ use Rattle.command_core.proofs.SeenStates.{tag-same, realm-same, rec-same, tag-s
 use Rattle.command_core.proofs.SeenTables.{table_cell, links-same}
 use Rattle.command_core.proofs.Wholes.{Whole, state, whole_cell, realm_at-cell, has_rec-counted, is_vmid_used-listed}
 
-abbrev pub told_outside : ℕ → ℕ → Hold → Call → Result Accepted Reply
-told_outside granules cpu hold c = outside_answer (is_vmid_listed hold.side) (are_recs_counted hold.side) (seen_state granules hold.cells) cpu c
+abbrev pub told_outside : Config → ℕ → Hold → Call → Result Accepted Reply
+told_outside config cpu hold c = outside_answer (is_vmid_listed hold.side) (are_recs_counted hold.side) (seen_state config hold.cells) cpu c
 
 -- its change is one of what is held, and each whole that agrees answers the same
-pub record IsToldOutside (granules cpu : ℕ) (hold : Hold) (c : Call) : Type 0 where
-  pub can : CanAnswer cpu hold (told_outside granules cpu hold c)
-  pub same : (w : Whole granules cpu hold) → outside_answer (is_vmid_used (state granules cpu hold w)) (has_rec (state granules cpu hold w)) (state granules cpu hold w) cpu c
-      ≡ told_outside granules cpu hold c
+pub record IsToldOutside (config : Config) (cpu : ℕ) (hold : Hold) (c : Call) : Type 0 where
+  pub can : CanAnswer cpu hold (told_outside config cpu hold c)
+  pub same : (w : Whole config cpu hold) → outside_answer (is_vmid_used (state config cpu hold w)) (has_rec (state config cpu hold w)) (state config cpu hold w) cpu c
+      ≡ told_outside config cpu hold c
 
 held_by : (held : List HeldCell) (g : ℕ) (c : Cell) → cell_in g held ≡ Some c → is_held g held ≡ true
 held_by held g c found = ap (λ (o : Option Cell). is_some o) found
@@ -68,87 +70,93 @@ held-at held c = each-named held (λ n. is_held n.granule held ≡ true) (λ n i
 
 -- ---- what is looked up
 
+same_version : (config : Config) (cpu : ℕ) (hold : Hold) (w : Whole config cpu hold)
+    → (state config cpu hold w).config.version ≡ (seen_state config hold.cells).config.version
+unfolding flat_state seen_state
+same_version config cpu hold w = refl
+
 -- a whole and what is held agree on what is named, where all that is named is held
-agreeing : (granules cpu : ℕ) (hold : Hold) (w : Whole granules cpu hold) (c : Call) → holds_all (named c) hold.cells ≡ true
-    → SameOwner (state granules cpu hold w) (seen_state granules hold.cells) (entered c)
-    → SameRoot (state granules cpu hold w) (seen_state granules hold.cells) (rooted c)
-    → SameLookUps (state granules cpu hold w) (seen_state granules hold.cells) c
-agreeing granules cpu hold w c all owner root =
-    let s : State = state granules cpu hold w in
-    let t : State = seen_state granules hold.cells in record {
-      tags = each-named hold.cells (λ n. has_tag s n.granule n.tag ≡ has_tag t n.granule n.tag) (λ n. tag-same granules cpu hold w n.granule n.tag) (named c) all;
-      realms = each-named hold.cells (λ n. realm_at s n.granule ≡ realm_at t n.granule) (λ n. realm-same granules cpu hold w n.granule) (named c) all;
-      recs = each-named hold.cells (λ n. rec_at s n.granule ≡ rec_at t n.granule) (λ n. rec-same granules cpu hold w n.granule) (named c) all;
+agreeing : (config : Config) (cpu : ℕ) (hold : Hold) (w : Whole config cpu hold) (c : Call) → holds_all (named c) hold.cells ≡ true
+    → SameOwner (state config cpu hold w) (seen_state config hold.cells) (entered c)
+    → SameRoot (state config cpu hold w) (seen_state config hold.cells) (rooted c)
+    → SameLookUps (state config cpu hold w) (seen_state config hold.cells) c
+agreeing config cpu hold w c all owner root =
+    let s : State = state config cpu hold w in
+    let t : State = seen_state config hold.cells in record {
+      version = same_version config cpu hold w;
+      tags = each-named hold.cells (λ n. has_tag s n.granule n.tag ≡ has_tag t n.granule n.tag) (λ n. tag-same config cpu hold w n.granule n.tag) (named c) all;
+      realms = each-named hold.cells (λ n. realm_at s n.granule ≡ realm_at t n.granule) (λ n. realm-same config cpu hold w n.granule) (named c) all;
+      recs = each-named hold.cells (λ n. rec_at s n.granule ≡ rec_at t n.granule) (λ n. rec-same config cpu hold w n.granule) (named c) all;
       owner = owner;
       root = root;
     }
 
 -- what they agree on they answer alike
-told-same : (granules cpu : ℕ) (hold : Hold) (w : Whole granules cpu hold) (c : Call) → way_of c ≡ None
-    → SameLookUps (state granules cpu hold w) (seen_state granules hold.cells) c
-    → outside_answer (is_vmid_used (state granules cpu hold w)) (has_rec (state granules cpu hold w)) (state granules cpu hold w) cpu c ≡ told_outside granules cpu hold c
-told-same granules cpu hold w c walks same =
-    (λ i. outside_answer (λ vmid. is_vmid_used-listed granules cpu hold w vmid i) (λ rd. has_rec-counted granules cpu hold w rd i) (state granules cpu hold w) cpu c)
-    ∙ outside_answer-same (is_vmid_listed hold.side) (are_recs_counted hold.side) (state granules cpu hold w) (seen_state granules hold.cells) cpu c walks same
+told-same : (config : Config) (cpu : ℕ) (hold : Hold) (w : Whole config cpu hold) (c : Call) → way_of c ≡ None
+    → SameLookUps (state config cpu hold w) (seen_state config hold.cells) c
+    → outside_answer (is_vmid_used (state config cpu hold w)) (has_rec (state config cpu hold w)) (state config cpu hold w) cpu c ≡ told_outside config cpu hold c
+told-same config cpu hold w c walks same =
+    (λ i. outside_answer (λ vmid. is_vmid_used-listed config cpu hold w vmid i) (λ rd. has_rec-counted config cpu hold w rd i) (state config cpu hold w) cpu c)
+    ∙ outside_answer-same (is_vmid_listed hold.side) (are_recs_counted hold.side) (state config cpu hold w) (seen_state config hold.cells) cpu c walks same
 
 -- ---- a named granule is one
 
 only-granule : (granules : ℕ) (n : Needed) → list_all (λ (m : Needed). is_granule granules m.granule) (n ∷ []) ≡ true → is_granule granules n.granule ≡ true
 only-granule granules n all = (and_parts (is_granule granules n.granule) true all).0
 
-realm_destroy-granule : (granules rd : ℕ) → words_fit granules (call.RealmDestroy rd) ≡ true → is_granule granules rd ≡ true
+realm_destroy-granule : (config : Config) (rd : ℕ) → words_fit config (call.RealmDestroy rd) ≡ true → is_granule config.granules rd ≡ true
 unfolding words_fit named words_of
-realm_destroy-granule granules rd fits = only-granule granules (record { granule = rd; tag = tag.Rd }) fits
+realm_destroy-granule config rd fits = only-granule config.granules (record { granule = rd; tag = tag.Rd }) fits
 
-rec_destroy-granule : (granules rec : ℕ) → words_fit granules (call.RecDestroy rec) ≡ true → is_granule granules rec ≡ true
+rec_destroy-granule : (config : Config) (rec : ℕ) → words_fit config (call.RecDestroy rec) ≡ true → is_granule config.granules rec ≡ true
 unfolding words_fit named words_of
-rec_destroy-granule granules rec fits = only-granule granules (record { granule = rec; tag = tag.Rec }) fits
+rec_destroy-granule config rec fits = only-granule config.granules (record { granule = rec; tag = tag.Rec }) fits
 
-rec_enter-granule : (granules rec : ℕ) → words_fit granules (call.RecEnter rec) ≡ true → is_granule granules rec ≡ true
+rec_enter-granule : (config : Config) (rec : ℕ) → words_fit config (call.RecEnter rec) ≡ true → is_granule config.granules rec ≡ true
 unfolding words_fit named words_of
-rec_enter-granule granules rec fits = only-granule granules (record { granule = rec; tag = tag.Rec }) fits
+rec_enter-granule config rec fits = only-granule config.granules (record { granule = rec; tag = tag.Rec }) fits
 
 -- ---- a realm and its root
 
 -- what is held at a realm's root is the table of its place
-root-linked : (granules cpu : ℕ) (hold : Hold) (w : Whole granules cpu hold) (rd : ℕ) (realm : RealmRecord) → cell_in rd hold.cells ≡ Some (Rd realm)
-    → is_held realm.root hold.cells ≡ true → has_link (state granules cpu hold w) rd realm.start_level 0 ≡ has_link (seen_state granules hold.cells) rd realm.start_level 0
-root-linked granules cpu hold w rd realm found held = by (cell_in realm.root hold.cells) refl held
+root-linked : (config : Config) (cpu : ℕ) (hold : Hold) (w : Whole config cpu hold) (rd : ℕ) (realm : RealmRecord) → cell_in rd hold.cells ≡ Some (Rd realm)
+    → is_held realm.root hold.cells ≡ true → has_link (state config cpu hold w) rd realm.start_level 0 ≡ has_link (seen_state config hold.cells) rd realm.start_level 0
+root-linked config cpu hold w rd realm found held = by (cell_in realm.root hold.cells) refl held
   where
     root : HoldsTable (tables_of w.cells) realm.root rd realm.start_level 0
-    root = w.shaped.tables.roots rd realm (ap realm_in (whole_cell granules cpu hold w rd (Rd realm) found))
+    root = w.shaped.tables.roots rd realm (ap realm_in (whole_cell config cpu hold w rd (Rd realm) found))
 
     by : (o : Option Cell) → cell_in realm.root hold.cells ≡ o → is_some o ≡ true
-        → has_link (state granules cpu hold w) rd realm.start_level 0 ≡ has_link (seen_state granules hold.cells) rd realm.start_level 0
+        → has_link (state config cpu hold w) rd realm.start_level 0 ≡ has_link (seen_state config hold.cells) rd realm.start_level 0
     by None none is = absurd (false≢true is)
     by (Some c) there is =
-        let table : c ≡ Rtt root.table = table_cell c root.table (ap table_in (sym (whole_cell granules cpu hold w realm.root c there)) ∙ root.is_held) in
-        let same = links-same granules cpu hold w realm.root root.table (there ∙ ap (λ (x : Cell). Some x) table) root.is_number in
-        subst (λ x. has_link (state granules cpu hold w) x realm.start_level 0 ≡ has_link (seen_state granules hold.cells) x realm.start_level 0) root.is_realm
-        (subst (λ l. has_link (state granules cpu hold w) root.table.place.rd l 0 ≡ has_link (seen_state granules hold.cells) root.table.place.rd l 0) root.is_level same)
+        let table : c ≡ Rtt root.table = table_cell c root.table (ap table_in (sym (whole_cell config cpu hold w realm.root c there)) ∙ root.is_held) in
+        let same = links-same config cpu hold w realm.root root.table (there ∙ ap (λ (x : Cell). Some x) table) root.is_number in
+        subst (λ x. has_link (state config cpu hold w) x realm.start_level 0 ≡ has_link (seen_state config hold.cells) x realm.start_level 0) root.is_realm
+        (subst (λ l. has_link (state config cpu hold w) root.table.place.rd l 0 ≡ has_link (seen_state config hold.cells) root.table.place.rd l 0) root.is_level same)
 
-realm_destroy-told : (granules cpu : ℕ) (hold : Hold) (rd : ℕ) → is_granule granules rd ≡ true → (o : Option Cell) → cell_in rd hold.cells ≡ o
-    → is_root_held o hold.cells ≡ true → IsToldOutside granules cpu hold (call.RealmDestroy rd)
+realm_destroy-told : (config : Config) (cpu : ℕ) (hold : Hold) (rd : ℕ) → is_granule config.granules rd ≡ true → (o : Option Cell) → cell_in rd hold.cells ≡ o
+    → is_root_held o hold.cells ≡ true → IsToldOutside config cpu hold (call.RealmDestroy rd)
 unfolding outside_answer new_cells way_of named holds_all entered rooted
-realm_destroy-told granules cpu hold rd granule (Some (Rd realm)) found root = record {
-  can = can-done cpu hold (RealmDestroyed rd (realm_at (seen_state granules hold.cells) rd).root) _ (with_front (seen_state granules hold.cells) (call.RealmDestroy rd) _)
+realm_destroy-told config cpu hold rd granule (Some (Rd realm)) found root = record {
+  can = can-done cpu hold (RealmDestroyed rd (realm_at (seen_state config hold.cells) rd).root) _ (with_front (seen_state config hold.cells) (call.RealmDestroy rd) _)
       (record { held = (held, (subst (λ (r : RealmRecord). is_held r.root hold.cells ≡ true) (sym seen) root, tt)); tables = tt; here = tt });
   same = λ w.
-      let s = state granules cpu hold w in
-      let t = seen_state granules hold.cells in
-      let of_whole : realm_at s rd ≡ realm = realm_at-cell granules w.cells rd realm (whole_cell granules cpu hold w rd (Rd realm) found) in
-      told-same granules cpu hold w (call.RealmDestroy rd) refl
-      (agreeing granules cpu hold w (call.RealmDestroy rd) (ap (λ b. b && true) held) tt
+      let s = state config cpu hold w in
+      let t = seen_state config hold.cells in
+      let of_whole : realm_at s rd ≡ realm = realm_at-cell config w.cells rd realm (whole_cell config cpu hold w rd (Rd realm) found) in
+      told-same config cpu hold w (call.RealmDestroy rd) refl
+      (agreeing config cpu hold w (call.RealmDestroy rd) (ap (λ b. b && true) held) tt
       (ap (λ (r : RealmRecord). has_link s rd r.start_level 0) of_whole
-      ∙ (root-linked granules cpu hold w rd realm found root ∙ sym (ap (λ (r : RealmRecord). has_link t rd r.start_level 0) seen))));
+      ∙ (root-linked config cpu hold w rd realm found root ∙ sym (ap (λ (r : RealmRecord). has_link t rd r.start_level 0) seen))));
 }
   where
     held : is_held rd hold.cells ≡ true
     held = held_by hold.cells rd (Rd realm) found
 
-    seen : realm_at (seen_state granules hold.cells) rd ≡ realm
-    seen = realm-seen granules hold.cells rd realm granule found
-realm_destroy-told granules cpu hold rd granule _ found root = absurd (false≢true root)
+    seen : realm_at (seen_state config hold.cells) rd ≡ realm
+    seen = realm-seen config hold.cells rd realm granule found
+realm_destroy-told config cpu hold rd granule _ found root = absurd (false≢true root)
 
 -- ---- a REC, its two others and its realm
 
@@ -162,104 +170,104 @@ unfolding rec_destroy new_cells
 rec_destroy-can cpu hold s rec held aux0 aux1 =
     can-done cpu hold (RecDestroyed rec (rec_at s rec).aux0 (rec_at s rec).aux1) _ (with_front s (call.RecDestroy rec) _) (record { held = (held, (aux0, (aux1, tt))); tables = tt; here = tt })
 
-rec_destroy-told : (granules cpu : ℕ) (hold : Hold) (rec : ℕ) → is_granule granules rec ≡ true → (o : Option Cell) → cell_in rec hold.cells ≡ o
-    → are_auxes_held o hold.cells ≡ true → IsToldOutside granules cpu hold (call.RecDestroy rec)
+rec_destroy-told : (config : Config) (cpu : ℕ) (hold : Hold) (rec : ℕ) → is_granule config.granules rec ≡ true → (o : Option Cell) → cell_in rec hold.cells ≡ o
+    → are_auxes_held o hold.cells ≡ true → IsToldOutside config cpu hold (call.RecDestroy rec)
 unfolding outside_answer answer_of class_of way_of named holds_all entered rooted
-rec_destroy-told granules cpu hold rec granule (Some (Rec it)) found auxes = record {
+rec_destroy-told config cpu hold rec granule (Some (Rec it)) found auxes = record {
   can = by it.cpu refl auxes;
-  same = λ w. told-same granules cpu hold w (call.RecDestroy rec) refl
-      (agreeing granules cpu hold w (call.RecDestroy rec) (ap (λ b. b && true) held) tt tt);
+  same = λ w. told-same config cpu hold w (call.RecDestroy rec) refl
+      (agreeing config cpu hold w (call.RecDestroy rec) (ap (λ b. b && true) held) tt tt);
 }
   where
     held : is_held rec hold.cells ≡ true
     held = held_by hold.cells rec (Rec it) found
 
-    seen : rec_at (seen_state granules hold.cells) rec ≡ it
-    seen = rec-seen granules hold.cells rec it granule found
+    seen : rec_at (seen_state config hold.cells) rec ≡ it
+    seen = rec-seen config hold.cells rec it granule found
 
     by : (o : Option ℕ) → it.cpu ≡ o → (is_some o || (is_held it.aux0 hold.cells && is_held it.aux1 hold.cells)) ≡ true
-        → CanAnswer cpu hold (rec_destroy (seen_state granules hold.cells) rec)
+        → CanAnswer cpu hold (rec_destroy (seen_state config hold.cells) rec)
     by (Some on) runs is =
         subst (CanAnswer cpu hold)
-        (sym (rec_destroy-running (seen_state granules hold.cells) rec (tag-seen granules hold.cells rec (Rec it) tag.Rec granule found refl)
+        (sym (rec_destroy-running (seen_state config hold.cells) rec (tag-seen config hold.cells rec (Rec it) tag.Rec granule found refl)
         (ap (λ (r : RecRecord). is_none r.cpu) seen ∙ ap (λ (o : Option ℕ). is_none o) runs)))
         tt
     by None none is =
         let both = and_parts (is_held it.aux0 hold.cells) (is_held it.aux1 hold.cells) is in
-        rec_destroy-can cpu hold (seen_state granules hold.cells) rec held
+        rec_destroy-can cpu hold (seen_state config hold.cells) rec held
         (subst (λ (r : RecRecord). is_held r.aux0 hold.cells ≡ true) (sym seen) both.0)
         (subst (λ (r : RecRecord). is_held r.aux1 hold.cells ≡ true) (sym seen) both.1)
-rec_destroy-told granules cpu hold rec granule _ found auxes = absurd (false≢true auxes)
+rec_destroy-told config cpu hold rec granule _ found auxes = absurd (false≢true auxes)
 
 realm-held : (o : Option Cell) → is_realm_in o ≡ true → is_some o ≡ true
 realm-held (Some c) is = refl
 realm-held None is = absurd (false≢true is)
 
-rec_enter-told : (granules cpu : ℕ) (hold : Hold) (rec : ℕ) → is_granule granules rec ≡ true → (o : Option Cell) → cell_in rec hold.cells ≡ o
-    → is_owner_held o hold.cells ≡ true → IsToldOutside granules cpu hold (call.RecEnter rec)
+rec_enter-told : (config : Config) (cpu : ℕ) (hold : Hold) (rec : ℕ) → is_granule config.granules rec ≡ true → (o : Option Cell) → cell_in rec hold.cells ≡ o
+    → is_owner_held o hold.cells ≡ true → IsToldOutside config cpu hold (call.RecEnter rec)
 unfolding outside_answer answer_of class_of rec_enter new_cells way_of named holds_all entered rooted
-rec_enter-told granules cpu hold rec granule (Some (Rec it)) found owner = record {
-  can = can-done cpu hold (rec_change rec (Entered cpu)) _ (with_front (seen_state granules hold.cells) (call.RecEnter rec) _) (record { held = (held, tt); tables = tt; here = refl });
+rec_enter-told config cpu hold rec granule (Some (Rec it)) found owner = record {
+  can = can-done cpu hold (rec_change rec (Entered cpu)) _ (with_front (seen_state config hold.cells) (call.RecEnter rec) _) (record { held = (held, tt); tables = tt; here = refl });
   same = λ w.
-      let s = state granules cpu hold w in
-      let t = seen_state granules hold.cells in
-      told-same granules cpu hold w (call.RecEnter rec) refl
-      (agreeing granules cpu hold w (call.RecEnter rec) (ap (λ b. b && true) held)
-      (ap (λ (r : RecRecord). realm_at s r.owner) (rec-same granules cpu hold w rec held ∙ seen)
-      ∙ (realm-same granules cpu hold w it.owner (realm-held (cell_in it.owner hold.cells) owner) ∙ sym (ap (λ (r : RecRecord). realm_at t r.owner) seen))) tt);
+      let s = state config cpu hold w in
+      let t = seen_state config hold.cells in
+      told-same config cpu hold w (call.RecEnter rec) refl
+      (agreeing config cpu hold w (call.RecEnter rec) (ap (λ b. b && true) held)
+      (ap (λ (r : RecRecord). realm_at s r.owner) (rec-same config cpu hold w rec held ∙ seen)
+      ∙ (realm-same config cpu hold w it.owner (realm-held (cell_in it.owner hold.cells) owner) ∙ sym (ap (λ (r : RecRecord). realm_at t r.owner) seen))) tt);
 }
   where
     held : is_held rec hold.cells ≡ true
     held = held_by hold.cells rec (Rec it) found
 
-    seen : rec_at (seen_state granules hold.cells) rec ≡ it
-    seen = rec-seen granules hold.cells rec it granule found
-rec_enter-told granules cpu hold rec granule _ found owner = absurd (false≢true owner)
+    seen : rec_at (seen_state config hold.cells) rec ≡ it
+    seen = rec-seen config hold.cells rec it granule found
+rec_enter-told config cpu hold rec granule _ found owner = absurd (false≢true owner)
 
 -- ---- any command
 
 -- where all that is named is held, and nothing else is looked up or changed
-named-told : (granules cpu : ℕ) (hold : Hold) (c : Call) → way_of c ≡ None → holds_all (named c) hold.cells ≡ true → entered c ≡ None → rooted c ≡ None
-    → CanAnswer cpu hold (told_outside granules cpu hold c) → IsToldOutside granules cpu hold c
-named-told granules cpu hold c walks all no_owner no_root can = record {
+named-told : (config : Config) (cpu : ℕ) (hold : Hold) (c : Call) → way_of c ≡ None → holds_all (named c) hold.cells ≡ true → entered c ≡ None → rooted c ≡ None
+    → CanAnswer cpu hold (told_outside config cpu hold c) → IsToldOutside config cpu hold c
+named-told config cpu hold c walks all no_owner no_root can = record {
   can = can;
   same = λ w.
-      let s = state granules cpu hold w in
-      let t = seen_state granules hold.cells in
-      told-same granules cpu hold w c walks
-      (agreeing granules cpu hold w c all (subst (SameOwner s t) (sym no_owner) tt) (subst (SameRoot s t) (sym no_root) tt));
+      let s = state config cpu hold w in
+      let t = seen_state config hold.cells in
+      told-same config cpu hold w c walks
+      (agreeing config cpu hold w c all (subst (SameOwner s t) (sym no_owner) tt) (subst (SameRoot s t) (sym no_root) tt));
 }
 
-pub complete-told : (granules cpu : ℕ) (hold : Hold) (c : Call) → way_of c ≡ None → class_of c ≡ ByHost → words_fit granules c ≡ true
-    → is_complete c hold.cells ≡ true → IsToldOutside granules cpu hold c
+pub complete-told : (config : Config) (cpu : ℕ) (hold : Hold) (c : Call) → way_of c ≡ None → class_of c ≡ ByHost → words_fit config c ≡ true
+    → is_complete c hold.cells ≡ true → IsToldOutside config cpu hold c
 unfolding way_of class_of is_complete outside_answer answer_of granule_delegate granule_undelegate realm_activate rec_create new_cells named entered rooted
-complete-told granules cpu hold (call.RealmDestroy rd) walks host fits complete =
-    realm_destroy-told granules cpu hold rd (realm_destroy-granule granules rd fits) (cell_in rd hold.cells) refl complete
-complete-told granules cpu hold (call.RecDestroy rec) walks host fits complete =
-    rec_destroy-told granules cpu hold rec (rec_destroy-granule granules rec fits) (cell_in rec hold.cells) refl complete
-complete-told granules cpu hold (call.RecEnter rec) walks host fits complete =
-    rec_enter-told granules cpu hold rec (rec_enter-granule granules rec fits) (cell_in rec hold.cells) refl complete
-complete-told granules cpu hold (call.GranuleDelegate g) walks host fits complete =
+complete-told config cpu hold (call.RealmDestroy rd) walks host fits complete =
+    realm_destroy-told config cpu hold rd (realm_destroy-granule config rd fits) (cell_in rd hold.cells) refl complete
+complete-told config cpu hold (call.RecDestroy rec) walks host fits complete =
+    rec_destroy-told config cpu hold rec (rec_destroy-granule config rec fits) (cell_in rec hold.cells) refl complete
+complete-told config cpu hold (call.RecEnter rec) walks host fits complete =
+    rec_enter-told config cpu hold rec (rec_enter-granule config rec fits) (cell_in rec hold.cells) refl complete
+complete-told config cpu hold (call.GranuleDelegate g) walks host fits complete =
     let c = call.GranuleDelegate g in
-    named-told granules cpu hold c walks complete refl refl
-    (can-done cpu hold _ _ (with_front (seen_state granules hold.cells) c _) (record { held = (held-at hold.cells c complete 0, tt); tables = tt; here = tt }))
-complete-told granules cpu hold (call.GranuleUndelegate g) walks host fits complete =
+    named-told config cpu hold c walks complete refl refl
+    (can-done cpu hold _ _ (with_front (seen_state config hold.cells) c _) (record { held = (held-at hold.cells c complete 0, tt); tables = tt; here = tt }))
+complete-told config cpu hold (call.GranuleUndelegate g) walks host fits complete =
     let c = call.GranuleUndelegate g in
-    named-told granules cpu hold c walks complete refl refl
-    (can-done cpu hold _ _ (with_front (seen_state granules hold.cells) c _) (record { held = (held-at hold.cells c complete 0, tt); tables = tt; here = tt }))
-complete-told granules cpu hold (call.RealmActivate rd) walks host fits complete =
+    named-told config cpu hold c walks complete refl refl
+    (can-done cpu hold _ _ (with_front (seen_state config hold.cells) c _) (record { held = (held-at hold.cells c complete 0, tt); tables = tt; here = tt }))
+complete-told config cpu hold (call.RealmActivate rd) walks host fits complete =
     let c = call.RealmActivate rd in
-    named-told granules cpu hold c walks complete refl refl
-    (can-done cpu hold _ _ (with_front (seen_state granules hold.cells) c _) (record { held = (held-at hold.cells c complete 0, tt); tables = tt; here = tt }))
-complete-told granules cpu hold (call.RealmCreate rd root width level vmid algo) walks host fits complete =
+    named-told config cpu hold c walks complete refl refl
+    (can-done cpu hold _ _ (with_front (seen_state config hold.cells) c _) (record { held = (held-at hold.cells c complete 0, tt); tables = tt; here = tt }))
+complete-told config cpu hold (call.RealmCreate rd root width level vmid algo) walks host fits complete =
     let c = call.RealmCreate rd root width level vmid algo in
     let at = held-at hold.cells c complete in
-    named-told granules cpu hold c walks complete refl refl
-    (can-done cpu hold _ _ (with_front (seen_state granules hold.cells) c _) (record { held = (at 0, (at 1, tt)); tables = tt; here = tt }))
-complete-told granules cpu hold (call.RecCreate rd rec mpidr flags aux0 aux1) walks host fits complete =
+    named-told config cpu hold c walks complete refl refl
+    (can-done cpu hold _ _ (with_front (seen_state config hold.cells) c _) (record { held = (at 0, (at 1, tt)); tables = tt; here = tt }))
+complete-told config cpu hold (call.RecCreate rd rec mpidr flags aux0 aux1) walks host fits complete =
     let c = call.RecCreate rd rec mpidr flags aux0 aux1 in
     let at = held-at hold.cells c complete in
-    named-told granules cpu hold c walks complete refl refl
-    (can-done cpu hold _ _ (with_front (seen_state granules hold.cells) c _)
+    named-told config cpu hold c walks complete refl refl
+    (can-done cpu hold _ _ (with_front (seen_state config hold.cells) c _)
     (record { held = (at 1, (at 2, (at 3, (at 0, tt)))); tables = tt; here = tt }))
-complete-told granules cpu hold _ walks host fits complete = absurd cc
+complete-told config cpu hold _ walks host fits complete = absurd cc

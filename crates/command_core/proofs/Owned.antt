@@ -1,6 +1,7 @@
 -- What is settled has what the rows require of who looks up for them: a REC that is entered has its realm.
 use Rattle.std.proofs.Common.{◌≡◌, ℕ, Bool, true, false, not, ◌||◌, ◌==◌, if◌then◌else◌, List, [], ◌∷◌, Option, Some, None, refl, sym, ap, ◌∙◌, subst, eq-eqb}
 use Rattle.std.proofs.lemmas.Bool.{false≢true, and_parts, or_parts, not-false, false_from_ne_true}
+use Rattle.rmm_spec.specs.HistoryText.{Config}
 use Rattle.rmm_spec.specs.declared.call.Call.{Call}
 use Rattle.rmm_spec.specs.declared.call.Call.TheVariants as call
 use Rattle.rmm_spec.specs.declared.tag.Tag.TheVariants as tag
@@ -32,16 +33,16 @@ record RecThere (granules rec : ℕ) (held : List HeldCell) : Type 0 where
   granule : is_granule granules rec ≡ true
   found : cell_in rec held ≡ Some (Rec it)
 
-rec-there : (granules rec : ℕ) (held : List HeldCell) → has_tag (seen_state granules held) rec tag.Rec ≡ true → RecThere granules rec held
+rec-there : (config : Config) (rec : ℕ) (held : List HeldCell) → has_tag (seen_state config held) rec tag.Rec ≡ true → RecThere config.granules rec held
 unfolding has_tag seen_state
-rec-there granules rec held has =
+rec-there config rec held has =
     by (cell_in rec held) (realm_behind held rec) refl
     (subst (λ b. (tag_number (tag_of (if b then cell_or (cell_in rec held) (realm_behind held rec) else Undelegated)) == 3) ≡ true) parts.0 parts.1)
   where
-    parts : (is_granule granules rec ≡ true) × ((tag_number (tag_of (if is_granule granules rec then cell_or (cell_in rec held) (realm_behind held rec) else Undelegated)) == 3) ≡ true)
-    parts = and_parts (is_granule granules rec) (tag_number (tag_of (if is_granule granules rec then cell_or (cell_in rec held) (realm_behind held rec) else Undelegated)) == 3) has
+    parts : (is_granule config.granules rec ≡ true) × ((tag_number (tag_of (if is_granule config.granules rec then cell_or (cell_in rec held) (realm_behind held rec) else Undelegated)) == 3) ≡ true)
+    parts = and_parts (is_granule config.granules rec) (tag_number (tag_of (if is_granule config.granules rec then cell_or (cell_in rec held) (realm_behind held rec) else Undelegated)) == 3) has
 
-    by : (o : Option Cell) (r : Option RealmRecord) → cell_in rec held ≡ o → (tag_number (tag_of (cell_or o r)) == 3) ≡ true → RecThere granules rec held
+    by : (o : Option Cell) (r : Option RealmRecord) → cell_in rec held ≡ o → (tag_number (tag_of (cell_or o r)) == 3) ≡ true → RecThere config.granules rec held
     by (Some (Rec it)) r found is = record { it = it; granule = parts.0; found = found }
     by (Some _) r found is = absurd (false≢true is)
     by None (Some realm) found is = absurd (false≢true is)
@@ -52,9 +53,9 @@ realm_there (Some (Rd realm)) is = (realm, refl)
 realm_there _ is = absurd (false≢true is)
 
 -- the words and the tag of an Enter whose REC is held allow it
-enter-fits : (granules rec : ℕ) → is_granule granules rec ≡ true → words_fit granules (call.RecEnter rec) ≡ true
+enter-fits : (config : Config) (rec : ℕ) → is_granule config.granules rec ≡ true → words_fit config (call.RecEnter rec) ≡ true
 unfolding words_fit words_of named
-enter-fits granules rec granule = rw granule refl
+enter-fits config rec granule = rw granule refl
 
 enter-right : (rec : ℕ) (held : List HeldCell) (it : RecRecord) → cell_in rec held ≡ Some (Rec it) → has_wrong (named (call.RecEnter rec)) held ≡ false
 unfolding named
@@ -73,27 +74,27 @@ last true false true complete a b c is = absurd (false≢true (sym c))
 last true true unshaped complete a b c is = absurd (false≢true (sym b))
 last false wrong unshaped complete a b c is = absurd (false≢true a)
 
-enter-owned : (granules rec : ℕ) (held : List HeldCell) → is_settled granules (call.RecEnter rec) Outside held ≡ true
-    → is_unshaped granules (call.RecEnter rec) Outside held ≡ false → has_tag (seen_state granules held) rec tag.Rec ≡ true
-    → has_tag (seen_state granules held) (rec_at (seen_state granules held) rec).owner tag.Rd ≡ true
+enter-owned : (config : Config) (rec : ℕ) (held : List HeldCell) → is_settled config (call.RecEnter rec) Outside held ≡ true
+    → is_unshaped config (call.RecEnter rec) Outside held ≡ false → has_tag (seen_state config held) rec tag.Rec ≡ true
+    → has_tag (seen_state config held) (rec_at (seen_state config held) rec).owner tag.Rd ≡ true
 unfolding is_settled is_unshaped has_misfit_part is_complete class_of way_taken way_of words_of
-enter-owned granules rec held settled shaped has =
-    let there = rec-there granules rec held has in
-    let owner = (or_parts (has_bad_owner granules rec (cell_in rec held)) false shaped).0 in
-    let complete = last (words_fit granules (call.RecEnter rec)) (has_wrong (named (call.RecEnter rec)) held) (has_bad_owner granules rec (cell_in rec held) || false)
-    (is_owner_held (cell_in rec held) held) (enter-fits granules rec there.granule) (enter-right rec held there.it there.found) shaped settled in
+enter-owned config rec held settled shaped has =
+    let there = rec-there config rec held has in
+    let owner = (or_parts (has_bad_owner config rec (cell_in rec held)) false shaped).0 in
+    let complete = last (words_fit config (call.RecEnter rec)) (has_wrong (named (call.RecEnter rec)) held) (has_bad_owner config rec (cell_in rec held) || false)
+    (is_owner_held (cell_in rec held) held) (enter-fits config rec there.granule) (enter-right rec held there.it there.found) shaped settled in
     let realm = realm_there (cell_in there.it.owner held) (ap (λ o. is_owner_held o held) (sym there.found) ∙ complete) in
-    let learns = not-false (can_learn granules rec there.it.owner) (ap (has_bad_owner granules rec) (sym there.found) ∙ owner) in
-    let granule = (and_parts (is_granule granules there.it.owner) (not (there.it.owner == rec)) learns).0 in
-    subst (λ (r : RecRecord). has_tag (seen_state granules held) r.owner tag.Rd ≡ true) (sym (rec-seen granules held rec there.it there.granule there.found))
-    (tag-seen granules held there.it.owner (Rd realm.0) tag.Rd granule realm.1 refl)
+    let learns = not-false (can_learn config rec there.it.owner) (ap (has_bad_owner config rec) (sym there.found) ∙ owner) in
+    let granule = (and_parts (is_granule config.granules there.it.owner) (not (there.it.owner == rec)) learns).0 in
+    subst (λ (r : RecRecord). has_tag (seen_state config held) r.owner tag.Rd ≡ true) (sym (rec-seen config held rec there.it there.granule there.found))
+    (tag-seen config held there.it.owner (Rd realm.0) tag.Rd granule realm.1 refl)
 
-pub settled-owned : (granules : ℕ) (held : List HeldCell) (c : Call) → is_settled granules c Outside held ≡ true → is_unshaped granules c Outside held ≡ false
-    → IsOwned (seen_state granules held) c
-settled-owned granules held (call.RecEnter rec) settled shaped = enter-owned granules rec held settled shaped
-settled-owned granules held _ settled shaped = tt
+pub settled-owned : (config : Config) (held : List HeldCell) (c : Call) → is_settled config c Outside held ≡ true → is_unshaped config c Outside held ≡ false
+    → IsOwned (seen_state config held) c
+settled-owned config held (call.RecEnter rec) settled shaped = enter-owned config rec held settled shaped
+settled-owned config held _ settled shaped = tt
 
-pub settled-placed : (granules rec rd : ℕ) (held : List HeldCell) (c : Call) → is_settled granules c (Inside rec rd) held ≡ true
-    → is_unshaped granules c (Inside rec rd) held ≡ false → IsInside (seen_state granules held) rec c
+pub settled-placed : (config : Config) (rec rd : ℕ) (held : List HeldCell) (c : Call) → is_settled config c (Inside rec rd) held ≡ true
+    → is_unshaped config c (Inside rec rd) held ≡ false → IsInside (seen_state config held) rec c
 unfolding is_settled is_unshaped IsInside
-settled-placed granules rec rd held c settled shaped = settled-inside granules c rec rd held (class_of c) shaped settled
+settled-placed config rec rd held c settled shaped = settled-inside config c rec rd held (class_of c) shaped settled

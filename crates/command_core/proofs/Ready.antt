@@ -1,6 +1,7 @@
 -- Where what is held settles a command, it allows a local step, whatever the side table has and whichever CPU it is.
 use Rattle.std.proofs.Common.{◌≡◌, ℕ, ◌≤◌, Bool, true, false, not, ◌||◌, if◌then◌else◌, List, Option, Some, None, Result, Ok, Err, inl, inr, refl, sym, ap, ◌∙◌, subst, [], ◌∷◌}
 use Rattle.std.proofs.lemmas.Bool.{false≢true}
+use Rattle.rmm_spec.specs.HistoryText.{Config}
 use Rattle.rmm_spec.specs.declared.accepted.Accepted.{Accepted}
 use Rattle.rmm_spec.specs.declared.accepted.Accepted.TheVariants.{Done, Reaches}
 use Rattle.rmm_spec.specs.declared.call.Call.{Call}
@@ -43,11 +44,11 @@ use Rattle.command_core.proofs.Wholes.{state, rec_inside-place}
 
 -- ---- any answer
 
-allowed : (granules cpu : ℕ) (command : Command) (hold : Hold) (answer : Result Accepted Reply) → Answers granules cpu command hold answer
-    → AllowsStep granules cpu command hold
-allowed granules cpu command hold (Err refusal) step = record { given = refusal; new = hold_changed hold Unchanged; step = step }
-allowed granules cpu command hold (Ok (Done words change)) step = record { given = reply.Ok words; new = hold_changed hold change; step = step }
-allowed granules cpu command hold (Ok (Reaches stretch)) step = absurd step
+allowed : (config : Config) (cpu : ℕ) (command : Command) (hold : Hold) (answer : Result Accepted Reply) → Answers config cpu command hold answer
+    → AllowsStep config cpu command hold
+allowed config cpu command hold (Err refusal) step = record { given = refusal; new = hold_changed hold Unchanged; step = step }
+allowed config cpu command hold (Ok (Done words change)) step = record { given = reply.Ok words; new = hold_changed hold change; step = step }
+allowed config cpu command hold (Ok (Reaches stretch)) step = absurd step
 
 -- ---- outside of RECs
 
@@ -60,35 +61,35 @@ settled_by true false true complete shaped is front = absurd (false≢true (sym 
 settled_by true true unshaped complete shaped is front = absurd (false≢true (sym front))
 settled_by false wrong unshaped complete shaped is front = absurd (false≢true (sym front))
 
-host-ready : (granules cpu : ℕ) (command : Command) (hold : Hold) → class_of (call_of command) ≡ ByHost → hold.place ≡ Outside
-    → is_unshaped_outside granules (call_of command) hold.cells ≡ false
-    → (not (words_fit granules (call_of command)) || has_wrong (named (call_of command)) hold.cells
-    || is_unshaped_outside granules (call_of command) hold.cells
-    || is_all_held granules (call_of command) hold.cells (way_taken (call_of command))) ≡ true
-    → IsAnswer granules cpu command hold (made_answer granules hold.cells hold.side (told_outside granules cpu hold (call_of command)))
-host-ready granules cpu command hold host place shaped settled =
-    by (not (words_fit granules (call_of command)) || has_wrong (named (call_of command)) hold.cells) refl
+host-ready : (config : Config) (cpu : ℕ) (command : Command) (hold : Hold) → class_of (call_of command) ≡ ByHost → hold.place ≡ Outside
+    → is_unshaped_outside config (call_of command) hold.cells ≡ false
+    → (not (words_fit config (call_of command)) || has_wrong (named (call_of command)) hold.cells
+    || is_unshaped_outside config (call_of command) hold.cells
+    || is_all_held config (call_of command) hold.cells (way_taken (call_of command))) ≡ true
+    → IsAnswer config cpu command hold (made_answer config hold.cells hold.side (told_outside config cpu hold (call_of command)))
+host-ready config cpu command hold host place shaped settled =
+    by (not (words_fit config (call_of command)) || has_wrong (named (call_of command)) hold.cells) refl
   where
-    by : (b : Bool) → (not (words_fit granules (call_of command)) || has_wrong (named (call_of command)) hold.cells) ≡ b
-        → IsAnswer granules cpu command hold (made_answer granules hold.cells hold.side (told_outside granules cpu hold (call_of command)))
+    by : (b : Bool) → (not (words_fit config (call_of command)) || has_wrong (named (call_of command)) hold.cells) ≡ b
+        → IsAnswer config cpu command hold (made_answer config hold.cells hold.side (told_outside config cpu hold (call_of command)))
     by true front =
-        let refusal = refused-answer granules cpu command hold (is_vmid_listed hold.side) (are_recs_counted hold.side) host place front in
-        subst (λ (answer : Result Accepted Reply). IsAnswer granules cpu command hold (made_answer granules hold.cells hold.side answer)) (sym refusal.0)
-        (refused granules cpu command hold input_error (λ end same. cc) refusal.1)
+        let refusal = refused-answer config cpu command hold (is_vmid_listed hold.side) (are_recs_counted hold.side) host place front in
+        subst (λ (answer : Result Accepted Reply). IsAnswer config cpu command hold (made_answer config hold.cells hold.side answer)) (sym refusal.0)
+        (refused config cpu command hold input_error (λ end same. cc) refusal.1)
     by false front =
-        let parts = settled_by (words_fit granules (call_of command)) (has_wrong (named (call_of command)) hold.cells)
-        (is_unshaped_outside granules (call_of command) hold.cells) (is_all_held granules (call_of command) hold.cells (way_taken (call_of command))) shaped settled front in
+        let parts = settled_by (words_fit config (call_of command)) (has_wrong (named (call_of command)) hold.cells)
+        (is_unshaped_outside config (call_of command) hold.cells) (is_all_held config (call_of command) hold.cells (way_taken (call_of command))) shaped settled front in
         all_held (way_taken (call_of command)) refl parts.0 parts.1
       where
-        all_held : (o : Option Way) → way_taken (call_of command) ≡ o → words_fit granules (call_of command) ≡ true
-            → is_all_held granules (call_of command) hold.cells o ≡ true
-            → IsAnswer granules cpu command hold (made_answer granules hold.cells hold.side (told_outside granules cpu hold (call_of command)))
-        all_held (Some way) is fit over = walk-ready granules cpu command hold way (taken-way (call_of command) way is) place over
+        all_held : (o : Option Way) → way_taken (call_of command) ≡ o → words_fit config (call_of command) ≡ true
+            → is_all_held config (call_of command) hold.cells o ≡ true
+            → IsAnswer config cpu command hold (made_answer config hold.cells hold.side (told_outside config cpu hold (call_of command)))
+        all_held (Some way) is fit over = walk-ready config cpu command hold way (taken-way (call_of command) way is) place over
         all_held None is fit complete =
-            let told = complete-told granules cpu hold (call_of command) (untaken-way granules (call_of command) fit is) host fit complete in
-            made-answered granules cpu command hold (told_outside granules cpu hold (call_of command)) told.can
-            (λ w. sym (outcome-outside (state granules cpu hold w) cpu (call_of command)
-            (is_inside-outside granules hold.side w.places w.cells w.shaped cpu (w.placed ∙ place))) ∙ told.same w)
+            let told = complete-told config cpu hold (call_of command) (untaken-way config (call_of command) fit is) host fit complete in
+            made-answered config cpu command hold (told_outside config cpu hold (call_of command)) told.can
+            (λ w. sym (outcome-outside (state config cpu hold w) cpu (call_of command)
+            (is_inside-outside config hold.side w.places w.cells w.shaped cpu (w.placed ∙ place))) ∙ told.same w)
 
 -- no other command is given there
 other-answer : (vmids recs : ℕ → Bool) (s : State) (cpu : ℕ) (c : Call) (k : Class) → class_of c ≡ k → (k ≡ ByHost → ⊥)
@@ -100,90 +101,90 @@ other-answer vmids recs s cpu c k is other = ap (λ x. host_answer x s cpu c) is
 
 -- ---- any command
 
-pub settled-answered : (granules cpu : ℕ) (command : Command) (hold : Hold)
-    → is_settled granules (call_of command) hold.place hold.cells ≡ true
-    → IsAnswer granules cpu command hold (settled_answer granules cpu (call_of command) hold.cells hold.side hold.place)
+pub settled-answered : (config : Config) (cpu : ℕ) (command : Command) (hold : Hold)
+    → is_settled config (call_of command) hold.place hold.cells ≡ true
+    → IsAnswer config cpu command hold (settled_answer config cpu (call_of command) hold.cells hold.side hold.place)
 unfolding is_settled settled_answer is_unshaped
-settled-answered granules cpu command hold settled = by (is_unshaped granules (call_of command) hold.place hold.cells) refl
+settled-answered config cpu command hold settled = by (is_unshaped config (call_of command) hold.place hold.cells) refl
   where
     c : Call
     c = call_of command
 
     told : CpuPlace → Result Accepted Reply
-    told p = made_answer granules hold.cells hold.side (rows_answer granules cpu c hold.cells (Some hold.side) p)
+    told p = made_answer config hold.cells hold.side (rows_answer config cpu c hold.cells (Some hold.side) p)
 
-    outside : (k : Class) → class_of c ≡ k → hold.place ≡ Outside → is_unshaped_outside granules c hold.cells ≡ false
-        → is_settled_outside k granules c hold.cells ≡ true → IsAnswer granules cpu command hold (told Outside)
-    outside ByHost host place shaped is = host-ready granules cpu command hold host place shaped is
+    outside : (k : Class) → class_of c ≡ k → hold.place ≡ Outside → is_unshaped_outside config c hold.cells ≡ false
+        → is_settled_outside k config c hold.cells ≡ true → IsAnswer config cpu command hold (told Outside)
+    outside ByHost host place shaped is = host-ready config cpu command hold host place shaped is
     outside ByRealm realm place shaped is =
-        subst (λ (answer : Result Accepted Reply). IsAnswer granules cpu command hold (made_answer granules hold.cells hold.side answer))
-        (sym (other-answer (is_vmid_listed hold.side) (are_recs_counted hold.side) (seen_state granules hold.cells) cpu c ByRealm realm (λ same. cc)))
-        (refused granules cpu command hold reply.Misplaced (λ end same. cc) (outside-is_local granules cpu command hold (inl realm) place))
+        subst (λ (answer : Result Accepted Reply). IsAnswer config cpu command hold (made_answer config hold.cells hold.side answer))
+        (sym (other-answer (is_vmid_listed hold.side) (are_recs_counted hold.side) (seen_state config hold.cells) cpu c ByRealm realm (λ same. cc)))
+        (refused config cpu command hold reply.Misplaced (λ end same. cc) (outside-is_local config cpu command hold (inl realm) place))
     outside ByExit exit place shaped is =
-        subst (λ (answer : Result Accepted Reply). IsAnswer granules cpu command hold (made_answer granules hold.cells hold.side answer))
-        (sym (other-answer (is_vmid_listed hold.side) (are_recs_counted hold.side) (seen_state granules hold.cells) cpu c ByExit exit (λ same. cc)))
-        (refused granules cpu command hold reply.Misplaced (λ end same. cc) (outside-is_local granules cpu command hold (inr exit) place))
+        subst (λ (answer : Result Accepted Reply). IsAnswer config cpu command hold (made_answer config hold.cells hold.side answer))
+        (sym (other-answer (is_vmid_listed hold.side) (are_recs_counted hold.side) (seen_state config hold.cells) cpu c ByExit exit (λ same. cc)))
+        (refused config cpu command hold reply.Misplaced (λ end same. cc) (outside-is_local config cpu command hold (inr exit) place))
 
-    inside : (rec rd : ℕ) → hold.place ≡ Inside rec rd → is_misfit granules c rec rd hold.cells ≡ false
-        → is_settled_inside (class_of c) granules c rec rd hold.cells ≡ true → IsAnswer granules cpu command hold (told (Inside rec rd))
+    inside : (rec rd : ℕ) → hold.place ≡ Inside rec rd → is_misfit config c rec rd hold.cells ≡ false
+        → is_settled_inside (class_of c) config c rec rd hold.cells ≡ true → IsAnswer config cpu command hold (told (Inside rec rd))
     inside rec rd place fits is =
-        let answer = fitting-told granules cpu hold rec rd c place fits is in
-        made-answered granules cpu command hold (inside_answer (seen_state granules hold.cells) rec c) answer.can
+        let answer = fitting-told config cpu hold rec rd c place fits is in
+        made-answered config cpu command hold (inside_answer (seen_state config hold.cells) rec c) answer.can
         (λ w.
-        let s = state granules cpu hold w in
-        sym (outcome-inside s cpu c (is_inside-inside granules hold.side w.places w.cells w.shaped cpu rec rd (w.placed ∙ place)))
-        ∙ (ap (λ x. inside_answer s x c) (rec_inside-place granules cpu hold w rec rd place) ∙ answer.same w))
+        let s = state config cpu hold w in
+        sym (outcome-inside s cpu c (is_inside-inside config hold.side w.places w.cells w.shaped cpu rec rd (w.placed ∙ place)))
+        ∙ (ap (λ x. inside_answer s x c) (rec_inside-place config cpu hold w rec rd place) ∙ answer.same w))
 
-    at : (p : CpuPlace) → hold.place ≡ p → is_settled granules c p hold.cells ≡ true → is_unshaped granules c p hold.cells ≡ false
-        → IsAnswer granules cpu command hold (told p)
+    at : (p : CpuPlace) → hold.place ≡ p → is_settled config c p hold.cells ≡ true → is_unshaped config c p hold.cells ≡ false
+        → IsAnswer config cpu command hold (told p)
     at Outside place is shaped = outside (class_of c) refl place shaped is
     at (Inside rec rd) place is shaped = inside rec rd place shaped is
 
-    by : (b : Bool) → is_unshaped granules c hold.place hold.cells ≡ b
-        → IsAnswer granules cpu command hold (if b then Err reply.Misplaced else told hold.place)
-    by true unshaped = no_whole granules cpu command hold (unshaped-none granules cpu hold c unshaped)
+    by : (b : Bool) → is_unshaped config c hold.place hold.cells ≡ b
+        → IsAnswer config cpu command hold (if b then Err reply.Misplaced else told hold.place)
+    by true unshaped = no_whole config cpu command hold (unshaped-none config cpu hold c unshaped)
     by false shaped = at hold.place refl settled shaped
 
 -- what was decided, under another name
-pub decision : (granules cpu : ℕ) (command : Command) (hold : Hold) (c : Call) (given answer : Result Accepted Reply) → c ≡ call_of command
-    → is_settled granules (call_of command) hold.place hold.cells ≡ true
-    → given ≡ settled_answer granules cpu c hold.cells hold.side hold.place → given ≡ answer → IsAnswer granules cpu command hold answer
-decision granules cpu command hold c given answer is settled decided_so same =
-    subst (IsAnswer granules cpu command hold)
-    (ap (λ (x : Call). settled_answer granules cpu x hold.cells hold.side hold.place) (sym is) ∙ (sym decided_so ∙ same))
-    (settled-answered granules cpu command hold settled)
+pub decision : (config : Config) (cpu : ℕ) (command : Command) (hold : Hold) (c : Call) (given answer : Result Accepted Reply) → c ≡ call_of command
+    → is_settled config (call_of command) hold.place hold.cells ≡ true
+    → given ≡ settled_answer config cpu c hold.cells hold.side hold.place → given ≡ answer → IsAnswer config cpu command hold answer
+decision config cpu command hold c given answer is settled decided_so same =
+    subst (IsAnswer config cpu command hold)
+    (ap (λ (x : Call). settled_answer config cpu x hold.cells hold.side hold.place) (sym is) ∙ (sym decided_so ∙ same))
+    (settled-answered config cpu command hold settled)
 
-change-makes : (granules : ℕ) (hold : Hold) (words : List ℕ) (change : Change) → granules ≤ 4096
-    → CanMakeAnswer hold (made_change granules hold.cells hold.side (done words change) change)
-change-makes granules hold words change few = by (can_make granules hold.cells hold.side change) refl
+change-makes : (config : Config) (hold : Hold) (words : List ℕ) (change : Change) → config.granules ≤ 4096
+    → CanMakeAnswer hold (made_change config hold.cells hold.side (done words change) change)
+change-makes config hold words change few = by (can_make config hold.cells hold.side change) refl
   where
-    by : (b : Bool) → can_make granules hold.cells hold.side change ≡ b
+    by : (b : Bool) → can_make config hold.cells hold.side change ≡ b
         → CanMakeAnswer hold (if b then Ok (done words change) else Err reply.Misplaced)
-    by true fits = makes granules hold.cells hold.side hold.place change few fits
+    by true fits = makes config hold.cells hold.side hold.place change few fits
     by false unfit = tt
 
 -- an answer that stands can be made of what is held
-pub answer-makes : (granules : ℕ) (hold : Hold) (rows : Result Accepted Reply) → granules ≤ 4096
-    → CanMakeAnswer hold (made_answer granules hold.cells hold.side rows)
-answer-makes granules hold (Err refusal) few = tt
-answer-makes granules hold (Ok (Done words change)) few = change-makes granules hold words.items change few
-answer-makes granules hold (Ok (Reaches stretch)) few =
-    let top = furthest (seen_state granules hold.cells) stretch in
-    change-makes granules hold (top ∷ []) (reached_change stretch top) few
+pub answer-makes : (config : Config) (hold : Hold) (rows : Result Accepted Reply) → config.granules ≤ 4096
+    → CanMakeAnswer hold (made_answer config hold.cells hold.side rows)
+answer-makes config hold (Err refusal) few = tt
+answer-makes config hold (Ok (Done words change)) few = change-makes config hold words.items change few
+answer-makes config hold (Ok (Reaches stretch)) few =
+    let top = furthest (seen_state config hold.cells) stretch in
+    change-makes config hold (top ∷ []) (reached_change stretch top) few
 
 -- cells that are unshaped are answered as misplaced
-pub decision-unshaped : (granules cpu : ℕ) (command : Command) (hold : Hold) (c : Call) (given : Result Accepted Reply) → c ≡ call_of command
-    → given ≡ settled_answer granules cpu c hold.cells hold.side hold.place → is_unshaped granules (call_of command) hold.place hold.cells ≡ true
+pub decision-unshaped : (config : Config) (cpu : ℕ) (command : Command) (hold : Hold) (c : Call) (given : Result Accepted Reply) → c ≡ call_of command
+    → given ≡ settled_answer config cpu c hold.cells hold.side hold.place → is_unshaped config (call_of command) hold.place hold.cells ≡ true
     → given ≡ Err reply.Misplaced
 unfolding settled_answer
-decision-unshaped granules cpu command hold c given is decided_so unshaped =
-    decided_so ∙ (ap (λ (x : Call). settled_answer granules cpu x hold.cells hold.side hold.place) is ∙ rw unshaped refl)
+decision-unshaped config cpu command hold c given is decided_so unshaped =
+    decided_so ∙ (ap (λ (x : Call). settled_answer config cpu x hold.cells hold.side hold.place) is ∙ rw unshaped refl)
 
-pub settled-ready : (granules : ℕ) (command : Command) (place : CpuPlace) (held : List HeldCell)
-    → is_settled granules (call_of command) place held ≡ true → IsReady granules command place held
-settled-ready granules command place held settled = record {
+pub settled-ready : (config : Config) (command : Command) (place : CpuPlace) (held : List HeldCell)
+    → is_settled config (call_of command) place held ≡ true → IsReady config command place held
+settled-ready config command place held settled = record {
   allows = λ cpu side.
       let hold : Hold = record { cells = held; side = side; place = place } in
-      allowed granules cpu command hold (settled_answer granules cpu (call_of command) held side place)
-      (settled-answered granules cpu command hold settled).is_local;
+      allowed config cpu command hold (settled_answer config cpu (call_of command) held side place)
+      (settled-answered config cpu command hold settled).is_local;
 }

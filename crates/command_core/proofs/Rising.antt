@@ -5,6 +5,7 @@ use Rattle.std.specs.List.{list_any, list_all}
 use Rattle.std.proofs.lemmas.Bool.{false≢true, and_parts, not-true}
 use Rattle.std.proofs.lemmas.Bool.Decides.{nat_tests}
 use Rattle.std.proofs.lemmas.Option.{none-some, same_Some}
+use Rattle.rmm_spec.specs.HistoryText.{Config}
 use Rattle.rmm_spec.specs.declared.entry.Entry.{Entry}
 use Rattle.rmm_spec.specs.declared.tag.Tag.{Tag}
 use Rattle.rmm_spec.specs.Lookup.{tag_number, is_granule}
@@ -139,14 +140,14 @@ fits_below-parts names next granule cell fits =
 le-true : (a b : ℕ) → nat_le a b ≡ true → a ≤ b
 le-true a b is = grind (arith, nat_tests)
 
-pub upward-rises : (granules : ℕ) (names : List Needed) (held : List HeldCell) (next : ℕ) → IsTrue (are_distinct (granules_held held))
-    → is_upward granules names held next ≡ true → IsRisingTake granules names held next
+pub upward-rises : (config : Config) (names : List Needed) (held : List HeldCell) (next : ℕ) → IsTrue (are_distinct (granules_held held))
+    → is_upward config names held next ≡ true → IsRisingTake config names held next
 unfolding is_upward
-upward-rises granules names held next distinct passes =
+upward-rises config names held next distinct passes =
     let each : ℕ → Bool = λ granule. fits_below names next granule (cell_in granule held) in
-    let first = and_parts (is_granule granules next && is_named names next && nat_le (length held) 5) (list_all each (granules_held held)) passes in
-    let second = and_parts (is_granule granules next && is_named names next) (nat_le (length held) 5) first.0 in
-    let third = and_parts (is_granule granules next) (is_named names next) second.0 in
+    let first = and_parts (is_granule config.granules next && is_named names next && nat_le (length held) 5) (list_all each (granules_held held)) passes in
+    let second = and_parts (is_granule config.granules next && is_named names next) (nat_le (length held) 5) first.0 in
+    let third = and_parts (is_granule config.granules next) (is_named names next) second.0 in
     let at : (h : HeldCell) → Contains held h → FitsBelow names next h.granule h.cell = λ h has.
     fits_below-parts names next h.granule h.cell
     (subst (λ o. fits_below names next h.granule o ≡ true) (found-own held distinct h has) (all_at each held first.1 h has)) in
@@ -221,15 +222,15 @@ stray held above o is h false unnamed part = by (nat_lt 0 (depth h.cell)) refl p
     by true table has = record { is_part = inl (ltb-true 0 (depth h.cell) table) }
     by false none has = aux o is has
 
-pub downward-rises : (granules : ℕ) (names : List Needed) (held : List HeldCell) (above index next : ℕ) → IsTrue (are_distinct (granules_held held))
-    → is_downward granules names held above index next ≡ true → IsRisingTake granules names held next
+pub downward-rises : (config : Config) (names : List Needed) (held : List HeldCell) (above index next : ℕ) → IsTrue (are_distinct (granules_held held))
+    → is_downward config names held above index next ≡ true → IsRisingTake config names held next
 unfolding is_downward
-downward-rises granules names held above index next distinct passes =
+downward-rises config names held above index next distinct passes =
     let each : ℕ → Bool = λ granule. fits_beside names (cell_in above held) granule (cell_in granule held) in
-    let first = and_parts (is_granule granules next && not (is_held next held) && nat_le (length held) 5 && has_part (cell_in above held) index next) (list_all each (granules_held held)) passes in
-    let second = and_parts (is_granule granules next && not (is_held next held) && nat_le (length held) 5) (has_part (cell_in above held) index next) first.0 in
-    let third = and_parts (is_granule granules next && not (is_held next held)) (nat_le (length held) 5) second.0 in
-    let fourth = and_parts (is_granule granules next) (not (is_held next held)) third.0 in
+    let first = and_parts (is_granule config.granules next && not (is_held next held) && nat_le (length held) 5 && has_part (cell_in above held) index next) (list_all each (granules_held held)) passes in
+    let second = and_parts (is_granule config.granules next && not (is_held next held) && nat_le (length held) 5) (has_part (cell_in above held) index next) first.0 in
+    let third = and_parts (is_granule config.granules next && not (is_held next held)) (nat_le (length held) 5) second.0 in
+    let fourth = and_parts (is_granule config.granules next) (not (is_held next held)) third.0 in
     let at : (h : HeldCell) → Contains held h → FitsBeside names (cell_in above held) h.granule h.cell = λ h has.
     fits_beside-parts names (cell_in above held) h.granule h.cell
     (subst (λ o. fits_beside names (cell_in above held) h.granule o ≡ true) (found-own held distinct h has) (all_at each held first.1 h has)) in

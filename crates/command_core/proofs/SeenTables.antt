@@ -7,10 +7,10 @@ use Rattle.std.proofs.lemmas.Bool.{false≢true}
 use Rattle.std.proofs.lemmas.Bool.Decides.{nat_tests}
 use Rattle.std.proofs.lemmas.List.Folds.{fold_stays}
 use Rattle.std.proofs.lemmas.Option.{same_Some, slice_get-get_or}
+use Rattle.rmm_spec.specs.HistoryText.{Config}
 use Rattle.rmm_spec.specs.declared.entry.Entry.{Entry}
 use Rattle.rmm_spec.specs.declared.entry.Entry.TheVariants.{Table, UnassignedNs}
 use Rattle.rmm_spec.specs.State.{State}
-use Rattle.rmm_spec.specs.Lookup.{any_below}
 use Rattle.rmm_spec.specs.Table.{TableRecord, place_number}
 use Rattle.rmm_spec.specs.TableCells.{leaf_of}
 use Rattle.rmm_spec.specs.Walk.{is_table, linked_entry, entry_at, reach, has_link, table_number, has_entry}
@@ -47,10 +47,10 @@ table-below held rd level number e is =
     rw (below, above, is) refl
 
 -- what the state that the cells tell of has at an entry of a held table: at the last level no link counts
-pub entry-told : (granules : ℕ) (held : List HeldCell) (rd level number : ℕ) (e : Entry) → entry_held held rd level number ≡ Some e
-    → entry_at (seen_state granules held) rd level number ≡ (if nat_lt level 3 then e else linked_entry None (leaf_of e))
+pub entry-told : (config : Config) (held : List HeldCell) (rd level number : ℕ) (e : Entry) → entry_held held rd level number ≡ Some e
+    → entry_at (seen_state config held) rd level number ≡ (if nat_lt level 3 then e else linked_entry None (leaf_of e))
 unfolding entry_at seen_state leaf_seen
-entry-told granules held rd level number e is = by (nat_lt level 3)
+entry-told config held rd level number e is = by (nat_lt level 3)
   where
     by : (b : Bool) → linked_entry (if b then table_seen held rd (level + 1) number else None) (option_and_then leaf_of (entry_held held rd level number))
         ≡ (if b then e else linked_entry None (leaf_of e))
@@ -59,9 +59,9 @@ entry-told granules held rd level number e is = by (nat_lt level 3)
     by false = ap (λ (o : Option Entry). linked_entry None (option_and_then leaf_of o)) is
 
 -- so an entry that is no link, or above the last level, is that of the state
-pub entry-seen : (granules : ℕ) (held : List HeldCell) (rd level number : ℕ) (e : Entry) → entry_held held rd level number ≡ Some e
-    → (nat_lt level 3 ≡ false → is_table e ≡ false) → entry_at (seen_state granules held) rd level number ≡ e
-entry-seen granules held rd level number e is above = entry-told granules held rd level number e is ∙ by (nat_lt level 3) refl
+pub entry-seen : (config : Config) (held : List HeldCell) (rd level number : ℕ) (e : Entry) → entry_held held rd level number ≡ Some e
+    → (nat_lt level 3 ≡ false → is_table e ≡ false) → entry_at (seen_state config held) rd level number ≡ e
+entry-seen config held rd level number e is above = entry-told config held rd level number e is ∙ by (nat_lt level 3) refl
   where
     by : (b : Bool) → nat_lt level 3 ≡ b → (if b then e else linked_entry None (leaf_of e)) ≡ e
     by true less = refl
@@ -83,42 +83,42 @@ table_cell (Rtt other) t is = ap Rtt (same_Some other t is)
 table_cell _ t is = absurd cc
 
 -- a table that is held is the whole's
-table-whole : (granules cpu : ℕ) (hold : Hold) (w : Whole granules cpu hold) (g rd level number : ℕ)
+table-whole : (config : Config) (cpu : ℕ) (hold : Hold) (w : Whole config cpu hold) (g rd level number : ℕ)
     → is_table_of rd level number (table_held hold.cells g) ≡ true → HoldsTable (tables_of w.cells) g rd level number
-table-whole granules cpu hold w g rd level number passes = by (cell_in g hold.cells) refl passes
+table-whole config cpu hold w g rd level number passes = by (cell_in g hold.cells) refl passes
   where
     by : (o : Option Cell) → cell_in g hold.cells ≡ o → is_table_of rd level number (option_and_then table_in o) ≡ true
         → HoldsTable (tables_of w.cells) g rd level number
     by None found is = absurd (false≢true is)
     by (Some c) found is =
         HoldsTable-from_test (tables_of w.cells) g rd level number
-        (ap (λ (x : Cell). is_table_of rd level number (table_in x)) (whole_cell granules cpu hold w g c found) ∙ is)
+        (ap (λ (x : Cell). is_table_of rd level number (table_in x)) (whole_cell config cpu hold w g c found) ∙ is)
 
 -- the one that is held of a place is found
-placed-own : (granules cpu : ℕ) (hold : Hold) (w : Whole granules cpu hold) (g rd level number : ℕ) → IsTrue (is_held g hold.cells)
+placed-own : (config : Config) (cpu : ℕ) (hold : Hold) (w : Whole config cpu hold) (g rd level number : ℕ) → IsTrue (is_held g hold.cells)
     → is_table_of rd level number (table_held hold.cells g) ≡ true → table_placed hold.cells rd level number ≡ Some g
 unfolding table_placed
-placed-own granules cpu hold w g rd level number held passes =
+placed-own config cpu hold w g rd level number held passes =
     let p : ℕ → Bool = λ x. is_table_of rd level number (table_held hold.cells x) in
     let found = found-first p (granules_held hold.cells) g (held-contains hold.cells g held) passes in
-    let same = one_granule granules hold.side w.places w.cells w.shaped found.0 g rd level number
-    (table-whole granules cpu hold w found.0 rd level number found.2) (table-whole granules cpu hold w g rd level number passes) in
+    let same = one_granule config hold.side w.places w.cells w.shaped found.0 g rd level number
+    (table-whole config cpu hold w found.0 rd level number found.2) (table-whole config cpu hold w g rd level number passes) in
     found.1 ∙ ap (λ (x : ℕ). Some x) same
 
 -- ---- links of a root
 
 -- the entries of a table that is held are the whole's
-entry-same : (granules cpu : ℕ) (hold : Hold) (w : Whole granules cpu hold) (g number : ℕ) (t : TableRecord) → cell_in g hold.cells ≡ Some (Rtt t)
+entry-same : (config : Config) (cpu : ℕ) (hold : Hold) (w : Whole config cpu hold) (g number : ℕ) (t : TableRecord) → cell_in g hold.cells ≡ Some (Rtt t)
     → number / 512 ≡ place_number t.place
-    → entry_at (state granules cpu hold w) t.place.rd t.place.level number ≡ entry_at (seen_state granules hold.cells) t.place.rd t.place.level number
+    → entry_at (state config cpu hold w) t.place.rd t.place.level number ≡ entry_at (seen_state config hold.cells) t.place.rd t.place.level number
 unfolding entry_held
-entry-same granules cpu hold w g number t found above =
+entry-same config cpu hold w g number t found above =
     let e = get_or t.entries (number % 512) UnassignedNs in
-    entry_at-table granules hold.side w.places w.cells w.shaped g t number e there above here
-    ∙ sym (entry-seen granules hold.cells t.place.rd t.place.level number e held (λ last. leaf e here last))
+    entry_at-table config hold.side w.places w.cells w.shaped g t number e there above here
+    ∙ sym (entry-seen config hold.cells t.place.rd t.place.level number e held (λ last. leaf e here last))
   where
     there : tables_of w.cells g ≡ Some t
-    there = ap table_in (whole_cell granules cpu hold w g (Rtt t) found)
+    there = ap table_in (whole_cell config cpu hold w g (Rtt t) found)
 
     here : slice_get t.entries (number % 512) ≡ Some (get_or t.entries (number % 512) UnassignedNs)
     here =
@@ -136,7 +136,7 @@ entry-same granules cpu hold w g number t found above =
     held : entry_held hold.cells t.place.rd t.place.level number ≡ Some (get_or t.entries (number % 512) UnassignedNs)
     held =
         ap (option_and_then (λ (x : ℕ). entry_in (number % 512) (table_held hold.cells x)))
-        (placed-own granules cpu hold w g t.place.rd t.place.level (number / 512) (ap (λ (o : Option Cell). is_some o) found) passes)
+        (placed-own config cpu hold w g t.place.rd t.place.level (number / 512) (ap (λ (o : Option Cell). is_some o) found) passes)
         ∙ (ap (entry_in (number % 512)) table ∙ here)
 
     -- below level 3 are no tables
@@ -149,14 +149,14 @@ entry-same granules cpu hold w g number t found above =
     leaf _ is last = refl
 
 -- whether a root that is held links to a table
-pub links-same : (granules cpu : ℕ) (hold : Hold) (w : Whole granules cpu hold) (g : ℕ) (t : TableRecord) → cell_in g hold.cells ≡ Some (Rtt t)
+pub links-same : (config : Config) (cpu : ℕ) (hold : Hold) (w : Whole config cpu hold) (g : ℕ) (t : TableRecord) → cell_in g hold.cells ≡ Some (Rtt t)
     → place_number t.place ≡ 0
-    → has_link (state granules cpu hold w) t.place.rd t.place.level 0 ≡ has_link (seen_state granules hold.cells) t.place.rd t.place.level 0
+    → has_link (state config cpu hold w) t.place.rd t.place.level 0 ≡ has_link (seen_state config hold.cells) t.place.rd t.place.level 0
 unfolding has_entry
-links-same granules cpu hold w g t found root =
-    any_below-same 512 (λ k. is_table (entry_at (state granules cpu hold w) t.place.rd t.place.level (512 * 0 + k)))
-    (λ k. is_table (entry_at (seen_state granules hold.cells) t.place.rd t.place.level (512 * 0 + k)))
-    (λ k within. ap is_table (entry-same granules cpu hold w g (512 * 0 + k) t found (omega (arith, within, root))))
+links-same config cpu hold w g t found root =
+    any_below-same 512 (λ k. is_table (entry_at (state config cpu hold w) t.place.rd t.place.level (512 * 0 + k)))
+    (λ k. is_table (entry_at (seen_state config hold.cells) t.place.rd t.place.level (512 * 0 + k)))
+    (λ k within. ap is_table (entry-same config cpu hold w g (512 * 0 + k) t found (omega (arith, within, root))))
 
 -- ---- walks
 

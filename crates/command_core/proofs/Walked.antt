@@ -2,6 +2,7 @@
 use Rattle.std.proofs.Common.{◌≡◌, ℕ, ◌+◌, ◌≤◌, Bool, true, false, ◌&&◌, ◌||◌, if◌then◌else◌, [], ◌∷◌, Option, Some, None, ◌⊎◌, inl, inr, Result, Ok, Err, refl, sym, ap, ◌∙◌, subst}
 use Rattle.std.specs.Prelude.{is_some, is_none}
 use Rattle.std.proofs.lemmas.Bool.{false≢true, and_parts, or_cases}
+use Rattle.rmm_spec.specs.HistoryText.{Config}
 use Rattle.rmm_spec.specs.declared.accepted.Accepted.{Accepted}
 use Rattle.rmm_spec.specs.declared.accepted.Accepted.TheVariants.{Done, Reaches}
 use Rattle.rmm_spec.specs.declared.accepted.Stretch.{Stretch}
@@ -66,10 +67,10 @@ taken-way c w is = by (list_all (λ allowed. allowed) (words_of c)) is
     by false way = absurd (none-some w way)
 
 -- where the words are allowed and it walks nowhere, it is one that never does
-pub untaken-way : (granules : ℕ) (c : Call) → words_fit granules c ≡ true → way_taken c ≡ None → way_of c ≡ None
+pub untaken-way : (config : Config) (c : Call) → words_fit config c ≡ true → way_taken c ≡ None → way_of c ≡ None
 unfolding way_taken words_fit
-untaken-way granules c fits none =
-    let allowed = (and_parts (list_all (λ allowed. allowed) (words_of c)) (list_all (λ (n : Needed). is_granule granules n.granule) (named c)) fits).0 in
+untaken-way config c fits none =
+    let allowed = (and_parts (list_all (λ allowed. allowed) (words_of c)) (list_all (λ (n : Needed). is_granule config.granules n.granule) (named c)) fits).0 in
     subst (λ b. (if b then way_of c else None) ≡ None) allowed none
 
 -- ---- what is changed
@@ -98,19 +99,19 @@ reached-changed hold stretch top = stretch-changed hold stretch.purpose stretch.
 
 -- ---- where the walk's end is held
 
-ends-answered : (granules cpu : ℕ) (command : Command) (hold : Hold) (a : Result Accepted Reply) → are_told (call_of command) hold.cells ≡ true
-    → is_way_settled granules (call_of command) hold.cells (way_of (call_of command)) ≡ true
-    → answer_of (seen_state granules hold.cells) cpu (call_of command) ≡ a
-    → ((w : Whole granules cpu hold) → outcome (state granules cpu hold w) cpu (call_of command) ≡ a)
-    → IsAnswer granules cpu command hold (made_answer granules hold.cells hold.side a)
-ends-answered granules cpu command hold (Err given) told settled is each = is_answer granules cpu command hold (Err given) tt each
-ends-answered granules cpu command hold (Ok (Done words change)) told settled is each =
-    made-answered granules cpu command hold (Ok (Done words change))
-    (can-holds cpu hold change (accepted-held granules hold.cells cpu (call_of command) (Done words change) told settled is)) each
-ends-answered granules cpu command hold (Ok (Reaches stretch)) told settled is each = by (can_make granules hold.cells hold.side change) refl
+ends-answered : (config : Config) (cpu : ℕ) (command : Command) (hold : Hold) (a : Result Accepted Reply) → are_told (call_of command) hold.cells ≡ true
+    → is_way_settled config (call_of command) hold.cells (way_of (call_of command)) ≡ true
+    → answer_of (seen_state config hold.cells) cpu (call_of command) ≡ a
+    → ((w : Whole config cpu hold) → outcome (state config cpu hold w) cpu (call_of command) ≡ a)
+    → IsAnswer config cpu command hold (made_answer config hold.cells hold.side a)
+ends-answered config cpu command hold (Err given) told settled is each = is_answer config cpu command hold (Err given) tt each
+ends-answered config cpu command hold (Ok (Done words change)) told settled is each =
+    made-answered config cpu command hold (Ok (Done words change))
+    (can-holds cpu hold change (accepted-held config hold.cells cpu (call_of command) (Done words change) told settled is)) each
+ends-answered config cpu command hold (Ok (Reaches stretch)) told settled is each = by (can_make config hold.cells hold.side change) refl
   where
     t : State
-    t = seen_state granules hold.cells
+    t = seen_state config hold.cells
 
     top : ℕ
     top = furthest t stretch
@@ -119,47 +120,47 @@ ends-answered granules cpu command hold (Ok (Reaches stretch)) told settled is e
     change = reached_change stretch top
 
     holds : holds_change hold.cells (reached_change stretch top) ≡ true
-    holds = accepted-held granules hold.cells cpu (call_of command) (Reaches stretch) told settled is top
+    holds = accepted-held config hold.cells cpu (call_of command) (Reaches stretch) told settled is top
 
     reached : IsReached t stretch top
     reached = furthest-reached t stretch (stretch.base + entry_size stretch.level) (first-reached t cpu (call_of command) stretch is)
 
     at : (stretch.level ≤ 3) × (is_some (table_placed hold.cells stretch.rd stretch.level (table_number stretch.level stretch.base)) ≡ true)
-    at = stretch-placed granules cpu (call_of command) hold.cells stretch settled is
+    at = stretch-placed config cpu (call_of command) hold.cells stretch settled is
 
     g : (g : ℕ) × (table_placed hold.cells stretch.rd stretch.level (table_number stretch.level stretch.base) ≡ Some g)
     g = value_there (table_placed hold.cells stretch.rd stretch.level (table_number stretch.level stretch.base)) at.1
 
-    whole : (w : Whole granules cpu hold) → IsReached (state granules cpu hold w) stretch top
-    whole w = reached-told (walk_whole granules cpu hold w) stretch top g.0 at.0 g.1 reached
+    whole : (w : Whole config cpu hold) → IsReached (state config cpu hold w) stretch top
+    whole w = reached-told (walk_whole config cpu hold w) stretch top g.0 at.0 g.1 reached
 
-    furthest_end : IsFurthest granules cpu command hold (ok (top ∷ []))
+    furthest_end : IsFurthest config cpu command hold (ok (top ∷ []))
     furthest_end = record {
       right = λ cells places other end shaped agrees placed leads there.
-          let w : Whole granules cpu hold = record { cells = cells; places = places; shaped = shaped; agrees = agrees; placed = placed } in
+          let w : Whole config cpu hold = record { cells = cells; places = places; shaped = shaped; agrees = agrees; placed = placed } in
           let both : Ok (Reaches other) ≡ Ok (Reaches stretch) = sym leads ∙ each w in
           let same : other ≡ stretch = cc in
-          let seen = reached-seen (walk_whole granules cpu hold w) stretch end g.0 at.0 g.1
-          (subst (λ (x : Stretch). IsReached (flat_state granules cells) x end) same there) in
+          let seen = reached-seen (walk_whole config cpu hold w) stretch end g.0 at.0 g.1
+          (subst (λ (x : Stretch). IsReached (flat_state config cells) x end) same there) in
           (top, refl, reached-furthest t stretch end seen);
     }
 
-    step : LocalStep granules cpu command (ok (top ∷ [])) hold (tables_changed hold change)
-    step = reached-local granules cpu command stretch top hold holds (λ cells places shaped agrees placed.
-        let w : Whole granules cpu hold = record { cells = cells; places = places; shaped = shaped; agrees = agrees; placed = placed } in
+    step : LocalStep config cpu command (ok (top ∷ [])) hold (tables_changed hold change)
+    step = reached-local config cpu command stretch top hold holds (λ cells places shaped agrees placed.
+        let w : Whole config cpu hold = record { cells = cells; places = places; shaped = shaped; agrees = agrees; placed = placed } in
         (each w, whole w))
 
-    by : (b : Bool) → can_make granules hold.cells hold.side change ≡ b
-        → IsAnswer granules cpu command hold (if b then Ok (done (top ∷ []) change) else Err Misplaced)
+    by : (b : Bool) → can_make config hold.cells hold.side change ≡ b
+        → IsAnswer config cpu command hold (if b then Ok (done (top ∷ []) change) else Err Misplaced)
     by true fits = record {
       can = can-holds cpu hold change holds;
-      is_local = subst (λ (new : Hold). LocalStep granules cpu command (ok (top ∷ [])) hold new) (reached-changed hold stretch top) step;
+      is_local = subst (λ (new : Hold). LocalStep config cpu command (ok (top ∷ [])) hold new) (reached-changed hold stretch top) step;
       is_furthest = furthest_end;
     }
-    by false unfit = no_whole granules cpu command hold (λ w.
-        let s = state granules cpu hold w in
-        let can = reached_applies s cpu command stretch top (well_shaped-is_sound granules hold.side w.places w.cells w.shaped) (each w) (whole w) in
-        false≢true (sym unfit ∙ applied-fits granules cpu hold w change can (can-holds cpu hold change holds)))
+    by false unfit = no_whole config cpu command hold (λ w.
+        let s = state config cpu hold w in
+        let can = reached_applies s cpu command stretch top (well_shaped-is_sound config hold.side w.places w.cells w.shaped) (each w) (whole w) in
+        false≢true (sym unfit ∙ applied-fits config cpu hold w change can (can-holds cpu hold change holds)))
 
 -- ---- any walk
 
@@ -175,15 +176,15 @@ unfolding way_of
 owned-walk s (call.RecEnter rec) walks = absurd (false≢true walks)
 owned-walk s _ walks = tt
 
-pub walk-ready : (granules cpu : ℕ) (command : Command) (hold : Hold) (way : Way) → way_of (call_of command) ≡ Some way → hold.place ≡ Outside
-    → is_walk_over granules (call_of command) hold.cells way ≡ true
-    → IsAnswer granules cpu command hold (made_answer granules hold.cells hold.side (told_outside granules cpu hold (call_of command)))
+pub walk-ready : (config : Config) (cpu : ℕ) (command : Command) (hold : Hold) (way : Way) → way_of (call_of command) ≡ Some way → hold.place ≡ Outside
+    → is_walk_over config (call_of command) hold.cells way ≡ true
+    → IsAnswer config cpu command hold (made_answer config hold.cells hold.side (told_outside config cpu hold (call_of command)))
 unfolding is_walk_over
-walk-ready granules cpu command hold way is place over =
-    subst (λ (a : Result Accepted Reply). IsAnswer granules cpu command hold (made_answer granules hold.cells hold.side a))
-    (outside-walk (is_vmid_listed hold.side) (are_recs_counted hold.side) (seen_state granules hold.cells) cpu (call_of command) walks)
-    (by (or_cases (is_refused_early (seen_answer granules c hold.cells))
-    (is_way_settled granules c hold.cells (Some way) && is_none (spare granules (keeps_realm c) hold.cells way)) parts.1))
+walk-ready config cpu command hold way is place over =
+    subst (λ (a : Result Accepted Reply). IsAnswer config cpu command hold (made_answer config hold.cells hold.side a))
+    (outside-walk (is_vmid_listed hold.side) (are_recs_counted hold.side) (seen_state config hold.cells) cpu (call_of command) walks)
+    (by (or_cases (is_refused_early (seen_answer config c hold.cells))
+    (is_way_settled config c hold.cells (Some way) && is_none (spare config (keeps_realm c) hold.cells way)) parts.1))
   where
     c : Call
     c = call_of command
@@ -191,30 +192,30 @@ walk-ready granules cpu command hold way is place over =
     walks : is_some (way_of (call_of command)) ≡ true
     walks = ap (λ (o : Option Way). is_some o) is
 
-    parts : (are_told c hold.cells ≡ true) × ((is_refused_early (seen_answer granules c hold.cells)
-        || (is_way_settled granules c hold.cells (Some way) && is_none (spare granules (keeps_realm c) hold.cells way))) ≡ true)
-    parts = and_parts (are_told c hold.cells) (is_refused_early (seen_answer granules c hold.cells)
-        || (is_way_settled granules c hold.cells (Some way) && is_none (spare granules (keeps_realm c) hold.cells way))) over
+    parts : (are_told c hold.cells ≡ true) × ((is_refused_early (seen_answer config c hold.cells)
+        || (is_way_settled config c hold.cells (Some way) && is_none (spare config (keeps_realm c) hold.cells way))) ≡ true)
+    parts = and_parts (are_told c hold.cells) (is_refused_early (seen_answer config c hold.cells)
+        || (is_way_settled config c hold.cells (Some way) && is_none (spare config (keeps_realm c) hold.cells way))) over
 
     of : IsHosts c
     of = hosts c walks
 
-    whole : (w : Whole granules cpu hold) → outcome (state granules cpu hold w) cpu c ≡ answer_of (state granules cpu hold w) cpu c
-    whole w = outcome-host granules hold.side w.places w.cells w.shaped cpu c of.host (w.placed ∙ place)
+    whole : (w : Whole config cpu hold) → outcome (state config cpu hold w) cpu c ≡ answer_of (state config cpu hold w) cpu c
+    whole w = outcome-host config hold.side w.places w.cells w.shaped cpu c of.host (w.placed ∙ place)
 
-    early : (given : Reply) × (seen_answer granules c hold.cells ≡ Err given) × (is_table_error given ≡ false)
-        → IsAnswer granules cpu command hold (made_answer granules hold.cells hold.side (answer_of (seen_state granules hold.cells) cpu c))
+    early : (given : Reply) × (seen_answer config c hold.cells ≡ Err given) × (is_table_error given ≡ false)
+        → IsAnswer config cpu command hold (made_answer config hold.cells hold.side (answer_of (seen_state config hold.cells) cpu c))
     early e =
-        let told : answer_of (seen_state granules hold.cells) cpu c ≡ Err e.0 = of.alike (seen_state granules hold.cells) cpu ∙ e.1 in
-        subst (λ (a : Result Accepted Reply). IsAnswer granules cpu command hold (made_answer granules hold.cells hold.side a)) (sym told)
-        (is_answer granules cpu command hold (Err e.0) tt (λ w. whole w ∙ early-told (walk_whole granules cpu hold w) cpu c e.0 parts.0 walks told e.2))
+        let told : answer_of (seen_state config hold.cells) cpu c ≡ Err e.0 = of.alike (seen_state config hold.cells) cpu ∙ e.1 in
+        subst (λ (a : Result Accepted Reply). IsAnswer config cpu command hold (made_answer config hold.cells hold.side a)) (sym told)
+        (is_answer config cpu command hold (Err e.0) tt (λ w. whole w ∙ early-told (walk_whole config cpu hold w) cpu c e.0 parts.0 walks told e.2))
 
-    by : (is_refused_early (seen_answer granules c hold.cells) ≡ true)
-        ⊎ ((is_way_settled granules c hold.cells (Some way) && is_none (spare granules (keeps_realm c) hold.cells way)) ≡ true)
-        → IsAnswer granules cpu command hold (made_answer granules hold.cells hold.side (answer_of (seen_state granules hold.cells) cpu c))
-    by (inl refuses) = early (early-error (seen_answer granules c hold.cells) refuses)
+    by : (is_refused_early (seen_answer config c hold.cells) ≡ true)
+        ⊎ ((is_way_settled config c hold.cells (Some way) && is_none (spare config (keeps_realm c) hold.cells way)) ≡ true)
+        → IsAnswer config cpu command hold (made_answer config hold.cells hold.side (answer_of (seen_state config hold.cells) cpu c))
+    by (inl refuses) = early (early-error (seen_answer config c hold.cells) refuses)
     by (inr ends) =
-        let at = (and_parts (is_way_settled granules c hold.cells (Some way)) (is_none (spare granules (keeps_realm c) hold.cells way)) ends).0 in
-        let settled = subst (λ (o : Option Way). is_way_settled granules c hold.cells o ≡ true) (sym is) at in
-        ends-answered granules cpu command hold (answer_of (seen_state granules hold.cells) cpu c) parts.0 settled refl
-        (λ w. whole w ∙ walk-told (walk_whole granules cpu hold w) cpu c parts.0 settled)
+        let at = (and_parts (is_way_settled config c hold.cells (Some way)) (is_none (spare config (keeps_realm c) hold.cells way)) ends).0 in
+        let settled = subst (λ (o : Option Way). is_way_settled config c hold.cells o ≡ true) (sym is) at in
+        ends-answered config cpu command hold (answer_of (seen_state config hold.cells) cpu c) parts.0 settled refl
+        (λ w. whole w ∙ walk-told (walk_whole config cpu hold w) cpu c parts.0 settled)

@@ -4,6 +4,7 @@ use Rattle.std.specs.Prelude.{IsTrue, is_some, nat_le, unwrap_or}
 use Rattle.std.proofs.lemmas.Bool.{false≢true, false_from_ne_true}
 use Rattle.std.proofs.lemmas.Bool.Decides.{nat_tests}
 use Rattle.std.proofs.lemmas.Option.{none-some, same_Some}
+use Rattle.rmm_spec.specs.HistoryText.{Config}
 use Rattle.rmm_spec.specs.State.{State, RealmRecord, RecRecord}
 use Rattle.rmm_spec.specs.Lookup.{tag_number, is_granule, any_below, has_vmid, is_vmid_used, is_owned_by, has_rec, rec_inside, runs_on, no_realm, realm_at, no_rec, rec_at}
 use Rattle.rmm_spec.specs.Cell.{Cell, Undelegated, Rd, Rec, tag_of, realm_in, rec_in, realms_of, recs_of}
@@ -16,29 +17,29 @@ use Rattle.command_core.specs.Sides.{is_vmid_listed, are_recs_counted}
 use Rattle.command_core.proofs.Searches.{greatest_below-one, any_below-counted}
 use Rattle.command_core.proofs.SeenCells.{known-same, known}
 
-pub record Whole (granules cpu : ℕ) (hold : Hold) : Type 0 where
+pub record Whole (config : Config) (cpu : ℕ) (hold : Hold) : Type 0 where
   pub cells : ℕ → Cell
   pub places : ℕ → CpuPlace
-  pub shaped : IsWellShaped granules hold.side places cells
+  pub shaped : IsWellShaped config hold.side places cells
   pub agrees : Agrees cells hold.cells
   pub placed : places cpu ≡ hold.place
 
-abbrev pub state : (granules cpu : ℕ) (hold : Hold) → Whole granules cpu hold → State
-state granules cpu hold w = flat_state granules w.cells
+abbrev pub state : (config : Config) (cpu : ℕ) (hold : Hold) → Whole config cpu hold → State
+state config cpu hold w = flat_state config w.cells
 
 -- ---- cells
 
 -- the whole's cell at a granule that is held
-pub same_at : (granules cpu : ℕ) (hold : Hold) (w : Whole granules cpu hold) (g : ℕ) → IsTrue (is_held g hold.cells) → w.cells g ≡ known_cell hold.cells g
-same_at granules cpu hold w g held = known-same hold.cells w.cells g w.agrees held
+pub same_at : (config : Config) (cpu : ℕ) (hold : Hold) (w : Whole config cpu hold) (g : ℕ) → IsTrue (is_held g hold.cells) → w.cells g ≡ known_cell hold.cells g
+same_at config cpu hold w g held = known-same hold.cells w.cells g w.agrees held
 
-pub whole_cell : (granules cpu : ℕ) (hold : Hold) (w : Whole granules cpu hold) (g : ℕ) (c : Cell) → cell_in g hold.cells ≡ Some c → w.cells g ≡ c
-whole_cell granules cpu hold w g c found = same_at granules cpu hold w g (ap (λ (o : Option Cell). is_some o) found) ∙ known hold.cells g c found
+pub whole_cell : (config : Config) (cpu : ℕ) (hold : Hold) (w : Whole config cpu hold) (g : ℕ) (c : Cell) → cell_in g hold.cells ≡ Some c → w.cells g ≡ c
+whole_cell config cpu hold w g c found = same_at config cpu hold w g (ap (λ (o : Option Cell). is_some o) found) ∙ known hold.cells g c found
 
 -- a granule that holds something is one of the machine's
-pub tagged_granule : (granules cpu : ℕ) (hold : Hold) (w : Whole granules cpu hold) (g : ℕ) → (tag_number (tag_of (w.cells g)) == 0) ≡ false → is_granule granules g ≡ true
-tagged_granule granules cpu hold w g other =
-    cell_is_granule granules hold.side w.places w.cells w.shaped g (λ undelegated. false≢true (sym other ∙ ap (λ (c : Cell). tag_number (tag_of c) == 0) undelegated))
+pub tagged_granule : (config : Config) (cpu : ℕ) (hold : Hold) (w : Whole config cpu hold) (g : ℕ) → (tag_number (tag_of (w.cells g)) == 0) ≡ false → is_granule config.granules g ≡ true
+tagged_granule config cpu hold w g other =
+    cell_is_granule config hold.side w.places w.cells w.shaped g (λ undelegated. false≢true (sym other ∙ ap (λ (c : Cell). tag_number (tag_of c) == 0) undelegated))
 
 pub realm_cell : (c : Cell) → is_some (realm_in c) ≡ true → (realm : RealmRecord) × (c ≡ Rd realm)
 realm_cell (Rd realm) is = (realm, refl)
@@ -48,21 +49,21 @@ pub rec_cell : (c : Cell) (rec : RecRecord) → rec_in c ≡ Some rec → c ≡ 
 rec_cell (Rec other) rec is = ap Rec (same_Some other rec is)
 rec_cell _ rec is = absurd (none-some rec is)
 
-pub realm_at-cell : (granules : ℕ) (cells : ℕ → Cell) (rd : ℕ) (realm : RealmRecord) → cells rd ≡ Rd realm → realm_at (flat_state granules cells) rd ≡ realm
+pub realm_at-cell : (config : Config) (cells : ℕ → Cell) (rd : ℕ) (realm : RealmRecord) → cells rd ≡ Rd realm → realm_at (flat_state config cells) rd ≡ realm
 unfolding realm_at flat_state
-realm_at-cell granules cells rd realm is = ap (λ (c : Cell). unwrap_or (realm_in c) no_realm) is
+realm_at-cell config cells rd realm is = ap (λ (c : Cell). unwrap_or (realm_in c) no_realm) is
 
-pub rec_at-cell : (granules : ℕ) (cells : ℕ → Cell) (rec : ℕ) (it : RecRecord) → cells rec ≡ Rec it → rec_at (flat_state granules cells) rec ≡ it
+pub rec_at-cell : (config : Config) (cells : ℕ → Cell) (rec : ℕ) (it : RecRecord) → cells rec ≡ Rec it → rec_at (flat_state config cells) rec ≡ it
 unfolding rec_at flat_state
-rec_at-cell granules cells rec it is = ap (λ (c : Cell). unwrap_or (rec_in c) no_rec) is
+rec_at-cell config cells rec it is = ap (λ (c : Cell). unwrap_or (rec_in c) no_rec) is
 
 -- ---- the side table
 
-pub has_rec-counted : (granules cpu : ℕ) (hold : Hold) (w : Whole granules cpu hold) (rd : ℕ)
-    → has_rec (state granules cpu hold w) rd ≡ are_recs_counted hold.side rd
+pub has_rec-counted : (config : Config) (cpu : ℕ) (hold : Hold) (w : Whole config cpu hold) (rd : ℕ)
+    → has_rec (state config cpu hold w) rd ≡ are_recs_counted hold.side rd
 unfolding has_rec flat_state
-has_rec-counted granules cpu hold w rd =
-    any_below-counted granules (λ k. is_owned_by rd (recs_of w.cells (k * 4096)))
+has_rec-counted config cpu hold w rd =
+    any_below-counted config.granules (λ k. is_owned_by rd (recs_of w.cells (k * 4096)))
     ∙ ap (λ n. not (n == 0)) (sym (w.shaped.realms.counted rd))
 
 vmid_owner : (vmid : ℕ) (o : Option RealmRecord) → has_vmid vmid o ≡ true → (realm : RealmRecord) × (o ≡ Some realm) × (realm.vmid ≡ vmid)
@@ -72,21 +73,21 @@ vmid_owner vmid (Some realm) has = (realm, refl, eqb-true realm.vmid vmid has)
 undelegated-rd : (c : Cell) → is_some (realm_in c) ≡ true → c ≡ Undelegated → ⊥
 undelegated-rd c is undelegated = false≢true (ap (λ (x : Cell). is_some (realm_in x)) (sym undelegated) ∙ is)
 
-pub is_vmid_used-listed : (granules cpu : ℕ) (hold : Hold) (w : Whole granules cpu hold) (vmid : ℕ)
-    → is_vmid_used (state granules cpu hold w) vmid ≡ is_vmid_listed hold.side vmid
+pub is_vmid_used-listed : (config : Config) (cpu : ℕ) (hold : Hold) (w : Whole config cpu hold) (vmid : ℕ)
+    → is_vmid_used (state config cpu hold w) vmid ≡ is_vmid_listed hold.side vmid
 unfolding is_vmid_used flat_state
-is_vmid_used-listed granules cpu hold w vmid = by (hold.side.vmids vmid) refl
+is_vmid_used-listed config cpu hold w vmid = by (hold.side.vmids vmid) refl
   where
-    by : (o : Option ℕ) → hold.side.vmids vmid ≡ o → any_below granules (λ k. has_vmid vmid (realms_of w.cells (k * 4096))) ≡ is_some o
+    by : (o : Option ℕ) → hold.side.vmids vmid ≡ o → any_below config.granules (λ k. has_vmid vmid (realms_of w.cells (k * 4096))) ≡ is_some o
     by None is =
-        false_from_ne_true (any_below granules (λ k. has_vmid vmid (realms_of w.cells (k * 4096)))) (λ any.
-        let found = passing_below granules (λ k. has_vmid vmid (realms_of w.cells (k * 4096))) any in
+        false_from_ne_true (any_below config.granules (λ k. has_vmid vmid (realms_of w.cells (k * 4096)))) (λ any.
+        let found = passing_below config.granules (λ k. has_vmid vmid (realms_of w.cells (k * 4096))) any in
         let owner = vmid_owner vmid (realms_of w.cells (found.0 * 4096)) found.2 in
         none-some (found.0 * 4096) (sym is ∙ (ap hold.side.vmids (sym owner.2) ∙ w.shaped.realms.listed (found.0 * 4096) owner.0 owner.1)))
     by (Some rd) is =
         let used = w.shaped.realms.used vmid rd is in
-        let at = cell_granule granules hold.side w.places w.cells w.shaped rd (undelegated-rd (w.cells rd) (ap (λ (o : Option RealmRecord). is_some o) used.1)) in
-        any_below-from granules (λ k. has_vmid vmid (realms_of w.cells (k * 4096))) at.0 at.1
+        let at = cell_granule config hold.side w.places w.cells w.shaped rd (undelegated-rd (w.cells rd) (ap (λ (o : Option RealmRecord). is_some o) used.1)) in
+        any_below-from config.granules (λ k. has_vmid vmid (realms_of w.cells (k * 4096))) at.0 at.1
         (ap (has_vmid vmid) (ap (realms_of w.cells) at.2 ∙ used.1) ∙ eq-eqb used.0.vmid vmid used.2)
 
 counted-le : (n : ℕ) (passes : ℕ → Bool) → count_below n passes ≤ n
@@ -98,11 +99,11 @@ counted-le (suc n) passes = by (passes n) (counted-le n passes)
     by false few = omega (arith, few)
 
 -- no realm of a whole has more RECs than there are granules
-pub few_recs : (granules cpu : ℕ) (hold : Hold) → Whole granules cpu hold → (rd : ℕ) → nat_le (hold.side.rec_counts rd) granules ≡ true
-few_recs granules cpu hold w rd =
+pub few_recs : (config : Config) (cpu : ℕ) (hold : Hold) → Whole config cpu hold → (rd : ℕ) → nat_le (hold.side.rec_counts rd) config.granules ≡ true
+few_recs config cpu hold w rd =
     let counted = w.shaped.realms.counted rd in
-    let most = counted-le granules (λ k. is_owned_by rd (recs_of w.cells (k * 4096))) in
-    let few : hold.side.rec_counts rd ≤ granules = omega (arith, counted, most) in
+    let most = counted-le config.granules (λ k. is_owned_by rd (recs_of w.cells (k * 4096))) in
+    let few : hold.side.rec_counts rd ≤ config.granules = omega (arith, counted, most) in
     grind (arith, nat_tests)
 
 -- ---- inside of a REC
@@ -111,13 +112,13 @@ inside_rec : (rec rd other owner : ℕ) → Inside rec rd ≡ Inside other owner
 inside_rec rec rd other owner same = cc
 
 -- the REC that runs on a CPU inside of it
-pub rec_inside-place : (granules cpu : ℕ) (hold : Hold) (w : Whole granules cpu hold) (rec rd : ℕ) → hold.place ≡ Inside rec rd
-    → rec_inside (state granules cpu hold w) cpu ≡ rec
+pub rec_inside-place : (config : Config) (cpu : ℕ) (hold : Hold) (w : Whole config cpu hold) (rec rd : ℕ) → hold.place ≡ Inside rec rd
+    → rec_inside (state config cpu hold w) cpu ≡ rec
 unfolding rec_inside flat_state
-rec_inside-place granules cpu hold w rec rd place =
+rec_inside-place config cpu hold w rec rd place =
     let runs = (w.shaped.recs.inside cpu rec rd).0 (w.placed ∙ place) in
-    let at = rec_granule granules hold.side w.places w.cells w.shaped rec runs.it runs.is_rec in
-    ap (λ k. k * 4096) (greatest_below-one granules (λ k. runs_on cpu (recs_of w.cells (k * 4096))) at.0 at.1
+    let at = rec_granule config hold.side w.places w.cells w.shaped rec runs.it runs.is_rec in
+    ap (λ k. k * 4096) (greatest_below-one config.granules (λ k. runs_on cpu (recs_of w.cells (k * 4096))) at.0 at.1
     (runs_on-running cpu (recs_of w.cells (at.0 * 4096)) runs.it (ap (recs_of w.cells) at.2 ∙ runs.is_rec) runs.is_on)
     (λ j other.
     let it = running cpu (recs_of w.cells (j * 4096)) other in
@@ -134,8 +135,8 @@ pub record InsideCells (cells : ℕ → Cell) (rec rd : ℕ) : Type 0 where
   pub realm : RealmRecord
   pub is_realm : cells rd ≡ Rd realm
 
-pub inside-cells : (granules cpu : ℕ) (hold : Hold) (w : Whole granules cpu hold) (rec rd : ℕ) → hold.place ≡ Inside rec rd → InsideCells w.cells rec rd
-inside-cells granules cpu hold w rec rd place =
+pub inside-cells : (config : Config) (cpu : ℕ) (hold : Hold) (w : Whole config cpu hold) (rec rd : ℕ) → hold.place ≡ Inside rec rd → InsideCells w.cells rec rd
+inside-cells config cpu hold w rec rd place =
     let runs = (w.shaped.recs.inside cpu rec rd).0 (w.placed ∙ place) in
     let owned = ap (λ x. is_some (realm_in (w.cells x))) (sym runs.is_owner) ∙ w.shaped.recs.owned rec runs.it runs.is_rec in
     let realm = realm_cell (w.cells rd) owned in

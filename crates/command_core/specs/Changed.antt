@@ -2,6 +2,7 @@
 -- whole, on the cells that are held. This project's own.
 use Rattle.std.specs.Prelude.{◌≡◌, ℕ, ◌+◌, ◌*◌, ◌/◌, ◌^◌, ◌≤◌, Bool, true, false, ◌&&◌, ◌==◌, nat_lt, nat_le, IsTrue, List, [], ◌∷◌, ◌++◌, length, Option, Some, None, is_some, Result, Ok, Err}
 use Rattle.std.specs.List.{AllByRecursion}
+use Rattle.rmm_spec.specs.HistoryText.{Config}
 use Rattle.rmm_spec.specs.declared.accepted.Accepted.{Accepted}
 use Rattle.rmm_spec.specs.declared.accepted.Accepted.TheVariants.{Done, Reaches}
 use Rattle.rmm_spec.specs.declared.accepted.Stretch.{Stretch}
@@ -26,7 +27,7 @@ use Rattle.rmm_spec.specs.Rows.{ok}
 use Rattle.rmm_spec.specs.Step.{outcome}
 use Rattle.rmm_spec.specs.Step.Ripas.{IsReached}
 use Rattle.rmm_spec.specs.State.{RecRecord}
-use Rattle.rmm_spec.specs.Lookup.{is_granule}
+use Rattle.rmm_spec.specs.Lookup.{is_granule, is_hash}
 use Rattle.rmm_spec.specs.declared.change.EntryChange.{EntryChange}
 use Rattle.rmm_spec.specs.declared.change.EntryChange.TheVariants.{Replaced, RipasSet}
 use Rattle.rmm_spec.specs.declared.change.TagChange.{TagChange}
@@ -178,7 +179,7 @@ fits_entries (RipasSet first last ripas) = nat_lt first last && nat_le last ((fi
 -- the records are what the change updates
 abbrev pub fits_cells : List HeldCell → Change → Bool
 fits_cells held (Retagged change) = is_plain change.tag
-fits_cells held (RealmMade rd root width level vmid algo) = is_space width level && algo == 0
+fits_cells held (RealmMade rd root width level vmid algo) = is_space width level && is_hash algo
 fits_cells held (RecMade rd rec mpidr flags aux0 aux1) = counts_in mpidr (known_cell held rd)
 fits_cells held (RecordsChanged realm rec) = fits_realm_change held realm && fits_rec_change held rec
 fits_cells held (TableMade rd level number rtt entry) =
@@ -194,8 +195,8 @@ abbrev pub can_count : ℕ → Side → Change → Bool
 can_count granules side (RecMade rd rec mpidr flags aux0 aux1) = is_granule granules rd && nat_le (side.rec_counts rd) granules
 can_count granules side _ = true
 
-unfoldable pub can_make : ℕ → List HeldCell → Side → Change → Bool
-can_make granules held side change = fits_cells held change && can_count granules side change
+unfoldable pub can_make : Config → List HeldCell → Side → Change → Bool
+can_make config held side change = fits_cells held change && can_count config.granules side change
 
 -- a machine has 4096 granules at most
 pub record CanMake (hold : Hold) (change : Change) : Type 0 where
@@ -205,20 +206,20 @@ pub record CanMake (hold : Hold) (change : Change) : Type 0 where
 -- ---- decisions
 
 -- the reply, with that change of what is held, is a local step
-abbrev pub Decides : ℕ → ℕ → Command → Hold → Reply → Change → Type 0
-Decides granules cpu command hold given change = LocalStep granules cpu command given hold (hold_changed hold change)
+abbrev pub Decides : Config → ℕ → Command → Hold → Reply → Change → Type 0
+Decides config cpu command hold given change = LocalStep config cpu command given hold (hold_changed hold change)
 
 -- and so is what is answered
-abbrev pub Answers : ℕ → ℕ → Command → Hold → Result Accepted Reply → Type 0
-Answers granules cpu command hold (Err refusal) = Decides granules cpu command hold refusal Unchanged
-Answers granules cpu command hold (Ok (Done words change)) = Decides granules cpu command hold (reply.Ok words) change
-Answers granules cpu command hold (Ok (Reaches stretch)) = ⊥
+abbrev pub Answers : Config → ℕ → Command → Hold → Result Accepted Reply → Type 0
+Answers config cpu command hold (Err refusal) = Decides config cpu command hold refusal Unchanged
+Answers config cpu command hold (Ok (Done words change)) = Decides config cpu command hold (reply.Ok words) change
+Answers config cpu command hold (Ok (Reaches stretch)) = ⊥
 
 -- of a stretch, no end is allowed that is above the one in the reply
-pub record IsFurthest (granules cpu : ℕ) (command : Command) (hold : Hold) (given : Reply) : Type 0 where
+pub record IsFurthest (config : Config) (cpu : ℕ) (command : Command) (hold : Hold) (given : Reply) : Type 0 where
   pub right : (cells : ℕ → Cell) (places : ℕ → CpuPlace) (stretch : Stretch) (top : ℕ)
-      → IsWellShaped granules hold.side places cells → Agrees cells hold.cells → places cpu ≡ hold.place
-      → outcome (flat_state granules cells) cpu (call_of command) ≡ Ok (Reaches stretch) → IsReached (flat_state granules cells) stretch top
+      → IsWellShaped config hold.side places cells → Agrees cells hold.cells → places cpu ≡ hold.place
+      → outcome (flat_state config cells) cpu (call_of command) ≡ Ok (Reaches stretch) → IsReached (flat_state config cells) stretch top
       → (chosen : ℕ) × (given ≡ ok (chosen ∷ [])) × (top ≤ chosen)
 
 abbrev pub given_of : Result Accepted Reply → Reply
@@ -227,10 +228,10 @@ given_of (Ok (Done words change)) = reply.Ok words
 given_of (Ok (Reaches stretch)) = reply.Misplaced
 
 -- what is answered can be made, and is a local step, as far as it may go
-pub record IsAnswer (granules cpu : ℕ) (command : Command) (hold : Hold) (answer : Result Accepted Reply) : Type 0 where
+pub record IsAnswer (config : Config) (cpu : ℕ) (command : Command) (hold : Hold) (answer : Result Accepted Reply) : Type 0 where
   pub can : CanAnswer cpu hold answer
-  pub is_local : Answers granules cpu command hold answer
-  pub is_furthest : IsFurthest granules cpu command hold (given_of answer)
+  pub is_local : Answers config cpu command hold answer
+  pub is_furthest : IsFurthest config cpu command hold (given_of answer)
 
 -- where it is no refusal, its change can be made of the records
 abbrev pub CanMakeAnswer : Hold → Result Accepted Reply → Type 0

@@ -2,6 +2,7 @@
 -- cells tell of, with the side table's word on VMIDs and RECs. Cells that no shape has are answered as misplaced, and so is a
 -- change that can't be made of what is held: no whole agrees with either. This project's own.
 use Rattle.std.specs.Prelude.{ℕ, if◌then◌else◌, List, [], ◌∷◌, Option, Some, Result, Ok, Err}
+use Rattle.rmm_spec.specs.HistoryText.{Config}
 use Rattle.rmm_spec.specs.declared.accepted.Accepted.{Accepted}
 use Rattle.rmm_spec.specs.declared.accepted.Accepted.TheVariants.{Done, Reaches}
 use Rattle.rmm_spec.specs.declared.call.Call.{Call}
@@ -19,24 +20,24 @@ use Rattle.command_core.specs.Furthest.{furthest}
 use Rattle.command_core.specs.Sides.{are_vmids_told, are_recs_told}
 use Rattle.command_core.specs.Unshaped.{is_unshaped}
 
-abbrev pub rows_answer : ℕ → ℕ → Call → List HeldCell → Option Side → CpuPlace → Result Accepted Reply
-rows_answer granules cpu call held side Outside =
-    outside_answer (are_vmids_told side) (are_recs_told side) (seen_state granules held) cpu call
-rows_answer granules cpu call held side (Inside rec rd) = inside_answer (seen_state granules held) rec call
+abbrev pub rows_answer : Config → ℕ → Call → List HeldCell → Option Side → CpuPlace → Result Accepted Reply
+rows_answer config cpu call held side Outside =
+    outside_answer (are_vmids_told side) (are_recs_told side) (seen_state config held) cpu call
+rows_answer config cpu call held side (Inside rec rd) = inside_answer (seen_state config held) rec call
 
 -- the words and their change, where it can be made
-abbrev pub made_change : ℕ → List HeldCell → Side → Accepted → Change → Result Accepted Reply
-made_change granules held side accepted change = if can_make granules held side change then Ok accepted else Err Misplaced
+abbrev pub made_change : Config → List HeldCell → Side → Accepted → Change → Result Accepted Reply
+made_change config held side accepted change = if can_make config held side change then Ok accepted else Err Misplaced
 
 -- A stretch is set as far as its rows allow.
-abbrev pub made_answer : ℕ → List HeldCell → Side → Result Accepted Reply → Result Accepted Reply
-made_answer granules held side (Ok (Done words change)) = made_change granules held side (Done words change) change
-made_answer granules held side (Ok (Reaches stretch)) =
-    let top = furthest (seen_state granules held) stretch in
-    made_change granules held side (done (top ∷ []) (reached_change stretch top)) (reached_change stretch top)
-made_answer granules held side (Err refusal) = Err refusal
+abbrev pub made_answer : Config → List HeldCell → Side → Result Accepted Reply → Result Accepted Reply
+made_answer config held side (Ok (Done words change)) = made_change config held side (Done words change) change
+made_answer config held side (Ok (Reaches stretch)) =
+    let top = furthest (seen_state config held) stretch in
+    made_change config held side (done (top ∷ []) (reached_change stretch top)) (reached_change stretch top)
+made_answer config held side (Err refusal) = Err refusal
 
-unfoldable pub settled_answer : ℕ → ℕ → Call → List HeldCell → Side → CpuPlace → Result Accepted Reply
-settled_answer granules cpu call held side place =
-    if is_unshaped granules call place held then Err Misplaced
-    else made_answer granules held side (rows_answer granules cpu call held (Some side) place)
+unfoldable pub settled_answer : Config → ℕ → Call → List HeldCell → Side → CpuPlace → Result Accepted Reply
+settled_answer config cpu call held side place =
+    if is_unshaped config call place held then Err Misplaced
+    else made_answer config held side (rows_answer config cpu call held (Some side) place)

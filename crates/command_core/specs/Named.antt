@@ -2,6 +2,7 @@
 -- what it holds. This project's own.
 use Rattle.std.specs.Prelude.{ℕ, Bool, true, false, not, ◌&&◌, ◌||◌, ◌==◌, nat_lt, nat_le, if◌then◌else◌, List, Option, Some, None, length, slice_get}
 use Rattle.std.specs.List.{fold, list_any, list_all}
+use Rattle.rmm_spec.specs.HistoryText.{Config}
 use Rattle.rmm_spec.specs.declared.entry.Entry.{Entry}
 use Rattle.rmm_spec.specs.declared.call.Call.{Call}
 use Rattle.rmm_spec.specs.Lookup.{tag_number, is_granule}
@@ -29,8 +30,8 @@ unfoldable pub has_wrong : List Needed → List HeldCell → Bool
 has_wrong names held = list_any (λ granule. is_wrong (cell_in granule held) granule names) (granules_held held)
 
 -- whether the command's words allow it, and each granule that it names is one
-unfoldable pub words_fit : ℕ → Call → Bool
-words_fit granules call = list_all (λ allowed. allowed) (words_of call) && list_all (λ (n : Needed). is_granule granules n.granule) (named call)
+unfoldable pub words_fit : Config → Call → Bool
+words_fit config call = list_all (λ allowed. allowed) (words_of call) && list_all (λ (n : Needed). is_granule config.granules n.granule) (named call)
 
 -- whether all granules that are named are held
 unfoldable pub holds_all : List Needed → List HeldCell → Bool
@@ -43,13 +44,13 @@ is_less granule None = true
 is_less granule (Some best) = nat_lt granule best
 
 -- the lesser of the two, where the named granule is one that may be taken: its tag isn't told yet
-abbrev pub lesser : ℕ → Bool → List HeldCell → Option ℕ → Needed → Option ℕ
-lesser granules keeps held best n =
-    if is_granule granules n.granule && not (is_told keeps held n) && is_less n.granule best then Some n.granule else best
+abbrev pub lesser : Config → Bool → List HeldCell → Option ℕ → Needed → Option ℕ
+lesser config keeps held best n =
+    if is_granule config.granules n.granule && not (is_told keeps held n) && is_less n.granule best then Some n.granule else best
 
 -- the least granule that is named and isn't told
-unfoldable pub least_missing : ℕ → Bool → List Needed → List HeldCell → Option ℕ
-least_missing granules keeps names held = fold (lesser granules keeps held) None names
+unfoldable pub least_missing : Config → Bool → List Needed → List HeldCell → Option ℕ
+least_missing config keeps names held = fold (lesser config keeps held) None names
 
 -- ---- what may be taken
 
@@ -63,9 +64,9 @@ abbrev pub are_below : List Needed → ℕ → List HeldCell → Bool
 are_below names next held = list_all (λ granule. fits_below names next granule (cell_in granule held)) (granules_held held)
 
 -- whether a named granule may be taken: it is above all that are held, and those are named
-unfoldable pub is_upward : ℕ → List Needed → List HeldCell → ℕ → Bool
-is_upward granules names held next =
-    is_granule granules next && is_named names next && nat_le (length held) 5 && are_below names next held
+unfoldable pub is_upward : Config → List Needed → List HeldCell → ℕ → Bool
+is_upward config names held next =
+    is_granule config.granules next && is_named names next && nat_le (length held) 5 && are_below names next held
 
 -- whether an entry leads to the granule
 abbrev pub entry_leads : ℕ → Option Entry → Bool
@@ -99,7 +100,7 @@ abbrev pub are_beside : List Needed → ℕ → List HeldCell → Bool
 are_beside names above held = list_all (λ granule. fits_beside names (cell_in above held) granule (cell_in granule held)) (granules_held held)
 
 -- whether a part of the realm, REC or table above may be taken: no deeper table is held
-unfoldable pub is_downward : ℕ → List Needed → List HeldCell → ℕ → ℕ → ℕ → Bool
-is_downward granules names held above index next =
-    is_granule granules next && not (is_held next held) && nat_le (length held) 5 && has_part (cell_in above held) index next
+unfoldable pub is_downward : Config → List Needed → List HeldCell → ℕ → ℕ → ℕ → Bool
+is_downward config names held above index next =
+    is_granule config.granules next && not (is_held next held) && nat_le (length held) 5 && has_part (cell_in above held) index next
     && are_beside names above held

@@ -2,6 +2,7 @@
 -- rows read is held. Which granules a command names is told by the definitions; parts of them are looked at one after the
 -- other. Cells that no shape has settle it too, as misplaced. This project's own.
 use Rattle.std.specs.Prelude.{ℕ, Bool, true, false, not, ◌&&◌, ◌||◌, List, Option, Some, None, is_some, is_none}
+use Rattle.rmm_spec.specs.HistoryText.{Config}
 use Rattle.rmm_spec.specs.declared.call.Call.{Call}
 use Rattle.rmm_spec.specs.declared.call.Call.TheVariants.{RealmDestroy, RecDestroy, RecEnter}
 use Rattle.rmm_spec.specs.Call.{Class, ByHost, ByRealm, ByExit, class_of}
@@ -44,31 +45,31 @@ is_complete (RecEnter rec) held = is_owner_held (cell_in rec held) held
 is_complete call held = holds_all (named call) held
 
 -- and where it walks one
-abbrev pub is_all_held : ℕ → Call → List HeldCell → Option Way → Bool
-is_all_held granules call held None = is_complete call held
-is_all_held granules call held (Some way) = is_walk_over granules call held way
+abbrev pub is_all_held : Config → Call → List HeldCell → Option Way → Bool
+is_all_held config call held None = is_complete call held
+is_all_held config call held (Some way) = is_walk_over config call held way
 
 -- a host's command is given outside of RECs
-abbrev pub is_settled_outside : Class → ℕ → Call → List HeldCell → Bool
-is_settled_outside ByHost granules call held =
-    not (words_fit granules call) || has_wrong (named call) held || is_unshaped_outside granules call held
-    || is_all_held granules call held (way_taken call)
-is_settled_outside ByRealm granules call held = true
-is_settled_outside ByExit granules call held = true
+abbrev pub is_settled_outside : Class → Config → Call → List HeldCell → Bool
+is_settled_outside ByHost config call held =
+    not (words_fit config call) || has_wrong (named call) held || is_unshaped_outside config call held
+    || is_all_held config call held (way_taken call)
+is_settled_outside ByRealm config call held = true
+is_settled_outside ByExit config call held = true
 
 -- whether the walk of a realm's call has come to its end, and nothing is held that the plan frees
-abbrev pub is_read_over : ℕ → List HeldCell → Option Way → Bool
-is_read_over granules held None = true
-is_read_over granules held (Some way) = is_walk_held granules held way && is_none (spare granules true held way)
+abbrev pub is_read_over : Config → List HeldCell → Option Way → Bool
+is_read_over config held None = true
+is_read_over config held (Some way) = is_walk_held config held way && is_none (spare config true held way)
 
 -- a realm's call reads the REC and its realm, and may walk; an exit reads the REC alone
-abbrev pub is_settled_inside : Class → ℕ → Call → ℕ → ℕ → List HeldCell → Bool
-is_settled_inside ByHost granules call rec rd held = true
-is_settled_inside ByRealm granules call rec rd held =
-    is_misfit granules call rec rd held
-    || (is_held rec held && is_held rd held && is_read_over granules held (way_inside call rec rd held))
-is_settled_inside ByExit granules call rec rd held = is_misfit granules call rec rd held || is_held rec held
+abbrev pub is_settled_inside : Class → Config → Call → ℕ → ℕ → List HeldCell → Bool
+is_settled_inside ByHost config call rec rd held = true
+is_settled_inside ByRealm config call rec rd held =
+    is_misfit config call rec rd held
+    || (is_held rec held && is_held rd held && is_read_over config held (way_inside call rec rd held))
+is_settled_inside ByExit config call rec rd held = is_misfit config call rec rd held || is_held rec held
 
-unfoldable pub is_settled : ℕ → Call → CpuPlace → List HeldCell → Bool
-is_settled granules call Outside held = is_settled_outside (class_of call) granules call held
-is_settled granules call (Inside rec rd) held = is_settled_inside (class_of call) granules call rec rd held
+unfoldable pub is_settled : Config → Call → CpuPlace → List HeldCell → Bool
+is_settled config call Outside held = is_settled_outside (class_of call) config call held
+is_settled config call (Inside rec rd) held = is_settled_inside (class_of call) config call rec rd held

@@ -2,6 +2,7 @@
 -- the part that it takes next. This project's own.
 use Rattle.std.specs.Prelude.{ℕ, ◌-◌, ◌/◌, ◌%◌, Bool, false, not, ◌&&◌, ◌||◌, ◌==◌, nat_lt, if◌then◌else◌, List, Option, Some, None, is_some, is_none}
 use Rattle.std.specs.List.{list_all}
+use Rattle.rmm_spec.specs.HistoryText.{Config}
 use Rattle.rmm_spec.specs.declared.call.Call.{Call}
 use Rattle.rmm_spec.specs.declared.call.Call.TheVariants as call
 use Rattle.rmm_spec.specs.Step.Words.{words_of}
@@ -29,16 +30,16 @@ way_inside call rec rd held = None
 -- ---- how far
 
 -- the level at which the walk that the held cells tell of ends
-abbrev pub end_level : ℕ → List HeldCell → Way → ℕ
-end_level granules held w = reach (seen_state granules held) w.rd w.ipa w.max
+abbrev pub end_level : Config → List HeldCell → Way → ℕ
+end_level config held w = reach (seen_state config held) w.rd w.ipa w.max
 
 -- the granule of the table there, where it is held
-abbrev pub end_table : ℕ → List HeldCell → Way → Option ℕ
-end_table granules held w = table_placed held w.rd (end_level granules held w) (table_number (end_level granules held w) w.ipa)
+abbrev pub end_table : Config → List HeldCell → Way → Option ℕ
+end_table config held w = table_placed held w.rd (end_level config held w) (table_number (end_level config held w) w.ipa)
 
 -- the level of the deepest table of the walk that is held: that of its end, or of the link to it
-unfoldable pub come_to : ℕ → List HeldCell → Way → ℕ
-come_to granules held w = if is_some (end_table granules held w) then end_level granules held w else end_level granules held w - 1
+unfoldable pub come_to : Config → List HeldCell → Way → ℕ
+come_to config held w = if is_some (end_table config held w) then end_level config held w else end_level config held w - 1
 
 -- ---- what is freed
 
@@ -52,19 +53,19 @@ abbrev pub is_realm_spare : Bool → List HeldCell → ℕ → Bool
 is_realm_spare keeps held rd = not keeps && (is_held rd held && is_some (table_behind held rd))
 
 -- what the plan frees before it goes on: the realm, or a table above the one that the walk has come to
-unfoldable pub spare : ℕ → Bool → List HeldCell → Way → Option ℕ
-spare granules keeps held w =
+unfoldable pub spare : Config → Bool → List HeldCell → Way → Option ℕ
+spare config keeps held w =
     if is_realm_spare keeps held w.rd then Some w.rd
-    else first_held (λ granule. is_above w.rd (come_to granules held w) (table_held held granule)) held
+    else first_held (λ granule. is_above w.rd (come_to config held w) (table_held held granule)) held
 
 -- ---- what settles a walk
 
 -- the rows before it refuse, or its end is held, with the part below that the command takes out, and nothing that the plan frees
-unfoldable pub is_walk_over : ℕ → Call → List HeldCell → Way → Bool
-is_walk_over granules c held w =
+unfoldable pub is_walk_over : Config → Call → List HeldCell → Way → Bool
+is_walk_over config c held w =
     are_told c held
-    && (is_refused_early (seen_answer granules c held)
-    || (is_way_settled granules c held (Some w) && is_none (spare granules (keeps_realm c) held w)))
+    && (is_refused_early (seen_answer config c held)
+    || (is_way_settled config c held (Some w) && is_none (spare config (keeps_realm c) held w)))
 
 -- ---- what is taken
 
@@ -85,15 +86,15 @@ root_part rd (Some (Rd realm)) = Some (record { above = rd; index = 0; next = re
 root_part rd _ = None
 
 -- the table at the walk's end, below the link to it, or the root
-unfoldable pub link_part : ℕ → List HeldCell → Way → Option Part
-link_part granules held w =
-    let level = end_level granules held w in
+unfoldable pub link_part : Config → List HeldCell → Way → Option Part
+link_part config held w =
+    let level = end_level config held w in
     let number = table_number level w.ipa in
     if is_none (table_behind held w.rd) then root_part w.rd (cell_in w.rd held)
     else part_at (table_placed held w.rd (level - 1) (number / 512)) number (table_seen held w.rd level number)
 
 -- below the table at its end, where that is held, the part that the command takes out; else that table
-unfoldable pub wanted : ℕ → Call → List HeldCell → Way → Option Part
-wanted granules c held w =
-    if is_none (end_table granules held w) then link_part granules held w
-    else part_at (end_table granules held w) (entry_number (end_level granules held w) w.ipa) (part_below c (end_entry granules held w))
+unfoldable pub wanted : Config → Call → List HeldCell → Way → Option Part
+wanted config c held w =
+    if is_none (end_table config held w) then link_part config held w
+    else part_at (end_table config held w) (entry_number (end_level config held w) w.ipa) (part_below c (end_entry config held w))

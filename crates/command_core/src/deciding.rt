@@ -29,14 +29,14 @@ pub fn decide<H: Held>(
     held: &H,
     side: &Side,
 ) -> (Reply, Change)
-    requires settled { IsTrue (is_settled config.now.granules (call_of command.now) (place_of place.now) (H.cells held.now)) }
-    ensures decides { Decides config.now.granules cpu command.now
+    requires settled { IsTrue (is_settled config.now (call_of command.now) (place_of place.now) (H.cells held.now)) }
+    ensures decides { Decides config.now cpu command.now
         (hold_of (H.cells held.now) (side_of side.now) (place_of place.now)) result.0 result.1 }
-    ensures furthest { IsFurthest config.now.granules cpu command.now
+    ensures furthest { IsFurthest config.now cpu command.now
         (hold_of (H.cells held.now) (side_of side.now) (place_of place.now)) result.0 }
     ensures can { CanChange cpu (hold_of (H.cells held.now) (side_of side.now) (place_of place.now)) result.1 }
     ensures makes { CanMake (hold_of (H.cells held.now) (side_of side.now) (place_of place.now)) result.1 }
-    ensures misplaced { IsTrue (is_unshaped config.now.granules (call_of command.now) (place_of place.now) (H.cells held.now))
+    ensures misplaced { IsTrue (is_unshaped config.now (call_of command.now) (place_of place.now) (H.cells held.now))
         → (result.0 ≡ Reply.Misplaced) × (result.1 ≡ Change.Unchanged) }
 {
     match settled_answer(config, &command.call(), cpu, place, held, side) {
@@ -56,8 +56,8 @@ fn settled_answer<'a, H: Held>(
     held: &'a H,
     side: &'a Side,
 ) -> Result<Accepted, Reply>
-    requires { IsTrue (is_settled config.now.granules call.now (place_of place.now) (H.cells held.now)) }
-    ensures answer { result ≡ spec.settled_answer config.now.granules cpu call.now (H.cells held.now) (side_of side.now) (place_of place.now) }
+    requires { IsTrue (is_settled config.now call.now (place_of place.now) (H.cells held.now)) }
+    ensures answer { result ≡ spec.settled_answer config.now cpu call.now (H.cells held.now) (side_of side.now) (place_of place.now) }
     ensures makes { CanMakeAnswer (hold_of (H.cells held.now) (side_of side.now) (place_of place.now)) result }
 {
     let sight = HeldSight {
@@ -79,9 +79,9 @@ fn rows_answer<H: Held>(
     cpu: u8,
     place: &CpuPlace,
 ) -> Result<Accepted, Reply>
-    requires settled { IsTrue (is_settled sight.now.config.now.granules call.now (place_of place.now) (H.cells sight.now.held.now)) }
-    requires shaped { is_unshaped sight.now.config.now.granules call.now (place_of place.now) (H.cells sight.now.held.now) ≡ false }
-    ensures { result ≡ spec.rows_answer sight.now.config.now.granules cpu call.now (H.cells sight.now.held.now) (option_map side_of (option_copied sight.now.side)) (place_of place.now) }
+    requires settled { IsTrue (is_settled sight.now.config.now call.now (place_of place.now) (H.cells sight.now.held.now)) }
+    requires shaped { is_unshaped sight.now.config.now call.now (place_of place.now) (H.cells sight.now.held.now) ≡ false }
+    ensures { result ≡ spec.rows_answer sight.now.config.now cpu call.now (H.cells sight.now.held.now) (option_map side_of (option_copied sight.now.side)) (place_of place.now) }
 {
     match *place {
         CpuPlace::Outside => answer_outside(sight, cpu, call),
@@ -97,7 +97,7 @@ fn made_answer<H: Held>(
     answer: Result<Accepted, Reply>,
 ) -> Result<Accepted, Reply>
     requires { granules ≡ sight.now.config.now.granules }
-    ensures { result ≡ spec.made_answer sight.now.config.now.granules (H.cells sight.now.held.now) (side_of side.now) answer }
+    ensures { result ≡ spec.made_answer sight.now.config.now (H.cells sight.now.held.now) (side_of side.now) answer }
 {
     let (words, change) = match answer {
         Ok(Accepted::Done { words, change }) => (words, change),

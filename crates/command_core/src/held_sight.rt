@@ -10,7 +10,7 @@ use command_words::is_tag;
 use granule_cells::{Cell, Side};
 use granule_state::{Config, Pa};
 use realm_desc::{Realm, Rec};
-use rmm_spec::{Entry, EntryTest, Tag, Walked};
+use rmm_spec::{Entry, EntryTest, Tag, Version, Walked};
 use table_entries::{entry_number, table_number};
 
 /// Held cells with the side table, on a machine of some size. It stands for the one state that the cells tell of. Who plans what to
@@ -77,11 +77,15 @@ impl<'a, H: Held> Sight for HeldSight<'a, H> {
     ghost use Rattle.std.specs.Prelude.{option_map, option_copied};
     ghost use Rattle.command_core.specs.Sides.{side_of, are_vmids_told, are_recs_told};
 
-    ghost state = { λ s. seen_state s.config.now.granules (H.cells s.held.now) };
+    ghost state = { λ s. seen_state s.config.now (H.cells s.held.now) };
 
     ghost uses_vmid = { λ s. are_vmids_told (option_map side_of (option_copied s.side)) };
 
     ghost has_recs = { λ s. are_recs_told (option_map side_of (option_copied s.side)) };
+
+    fn version(&self) -> Version {
+        self.config.version()
+    }
 
     fn has_tag(&self, address: u64, tag: Tag) -> bool {
         is_granule(self.config, address) && is_tag(self.tag(address), tag)

@@ -290,7 +290,7 @@ impl<'a, H: Held> HeldSight<'a, H> {
     /// The entry of that number at the level.
     #[tactic(auto, unfolding(walk_laws::specs::SeenState::seen_state, rmm_spec::specs::Walk::entry_at))]
     pub(crate) fn entry(&self, rd: u64, level: u8, number: u64) -> Entry
-        ensures { result ≡ walks.entry_at (seen_state self.now.config.now.granules (H.cells self.now.held.now)) rd level number }
+        ensures { result ≡ walks.entry_at (seen_state self.now.config.now (H.cells self.now.held.now)) rd level number }
     {
         linked(self.below(rd, level, number), self.leaf(rd, level, number))
     }
@@ -298,7 +298,7 @@ impl<'a, H: Held> HeldSight<'a, H> {
     /// The deepest level up to `max` at which a table covers the address.
     #[tactic(auto, unfolding(walk_laws::specs::SeenState::seen_state))]
     pub(crate) fn reach(&self, rd: u64, ipa: u64, max: u8) -> u8
-        ensures level { result ≡ walks.reach (seen_state self.now.config.now.granules (H.cells self.now.held.now)) rd ipa max }
+        ensures level { result ≡ walks.reach (seen_state self.now.config.now (H.cells self.now.held.now)) rd ipa max }
         ensures within { result ≤ max }
     {
         if max == 0 {
@@ -343,7 +343,7 @@ impl<'a, H: Held> HeldSight<'a, H> {
     #[tactic(auto, unfolding(rmm_spec::specs::Walk::has_entry))]
     fn finds_each(&self, rd: u64, level: u8, number: u64, test: EntryTest) -> bool
         requires { number < 2 ^ 52 }
-        ensures { result ≡ walks.has_entry (seen_state self.now.config.now.granules (H.cells self.now.held.now)) rd level number test }
+        ensures { result ≡ walks.has_entry (seen_state self.now.config.now (H.cells self.now.held.now)) rd level number test }
     {
         for place in 0..ENTRIES {
             if passes(test, self.entry(rd, level, ENTRIES * number + place)) {
@@ -356,7 +356,7 @@ impl<'a, H: Held> HeldSight<'a, H> {
     /// Whether the table of that number has an entry that is looked for.
     pub(crate) fn finds(&self, rd: u64, level: u8, number: u64, test: EntryTest) -> bool
         requires { number < 2 ^ 52 }
-        ensures { result ≡ walks.has_entry (seen_state self.now.config.now.granules (H.cells self.now.held.now)) rd level number test }
+        ensures { result ≡ walks.has_entry (seen_state self.now.config.now (H.cells self.now.held.now)) rd level number test }
     {
         match self.table_here(rd, level, number) {
             Some(table) => {

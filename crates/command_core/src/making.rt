@@ -190,7 +190,7 @@ fn fits_cells<H: Held>(held: &H, change: &Change) -> bool
             level,
             algo,
             ..
-        } => is_space(u64::from(*width), u64::from(*level)) && *algo == 0,
+        } => is_space(u64::from(*width), u64::from(*level)) && (*algo == 0 || *algo == 1),
         Change::RecMade { rd, mpidr, .. } => counts_in(*mpidr, held.cell(Pa::new(*rd))),
         Change::RecordsChanged { realm, rec } => fits_realm(held, realm) && fits_rec(held, rec),
         Change::TableMade {
@@ -251,7 +251,7 @@ pub(crate) fn can_make<H: Held>(
     change: &Change,
 ) -> bool
     requires { granules ≡ config.now.granules }
-    ensures { result ≡ spec.can_make config.now.granules (H.cells held.now) (side_of side.now) change.now }
+    ensures { result ≡ spec.can_make config.now (H.cells held.now) (side_of side.now) change.now }
 {
     fits_cells(held, change) && can_count(config, granules, side, change)
 }

@@ -72,7 +72,7 @@ impl<'a, H: Held> HeldSight<'a, H> {
     #[tactic(auto, unfolding(rmm_spec::specs::Table::place_number))]
     fn is_misfit_part(&self, table: &Table, index: usize) -> bool
         requires { index < 512 }
-        ensures { result ≡ spec.is_misfit_part self.now.config.now.granules (H.cells self.now.held.now) table.now index (slice_get table.now.entries index) }
+        ensures { result ≡ spec.is_misfit_part self.now.config.now (H.cells self.now.held.now) table.now index (slice_get table.now.entries index) }
     {
         let place = table.place();
         match table.entry(index) {
@@ -96,7 +96,7 @@ impl<'a, H: Held> HeldSight<'a, H> {
 
     // Whether the entry of a held table for the address names such.
     fn is_misfit_table(&self, granule: Pa, ipa: u64) -> bool
-        ensures { result ≡ spec.is_misfit_table self.now.config.now.granules (H.cells self.now.held.now) ipa (table_held (H.cells self.now.held.now) granule) }
+        ensures { result ≡ spec.is_misfit_table self.now.config.now (H.cells self.now.held.now) ipa (table_held (H.cells self.now.held.now) granule) }
     {
         match table_in(self.held, granule) {
             Some(table) => self.is_misfit_part(table, index_of(table.place().level, Ipa::new(ipa))),
@@ -107,7 +107,7 @@ impl<'a, H: Held> HeldSight<'a, H> {
     /// Whether the root of a realm that is held can't be.
     #[tactic(auto, unfolding(realm_desc::specs::View::realm_record))]
     pub(crate) fn is_misfit_root(&self, rd: u64) -> bool
-        ensures { result ≡ spec.is_misfit_root self.now.config.now.granules (H.cells self.now.held.now) rd (cell_in rd (H.cells self.now.held.now)) }
+        ensures { result ≡ spec.is_misfit_root self.now.config.now (H.cells self.now.held.now) rd (cell_in rd (H.cells self.now.held.now)) }
     {
         match self.held.cell(Pa::new(rd)) {
             Some(Cell::Rd(realm)) => {
@@ -127,7 +127,7 @@ impl<'a, H: Held> HeldSight<'a, H> {
 
     // Whether an entry of some held table for the address names such.
     fn has_misfit_table(&self, ipa: u64) -> bool
-        ensures { result ≡ list_any (λ granule. spec.is_misfit_table self.now.config.now.granules (H.cells self.now.held.now) ipa (table_held (H.cells self.now.held.now) granule)) (granules_held (H.cells self.now.held.now)) }
+        ensures { result ≡ list_any (λ granule. spec.is_misfit_table self.now.config.now (H.cells self.now.held.now) ipa (table_held (H.cells self.now.held.now) granule)) (granules_held (H.cells self.now.held.now)) }
     {
         self.held
             .held()
@@ -138,7 +138,7 @@ impl<'a, H: Held> HeldSight<'a, H> {
     /// Whether a walk in the tables of the realm for the address meets such.
     #[tactic(auto, unfolding(walk_laws::specs::Misfits::is_misfit_walk))]
     pub(crate) fn is_misfit_walk(&self, rd: u64, ipa: u64) -> bool
-        ensures { result ≡ spec.is_misfit_walk self.now.config.now.granules (H.cells self.now.held.now) rd ipa }
+        ensures { result ≡ spec.is_misfit_walk self.now.config.now (H.cells self.now.held.now) rd ipa }
     {
         self.is_misfit_root(rd) || self.has_misfit_table(ipa)
     }

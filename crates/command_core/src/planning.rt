@@ -35,7 +35,7 @@ fn taken<H: Held>(next: Pa, may_take: bool, held: &H) -> Next
 }
 
 fn take_named<H: Held>(config: &Config, names: &[Name], held: &H, next: u64) -> Next
-    ensures { result ≡ spec.take_named config.now.granules names.now (H.cells held.now) next }
+    ensures { result ≡ spec.take_named config.now names.now (H.cells held.now) next }
 {
     let may_take = is_upward(config, names, held, next);
     taken(Pa::new(next), may_take, held)
@@ -43,7 +43,7 @@ fn take_named<H: Held>(config: &Config, names: &[Name], held: &H, next: u64) -> 
 
 // The least that is named and missing is taken. Where none is, another stands for it, which can't be taken then.
 fn take_least<H: Held>(sight: &HeldSight<'_, H>, keeps: bool, names: &[Name], other: u64) -> Next
-    ensures { result ≡ spec.take_least sight.now.config.now.granules keeps names.now (H.cells sight.now.held.now) other }
+    ensures { result ≡ spec.take_least sight.now.config.now keeps names.now (H.cells sight.now.held.now) other }
 {
     let next = least_missing(sight, keeps, names).unwrap_or(other);
     take_named(sight.config, names, sight.held, next)
@@ -58,7 +58,7 @@ fn take_part<H: Held>(
     next: Pa,
 ) -> Next
     requires { index < 512 }
-    ensures { result ≡ spec.take_part config.now.granules names.now (H.cells held.now) above index next }
+    ensures { result ≡ spec.take_part config.now names.now (H.cells held.now) above index next }
 {
     let may_take = is_downward(config, names, held, above, index, next);
     taken(next, may_take, held)
@@ -66,8 +66,8 @@ fn take_part<H: Held>(
 
 // The part that a walk wants is taken. Where there is none, the realm stands for it, which can't be taken then.
 fn take_wanted<H: Held>(sight: &HeldSight<'_, H>, call: &Call, way: &Way, names: &[Name]) -> Next
-    ensures { result ≡ spec.take_wanted sight.now.config.now.granules names.now (H.cells sight.now.held.now) way.now.rd
-        (walks.wanted sight.now.config.now.granules call.now (H.cells sight.now.held.now) (way_seen way.now)) }
+    ensures { result ≡ spec.take_wanted sight.now.config.now names.now (H.cells sight.now.held.now) way.now.rd
+        (walks.wanted sight.now.config.now call.now (H.cells sight.now.held.now) (way_seen way.now)) }
 {
     match sight.wanted(call, way) {
         None => taken(Pa::new(way.rd), false, sight.held),
@@ -90,9 +90,9 @@ fn free_or_take<H: Held>(
     names: &[Name],
     keeps: bool,
 ) -> Next
-    ensures { result ≡ spec.free_or_take sight.now.config.now.granules names.now (H.cells sight.now.held.now) way.now.rd
-        (walks.spare sight.now.config.now.granules keeps (H.cells sight.now.held.now) (way_seen way.now))
-        (walks.wanted sight.now.config.now.granules call.now (H.cells sight.now.held.now) (way_seen way.now)) }
+    ensures { result ≡ spec.free_or_take sight.now.config.now names.now (H.cells sight.now.held.now) way.now.rd
+        (walks.spare sight.now.config.now keeps (H.cells sight.now.held.now) (way_seen way.now))
+        (walks.wanted sight.now.config.now call.now (H.cells sight.now.held.now) (way_seen way.now)) }
 {
     match sight.spare(keeps, way) {
         Some(granule) => Next::Free(Pa::new(granule), None),
@@ -103,7 +103,7 @@ fn free_or_take<H: Held>(
 // A realm, and then its root.
 #[tactic(auto, unfolding(realm_desc::specs::View::realm_record))]
 fn take_root<H: Held>(config: &Config, names: &[Name], held: &H, rd: Pa) -> Next
-    ensures { result ≡ spec.take_root config.now.granules names.now (H.cells held.now) rd (cell_in rd (H.cells held.now)) }
+    ensures { result ≡ spec.take_root config.now names.now (H.cells held.now) rd (cell_in rd (H.cells held.now)) }
 {
     match held.cell(rd) {
         Some(Cell::Rd(realm)) => take_part(config, names, held, rd, 0, realm.root),
@@ -125,7 +125,7 @@ fn next_aux<H: Held>(rec: &Rec, held: &H) -> Pa
 
 // A REC, and then its two others.
 fn take_auxes<H: Held>(config: &Config, names: &[Name], held: &H, rec: Pa) -> Next
-    ensures { result ≡ spec.take_auxes config.now.granules names.now (H.cells held.now) rec (cell_in rec (H.cells held.now)) }
+    ensures { result ≡ spec.take_auxes config.now names.now (H.cells held.now) rec (cell_in rec (H.cells held.now)) }
 {
     match held.cell(rec) {
         Some(Cell::Rec(it)) => {
@@ -139,7 +139,7 @@ fn take_auxes<H: Held>(config: &Config, names: &[Name], held: &H, rec: Pa) -> Ne
 // An Enter takes its REC, and frees it as it learns the realm.
 #[tactic(auto, unfolding(rmm_spec::specs::Step::Named::named, realm_desc::specs::View::rec_record))]
 fn learn_realm<H: Held>(config: &Config, held: &H, rec: Pa) -> Next
-    ensures { result ≡ spec.learn_realm config.now.granules (H.cells held.now) rec (cell_in rec (H.cells held.now)) }
+    ensures { result ≡ spec.learn_realm config.now (H.cells held.now) rec (cell_in rec (H.cells held.now)) }
 {
     let names = one(needed(rec.address(), Tag::Rec));
     match held.cell(rec) {
@@ -151,7 +151,7 @@ fn learn_realm<H: Held>(config: &Config, held: &H, rec: Pa) -> Next
 // With a realm learnt it takes the two by address, and begins anew where the REC is another realm's by now.
 #[tactic(auto, unfolding(rmm_spec::specs::Step::Named::named, realm_desc::specs::View::rec_record))]
 fn take_realm<H: Held>(sight: &HeldSight<'_, H>, rec: Pa, rd: Pa) -> Next
-    ensures { result ≡ spec.take_realm sight.now.config.now.granules (H.cells sight.now.held.now) rec rd (cell_in rec (H.cells sight.now.held.now)) }
+    ensures { result ≡ spec.take_realm sight.now.config.now (H.cells sight.now.held.now) rec rd (cell_in rec (H.cells sight.now.held.now)) }
 {
     let names = two(
         needed(rd.address(), Tag::Rd),
@@ -168,7 +168,7 @@ fn take_realm<H: Held>(sight: &HeldSight<'_, H>, rec: Pa, rd: Pa) -> Next
 }
 
 fn next_to_enter<H: Held>(sight: &HeldSight<'_, H>, rec: Pa, learnt: Option<Pa>) -> Next
-    ensures { result ≡ spec.next_to_enter sight.now.config.now.granules rec (cell_in rec (H.cells sight.now.held.now)) (H.cells sight.now.held.now) learnt }
+    ensures { result ≡ spec.next_to_enter sight.now.config.now rec (cell_in rec (H.cells sight.now.held.now)) (H.cells sight.now.held.now) learnt }
 {
     match learnt {
         None => learn_realm(sight.config, sight.held, rec),
@@ -188,7 +188,7 @@ fn first_named(names: &[Name]) -> u64
 // A command that walks no table takes what it names, and then its parts.
 #[tactic(auto, unfolding(crate::specs::Next::next_with_parts))]
 fn next_with_parts<H: Held>(sight: &HeldSight<'_, H>, call: &Call, learnt: Option<Pa>) -> Next
-    ensures { result ≡ spec.next_with_parts sight.now.config.now.granules call.now learnt (H.cells sight.now.held.now) }
+    ensures { result ≡ spec.next_with_parts sight.now.config.now call.now learnt (H.cells sight.now.held.now) }
 {
     let names = named(call);
     let names = names.as_slice();
@@ -202,7 +202,7 @@ fn next_with_parts<H: Held>(sight: &HeldSight<'_, H>, call: &Call, learnt: Optio
 
 // A walk begins once all that is named is told.
 fn next_to_walk<H: Held>(sight: &HeldSight<'_, H>, call: &Call, way: &Way) -> Next
-    ensures { result ≡ spec.next_to_walk sight.now.config.now.granules call.now (H.cells sight.now.held.now) (way_seen way.now) }
+    ensures { result ≡ spec.next_to_walk sight.now.config.now call.now (H.cells sight.now.held.now) (way_seen way.now) }
 {
     let keeps = keeps_realm(call);
     let names = named(call);
@@ -215,7 +215,7 @@ fn next_to_walk<H: Held>(sight: &HeldSight<'_, H>, call: &Call, way: &Way) -> Ne
 }
 
 fn next_outside<H: Held>(sight: &HeldSight<'_, H>, call: &Call, learnt: Option<Pa>) -> Next
-    ensures { result ≡ spec.next_outside sight.now.config.now.granules call.now learnt (H.cells sight.now.held.now) }
+    ensures { result ≡ spec.next_outside sight.now.config.now call.now learnt (H.cells sight.now.held.now) }
 {
     match way_taken(call) {
         None => next_with_parts(sight, call, learnt),
@@ -232,7 +232,7 @@ fn next_to_read<H: Held>(
     names: &[Name],
 ) -> Next
     requires { names.now ≡ spec.place_names rec rd }
-    ensures { result ≡ spec.next_to_read sight.now.config.now.granules call.now rec rd (H.cells sight.now.held.now)
+    ensures { result ≡ spec.next_to_read sight.now.config.now call.now rec rd (H.cells sight.now.held.now)
         (walks.way_inside call.now rec rd (H.cells sight.now.held.now)) }
 {
     match sight.way_inside(call, rec, rd) {
@@ -243,7 +243,7 @@ fn next_to_read<H: Held>(
 
 // An exit takes the REC alone.
 fn next_inside<H: Held>(sight: &HeldSight<'_, H>, call: &Call, rec: Pa, rd: Pa) -> Next
-    ensures { result ≡ spec.next_inside (class_of call.now) sight.now.config.now.granules call.now rec rd (H.cells sight.now.held.now) }
+    ensures { result ≡ spec.next_inside (class_of call.now) sight.now.config.now call.now rec rd (H.cells sight.now.held.now) }
 {
     let names = two(
         needed(rec.address(), Tag::Rec),
@@ -264,7 +264,7 @@ fn next_for<H: Held>(
     place: &CpuPlace,
     learnt: Option<Pa>,
 ) -> Next
-    ensures { result ≡ spec.next sight.now.config.now.granules call.now (place_of place.now) learnt (H.cells sight.now.held.now) }
+    ensures { result ≡ spec.next sight.now.config.now call.now (place_of place.now) learnt (H.cells sight.now.held.now) }
 {
     if is_settled(sight.config, call, place, sight.held) {
         return Next::Ready;
@@ -282,7 +282,7 @@ fn next_held<'a, H: Held>(
     learnt: Option<Pa>,
     held: &'a H,
 ) -> Next
-    ensures { result ≡ spec.next config.now.granules call.now (place_of place.now) learnt (H.cells held.now) }
+    ensures { result ≡ spec.next config.now call.now (place_of place.now) learnt (H.cells held.now) }
 {
     let sight = HeldSight {
         config,
@@ -301,9 +301,9 @@ pub fn next_lock<H: Held>(
     learnt: Option<Pa>,
     held: &H,
 ) -> Next
-    ensures exact { result ≡ spec.next config.now.granules (call_of command.now) (place_of place.now) learnt (H.cells held.now) }
-    ensures settled { is_settled config.now.granules (call_of command.now) (place_of place.now) (H.cells held.now) ≡ is_ready result }
-    ensures planned { IsPlanned config.now.granules command.now (place_of place.now) learnt (H.cells held.now) result }
+    ensures exact { result ≡ spec.next config.now (call_of command.now) (place_of place.now) learnt (H.cells held.now) }
+    ensures settled { is_settled config.now (call_of command.now) (place_of place.now) (H.cells held.now) ≡ is_ready result }
+    ensures planned { IsPlanned config.now command.now (place_of place.now) learnt (H.cells held.now) result }
 {
     next_held(config, &command.call(), place, learnt, held)
 }

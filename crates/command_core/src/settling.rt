@@ -32,7 +32,7 @@ fn are_granules(config: &Config, names: &[Name]) -> bool
 // Whether the words allow it, and each granule that is named is one.
 #[tactic(auto, unfolding(crate::specs::Named::words_fit))]
 fn words_fit(config: &Config, call: &Call) -> bool
-    ensures { result ≡ named.words_fit config.now.granules call.now }
+    ensures { result ≡ named.words_fit config.now call.now }
 {
     let names = named(call);
     words_allow(call) && are_granules(config, names.as_slice())
@@ -95,7 +95,7 @@ fn is_complete<H: Held>(call: &Call, held: &H) -> bool
 
 // Whether all is held that the rows read, and its walk is over where it walks.
 fn is_all_held<H: Held>(sight: &HeldSight<'_, H>, call: &Call) -> bool
-    ensures { result ≡ spec.is_all_held sight.now.config.now.granules call.now (H.cells sight.now.held.now) (way_taken call.now) }
+    ensures { result ≡ spec.is_all_held sight.now.config.now call.now (H.cells sight.now.held.now) (way_taken call.now) }
 {
     match way_taken(call) {
         None => is_complete(call, sight.held),
@@ -106,8 +106,8 @@ fn is_all_held<H: Held>(sight: &HeldSight<'_, H>, call: &Call) -> bool
 // What settles a host's command but its words.
 fn is_met<H: Held>(sight: &HeldSight<'_, H>, call: &Call) -> bool
     ensures { result ≡ (named.has_wrong (step_named.named call.now) (H.cells sight.now.held.now)
-        || is_unshaped_outside sight.now.config.now.granules call.now (H.cells sight.now.held.now)
-        || spec.is_all_held sight.now.config.now.granules call.now (H.cells sight.now.held.now) (way_taken call.now)) }
+        || is_unshaped_outside sight.now.config.now call.now (H.cells sight.now.held.now)
+        || spec.is_all_held sight.now.config.now call.now (H.cells sight.now.held.now) (way_taken call.now)) }
 {
     let names = named(call);
     has_wrong(names.as_slice(), sight.held)
@@ -116,7 +116,7 @@ fn is_met<H: Held>(sight: &HeldSight<'_, H>, call: &Call) -> bool
 }
 
 fn is_settled_outside<H: Held>(sight: &HeldSight<'_, H>, call: &Call) -> bool
-    ensures { result ≡ spec.is_settled_outside (class_of call.now) sight.now.config.now.granules call.now (H.cells sight.now.held.now) }
+    ensures { result ≡ spec.is_settled_outside (class_of call.now) sight.now.config.now call.now (H.cells sight.now.held.now) }
 {
     match caller_of(call) {
         Caller::Host => !words_fit(sight.config, call) || is_met(sight, call),
@@ -126,7 +126,7 @@ fn is_settled_outside<H: Held>(sight: &HeldSight<'_, H>, call: &Call) -> bool
 
 // Whether the walk of a realm's call, if it walks, is over.
 fn is_read_over<H: Held>(sight: &HeldSight<'_, H>, call: &Call, rec: Pa, rd: Pa) -> bool
-    ensures { result ≡ spec.is_read_over sight.now.config.now.granules (H.cells sight.now.held.now) (way_inside call.now rec rd (H.cells sight.now.held.now)) }
+    ensures { result ≡ spec.is_read_over sight.now.config.now (H.cells sight.now.held.now) (way_inside call.now rec rd (H.cells sight.now.held.now)) }
 {
     match sight.way_inside(call, rec, rd) {
         None => true,
@@ -135,7 +135,7 @@ fn is_read_over<H: Held>(sight: &HeldSight<'_, H>, call: &Call, rec: Pa, rd: Pa)
 }
 
 fn is_settled_inside<H: Held>(sight: &HeldSight<'_, H>, call: &Call, rec: Pa, rd: Pa) -> bool
-    ensures { result ≡ spec.is_settled_inside (class_of call.now) sight.now.config.now.granules call.now rec rd (H.cells sight.now.held.now) }
+    ensures { result ≡ spec.is_settled_inside (class_of call.now) sight.now.config.now call.now rec rd (H.cells sight.now.held.now) }
 {
     match caller_of(call) {
         Caller::Host => true,
@@ -157,7 +157,7 @@ pub(crate) fn is_settled<'a, H: Held>(
     place: &CpuPlace,
     held: &'a H,
 ) -> bool
-    ensures { result ≡ spec.is_settled config.now.granules call.now (place_of place.now) (H.cells held.now) }
+    ensures { result ≡ spec.is_settled config.now call.now (place_of place.now) (H.cells held.now) }
 {
     let sight = HeldSight {
         config,

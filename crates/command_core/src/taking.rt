@@ -108,7 +108,7 @@ fn are_below<H: Held>(names: &[Name], next: u64, held: &H) -> bool
 /// Whether a named granule may be taken: it is above all that are held, and those are named.
 #[tactic(auto, unfolding(crate::specs::Named::is_upward))]
 pub(crate) fn is_upward<H: Held>(config: &Config, names: &[Name], held: &H, next: u64) -> bool
-    ensures { result ≡ spec.is_upward config.now.granules names.now (H.cells held.now) next }
+    ensures { result ≡ spec.is_upward config.now names.now (H.cells held.now) next }
 {
     is_granule(config, next)
         && is_named(names, next)
@@ -206,7 +206,7 @@ pub(crate) fn is_downward<H: Held>(
     next: Pa,
 ) -> bool
     requires { index < 512 }
-    ensures { result ≡ spec.is_downward config.now.granules names.now (H.cells held.now) above index next }
+    ensures { result ≡ spec.is_downward config.now names.now (H.cells held.now) above index next }
 {
     is_granule(config, next.address())
         && !is_held(held, next)
@@ -222,7 +222,7 @@ fn lesser<H: Held>(
     best: Option<u64>,
     name: &Name,
 ) -> Option<u64>
-    ensures { result ≡ spec.lesser sight.now.config.now.granules keeps (H.cells sight.now.held.now) best name.now }
+    ensures { result ≡ spec.lesser sight.now.config.now keeps (H.cells sight.now.held.now) best name.now }
 {
     let granule = name.granule;
     if is_granule(sight.config, granule) && !sight.is_told(keeps, name) && is_less(granule, best) {
@@ -248,7 +248,7 @@ pub(crate) fn least_missing<H: Held>(
     keeps: bool,
     names: &[Name],
 ) -> Option<u64>
-    ensures { result ≡ spec.least_missing sight.now.config.now.granules keeps names.now (H.cells sight.now.held.now) }
+    ensures { result ≡ spec.least_missing sight.now.config.now keeps names.now (H.cells sight.now.held.now) }
 {
     names
         .iter()

@@ -34,14 +34,14 @@ impl<'a, H: Held> HeldSight<'a, H> {
 
     // The level at which the walk ends.
     fn end_level(&self, way: &Way) -> u8
-        ensures { result ≡ spec.end_level self.now.config.now.granules (H.cells self.now.held.now) (way_seen way.now) }
+        ensures { result ≡ spec.end_level self.now.config.now (H.cells self.now.held.now) (way_seen way.now) }
     {
         self.reach(way.rd, way.ipa, way.max)
     }
 
     // The granule of the table there, where it is held.
     fn end_table(&self, way: &Way) -> Option<u64>
-        ensures { result ≡ spec.end_table self.now.config.now.granules (H.cells self.now.held.now) (way_seen way.now) }
+        ensures { result ≡ spec.end_table self.now.config.now (H.cells self.now.held.now) (way_seen way.now) }
     {
         let level = self.end_level(way);
         placed(self.held, way.rd, level, table_number(level, way.ipa))
@@ -49,7 +49,7 @@ impl<'a, H: Held> HeldSight<'a, H> {
 
     // The entry at which it ends.
     fn end_entry(&self, way: &Way) -> Entry
-        ensures { result ≡ walking.end_entry self.now.config.now.granules (H.cells self.now.held.now) (way_seen way.now) }
+        ensures { result ≡ walking.end_entry self.now.config.now (H.cells self.now.held.now) (way_seen way.now) }
     {
         let level = self.end_level(way);
         self.entry(way.rd, level, entry_number(level, way.ipa))
@@ -58,7 +58,7 @@ impl<'a, H: Held> HeldSight<'a, H> {
     /// Whether the walk ends at a table that is held: at the last level that is asked for, or at an entry that is no link.
     #[tactic(auto, unfolding(walk_laws::specs::Walking::is_walk_held))]
     pub(crate) fn is_walk_held(&self, way: &Way) -> bool
-        ensures { result ≡ walking.is_walk_held self.now.config.now.granules (H.cells self.now.held.now) (way_seen way.now) }
+        ensures { result ≡ walking.is_walk_held self.now.config.now (H.cells self.now.held.now) (way_seen way.now) }
     {
         self.end_table(way).is_some()
             && (self.end_level(way) == way.max || !is_table(self.end_entry(way)))
@@ -67,7 +67,7 @@ impl<'a, H: Held> HeldSight<'a, H> {
     // The level of the deepest table of the walk that is held.
     #[tactic(auto, unfolding(crate::specs::Walks::come_to))]
     fn come_to(&self, way: &Way) -> u8
-        ensures { result ≡ spec.come_to self.now.config.now.granules (H.cells self.now.held.now) (way_seen way.now) }
+        ensures { result ≡ spec.come_to self.now.config.now (H.cells self.now.held.now) (way_seen way.now) }
     {
         let level = self.end_level(way);
         if self.end_table(way).is_some() {
@@ -79,7 +79,7 @@ impl<'a, H: Held> HeldSight<'a, H> {
 
     // Whether the part below that the command takes out, if it does, is held.
     fn is_part_held(&self, call: &Call, way: &Way) -> bool
-        ensures { result ≡ walking.is_part_held (walking.part_below call.now (walking.end_entry self.now.config.now.granules (H.cells self.now.held.now) (way_seen way.now))) (H.cells self.now.held.now) }
+        ensures { result ≡ walking.is_part_held (walking.part_below call.now (walking.end_entry self.now.config.now (H.cells self.now.held.now) (way_seen way.now))) (H.cells self.now.held.now) }
     {
         match part_below(call, self.end_entry(way)) {
             Some(part) => self.held.cell(Pa::new(part)).is_some(),
@@ -90,7 +90,7 @@ impl<'a, H: Held> HeldSight<'a, H> {
     // Whether the rows before the walk refuse.
     fn is_refused_early(&self, call: &Call) -> bool
         requires { IsTrue (is_some (walking.way_of call.now)) }
-        ensures { result ≡ walking.is_refused_early (walking.seen_answer self.now.config.now.granules call.now (H.cells self.now.held.now)) }
+        ensures { result ≡ walking.is_refused_early (walking.seen_answer self.now.config.now call.now (H.cells self.now.held.now)) }
     {
         match answer_outside(self, 0, call) {
             Ok(_) => false,
@@ -121,8 +121,8 @@ impl<'a, H: Held> HeldSight<'a, H> {
 
     /// Whether the walk has come to its end, and nothing is held that the plan frees.
     pub(crate) fn is_at_end(&self, keeps: bool, way: &Way) -> bool
-        ensures { result ≡ (walking.is_walk_held self.now.config.now.granules (H.cells self.now.held.now) (way_seen way.now)
-            && is_none (spec.spare self.now.config.now.granules keeps (H.cells self.now.held.now) (way_seen way.now))) }
+        ensures { result ≡ (walking.is_walk_held self.now.config.now (H.cells self.now.held.now) (way_seen way.now)
+            && is_none (spec.spare self.now.config.now keeps (H.cells self.now.held.now) (way_seen way.now))) }
     {
         self.is_walk_held(way) && self.spare(keeps, way).is_none()
     }
@@ -131,7 +131,7 @@ impl<'a, H: Held> HeldSight<'a, H> {
     #[tactic(auto, unfolding(crate::specs::Walks::is_walk_over))]
     pub(crate) fn is_walk_over(&self, call: &Call, way: &Way) -> bool
         requires { walking.way_of call.now ≡ Some (way_seen way.now) }
-        ensures { result ≡ spec.is_walk_over self.now.config.now.granules call.now (H.cells self.now.held.now) (way_seen way.now) }
+        ensures { result ≡ spec.is_walk_over self.now.config.now call.now (H.cells self.now.held.now) (way_seen way.now) }
     {
         self.are_told(call)
             && (self.is_refused_early(call)
@@ -160,7 +160,7 @@ impl<'a, H: Held> HeldSight<'a, H> {
     /// What the plan frees before it goes on: the realm, or a table above the one that the walk has come to.
     #[tactic(auto, unfolding(crate::specs::Walks::spare))]
     pub(crate) fn spare(&self, keeps: bool, way: &Way) -> Option<u64>
-        ensures { result ≡ spec.spare self.now.config.now.granules keeps (H.cells self.now.held.now) (way_seen way.now) }
+        ensures { result ≡ spec.spare self.now.config.now keeps (H.cells self.now.held.now) (way_seen way.now) }
     {
         if self.is_realm_spare(keeps, way.rd) {
             return Some(way.rd);
@@ -191,7 +191,7 @@ impl<'a, H: Held> HeldSight<'a, H> {
     // The table at the walk's end, below the link to it, or the root.
     #[tactic(auto, unfolding(crate::specs::Walks::link_part))]
     fn link_part(&self, way: &Way) -> Option<Part>
-        ensures part { option_map part_seen result ≡ spec.link_part self.now.config.now.granules (H.cells self.now.held.now) (way_seen way.now) }
+        ensures part { option_map part_seen result ≡ spec.link_part self.now.config.now (H.cells self.now.held.now) (way_seen way.now) }
         ensures within { IfSome result (λ part. part.index < 512) }
     {
         if self.behind(way.rd).is_none() {
@@ -222,7 +222,7 @@ impl<'a, H: Held> HeldSight<'a, H> {
     /// The part that the walk wants: below the table at its end what the command takes out, else that table.
     #[tactic(auto, unfolding(crate::specs::Walks::wanted))]
     pub(crate) fn wanted(&self, call: &Call, way: &Way) -> Option<Part>
-        ensures part { option_map part_seen result ≡ spec.wanted self.now.config.now.granules call.now (H.cells self.now.held.now) (way_seen way.now) }
+        ensures part { option_map part_seen result ≡ spec.wanted self.now.config.now call.now (H.cells self.now.held.now) (way_seen way.now) }
         ensures within { IfSome result (λ part. part.index < 512) }
     {
         let end = self.end_table(way);

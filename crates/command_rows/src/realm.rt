@@ -5,7 +5,8 @@ ghost use Rattle.rmm_spec.specs.Step.Realm as spec;
 
 use crate::reply::done;
 use crate::sight::Sight;
-use realm_desc::{HashAlgorithm, Space};
+use command_words::algorithm_in;
+use realm_desc::Space;
 use rec_steps::{input_error, realm_error};
 use rmm_spec::{Accepted, Change, EntryTest, RealmChange, RealmUpdate, Reply, Tag};
 
@@ -31,15 +32,15 @@ pub(crate) fn realm_create<S: Sight>(
     if vmid > 0xff {
         return Err(input_error());
     }
-    let Some(algorithm) = HashAlgorithm::of(algo) else {
-        return Err(input_error());
-    };
     if !sight.has_tag(rd, Tag::Delegated) {
         return Err(input_error());
     }
     if !sight.has_tag(root, Tag::Delegated) {
         return Err(input_error());
     }
+    let Some(algorithm) = algorithm_in(sight.version(), algo) else {
+        return Err(input_error());
+    };
     let vmid = vmid as u8;
     if sight.is_vmid_used(vmid) {
         return Err(input_error());

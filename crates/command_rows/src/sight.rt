@@ -6,7 +6,7 @@ ghost use Rattle.rmm_spec.specs.State.{State};
 ghost use Rattle.rmm_spec.specs.Walk as tables;
 
 use realm_desc::{Realm, Rec};
-use rmm_spec::{Entry, EntryTest, Tag, Walked};
+use rmm_spec::{Entry, EntryTest, Tag, Version, Walked};
 
 /// Who can look up what the rows of commands read. It stands for one state, of which each look-up is an equation.
 pub trait Sight {
@@ -17,6 +17,10 @@ pub trait Sight {
     ghost uses_vmid: { Self → ℕ → Bool };
 
     ghost has_recs: { Self → ℕ → Bool };
+
+    /// The version of the rules that the machine goes by.
+    fn version(&self) -> Version
+        ensures { result ≡ (state self.now).config.version };
 
     /// Whether the address is that of a granule with the tag.
     fn has_tag(&self, address: u64, tag: Tag) -> bool

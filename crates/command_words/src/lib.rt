@@ -15,5 +15,5 @@ pub use name_list::{Name, Names};
 pub use names::{is_tag, named, needed, one, two};
 pub use rmm_spec::{Call, Tag};
 pub use words::{
-    are_apart, is_algorithm, is_aligned, is_host_page, is_page, is_space, words_allow,
+    algorithm_in, are_apart, is_aligned, is_host_page, is_page, is_space, words_allow,
 };

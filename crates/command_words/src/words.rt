@@ -1,13 +1,15 @@
 //! What a command's words must say by themselves.
 
-ghost use Rattle.std.specs.Prelude.{◌≡◌, ◌≤◌, ◌^◌, ◌&&◌, ◌==◌, not, nat_lt};
+ghost use Rattle.std.specs.Prelude.{◌≡◌, ◌≤◌, ◌^◌, ◌↔◌, ◌&&◌, ◌==◌, not, nat_lt, IfSome, IsSome, IsTrue};
 ghost use Rattle.std.specs.List.{list_all};
+ghost use Rattle.rmm_spec.specs.Lookup.{allows_hash};
 ghost use Rattle.rmm_spec.specs.Step.Words as spec;
 ghost use Rattle.rmm_spec.specs.Walk as walk;
+ghost use Rattle.realm_desc.specs.View.{algorithm_number};
 
 use granule_state::GRANULE_BYTES;
 use realm_desc::{HashAlgorithm, Space};
-use rmm_spec::Call;
+use rmm_spec::{Call, Version};
 use table_entries::entry_size;
 
 /// Where the host's memory ends: its addresses have 48 bits.
@@ -45,13 +47,15 @@ pub fn is_space(width: u64, level: u64) -> bool
     }
 }
 
-/// Whether the word stands for a hash that a realm can be measured with.
-pub fn is_algorithm(algo: u64) -> bool
-    ensures { result ≡ (algo == 0) }
+/// The hash that the word stands for, where the version has it.
+pub fn algorithm_in(version: Version, algo: u64) -> Option<HashAlgorithm>
+    ensures found { IsSome result ↔ IsTrue (allows_hash version algo) }
+    ensures number { IfSome result (λ algorithm. algorithm_number algorithm ≡ algo) }
 {
-    match HashAlgorithm::of(algo) {
-        Some(_) => true,
-        None => false,
+    match (version, algo) {
+        (_, 0) => Some(HashAlgorithm::Sha256),
+        (Version::Two, 1) => Some(HashAlgorithm::Sha512),
+        _ => None,
     }
 }
 
@@ -79,8 +83,8 @@ pub fn words_allow(call: &Call) -> bool
             width,
             level,
             vmid,
-            algo,
-        } => rd != root && is_space(width, level) && vmid <= 0xff && is_algorithm(algo),
+            ..
+        } => rd != root && is_space(width, level) && vmid <= 0xff,
         Call::RecCreate {
             rec,
             flags,

@@ -1,5 +1,6 @@
 -- A reply that the held cells give and the books don't.
 use Rattle.std.proofs.Common.{◌≡◌, ℕ, List, subst}
+use Rattle.rmm_spec.specs.HistoryText.{Config}
 use Rattle.rmm_spec.specs.declared.change.Change.{Change}
 use Rattle.rmm_spec.specs.declared.command.Command.{Command}
 use Rattle.rmm_spec.specs.declared.reply.Reply.{Reply}
@@ -13,17 +14,17 @@ use Rattle.commit_tickets.specs.View.{JournalView, TokenView, hold_with}
 use Rattle.commit_tickets.proofs.Runs.{refused-at_end}
 
 -- what is decided on the cells, and not given at the end of the journal's run, disagrees
-pub refused-disagree : (granules : ℕ) (command : Command) (inside journal : JournalView) (within token : TokenView) (cells : List HeldCell)
-    (given : Reply) (change : Change) (books : State) → inside ≡ journal → within ≡ token → inside.config.granules ≡ granules
-    → Decides inside.config.granules within.cpu command (hold_with inside within cells) given change
+pub refused-disagree : (config : Config) (command : Command) (inside journal : JournalView) (within token : TokenView) (cells : List HeldCell)
+    (given : Reply) (change : Change) (books : State) → inside ≡ journal → within ≡ token → inside.config ≡ config
+    → Decides inside.config within.cpu command (hold_with inside within cells) given change
     → IsRun (opening inside.config) inside.entries books → ((next : State) → Step books within.cpu command given next → ⊥)
-    → Disagree granules token.cpu command (hold_with journal token cells) journal.config journal.entries
-refused-disagree granules command inside journal within token cells given change books is_journal is_token is_size decides run none =
-    let disagree : Disagree granules within.cpu command (hold_with inside within cells) inside.config inside.entries = record {
+    → Disagree config token.cpu command (hold_with journal token cells) journal.entries
+refused-disagree config command inside journal within token cells given change books is_journal is_token is_config decides run none =
+    let disagree : Disagree inside.config within.cpu command (hold_with inside within cells) inside.entries = record {
       given = given;
       new = hold_changed (hold_with inside within cells) change;
-      step = subst (λ size. Decides size within.cpu command (hold_with inside within cells) given change) is_size decides;
+      step = decides;
       refused = refused-at_end (opening inside.config) inside.entries books within.cpu command given run none;
     } in
-    subst (λ (p : JournalView × TokenView). Disagree granules p.1.cpu command (hold_with p.0 p.1 cells) p.0.config p.0.entries)
-    (λ i. (is_journal i, is_token i)) disagree
+    subst (λ (p : Config × JournalView × TokenView). Disagree p.0 p.2.cpu command (hold_with p.1 p.2 cells) p.1.entries)
+    (λ i. (is_config i, is_journal i, is_token i)) disagree

@@ -17,10 +17,10 @@ use Rattle.commit_tickets.specs.declared.fault.CommitFault.TheVariants.{NoMemory
 use Rattle.commit_tickets.specs.View.{JournalView, TokenView, hold_with}
 
 -- some change that what is held decides, and that can be made of it, makes a table
-pub record DecidesTable (granules cpu : ℕ) (command : Command) (hold : Hold) : Type 0 where
+pub record DecidesTable (config : Config) (cpu : ℕ) (command : Command) (hold : Hold) : Type 0 where
   pub given : Reply
   pub change : Change
-  pub decides : Decides granules cpu command hold given change
+  pub decides : Decides config cpu command hold given change
   pub can : CanChange cpu hold change
   pub makes : CanMake hold change
   pub makes_table : IsTrue (cells.makes_table change)
@@ -33,21 +33,21 @@ pub record AcceptsTable (cpu : ℕ) (command : Command) (config : Config) (entri
   pub makes_table : IsTrue (books.makes_table command.function)
 
 -- A table is made: among the cells, or in the machine of the books.
-abbrev pub MakesTable : ℕ → Command → JournalView → TokenView → List HeldCell → Type 0
-MakesTable granules command journal token cells =
-    DecidesTable granules token.cpu command (hold_with journal token cells) ⊎ AcceptsTable token.cpu command journal.config journal.entries
+abbrev pub MakesTable : Config → Command → JournalView → TokenView → List HeldCell → Type 0
+MakesTable config command journal token cells =
+    DecidesTable config token.cpu command (hold_with journal token cells) ⊎ AcceptsTable token.cpu command journal.config journal.entries
 
 -- Some local step on what is held has a reply that the machine doesn't give after the journal's entries.
-pub record Disagree (granules cpu : ℕ) (command : Command) (hold : Hold) (config : Config) (entries : List JournalEntry) : Type 0 where
+pub record Disagree (config : Config) (cpu : ℕ) (command : Command) (hold : Hold) (entries : List JournalEntry) : Type 0 where
   pub given : Reply
   pub new : Hold
-  pub step : LocalStep granules cpu command given hold new
+  pub step : LocalStep config cpu command given hold new
   pub refused : (last next : State) → IsRun (opening config) entries last → Step last cpu command given next → ⊥
 
 -- Memory is refused only where the journal or the token has no room for one commit more, or a table is made. They
 -- disagree only where what is held does with the books, or where the journal has fewer entries than the token was told of.
-abbrev pub HasCause : CommitFault → ℕ → Command → JournalView → TokenView → List HeldCell → Type 0
-HasCause NoMemory granules command journal token cells =
-    (journal.room ≡ 0) ⊎ ((token.room ≡ 0) ⊎ MakesTable granules command journal token cells)
-HasCause Disagrees granules command journal token cells =
-    Disagree granules token.cpu command (hold_with journal token cells) journal.config journal.entries ⊎ (length journal.entries < token.seen)
+abbrev pub HasCause : CommitFault → Config → Command → JournalView → TokenView → List HeldCell → Type 0
+HasCause NoMemory config command journal token cells =
+    (journal.room ≡ 0) ⊎ ((token.room ≡ 0) ⊎ MakesTable config command journal token cells)
+HasCause Disagrees config command journal token cells =
+    Disagree config token.cpu command (hold_with journal token cells) journal.entries ⊎ (length journal.entries < token.seen)

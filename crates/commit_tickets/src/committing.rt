@@ -40,7 +40,7 @@ pub fn commit<S: Site>(
     hold: &mut Hold,
     command: &Command,
 ) -> Result<Done, CommitFault>
-    requires settled { IsTrue (is_settled S.granules (call_of command.now) (place_of token.old.place) (hold_cells hold.old)) }
+    requires settled { IsTrue (is_settled S.config (call_of command.now) (place_of token.old.place) (hold_cells hold.old)) }
     ensures ticket { IfOk result (λ done. done.ticket ≡ length journal.old.entries) }
     ensures journal { IfOk result (λ done. journal.new ≡ record journal.old {
       entries = journal.old.entries ++ entry token.old.cpu command.now done.reply ∷ [];
@@ -56,9 +56,9 @@ pub fn commit<S: Site>(
     }) }
     ensures told { IfOk result (λ done. token.old.seen ≤ done.ticket) }
     ensures short { length journal.old.entries < token.old.seen → result ≡ Err Disagrees }
-    ensures step { IfOk result (λ done. LocalStep S.granules token.old.cpu command.now done.reply
+    ensures step { IfOk result (λ done. LocalStep S.config token.old.cpu command.now done.reply
         (hold_with journal.old token.old (hold_cells hold.old)) (hold_with journal.new token.new (hold_cells hold.new))) }
-    ensures cause { IfErr result (λ fault. HasCause fault S.granules command.now journal.old token.old (hold_cells hold.old)) }
+    ensures cause { IfErr result (λ fault. HasCause fault S.config command.now journal.old token.old (hold_cells hold.old)) }
     ensures kept_journal { OnErr result (journal.new ≡ record journal.old { side = journal.new.side; room = journal.new.room }) }
     ensures kept_side { OnErr result (side_of journal.new.side ≡ side_of journal.old.side) }
     ensures kept_token { IfErr result (λ fault. token.new ≡ record token.old { room = token.new.room; fault = Some fault }) }

@@ -63,14 +63,14 @@ impl<S: Site> Model for Journal<S> {
     ghost view = { λ j. record { config = j.config; entries = map entry_of j.entries.items; side = j.side; room = spare j.entries } };
 
     ghost invariant = { λ j. IsRun (opening j.config) (map entry_of j.entries.items) (state_of j.books)
-        × (j.config.granules ≡ S.granules) × (vec_len j.entries ≡ j.commits.total) };
+        × (j.config ≡ S.config) × (vec_len j.entries ≡ j.commits.total) };
 }
 
 impl<S: Site> Journal<S> {
     /// The machine's size.
     pub fn config(&self) -> Config
         ensures config { result ≡ self.now.config }
-        ensures granules { result.granules ≡ S.granules }
+        ensures site { result ≡ S.config }
     {
         self.config
     }

@@ -25,7 +25,7 @@ impl<S: Site> Journal<S> {
         requires name { blank.name ≡ S.name }
         requires parts { blank.parts ≡ S.parts }
         requires one_each { blank.parts ≡ config.cpus }
-        requires granules { config.granules ≡ S.granules }
+        requires site { config ≡ S.config }
         ensures journal { IfOk result (λ made. IsOpening config made.0) }
         ensures tokens { IfOk result (λ made. made.1.items ≡ first_tokens config.cpus) }
     {

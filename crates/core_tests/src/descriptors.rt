@@ -2,15 +2,19 @@
 
 use granule_state::Pa;
 use realm_desc::{HashAlgorithm, Realm, RealmState, Rec, Space};
+use rmm_spec::Measurement;
 use std::alloc::{AllocError, Global};
 
 fn new_realm(space: Space) -> Realm {
     Realm::new(Pa::new(0x2000), space, 1, HashAlgorithm::Sha256)
 }
 
-// The realm's initial measurement, as `sha256sum` shows a digest.
+// The realm's initial measurement, as `sha256sum` or `sha512sum` shows a digest.
 fn rim(alloc: Global, realm: &Realm) -> Result<String, AllocError> {
-    hex::encode(alloc, realm.rim.as_bytes().as_slice())
+    match realm.rim.measurement() {
+        Measurement::Sha256(bytes) => hex::encode(alloc, bytes.as_slice()),
+        Measurement::Sha512(bytes) => hex::encode(alloc, bytes.as_slice()),
+    }
 }
 
 // Counts a REC of that index with those flags, where it is the next.
@@ -56,6 +60,27 @@ fn rim_of_a_wide_realm(rt: HostRuntime) -> Result<(), AllocError> {
 }
 
 #[test]
+fn rim_by_sha512(rt: HostRuntime) -> Result<(), AllocError> {
+    let mut realm = Realm::new(Pa::new(0x2000), Space::Bits39, 1, HashAlgorithm::Sha512);
+    // 580100c400000000 2700000000000000 0100000000000000 0100000000000000
+    let made = rim(rt.alloc(), &realm)?;
+    // the 64 bytes above, 5a0100c400000000 0000000000000000 0100000000000000
+    assert!(rt; counts(&mut realm, 0, 1));
+    let first = rim(rt.alloc(), &realm)?;
+    assert!(rt;
+        made.as_str()
+            == "fa21dedb536c68f43cf1910e3183d98cd11a79c258fc8d4b44209bd8c784100f\
+                22c5f05af25312caf8efa76c16f18d060ccabb086754d143ecd78b97f585a5af"
+    );
+    assert!(rt;
+        first.as_str()
+            == "c6c57acf524fd481f81418dc373ab64ce494a546e83906faea93770783a186e6\
+                af36b67a234fb99da6748c0415abcfef40d4ce46fabdad63897408c2c262c6f7"
+    );
+    Ok(())
+}
+
+#[test]
 fn words_that_stand_for_nothing(rt: HostRuntime) {
     assert!(rt; matches!(Space::of(0x27, 1), Some(Space::Bits39)));
     assert!(rt; matches!(Space::of(0x30, 0), Some(Space::Bits48)));
@@ -63,7 +88,8 @@ fn words_that_stand_for_nothing(rt: HostRuntime) {
         assert!(rt; Space::of(width, level).is_none(), "at {width:x} {level}");
     }
     assert!(rt; matches!(HashAlgorithm::of(0), Some(HashAlgorithm::Sha256)));
-    assert!(rt; HashAlgorithm::of(1).is_none());
+    assert!(rt; matches!(HashAlgorithm::of(1), Some(HashAlgorithm::Sha512)));
+    assert!(rt; HashAlgorithm::of(2).is_none());
 }
 
 #[test]

@@ -38,30 +38,30 @@ slice_get-owner_rows s owner (suc n) k within = elim (cases_lt k n) [
 
 -- a granule's row has its tag
 pub tag-owner_rows : (s : State) (rows : List OwnerRow) (granule : ℕ) (row : OwnerRow) → AddsOwners s [] rows → granule % 4096 ≡ 0
-    → slice_get rows (granule / 4096) ≡ Some row → IsTrue (is_granule s.granules granule) × (s.tag granule ≡ row.tag)
+    → slice_get rows (granule / 4096) ≡ Some row → IsTrue (is_granule s.config.granules granule) × (s.tag granule ≡ row.tag)
 tag-owner_rows s rows granule row report aligned is_row =
     let place = granule / 4096 in
     let owner = report.0 in
-    let rows_are : rows ≡ owner_rows s owner s.granules = report.2 in
-    let all = length-owner_rows s owner s.granules in
-    let counted : length rows ≡ s.granules = ap (λ (xs : List OwnerRow). length xs) rows_are ∙ all in
-    let within : place < s.granules = omega (arith, slice_get_within rows place row is_row, counted) in
+    let rows_are : rows ≡ owner_rows s owner s.config.granules = report.2 in
+    let all = length-owner_rows s owner s.config.granules in
+    let counted : length rows ≡ s.config.granules = ap (λ (xs : List OwnerRow). length xs) rows_are ∙ all in
+    let within : place < s.config.granules = omega (arith, slice_get_within rows place row is_row, counted) in
     let at : place * 4096 ≡ granule = omega (arith, aligned) in
     let here : Some (owner_row s owner place) ≡ Some row =
-    sym (slice_get-owner_rows s owner s.granules place within) ∙ ap (λ (xs : List OwnerRow). slice_get xs place) (sym rows_are) ∙ is_row in
+    sym (slice_get-owner_rows s owner s.config.granules place within) ∙ ap (λ (xs : List OwnerRow). slice_get xs place) (sym rows_are) ∙ is_row in
     let same : owner_row s owner place ≡ row = same_Some (owner_row s owner place) row here in (
-      subst (λ (g : ℕ). IsTrue (is_granule s.granules g)) at (granule_placed s.granules place within),
+      subst (λ (g : ℕ). IsTrue (is_granule s.config.granules g)) at (granule_placed s.config.granules place within),
       ap s.tag (sym at) ∙ ap (λ (r : OwnerRow). r.tag) same,
     )
 
 -- what has no row is no granule
 pub is_granule-no_row : (s : State) (rows : List OwnerRow) (granule : ℕ) → AddsOwners s [] rows
-    → (granule % 4096 ≡ 0 → slice_get rows (granule / 4096) ≡ None) → is_granule s.granules granule ≡ false
-is_granule-no_row s rows granule report none = false_from_ne_true (is_granule s.granules granule) (λ is_true.
+    → (granule % 4096 ≡ 0 → slice_get rows (granule / 4096) ≡ None) → is_granule s.config.granules granule ≡ false
+is_granule-no_row s rows granule report none = false_from_ne_true (is_granule s.config.granules granule) (λ is_true.
     let place = granule / 4096 in
     let owner = report.0 in
-    let rows_are : rows ≡ owner_rows s owner s.granules = report.2 in
-    let at : place * 4096 ≡ granule = place-granule s.granules granule is_true in
+    let rows_are : rows ≡ owner_rows s owner s.config.granules = report.2 in
+    let at : place * 4096 ≡ granule = place-granule s.config.granules granule is_true in
     let aligned : granule % 4096 ≡ 0 = omega (arith, at) in
-    let here = slice_get-owner_rows s owner s.granules place (place_within s.granules granule is_true) in
+    let here = slice_get-owner_rows s owner s.config.granules place (place_within s.config.granules granule is_true) in
     none-some (owner_row s owner place) (sym (none aligned) ∙ ap (λ (xs : List OwnerRow). slice_get xs place) rows_are ∙ here))

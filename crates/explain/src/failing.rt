@@ -8,7 +8,8 @@ ghost use Rattle.spec_machine.specs.View.{state_of};
 
 use crate::word_fault::word_fault;
 use arrayvec::ArrayVec;
-use command_words::{Name, named};
+use command_rows::Sight;
+use command_words::{Name, algorithm_in, named};
 use granule_state::GRANULE_BYTES;
 use rmi_view::CommandRef;
 use rmm_spec::{Accepted, Call, Command, FunctionId, Reply, Stretch, StretchUse, Tag};
@@ -160,11 +161,11 @@ impl Place<'_> {
 
     // ERROR_INPUT behind the words and tags.
     fn input_row(self, call: &Call) -> Condition
-        ensures fails { (s : State) (given : Given) → IsFailing s given result }
+        ensures fails { IsFailing (state_of self.entry.machine.now) call.now result }
         ensures status { (index : ℕ) → IsStatusOf result 1 index }
     {
         match *call {
-            Call::RealmCreate { vmid, .. } => Condition::VmidUsed { vmid },
+            Call::RealmCreate { vmid, algo, .. } => self.new_realm_row(vmid, algo),
             Call::RecCreate { mpidr, .. } => Condition::NotNextIndex { mpidr },
             Call::RttCreate { rd, ipa, level, .. } | Call::RttRemove { rd, ipa, level, .. } => {
                 self.space_row(rd, ipa, level, level.checked_sub(1))
@@ -182,6 +183,18 @@ impl Place<'_> {
             }
             Call::RttSetRipas { base, top, .. } => Condition::NotRequested { base, top },
             _ => Condition::None,
+        }
+    }
+
+    // The version has no such hash, or a realm has the VMID.
+    fn new_realm_row(self, vmid: u64, algo: u64) -> Condition
+        ensures fails { (given : Given) → IsFailing (state_of self.entry.machine.now) given result }
+        ensures status { (index : ℕ) → IsStatusOf result 1 index }
+    {
+        let version = self.machine.version();
+        match algorithm_in(version, algo) {
+            Some(_) => Condition::VmidUsed { vmid },
+            None => Condition::NoHash { version, algo },
         }
     }
 

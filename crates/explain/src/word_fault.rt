@@ -41,16 +41,14 @@ fn first_fault(call: &Call) -> WordFault
             width,
             level,
             vmid,
-            algo,
+            ..
         } => {
             if rd == root {
                 WordFault::SameGranule
             } else if !is_space(width, level) {
                 WordFault::Space { width, level }
-            } else if vmid > 0xff {
-                WordFault::Vmid(vmid)
             } else {
-                WordFault::Algo(algo)
+                WordFault::Vmid(vmid)
             }
         }
         Call::RecCreate {

@@ -5,4 +5,5 @@ pub mod EndLaws
 pub mod Searches
 pub mod OfferLaws
 pub mod LeftBehind
+pub mod KeptLaws
 pub mod Moving

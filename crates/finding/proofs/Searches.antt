@@ -25,7 +25,11 @@ use Rattle.order_laws.proofs.Settled.{nowhere_settled}
 use Rattle.order_laws.proofs.Short.{length-lines}
 use Rattle.finding.specs.Attempt.{IsAttempt, MayTry}
 use Rattle.finding.specs.Choice.{rank_of, IsNextCall, IsLeast}
-use Rattle.finding.specs.Search.{AreCounts, AreFrames, Continues, IsGiven, IsLonger, IsRefusedHere, IsSearch, StandsAt, lines_of}
+use Rattle.finding.specs.Counts.{AreCounts}
+use Rattle.finding.specs.Kept.{AreNowhere}
+use Rattle.finding.specs.declared.kept.Configuration.{Configuration}
+use Rattle.finding.specs.declared.kept.Kept.{Kept}
+use Rattle.finding.specs.Search.{AreFrames, Continues, IsGiven, IsLonger, IsRefusedHere, IsSearch, StandsAt, lines_of}
 use Rattle.finding.specs.Tried.{Tried, CallLeadsNowhere}
 use Rattle.finding.specs.declared.choice.Choice.{Choice}
 use Rattle.finding.specs.declared.frame.Frame.{Frame}
@@ -158,8 +162,8 @@ module _ (history : History) (is_history : IsHistory history) (old new : Search)
   -- other things are left to try
   pub IsSearch-tried : new.frames.items ≡ old.frames.items → new.counts ≡ old.counts
       → IfSome new.machine (λ machine. Reaches history (lines_of old.frames.items) (state_of machine))
-      → Tried history (lines_of old.frames.items) new.from new.above → IsSearch history new
-  IsSearch-tried frames counts machine tried = record {
+      → Tried history (lines_of old.frames.items) new.from new.above → AreNowhere history new.kept.configurations.items → IsSearch history new
+  IsSearch-tried frames counts machine tried kept = record {
     frames = subst (λ (fs : List Frame). AreFrames history fs) (sym frames) is_search.frames;
     state = is_search.state;
     reached = subst (λ (fs : List Frame). Reaches history (lines_of fs) is_search.state) (sym frames) is_search.reached;
@@ -167,6 +171,7 @@ module _ (history : History) (is_history : IsHistory history) (old new : Search)
     counts = subst (λ (cs : List ℕ). AreCounts cs (lines_of new.frames.items)) (sym counts)
         (subst (λ (fs : List Frame). AreCounts old.counts (lines_of fs)) (sym frames) is_search.counts);
     tried = subst (λ (fs : List Frame). Tried history (lines_of fs) new.from new.above) (sym frames) tried;
+    kept = kept;
   }
 
   -- the order has grown by a line
@@ -175,8 +180,8 @@ module _ (history : History) (is_history : IsHistory history) (old new : Search)
       → (LeadsNowhere history (lines_of old.frames.items ++ frame.line ∷ []) → Tried history (lines_of old.frames.items) frame.from frame.above)
       → new.frames.items ≡ old.frames.items ++ frame ∷ [] → (cpu number : ℕ) → cpu_named frame.line ≡ cpu → number_named frame.line ≡ number → cpu < 8
       → new.counts ≡ set old.counts cpu (number + 1) → new.from ≡ 0 → new.above ≡ None → new.machine ≡ Some machine → state_of machine ≡ next
-      → IsSearch history new
-  IsSearch-grown frame state next machine reached grows is_line resumes frames cpu number of_cpu numbered within counts from above held leads =
+      → new.kept ≡ old.kept → IsSearch history new
+  IsSearch-grown frame state next machine reached grows is_line resumes frames cpu number of_cpu numbered within counts from above held leads kept =
       let lines = lines_of old.frames.items in
       let longer : lines_of new.frames.items ≡ lines ++ frame.line ∷ [] = ap lines_of frames ∙ lines_of-push old.frames.items frame in
       let further = Reaches-push history is_history lines state reached frame.line next grows in
@@ -197,13 +202,14 @@ module _ (history : History) (is_history : IsHistory history) (old new : Search)
             (subst (λ (ls : List Line). AreCounts (set old.counts cpu (number + 1)) ls) (sym longer) are);
         tried = subst (λ (f : ℕ). Tried history (lines_of new.frames.items) f new.above) (sym from)
             (subst (λ (a : Option ℕ). Tried history (lines_of new.frames.items) 0 a) (sym above) (Tried-none history (lines_of new.frames.items)));
+        kept = subst (λ (k : Kept). AreNowhere history k.configurations.items) (sym kept) is_search.kept;
       }
 
   -- the last line was taken back
   pub IsSearch-back : (frame : Frame) → old.frames.items ≡ new.frames.items ++ frame ∷ [] → LeadsNowhere history (lines_of old.frames.items)
       → new.counts ≡ set old.counts (cpu_named frame.line) (number_named frame.line) → new.from ≡ frame.from → new.above ≡ frame.above
-      → new.machine ≡ None → IsSearch history new
-  IsSearch-back frame frames nowhere counts from above none =
+      → new.machine ≡ None → new.kept ≡ old.kept → IsSearch history new
+  IsSearch-back frame frames nowhere counts from above none kept =
       let lines = lines_of new.frames.items in
       let longer : lines_of old.frames.items ≡ lines ++ frame.line ∷ [] = ap lines_of frames ∙ lines_of-push new.frames.items frame in
       let were : AreFrames history (new.frames.items ++ frame ∷ []) = subst (λ (fs : List Frame). AreFrames history fs) frames is_search.frames in
@@ -221,6 +227,7 @@ module _ (history : History) (is_history : IsHistory history) (old new : Search)
         tried = subst (λ (f : ℕ). Tried history lines f new.above) (sym from)
             (subst (λ (a : Option ℕ). Tried history lines frame.from a) (sym above)
             (last.is_frame.resumes (subst (λ (ls : List Line). LeadsNowhere history ls) longer nowhere)));
+        kept = subst (λ (k : Kept). AreNowhere history k.configurations.items) (sym kept) is_search.kept;
       }
 
 -- lines that pass lead to a state by each machine that is behind them
@@ -231,8 +238,8 @@ Reaches-machine history lines state other reached passes =
 
 -- no line
 pub IsSearch-nil : (history : History) (new : Search) → new.frames.items ≡ [] → new.counts ≡ 0 ∷ 0 ∷ 0 ∷ 0 ∷ 0 ∷ 0 ∷ 0 ∷ 0 ∷ [] → new.from ≡ 0
-    → new.above ≡ None → new.machine ≡ None → IsSearch history new
-IsSearch-nil history new frames counts from above none = record {
+    → new.above ≡ None → new.machine ≡ None → new.kept.configurations.items ≡ [] → IsSearch history new
+IsSearch-nil history new frames counts from above none nothing = record {
   frames = subst (λ (fs : List Frame). AreFrames history fs) (sym frames) (λ i frame is. absurd (none-some frame is));
   state = opening history.config;
   reached = subst (λ (fs : List Frame). Reaches history (lines_of fs) (opening history.config)) (sym frames) (Reaches-nil history);
@@ -241,6 +248,7 @@ IsSearch-nil history new frames counts from above none = record {
       (subst (λ (fs : List Frame). AreCounts (0 ∷ 0 ∷ 0 ∷ 0 ∷ 0 ∷ 0 ∷ 0 ∷ 0 ∷ []) (lines_of fs)) (sym frames) AreCounts-nil);
   tried = subst (λ (f : ℕ). Tried history (lines_of new.frames.items) f new.above) (sym from)
       (subst (λ (a : Option ℕ). Tried history (lines_of new.frames.items) 0 a) (sym above) (Tried-none history (lines_of new.frames.items)));
+  kept = subst (λ (ks : List Configuration). AreNowhere history ks) (sym nothing) (λ i configuration is. absurd (none-some configuration is));
 }
 
 -- ---- what the next calls tell
@@ -381,7 +389,7 @@ module _ (history : History) (is_history : IsHistory history) (search : Search) 
   -- a call that is refused here stands in the order
   pub IsSearch-settled : (next : IsNextCall history search.counts 0 choice) (bound : ℕ) → choice.places.called ≤ bound → IsRefusedHere history (state_of machine) choice
       → IsLeast history.events search.counts 0 history.config.cpus bound
-      → (count : ℕ) → IsLonger search.frames.items search.counts (Some machine) count choice
+      → (count : ℕ) → IsLonger search.frames.items search.counts (Some machine) count search.kept choice
       (record { line = Keep choice.cpu choice.number; from = 2 ^ 32 - 1; above = None }) new
       → IsSearch history new
   unfolding Grows-refused
@@ -394,31 +402,32 @@ module _ (history : History) (is_history : IsHistory history) (search : Search) 
       IsSearch-grown history is_history search new is_search (record { line = Keep choice.cpu choice.number; from = 2 ^ 32 - 1; above = None })
       (state_of machine) (state_of machine) machine reached grows at
       (λ nowhere. Tried-all history lines _ _ (nowhere_settled history is_history lines (state_of machine) reached choice.cpu choice.number grows refused.refusal nowhere))
-      longer.frames choice.cpu choice.number refl refl at.0 longer.counts longer.from longer.above longer.machine refl
+      longer.frames choice.cpu choice.number refl refl at.0 longer.counts longer.from longer.above longer.machine refl longer.kept
 
   module _ (next : IsNextCall history search.counts search.from choice) (is_least : IsLeast history.events search.counts search.from history.config.cpus (rank_of choice)) (frame : Frame) (attempt : IsAttempt history (lines_of search.frames.items) choice frame) where
     -- a call that is given its reply stands in the order
     pub IsSearch-given : (later : Machine) → ReturnBehind history.events (lines_of search.frames.items) choice.places.called
         → IsGiven history.events frame.line choice.places.called (state_of machine) (state_of later)
-        → (count : ℕ) → IsLonger search.frames.items search.counts (Some later) count choice frame new → IsSearch history new
+        → (count : ℕ) → IsLonger search.frames.items search.counts (Some later) count search.kept choice frame new → IsSearch history new
     IsSearch-given later soon given count longer =
         let at = of_a_line history is_history choice next.places in
         IsSearch-grown history is_history search new is_search frame (state_of machine) (state_of later) later reached
         (Grows-given history is_history search is_search choice next is_least frame (state_of machine) (state_of later) attempt soon given)
         attempt.is_line (Tried-frame history is_history search is_search choice next is_least frame attempt)
-        longer.frames choice.cpu choice.number attempt.of_cpu attempt.numbered at.0 longer.counts longer.from longer.above longer.machine refl
+        longer.frames choice.cpu choice.number attempt.of_cpu attempt.numbered at.0 longer.counts longer.from longer.above longer.machine refl longer.kept
 
     -- one that is refused it is left behind
     pub IsSearch-refused : (later : Machine) → state_of later ≡ state_of machine → IsRefused history.events (state_of machine) frame.line
         → new.frames.items ≡ search.frames.items → new.counts ≡ search.counts → new.machine ≡ Some later → new.from ≡ frame.from → new.above ≡ frame.above
-        → IsSearch history new
-    IsSearch-refused later kept refused frames counts held from above =
+        → new.kept ≡ search.kept → IsSearch history new
+    IsSearch-refused later kept refused frames counts held from above configurations =
         let tried = Tried-refused history is_history search is_search choice next is_least frame (state_of machine) attempt reached refused in
         IsSearch-tried history is_history search new is_search frames counts
         (subst (λ (m : Option Machine). IfSome m (λ x. Reaches history (lines_of search.frames.items) (state_of x))) (sym held)
         (subst (Reaches history (lines_of search.frames.items)) (sym kept) reached))
         (subst (λ (f : ℕ). Tried history (lines_of search.frames.items) f new.above) (sym from)
         (subst (λ (a : Option ℕ). Tried history (lines_of search.frames.items) frame.from a) (sym above) tried))
+        (subst (λ (k : Kept). AreNowhere history k.configurations.items) (sym configurations) is_search.kept)
 
 -- ---- bounds of a call that may come next
 

@@ -19,7 +19,7 @@ use Rattle.order_laws.proofs.CallOrder.{finished_below, returns_in_order}
 use Rattle.order_laws.proofs.Nowhere.{nowhere_after, nowhere_past, nowhere_unless}
 use Rattle.finding.specs.Attempt.{EndsLeadNowhere}
 use Rattle.finding.specs.Choice.{pending_rank, rank_at, rank_of, IsNextCall, IsLeast}
-use Rattle.finding.specs.Search.{AreCounts}
+use Rattle.finding.specs.Counts.{AreCounts}
 use Rattle.finding.specs.Tried.{Tried, CallLeadsNowhere}
 use Rattle.finding.specs.declared.choice.Choice.{Choice}
 

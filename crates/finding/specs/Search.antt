@@ -12,10 +12,13 @@ use Rattle.rmm_spec.specs.State.{State}
 use Rattle.rmm_spec.specs.Linearization.{IsCalled, IsReturned, IsEntryOf, IsLinearization, cpu_named, number_named}
 use Rattle.spec_machine.specs.View.{state_of}
 use Rattle.spec_machine.specs.declared.machine.Machine.{Machine}
-use Rattle.order_laws.specs.Order.{IsNext, IsRefusal, LeadsNowhere, Reaches, count_of}
+use Rattle.order_laws.specs.Order.{IsNext, IsRefusal, LeadsNowhere, Reaches}
+use Rattle.finding.specs.Counts.{AreCounts}
+use Rattle.finding.specs.Kept.{AreNowhere}
 use Rattle.finding.specs.Tried.{Tried}
 use Rattle.finding.specs.declared.choice.Choice.{Choice}
 use Rattle.finding.specs.declared.frame.Frame.{Frame}
+use Rattle.finding.specs.declared.kept.Kept.{Kept}
 use Rattle.finding.specs.declared.search.Search.{Search}
 use Rattle.finding.specs.declared.search.Progress.{Progress}
 use Rattle.finding.specs.declared.search.Progress.TheVariants as progress
@@ -39,11 +42,6 @@ abbrev pub AreFrames : History → List Frame → Type 0
 AreFrames history frames =
     (i : ℕ) (frame : Frame) → slice_get frames i ≡ Some frame → StandsAt history (lines_of (take i frames)) frame
 
--- how many calls of each CPU the lines name
-pub record AreCounts (counts : List ℕ) (lines : List Line) : Type 0 where
-  pub size : length counts ≡ 8
-  pub each : (cpu : ℕ) → cpu < 8 → slice_index counts cpu ≡ count_of cpu lines
-
 pub record IsSearch (history : History) (search : Search) : Type 0 where
   pub frames : AreFrames history search.frames.items
   pub state : State
@@ -51,9 +49,10 @@ pub record IsSearch (history : History) (search : Search) : Type 0 where
   pub machine : IfSome search.machine (λ machine. Reaches history (lines_of search.frames.items) (state_of machine))
   pub counts : AreCounts search.counts (lines_of search.frames.items)
   pub tried : Tried history (lines_of search.frames.items) search.from search.above
+  pub kept : AreNowhere history search.kept.configurations.items
 
 -- the search has one line more, behind which nothing was tried
-pub record IsLonger (old_frames : List Frame) (old_counts : List ℕ) (held : Option Machine) (count : ℕ) (choice : Choice) (frame : Frame) (new : Search) : Type 0 where
+pub record IsLonger (old_frames : List Frame) (old_counts : List ℕ) (held : Option Machine) (count : ℕ) (known : Kept) (choice : Choice) (frame : Frame) (new : Search) : Type 0 where
   pub frames : new.frames.items ≡ old_frames ++ frame ∷ []
   pub counts : new.counts ≡ slice_set old_counts choice.cpu (choice.number + 1)
   pub from : new.from ≡ 0
@@ -61,6 +60,7 @@ pub record IsLonger (old_frames : List Frame) (old_counts : List ℕ) (held : Op
   pub machine : new.machine ≡ held
   pub fresh : new.fresh ≡ true
   pub offers : new.offers.count ≡ count
+  pub kept : new.kept ≡ known
 
 -- the call has returned with a refusal that the specification gives it in the state
 pub record IsRefusedHere (history : History) (state : State) (choice : Choice) : Type 0 where

@@ -1,6 +1,6 @@
 //! Finds an order of a history's calls that is a linearization, from the history alone, or that there is none.
 //! It promises that the order found is a linearization, and that where none is told no certificate at all is one.
-//! It tries depth first, what returned first before the rest, and calls that haven't returned last, with each reply that the
+//! What was found to lead nowhere is kept, and never tried again. It tries depth first, what returned first before the rest, and calls that haven't returned last, with each reply that the
 //! specification gives them; it gives up only where it has made as many offers as it may.
 //! The program `rmmfind` depends on it.
 #![tactic(auto)]
@@ -10,6 +10,7 @@ mod choice;
 mod ends;
 mod finding;
 mod frame;
+mod kept;
 mod longest;
 mod offers;
 mod refused;

@@ -15,6 +15,7 @@ ghost use Rattle.spec_machine.specs.View.{state_of};
 use crate::attempt::attempt;
 use crate::choice::{Choice, PENDING, next_choice, rank};
 use crate::frame::{Frame, name_of};
+use crate::kept::Kept;
 use crate::offers::Offers;
 use crate::refused::refused_choice;
 use crate::restoring::{certificate_of, machine_at};
@@ -37,6 +38,7 @@ pub(crate) struct Search {
     // no call was tried behind these lines yet
     pub(crate) fresh: bool,
     pub(crate) offers: Offers,
+    pub(crate) kept: Kept,
 }
 
 /// How a search goes on.
@@ -65,6 +67,7 @@ impl Search {
             machine: None,
             fresh: true,
             offers: Offers::none(),
+            kept: Kept::new(alloc),
         }
     }
 
@@ -101,11 +104,10 @@ impl Search {
             return Ok(Progress::Whole);
         }
         if self.fresh {
-            self.settle(alloc, history, bound)?;
-            return Ok(Progress::Going);
+            return self.arrive(alloc, history, bound);
         }
         let Some(choice) = next_choice(history, &self.counts, self.from) else {
-            return Ok(self.take_back(history));
+            return self.leave(alloc, history);
         };
         if bound < choice.places.called {
             self.pass(choice);
@@ -122,6 +124,43 @@ impl Search {
     {
         self.from = rank(&choice) + 1;
         self.above = None;
+    }
+
+    /// Goes on behind lines that were come to just now: it takes the last one back where it is known that they lead nowhere, or
+    /// settles what it can.
+    fn arrive(
+        &mut self,
+        alloc: Global,
+        history: &History,
+        bound: u32,
+    ) -> Result<Progress, AllocError>
+        requires is_search { IsSearch history.now.recorded self.old }
+        requires least { IsLeast history.now.recorded.events self.old.counts 0 history.now.recorded.config.cpus bound }
+        requires fresh { IsTrue self.old.fresh }
+        ensures { IfOk result (λ progress. Continues progress history.now.recorded self.old self.new) }
+    {
+        history.well_formed();
+        let machine = machine_at(alloc, history, &self.frames, self.machine.take())?;
+        let known = self.kept.has(&self.counts, &machine);
+        self.machine = Some(machine);
+        if known {
+            return Ok(self.take_back(history));
+        }
+        self.settle(alloc, history, bound)?;
+        Ok(Progress::Going)
+    }
+
+    /// Keeps that the lines lead nowhere, and takes the last one back.
+    fn leave(&mut self, alloc: Global, history: &History) -> Result<Progress, AllocError>
+        requires is_search { IsSearch history.now.recorded self.old }
+        requires nowhere { LeadsNowhere history.now.recorded (lines_of self.old.frames.items) }
+        ensures { IfOk result (λ progress. Continues progress history.now.recorded self.old self.new) }
+    {
+        history.well_formed();
+        let machine = machine_at(alloc, history, &self.frames, self.machine.take())?;
+        self.kept.keep(alloc, history, &self.counts, &machine)?;
+        self.machine = Some(machine);
+        Ok(self.take_back(history))
     }
 
     /// Takes the last line back, and goes on behind it.
@@ -218,7 +257,7 @@ impl Search {
     fn push(&mut self, choice: Choice, frame: Frame) -> Result<(), AllocError>
         requires cpu { choice.cpu < 8 }
         requires number { choice.number < 1000000 }
-        ensures { OnOk result (IsLonger self.old.frames.items self.old.counts self.old.machine self.old.offers.count choice frame self.new) }
+        ensures { OnOk result (IsLonger self.old.frames.items self.old.counts self.old.machine self.old.offers.count self.old.kept choice frame self.new) }
     {
         self.frames.push(frame)?;
         self.counts[choice.cpu as usize] = choice.number + 1;

@@ -49,7 +49,7 @@ spot rd level number = record { rd = rd; level = level; number = number }
 -- nothing else than granules has a record
 unfoldable pub state_of : FlatMachine → State
 state_of m = record {
-  granules = m.config.granules;
+  config = m.config;
   tag = tag_kept m;
   realm = λ rd. if is_granule m.config.granules rd then realm_kept m rd else None;
   rec = λ address. if is_granule m.config.granules address then rec_kept m address else None;

@@ -5,7 +5,7 @@ use crate::walks::is_granule;
 use command_rows::Sight;
 use command_words::is_tag;
 use realm_desc::{Realm, Rec};
-use rmm_spec::{Entry, EntryTest, Tag, Walked};
+use rmm_spec::{Entry, EntryTest, Tag, Version, Walked};
 use table_entries::{entry_number, table_number};
 
 #[tactic(auto, unfolding(crate::specs::Flat::state_of, rmm_spec::specs::Lookup::has_tag))]
@@ -19,6 +19,10 @@ impl Sight for FlatMachine {
     ghost uses_vmid = { λ machine vmid. is_some (get nat_eq machine.vmids vmid) };
 
     ghost has_recs = { λ machine rd. is_some (get nat_eq machine.rec_counts rd) };
+
+    fn version(&self) -> Version {
+        self.config.version()
+    }
 
     fn has_tag(&self, address: u64, tag: Tag) -> bool {
         is_granule(&self.config, address) && is_tag(self.tag(address), tag)

@@ -1,7 +1,7 @@
 //! What a monitor keeps of each granule, and what it keeps of none: cells, the side table and the CPUs' places.
 //! It promises that a granule's state and its contents are one value, so that they agree, and that each change of the side
 //! table is one place of the definitions' maps.
-//! Only a new side table takes memory. Addresses are in bytes.
+//! Only a new side table, and a copy of one, takes memory. Addresses are in bytes.
 //! The monitor's core and its locks, and the world of turns, stand on it.
 #![tactic(auto)]
 

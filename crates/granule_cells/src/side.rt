@@ -38,6 +38,17 @@ impl Side {
         Ok(Side { vmids, rec_counts })
     }
 
+    /// The same table once more.
+    pub fn copy(&self, alloc: Global) -> Result<Side, AllocError>
+        ensures { IfOk result (λ side. side_of side ≡ side_of self.now) }
+    {
+        let mut vmids = vec![in alloc; None; VMIDS]?;
+        vmids.copy_from_slice(self.vmids.as_slice());
+        let mut rec_counts = vec![in alloc; 0; GRANULES]?;
+        rec_counts.copy_from_slice(self.rec_counts.as_slice());
+        Ok(Side { vmids, rec_counts })
+    }
+
     /// The realm that has the VMID, by the address of its descriptor.
     pub fn realm_with(&self, vmid: u8) -> Option<Pa>
         ensures { result ≡ (side_of self.now).vmids vmid }

@@ -5,6 +5,7 @@ use Rattle.std.specs.List.{filter}
 use Rattle.std.proofs.lemmas.Bool.{false≢true, eqb-true, eq-eqb}
 use Rattle.std.proofs.lemmas.List.Elements.{All-filter, All-same, All-contains}
 use Rattle.std.proofs.lemmas.List.Sums.{length-filter, count_by-le-length}
+use Rattle.rmm_spec.specs.HistoryText.{Config}
 use Rattle.rmm_spec.specs.declared.call.Call.{Call}
 use Rattle.rmm_spec.specs.Lookup.{is_granule}
 use Rattle.rmm_spec.specs.Rows.{Needed}
@@ -71,10 +72,10 @@ pub granule-held : (granules g : ℕ) (held : List HeldCell) → AreGranules gra
 granule-held granules g held are has = All-contains (λ x. IsTrue (is_granule granules x)) (granules_held held) g are (held-contains held g has)
 
 -- what a plan frees is held
-pub held-freed : (granules : ℕ) (c : Call) (place : CpuPlace) (names : List Needed) (held : List HeldCell) (g : ℕ) (owner : Option ℕ)
-    → IsStep granules c place names held (Free g owner) → Contains (granules_held held) g
-held-freed granules c place names held g None step = step
-held-freed granules c place names held g (Some rd) step = step.is_held
+pub held-freed : (config : Config) (c : Call) (place : CpuPlace) (names : List Needed) (held : List HeldCell) (g : ℕ) (owner : Option ℕ)
+    → IsStep config c place names held (Free g owner) → Contains (granules_held held) g
+held-freed config c place names held g None step = step
+held-freed config c place names held g (Some rd) step = step.is_held
 
 -- what stands last is held
 pub last-held : (held : List HeldCell) (last : Option ℕ) → last ≡ slice_get (granules_held held) (length (granules_held held) - 1)

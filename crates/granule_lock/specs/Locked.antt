@@ -1,5 +1,6 @@
 -- What a CPU holds while it executes a command, and how it came to hold it.
 use Rattle.std.specs.Prelude.{◌≡◌, ℕ, IsTrue, All, List, [], ◌∷◌, ◌++◌, Option, None}
+use Rattle.rmm_spec.specs.HistoryText.{Config}
 use Rattle.rmm_spec.specs.declared.call.Call.{Call}
 use Rattle.rmm_spec.specs.Lookup.{is_granule}
 use Rattle.rmm_spec.specs.Shape.{CpuPlace}
@@ -33,16 +34,16 @@ IsDone (Free granule owner) old new = new ≡ locking (without_cell granule old.
 IsDone Ready old new = ⊥
 
 -- what the plan says next is done
-abbrev pub IsPlannedStep : ℕ → Call → CpuPlace → Locking → Locking → Type 0
-IsPlannedStep granules call place old new = IsDone (next granules call place old.learnt old.held) old new
+abbrev pub IsPlannedStep : Config → Call → CpuPlace → Locking → Locking → Type 0
+IsPlannedStep config call place old new = IsDone (next config call place old.learnt old.held) old new
 
 -- one step after the other
-abbrev pub ArePlannedSteps : ℕ → Call → CpuPlace → Locking → List Locking → Locking → Type 0
-ArePlannedSteps granules call place old [] new = old ≡ new
-ArePlannedSteps granules call place old (step ∷ steps) new =
-    IsPlannedStep granules call place old step × ArePlannedSteps granules call place step steps new
+abbrev pub ArePlannedSteps : Config → Call → CpuPlace → Locking → List Locking → Locking → Type 0
+ArePlannedSteps config call place old [] new = old ≡ new
+ArePlannedSteps config call place old (step ∷ steps) new =
+    IsPlannedStep config call place old step × ArePlannedSteps config call place step steps new
 
 -- steps of the plan lead to it from a hold of none
-pub record IsReached (granules : ℕ) (call : Call) (place : CpuPlace) (now : Locking) : Type 0 where
+pub record IsReached (config : Config) (call : Call) (place : CpuPlace) (now : Locking) : Type 0 where
   pub steps : List Locking
-  pub planned : ArePlannedSteps granules call place (locking [] None) steps now
+  pub planned : ArePlannedSteps config call place (locking [] None) steps now

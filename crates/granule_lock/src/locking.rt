@@ -25,10 +25,10 @@ pub fn lock_for<R: Wait>(
 )
     requires size { granules.now.granules ≡ config.now.granules }
     requires none { hold_cells hold.old ≡ [] }
-    ensures settled { IsTrue (is_settled config.now.granules (call_of command.now) (place_of place.now) (hold_cells hold.new)) }
+    ensures settled { IsTrue (is_settled config.now (call_of command.now) (place_of place.now) (hold_cells hold.new)) }
     ensures granules { AreGranules granules.now.granules (hold_cells hold.new) }
     ensures planned { (learnt : Option ℕ)
-        × IsReached config.now.granules (call_of command.now) (place_of place.now) (locking (hold_cells hold.new) learnt) }
+        × IsReached config.now (call_of command.now) (place_of place.now) (locking (hold_cells hold.new) learnt) }
 {
     let mut learnt = None;
     for _step in rt.forever() {
@@ -51,10 +51,10 @@ fn goes_on<R: Wait>(
 ) -> bool
     requires size { granules.now.granules ≡ config.now.granules }
     requires granules { AreGranules granules.now.granules (hold_cells hold.old) }
-    ensures settled { result ≡ false → IsTrue (is_settled config.now.granules (call_of command.now) (place_of place.now) (hold_cells hold.new)) }
+    ensures settled { result ≡ false → IsTrue (is_settled config.now (call_of command.now) (place_of place.now) (hold_cells hold.new)) }
     ensures stays { result ≡ false → hold.new ≡ hold.old }
     ensures granules { AreGranules granules.now.granules (hold_cells hold.new) }
-    ensures planned { IsTrue result → IsPlannedStep config.now.granules (call_of command.now) (place_of place.now)
+    ensures planned { IsTrue result → IsPlannedStep config.now (call_of command.now) (place_of place.now)
         (locking (hold_cells hold.old) learnt.old) (locking (hold_cells hold.new) learnt.new) }
 {
     match next_lock(config, command, place, *learnt, hold) {

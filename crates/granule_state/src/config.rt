@@ -1,21 +1,24 @@
-//! The size of a machine.
+//! The size of a machine, and the version of its rules.
 
 ghost use Rattle.std.specs.Prelude.{◌≡◌, IsTrue};
 ghost use Rattle.std.specs.Option.{SomeIff};
-ghost use Rattle.rmm_spec.specs.HistoryText.{Config, IsConfig};
+ghost use Rattle.rmm_spec.specs.declared.version.Version.TheVariants.{One};
+ghost use Rattle.rmm_spec.specs.HistoryText.{Config, IsConfig, is_version, version_of};
 ghost use Rattle.rmm_spec.specs.Lookup.{is_granule};
 
 use crate::pa::Pa;
+use rmm_spec::Version;
 use std::marker::Model;
 
 /// How many bytes a granule has.
 pub const GRANULE_BYTES: u64 = 4096;
 
-/// How many granules and CPUs a machine has, within the limits of both.
+/// How many granules and CPUs a machine has, within the limits of both, and the version of its rules.
 #[derive(Clone, Copy)]
 pub struct Config {
     granules: u64,
     cpus: u8,
+    version: Version,
 }
 
 impl Model for Config {
@@ -23,17 +26,36 @@ impl Model for Config {
 
     ghost Value = { Config };
 
-    ghost view = { λ c. record { granules = c.granules; cpus = c.cpus } };
+    ghost view = { λ c. record { granules = c.granules; cpus = c.cpus; version = c.version } };
 
-    ghost invariant = { λ c. IsConfig (record { granules = c.granules; cpus = c.cpus }) };
+    ghost invariant = { λ c. IsConfig (record { granules = c.granules; cpus = c.cpus; version = c.version }) };
 
-    ghost inverse = { λ s. record { granules = s.granules; cpus = s.cpus } };
+    ghost inverse = { λ s. record { granules = s.granules; cpus = s.cpus; version = s.version } };
 }
 
 impl Config {
-    /// A machine of 1 to 4096 granules and 1 to 8 CPUs, or nothing out of those limits.
+    /// A machine of 1 to 4096 granules and 1 to 8 CPUs that goes by version 1, or nothing out of those limits.
     pub fn new(granules: u64, cpus: u64) -> Option<Config>
-        ensures { let config : Config = record { granules = granules; cpus = cpus } in
+        ensures { let config : Config = record { granules = granules; cpus = cpus; version = One } in
+            SomeIff result (IsConfig config) config }
+    {
+        Config::of(granules, cpus, Version::One)
+    }
+
+    /// The same of version 1 or 2, or nothing for another version.
+    pub fn with_version(granules: u64, cpus: u64, version: u64) -> Option<Config>
+        ensures { let config : Config = record { granules = granules; cpus = cpus; version = version_of version } in
+            SomeIff result (IsConfig config × IsTrue (is_version version)) config }
+    {
+        match version {
+            1 => Config::of(granules, cpus, Version::One),
+            2 => Config::of(granules, cpus, Version::Two),
+            _ => None,
+        }
+    }
+
+    fn of(granules: u64, cpus: u64, version: Version) -> Option<Config>
+        ensures { let config : Config = record { granules = granules; cpus = cpus; version = version } in
             SomeIff result (IsConfig config) config }
     {
         if granules < 1 || granules > 4096 || cpus < 1 || cpus > 8 {
@@ -42,6 +64,7 @@ impl Config {
         Some(Config {
             granules,
             cpus: cpus as u8,
+            version,
         })
     }
 
@@ -57,6 +80,12 @@ impl Config {
         ensures limits { IsConfig self.now }
     {
         self.cpus
+    }
+
+    pub fn version(&self) -> Version
+        ensures { result ≡ self.now.version }
+    {
+        self.version
     }
 }
 

@@ -1,6 +1,7 @@
 //! The limits of a machine, and where its granules begin.
 
 use crate::{Config, Ipa, Pa, granule_at};
+use rmm_spec::Version;
 use std::test::Fail;
 
 #[test]
@@ -19,6 +20,33 @@ fn limits(rt: HostRuntime) {
             "at {granules} {cpus}"
         );
     }
+}
+
+#[test]
+fn versions(rt: HostRuntime) -> Result<(), Fail> {
+    for (granules, cpus, version, is_allowed) in [
+        (4096, 8, 1, true),
+        (4096, 8, 2, true),
+        (4096, 8, 0, false),
+        (4096, 8, 3, false),
+        (4097, 8, 2, false),
+        (4096, 9, 2, false),
+        (0, 1, 2, false),
+    ] {
+        assert_eq!(rt;
+            Config::with_version(granules, cpus, version).is_some(),
+            is_allowed,
+            "at {granules} {cpus} {version}"
+        );
+    }
+    let first = Config::new(4, 2).ok_or("within the limits")?;
+    assert!(rt; matches!(first.version(), Version::One));
+    let again = Config::with_version(4, 2, 1).ok_or("within the limits")?;
+    assert!(rt; matches!(again.version(), Version::One));
+    let second = Config::with_version(4, 2, 2).ok_or("within the limits")?;
+    assert!(rt; matches!(second.version(), Version::Two));
+    assert!(rt; second.granules() == 4 && second.cpus() == 2);
+    Ok(())
 }
 
 #[test]

@@ -3,13 +3,13 @@
 ghost use Rattle.std.specs.Prelude.{◌≡◌, ◌+◌, ◌<◌, ◌≤◌, ◌++◌, [], ◌∷◌, map, length, take, vec_len, vec_capacity, OnOk, OnErr};
 ghost use Rattle.rmi_codec.specs.Beginning.{IsBeginning};
 ghost use Rattle.rmi_codec.specs.Spaced.{spaced};
-ghost use Rattle.rmm_spec.specs.HistoryText.{event_parts, history_text, config_parts};
+ghost use Rattle.rmm_spec.specs.HistoryText.{event_parts, history_text, config_parts, mark};
 ghost use Rattle.rmm_spec.specs.Text.{decimal, line_text, lines_text};
 
 use crate::history::History;
 use granule_state::Config;
 use rmi_codec::{all_or_nothing, push_command, push_head, push_numbers, push_reply};
-use rmm_spec::Event;
+use rmm_spec::{Event, Version};
 use std::alloc::AllocError;
 
 /// Appends a history's text, or nothing where memory is refused, which it is only where the buffer has no room for the text.
@@ -55,8 +55,18 @@ fn push_header(out: &mut Vec<u8>, config: Config) -> Result<(), AllocError>
     ensures full { OnErr result (vec_capacity out.old < vec_len out.old + length (line_text (config_parts config) ++ 10 ∷ [])) }
     ensures capacity { vec_capacity out.old ≤ vec_capacity out.new }
 {
-    out.extend_from_slice(b"rmh1")?;
+    out.extend_from_slice(mark_of(config.version()))?;
     push_sizes(out, config)
+}
+
+// The name of the format that a history of this version has.
+fn mark_of(version: Version) -> &'static [u8]
+    ensures { result.now ≡ mark version }
+{
+    match version {
+        Version::One => b"rmh1",
+        Version::Two => b"rmh2",
+    }
 }
 
 #[tactic(auto, using(std::proofs::lemmas::Grind::common_steps, rmi_codec::proofs::WriteLaws::writing))]

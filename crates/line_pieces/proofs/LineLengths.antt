@@ -1,5 +1,5 @@
 -- How long the lines of histories and certificates are at most.
-use Rattle.std.proofs.Common.{ℕ, zero, suc, ◌+◌, ◌*◌, ◌^◌, ◌<◌, ◌≤◌, List, [], ◌∷◌, map, length, arith, lit≤, length-append}
+use Rattle.std.proofs.Common.{◌≡◌, ℕ, zero, suc, ◌+◌, ◌*◌, ◌^◌, ◌<◌, ◌≤◌, List, [], ◌∷◌, map, length, refl, arith, lit≤, length-append}
 use Rattle.std.specs.Int.Digits.{digits_of}
 use Rattle.std.proofs.lemmas.Int.Digits.{length-digits_of-le}
 use Rattle.std.proofs.lemmas.List.{length-map}
@@ -10,10 +10,12 @@ use Rattle.rmm_spec.specs.declared.line.Line.{Line}
 use Rattle.rmm_spec.specs.declared.line.Line.TheVariants.{Keep, Unfinished}
 use Rattle.rmm_spec.specs.declared.reply.Reply.{Reply}
 use Rattle.rmm_spec.specs.declared.reply.Reply.TheVariants as reply
+use Rattle.rmm_spec.specs.declared.version.Version.{Version}
+use Rattle.rmm_spec.specs.declared.version.Version.TheVariants.{One, Two}
 use Rattle.rmm_spec.specs.CertificateText.{IsLine, line_parts}
 use Rattle.rmm_spec.specs.CommandText.{AreWords, IsCommand, IsReply, command_parts, reply_parts}
 use Rattle.rmm_spec.specs.Function.{number_of}
-use Rattle.rmm_spec.specs.HistoryText.{Config, IsConfig, config_parts, event_parts}
+use Rattle.rmm_spec.specs.HistoryText.{Config, IsConfig, config_parts, event_parts, mark}
 use Rattle.rmm_spec.specs.Text.{glyph, numeral, decimal, word, line_text}
 use Rattle.rmm_spec.proofs.Texts.{numeral-zero, numeral_some, length-fixed_hex}
 
@@ -82,12 +84,21 @@ width-returned cpu number given cpu_below below is =
     let digit : cpu < 10 ^ 1 = omega arith in
     omega (arith, length-decimal 1 cpu (lit≤ tt) digit, length-decimal 6 number (lit≤ tt) below, width-reply given is)
 
+length-mark : (version : Version) → length (mark version) ≡ 4
+length-mark One = refl
+length-mark Two = refl
+
 -- a header
 pub width-config : (config : Config) → IsConfig config → width (config_parts config) ≤ 12
 width-config config is =
     let granules_below : config.granules < 10 ^ 4 = omega (arith, is.most_granules) in
     let cpus_below : config.cpus < 10 ^ 1 = omega (arith, is.most_cpus) in
-    omega (arith, length-decimal 4 config.granules (lit≤ tt) granules_below, length-decimal 1 config.cpus (lit≤ tt) cpus_below)
+    omega (
+      arith,
+      length-mark config.version,
+      length-decimal 4 config.granules (lit≤ tt) granules_below,
+      length-decimal 1 config.cpus (lit≤ tt) cpus_below,
+    )
 
 -- a line of a certificate
 pub width-line : (line : Line) → IsLine line → width (line_parts line) ≤ 184

@@ -78,9 +78,9 @@ fn delegate_on<S: Site>(
     hold: &mut Hold,
     address: u64,
 ) -> Answer
-    requires size { config.now.granules ≡ S.granules }
-    requires granules { AreGranules S.granules (hold_cells hold.old) }
-    ensures { AreGranules S.granules (hold_cells hold.new) }
+    requires size { config.now ≡ S.config }
+    requires granules { AreGranules S.config.granules (hold_cells hold.old) }
+    ensures { AreGranules S.config.granules (hold_cells hold.new) }
 {
     let command = delegate(address);
     match next_lock(config, &command, &token.place(), None, hold) {
@@ -101,10 +101,10 @@ fn disagrees_elsewhere<S: Site, R: Wait>(
     granules: &Granules,
     others: &Granules,
 ) -> bool
-    requires size { config.now.granules ≡ S.granules }
-    requires four { S.granules ≡ 4 }
-    requires granules { granules.now.granules ≡ S.granules }
-    requires others { others.now.granules ≡ S.granules }
+    requires size { config.now ≡ S.config }
+    requires four { S.config.granules ≡ 4 }
+    requires granules { granules.now.granules ≡ S.config.granules }
+    requires others { others.now.granules ≡ S.config.granules }
 {
     let mut hold = hold_of(rt, granules, 0x1000);
     let first = delegate_on(alloc, config, journal, token, &mut hold, 0x1000);
@@ -134,7 +134,7 @@ fn delegate_twice<S: Site, R: Wait>(
     requires name { blank.name ≡ S.name }
     requires parts { blank.parts ≡ S.parts }
     requires one_each { blank.parts ≡ config.cpus }
-    requires granules { config.granules ≡ S.granules }
+    requires granules { config ≡ S.config }
     requires four { config.granules ≡ 4 }
 {
     let (mut journal, mut tokens) = Journal::<S>::new(alloc, blank, config)?;
@@ -169,11 +169,11 @@ fn answers_of_two<S: Site>(
     low: &mut Hold,
     high: &mut Hold,
 ) -> bool
-    requires size { config.now.granules ≡ S.granules }
-    requires low { AreGranules S.granules (hold_cells low.old) }
-    requires high { AreGranules S.granules (hold_cells high.old) }
-    ensures low { AreGranules S.granules (hold_cells low.new) }
-    ensures high { AreGranules S.granules (hold_cells high.new) }
+    requires size { config.now ≡ S.config }
+    requires low { AreGranules S.config.granules (hold_cells low.old) }
+    requires high { AreGranules S.config.granules (hold_cells high.old) }
+    ensures low { AreGranules S.config.granules (hold_cells low.new) }
+    ensures high { AreGranules S.config.granules (hold_cells high.new) }
 {
     let one = delegate_on(alloc, config, journal, first, low, 0x1000);
     let two = delegate_on(alloc, config, journal, second, low, 0x1000);
@@ -202,9 +202,9 @@ fn commit_on<S: Site, R: Wait>(
     second: &mut CpuToken<S>,
     granules: &Granules,
 ) -> bool
-    requires size { config.now.granules ≡ S.granules }
-    requires four { S.granules ≡ 4 }
-    requires granules { granules.now.granules ≡ S.granules }
+    requires size { config.now ≡ S.config }
+    requires four { S.config.granules ≡ 4 }
+    requires granules { granules.now.granules ≡ S.config.granules }
 {
     let mut low = hold_of(rt, granules, 0x1000);
     let mut high = hold_of(rt, granules, 0x2000);
@@ -225,7 +225,7 @@ fn commits_of_two<S: Site, R: Wait>(
     requires parts { blank.parts ≡ S.parts }
     requires one_each { blank.parts ≡ config.cpus }
     requires two { config.cpus ≡ 2 }
-    requires granules { config.granules ≡ S.granules }
+    requires granules { config ≡ S.config }
     requires four { config.granules ≡ 4 }
 {
     let (mut journal, mut tokens) = Journal::<S>::new(alloc, blank, config)?;

@@ -11,7 +11,7 @@ use Rattle.rmm_spec.specs.Flat.{flat_state}
 use Rattle.shape_laws.proofs.Ties.{well_shaped-is_sound}
 use Rattle.machine_cells.specs.declared.cell_list.CellList.{CellList}
 use Rattle.machine_cells.specs.declared.granules.Granules.{Granules}
-use Rattle.machine_cells.specs.Whole.{cells_of, whole_of, count_of, state_in, tables_in, IsShapedIn}
+use Rattle.machine_cells.specs.Whole.{cells_of, whole_of, config_of, state_in, tables_in, IsShapedIn}
 use Rattle.machine_cells.specs.WholeLaws.{tables_in-placed}
 use Rattle.machine_cells.specs.Walks.{StartsAt}
 use Rattle.machine_cells.proofs.OneCell.{tables-same}
@@ -26,7 +26,7 @@ tables_in-same list address =
 
 pub sound_in : (g : Granules) → IsShapedIn g → IsSound (state_in g)
 unfolding state_in
-sound_in g shaped = well_shaped-is_sound (count_of g) (whole_of g).side (whole_of g).places (whole_of g).cells shaped
+sound_in g shaped = well_shaped-is_sound (config_of g) (whole_of g).side (whole_of g).places (whole_of g).cells shaped
 
 -- a walk may start at a root
 pub start-walkable : (g : Granules) → IsShapedIn g → (rd ipa max root level : ℕ) → StartsAt (state_in g) rd ipa root level → level ≤ max
@@ -34,7 +34,7 @@ pub start-walkable : (g : Granules) → IsShapedIn g → (rd ipa max root level 
 unfolding state_in flat_state
 start-walkable g shaped rd ipa max root level start within =
     subst (λ x. IsWalkable (tables_in g.list) x ipa max) start.is_root
-    (walkable-root (count_of g) (whole_of g).side (whole_of g).places (cells_of g.list) shaped (tables_in g.list) (tables_in-placed g.list) (tables_in-same g.list)
+    (walkable-root (config_of g) (whole_of g).side (whole_of g).places (cells_of g.list) shaped (tables_in g.list) (tables_in-placed g.list) (tables_in-same g.list)
     rd ipa max start.realm start.is_realm (omega (arith, start.is_level, within)) start.inside)
 
 -- and it is the flat state's
@@ -43,10 +43,10 @@ pub start-walks : (g : Granules) → IsShapedIn g → (rd ipa max root level end
     → IsWalk (state_in g) rd ipa max end granule entry
 unfolding state_in flat_state
 start-walks g shaped rd ipa max root level end granule entry start within walks =
-    let t = root-table (count_of g) (whole_of g).side (whole_of g).places (cells_of g.list) shaped (tables_in g.list) (tables_in-placed g.list) (tables_in-same g.list)
+    let t = root-table (config_of g) (whole_of g).side (whole_of g).places (cells_of g.list) shaped (tables_in g.list) (tables_in-placed g.list) (tables_in-same g.list)
     rd ipa max start.realm start.is_realm (omega (arith, start.is_level, within)) start.inside in
     let there : table_in (tables_in g.list) root ≡ Some t.0 = ap (table_in (tables_in g.list)) (sym start.is_root) ∙ t.1 in
-    let s = flat_state (count_of g) (cells_of g.list) in
+    let s = flat_state (config_of g) (cells_of g.list) in
     subst (λ x. IsWalk x rd ipa max end granule entry)
-    (with_tables-same (count_of g) (whole_of g).side (whole_of g).places (cells_of g.list) shaped (tables_in g.list) (tables_in-placed g.list) (tables_in-same g.list))
+    (with_tables-same (config_of g) (whole_of g).side (whole_of g).places (cells_of g.list) shaped (tables_in g.list) (tables_in-placed g.list) (tables_in-same g.list))
     (subst (λ x. IsWalk (with_tables s (tables_in g.list)) x ipa max end granule entry) t.2 (walks s t.0 there))

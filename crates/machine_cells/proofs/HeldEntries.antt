@@ -1,10 +1,11 @@
 -- The entries of a table of a well-shaped whole are those of its flat state; where no table stands, none keeps it in use but a link above a root.
-use Rattle.std.proofs.Common.{◌≡◌, ℕ, zero, suc, ◌+◌, ◌*◌, ◌/◌, ◌%◌, ◌^◌, ◌<◌, ◌≤◌, Bool, true, false, ◌&&◌, ◌||◌, inl, inr, if◌then◌else◌, IsTrue, List, [], ◌∷◌, length, Option, Some, None, is_some, nat_lt, slice_get, refl, sym, ap, ◌∙◌, subst, add-one, arith}
+use Rattle.std.proofs.Common.{◌≡◌, ℕ, zero, suc, ◌+◌, ◌*◌, ◌/◌, ◌%◌, ◌^◌, ◌<◌, ◌≤◌, Bool, true, false, ◌||◌, inl, inr, if◌then◌else◌, IsTrue, length, Option, Some, None, is_some, nat_lt, slice_get, refl, sym, ap, ◌∙◌, subst, add-one, arith}
 use Rattle.std.specs.List.{list_any}
 use Rattle.std.proofs.lemmas.Bool.{false≢true, lt-ltb, le-ltb, cases_lt}
 use Rattle.std.proofs.lemmas.Option.{none-some, same_Some}
+use Rattle.rmm_spec.specs.HistoryText.{Config}
 use Rattle.rmm_spec.specs.declared.entry.Entry.{Entry}
-use Rattle.rmm_spec.specs.declared.entry.Entry.TheVariants.{Unassigned, Table}
+use Rattle.rmm_spec.specs.declared.entry.Entry.TheVariants.{Unassigned}
 use Rattle.rmm_spec.specs.declared.entry.EntryTest.{EntryTest}
 use Rattle.rmm_spec.specs.declared.tag.Ripas.TheVariants.{Empty}
 use Rattle.rmm_spec.specs.State.{State, RealmRecord}
@@ -23,28 +24,28 @@ use Rattle.shape_laws.proofs.Ties.{IsTied-shaped, entry_leaf-some, leaf-found, l
 use Rattle.rtt_table.proofs.Searches.{search-places}
 use Rattle.machine_cells.specs.declared.granules.Granules.{Granules}
 use Rattle.machine_cells.specs.Searches.{StandsAs, IsTable, has_unlisted}
-use Rattle.machine_cells.specs.Whole.{cells_of, whole_of, count_of, state_in, IsShapedIn}
+use Rattle.machine_cells.specs.Whole.{cells_of, whole_of, config_of, count_of, state_in, IsShapedIn}
 use Rattle.machine_cells.proofs.WalkEnds.{entry-none}
 
 -- ---- one entry
 
 -- an entry of a table of the whole is the flat state's
-entry-held : (granules : ℕ) (side : Side) (places : ℕ → CpuPlace) (cells : ℕ → Cell) → (w : IsWellShaped granules side places cells)
+entry-held : (config : Config) (side : Side) (places : ℕ → CpuPlace) (cells : ℕ → Cell) → (w : IsWellShaped config side places cells)
     → (g rd level number : ℕ) (e : Entry) → (holds : HoldsTable (tables_of cells) g rd level (number / 512))
-    → slice_get holds.table.entries (number % 512) ≡ Some e → entry_at (flat_state granules cells) rd level number ≡ e
+    → slice_get holds.table.entries (number % 512) ≡ Some e → entry_at (flat_state config cells) rd level number ≡ e
 unfolding flat_state
-entry-held granules side places cells w g rd level number e holds at =
-    let s = flat_state granules cells in
-    let sound = well_shaped-is_sound granules side places cells w in
-    let found : (g rd level number : ℕ) → HoldsTable (tables_of cells) g rd level number → table_granule granules (tables_of cells) rd level number ≡ Some g =
-    λ g rd level number holds. holds-found granules (tables_of cells) g rd level number (IsTied-shaped granules side places cells w).tables.found holds in
+entry-held config side places cells w g rd level number e holds at =
+    let s = flat_state config cells in
+    let sound = well_shaped-is_sound config side places cells w in
+    let found : (g rd level number : ℕ) → HoldsTable (tables_of cells) g rd level number → table_granule config.granules (tables_of cells) rd level number ≡ Some g =
+    λ g rd level number holds. holds-found config.granules (tables_of cells) g rd level number (IsTied-shaped config side places cells w).tables.found holds in
     elim (link_or_leaf e) [
       | inl link ↦ entry-link s sound rd level number link.0 (found link.0 rd (suc level) number
           (subst (λ n. HoldsTable (tables_of cells) link.0 rd (suc level) n) (number-again number)
           (at_place (λ a b c. HoldsTable (tables_of cells) link.0 a (suc b) (512 * c + number % 512)) holds
           (w.tables.links g (number % 512) link.0 holds.table holds.is_held (at ∙ ap Some link.1))))) ∙ sym link.1
       | inr leaf ↦ entry-leaf s sound rd level number e
-          (leaf-found granules (tables_of cells) rd level number g holds.table (found g rd level (number / 512) holds) holds.is_held
+          (leaf-found config.granules (tables_of cells) rd level number g holds.table (found g rd level (number / 512) holds) holds.is_held
           ∙ entry_leaf-some holds.table.entries (number % 512) e at leaf)
     ]
 
@@ -55,7 +56,7 @@ entry-stands g shaped rd level number t e stands at =
     let w = whole_of g in
     let holds = table_granule-holds (count_of g) (tables_of w.cells) rd level (number / 512) stands.granule stands.is_found in
     let same = same_table (tables_of w.cells) stands.granule t holds.table stands.is_held holds.is_held in
-    sym (entry-held (count_of g) w.side w.places w.cells shaped stands.granule rd level number e holds (ap (λ (t : TableRecord). slice_get t.entries (number % 512)) (sym same) ∙ at))
+    sym (entry-held (config_of g) w.side w.places w.cells shaped stands.granule rd level number e holds (ap (λ (t : TableRecord). slice_get t.entries (number % 512)) (sym same) ∙ at))
 
 -- ---- searches through a table
 

@@ -11,3 +11,4 @@ pub mod OneChanged
 pub mod Tagged
 pub mod CanMake
 pub mod Made
+pub mod Alike

@@ -7,19 +7,19 @@ use Rattle.rmm_spec.specs.Flat.{flat_state}
 use Rattle.shape_laws.specs.Whole.{IsShaped, whole_changed}
 use Rattle.shape_laws.proofs.Changes.{changes-keep_shape}
 use Rattle.machine_cells.specs.declared.granules.Granules.{Granules}
-use Rattle.machine_cells.specs.Whole.{count_of, whole_of, state_in, IsShapedIn}
+use Rattle.machine_cells.specs.Whole.{config_of, whole_of, state_in, IsShapedIn}
 
-pub made : (old new : Granules) (change : Change) → IsShapedIn old → CanApply (state_in old) change → count_of new ≡ count_of old
-    → whole_of new ≡ whole_changed (count_of old) (whole_of old) change → IsShapedIn new × (state_in new ≡ changed (state_in old) change)
+pub made : (old new : Granules) (change : Change) → IsShapedIn old → CanApply (state_in old) change → config_of new ≡ config_of old
+    → whole_of new ≡ whole_changed (config_of old) (whole_of old) change → IsShapedIn new × (state_in new ≡ changed (state_in old) change)
 unfolding state_in
 made old new change shaped can size whole =
-    let kept = changes-keep_shape (count_of old) (whole_of old) change shaped can in
+    let kept = changes-keep_shape (config_of old) (whole_of old) change shaped can in
     (subst₂ IsShaped (sym size) (sym whole) kept.0, (λ i. flat_state (size i) (whole i).cells) ∙ kept.1)
 
 -- what is as it was stands for the same state
-pub same : (old new : Granules) → count_of new ≡ count_of old → whole_of new ≡ whole_of old → state_in new ≡ state_in old
+pub same : (old new : Granules) → config_of new ≡ config_of old → whole_of new ≡ whole_of old → state_in new ≡ state_in old
 unfolding state_in
 same old new size whole = λ i. flat_state (size i) (whole i).cells
 
-pub same-shaped : (old new : Granules) → IsShapedIn old → count_of new ≡ count_of old → whole_of new ≡ whole_of old → IsShapedIn new
+pub same-shaped : (old new : Granules) → IsShapedIn old → config_of new ≡ config_of old → whole_of new ≡ whole_of old → IsShapedIn new
 same-shaped old new shaped size whole = subst₂ IsShaped (sym size) (sym whole) shaped

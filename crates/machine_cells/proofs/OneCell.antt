@@ -3,6 +3,7 @@ use Rattle.std.proofs.Common.{◌≡◌, ℕ, zero, suc, ◌+◌, ◌*◌, ◌/�
 use Rattle.std.specs.Prelude.{slice_index_or}
 use Rattle.std.proofs.lemmas.List.{length-map}
 use denote.Enum.Bare.{sameb}
+use Rattle.rmm_spec.specs.HistoryText.{Config}
 use Rattle.rmm_spec.specs.contracts.tag.Tag.{the_type}
 use Rattle.rmm_spec.specs.declared.tag.Tag.{Tag}
 use Rattle.rmm_spec.specs.Lookup.{is_granule, has_tag, tag_number}
@@ -21,14 +22,14 @@ use Rattle.machine_cells.specs.Whole.{cells_in}
 use Rattle.machine_cells.proofs.Kept.{granule_placed, place-granule}
 
 -- a granule's tag
-pub has_tag-read : (granules : ℕ) (cells : ℕ → spec.Cell) (address : ℕ) (read tag : Tag) → IsTrue (is_granule granules address)
-    → read ≡ spec.tag_of (cells address) → sameb the_type read tag ≡ has_tag (flat_state granules cells) address tag
+pub has_tag-read : (config : Config) (cells : ℕ → spec.Cell) (address : ℕ) (read tag : Tag) → IsTrue (is_granule config.granules address)
+    → read ≡ spec.tag_of (cells address) → sameb the_type read tag ≡ has_tag (flat_state config cells) address tag
 unfolding flat_state has_tag
-has_tag-read granules cells address read tag granule is =
+has_tag-read config cells address read tag granule is =
     sameb-tag_number read tag ∙ ap (λ t. tag_number t == tag_number tag) is ∙ rw granule refl
 
 -- what is no granule has no tag
-pub has_tag-none : (s : State) (address : ℕ) (tag : Tag) → is_granule s.granules address ≡ false → false ≡ has_tag s address tag
+pub has_tag-none : (s : State) (address : ℕ) (tag : Tag) → is_granule s.config.granules address ≡ false → false ≡ has_tag s address tag
 unfolding has_tag
 has_tag-none s address tag none = rw none refl
 

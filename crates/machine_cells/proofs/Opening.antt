@@ -24,8 +24,8 @@ cells-new granules n cells is = λ i address.
 pub places-new : (n : ℕ) → places_in (replicate n Outside) ≡ (λ _. shape.Outside)
 places-new n = λ i cpu. ap place_of (get_or-replicate_all n cpu Outside _ refl) i
 
-pub opening-state : (config other : Config) (cells : ℕ → spec.Cell) → other ≡ config → cells ≡ (λ _. spec.Undelegated) → flat_state other.granules cells ≡ opening config
-opening-state config other cells same is = (λ i. flat_state (same i).granules (is i)) ∙ flat_state-opening config
+pub opening-state : (config other : Config) (cells : ℕ → spec.Cell) → other ≡ config → cells ≡ (λ _. spec.Undelegated) → flat_state other cells ≡ opening config
+opening-state config other cells same is = (λ i. flat_state (same i) (is i)) ∙ flat_state-opening config
 
 nothing : shape.Side
 nothing = record { vmids = λ _. None; rec_counts = λ _. 0 }
@@ -34,12 +34,12 @@ side-new : (side : shape.Side) → ((vmid : ℕ) → side.vmids vmid ≡ None) �
 unfolding nothing
 side-new side unused none = λ i. record { vmids = λ vmid. unused vmid i; rec_counts = λ rd. none rd i }
 
-opening-whole : (config : Config) → IsShaped config.granules (record { cells = λ _. spec.Undelegated; side = nothing; places = λ _. shape.Outside })
+opening-whole : (config : Config) → IsShaped config (record { cells = λ _. spec.Undelegated; side = nothing; places = λ _. shape.Outside })
 unfolding opening_world nothing
 opening-whole config = IsShapedWorld-opening config (λ _. [])
 
 pub opening-shaped : (config : Config) (w : Whole) → w.cells ≡ (λ _. spec.Undelegated) → ((vmid : ℕ) → w.side.vmids vmid ≡ None)
-    → ((rd : ℕ) → w.side.rec_counts rd ≡ 0) → w.places ≡ (λ _. shape.Outside) → IsShaped config.granules w
+    → ((rd : ℕ) → w.side.rec_counts rd ≡ 0) → w.places ≡ (λ _. shape.Outside) → IsShaped config w
 opening-shaped config w cells unused none places =
-    subst (IsShaped config.granules) (λ i. record { cells = sym cells i; side = sym (side-new w.side unused none) i; places = sym places i })
+    subst (IsShaped config) (λ i. record { cells = sym cells i; side = sym (side-new w.side unused none) i; places = sym places i })
     (opening-whole config)

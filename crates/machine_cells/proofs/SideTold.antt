@@ -2,6 +2,7 @@
 use Rattle.std.proofs.Common.{◌≡◌, ℕ, zero, suc, ◌*◌, Bool, true, false, ◌||◌, if◌then◌else◌, Option, Some, None, is_some, nat_lt, refl, sym, ap, ◌∙◌, arith}
 use Rattle.std.proofs.lemmas.Bool.{false_from_ne_true, false≢true, eqb-true, eq-eqb, lt-ltb}
 use Rattle.std.proofs.lemmas.Option.{none-some}
+use Rattle.rmm_spec.specs.HistoryText.{Config}
 use Rattle.rmm_spec.specs.State.{RealmRecord}
 use Rattle.rmm_spec.specs.Lookup.{any_below, has_vmid, is_vmid_used, is_owned_by, has_rec, rec_inside}
 use Rattle.rmm_spec.specs.Cell.{Cell, Undelegated, realm_in, realms_of, recs_of}
@@ -21,11 +22,11 @@ any_below-count_below zero passes = refl
 any_below-count_below (suc n) passes =
     found-counted (passes n) (any_below n passes) (count_below n passes) (any_below-count_below n passes)
 
-module _ (granules : ℕ) (side : Side) (places : ℕ → CpuPlace) (cells : ℕ → Cell) (w : IsWellShaped granules side places cells) where
-  pub has_rec-counted : (rd : ℕ) → nat_lt 0 (side.rec_counts rd) ≡ has_rec (flat_state granules cells) rd
+module _ (config : Config) (side : Side) (places : ℕ → CpuPlace) (cells : ℕ → Cell) (w : IsWellShaped config side places cells) where
+  pub has_rec-counted : (rd : ℕ) → nat_lt 0 (side.rec_counts rd) ≡ has_rec (flat_state config cells) rd
   unfolding has_rec flat_state
   has_rec-counted rd =
-      ap (nat_lt 0) (w.realms.counted rd) ∙ sym (any_below-count_below granules (λ k. is_owned_by rd (recs_of cells (k * 4096))))
+      ap (nat_lt 0) (w.realms.counted rd) ∙ sym (any_below-count_below config.granules (λ k. is_owned_by rd (recs_of cells (k * 4096))))
 
   vmid_owner : (vmid : ℕ) (o : Option RealmRecord) → has_vmid vmid o ≡ true → (realm : RealmRecord) × (o ≡ Some realm) × (realm.vmid ≡ vmid)
   vmid_owner vmid None has = absurd (false≢true has)
@@ -34,30 +35,30 @@ module _ (granules : ℕ) (side : Side) (places : ℕ → CpuPlace) (cells : ℕ
   undelegated-rd : (c : Cell) → is_some (realm_in c) ≡ true → c ≡ Undelegated → ⊥
   undelegated-rd c is undelegated = false≢true (ap (λ (x : Cell). is_some (realm_in x)) (sym undelegated) ∙ is)
 
-  pub is_vmid_used-listed : (vmid : ℕ) → is_some (side.vmids vmid) ≡ is_vmid_used (flat_state granules cells) vmid
+  pub is_vmid_used-listed : (vmid : ℕ) → is_some (side.vmids vmid) ≡ is_vmid_used (flat_state config cells) vmid
   unfolding is_vmid_used flat_state
   is_vmid_used-listed vmid = by (side.vmids vmid) refl
     where
-      by : (o : Option ℕ) → side.vmids vmid ≡ o → is_some (side.vmids vmid) ≡ any_below granules (λ k. has_vmid vmid (realms_of cells (k * 4096)))
+      by : (o : Option ℕ) → side.vmids vmid ≡ o → is_some (side.vmids vmid) ≡ any_below config.granules (λ k. has_vmid vmid (realms_of cells (k * 4096)))
       by None is =
           ap is_some is
-          ∙ sym (false_from_ne_true (any_below granules (λ k. has_vmid vmid (realms_of cells (k * 4096)))) (λ any.
-          let found = passing_below granules (λ k. has_vmid vmid (realms_of cells (k * 4096))) any in
+          ∙ sym (false_from_ne_true (any_below config.granules (λ k. has_vmid vmid (realms_of cells (k * 4096)))) (λ any.
+          let found = passing_below config.granules (λ k. has_vmid vmid (realms_of cells (k * 4096))) any in
           let owner = vmid_owner vmid (realms_of cells (found.0 * 4096)) found.2 in
           none-some (found.0 * 4096) (sym is ∙ (ap side.vmids (sym owner.2) ∙ w.realms.listed (found.0 * 4096) owner.0 owner.1))))
       by (Some rd) is =
           let used = w.realms.used vmid rd is in
-          let at = cell_granule granules side places cells w rd (undelegated-rd (cells rd) (ap (λ (o : Option RealmRecord). is_some o) used.1)) in
+          let at = cell_granule config side places cells w rd (undelegated-rd (cells rd) (ap (λ (o : Option RealmRecord). is_some o) used.1)) in
           ap is_some is
-          ∙ sym (any_below-from granules (λ k. has_vmid vmid (realms_of cells (k * 4096))) at.0 at.1
+          ∙ sym (any_below-from config.granules (λ k. has_vmid vmid (realms_of cells (k * 4096))) at.0 at.1
           (ap (has_vmid vmid) (ap (realms_of cells) at.2 ∙ used.1) ∙ eq-eqb used.0.vmid vmid used.2))
 
   -- a CPU that is inside is inside of the REC that its place says
-  pub rec_inside-place : (cpu rec rd : ℕ) → places cpu ≡ Inside rec rd → rec ≡ rec_inside (flat_state granules cells) cpu
+  pub rec_inside-place : (cpu rec rd : ℕ) → places cpu ≡ Inside rec rd → rec ≡ rec_inside (flat_state config cells) cpu
   unfolding flat_state
   rec_inside-place cpu rec rd place =
-      let s = flat_state granules cells in
-      let sound = well_shaped-is_sound granules side places cells w in
+      let s = flat_state config cells in
+      let sound = well_shaped-is_sound config side places cells w in
       let runs = (w.recs.inside cpu rec rd).0 place in
       sound.recs.alone rec (rec_inside s cpu) cpu (runs_on-running cpu (recs_of cells rec) runs.it runs.is_rec runs.is_on)
-      (inside_runs s cpu (is_inside-inside granules side places cells w cpu rec rd place))
+      (inside_runs s cpu (is_inside-inside config side places cells w cpu rec rd place))

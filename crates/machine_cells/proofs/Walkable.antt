@@ -4,6 +4,7 @@ use Rattle.std.specs.Prelude.{option_map, find}
 use Rattle.std.specs.Option.{option_and_then}
 use Rattle.std.proofs.lemmas.Bool.{eq-eqb, eqb-true, cases_lt}
 use Rattle.std.proofs.lemmas.Option.{none-some}
+use Rattle.rmm_spec.specs.HistoryText.{Config}
 use Rattle.rmm_spec.specs.declared.entry.Entry.{Entry}
 use Rattle.rmm_spec.specs.State.{RealmRecord}
 use Rattle.rmm_spec.specs.Step.Words.{is_space}
@@ -28,7 +29,7 @@ root_number r space ipa below = elim (space_cases r.width r.start_level space) [
   | inr large ↦ (let within : ipa < 2 ^ 48 = rw large.0 at below in rw large.1 (omega arith))
 ]
 
-module _ (granules : ℕ) (side : Side) (places : ℕ → CpuPlace) (cells : ℕ → Cell) (w : IsWellShaped granules side places cells)
+module _ (config : Config) (side : Side) (places : ℕ → CpuPlace) (cells : ℕ → Cell) (w : IsWellShaped config side places cells)
     (list : List TableCell) (placed : ArePlaced list) (same : (address : ℕ) → table_in list address ≡ tables_of cells address) where
   holds-spot : (rd level number granule : ℕ) (t : TableRecord) → IsAtSpot list rd level number granule t → HoldsTable (tables_of cells) granule rd level number
   holds-spot rd level number granule t spot = record {
@@ -41,31 +42,31 @@ module _ (granules : ℕ) (side : Side) (places : ℕ → CpuPlace) (cells : ℕ
 
   -- what is found in the list is what the state has
   found-granule : (rd level number : ℕ) (c : TableCell) → find (is_table_at rd level number) list ≡ Some c
-      → table_granule granules (tables_of cells) rd level number ≡ Some c.granule
+      → table_granule config.granules (tables_of cells) rd level number ≡ Some c.granule
   found-granule rd level number c at =
-      holds-found granules (tables_of cells) c.granule rd level number (IsTied-shaped granules side places cells w).tables.found
+      holds-found config.granules (tables_of cells) c.granule rd level number (IsTied-shaped config side places cells w).tables.found
       (holds-spot rd level number c.granule c.table (found_at_spot list rd level number c placed at))
 
   -- and where nothing is found, it has none
   unfound-granule : (rd level number : ℕ) → find (is_table_at rd level number) list ≡ None → (found : Option ℕ)
-      → table_granule granules (tables_of cells) rd level number ≡ found → found ≡ None
+      → table_granule config.granules (tables_of cells) rd level number ≡ found → found ≡ None
   unfound-granule rd level number none None at = refl
   unfound-granule rd level number none (Some granule) at =
-      let held = table_granule-holds granules (tables_of cells) rd level number granule at in
+      let held = table_granule-holds config.granules (tables_of cells) rd level number granule at in
       let there = spot_is_found list rd level number granule held.table
       (record { is_held = same granule ∙ held.is_held; is_realm = held.is_realm; is_level = held.is_level; is_number = held.is_number }) in
       absurd (none-some there.0 (sym none ∙ there.1))
 
-  flat_table-same : (rd level number : ℕ) → flat_table list rd level number ≡ table_granule granules (tables_of cells) rd level number
+  flat_table-same : (rd level number : ℕ) → flat_table list rd level number ≡ table_granule config.granules (tables_of cells) rd level number
   unfolding flat_table
   flat_table-same rd level number = by (find (is_table_at rd level number) list) refl
     where
       by : (found : Option TableCell) → find (is_table_at rd level number) list ≡ found
-          → option_map (λ (c : TableCell). c.granule) (find (is_table_at rd level number) list) ≡ table_granule granules (tables_of cells) rd level number
+          → option_map (λ (c : TableCell). c.granule) (find (is_table_at rd level number) list) ≡ table_granule config.granules (tables_of cells) rd level number
       by (Some c) at = ap (option_map (λ (c : TableCell). c.granule)) at ∙ sym (found-granule rd level number c at)
       by None at = ap (option_map (λ (c : TableCell). c.granule)) at ∙ sym (unfound-granule rd level number at _ refl)
 
-  flat_leaf-same : (rd level number : ℕ) → flat_leaf list rd level number ≡ leaf_in_tables granules (tables_of cells) rd level number
+  flat_leaf-same : (rd level number : ℕ) → flat_leaf list rd level number ≡ leaf_in_tables config.granules (tables_of cells) rd level number
   unfolding flat_leaf leaf_in_tables holds-spot
   flat_leaf-same rd level number = by (find (is_table_at rd level (number / 512)) list) refl
     where
@@ -75,7 +76,7 @@ module _ (granules : ℕ) (side : Side) (places : ℕ → CpuPlace) (cells : ℕ
       by : (found : Option TableCell) → find (is_table_at rd level (number / 512)) list ≡ found
           → option_and_then (λ (c : TableCell). option_and_then leaf_of (slice_get c.table.entries (number % 512))) (find (is_table_at rd level (number / 512)) list)
           ≡ option_and_then (λ granule. option_and_then (λ (t : TableRecord). option_and_then leaf_of (slice_get t.entries (number % 512))) (tables_of cells granule))
-          (table_granule granules (tables_of cells) rd level (number / 512))
+          (table_granule config.granules (tables_of cells) rd level (number / 512))
       by (Some c) at =
           ap (option_and_then (λ (c : TableCell). option_and_then leaf_of (slice_get c.table.entries (number % 512)))) at
           ∙ sym (ap (option_and_then (λ granule. option_and_then (λ (t : TableRecord). option_and_then leaf_of (slice_get t.entries (number % 512))) (tables_of cells granule)))
@@ -87,9 +88,9 @@ module _ (granules : ℕ) (side : Side) (places : ℕ → CpuPlace) (cells : ℕ
           ∙ sym (ap (option_and_then (λ granule. option_and_then (λ (t : TableRecord). option_and_then leaf_of (slice_get t.entries (number % 512))) (tables_of cells granule)))
           (unfound-granule rd level (number / 512) at _ refl))
 
-  pub with_tables-same : with_tables (flat_state granules cells) list ≡ flat_state granules cells
+  pub with_tables-same : with_tables (flat_state config cells) list ≡ flat_state config cells
   unfolding flat_state
-  with_tables-same = λ i. record (flat_state granules cells) {
+  with_tables-same = λ i. record (flat_state config cells) {
     table = λ rd level number. flat_table-same rd level number i;
     leaf = λ rd level number. flat_leaf-same rd level number i;
   }

@@ -4,3 +4,4 @@ pub mod WholeLaws
 pub mod Walks
 pub mod Searches
 pub mod Single
+pub mod Kept

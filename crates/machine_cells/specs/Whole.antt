@@ -1,5 +1,6 @@
 -- The whole that the granules of a machine make, and the flat state that it stands for.
 use Rattle.std.specs.Prelude.{ℕ, ◌/◌, if◌then◌else◌, List, map, slice_index_or}
+use Rattle.rmm_spec.specs.HistoryText.{Config}
 use Rattle.rmm_spec.specs.Lookup.{is_granule}
 use Rattle.rmm_spec.specs.State.{State}
 use Rattle.rmm_spec.specs.TableCells.{TableCell}
@@ -37,18 +38,21 @@ cells_of list = cells_in list.config.granules list.cells.items
 unfoldable pub places_of : Places → ℕ → shape.CpuPlace
 places_of p = places_in p.places.items
 
+abbrev pub config_of : Granules → Config
+config_of g = g.list.config
+
 -- how many granules there are
 abbrev pub count_of : Granules → ℕ
-count_of g = g.list.config.granules
+count_of g = (config_of g).granules
 
 abbrev pub whole_of : Granules → Whole
 whole_of g = record { cells = cells_of g.list; side = side_of g.side; places = places_of g.places }
 
 abbrev pub IsShapedIn : Granules → Type 0
-IsShapedIn g = IsShaped (count_of g) (whole_of g)
+IsShapedIn g = IsShaped (config_of g) (whole_of g)
 
 unfoldable pub state_in : Granules → State
-state_in g = flat_state (count_of g) (cells_of g.list)
+state_in g = flat_state (config_of g) (cells_of g.list)
 
 -- the tables of the granules, each in its own
 unfoldable pub tables_in : CellList → List TableCell

@@ -11,7 +11,7 @@ impl Granules {
     ghost use Rattle.rmm_spec.specs.Applicable.{CanApply, CanRetag};
     ghost use Rattle.shape_laws.specs.Whole.{whole_changed};
     ghost use Rattle.machine_cells.specs.Changes.{takes_memory};
-    ghost use Rattle.machine_cells.specs.Whole.{count_of, whole_of, state_in, IsShapedIn};
+    ghost use Rattle.machine_cells.specs.Whole.{config_of, count_of, whole_of, state_in, IsShapedIn};
 
     /// Makes the change. Refused memory, it leaves the state as it was.
     pub fn apply(&mut self, change: &Change) -> Result<(), AllocError>
@@ -43,8 +43,8 @@ impl Granules {
     fn make(&mut self, change: &Change) -> Result<(), AllocError>
         requires shaped { IsShapedIn self.old }
         requires can { CanApply (state_in self.old) change.now }
-        ensures size { count_of self.new ≡ count_of self.old }
-        ensures ok { OnOk result (whole_of self.new ≡ whole_changed (count_of self.old) (whole_of self.old) change.now) }
+        ensures size { config_of self.new ≡ config_of self.old }
+        ensures ok { OnOk result (whole_of self.new ≡ whole_changed (config_of self.old) (whole_of self.old) change.now) }
         ensures err { OnErr result (whole_of self.new ≡ whole_of self.old) }
         ensures only { OnErr result (IsTrue (takes_memory change.now)) }
     {

@@ -19,12 +19,12 @@ impl Granules {
     ghost use Rattle.rmm_spec.specs.declared.change.Change.TheVariants as change;
     ghost use Rattle.rmm_spec.specs.Applicable.{CanRetag, CanMakeRealm, CanDestroyRealm, CanMakeRec, CanDestroyRec, CanMakeTable, CanDestroyTable, CanApply};
     ghost use Rattle.shape_laws.specs.Whole.{whole_changed};
-    ghost use Rattle.machine_cells.specs.Whole.{count_of, whole_of, state_in, IsShapedIn};
+    ghost use Rattle.machine_cells.specs.Whole.{config_of, count_of, whole_of, state_in, IsShapedIn};
 
     pub(crate) fn make_retag(&mut self, granule: u64, tag: Tag)
         requires { CanRetag (state_in self.old) (record { granule = granule; tag = tag }) }
-        ensures size { count_of self.new ≡ count_of self.old }
-        ensures whole { whole_of self.new ≡ whole_changed (count_of self.old) (whole_of self.old) (change.Retagged (record { granule = granule; tag = tag })) }
+        ensures size { config_of self.new ≡ config_of self.old }
+        ensures whole { whole_of self.new ≡ whole_changed (config_of self.old) (whole_of self.old) (change.Retagged (record { granule = granule; tag = tag })) }
     {
         self.list.change_tag(Some(TagChange { granule, tag }));
     }
@@ -40,8 +40,8 @@ impl Granules {
         algo: u8,
     ) -> Result<(), AllocError>
         requires { CanMakeRealm (state_in self.old) rd root width level vmid algo }
-        ensures size { count_of self.new ≡ count_of self.old }
-        ensures ok { OnOk result (whole_of self.new ≡ whole_changed (count_of self.old) (whole_of self.old) (change.RealmMade rd root width level vmid algo)) }
+        ensures size { config_of self.new ≡ config_of self.old }
+        ensures ok { OnOk result (whole_of self.new ≡ whole_changed (config_of self.old) (whole_of self.old) (change.RealmMade rd root width level vmid algo)) }
         ensures err { OnErr result (whole_of self.new ≡ whole_of self.old) }
     {
         let realm = Realm::from_words(root, width, level, vmid, algo);
@@ -58,8 +58,8 @@ impl Granules {
     pub(crate) fn destroy_realm(&mut self, rd: u64, root: u64)
         requires shaped { IsShapedIn self.old }
         requires can { CanDestroyRealm (state_in self.old) rd root }
-        ensures size { count_of self.new ≡ count_of self.old }
-        ensures whole { whole_of self.new ≡ whole_changed (count_of self.old) (whole_of self.old) (change.RealmDestroyed rd root) }
+        ensures size { config_of self.new ≡ config_of self.old }
+        ensures whole { whole_of self.new ≡ whole_changed (config_of self.old) (whole_of self.old) (change.RealmDestroyed rd root) }
     {
         free_vmid(&self.list, &mut self.side, rd);
         self.list.put(rd, Cell::Delegated);
@@ -78,8 +78,8 @@ impl Granules {
     )
         requires shaped { IsShapedIn self.old }
         requires can { CanMakeRec (state_in self.old) rd rec mpidr flags aux0 aux1 }
-        ensures size { count_of self.new ≡ count_of self.old }
-        ensures whole { whole_of self.new ≡ whole_changed (count_of self.old) (whole_of self.old) (change.RecMade rd rec mpidr flags aux0 aux1) }
+        ensures size { config_of self.new ≡ config_of self.old }
+        ensures whole { whole_of self.new ≡ whole_changed (config_of self.old) (whole_of self.old) (change.RecMade rd rec mpidr flags aux0 aux1) }
     {
         let _granules = self.list.config.granules();
         let Some(mut realm) = self.realm(rd) else {
@@ -98,8 +98,8 @@ impl Granules {
     pub(crate) fn destroy_rec(&mut self, rec: u64, aux0: u64, aux1: u64)
         requires shaped { IsShapedIn self.old }
         requires can { CanDestroyRec (state_in self.old) rec aux0 aux1 }
-        ensures size { count_of self.new ≡ count_of self.old }
-        ensures whole { whole_of self.new ≡ whole_changed (count_of self.old) (whole_of self.old) (change.RecDestroyed rec aux0 aux1) }
+        ensures size { config_of self.new ≡ config_of self.old }
+        ensures whole { whole_of self.new ≡ whole_changed (config_of self.old) (whole_of self.old) (change.RecDestroyed rec aux0 aux1) }
     {
         uncount_rec(&self.list, &mut self.side, rec);
         self.list.put(rec, Cell::Delegated);
@@ -111,8 +111,8 @@ impl Granules {
     pub(crate) fn change_records(&mut self, realm: Option<RealmChange>, rec: Option<RecChange>)
         requires shaped { IsShapedIn self.old }
         requires can { CanApply (state_in self.old) (change.RecordsChanged realm rec) }
-        ensures size { count_of self.new ≡ count_of self.old }
-        ensures whole { whole_of self.new ≡ whole_changed (count_of self.old) (whole_of self.old) (change.RecordsChanged realm rec) }
+        ensures size { config_of self.new ≡ config_of self.old }
+        ensures whole { whole_of self.new ≡ whole_changed (config_of self.old) (whole_of self.old) (change.RecordsChanged realm rec) }
     {
         change_places(&self.list, &mut self.places, rec);
         self.list.change_realm(realm);
@@ -130,8 +130,8 @@ impl Granules {
     ) -> Result<(), AllocError>
         requires shaped { IsShapedIn self.old }
         requires can { CanMakeTable (state_in self.old) rd level number rtt entry }
-        ensures size { count_of self.new ≡ count_of self.old }
-        ensures ok { OnOk result (whole_of self.new ≡ whole_changed (count_of self.old) (whole_of self.old) (change.TableMade rd level number rtt entry)) }
+        ensures size { config_of self.new ≡ config_of self.old }
+        ensures ok { OnOk result (whole_of self.new ≡ whole_changed (config_of self.old) (whole_of self.old) (change.TableMade rd level number rtt entry)) }
         ensures err { OnErr result (whole_of self.new ≡ whole_of self.old) }
     {
         let Some(above) = self.table_at(rd, level - 1, number / 512) else {
@@ -158,8 +158,8 @@ impl Granules {
     pub(crate) fn destroy_table(&mut self, rd: u64, level: u8, number: u64, rtt: u64, entry: Entry)
         requires shaped { IsShapedIn self.old }
         requires can { CanDestroyTable (state_in self.old) rd level number rtt entry }
-        ensures size { count_of self.new ≡ count_of self.old }
-        ensures whole { whole_of self.new ≡ whole_changed (count_of self.old) (whole_of self.old) (change.TableDestroyed rd level number rtt entry) }
+        ensures size { config_of self.new ≡ config_of self.old }
+        ensures whole { whole_of self.new ≡ whole_changed (config_of self.old) (whole_of self.old) (change.TableDestroyed rd level number rtt entry) }
     {
         let above = self.table_at(rd, level - 1, number / 512);
         self.list
@@ -179,8 +179,8 @@ impl Granules {
     )
         requires shaped { IsShapedIn self.old }
         requires can { CanApply (state_in self.old) (change.EntriesChanged rd level entries page realm rec) }
-        ensures size { count_of self.new ≡ count_of self.old }
-        ensures whole { whole_of self.new ≡ whole_changed (count_of self.old) (whole_of self.old) (change.EntriesChanged rd level entries page realm rec) }
+        ensures size { config_of self.new ≡ config_of self.old }
+        ensures whole { whole_of self.new ≡ whole_changed (config_of self.old) (whole_of self.old) (change.EntriesChanged rd level entries page realm rec) }
     {
         let at = self.table_at(rd, level, table_changed(entries));
         change_places(&self.list, &mut self.places, rec);

@@ -5,7 +5,7 @@ use crate::places::Places;
 use granule_cells::{Cell, Side};
 use granule_state::Config;
 use realm_desc::{Realm, Rec};
-use rmm_spec::Tag;
+use rmm_spec::{Tag, Version};
 use std::alloc::{AllocError, Global};
 
 /// A cell for each granule of a machine, the side table, and each CPU's place.
@@ -46,6 +46,14 @@ impl Granules {
         ensures most { result ≤ 4096 }
     {
         self.list.config.granules() as usize
+    }
+
+    /// The version of the rules that the machine goes by.
+    #[tactic(auto, unfolding(crate::specs::Whole::state_in, rmm_spec::specs::Flat::flat_state))]
+    pub fn version(&self) -> Version
+        ensures { result ≡ (state_in self.now).config.version }
+    {
+        self.list.config.version()
     }
 
     /// The tag of a granule, which is the host's where none is at the address.

@@ -6,7 +6,7 @@ use granule_cells::CpuPlace;
 use std::alloc::{AllocError, Global};
 
 /// How many CPUs a number of one byte tells apart.
-const CPUS: usize = 256;
+pub(crate) const CPUS: usize = 256;
 
 /// At each CPU's number its place.
 #[derive(Drop)]

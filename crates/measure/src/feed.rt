@@ -2,17 +2,16 @@
 
 ghost use Rattle.std.specs.Prelude.{◌≡◌, List, ℕ, ◌*◌, ◌++◌, length};
 ghost use Rattle.rmm_spec.specs.Measure.{words_bytes};
-ghost use Rattle.sha2.specs.Hashers.{Holds256};
 
 use byteorder::{ByteOrder, LittleEndian};
-use sha2::{Digest, Sha256};
+use sha2::Digest;
 
 // The most words that are fed at once.
 const AT_ONCE: usize = 8;
 
 // The bytes of the words, after what the hasher holds.
-pub fn feed_words(hasher: &mut Sha256, words: &[u64])
-    ensures { (m : List ℕ) → Holds256 hasher.old m → Holds256 hasher.new (m ++ words_bytes words.now) }
+pub fn feed_words<D: Digest>(hasher: &mut D, words: &[u64])
+    ensures { (m : List ℕ) → D.holds hasher.old m → D.holds hasher.new (m ++ words_bytes words.now) }
 {
     if words.len() > AT_ONCE {
         feed_each(hasher, words);
@@ -24,9 +23,9 @@ pub fn feed_words(hasher: &mut Sha256, words: &[u64])
 
 // The same by way of so many bytes of any value.
 #[tactic(auto, unfolding(rmm_spec::specs::Measure::words_bytes))]
-fn feed_over(hasher: &mut Sha256, bytes: &mut [u8], words: &[u64])
+fn feed_over<D: Digest>(hasher: &mut D, bytes: &mut [u8], words: &[u64])
     requires { length bytes.old ≡ 8 * length words.now }
-    ensures { (m : List ℕ) → Holds256 hasher.old m → Holds256 hasher.new (m ++ words_bytes words.now) }
+    ensures { (m : List ℕ) → D.holds hasher.old m → D.holds hasher.new (m ++ words_bytes words.now) }
 {
     LittleEndian::write_u64_into(words, bytes);
     let written: &[u8] = bytes;
@@ -34,8 +33,8 @@ fn feed_over(hasher: &mut Sha256, bytes: &mut [u8], words: &[u64])
 }
 
 // The same word by word, however many they are.
-fn feed_each(hasher: &mut Sha256, words: &[u64])
-    ensures { (m : List ℕ) → Holds256 hasher.old m → Holds256 hasher.new (m ++ words_bytes words.now) }
+fn feed_each<D: Digest>(hasher: &mut D, words: &[u64])
+    ensures { (m : List ℕ) → D.holds hasher.old m → D.holds hasher.new (m ++ words_bytes words.now) }
 {
     for word in words {
         let mut bytes = [0; 8];

@@ -1,39 +1,49 @@
 //! Realm extensible measurements.
 
-ghost use Rattle.std.specs.Prelude.{◌≡◌, List, ℕ};
+ghost use Rattle.std.specs.Prelude.{◌≡◌, ◌++◌};
+ghost use Rattle.sha2.specs.Sha256.{sha256};
+ghost use Rattle.sha2.specs.Sha512.{sha512};
 ghost use Rattle.rmm_spec.specs.Measure.{rem_extended, rem_start};
 
-use sha2::{Digest, Sha256};
+use rmm_spec::Measurement;
+use sha2::{Digest, Sha256, Sha512};
 use std::marker::Model;
 
-/// A realm extensible measurement, 32 bytes.
+/// A realm extensible measurement, 32 bytes or 64 by the realm's hash.
 #[derive(Clone, Copy)]
 pub struct Rem {
-    bytes: [u8; 32],
+    measurement: Measurement,
 }
 
 impl Model for Rem {
-    ghost Value = { List ℕ };
+    ghost use Rattle.rmm_spec.specs.declared.measurement.Measurement.{Measurement};
 
-    ghost view = { λ rem. rem.bytes };
+    ghost Value = { Measurement };
 
-    ghost inverse = { λ bytes. record { bytes = bytes } };
+    ghost view = { λ rem. rem.measurement };
+
+    ghost inverse = { λ measurement. record { measurement = measurement } };
 }
 
 impl Rem {
-    /// The REM of a realm that is made now.
+    /// The REM of a realm that is made now with the hash of the number `algo`: 1 is SHA-512, and SHA-256 stands for any other.
     #[tactic(auto, unfolding(rmm_spec::specs::Measure::rem_start))]
-    pub fn start() -> Rem
-        ensures { result ≡ rem_start }
+    pub fn start(algo: u64) -> Rem
+        ensures { result ≡ rem_start algo }
     {
-        Rem { bytes: [0; 32] }
+        let measurement = if algo == 1 {
+            Measurement::Sha512([0; 64])
+        } else {
+            Measurement::Sha256([0; 32])
+        };
+        Rem { measurement }
     }
 
-    /// Its bytes.
-    pub fn as_bytes(&self) -> &[u8; 32]
+    /// Its bytes, behind the hash that made them.
+    pub fn measurement(&self) -> &Measurement
         ensures { result.now ≡ self.now }
     {
-        &self.bytes
+        &self.measurement
     }
 }
 
@@ -42,9 +52,27 @@ impl Rem {
 pub fn extend_bytes(rem: &Rem, bytes: &[u8]) -> Rem
     ensures { result ≡ rem_extended rem.now bytes.now }
 {
-    let mut hasher = Sha256::new_with_prefix(rem.as_bytes());
+    let measurement = match &rem.measurement {
+        Measurement::Sha256(old) => Measurement::Sha256(extended_256(old, bytes)),
+        Measurement::Sha512(old) => Measurement::Sha512(extended_512(old, bytes)),
+    };
+    Rem { measurement }
+}
+
+fn extended_256(old: &[u8; 32], bytes: &[u8]) -> [u8; 32]
+    ensures { result ≡ sha256 (old.now ++ bytes.now) }
+{
+    let mut hasher = Sha256::new_with_prefix(old);
     hasher.update(bytes);
-    Rem {
-        bytes: hasher.finalize(),
-    }
+    hasher.finalize()
+}
+
+// Apart, since its hasher is large.
+#[inline(never)]
+fn extended_512(old: &[u8; 64], bytes: &[u8]) -> [u8; 64]
+    ensures { result ≡ sha512 (old.now ++ bytes.now) }
+{
+    let mut hasher = Sha512::new_with_prefix(old);
+    hasher.update(bytes);
+    hasher.finalize()
 }

@@ -1,33 +1,37 @@
 //! The realm initial measurement.
 
-ghost use Rattle.std.specs.Prelude.{◌≡◌, List, ℕ};
-ghost use Rattle.rmm_spec.specs.Measure.{rim_begin, rim_extended};
+ghost use Rattle.std.specs.Prelude.{◌≡◌, ◌++◌};
+ghost use Rattle.sha2.specs.Sha256.{sha256};
+ghost use Rattle.sha2.specs.Sha512.{sha512};
+ghost use Rattle.rmm_spec.specs.Measure.{rim_begin, rim_extended, words_bytes};
 
 use crate::feed::feed_words;
-use rmm_spec::FunctionId;
-use sha2::{Digest, Sha256};
+use rmm_spec::{FunctionId, Measurement};
+use sha2::{Digest, Sha256, Sha512};
 use std::marker::Model;
 
-/// A realm initial measurement, 32 bytes.
+/// A realm initial measurement, 32 bytes or 64 by the realm's hash.
 #[derive(Clone, Copy)]
 pub struct Rim {
-    bytes: [u8; 32],
+    measurement: Measurement,
 }
 
 impl Model for Rim {
-    ghost Value = { List ℕ };
+    ghost use Rattle.rmm_spec.specs.declared.measurement.Measurement.{Measurement};
 
-    ghost view = { λ rim. rim.bytes };
+    ghost Value = { Measurement };
 
-    ghost inverse = { λ bytes. record { bytes = bytes } };
+    ghost view = { λ rim. rim.measurement };
+
+    ghost inverse = { λ measurement. record { measurement = measurement } };
 }
 
 impl Rim {
-    /// Its bytes.
-    pub fn as_bytes(&self) -> &[u8; 32]
+    /// Its bytes, behind the hash that made them.
+    pub fn measurement(&self) -> &Measurement
         ensures { result.now ≡ self.now }
     {
-        &self.bytes
+        &self.measurement
     }
 }
 
@@ -43,16 +47,16 @@ const RIM_OF_48_BITS: [u8; 32] = [
 ];
 
 /// The RIM of a realm that is made now: its address space has 2 to the `width` bytes and is walked from `level` on,
-/// and `algo` is the number of the hash that it asked for.
+/// and `algo` is the number of the hash that it asked for: 1 is SHA-512, and SHA-256 stands for any other.
 pub fn begin(width: u64, level: u64, algo: u64) -> Rim
     ensures { result ≡ rim_begin width level algo }
 {
     match (width, level, algo) {
         (0x27, 1, 0) => Rim {
-            bytes: RIM_OF_39_BITS,
+            measurement: Measurement::Sha256(RIM_OF_39_BITS),
         },
         (0x30, 0, 0) => Rim {
-            bytes: RIM_OF_48_BITS,
+            measurement: Measurement::Sha256(RIM_OF_48_BITS),
         },
         _ => hashed(width, level, algo),
     }
@@ -64,12 +68,13 @@ pub fn begin(width: u64, level: u64, algo: u64) -> Rim
 fn hashed(width: u64, level: u64, algo: u64) -> Rim
     ensures { result ≡ rim_begin width level algo }
 {
-    let mut hasher = Sha256::new();
     let words = [FunctionId::RealmCreate.number(), width, level, algo];
-    feed_words(&mut hasher, &words);
-    Rim {
-        bytes: hasher.finalize(),
-    }
+    let measurement = if algo == 1 {
+        Measurement::Sha512(digest_512(&[], &words))
+    } else {
+        Measurement::Sha256(digest_256(&[], &words))
+    };
+    Rim { measurement }
 }
 
 /// The RIM after a command that is measured by `words`.
@@ -77,9 +82,28 @@ fn hashed(width: u64, level: u64, algo: u64) -> Rim
 pub fn extend_words(rim: &Rim, words: &[u64]) -> Rim
     ensures { result ≡ rim_extended rim.now words.now }
 {
-    let mut hasher = Sha256::new_with_prefix(rim.as_bytes());
+    let measurement = match &rim.measurement {
+        Measurement::Sha256(old) => Measurement::Sha256(digest_256(old, words)),
+        Measurement::Sha512(old) => Measurement::Sha512(digest_512(old, words)),
+    };
+    Rim { measurement }
+}
+
+// Of some bytes and the words behind them.
+fn digest_256(bytes: &[u8], words: &[u64]) -> [u8; 32]
+    ensures { result ≡ sha256 (bytes.now ++ words_bytes words.now) }
+{
+    let mut hasher = Sha256::new_with_prefix(bytes);
     feed_words(&mut hasher, words);
-    Rim {
-        bytes: hasher.finalize(),
-    }
+    hasher.finalize()
+}
+
+// Apart, since its hasher is large.
+#[inline(never)]
+fn digest_512(bytes: &[u8], words: &[u64]) -> [u8; 64]
+    ensures { result ≡ sha512 (bytes.now ++ words_bytes words.now) }
+{
+    let mut hasher = Sha512::new_with_prefix(bytes);
+    feed_words(&mut hasher, words);
+    hasher.finalize()
 }

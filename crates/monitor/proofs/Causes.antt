@@ -16,28 +16,26 @@ use Rattle.commit_tickets.specs.View.{JournalView, TokenView}
 use Rattle.monitor.specs.Causes.{HadCause}
 use Rattle.granule_lock.specs.Locked.{AreGranules}
 
--- a run of a machine is one of each machine with as many granules
-pub same-run : (config other : Config) (entries : List JournalEntry) (last : State) → other.granules ≡ config.granules
+-- a run of a machine is one of the same
+pub same-run : (config other : Config) (entries : List JournalEntry) (last : State) → other ≡ config
     → IsRun (opening other) entries last → IsRun (opening config) entries last
-unfolding opening
-same-run config other entries last same run =
-    subst (λ granules. IsRun (opening (record config { granules = granules })) entries last) same run
+same-run config other entries last same run = subst (λ c. IsRun (opening c) entries last) same run
 
 -- a fault of a commit had its cause
 pub fault-had_cause : (config : Config) (command : Command) (token : TokenView) (journal : JournalView) (last : State) (cells : List HeldCell)
-    (size : ℕ) (result : Result Done CommitFault) → config.granules ≡ size → journal.config.granules ≡ size
+    (site : Config) (result : Result Done CommitFault) → config ≡ site → journal.config ≡ site
     → IsRun (opening journal.config) journal.entries last → AreGranules config.granules cells
-    → IsTrue (is_settled config.granules (call_of command) (place_of token.place) cells)
-    → IfErr result (λ fault. HasCause fault size command journal token cells) → IfErr result (λ fault. HadCause config fault command token)
-fault-had_cause config command token journal last cells size (Ok done) is_size is_journal run granules settled cause = tt
-fault-had_cause config command token journal last cells size (Err fault) is_size is_journal run granules settled cause =
-    let same : journal.config.granules ≡ config.granules = is_journal ∙ sym is_size in record {
+    → IsTrue (is_settled config (call_of command) (place_of token.place) cells)
+    → IfErr result (λ fault. HasCause fault site command journal token cells) → IfErr result (λ fault. HadCause config fault command token)
+fault-had_cause config command token journal last cells site (Ok done) is_site is_journal run granules settled cause = tt
+fault-had_cause config command token journal last cells site (Err fault) is_site is_journal run granules settled cause =
+    let same : journal.config ≡ config = is_journal ∙ sym is_site in record {
       journal = journal;
       last = last;
       cells = cells;
-      same_size = same;
+      same = same;
       run = same-run config journal.config journal.entries last same run;
       granules = granules;
       settled = settled;
-      cause = subst (λ n. HasCause fault n command journal token cells) (sym is_size) cause;
+      cause = subst (λ c. HasCause fault c command journal token cells) (sym is_site) cause;
     }

@@ -13,7 +13,7 @@ use Rattle.commit_tickets.specs.View.{JournalView, TokenView}
 use Rattle.monitor.specs.Closed.{lines_for, IsJournal, Disagree}
 use Rattle.monitor.proofs.Causes.{same-run}
 
-module _ (config : Config) (journal : JournalView) (last : State) (same : journal.config.granules ≡ config.granules)
+module _ (config : Config) (journal : JournalView) (last : State) (same : journal.config ≡ config)
     (run : IsRun (opening journal.config) journal.entries last) (tokens compared : List TokenView) (are : compared ≡ tokens) (answer : Bool)
     (tells : (answer ≡ true) ↔ AreListed compared journal.entries) where
   pub disagree : length journal.entries ≡ sum_by (λ (token : TokenView). length token.mine) tokens → answer ≡ false → Disagree config tokens

@@ -23,11 +23,11 @@ pub record HadCause (config : Config) (fault : CommitFault) (command : Command) 
   pub journal : JournalView
   pub last : State
   pub cells : List HeldCell
-  pub same_size : journal.config.granules ≡ config.granules
+  pub same : journal.config ≡ config
   pub run : IsRun (opening config) journal.entries last
   pub granules : AreGranules config.granules cells
-  pub settled : IsTrue (is_settled config.granules (call_of command) (place_of token.place) cells)
-  pub cause : HasCause fault config.granules command journal token cells
+  pub settled : IsTrue (is_settled config (call_of command) (place_of token.place) cells)
+  pub cause : HasCause fault config command journal token cells
 
 -- an answer for a fault is given only where the fault had its cause
 abbrev pub FaultHadCause : Config → Command → TokenView → Result Done Refused → Type 0

@@ -104,7 +104,7 @@ impl<S: Site> Monitor<S> {
     ) -> Result<Done, CommitFault>
         requires called { HasCalled token.old command.now _pass.now }
         requires granules { AreGranules self.now.config.granules (hold_cells hold.old) }
-        requires settled { IsTrue (is_settled self.now.config.granules (call_of command.now) (place_of token.old.place) (hold_cells hold.old)) }
+        requires settled { IsTrue (is_settled self.now.config (call_of command.now) (place_of token.old.place) (hold_cells hold.old)) }
         ensures granules { AreGranules self.now.config.granules (hold_cells hold.new) }
         ensures done { IfOk result (λ done. HasCommitted token.old command.now done token.new) }
         ensures told { IfOk result (λ done. token.old.seen ≤ done.ticket) }

@@ -34,7 +34,7 @@ impl<S: Site> Model for Monitor<S> {
 
     ghost view = { λ m. record { config = m.config; queue = m.recorder.queue; capacity = m.recorder.capacity } };
 
-    ghost invariant = { λ m. (m.granules.granules ≡ m.config.granules) × (m.config.granules ≡ S.granules) × (m.config.cpus ≡ S.parts) };
+    ghost invariant = { λ m. (m.granules.granules ≡ m.config.granules) × (m.config ≡ S.config) × (m.config.cpus ≡ S.parts) };
 }
 
 impl<S: Site> Monitor<S> {
@@ -50,7 +50,7 @@ impl<S: Site> Monitor<S> {
         requires name { blank.name ≡ S.name }
         requires parts { blank.parts ≡ S.parts }
         requires one_each { blank.parts ≡ config.cpus }
-        requires granules { config.granules ≡ S.granules }
+        requires site { config ≡ S.config }
         requires capacity { (1 ≤ capacity) × (capacity ≤ 65536) }
         ensures config { IfOk result (λ made. made.0.config ≡ config) }
         ensures capacity { IfOk result (λ made. made.0.capacity ≡ capacity) }

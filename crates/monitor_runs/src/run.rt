@@ -51,7 +51,7 @@ fn recorded<S: Site + Send + Sync, R: Threads + Wait + Sync>(
     requires name { blank.name ≡ S.name }
     requires parts { blank.parts ≡ S.parts }
     requires one_each { blank.parts ≡ config.cpus }
-    requires granules { config.granules ≡ S.granules }
+    requires site { config ≡ S.config }
     requires config { config ≡ scenario.now.config }
     requires limits { IsScenario scenario.now }
     ensures ran { IfOk result (λ ran. IsThreadRun scenario.now ran.0.recorded ran.1.lines) }

@@ -3,7 +3,7 @@ use Rattle.std.specs.Prelude.{◌≡◌, ℕ, ◌==◌, if◌then◌else◌, Opt
 use Rattle.rmm_spec.specs.State as spec
 use Rattle.rmm_spec.specs.State.{RealmRecord, RecRecord, Pending}
 use Rattle.realm_desc.specs.declared.hash_algorithm.HashAlgorithm.{HashAlgorithm}
-use Rattle.realm_desc.specs.declared.hash_algorithm.HashAlgorithm.TheVariants.{Sha256}
+use Rattle.realm_desc.specs.declared.hash_algorithm.HashAlgorithm.TheVariants.{Sha256, Sha512}
 use Rattle.realm_desc.specs.declared.pending_exit.PendingExit.{PendingExit}
 use Rattle.realm_desc.specs.declared.pending_exit.PendingExit.TheVariants.{Psci, RipasChange, HostCall}
 use Rattle.realm_desc.specs.declared.realm.Realm.TheInside as realm
@@ -28,6 +28,11 @@ space_of width = if width == 0x27 then Bits39 else Bits48
 -- the word that stands for a hash
 abbrev pub algorithm_number : HashAlgorithm → ℕ
 algorithm_number Sha256 = 0
+algorithm_number Sha512 = 1
+
+-- the hash of a number
+abbrev pub algorithm_of : ℕ → HashAlgorithm
+algorithm_of number = if number == 0 then Sha256 else Sha512
 
 -- why a REC waits, in the definitions' words
 abbrev pub pending_of : PendingExit → Pending
@@ -60,7 +65,7 @@ realm_fields r = record {
   state = r.state;
   space = space_of r.width;
   vmid = r.vmid;
-  algorithm = Sha256;
+  algorithm = algorithm_of r.algo;
   root = r.root;
   next_index = r.next_index;
   rim = r.rim;
@@ -71,8 +76,9 @@ space_of-width_of : (space : Space) → space_of (width_of space) ≡ space
 space_of-width_of Bits39 = refl
 space_of-width_of Bits48 = refl
 
-only_algorithm : (algorithm : HashAlgorithm) → Sha256 ≡ algorithm
-only_algorithm Sha256 = refl
+algorithm_of-algorithm_number : (algorithm : HashAlgorithm) → algorithm_of (algorithm_number algorithm) ≡ algorithm
+algorithm_of-algorithm_number Sha256 = refl
+algorithm_of-algorithm_number Sha512 = refl
 
 -- a realm's record tells all of it
 pub realm_fields-realm_record : (r : realm.Inside) → realm_fields (realm_record r) ≡ r
@@ -81,7 +87,7 @@ realm_fields-realm_record r = λ i. record {
   state = r.state;
   space = space_of-width_of r.space i;
   vmid = r.vmid;
-  algorithm = only_algorithm r.algorithm i;
+  algorithm = algorithm_of-algorithm_number r.algorithm i;
   root = r.root;
   next_index = r.next_index;
   rim = r.rim;

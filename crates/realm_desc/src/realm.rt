@@ -66,14 +66,14 @@ impl Realm {
                 u64::from(space.start_level()),
                 u64::from(algorithm.number()),
             ),
-            rems: [Rem::start(); 4],
+            rems: [Rem::start(u64::from(algorithm.number())); 4],
         }
     }
 
     /// A realm that was just made, from the words of the command that makes it.
     pub fn from_words(root: u64, width: u8, level: u8, vmid: u8, algo: u8) -> Self
         requires space { IsTrue (is_space width level) }
-        requires algo { algo ≡ 0 }
+        requires algo { IsTrue (spec.is_hash algo) }
         ensures { result ≡ new_realm root width level vmid algo }
     {
         let Some(space) = Space::of(u64::from(width), u64::from(level)) else {

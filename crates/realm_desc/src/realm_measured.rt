@@ -3,23 +3,24 @@
 ghost use Rattle.std.specs.Prelude.{◌≡◌, ◌≤◌};
 ghost use Rattle.rmm_spec.specs.declared.change.RealmUpdate.TheVariants.{MeasurementExtended};
 ghost use Rattle.rmm_spec.specs.Change.{measurement_at, realm_updated};
-ghost use Rattle.rmm_spec.specs.Measure.{measurement_words, words_bytes};
+ghost use Rattle.rmm_spec.specs.Measure.{words_bytes};
 
 use crate::realm::Realm;
 use byteorder::{ByteOrder, LittleEndian};
-use measure::{extend_bytes, words};
+use measure::extend_bytes;
+use rmm_spec::Measurement;
 
 #[tactic(auto, unfolding(crate::specs::View::realm_record))]
 impl Realm {
-    /// A measurement as four words: the initial one at 0, and the extensible ones from 1 to 4.
-    pub fn measurement(&self, index: u8) -> [u64; 4]
+    /// A measurement: the initial one at 0, and the extensible ones from 1 to 4.
+    pub fn measurement(&self, index: u8) -> &Measurement
         requires { index ≤ 4 }
-        ensures { result ≡ measurement_words (measurement_at self.now index) }
+        ensures { result.now ≡ measurement_at self.now index }
     {
         if index == 0 {
-            words(self.rim.as_bytes())
+            self.rim.measurement()
         } else {
-            words(self.rems[usize::from(index) - 1].as_bytes())
+            self.rems[usize::from(index) - 1].measurement()
         }
     }
 

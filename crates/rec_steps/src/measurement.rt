@@ -9,8 +9,9 @@ ghost use Rattle.rec_steps.specs.Answers.{answer_at, IsStep};
 use crate::reply::input_error;
 use crate::step::RecStep;
 use arrayvec::ArrayVec;
+use measure::{words, words8};
 use realm_desc::Realm;
-use rmm_spec::{RealmUpdate, Reply};
+use rmm_spec::{Measurement, RealmUpdate, Reply};
 
 #[tactic(auto, unfolding(rmm_spec::specs::Step::RealmCall::measurement_read, rmm_spec::specs::Step::Words::words_of, rmm_spec::specs::Step::Named::named))]
 pub(crate) fn measurement_read(realm: &Realm, index: u64) -> Result<RecStep, Reply>
@@ -21,7 +22,10 @@ pub(crate) fn measurement_read(realm: &Realm, index: u64) -> Result<RecStep, Rep
     if index > 4 {
         return Err(input_error());
     }
-    Ok(RecStep::read(&realm.measurement(index as u8)))
+    match realm.measurement(index as u8) {
+        Measurement::Sha256(bytes) => Ok(RecStep::read(&words(bytes))),
+        Measurement::Sha512(bytes) => Ok(RecStep::read(&words8(bytes))),
+    }
 }
 
 #[tactic(auto, unfolding(rmm_spec::specs::Step::RealmCall::measurement_extend, rmm_spec::specs::Step::Words::words_of, rmm_spec::specs::Step::Named::named))]

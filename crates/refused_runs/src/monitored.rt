@@ -81,7 +81,7 @@ fn push_run<S: Site, R: Wait>(
     requires name { blank.name ≡ S.name }
     requires parts { blank.parts ≡ S.parts }
     requires one_each { blank.parts ≡ config.cpus }
-    requires granules { config.granules ≡ S.granules }
+    requires granules { config ≡ S.config }
     requires capacity { (1 ≤ capacity) × (capacity ≤ 65536) }
 {
     let (monitor, mut tokens, mut passes, mut scribe) = Monitor::<S>::new(

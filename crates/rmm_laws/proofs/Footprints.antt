@@ -16,12 +16,12 @@ use Rattle.rmm_spec.proofs.Tests.{both_ways}
 
 -- nothing changes
 pub same-keeps : (parts : List Part) (s : State) → KeepsOthers parts s s
-same-keeps parts s = record { granules = refl; tags = λ _. refl; realms = λ _. refl; recs = λ _. refl; tables = λ _. refl; leaves = λ _. refl }
+same-keeps parts s = record { config = refl; tags = λ _. refl; realms = λ _. refl; recs = λ _. refl; tables = λ _. refl; leaves = λ _. refl }
 
 -- one change after another
 then-keeps : (parts : List Part) (a b c : State) → KeepsOthers parts a b → KeepsOthers parts b c → KeepsOthers parts a c
 then-keeps parts a b c first second = record {
-  granules = second.granules ∙ first.granules;
+  config = second.config ∙ first.config;
   tags = λ no. second.tags no ∙ first.tags no;
   realms = λ no. second.realms no ∙ first.realms no;
   recs = λ no. second.recs no ∙ first.recs no;
@@ -32,23 +32,23 @@ then-keeps parts a b c first second = record {
 tag_change-keeps_others : (parts : List Part) (s : State) (change : Option TagChange) → is_listed_for change Tags parts ≡ true → KeepsOthers parts s (with_tag_change s change)
 tag_change-keeps_others parts s None listed = same-keeps parts s
 tag_change-keeps_others parts s (Some change) listed =
-    record { granules = refl; tags = λ no. both_ways listed no; realms = λ _. refl; recs = λ _. refl; tables = λ _. refl; leaves = λ _. refl }
+    record { config = refl; tags = λ no. both_ways listed no; realms = λ _. refl; recs = λ _. refl; tables = λ _. refl; leaves = λ _. refl }
 
 realm_change-keeps_others : (parts : List Part) (s : State) (change : Option RealmChange) → is_listed_for change Realms parts ≡ true → KeepsOthers parts s (with_realm_change s change)
 realm_change-keeps_others parts s None listed = same-keeps parts s
 realm_change-keeps_others parts s (Some change) listed =
-    record { granules = refl; tags = λ _. refl; realms = λ no. both_ways listed no; recs = λ _. refl; tables = λ _. refl; leaves = λ _. refl }
+    record { config = refl; tags = λ _. refl; realms = λ no. both_ways listed no; recs = λ _. refl; tables = λ _. refl; leaves = λ _. refl }
 
 rec_change-keeps_others : (parts : List Part) (s : State) (change : Option RecChange) → is_listed_for change Recs parts ≡ true → KeepsOthers parts s (with_rec_change s change)
 rec_change-keeps_others parts s None listed = same-keeps parts s
 rec_change-keeps_others parts s (Some change) listed =
-    record { granules = refl; tags = λ _. refl; realms = λ _. refl; recs = λ no. both_ways listed no; tables = λ _. refl; leaves = λ _. refl }
+    record { config = refl; tags = λ _. refl; realms = λ _. refl; recs = λ no. both_ways listed no; tables = λ _. refl; leaves = λ _. refl }
 
 entry_change-keeps_others : (parts : List Part) (s : State) (rd level : ℕ) (entries : EntryChange) → is_listed Leaves parts ≡ true → KeepsOthers parts s (with_entry_change s rd level entries)
 entry_change-keeps_others parts s rd level (Replaced number entry) listed =
-    record { granules = refl; tags = λ _. refl; realms = λ _. refl; recs = λ _. refl; tables = λ _. refl; leaves = λ no. both_ways listed no }
+    record { config = refl; tags = λ _. refl; realms = λ _. refl; recs = λ _. refl; tables = λ _. refl; leaves = λ no. both_ways listed no }
 entry_change-keeps_others parts s rd level (RipasSet first last ripas) listed =
-    record { granules = refl; tags = λ _. refl; realms = λ _. refl; recs = λ _. refl; tables = λ _. refl; leaves = λ no. both_ways listed no }
+    record { config = refl; tags = λ _. refl; realms = λ _. refl; recs = λ _. refl; tables = λ _. refl; leaves = λ no. both_ways listed no }
 
 -- three and four tests that hold
 three : (a b c : Bool) → (a && (b && c)) ≡ true → (a ≡ true) × (b ≡ true) × (c ≡ true)
@@ -64,26 +64,26 @@ changed-keeps parts s Unchanged listed = same-keeps parts s
 changed-keeps parts s (Retagged change) listed = tag_change-keeps_others parts s (Some change) listed
 changed-keeps parts s (RealmMade rd root width level vmid algo) listed =
     let all = four (is_listed Tags parts) (is_listed Realms parts) (is_listed Tables parts) (is_listed Leaves parts) listed in
-    record { granules = refl; tags = λ no. both_ways all.0 no; realms = λ no. both_ways all.1 no; recs = λ _. refl; tables = λ no. both_ways all.2 no; leaves = λ no. both_ways all.3 no }
+    record { config = refl; tags = λ no. both_ways all.0 no; realms = λ no. both_ways all.1 no; recs = λ _. refl; tables = λ no. both_ways all.2 no; leaves = λ no. both_ways all.3 no }
 changed-keeps parts s (RealmDestroyed rd root) listed =
     let all = four (is_listed Tags parts) (is_listed Realms parts) (is_listed Tables parts) (is_listed Leaves parts) listed in
-    record { granules = refl; tags = λ no. both_ways all.0 no; realms = λ no. both_ways all.1 no; recs = λ _. refl; tables = λ no. both_ways all.2 no; leaves = λ no. both_ways all.3 no }
+    record { config = refl; tags = λ no. both_ways all.0 no; realms = λ no. both_ways all.1 no; recs = λ _. refl; tables = λ no. both_ways all.2 no; leaves = λ no. both_ways all.3 no }
 changed-keeps parts s (RecMade rd rec mpidr flags aux0 aux1) listed =
     let all = three (is_listed Tags parts) (is_listed Realms parts) (is_listed Recs parts) listed in
-    record { granules = refl; tags = λ no. both_ways all.0 no; realms = λ no. both_ways all.1 no; recs = λ no. both_ways all.2 no; tables = λ _. refl; leaves = λ _. refl }
+    record { config = refl; tags = λ no. both_ways all.0 no; realms = λ no. both_ways all.1 no; recs = λ no. both_ways all.2 no; tables = λ _. refl; leaves = λ _. refl }
 changed-keeps parts s (RecDestroyed rec aux0 aux1) listed =
     let all = and_parts (is_listed Tags parts) (is_listed Recs parts) listed in
-    record { granules = refl; tags = λ no. both_ways all.0 no; realms = λ _. refl; recs = λ no. both_ways all.1 no; tables = λ _. refl; leaves = λ _. refl }
+    record { config = refl; tags = λ no. both_ways all.0 no; realms = λ _. refl; recs = λ no. both_ways all.1 no; tables = λ _. refl; leaves = λ _. refl }
 changed-keeps parts s (RecordsChanged realm rec) listed =
     let all = and_parts (is_listed_for realm Realms parts) (is_listed_for rec Recs parts) listed in
     let updated = with_realm_change s realm in
     then-keeps parts s updated (with_rec_change updated rec) (realm_change-keeps_others parts s realm all.0) (rec_change-keeps_others parts updated rec all.1)
 changed-keeps parts s (TableMade rd level number rtt entry) listed =
     let all = three (is_listed Tags parts) (is_listed Tables parts) (is_listed Leaves parts) listed in
-    record { granules = refl; tags = λ no. both_ways all.0 no; realms = λ _. refl; recs = λ _. refl; tables = λ no. both_ways all.1 no; leaves = λ no. both_ways all.2 no }
+    record { config = refl; tags = λ no. both_ways all.0 no; realms = λ _. refl; recs = λ _. refl; tables = λ no. both_ways all.1 no; leaves = λ no. both_ways all.2 no }
 changed-keeps parts s (TableDestroyed rd level number rtt entry) listed =
     let all = three (is_listed Tags parts) (is_listed Tables parts) (is_listed Leaves parts) listed in
-    record { granules = refl; tags = λ no. both_ways all.0 no; realms = λ _. refl; recs = λ _. refl; tables = λ no. both_ways all.1 no; leaves = λ no. both_ways all.2 no }
+    record { config = refl; tags = λ no. both_ways all.0 no; realms = λ _. refl; recs = λ _. refl; tables = λ no. both_ways all.1 no; leaves = λ no. both_ways all.2 no }
 changed-keeps parts s (EntriesChanged rd level entries page realm rec) listed =
     let all = four (is_listed Leaves parts) (is_listed_for page Tags parts) (is_listed_for realm Realms parts) (is_listed_for rec Recs parts) listed in
     let tagged = with_tag_change s page in

@@ -1,7 +1,7 @@
 -- What an accepted command does is a change that the state can take: each command by its rows.
 use Rattle.std.proofs.Common.{◌≡◌, ℕ, ◌<◌, ◌&&◌, ◌==◌, IsTrue, List, length, is_none, nat_le, not, refl, inl, inr, arith}
 use Rattle.std.specs.Prelude.{Ok}
-use Rattle.std.proofs.lemmas.Bool.{and_parts, not-true, eqb-true, ltb-true, leb-true}
+use Rattle.std.proofs.lemmas.Bool.{and_parts, or_left, not-true, ltb-true, leb-true}
 use Rattle.rmm_spec.specs.declared.accepted.Accepted.{Accepted}
 use Rattle.rmm_spec.specs.declared.call.Call.{Call}
 use Rattle.rmm_spec.specs.declared.call.Call.TheVariants as call
@@ -11,7 +11,9 @@ use Rattle.rmm_spec.specs.declared.function_id.FunctionId.TheVariants as functio
 use Rattle.rmm_spec.specs.declared.reply.Reply.TheVariants as reply
 use Rattle.rmm_spec.specs.Call.{call_from, call_of, class_of}
 use Rattle.rmm_spec.specs.State.{State}
-use Rattle.rmm_spec.specs.Lookup.{is_inside, rec_inside, realm_at, rec_at}
+use Rattle.rmm_spec.specs.declared.version.Version.{Version}
+use Rattle.rmm_spec.specs.declared.version.Version.TheVariants.{One, Two}
+use Rattle.rmm_spec.specs.Lookup.{is_hash, allows_hash, is_inside, rec_inside, realm_at, rec_at}
 use Rattle.rmm_spec.specs.Walk.{half}
 use Rattle.rmm_spec.specs.Sound.{IsSound}
 use Rattle.rmm_spec.specs.Step.{is_placed, answer_of, outcome}
@@ -41,6 +43,11 @@ whole_call _ words = tt
 pub whole_command : (command : Command) → IsWhole (call_of command)
 whole_command command = whole_call command.function command.words.items
 
+-- a version's hashes are hashes
+is_hash-allowed : (version : Version) (algo : ℕ) → IsTrue (allows_hash version algo) → IsTrue (is_hash algo)
+is_hash-allowed One algo allowed = or_left _ _ allowed
+is_hash-allowed Two algo allowed = allowed
+
 -- a call of a realm comes from a REC that runs
 call_running : (s : State) (cpu : ℕ) → IsSound s → IsTrue (is_inside s cpu && is_none (rec_at s (rec_inside s cpu)).pending) → IsRunning s (rec_inside s cpu)
 call_running s cpu sound placed = inside_running s cpu sound (and_parts (is_inside s cpu) (is_none (rec_at s (rec_inside s cpu)).pending) placed).0
@@ -50,14 +57,14 @@ command_follows : (s : State) (cpu : ℕ) (c : Call) → IsSound s → IsWhole c
 unfolding behind class_of words_of named
 command_follows s cpu (call.GranuleDelegate granule) sound whole placed (tag, _) = inl (tag, refl)
 command_follows s cpu (call.GranuleUndelegate granule) sound whole placed (tag, _) = inr (tag, refl)
-command_follows s cpu (call.RealmCreate rd root width level vmid algo) sound whole placed (differ, (space, (vmid_fits, (is_algo, (rd_tag, (root_tag, (unused, _))))))) = record {
+command_follows s cpu (call.RealmCreate rd root width level vmid algo) sound whole placed (differ, (space, (vmid_fits, (rd_tag, (root_tag, (allowed, (unused, _))))))) = record {
   rd_tag = rd_tag;
   root_tag = root_tag;
   apart = not-true _ differ;
   space = space;
   vmid_fits = vmid_fits;
   unused = not-true _ unused;
-  is_algo = eqb-true algo 0 is_algo;
+  hashes = is_hash-allowed s.config.version algo allowed;
 }
 command_follows s cpu (call.RealmActivate rd) sound whole placed (rd_tag, _) = ((rd_tag, tt), tt)
 command_follows s cpu (call.RealmDestroy rd) sound whole placed (rd_tag, (childless, (unlinked, _))) =

@@ -35,7 +35,7 @@ pub record IsPlain (tag : Tag) : Type 0 where
   pub no_rec : AreOther tag Rec
 
 -- a granule that nothing names gets a tag for which no record has to stand
-pub retagged_sound : (s : State) (a : ℕ) (tag : Tag) → IsSound s → IsTrue (is_granule s.granules a) → IsPlain (s.tag a) → IsPlain tag → IsUnnamed s a
+pub retagged_sound : (s : State) (a : ℕ) (tag : Tag) → IsSound s → IsTrue (is_granule s.config.granules a) → IsPlain (s.tag a) → IsPlain tag → IsUnnamed s a
     → IsSound (with_tag s a tag)
 retagged_sound s a tag sound granule had gets unnamed =
     let rds : (g : ℕ) → has_tag (with_tag s a tag) g Rd ≡ has_tag s g Rd = λ g. has_tag-beside s a g tag Rd had.no_rd gets.no_rd in

@@ -52,32 +52,32 @@ none_passes granules found passes nothing placed none g (Some x) at =
     rw (← at) (rw number.1 (any_below-false granules (λ k. passes (found (k * 4096))) none (g / 4096) number.0))
 
 -- RECs stand at granules
-pub rec_granule : (s : State) → IsSound s → (g : ℕ) → IsTrue (is_some (s.rec g)) → IsTrue (is_granule s.granules g)
+pub rec_granule : (s : State) → IsSound s → (g : ℕ) → IsTrue (is_some (s.rec g)) → IsTrue (is_granule s.config.granules g)
 rec_granule s sound g there = granule_from_tag s g Rec (sym (sound.recs.tagged g) ∙ there)
 
 -- realms stand at granules
-pub realm_granule : (s : State) → IsSound s → (g : ℕ) → IsTrue (is_some (s.realm g)) → IsTrue (is_granule s.granules g)
+pub realm_granule : (s : State) → IsSound s → (g : ℕ) → IsTrue (is_some (s.realm g)) → IsTrue (is_granule s.config.granules g)
 realm_granule s sound g there = granule_from_tag s g Rd (sym (sound.realms.tagged g) ∙ there)
 
 -- no REC runs on a CPU that is inside of none
 pub none_runs : (s : State) (cpu : ℕ) → IsSound s → is_inside s cpu ≡ false → (g : ℕ) → runs_on cpu (s.rec g) ≡ false
 unfolding is_inside
-none_runs s cpu sound out g = none_passes s.granules s.rec (runs_on cpu) refl (rec_granule s sound) out g (s.rec g) refl
+none_runs s cpu sound out g = none_passes s.config.granules s.rec (runs_on cpu) refl (rec_granule s sound) out g (s.rec g) refl
 
 -- no REC belongs to a realm that has none
 pub none_owned : (s : State) (rd : ℕ) → IsSound s → has_rec s rd ≡ false → (g : ℕ) → is_owned_by rd (s.rec g) ≡ false
 unfolding has_rec
-none_owned s rd sound none g = none_passes s.granules s.rec (is_owned_by rd) refl (rec_granule s sound) none g (s.rec g) refl
+none_owned s rd sound none g = none_passes s.config.granules s.rec (is_owned_by rd) refl (rec_granule s sound) none g (s.rec g) refl
 
 -- no realm has a VMID that isn't used
 pub none_has_vmid : (s : State) (vmid : ℕ) → IsSound s → is_vmid_used s vmid ≡ false → (g : ℕ) → has_vmid vmid (s.realm g) ≡ false
 unfolding is_vmid_used
-none_has_vmid s vmid sound none g = none_passes s.granules s.realm (has_vmid vmid) refl (realm_granule s sound) none g (s.realm g) refl
+none_has_vmid s vmid sound none g = none_passes s.config.granules s.realm (has_vmid vmid) refl (realm_granule s sound) none g (s.realm g) refl
 
 -- the REC that a CPU is inside of runs on it
 pub inside_runs : (s : State) (cpu : ℕ) → IsTrue (is_inside s cpu) → IsTrue (runs_on cpu (s.rec (rec_inside s cpu)))
 unfolding is_inside rec_inside
-inside_runs s cpu inside = greatest_below-passes s.granules (λ k. runs_on cpu (s.rec (k * 4096))) inside
+inside_runs s cpu inside = greatest_below-passes s.config.granules (λ k. runs_on cpu (s.rec (k * 4096))) inside
 
 -- ---- what stands at a tag
 

@@ -13,7 +13,7 @@ abbrev pub AreOther : Tag → Tag → Type 0
 AreOther tag other = (tag_number tag == tag_number other) ≡ false
 
 -- a tag's granule has it
-pub has_tag-here : (s : State) (a : ℕ) (tag : Tag) → IsTrue (is_granule s.granules a) → IsTrue (has_tag (with_tag s a tag) a tag)
+pub has_tag-here : (s : State) (a : ℕ) (tag : Tag) → IsTrue (is_granule s.config.granules a) → IsTrue (has_tag (with_tag s a tag) a tag)
 unfolding has_tag
 has_tag-here s a tag granule =
     and_from _ _ granule (by_address (λ t. IsTrue (tag_number t == tag_number tag)) a a tag (s.tag a)
@@ -29,15 +29,15 @@ pub has_tag-beside : (s : State) (a g : ℕ) (tag asked : Tag) → AreOther (s.t
     → has_tag (with_tag s a tag) g asked ≡ has_tag s g asked
 unfolding has_tag
 has_tag-beside s a g tag asked had gets =
-    by_address (λ t. (is_granule s.granules g && tag_number t == tag_number asked) ≡ (is_granule s.granules g && tag_number (s.tag g) == tag_number asked)) g a tag (s.tag g)
+    by_address (λ t. (is_granule s.config.granules g && tag_number t == tag_number asked) ≡ (is_granule s.config.granules g && tag_number (s.tag g) == tag_number asked)) g a tag (s.tag g)
     (λ same. rw same (rw (had, gets) refl)) (λ _. refl)
 
 -- the granule has the tag no longer
 pub has_tag-gone : (s : State) (a : ℕ) (tag asked : Tag) → AreOther tag asked → has_tag (with_tag s a tag) a asked ≡ false
 unfolding has_tag
 has_tag-gone s a tag asked gets =
-    by_address (λ t. (is_granule s.granules a && tag_number t == tag_number asked) ≡ false) a a tag (s.tag a)
-    (λ _. rw gets (and_right (is_granule s.granules a) false refl)) (λ apart. both_ways (eq-eqb a a refl) apart)
+    by_address (λ t. (is_granule s.config.granules a && tag_number t == tag_number asked) ≡ false) a a tag (s.tag a)
+    (λ _. rw gets (and_right (is_granule s.config.granules a) false refl)) (λ apart. both_ways (eq-eqb a a refl) apart)
 
 -- granules of two tags differ
 pub tags_apart : (s : State) (g a : ℕ) (tag other : Tag) → IsTrue (has_tag s g tag) → IsTrue (has_tag s a other) → AreOther tag other → (g == a) ≡ false
@@ -50,4 +50,4 @@ tags_apart s g a tag other has has_other differ =
 -- a granule of one tag has no other
 pub has_tag-other : (s : State) (a : ℕ) (tag other : Tag) → IsTrue (has_tag s a tag) → AreOther tag other → has_tag s a other ≡ false
 unfolding has_tag
-has_tag-other s a tag other has differ = rw (tag-has_tag s a tag has, differ) (and_right (is_granule s.granules a) false refl)
+has_tag-other s a tag other has differ = rw (tag-has_tag s a tag has, differ) (and_right (is_granule s.config.granules a) false refl)

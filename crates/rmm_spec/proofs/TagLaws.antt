@@ -34,14 +34,14 @@ tag_number-injective a b same = sym (tag_numbered-tag_number a) ∙ ap tag_numbe
 pub tag-has_tag : (s : State) (address : ℕ) (tag : Tag) → IsTrue (has_tag s address tag) → s.tag address ≡ tag
 unfolding has_tag
 tag-has_tag s address tag has =
-    let parts = and_parts (is_granule s.granules address) (tag_number (s.tag address) == tag_number tag) has in
+    let parts = and_parts (is_granule s.config.granules address) (tag_number (s.tag address) == tag_number tag) has in
     tag_number-injective (s.tag address) tag (eqb-true (tag_number (s.tag address)) (tag_number tag) parts.1)
 
 -- what has a tag is a granule; named so that an attribute can cite it
-pub granule_from_tag : (s : State) (address : ℕ) (tag : Tag) → IsTrue (has_tag s address tag) → IsTrue (is_granule s.granules address)
+pub granule_from_tag : (s : State) (address : ℕ) (tag : Tag) → IsTrue (has_tag s address tag) → IsTrue (is_granule s.config.granules address)
 unfolding has_tag
 granule_from_tag s address tag has =
-    let parts = and_parts (is_granule s.granules address) (tag_number (s.tag address) == tag_number tag) has in parts.0
+    let parts = and_parts (is_granule s.config.granules address) (tag_number (s.tag address) == tag_number tag) has in parts.0
 
 -- a tag that is changed and changed back, at another address and at its own
 tag-restored : (s : State) (address : ℕ) (tag : Tag) (other : ℕ) (b : Bool) → (other == address) ≡ b

@@ -20,7 +20,9 @@ use Rattle.rmm_spec.specs.declared.reply.Reply.TheVariants as reply
 use Rattle.rmm_spec.specs.CertificateText.{line_parts}
 use Rattle.rmm_spec.specs.CommandText.{command_parts, reply_parts}
 use Rattle.rmm_spec.specs.Function.{number_of}
-use Rattle.rmm_spec.specs.HistoryText.{Config, config_parts, event_parts}
+use Rattle.rmm_spec.specs.declared.version.Version.{Version}
+use Rattle.rmm_spec.specs.declared.version.Version.TheVariants.{One, Two}
+use Rattle.rmm_spec.specs.HistoryText.{Config, mark, config_parts, event_parts}
 use Rattle.rmm_spec.specs.Text.{glyph, numeral, decimal, word, fixed_hex, line_text, parts_of}
 
 -- a byte that ends neither a part nor a line
@@ -307,14 +309,25 @@ reply_parts-injective reply.Misplaced reply.Misplaced e = refl
 
 -- ---- lines of histories and certificates
 
+mark-IsPart : (version : Version) → IsPart (mark version)
+mark-IsPart One = IsPart-from_test _ _ refl
+mark-IsPart Two = IsPart-from_test _ _ refl
+
+mark-injective : (v w : Version) → mark v ≡ mark w → v ≡ w
+mark-injective One One e = refl
+mark-injective One Two e = absurd (bytes_apart 49 50 refl (ap (λ (bs : List ℕ). get_or bs 3 0) e))
+mark-injective Two One e = absurd (bytes_apart 50 49 refl (ap (λ (bs : List ℕ). get_or bs 3 0) e))
+mark-injective Two Two e = refl
+
 pub config_parts-are_parts : (config : Config) → AllByRecursion IsPart (config_parts config)
-config_parts-are_parts config = (IsPart-from_test _ _ refl, (decimal-IsPart config.granules, (decimal-IsPart config.cpus, tt)))
+config_parts-are_parts config = (mark-IsPart config.version, (decimal-IsPart config.granules, (decimal-IsPart config.cpus, tt)))
 
 pub config_parts-injective : (s t : Config) → config_parts s ≡ config_parts t → s ≡ t
 config_parts-injective s t e =
     let granules : s.granules ≡ t.granules = decimal-injective s.granules t.granules (ap (λ ps. get_or ps 1 []) e) in
     let cpus : s.cpus ≡ t.cpus = decimal-injective s.cpus t.cpus (ap (λ ps. get_or ps 2 []) e) in
-    λ i. record { granules = granules i; cpus = cpus i }
+    let version = mark-injective s.version t.version (ap (λ ps. get_or ps 0 []) e) in
+    λ i. record { granules = granules i; cpus = cpus i; version = version i }
 
 pub event_parts-are_parts : (event : Event) → AllByRecursion IsPart (event_parts event)
 unfolding event_parts

@@ -16,7 +16,7 @@ use Rattle.rmm_spec.specs.declared.entry.Entry.TheVariants.{Unassigned, Assigned
 use Rattle.rmm_spec.specs.declared.tag.Ripas.{Ripas}
 use Rattle.rmm_spec.specs.declared.tag.Tag.TheVariants.{Undelegated, Delegated, Rd, Rec, Data}
 use Rattle.rmm_spec.specs.State.{State, RecRecord}
-use Rattle.rmm_spec.specs.Lookup.{has_tag, is_inside, is_vmid_used, has_rec, realm_at, rec_at, request_of}
+use Rattle.rmm_spec.specs.Lookup.{is_hash, has_tag, is_inside, is_vmid_used, has_rec, realm_at, rec_at, request_of}
 use Rattle.rmm_spec.specs.Walk.{entry_size, entry_at, half, has_link, is_in_use, is_table, is_assigned}
 use Rattle.rmm_spec.specs.Step.Words.{is_space}
 use Rattle.rmm_spec.specs.Sound.{IsRequest, IsTableOf, IsLeafOf}
@@ -36,7 +36,7 @@ pub record CanMakeRealm (s : State) (rd root width level vmid algo : ℕ) : Type
   pub space : IsTrue (is_space width level)
   pub vmid_fits : IsTrue (nat_le vmid 0xff)
   pub unused : is_vmid_used s vmid ≡ false
-  pub is_algo : algo ≡ 0
+  pub hashes : IsTrue (is_hash algo)
 
 pub record CanDestroyRealm (s : State) (rd root : ℕ) : Type 0 where
   pub rd_tag : IsTrue (has_tag s rd Rd)

@@ -13,6 +13,8 @@ use Rattle.rmm_spec.specs.declared.change.RecUpdate.{RecUpdate}
 use Rattle.rmm_spec.specs.declared.change.RecUpdate.TheVariants as rec_update
 use Rattle.rmm_spec.specs.declared.change.TagChange.{TagChange}
 use Rattle.rmm_spec.specs.declared.function_id.FunctionId.TheVariants as function
+use Rattle.rmm_spec.specs.declared.measurement.Measurement.{Measurement}
+use Rattle.rmm_spec.specs.declared.measurement.Measurement.TheVariants.{Sha256}
 use Rattle.rmm_spec.specs.declared.tag.RealmState.TheVariants as realm_state
 use Rattle.rmm_spec.specs.declared.tag.Tag.TheVariants.{Delegated, Rd, Rec, RecAux, Rtt}
 use Rattle.rmm_spec.specs.Function.{number_of}
@@ -34,7 +36,7 @@ new_realm root width level vmid algo = record {
   root = root;
   next_index = 0;
   rim = rim_begin width level algo;
-  rems = replicate 4 rem_start;
+  rems = replicate 4 (rem_start algo);
 }
 
 -- a REC that was just made: it runs on no CPU and asks for nothing (DEN0137, RMI_REC_CREATE)
@@ -51,8 +53,8 @@ new_rec rd index flags aux0 aux1 = record {
 }
 
 -- the RIM, or one of the four REMs, which count from 1
-abbrev pub measurement_at : RealmRecord → ℕ → List ℕ
-measurement_at realm index = if index == 0 then realm.rim else slice_index_or realm.rems (index - 1) []
+abbrev pub measurement_at : RealmRecord → ℕ → Measurement
+measurement_at realm index = if index == 0 then realm.rim else slice_index_or realm.rems (index - 1) (Sha256 [])
 
 -- the realm with its RIM extended by the words of a command
 abbrev pub with_measured : RealmRecord → List ℕ → RealmRecord

@@ -2,6 +2,7 @@
 -- at its own place. So the machine's definitions say of cells what they say of its state. This project's own.
 use Rattle.std.specs.Prelude.{ℕ, zero, suc, ◌*◌, ◌/◌, ◌%◌, Bool, false, if◌then◌else◌, Option, Some, None, option_map, slice_get}
 use Rattle.std.specs.Option.{option_and_then}
+use Rattle.rmm_spec.specs.HistoryText.{Config}
 use Rattle.rmm_spec.specs.declared.entry.Entry.{Entry}
 use Rattle.rmm_spec.specs.State.{State}
 use Rattle.rmm_spec.specs.Update.{is_same_entry}
@@ -30,12 +31,12 @@ leaf_in_tables granules tables rd level number =
     option_and_then (λ granule. option_and_then (λ (table : TableRecord). option_and_then leaf_of (slice_get table.entries (number % 512))) (tables granule))
     (table_granule granules tables rd level (number / 512))
 
-unfoldable pub flat_state : ℕ → (ℕ → Cell) → State
-flat_state granules cells = record {
-  granules = granules;
+unfoldable pub flat_state : Config → (ℕ → Cell) → State
+flat_state config cells = record {
+  config = config;
   tag = tags_of cells;
   realm = realms_of cells;
   rec = recs_of cells;
-  table = table_granule granules (tables_of cells);
-  leaf = leaf_in_tables granules (tables_of cells);
+  table = table_granule config.granules (tables_of cells);
+  leaf = leaf_in_tables config.granules (tables_of cells);
 }

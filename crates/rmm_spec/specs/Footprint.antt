@@ -53,9 +53,9 @@ abbrev pub is_listed : Part → List Part → Bool
 is_listed part [] = false
 is_listed part (other ∷ parts) = part_number part == part_number other || is_listed part parts
 
--- the number of granules stays, and so does each map that isn't listed
+-- the configuration stays, and so does each map that isn't listed
 pub record KeepsOthers (parts : List Part) (old new : State) : Type 0 where
-  pub granules : new.granules ≡ old.granules
+  pub config : new.config ≡ old.config
   pub tags : is_listed Tags parts ≡ false → new.tag ≡ old.tag
   pub realms : is_listed Realms parts ≡ false → new.realm ≡ old.realm
   pub recs : is_listed Recs parts ≡ false → new.rec ≡ old.rec

@@ -1,16 +1,19 @@
 -- Histories, and the texts that stand for them.
-use Rattle.std.specs.Prelude.{◌≡◌, ℕ, ◌+◌, ◌<◌, ◌≤◌, Bool, true, false, not, ◌&&◌, ◌==◌, if◌then◌else◌, List, [], ◌∷◌, ◌++◌, map, length, codes, Option, Some, None, IsSome}
+use Rattle.std.specs.Prelude.{◌≡◌, ℕ, ◌+◌, ◌<◌, ◌≤◌, Bool, true, false, not, ◌&&◌, ◌||◌, ◌==◌, if◌then◌else◌, List, [], ◌∷◌, ◌++◌, map, length, codes, Option, Some, None, IsSome}
 use Rattle.std.specs.List.{AllByRecursion, filter}
 use Rattle.std.specs.Option.{option_and_then}
 use Rattle.rmm_spec.specs.declared.event.Event.{Event}
 use Rattle.rmm_spec.specs.declared.event.Event.TheVariants.{Called, Returned}
+use Rattle.rmm_spec.specs.declared.version.Version.{Version}
+use Rattle.rmm_spec.specs.declared.version.Version.TheVariants.{One, Two}
 use Rattle.rmm_spec.specs.Text.{decimal, lines_text}
 use Rattle.rmm_spec.specs.CommandText.{IsCommand, IsReply, command_parts, reply_parts}
 
--- how many granules and CPUs a machine has
+-- how many granules and CPUs a machine has, and the version of the rules that it goes by
 pub record Config : Type 0 where
   pub granules : ℕ
   pub cpus : ℕ
+  pub version : Version
 
 pub record IsConfig (config : Config) : Type 0 where
   pub some_granules : 1 ≤ config.granules
@@ -75,8 +78,20 @@ pub record CanFollow (history : History) (event : Event) : Type 0 where
   pub is_event : IsEvent history.config.cpus event
   pub record_goes_on : IsRecord (subhistory_of (cpu_of event) (history.events ++ event ∷ []))
 
+-- the versions are numbered 1 and 2
+abbrev pub is_version : ℕ → Bool
+is_version number = number == 1 || number == 2
+
+abbrev pub version_of : ℕ → Version
+version_of number = if number == 2 then Two else One
+
+-- the word that a history of a version begins with
+abbrev pub mark : Version → List ℕ
+mark One = codes "rmh1"
+mark Two = codes "rmh2"
+
 abbrev pub config_parts : Config → List (List ℕ)
-config_parts config = codes "rmh1" ∷ decimal config.granules ∷ decimal config.cpus ∷ []
+config_parts config = mark config.version ∷ decimal config.granules ∷ decimal config.cpus ∷ []
 
 unfoldable pub event_parts : Event → List (List ℕ)
 event_parts (Called cpu number command) = codes "c" ∷ decimal cpu ∷ decimal number ∷ command_parts command

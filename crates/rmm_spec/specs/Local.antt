@@ -2,6 +2,7 @@
 -- other cells are. It is what a commit under granule locks must be, in whatever order the locks were taken. This project's own.
 use Rattle.std.specs.Prelude.{◌≡◌, ℕ, List, map}
 use Rattle.std.specs.List.{AllByRecursion, fold}
+use Rattle.rmm_spec.specs.HistoryText.{Config}
 use Rattle.rmm_spec.specs.declared.command.Command.{Command}
 use Rattle.rmm_spec.specs.declared.reply.Reply.{Reply}
 use Rattle.rmm_spec.specs.Step.{Step}
@@ -32,9 +33,9 @@ put_all cells held = fold (λ whole (h : HeldCell). put whole h.granule h.cell) 
 
 -- Of every well-shaped whole that agrees with what is held before, what is held after makes the machine's next state, with
 -- this reply, and a well-shaped whole again. The same granules are held before and after.
-pub record LocalStep (granules cpu : ℕ) (command : Command) (given : Reply) (old new : Hold) : Type 0 where
+pub record LocalStep (config : Config) (cpu : ℕ) (command : Command) (given : Reply) (old new : Hold) : Type 0 where
   pub same : granules_held new.cells ≡ granules_held old.cells
-  pub right : (cells : ℕ → Cell) (places : ℕ → CpuPlace) → IsWellShaped granules old.side places cells → Agrees cells old.cells
+  pub right : (cells : ℕ → Cell) (places : ℕ → CpuPlace) → IsWellShaped config old.side places cells → Agrees cells old.cells
       → places cpu ≡ old.place
-      → Step (flat_state granules cells) cpu command given (flat_state granules (put_all cells new.cells))
-      × IsWellShaped granules new.side (put places cpu new.place) (put_all cells new.cells)
+      → Step (flat_state config cells) cpu command given (flat_state config (put_all cells new.cells))
+      × IsWellShaped config new.side (put places cpu new.place) (put_all cells new.cells)

@@ -2,6 +2,7 @@
 -- turn, downwards from realm to root, from table to table, and to data and auxiliary granules. This project's own.
 use Rattle.std.specs.Prelude.{◌≡◌, ℕ, suc, ◌<◌, ◌≤◌, Bool, false, ◌||◌, ◌==◌, ◌⊎◌, IsTrue, List, [], ◌∷◌, Contains, length, Option, Some, None}
 use Rattle.std.specs.List.{list_any}
+use Rattle.rmm_spec.specs.HistoryText.{Config}
 use Rattle.rmm_spec.specs.declared.call.Call.{Call}
 use Rattle.rmm_spec.specs.declared.call.Call.TheVariants.{RecEnter}
 use Rattle.rmm_spec.specs.declared.entry.Entry.{Entry}
@@ -74,8 +75,8 @@ pub record IsNextPart (held : List HeldCell) (granule : ℕ) : Type 0 where
 -- A granule may be waited for by a CPU that holds these cells for a command that names these granules. Where each CPU that
 -- waits does so at a rising take, no CPUs wait in a circle. That what is held and not named is a stray of these two kinds
 -- alone is needed for that: CPUs that hold auxiliary granules of other RECs could wait for one another.
-pub record IsRisingTake (granules : ℕ) (names : List Needed) (held : List HeldCell) (granule : ℕ) : Type 0 where
-  pub is_lock : IsTrue (is_granule granules granule)
+pub record IsRisingTake (config : Config) (names : List Needed) (held : List HeldCell) (granule : ℕ) : Type 0 where
+  pub is_lock : IsTrue (is_granule config.granules granule)
   pub is_new : (h : HeldCell) → Contains held h → h.granule ≡ granule → ⊥
   pub room : length held ≤ 5
   pub no_data : (h : HeldCell) → Contains held h → is_data h.cell ≡ false

@@ -1,11 +1,14 @@
 -- What rows read off a state: tests, searches, and records with what is read where none is.
 use Rattle.std.specs.Prelude.{ℕ, zero, suc, ◌*◌, ◌%◌, Bool, true, false, ◌&&◌, ◌||◌, nat_lt, ◌==◌, if◌then◌else◌, [], Option, Some, None, unwrap_or}
+use Rattle.rmm_spec.specs.declared.measurement.Measurement.TheVariants.{Sha256}
 use Rattle.rmm_spec.specs.declared.tag.RealmState.{RealmState}
 use Rattle.rmm_spec.specs.declared.tag.RealmState.TheVariants.{New, Active, SystemOff}
 use Rattle.rmm_spec.specs.declared.tag.Ripas.{Ripas}
 use Rattle.rmm_spec.specs.declared.tag.Ripas.TheVariants.{Empty, Ram, Destroyed}
 use Rattle.rmm_spec.specs.declared.tag.Tag.{Tag}
 use Rattle.rmm_spec.specs.declared.tag.Tag.TheVariants.{Undelegated, Delegated, Rd, Rec, RecAux, Data, Rtt}
+use Rattle.rmm_spec.specs.declared.version.Version.{Version}
+use Rattle.rmm_spec.specs.declared.version.Version.TheVariants.{One, Two}
 use Rattle.rmm_spec.specs.State.{RealmRecord, Request, RecRecord, State}
 
 abbrev pub tag_number : Tag → ℕ
@@ -23,13 +26,22 @@ ripas_number Empty = 0
 ripas_number Ram = 1
 ripas_number Destroyed = 2
 
+-- the hashes that a realm can be measured by: SHA-256 and SHA-512
+abbrev pub is_hash : ℕ → Bool
+is_hash algo = algo == 0 || algo == 1
+
+-- whether a version has the hash
+abbrev pub allows_hash : Version → ℕ → Bool
+allows_hash One algo = algo == 0
+allows_hash Two algo = is_hash algo
+
 -- whether a number is the address of one of so many granules
 unfoldable pub is_granule : ℕ → ℕ → Bool
 is_granule granules address = address % 4096 == 0 && nat_lt address (granules * 4096)
 
 -- whether a number is the address of a granule with that tag
 unfoldable pub has_tag : State → ℕ → Tag → Bool
-has_tag s address tag = is_granule s.granules address && tag_number (s.tag address) == tag_number tag
+has_tag s address tag = is_granule s.config.granules address && tag_number (s.tag address) == tag_number tag
 
 -- whether a number below n passes
 abbrev pub any_below : ℕ → (ℕ → Bool) → Bool
@@ -52,7 +64,7 @@ runs_on cpu (Some rec) = is_cpu cpu rec.cpu
 
 -- whether the CPU is inside a REC: one runs on it
 unfoldable pub is_inside : State → ℕ → Bool
-is_inside s cpu = any_below s.granules (λ k. runs_on cpu (s.rec (k * 4096)))
+is_inside s cpu = any_below s.config.granules (λ k. runs_on cpu (s.rec (k * 4096)))
 
 -- the greatest number below n that passes, or 0
 abbrev pub greatest_below : ℕ → (ℕ → Bool) → ℕ
@@ -61,7 +73,7 @@ greatest_below (suc n) passes = if passes n then n else greatest_below n passes
 
 -- the REC that runs on the CPU, where one does
 unfoldable pub rec_inside : State → ℕ → ℕ
-rec_inside s cpu = greatest_below s.granules (λ k. runs_on cpu (s.rec (k * 4096))) * 4096
+rec_inside s cpu = greatest_below s.config.granules (λ k. runs_on cpu (s.rec (k * 4096))) * 4096
 
 -- what is read where no realm is: rows before say that there is one
 abbrev pub no_realm : RealmRecord
@@ -73,7 +85,7 @@ no_realm = record {
   algo = 0;
   root = 0;
   next_index = 0;
-  rim = [];
+  rim = Sha256 [];
   rems = [];
 }
 
@@ -127,7 +139,7 @@ has_vmid vmid (Some realm) = realm.vmid == vmid
 
 -- whether a realm has the VMID
 unfoldable pub is_vmid_used : State → ℕ → Bool
-is_vmid_used s vmid = any_below s.granules (λ k. has_vmid vmid (s.realm (k * 4096)))
+is_vmid_used s vmid = any_below s.config.granules (λ k. has_vmid vmid (s.realm (k * 4096)))
 
 abbrev pub is_owned_by : ℕ → Option RecRecord → Bool
 is_owned_by rd None = false
@@ -135,4 +147,4 @@ is_owned_by rd (Some rec) = rec.owner == rd
 
 -- whether a REC belongs to the realm
 unfoldable pub has_rec : State → ℕ → Bool
-has_rec s rd = any_below s.granules (λ k. is_owned_by rd (s.rec (k * 4096)))
+has_rec s rd = any_below s.config.granules (λ k. is_owned_by rd (s.rec (k * 4096)))

@@ -6,6 +6,8 @@ use Rattle.rmm_spec.specs.declared.command.Command.{Command}
 use Rattle.rmm_spec.specs.declared.turn.Due.{Due}
 use Rattle.rmm_spec.specs.declared.turn.Will.{Will}
 use Rattle.rmm_spec.specs.declared.turn.Will.TheVariants.{Go, GiveUp, Stop}
+use Rattle.rmm_spec.specs.declared.version.Version.{Version}
+use Rattle.rmm_spec.specs.declared.version.Version.TheVariants.{One, Two}
 use Rattle.rmm_spec.specs.CommandText.{IsCommand, command_text}
 use Rattle.rmm_spec.specs.HistoryText.{Config, IsConfig}
 use Rattle.rmm_spec.specs.Text.{decimal}
@@ -47,6 +49,10 @@ IsTurnText cpus text = (turn : Due) × (turn.cpu < cpus) × (text ≡ turn_text 
 
 -- ---- what is stated
 
+abbrev pub version_number : Version → ℕ
+version_number One = 1
+version_number Two = 2
+
 -- what a document says, before anybody asks whether the numbers and texts make sense
 pub record Stated : Type 0 where
   pub granules : ℤ
@@ -55,6 +61,7 @@ pub record Stated : Type 0 where
   pub queue : ℤ
   pub turns : List (List ℕ)
   pub limit : ℤ
+  pub version : ℤ
 
 -- just this is stated
 pub record IsStatedBy (stated : Stated) (scenario : Scenario) : Type 0 where
@@ -65,6 +72,7 @@ pub record IsStatedBy (stated : Stated) (scenario : Scenario) : Type 0 where
   pub queue : stated.queue ≡ pos scenario.queue
   pub turns : stated.turns ≡ map turn_text scenario.turns
   pub limit : stated.limit ≡ pos scenario.limit
+  pub version : stated.version ≡ pos (version_number scenario.config.version)
 
 -- a number from one to another
 abbrev pub IsBetween : ℕ → ℕ → ℤ → Type 0
@@ -79,6 +87,7 @@ pub record AreInRange (stated : Stated) : Type 0 where
   pub few : sum (map length stated.programs) ≤ 499999
   pub queue : IsBetween 1 65536 stated.queue
   pub limit : IsBetween 1 10000000 stated.limit
+  pub version : IsBetween 1 2 stated.version
 
 -- Each command can be read.
 abbrev pub HasCommands : Stated → Type 0

@@ -18,7 +18,7 @@ pub record Document (Value : Type 0) : Type 0 where
   pub value_at : List ℕ → Option Value
 
 abbrev pub is_key : List ℕ → Bool
-is_key key = list_any (λ known. bytes_eq known key) (codes "granules" ∷ codes "cpus" ∷ codes "programs" ∷ codes "queue" ∷ codes "turns" ∷ codes "limit" ∷ [])
+is_key key = list_any (λ known. bytes_eq known key) (codes "granules" ∷ codes "cpus" ∷ codes "programs" ∷ codes "queue" ∷ codes "turns" ∷ codes "limit" ∷ codes "version" ∷ [])
 
 -- what the values are, where all are of one kind
 abbrev pub each_value : {Value A : Type 0} → (Value → Option A) → List Value → Option (List A)
@@ -36,7 +36,7 @@ abbrev pub or_left_out : {Value A : Type 0} → A → (Value → Option A) → O
 or_left_out absent kind None = Some absent
 or_left_out absent kind (Some value) = kind value
 
--- Three keys have to be there, three may be left out, and there are no others.
+-- Three keys have to be there, four may be left out, and there are no others.
 pub record States {Value : Type 0} (kinds : Kinds Value) (document : Document Value) (stated : Stated) : Type 0 where
   pub known : list_all is_key document.keys ≡ true
   pub granules : option_and_then kinds.whole (document.value_at (codes "granules")) ≡ Some stated.granules
@@ -45,3 +45,4 @@ pub record States {Value : Type 0} (kinds : Kinds Value) (document : Document Va
   pub queue : or_left_out (pos 4096) kinds.whole (document.value_at (codes "queue")) ≡ Some stated.queue
   pub turns : or_left_out [] (texts kinds) (document.value_at (codes "turns")) ≡ Some stated.turns
   pub limit : or_left_out (pos 1000000) kinds.whole (document.value_at (codes "limit")) ≡ Some stated.limit
+  pub version : or_left_out (pos 1) kinds.whole (document.value_at (codes "version")) ≡ Some stated.version

@@ -1,6 +1,7 @@
 -- Worked scripts: runs of CPU 0 on a machine of 16 granules, written out with their replies, and how one is replayed.
 use Rattle.std.specs.Prelude.{ℕ, Bool, true, false, ◌&&◌, ◌==◌, if◌then◌else◌, List, [], ◌∷◌, Option, Some, None, Result, Ok, Err, option_map}
 use Rattle.std.specs.Option.{option_and_then}
+use Rattle.rmm_spec.specs.declared.version.Version.TheVariants.{One}
 use Rattle.rmm_spec.specs.declared.accepted.Accepted.{Accepted}
 use Rattle.rmm_spec.specs.declared.accepted.Accepted.TheVariants.{Done, Reaches}
 use Rattle.rmm_spec.specs.declared.function_id.FunctionId.{FunctionId}
@@ -58,7 +59,7 @@ replay s (entry ∷ entries) =
 
 -- the machine of the scripts
 abbrev pub script_config : Config
-script_config = record { granules = 16; cpus = 1 }
+script_config = record { granules = 16; cpus = 1; version = One }
 
 abbrev pub answered : FunctionId → List ℕ → Reply → JournalEntry
 answered function words given = record { cpu = 0; command = record { function = function; words = record { items = words } }; given = given }

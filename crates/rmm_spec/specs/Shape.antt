@@ -2,6 +2,7 @@
 -- After DEN0137 (attributes of realms, RECs and RTTs); the side table and the CPUs' places are this project's own.
 -- In five groups, each over the views that it reads.
 use Rattle.std.specs.Prelude.{◌≡◌, ℕ, zero, suc, ◌+◌, ◌*◌, ◌/◌, ◌%◌, ◌<◌, ◌≤◌, Bool, false, ◌==◌, ◌↔◌, if◌then◌else◌, IsTrue, length, Option, Some, is_some, slice_get}
+use Rattle.rmm_spec.specs.HistoryText.{Config}
 use Rattle.rmm_spec.specs.declared.entry.Entry.{Entry}
 use Rattle.rmm_spec.specs.declared.entry.Entry.TheVariants.{Unassigned, Assigned, Table, UnassignedNs, AssignedNs}
 use Rattle.rmm_spec.specs.declared.place.Place.{Place}
@@ -126,9 +127,9 @@ pub record AreOutside (granules : ℕ) (cells : ℕ → Cell) : Type 0 where
 
 -- ---- wholes
 
-pub record IsWellShaped (granules : ℕ) (side : Side) (places : ℕ → CpuPlace) (cells : ℕ → Cell) : Type 0 where
-  pub realms : AreRealmCells granules side (realms_of cells) (recs_of cells)
+pub record IsWellShaped (config : Config) (side : Side) (places : ℕ → CpuPlace) (cells : ℕ → Cell) : Type 0 where
+  pub realms : AreRealmCells config.granules side (realms_of cells) (recs_of cells)
   pub tables : AreTableCells (realms_of cells) (tables_of cells)
   pub data_granules : AreDataCells (tables_of cells) (datas_of cells)
   pub recs : AreRecCells places (realms_of cells) (recs_of cells) (auxes_of cells)
-  pub outside : AreOutside granules cells
+  pub outside : AreOutside config.granules cells

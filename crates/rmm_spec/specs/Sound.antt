@@ -92,7 +92,7 @@ pub record AreLeaves (s : State) : Type 0 where
 -- ---- states
 
 pub record IsSound (s : State) : Type 0 where
-  pub outside : (g : ℕ) → is_granule s.granules g ≡ false → s.tag g ≡ Undelegated
+  pub outside : (g : ℕ) → is_granule s.config.granules g ≡ false → s.tag g ≡ Undelegated
   pub realms : AreRealms s
   pub recs : AreRecs s
   pub tables : AreTables s

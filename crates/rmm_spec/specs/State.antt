@@ -2,6 +2,7 @@
 -- After DEN0137 (granules, realms, RECs, translation tables), cut down to this project's profile.
 use Rattle.std.specs.Prelude.{ℕ, Bool, List, Option, None}
 use Rattle.rmm_spec.specs.declared.entry.Entry.{Entry}
+use Rattle.rmm_spec.specs.declared.measurement.Measurement.{Measurement}
 use Rattle.rmm_spec.specs.declared.tag.RealmState.{RealmState}
 use Rattle.rmm_spec.specs.declared.tag.Ripas.{Ripas}
 use Rattle.rmm_spec.specs.declared.tag.Tag.{Tag}
@@ -9,7 +10,7 @@ use Rattle.rmm_spec.specs.declared.tag.Tag.TheVariants.{Undelegated}
 use Rattle.rmm_spec.specs.HistoryText.{Config}
 
 -- A realm, kept at the address of its granule. An address space of 2 ^ width bytes, walked from start_level on.
--- rim has 32 bytes, and rems are four of 32 bytes.
+-- rim and the four rems are by the hash of the number algo.
 pub record RealmRecord : Type 0 where
   pub state : RealmState
   pub width : ℕ
@@ -18,8 +19,8 @@ pub record RealmRecord : Type 0 where
   pub algo : ℕ
   pub root : ℕ
   pub next_index : ℕ
-  pub rim : List ℕ
-  pub rems : List (List ℕ)
+  pub rim : Measurement
+  pub rems : List Measurement
 
 -- what a REC asked of its host: the RIPAS of the stretch from base up to top
 pub record Request : Type 0 where
@@ -47,7 +48,7 @@ pub record RecRecord : Type 0 where
 -- Tables and leaves go by realm, level and number. An entry of level l covers 2 ^ (12 + 9 * (3 - l)) bytes, its number
 -- is the address over that, and a table's number is that of the entry above it. A leaf is an entry that is no Table.
 pub record State : Type 0 where
-  pub granules : ℕ
+  pub config : Config
   pub tag : ℕ → Tag
   pub realm : ℕ → Option RealmRecord
   pub rec : ℕ → Option RecRecord
@@ -57,7 +58,7 @@ pub record State : Type 0 where
 -- the state in which every granule is the host's, and nothing else is there
 unfoldable pub opening : Config → State
 opening config = record {
-  granules = config.granules;
+  config = config;
   tag = λ _. Undelegated;
   realm = λ _. None;
   rec = λ _. None;

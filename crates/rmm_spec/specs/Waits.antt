@@ -15,7 +15,7 @@ use Rattle.rmm_spec.specs.Locks.{needs, IsRisingTake}
 -- the CPU, with an open call, may wait for the granule
 pub record IsRising (w : World) (cpu granule : ℕ) : Type 0 where
   pub deciding : IsDeciding w cpu
-  pub rising : IsRisingTake w.config.granules (needs (w.place cpu) deciding.learnt (call_of deciding.command)) (held_cells w cpu) granule
+  pub rising : IsRisingTake w.config (needs (w.place cpu) deciding.learnt (call_of deciding.command)) (held_cells w cpu) granule
 
 -- the CPU is at a rising take of the granule, which another holds
 pub record WaitsAt (w : World) (cpu granule other : ℕ) : Type 0 where

@@ -159,7 +159,7 @@ pub record Frees (old : World) (cpu granule : ℕ) (learnt : Option ℕ) (new : 
 -- A CPU makes a local step on the cells that it holds, and the journal gains its entry, both in one move.
 pub record Commits (old : World) (cpu : ℕ) (given : Reply) (held : Hold) (new : World) : Type 0 where
   pub deciding : IsDeciding old cpu
-  pub step : LocalStep old.config.granules cpu deciding.command given (hold_of old cpu) held
+  pub step : LocalStep old.config cpu deciding.command given (hold_of old cpu) held
   pub is_new : new ≡ record old {
     cells = put_all old.cells held.cells;
     side = held.side;
@@ -241,8 +241,8 @@ certificate_of w = map (line_for w.events) w.journal
 -- The journal, written as a certificate, is a linearization of the history, and its run leads to the cells as they are.
 pub record IsCertified (w : World) : Type 0 where
   pub linearization : IsLinearization (history_of w) (certificate_of w)
-  pub is_flat : linearization.last ≡ flat_state w.config.granules w.cells
+  pub is_flat : linearization.last ≡ flat_state w.config w.cells
 
 -- the world's own cells, side table and places
 abbrev pub IsShapedWorld : World → Type 0
-IsShapedWorld w = IsWellShaped w.config.granules w.side w.place w.cells
+IsShapedWorld w = IsWellShaped w.config w.side w.place w.cells

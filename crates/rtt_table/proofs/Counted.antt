@@ -1,5 +1,5 @@
 -- What becomes of a count when entries change, and what a count tells.
-use Rattle.std.proofs.Common.{◌≡◌, ℕ, zero, suc, ◌+◌, ◌-◌, ◌<◌, ◌≤◌, Bool, true, false, ◌||◌, if◌then◌else◌, List, [], ◌∷◌, ◌++◌, map, take, drop, replicate, length, Some, nat_lt, slice_get, slice_set, refl, sym, ap, ◌∙◌, arith}
+use Rattle.std.proofs.Common.{◌≡◌, ℕ, zero, suc, ◌+◌, ◌-◌, ◌≤◌, Bool, true, false, ◌||◌, if◌then◌else◌, List, [], ◌∷◌, ◌++◌, map, take, drop, replicate, length, Some, nat_lt, slice_get, slice_set, refl, sym, ap, ◌∙◌, arith}
 use Rattle.std.specs.List.{list_any, slice_range}
 use Rattle.std.proofs.lemmas.Bool.{lt-ltb}
 use Rattle.std.proofs.lemmas.List.{drop-drop}
@@ -115,15 +115,6 @@ link-ripas ripas UnassignedNs = refl
 link-ripas ripas (AssignedNs page) = refl
 
 -- ---- both counts
-
--- those of copies of one entry
-pub counts-copies : (n : ℕ) (entries : List Entry) (e : Entry) (live links : ℕ) (is_one is_other : Bool) → entries ≡ replicate n e
-    → live ≡ (if is_one then n else 0) → is_one ≡ is_live e → links ≡ (if is_other then n else 0) → is_other ≡ is_table e
-    → AreCounts entries live links
-counts-copies n entries e live links is_one is_other copies first one second other = record {
-  of_live = (first ∙ ap (λ (b : Bool). if b then n else 0) one) ∙ (sym (count-copies is_live n e) ∙ ap (λ (xs : List Entry). count_of is_live xs) (sym copies));
-  of_links = (second ∙ ap (λ (b : Bool). if b then n else 0) other) ∙ (sym (count-copies is_table n e) ∙ ap (λ (xs : List Entry). count_of is_table xs) (sym copies));
-}
 
 -- those of copies of one entry and copies of another
 pub counts-halves : (n m : ℕ) (lower upper : Entry) (live links : ℕ)

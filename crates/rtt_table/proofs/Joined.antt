@@ -1,7 +1,8 @@
 -- Columns of entries, and the entries that they stand for.
-use Rattle.std.proofs.Common.{◌≡◌, ℕ, zero, suc, ◌+◌, ◌-◌, ◌≤◌, List, [], ◌∷◌, ◌++◌, map, take, drop, replicate, length, set, refl, sym, ap, ◌∙◌, subst, arith}
-use Rattle.std.specs.List.{slice_range}
-use Rattle.std.proofs.lemmas.List.{map-append, map-set, drop-drop, length-map}
+use Rattle.std.proofs.Common.{◌≡◌, ℕ, zero, suc, ◌+◌, ◌-◌, ◌<◌, ◌≤◌, List, [], ◌∷◌, ◌++◌, map, take, drop, replicate, length, get_or, set, Some, refl, sym, ap, ◌∙◌, subst, arith}
+use Rattle.std.specs.List.{slice_range, slice_get}
+use Rattle.std.proofs.lemmas.List.{map-append, map-set, drop-drop, length-map, get_or-map}
+use Rattle.std.proofs.lemmas.Option.{slice_get-get_or}
 use borrow.Rule.Slice.PartMut.{put_mid}
 use Rattle.rmm_spec.specs.declared.entry.Entry.{Entry}
 use Rattle.rmm_spec.specs.declared.entry.Entry.TheVariants.{Unassigned, Assigned, Table, UnassignedNs, AssignedNs}
@@ -46,10 +47,6 @@ map-copies : {X Y : Type 0} (f : X → Y) (n : ℕ) (x : X) → map f (replicate
 map-copies f zero x = refl
 map-copies f (suc n) x = ap (λ ys. f x ∷ ys) (map-copies f n x)
 
--- those of copies of one entry
-pub columns-copies : (n : ℕ) (e : Entry) → AreColumns (replicate n e) (replicate n (kind_of e)) (replicate n (entry_address e))
-columns-copies n e = record { of_kinds = sym (map-copies kind_of n e); of_addresses = sym (map-copies entry_address n e) }
-
 -- those of copies of one entry and copies of another
 pub columns-halves : (n m : ℕ) (lower upper : Entry)
     → AreColumns (replicate n lower ++ replicate m upper)
@@ -60,22 +57,36 @@ columns-halves n m lower upper = record { of_kinds = both kind_of; of_addresses 
         → replicate n (f lower) ++ replicate m (f upper) ≡ map f (replicate n lower ++ replicate m upper)
     both f = (λ i. sym (map-copies f n lower) i ++ sym (map-copies f m upper) i) ∙ sym (map-append f (replicate n lower) (replicate m upper))
 
--- the first half of a column set to what another entry tells
-halves-set : {X : Type 0} (lower upper : X) (written : List X) → written ≡ replicate 256 lower
-    → put_mid 0 256 (replicate 512 upper) written ≡ replicate 256 lower ++ replicate 256 upper
-halves-set lower upper written is = ap (λ front. front ++ replicate 256 upper) is
-
--- so the columns are those of copies of one entry and copies of another
+-- so columns that were written by halves are those
 pub columns-written : (lower upper : Entry) (kl ku : Kind) (al au : ℕ) (kinds : List Kind) (addresses : List ℕ)
     → kl ≡ kind_of lower → ku ≡ kind_of upper → al ≡ entry_address lower → au ≡ entry_address upper
-    → kinds ≡ replicate 256 kl → addresses ≡ replicate 256 al
-    → AreColumns (replicate 256 lower ++ replicate 256 upper) (put_mid 0 256 (replicate 512 ku) kinds) (put_mid 0 256 (replicate 512 au) addresses)
+    → kinds ≡ replicate 256 kl ++ replicate 256 ku → addresses ≡ replicate 256 al ++ replicate 256 au
+    → AreColumns (replicate 256 lower ++ replicate 256 upper) kinds addresses
 columns-written lower upper kl ku al au kinds addresses of_kl of_ku of_al of_au of_kinds of_addresses =
     let halves = columns-halves 256 256 lower upper in
     record {
-      of_kinds = (halves-set kl ku kinds of_kinds ∙ (λ i. replicate 256 (of_kl i) ++ replicate 256 (of_ku i))) ∙ halves.of_kinds;
-      of_addresses = (halves-set al au addresses of_addresses ∙ (λ i. replicate 256 (of_al i) ++ replicate 256 (of_au i))) ∙ halves.of_addresses;
+      of_kinds = (of_kinds ∙ (λ i. replicate 256 (of_kl i) ++ replicate 256 (of_ku i))) ∙ halves.of_kinds;
+      of_addresses = (of_addresses ∙ (λ i. replicate 256 (of_al i) ++ replicate 256 (of_au i))) ∙ halves.of_addresses;
     }
+
+-- each column is as long as the entries
+pub columns-size : (entries : List Entry) (kinds : List Kind) (addresses : List ℕ) → AreColumns entries kinds addresses
+    → (length kinds ≡ length entries) × (length addresses ≡ length entries)
+columns-size entries kinds addresses columns = (
+  ap length columns.of_kinds ∙ length-map entries kind_of,
+  ap length columns.of_addresses ∙ length-map entries entry_address,
+)
+
+-- the entry at a place is that of the kind and the address there
+pub columns-at : (entries : List Entry) (kinds : List Kind) (addresses : List ℕ) (i : ℕ) (kind : Kind) (address : ℕ) → AreColumns entries kinds addresses
+    → i < length entries → kind ≡ get_or kinds i kind → address ≡ get_or addresses i address → slice_get entries i ≡ Some (entry_from kind address)
+columns-at entries kinds addresses i kind address columns within is_kind is_address =
+    let e = get_or entries i UnassignedNs in
+    let same_kind : kind_of e ≡ kind =
+    sym (get_or-map kind_of entries i UnassignedNs kind within) ∙ (ap (λ ks. get_or ks i kind) (sym columns.of_kinds) ∙ sym is_kind) in
+    let same_address : entry_address e ≡ address =
+    sym (get_or-map entry_address entries i UnassignedNs address within) ∙ (ap (λ cells. get_or cells i address) (sym columns.of_addresses) ∙ sym is_address) in
+    slice_get-get_or entries i UnassignedNs within ∙ ap Some (sym (entry_back e) ∙ (λ t. entry_from (same_kind t) (same_address t)))
 
 -- those of entries of which one is replaced
 pub columns-set : (entries : List Entry) (kinds : List Kind) (addresses : List ℕ) (at : ℕ) (e : Entry) → AreColumns entries kinds addresses
@@ -139,7 +150,7 @@ stretch-ends first last ripas entries order =
     ap (λ (rest : List Entry). take first entries ++ (map (entry_with_ripas ripas) (take (last - first) (drop first entries)) ++ rest)) ends
 
 -- those of entries of which a stretch has another RIPAS: the kinds of the stretch change, and no address does
-pub columns-ripas : (entries : List Entry) (kinds changed : List Kind) (addresses : List ℕ) (first last : ℕ) (ripas : Ripas) → AreColumns entries kinds addresses
+columns-ripas : (entries : List Entry) (kinds changed : List Kind) (addresses : List ℕ) (first last : ℕ) (ripas : Ripas) → AreColumns entries kinds addresses
     → first ≤ last → changed ≡ map (kind_with_ripas ripas) (slice_range kinds first last)
     → AreColumns (entries_with_ripas first last ripas entries) (put_mid first (last - first) kinds changed) addresses
 columns-ripas entries kinds changed addresses first last ripas columns order is_changed =
@@ -161,3 +172,23 @@ pub as_many : (entries others : List Entry) (kinds changed : List Kind) (address
 as_many entries others kinds changed addresses columns changes =
     sym (length-map others entry_address)
     ∙ (ap (λ (cells : List ℕ). length cells) (sym changes.of_addresses ∙ columns.of_addresses) ∙ length-map entries entry_address)
+
+-- what is written over a whole list is left
+whole-written : {X : Type 0} (n : ℕ) (written rest : List X) → length written ≡ n → take n (written ++ rest) ≡ written
+whole-written zero [] rest size = refl
+whole-written zero (w ∷ written) rest size = absurd (omega (arith, size))
+whole-written (suc n) [] rest size = absurd (omega (arith, size))
+whole-written (suc n) (w ∷ written) rest size = ap (λ ys. w ∷ ys) (whole-written n written rest (omega (arith, size)))
+
+-- the same columns, where the kinds are written over a whole list of so many
+pub columns-ripas-written : (entries : List Entry) (kinds changed : List Kind) (addresses : List ℕ) (first last : ℕ) (ripas : Ripas) (n : ℕ)
+    → AreColumns entries kinds addresses → first ≤ last → n ≡ length kinds → changed ≡ map (kind_with_ripas ripas) (slice_range kinds first last)
+    → AreColumns (entries_with_ripas first last ripas entries)
+    (take n (put_mid first (last - first) kinds changed ++ drop (length (put_mid first (last - first) kinds changed)) kinds)) addresses
+columns-ripas-written entries kinds changed addresses first last ripas n before order at is_changed =
+    let written = put_mid first (last - first) kinds changed in
+    let columns = columns-ripas entries kinds changed addresses first last ripas before order is_changed in
+    let size : length written ≡ n =
+    (columns-size (entries_with_ripas first last ripas entries) written addresses columns).0
+    ∙ (as_many entries (entries_with_ripas first last ripas entries) kinds written addresses before columns ∙ (sym (columns-size entries kinds addresses before).0 ∙ sym at)) in
+    subst (λ (ks : List Kind). AreColumns (entries_with_ripas first last ripas entries) ks addresses) (sym (whole-written n written (drop (length written) kinds) size)) columns

@@ -1,6 +1,6 @@
 //! The entries of a table in two columns, nine bytes an entry.
 
-ghost use Rattle.std.specs.Prelude.{All, ◌≡◌, ◌++◌, ◌<◌, ◌≤◌, ◌↔◌, IsTrue, length, map, replicate, Some, slice_get, slice_set};
+ghost use Rattle.std.specs.Prelude.{All, ◌≡◌, ◌++◌, ◌<◌, ◌≤◌, ◌↔◌, IfOk, IsTrue, length, map, replicate, Some, slice_get, slice_set};
 ghost use Rattle.std.specs.List.{list_any};
 ghost use Rattle.rmm_spec.specs.Table.{entries_with_ripas, AreAlike};
 ghost use Rattle.rmm_spec.specs.Walk.{is_unlike};
@@ -9,24 +9,22 @@ ghost use Rattle.rtt_table.specs.Columns.{kind_with_ripas};
 
 use crate::kind::{Kind, entry_from, kind_of, kind_with_ripas};
 use rmm_spec::{Entry, EntryTest, Ripas};
+use std::alloc::{AllocError, Global};
 use std::marker::Model;
-use std::mem::size_of;
 use table_entries::{entry_address, passes};
 
 /// How many entries a table has.
 pub const ENTRIES: usize = 512;
 
 /// How many stand in one half of its addresses.
-pub const HALF: usize = 256;
+const HALF: usize = 256;
 
-/// 512 entries: the address that each names, or 0, and what each is.
+/// 512 entries: the address that each names, or 0, and what each is. Both columns are written where they stay.
 #[derive(Drop)]
 pub struct Columns {
-    addresses: [u64; ENTRIES],
-    kinds: [Kind; ENTRIES],
+    addresses: Vec<u64>,
+    kinds: Vec<Kind>,
 }
-
-const _: () = prove!(size_of::<Columns>() == 9 * ENTRIES);
 
 impl Model for Columns {
     ghost use Rattle.std.specs.Prelude.{◌≡◌, List, length};
@@ -35,30 +33,19 @@ impl Model for Columns {
 
     ghost Value = { List Entry };
 
-    ghost view = { λ c. joined c.kinds c.addresses };
+    ghost view = { λ c. joined c.kinds.items c.addresses.items };
 
-    ghost invariant = { λ c. (length (joined c.kinds c.addresses) ≡ 512) × AreColumns (joined c.kinds c.addresses) c.kinds c.addresses };
+    ghost invariant = { λ c. (length (joined c.kinds.items c.addresses.items) ≡ 512) × AreColumns (joined c.kinds.items c.addresses.items) c.kinds.items c.addresses.items };
 }
 
 impl Columns {
-    /// 512 copies of one entry.
-    pub fn new(fill: Entry) -> Self
-        ensures { result ≡ replicate 512 fill }
-    {
-        let addresses = [entry_address(fill); ENTRIES];
-        let kinds = [kind_of(fill); ENTRIES];
-        Columns { addresses, kinds }
-    }
-
     /// 256 copies of one entry, and 256 of another behind them.
-    pub fn halves(lower: Entry, upper: Entry) -> Self
-        ensures { result ≡ replicate 256 lower ++ replicate 256 upper }
+    pub fn halves(alloc: Global, lower: Entry, upper: Entry) -> Result<Self, AllocError>
+        ensures { IfOk result (λ columns. columns ≡ replicate 256 lower ++ replicate 256 upper) }
     {
-        let mut addresses = [entry_address(upper); ENTRIES];
-        let mut kinds = [kind_of(upper); ENTRIES];
-        addresses[..HALF].fill(entry_address(lower));
-        kinds[..HALF].fill(kind_of(lower));
-        Columns { addresses, kinds }
+        let addresses = column(alloc, entry_address(lower), entry_address(upper))?;
+        let kinds = column(alloc, kind_of(lower), kind_of(upper))?;
+        Ok(Columns { addresses, kinds })
     }
 
     /// There are 512 entries.
@@ -104,8 +91,18 @@ impl Columns {
         requires within { to ≤ 512 }
         ensures { self.new ≡ entries_with_ripas from to ripas self.old }
     {
-        change_ripas(&mut self.kinds[from..to], ripas);
+        change_ripas(&mut self.kinds.as_mut_slice()[from..to], ripas);
     }
+}
+
+// 256 copies of one value, and 256 of another behind them.
+fn column<T: Copy>(alloc: Global, lower: T, upper: T) -> Result<Vec<T>, AllocError>
+    ensures { IfOk result (λ column. column.items ≡ replicate 256 lower ++ replicate 256 upper) }
+{
+    let mut column = Vec::with_capacity(alloc, ENTRIES)?;
+    column.resize(HALF, lower)?;
+    column.resize(ENTRIES, upper)?;
+    Ok(column)
 }
 
 // Whether each entry is of the given kind.

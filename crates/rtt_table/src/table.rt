@@ -26,7 +26,7 @@ pub fn index_of(level: u8, ipa: Ipa) -> usize
 #[derive(Drop)]
 pub struct Table {
     place: Place,
-    columns: Box<Columns>,
+    columns: Columns,
     live: u16,
     links: u16,
 }
@@ -37,24 +37,17 @@ impl Model for Table {
 
     ghost Value = { TableRecord };
 
-    ghost view = { λ t. record { place = t.place; entries = t.columns.value } };
+    ghost view = { λ t. record { place = t.place; entries = t.columns } };
 
-    ghost invariant = { λ t. AreCounts t.columns.value t.live t.links };
+    ghost invariant = { λ t. AreCounts t.columns t.live t.links };
 }
 
 impl Table {
     /// A table of 512 copies of one entry.
-    #[inline(never)]
     pub fn new(alloc: Global, place: Place, fill: Entry) -> Result<Self, AllocError>
         ensures { IfOk result (λ t. t ≡ record { place = place; entries = replicate 512 fill }) }
     {
-        let columns = Box::new(alloc, Columns::new(fill))?;
-        Ok(Table {
-            place,
-            columns,
-            live: all_or_none(is_live(fill)),
-            links: all_or_none(is_table(fill)),
-        })
+        Table::halves(alloc, place, fill, fill)
     }
 
     /// A table of 256 copies of one entry, and 256 of another behind them.
@@ -67,7 +60,7 @@ impl Table {
     ) -> Result<Self, AllocError>
         ensures { IfOk result (λ t. t ≡ record { place = place; entries = replicate 256 lower ++ replicate 256 upper }) }
     {
-        let columns = Box::new(alloc, Columns::halves(lower, upper))?;
+        let columns = Columns::halves(alloc, lower, upper)?;
         Ok(Table {
             place,
             columns,
@@ -155,13 +148,6 @@ impl Table {
     {
         self.columns.set_ripas(from, to, ripas);
     }
-}
-
-// How many entries pass a test, where all are copies of one.
-fn all_or_none(passes: bool) -> u16
-    ensures { result ≡ (if passes then 512 else 0) }
-{
-    if passes { 512 } else { 0 }
 }
 
 // How many entries of a half pass a test, where all are copies of one.

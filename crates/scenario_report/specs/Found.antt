@@ -11,7 +11,7 @@ use Rattle.scenario_told.specs.declared.numbers.Numbers.{Numbers}
 use Rattle.scenario_told.specs.Flaws.{IsKeyFlaw, IsRangeFlaw, IsCommandFlaw, IsTurnFlaw}
 
 abbrev pub numbers_of : Stated → Numbers
-numbers_of stated = record { granules = stated.granules; cpus = stated.cpus; queue = stated.queue; limit = stated.limit }
+numbers_of stated = record { granules = stated.granules; cpus = stated.cpus; queue = stated.queue; limit = stated.limit; version = stated.version }
 
 -- There isn't one program for each CPU, or there are too many commands.
 abbrev pub IsCountFlaw : Stated → Flaw → Type 0

@@ -51,6 +51,7 @@ fn flaw_in_sizes<'t>(stated: &Stated<'t>) -> Option<Flaw<'t>>
         cpus: stated.cpus,
         queue: stated.queue,
         limit: stated.limit,
+        version: stated.version,
     };
     match wrong_number(&numbers) {
         Some(flaw) => Some(flaw),

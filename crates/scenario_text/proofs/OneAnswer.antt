@@ -11,7 +11,7 @@ use Rattle.rmm_spec.specs.Scenario.{Stated, Scenario, IsStatedBy, AreInRange, Ha
 use Rattle.rmm_spec.specs.ScenarioKeys.{States}
 use Rattle.scenario_text.specs.TomlDocument.{toml_kinds, document_of}
 use Rattle.scenario_text.specs.ScenarioText.{document_in, IsScenarioText, StatesScenario, IsValueFault, IsTableFault, IsFirstFault, HasValueFault, HasTableFault}
-use Rattle.scenario_text.proofs.Values.{IsCommandText-all, lengths-texts}
+use Rattle.scenario_text.proofs.Values.{IsCommandText-all, lengths-texts, version_number-between}
 
 -- A document has one table.
 pub same_members : (bytes : List ℕ) (a b : Members) → document_in bytes ≡ Some a → document_in bytes ≡ Some b → a ≡ b
@@ -26,6 +26,7 @@ same_stated written a b is-a is-b = λ i. record {
   queue = same_Some _ _ (sym is-a.queue ∙ is-b.queue) i;
   turns = same_Some _ _ (sym is-a.turns ∙ is-b.turns) i;
   limit = same_Some _ _ (sym is-a.limit ∙ is-b.limit) i;
+  version = same_Some _ _ (sym is-a.version ∙ is-b.version) i;
 }
 
 -- What states a scenario is in range.
@@ -40,6 +41,7 @@ AreInRange-stated stated scenario by_it =
       few = rw (ap (λ programs. sum (map length programs)) by_it.programs ∙ ap sum (lengths-texts scenario.programs)) good.few;
       queue = rw by_it.queue good.queue;
       limit = rw by_it.limit good.limit;
+      version = rw by_it.version (version_number-between scenario.config.version);
     }
 
 pub HasCommands-stated : (stated : Stated) (scenario : Scenario) → IsStatedBy stated scenario → HasCommands stated

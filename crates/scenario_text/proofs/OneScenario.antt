@@ -9,7 +9,9 @@ use Rattle.rmm_spec.proofs.Texts.{parts_of-line_text, command_parts-are_parts, c
 use Rattle.rmm_spec.specs.declared.turn.Due.{Due}
 use Rattle.rmm_spec.specs.declared.turn.Will.{Will}
 use Rattle.rmm_spec.specs.declared.turn.Will.TheVariants.{Go, GiveUp, Stop}
-use Rattle.rmm_spec.specs.Scenario.{Stated, Scenario, IsStatedBy, turn_text, will_text}
+use Rattle.rmm_spec.specs.declared.version.Version.{Version}
+use Rattle.rmm_spec.specs.declared.version.Version.TheVariants.{One, Two}
+use Rattle.rmm_spec.specs.Scenario.{Stated, Scenario, IsStatedBy, turn_text, version_number, will_text}
 use Rattle.scenario_text.specs.ScenarioText.{IsScenarioText, StatesScenario}
 use Rattle.scenario_text.proofs.OneAnswer.{same_members, same_stated}
 use Rattle.scenario_text.proofs.TurnTexts.{turn_text-digit}
@@ -58,6 +60,15 @@ turn_text-injective cpus few s t low-s low-t same =
 same_cpus : (stated : Stated) (s t : Scenario) → IsStatedBy stated s → IsStatedBy stated t → s.config.cpus ≡ t.config.cpus
 same_cpus stated s t by-s by-t = pos-injective _ _ (sym by-s.cpus ∙ by-t.cpus)
 
+version_number-injective : (v w : Version) → version_number v ≡ version_number w → v ≡ w
+version_number-injective One One same = refl
+version_number-injective One Two same = absurd (omega (arith, same))
+version_number-injective Two One same = absurd (omega (arith, same))
+version_number-injective Two Two same = refl
+
+same_version : (stated : Stated) (s t : Scenario) → IsStatedBy stated s → IsStatedBy stated t → s.config.version ≡ t.config.version
+same_version stated s t by-s by-t = version_number-injective _ _ (pos-injective _ _ (sym by-s.version ∙ by-t.version))
+
 same_turns : (stated : Stated) (s t : Scenario) → IsStatedBy stated s → IsStatedBy stated t → s.turns ≡ t.turns
 same_turns stated s t by-s by-t =
     map-injective turn_text (λ turn. turn.cpu < s.config.cpus) (turn_text-injective s.config.cpus by-s.is_scenario.config.most_cpus) s.turns t.turns
@@ -71,7 +82,7 @@ same_programs stated s t by-s by-t =
 -- What is stated is one scenario.
 same_scenario : (stated : Stated) (s t : Scenario) → IsStatedBy stated s → IsStatedBy stated t → s ≡ t
 same_scenario stated s t by-s by-t = λ i. record {
-  config = record { granules = pos-injective _ _ (sym by-s.granules ∙ by-t.granules) i; cpus = same_cpus stated s t by-s by-t i };
+  config = record { granules = pos-injective _ _ (sym by-s.granules ∙ by-t.granules) i; cpus = same_cpus stated s t by-s by-t i; version = same_version stated s t by-s by-t i };
   programs = same_programs stated s t by-s by-t i;
   queue = pos-injective _ _ (sym by-s.queue ∙ by-t.queue) i;
   turns = same_turns stated s t by-s by-t i;

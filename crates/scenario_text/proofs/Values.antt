@@ -1,12 +1,14 @@
 -- Lists of texts and what they are the texts of.
-use Rattle.std.proofs.Common.{◌≡◌, ◌<◌, pos, List, [], ◌∷◌, length, map, sum, refl, sym, ap, ◌∙◌}
+use Rattle.std.proofs.Common.{◌≡◌, ◌<◌, pos, List, [], ◌∷◌, length, map, sum, refl, sym, ap, ◌∙◌, lit≤}
 use Rattle.std.specs.List.{AllByRecursion}
 use Rattle.std.proofs.lemmas.List.{length-map}
 use Rattle.rmm_spec.specs.declared.command.Command.{Command}
 use Rattle.rmm_spec.specs.CommandText.{IsCommand, command_text}
 use Rattle.scenario_text.specs.declared.limits.Sizes.{Sizes}
 use Rattle.rmm_spec.specs.declared.turn.Due.{Due}
-use Rattle.rmm_spec.specs.Scenario.{Stated, IsStatedBy, AreInRange, IsCommandText, turn_text}
+use Rattle.rmm_spec.specs.declared.version.Version.{Version}
+use Rattle.rmm_spec.specs.declared.version.Version.TheVariants.{One, Two}
+use Rattle.rmm_spec.specs.Scenario.{Stated, IsStatedBy, AreInRange, IsBetween, IsCommandText, turn_text, version_number}
 use Rattle.scenario_text.specs.Sizes.{AreSizes}
 
 -- The texts of commands can be read.
@@ -23,36 +25,44 @@ pub lengths-texts : (programs : List (List Command)) → map length (map (map co
 lengths-texts [] = refl
 lengths-texts (program ∷ programs) = λ i. length-map program command_text i ∷ lengths-texts programs i
 
+-- A version has one of the numbers.
+pub version_number-between : (version : Version) → IsBetween 1 2 (pos (version_number version))
+version_number-between One = (lit≤ tt, lit≤ tt)
+version_number-between Two = (lit≤ tt, lit≤ tt)
+
 -- Numbers that are held as they are stated are in range.
-pub AreInRange-sizes : (stated : Stated) (sizes : Sizes) → AreSizes stated sizes → AreInRange stated
-AreInRange-sizes stated sizes are = record {
-  granules = rw are.granules (are.config.some_granules, are.config.most_granules);
-  cpus = rw are.cpus (are.config.some_cpus, are.config.most_cpus);
-  programs = are.cpus ∙ ap pos (sym are.programs);
+pub AreInRange-sizes : (stated : Stated) (sizes : Sizes) → AreSizes stated sizes → stated.version ≡ pos (version_number sizes.config.version)
+    → AreInRange stated
+AreInRange-sizes stated sizes are version = record {
+  granules = rw are.numbers.granules (are.numbers.config.some_granules, are.numbers.config.most_granules);
+  cpus = rw are.numbers.cpus (are.numbers.config.some_cpus, are.numbers.config.most_cpus);
+  programs = are.numbers.cpus ∙ ap pos (sym are.programs);
   few = are.few;
-  queue = rw are.queue are.queue_within;
-  limit = rw are.limit are.limit_within;
+  queue = rw are.numbers.queue are.numbers.queue_within;
+  limit = rw are.numbers.limit are.numbers.limit_within;
+  version = rw version (version_number-between sizes.config.version);
 }
 
 -- What is stated is the scenario of the numbers, commands and turns that are read from it.
 pub IsStatedBy-parts : (stated : Stated) (sizes : Sizes) (programs : List (List Command)) (turns : List Due) → AreSizes stated sizes
-    → stated.programs ≡ map (map command_text) programs → AllByRecursion (AllByRecursion IsCommand) programs
+    → stated.version ≡ pos (version_number sizes.config.version) → stated.programs ≡ map (map command_text) programs → AllByRecursion (AllByRecursion IsCommand) programs
     → stated.turns ≡ map turn_text turns → AllByRecursion (λ turn. turn.cpu < sizes.config.cpus) turns
     → IsStatedBy stated (record { config = sizes.config; programs = programs; queue = sizes.queue; turns = turns; limit = sizes.limit })
-IsStatedBy-parts stated sizes programs turns are texts commands turn_texts cpus = record {
+IsStatedBy-parts stated sizes programs turns are version texts commands turn_texts cpus = record {
   is_scenario = record {
-    config = are.config;
+    config = are.numbers.config;
     programs = sym (length-map programs (map command_text)) ∙ ap length (sym texts) ∙ are.programs;
     commands = commands;
     few = rw (ap (λ lists. sum (map length lists)) texts ∙ ap sum (lengths-texts programs)) at are.few;
-    queue = are.queue_within;
+    queue = are.numbers.queue_within;
     turns = cpus;
-    limit = are.limit_within;
+    limit = are.numbers.limit_within;
   };
-  granules = are.granules;
-  cpus = are.cpus;
+  granules = are.numbers.granules;
+  cpus = are.numbers.cpus;
   programs = texts;
-  queue = are.queue;
+  queue = are.numbers.queue;
   turns = turn_texts;
-  limit = are.limit;
+  limit = are.numbers.limit;
+  version = version;
 }

@@ -11,6 +11,7 @@ use Rattle.rmm_spec.specs.Function.{number_of, word_count}
 use Rattle.rmm_spec.specs.Text.{numeral, decimal, word, fixed_hex}
 use Rattle.scenario_text.specs.declared.fault.ScenarioFault.TheVariants.{WrongKey, NoTurn, NoMemory}
 use Rattle.rmm_spec.specs.declared.turn.Will.TheVariants.{Go, Stop}
+use Rattle.rmm_spec.specs.declared.version.Version.TheVariants.{One}
 use Rattle.rmm_spec.specs.Scenario.{Stated, Scenario, IsScenario, IsTurnText, AreInRange, turn_text}
 use Rattle.rmm_spec.specs.ScenarioKeys.{States}
 use Rattle.scenario_text.specs.TomlDocument.{toml_kinds, document_of}
@@ -38,6 +39,7 @@ stopping_stated = record {
   queue = pos 4096;
   turns = codes "1" ∷ codes "0 stop" ∷ [];
   limit = pos 1000000;
+  version = pos 1;
 }
 
 abbrev delegate : Command
@@ -45,7 +47,7 @@ delegate = record { function = GranuleDelegate; words = record { items = 0x1000 
 
 abbrev stopping : Scenario
 stopping = record {
-  config = record { granules = 4; cpus = 2 };
+  config = record { granules = 4; cpus = 2; version = One };
   programs = (delegate ∷ []) ∷ [] ∷ [];
   queue = 4096;
   turns = record { cpu = 1; will = Go } ∷ record { cpu = 0; will = Stop } ∷ [];
@@ -61,7 +63,7 @@ unfolding lib.Utf8.encode
 document_in-stopping = document_in-utf8 stopping_text (stopping_text, (refl, refl)) ∙ parse_document-stopping
 
 States-stopping : States toml_kinds (document_of stopping_members) stopping_stated
-States-stopping = record { known = refl; granules = refl; cpus = refl; programs = refl; queue = refl; turns = refl; limit = refl }
+States-stopping = record { known = refl; granules = refl; cpus = refl; programs = refl; queue = refl; turns = refl; limit = refl; version = refl }
 
 IsCommand-delegate : IsCommand delegate
 unfolding word_count
@@ -102,6 +104,7 @@ IsScenarioText-stopping = record {
       queue = refl;
       turns = rw (turn_texts-stopping.0, turn_texts-stopping.1) refl;
       limit = refl;
+      version = refl;
     };
   };
 }
@@ -150,6 +153,7 @@ third_cpu_stated = record {
   queue = pos 4096;
   turns = codes "2" ∷ [];
   limit = pos 1000000;
+  version = pos 1;
 }
 
 parse_document-third_cpu : parse_document third_cpu_text ≡ Some third_cpu_members
@@ -171,6 +175,7 @@ AreInRange-third_cpu = record {
   few = lit≤ tt;
   queue = (lit≤ tt, lit≤ tt);
   limit = (lit≤ tt, lit≤ tt);
+  version = (lit≤ tt, lit≤ tt);
 }
 
 -- The turn of CPU 2 can't be read where there are two.
@@ -180,7 +185,7 @@ IsFirstFault-third_cpu = record {
   document = document_in-third_cpu;
   has = record {
     stated = third_cpu_stated;
-    keys = record { known = refl; granules = refl; cpus = refl; programs = refl; queue = refl; turns = refl; limit = refl };
+    keys = record { known = refl; granules = refl; cpus = refl; programs = refl; queue = refl; turns = refl; limit = refl; version = refl };
     has = (AreInRange-third_cpu, (tt, (tt, tt)), λ all. not_turn all.0);
   };
 }

@@ -19,4 +19,5 @@ stated_seen held = record {
   queue = held.queue;
   turns = seen_texts held.turns.items;
   limit = held.limit;
+  version = held.version;
 }

@@ -23,6 +23,7 @@ pub struct Stated<'t> {
     pub queue: i64,
     pub turns: Vec<&'t str>,
     pub limit: i64,
+    pub version: i64,
 }
 
 impl<'t> Stated<'t> {
@@ -46,6 +47,9 @@ impl<'t> Stated<'t> {
         let Some(limit) = number_or(table, "limit", 1_000_000) else {
             return Err(ScenarioFault::WrongKey);
         };
+        let Some(version) = number_or(table, "version", 1) else {
+            return Err(ScenarioFault::WrongKey);
+        };
         let Some(programs) = programs_in(alloc, table)? else {
             return Err(ScenarioFault::WrongKey);
         };
@@ -59,6 +63,7 @@ impl<'t> Stated<'t> {
             queue,
             turns,
             limit,
+            version,
         })
     }
 }
@@ -67,7 +72,10 @@ impl<'t> Stated<'t> {
 pub fn is_key(key: &str) -> bool
     ensures { result ≡ is_key key.now }
 {
-    ["granules", "cpus", "programs", "queue", "turns", "limit"].contains(&key)
+    [
+        "granules", "cpus", "programs", "queue", "turns", "limit", "version",
+    ]
+    .contains(&key)
 }
 
 fn has_known_keys(table: &Table) -> bool

@@ -1,7 +1,7 @@
 //! Scenario files, and what is read of them.
 
 use crate::{ScenarioFault, read_scenario};
-use rmm_spec::Will;
+use rmm_spec::{Version, Will};
 use std::process::Abort;
 use std::test::Fail;
 
@@ -85,7 +85,7 @@ granules = 4
 cpus = 2
 programs = [[], []]
 turns = ['2']
-version = 1
+speed = 1
 
 3
 granules = 4097
@@ -122,7 +122,7 @@ cpus = 1
 granules = 4
 cpus = 1
 programs = [[]]
-version = 1
+speed = 1
 
 2
 granules = 4
@@ -394,6 +394,30 @@ limit = 10000001",
 }
 
 #[test]
+fn versions(rt: HostRuntime) -> Result<(), Fail> {
+    for (kind, text) in [
+        (0, "1"),
+        (0, "2"),
+        (0, "0x2"),
+        (3, "0"),
+        (3, "3"),
+        (3, "-1"),
+        (3, "4294967297"),
+        (3, "9223372036854775807"),
+        (2, "'2'"),
+        (2, "2.0"),
+        (2, "[2]"),
+        (2, "true"),
+    ] {
+        let scenario = format!(in rt.alloc();
+            "granules = 4\ncpus = 1\nprograms = [[]]\nversion = {text}\n"
+        )?;
+        assert_eq!(rt; fault_number(&rt, scenario.as_bytes()), kind, "at {text}");
+    }
+    Ok(())
+}
+
+#[test]
 fn commands_and_turns(rt: HostRuntime) -> Result<(), Fail> {
     for (kind, texts) in [
         (
@@ -424,11 +448,12 @@ fn commands_and_turns(rt: HostRuntime) -> Result<(), Fail> {
 #[test]
 fn what_is_stated(rt: HostRuntime) -> Result<(), Fail> {
     let text = format!(in rt.alloc();
-        "granules = 16\ncpus = 2\n{PROGRAMS}queue = 7\nlimit = 2\nturns = ['0', '1 giveup', '0 stop']\n"
+        "granules = 16\ncpus = 2\n{PROGRAMS}queue = 7\nlimit = 2\nversion = 2\nturns = ['0', '1 giveup', '0 stop']\n"
     )?;
     let scenario = read_scenario(rt.alloc(), text.as_bytes())?;
     assert_eq!(rt; scenario.config().granules(), 16);
     assert_eq!(rt; scenario.config().cpus(), 2);
+    assert!(rt; matches!(scenario.config().version(), Version::Two));
     assert_eq!(rt; scenario.queue(), 7);
     assert_eq!(rt; scenario.limit(), 2);
     assert_eq!(rt; scenario.programs().len(), 2);
@@ -454,6 +479,7 @@ fn what_is_left_out(rt: HostRuntime) -> Result<(), Fail> {
     let scenario = read_scenario(rt.alloc(), b"granules = 1\ncpus = 1\nprograms = [[]]")?;
     assert_eq!(rt; scenario.queue(), 4096);
     assert_eq!(rt; scenario.limit(), 1_000_000);
+    assert!(rt; matches!(scenario.config().version(), Version::One));
     assert!(rt; scenario.turns().is_empty());
     Ok(())
 }

@@ -24,6 +24,7 @@ stated_number numbers number.Granules = numbers.granules
 stated_number numbers number.Cpus = numbers.cpus
 stated_number numbers number.Queue = numbers.queue
 stated_number numbers number.Limit = numbers.limit
+stated_number numbers number.Version = numbers.version
 
 -- a number is out of its range
 abbrev pub IsRangeFlaw : Numbers → Flaw → Type 0

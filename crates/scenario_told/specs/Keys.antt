@@ -11,6 +11,7 @@ number_name number.Granules = codes "granules"
 number_name number.Cpus = codes "cpus"
 number_name number.Queue = codes "queue"
 number_name number.Limit = codes "limit"
+number_name number.Version = codes "version"
 
 abbrev pub key_name : Key → List ℕ
 key_name (key.Number n) = number_name n
@@ -22,6 +23,7 @@ most number.Granules = 4096
 most number.Cpus = 8
 most number.Queue = 65536
 most number.Limit = 10000000
+most number.Version = 2
 
 abbrev pub is_needed : Key → Bool
 is_needed (key.Number number.Granules) = true

@@ -12,7 +12,9 @@ impl fmt::Display for Flaw<'_> {
             Flaw::Unknown { key } => {
                 let key = Shown(key.as_bytes());
                 write!(f, "wrong: a scenario has no key \"{key}\"\n")?;
-                f.write_str("there could stand: granules, cpus, programs, queue, turns or limit\n")
+                f.write_str(
+                    "there could stand: granules, cpus, programs, queue, turns, limit or version\n",
+                )
             }
             Flaw::Missing { key } => write!(f, "wrong: the key {key} is missing\n{}", Holds(*key)),
             Flaw::Kind { key } => write!(

@@ -10,6 +10,7 @@ pub enum Number {
     Cpus,
     Queue,
     Limit,
+    Version,
 }
 
 /// A key that a scenario has, or may have.
@@ -30,6 +31,7 @@ impl Number {
             Number::Cpus => "cpus",
             Number::Queue => "queue",
             Number::Limit => "limit",
+            Number::Version => "version",
         }
     }
 
@@ -42,19 +44,21 @@ impl Number {
             Number::Cpus => 8,
             Number::Queue => 65_536,
             Number::Limit => 10_000_000,
+            Number::Version => 2,
         }
     }
 }
 
 impl Key {
     /// All of them.
-    pub const ALL: [Key; 6] = [
+    pub const ALL: [Key; 7] = [
         Key::Number(Number::Granules),
         Key::Number(Number::Cpus),
         Key::Programs,
         Key::Number(Number::Queue),
         Key::Turns,
         Key::Number(Number::Limit),
+        Key::Number(Number::Version),
     ];
 
     /// What it is called.
@@ -74,7 +78,7 @@ impl Key {
     {
         match self {
             Key::Number(Number::Granules | Number::Cpus) | Key::Programs => true,
-            Key::Number(Number::Queue | Number::Limit) | Key::Turns => false,
+            Key::Number(Number::Queue | Number::Limit | Number::Version) | Key::Turns => false,
         }
     }
 }

@@ -14,6 +14,7 @@ pub struct Numbers {
     pub cpus: i64,
     pub queue: i64,
     pub limit: i64,
+    pub version: i64,
 }
 
 impl Numbers {
@@ -25,6 +26,7 @@ impl Numbers {
             Number::Cpus => self.cpus,
             Number::Queue => self.queue,
             Number::Limit => self.limit,
+            Number::Version => self.version,
         }
     }
 }
@@ -33,7 +35,13 @@ impl Numbers {
 pub fn wrong_number<'t>(numbers: &Numbers) -> Option<Flaw<'t>>
     ensures { IfSome result (IsRangeFlaw numbers.now) }
 {
-    for number in [Number::Granules, Number::Cpus, Number::Queue, Number::Limit] {
+    for number in [
+        Number::Granules,
+        Number::Cpus,
+        Number::Queue,
+        Number::Limit,
+        Number::Version,
+    ] {
         let stated = numbers.stated(number);
         if !is_up_to(stated, number.most()) {
             return Some(Flaw::Range { number, stated });

@@ -1,7 +1,7 @@
 //! What a scenario would run, in words.
 
 use call_text::CallText;
-use rmm_spec::{Command, Due, Will};
+use rmm_spec::{Command, Due, Version, Will};
 use scenario::Scenario;
 use std::fmt;
 
@@ -14,10 +14,11 @@ impl fmt::Display for ScenarioText<'_> {
         let scenario = self.0;
         let (granules, cpus) = (scenario.config().granules(), scenario.config().cpus());
         let (queue, limit) = (scenario.queue(), scenario.limit());
-        write!(
-            f,
-            "granules: {granules}\ncpus: {cpus}\nqueue: room for {queue} events\nlimit: {limit} turns\n"
-        )?;
+        write!(f, "granules: {granules}\ncpus: {cpus}\n")?;
+        if matches!(scenario.config().version(), Version::Two) {
+            f.write_str("version: 2\n")?;
+        }
+        write!(f, "queue: room for {queue} events\nlimit: {limit} turns\n")?;
         for (cpu, program) in scenario.programs().iter().enumerate() {
             write_program(f, cpu, program.as_slice())?;
         }

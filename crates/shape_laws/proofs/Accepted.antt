@@ -1,5 +1,6 @@
 -- What an accepted command makes of a whole: its change, which leaves the whole well shaped, is a step of the machine.
 use Rattle.std.proofs.Common.{◌≡◌, ℕ, List, [], ◌∷◌, Ok, refl, sym, subst}
+use Rattle.rmm_spec.specs.HistoryText.{Config}
 use Rattle.rmm_spec.specs.declared.accepted.Accepted.TheVariants.{Reaches}
 use Rattle.rmm_spec.specs.declared.accepted.Stretch.{Stretch}
 use Rattle.rmm_spec.specs.declared.change.Change.{Change}
@@ -14,27 +15,27 @@ use Rattle.shape_laws.specs.Whole.{Whole, IsShaped, cells_changed, whole_changed
 use Rattle.shape_laws.proofs.Changes.{changes-keep_shape}
 use Rattle.shape_laws.proofs.Ties.{well_shaped-is_sound}
 
-pub done-keeps_shape : (granules : ℕ) (w : Whole) (cpu : ℕ) (command : Command) (words : List ℕ) (change : Change) → IsShaped granules w
-    → outcome (flat_state granules w.cells) cpu (call_of command) ≡ Ok (done words change)
-    → IsShaped granules (whole_changed granules w change)
-    × Step (flat_state granules w.cells) cpu command (ok words) (flat_state granules (cells_changed granules w.cells change))
-done-keeps_shape granules w cpu command words change shaped accepted =
-    let s = flat_state granules w.cells in
-    let sound = well_shaped-is_sound granules w.side w.places w.cells shaped in
-    let new = changes-keep_shape granules w change shaped (done_applies s cpu command words change sound accepted) in (
+pub done-keeps_shape : (config : Config) (w : Whole) (cpu : ℕ) (command : Command) (words : List ℕ) (change : Change) → IsShaped config w
+    → outcome (flat_state config w.cells) cpu (call_of command) ≡ Ok (done words change)
+    → IsShaped config (whole_changed config w change)
+    × Step (flat_state config w.cells) cpu command (ok words) (flat_state config (cells_changed config w.cells change))
+done-keeps_shape config w cpu command words change shaped accepted =
+    let s = flat_state config w.cells in
+    let sound = well_shaped-is_sound config w.side w.places w.cells shaped in
+    let new = changes-keep_shape config w change shaped (done_applies s cpu command words change sound accepted) in (
       new.0,
-      subst (λ o. CarriesOut o s (ok words) (flat_state granules (cells_changed granules w.cells change))) (sym accepted) (refl, new.1),
+      subst (λ o. CarriesOut o s (ok words) (flat_state config (cells_changed config w.cells change))) (sym accepted) (refl, new.1),
     )
 
-pub reached-keeps_shape : (granules : ℕ) (w : Whole) (cpu : ℕ) (command : Command) (stretch : Stretch) (top : ℕ) → IsShaped granules w
-    → outcome (flat_state granules w.cells) cpu (call_of command) ≡ Ok (Reaches stretch) → IsReached (flat_state granules w.cells) stretch top
-    → IsShaped granules (whole_changed granules w (reached_change stretch top))
-    × Step (flat_state granules w.cells) cpu command (ok (top ∷ [])) (flat_state granules (cells_changed granules w.cells (reached_change stretch top)))
-reached-keeps_shape granules w cpu command stretch top shaped accepted reached =
-    let s = flat_state granules w.cells in
-    let sound = well_shaped-is_sound granules w.side w.places w.cells shaped in
-    let new = changes-keep_shape granules w (reached_change stretch top) shaped (reached_applies s cpu command stretch top sound accepted reached) in (
+pub reached-keeps_shape : (config : Config) (w : Whole) (cpu : ℕ) (command : Command) (stretch : Stretch) (top : ℕ) → IsShaped config w
+    → outcome (flat_state config w.cells) cpu (call_of command) ≡ Ok (Reaches stretch) → IsReached (flat_state config w.cells) stretch top
+    → IsShaped config (whole_changed config w (reached_change stretch top))
+    × Step (flat_state config w.cells) cpu command (ok (top ∷ [])) (flat_state config (cells_changed config w.cells (reached_change stretch top)))
+reached-keeps_shape config w cpu command stretch top shaped accepted reached =
+    let s = flat_state config w.cells in
+    let sound = well_shaped-is_sound config w.side w.places w.cells shaped in
+    let new = changes-keep_shape config w (reached_change stretch top) shaped (reached_applies s cpu command stretch top sound accepted reached) in (
       new.0,
-      subst (λ o. CarriesOut o s (ok (top ∷ [])) (flat_state granules (cells_changed granules w.cells (reached_change stretch top)))) (sym accepted)
+      subst (λ o. CarriesOut o s (ok (top ∷ [])) (flat_state config (cells_changed config w.cells (reached_change stretch top)))) (sym accepted)
           (top, (reached, refl, new.1)),
     )

@@ -2,6 +2,7 @@
 use Rattle.std.proofs.Common.{◌≡◌, ℕ, Bool, true, false, ◌==◌, ◌&&◌, if◌then◌else◌, IsTrue, Option, Some, is_some, refl, sym, ap, ◌∙◌, eq-eqb}
 use Rattle.std.proofs.lemmas.Bool.{false≢true, and_from, true_from_ne_false}
 use Rattle.std.proofs.lemmas.Option.{none-some, same_Some}
+use Rattle.rmm_spec.specs.HistoryText.{Config}
 use Rattle.rmm_spec.specs.declared.tag.Tag.{Tag}
 use Rattle.rmm_spec.specs.declared.tag.Tag.TheVariants as tag
 use Rattle.rmm_spec.specs.State.{State, RealmRecord, RecRecord}
@@ -138,18 +139,18 @@ some_rec-tagged (Rtt t) true outside = refl
 -- ---- tags of a whole
 
 -- a cell that isn't undelegated has its tag at a granule
-pub has_tag-cell : (granules : ℕ) (cells : ℕ → Cell) (address : ℕ) (asked : Tag) → AreOutside granules cells → tag_of (cells address) ≡ asked
-    → (tag_number tag.Undelegated == tag_number asked) ≡ false → IsTrue (has_tag (flat_state granules cells) address asked)
+pub has_tag-cell : (config : Config) (cells : ℕ → Cell) (address : ℕ) (asked : Tag) → AreOutside config.granules cells → tag_of (cells address) ≡ asked
+    → (tag_number tag.Undelegated == tag_number asked) ≡ false → IsTrue (has_tag (flat_state config cells) address asked)
 unfolding has_tag flat_state
-has_tag-cell granules cells address asked outside is apart =
-    and_from _ _ (true_from_ne_false (is_granule granules address) (λ none. tags_differ (sym (ap tag_of (outside.undelegated address none)) ∙ is) apart))
+has_tag-cell config cells address asked outside is apart =
+    and_from _ _ (true_from_ne_false (is_granule config.granules address) (λ none. tags_differ (sym (ap tag_of (outside.undelegated address none)) ∙ is) apart))
     (eq-eqb (tag_number (tag_of (cells address))) (tag_number asked) (ap tag_number is))
 
 -- what a granule's tag is asked to be, it is
-pub tag-cell : (granules : ℕ) (cells : ℕ → Cell) (address : ℕ) (asked : Tag) → IsTrue (has_tag (flat_state granules cells) address asked)
+pub tag-cell : (config : Config) (cells : ℕ → Cell) (address : ℕ) (asked : Tag) → IsTrue (has_tag (flat_state config cells) address asked)
     → tag_of (cells address) ≡ asked
 unfolding flat_state
-tag-cell granules cells address asked has = tag-has_tag (flat_state granules cells) address asked has
+tag-cell config cells address asked has = tag-has_tag (flat_state config cells) address asked has
 
 -- ---- maps
 
@@ -163,19 +164,19 @@ pub record Views : Type 0 where
 abbrev pub views_of : (ℕ → Cell) → Views
 views_of cells = record { tags = tags_of cells; realms = realms_of cells; recs = recs_of cells; tables = tables_of cells }
 
-abbrev pub flat_views : ℕ → Views → State
-flat_views granules v = record {
-  granules = granules;
+abbrev pub flat_views : Config → Views → State
+flat_views config v = record {
+  config = config;
   tag = v.tags;
   realm = v.realms;
   rec = v.recs;
-  table = table_granule granules v.tables;
-  leaf = leaf_in_tables granules v.tables;
+  table = table_granule config.granules v.tables;
+  leaf = leaf_in_tables config.granules v.tables;
 }
 
-pub flat_state-views : (granules : ℕ) (cells : ℕ → Cell) → flat_state granules cells ≡ flat_views granules (views_of cells)
+pub flat_state-views : (config : Config) (cells : ℕ → Cell) → flat_state config cells ≡ flat_views config (views_of cells)
 unfolding flat_state
-flat_state-views granules cells = refl
+flat_state-views config cells = refl
 
 abbrev pub views_put : Views → ℕ → Cell → Views
 views_put v address c = record {

@@ -1,6 +1,7 @@
 -- Entries of one table are changed, with the tag of a page and with records.
 use Rattle.std.proofs.Common.{◌≡◌, ℕ, suc, ◌+◌, ◌*◌, ◌/◌, List, Option, Some, None, slice_get, refl, sym, ap, ◌∙◌, subst, inl, inr}
 use Rattle.std.proofs.lemmas.Option.{none-some, same_Some}
+use Rattle.rmm_spec.specs.HistoryText.{Config}
 use Rattle.rmm_spec.specs.declared.change.Change.TheVariants.{EntriesChanged}
 use Rattle.rmm_spec.specs.declared.change.EntryChange.{EntryChange}
 use Rattle.rmm_spec.specs.declared.change.EntryChange.TheVariants.{Replaced, RipasSet}
@@ -37,33 +38,33 @@ abbrev CanChangePage : (ℕ → Cell) → Option TagChange → Type 0
 CanChangePage cells None = Unit {0}
 CanChangePage cells (Some change) = CanGetTag cells change
 
-views_of-page : (granules : ℕ) (cells : ℕ → Cell) (page : Option TagChange) → CanChangePage cells page
-    → views_of (cells_with_tag_change cells page) ≡ record (views_of cells) { tags = (with_tag_change (flat_state granules cells) page).tag }
+views_of-page : (config : Config) (cells : ℕ → Cell) (page : Option TagChange) → CanChangePage cells page
+    → views_of (cells_with_tag_change cells page) ≡ record (views_of cells) { tags = (with_tag_change (flat_state config cells) page).tag }
 unfolding flat_state
-views_of-page granules cells None can = refl
-views_of-page granules cells (Some change) can = views_of-retagged cells change can
+views_of-page config cells None can = refl
+views_of-page config cells (Some change) can = views_of-retagged cells change can
 
 -- the page that goes with an entry is lent, or is the one that the entry names
-page_cells : (granules : ℕ) (cells : ℕ → Cell) (rd level : ℕ) (entries : EntryChange) (page : Option TagChange) → IsSound (flat_state granules cells)
-    → CanChangeEntries (flat_state granules cells) rd level entries page → CanChangePage cells page
-page_cells granules cells rd level entries None sound can = tt
-page_cells granules cells rd level (RipasSet first last ripas) (Some page) sound can = absurd (let bad : Some page ≡ None = can.1 in cc)
-page_cells granules cells rd level (Replaced number entry) (Some page) sound can = elim can.1 [
+page_cells : (config : Config) (cells : ℕ → Cell) (rd level : ℕ) (entries : EntryChange) (page : Option TagChange) → IsSound (flat_state config cells)
+    → CanChangeEntries (flat_state config cells) rd level entries page → CanChangePage cells page
+page_cells config cells rd level entries None sound can = tt
+page_cells config cells rd level (RipasSet first last ripas) (Some page) sound can = absurd (let bad : Some page ≡ None = can.1 in cc)
+page_cells config cells rd level (Replaced number entry) (Some page) sound can = elim can.1 [
   | inl given ↦ record {
     old = Delegated;
     new = Data;
-    is_old = delegated_there granules cells page.granule given.0;
+    is_old = delegated_there config cells page.granule given.0;
     is_new = ap (λ t. cell_with_tag t (cells page.granule)) given.1;
     is_tag = sym given.1;
     old_plain = plain-delegated;
     new_plain = plain-data;
   }
-  | inr taken ↦ (let s = flat_state granules cells in
+  | inr taken ↦ (let s = flat_state config cells in
       let leaf = leaf_there s sound rd level number can.0.table can.0.leaf ∙ ap Some taken.2.1 in
       record {
         old = Data;
         new = Delegated;
-        is_old = cell-data (cells page.granule) (tag-cell granules cells page.granule tag.Data (sound.leaves.pages rd level number page.granule taken.2.0 leaf));
+        is_old = cell-data (cells page.granule) (tag-cell config cells page.granule tag.Data (sound.leaves.pages rd level number page.granule taken.2.0 leaf));
         is_new = ap (λ t. cell_with_tag t (cells page.granule)) taken.0;
         is_tag = sym taken.0;
         old_plain = plain-data;
@@ -87,57 +88,57 @@ page-stays cells (Some change) can a c is apart =
     changed-stays cells change.granule (cell_with_tag change.tag) can.old a c can.is_old is
     (apart can.old can.old_plain.realm can.old_plain.rec can.old_plain.table)
 
-realm-stays : (granules : ℕ) (cells now : ℕ → Cell) (change : Option RealmChange) → IsSound (flat_state granules cells)
-    → CanChangeRealm (flat_state granules cells) change → ((a : ℕ) (r : RealmRecord) → cells a ≡ Rd r → now a ≡ Rd r)
+realm-stays : (config : Config) (cells now : ℕ → Cell) (change : Option RealmChange) → IsSound (flat_state config cells)
+    → CanChangeRealm (flat_state config cells) change → ((a : ℕ) (r : RealmRecord) → cells a ≡ Rd r → now a ≡ Rd r)
     → (a : ℕ) (c : Cell) → now a ≡ c → ((r : RealmRecord) → Rd r ≡ c → ⊥) → cells_with_realm_change now change a ≡ c
-realm-stays granules cells now None sound can stay a c at apart = at
-realm-stays granules cells now (Some change) sound can stay a c at apart =
-    let old : RealmRecord = realm_at (flat_state granules cells) change.rd in
-    changed-stays now change.rd (cell_with_realm change.update) (Rd old) a c (stay change.rd old (rd_there granules cells change.rd sound can.0)) at (apart old)
+realm-stays config cells now None sound can stay a c at apart = at
+realm-stays config cells now (Some change) sound can stay a c at apart =
+    let old : RealmRecord = realm_at (flat_state config cells) change.rd in
+    changed-stays now change.rd (cell_with_realm change.update) (Rd old) a c (stay change.rd old (rd_there config cells change.rd sound can.0)) at (apart old)
 
-rec-stays : (granules : ℕ) (cells now : ℕ → Cell) (change : Option RecChange) → IsSound (flat_state granules cells)
-    → CanChangeRec (flat_state granules cells) change → ((a : ℕ) (r : RecRecord) → cells a ≡ Rec r → now a ≡ Rec r)
+rec-stays : (config : Config) (cells now : ℕ → Cell) (change : Option RecChange) → IsSound (flat_state config cells)
+    → CanChangeRec (flat_state config cells) change → ((a : ℕ) (r : RecRecord) → cells a ≡ Rec r → now a ≡ Rec r)
     → (a : ℕ) (c : Cell) → now a ≡ c → ((r : RecRecord) → Rec r ≡ c → ⊥) → cells_with_rec_change now change a ≡ c
-rec-stays granules cells now None sound can stay a c at apart = at
-rec-stays granules cells now (Some change) sound can stay a c at apart =
-    let old : RecRecord = rec_at (flat_state granules cells) change.rec in
-    changed-stays now change.rec (cell_with_rec change.update) (Rec old) a c (stay change.rec old (rec_cell_there granules cells change.rec sound can.0)) at (apart old)
+rec-stays config cells now None sound can stay a c at apart = at
+rec-stays config cells now (Some change) sound can stay a c at apart =
+    let old : RecRecord = rec_at (flat_state config cells) change.rec in
+    changed-stays now change.rec (cell_with_rec change.update) (Rec old) a c (stay change.rec old (rec_cell_there config cells change.rec sound can.0)) at (apart old)
 
 -- ---- the entries
 
 -- the table whose entries are changed, and what they are then
-record IsEntryChange (granules : ℕ) (cells : ℕ → Cell) (rd level : ℕ) (entries : EntryChange) : Type 0 where
+record IsEntryChange (config : Config) (cells : ℕ → Cell) (rd level : ℕ) (entries : EntryChange) : Type 0 where
   granule : ℕ
   table : TableRecord
-  is_found : table_granule granules (tables_of cells) rd level (table_changed entries) ≡ Some granule
+  is_found : table_granule config.granules (tables_of cells) rd level (table_changed entries) ≡ Some granule
   is_held : tables_of cells granule ≡ Some table
-  rewritten : IsRewritten granules (tables_of cells) granule table (entries_changed entries table.entries) (with_entry_change (flat_state granules cells) rd level entries).leaf
+  rewritten : IsRewritten config.granules (tables_of cells) granule table (entries_changed entries table.entries) (with_entry_change (flat_state config cells) rd level entries).leaf
 
-entry_change_is : (granules : ℕ) (cells : ℕ → Cell) (rd level : ℕ) (entries : EntryChange) (page : Option TagChange)
-    → ArePlaced granules (realms_of cells) (tables_of cells)
-    → CanChangeEntries (flat_state granules cells) rd level entries page → IsEntryChange granules cells rd level entries
+entry_change_is : (config : Config) (cells : ℕ → Cell) (rd level : ℕ) (entries : EntryChange) (page : Option TagChange)
+    → ArePlaced config.granules (realms_of cells) (tables_of cells)
+    → CanChangeEntries (flat_state config cells) rd level entries page → IsEntryChange config cells rd level entries
 unfolding flat_state
-entry_change_is granules cells rd level (Replaced number entry) page placed can =
-    let found = value_there (table_granule granules (tables_of cells) rd level (number / 512)) can.0.table in
-    let held = table_granule-holds granules (tables_of cells) rd level (number / 512) found.0 found.1 in
+entry_change_is config cells rd level (Replaced number entry) page placed can =
+    let found = value_there (table_granule config.granules (tables_of cells) rd level (number / 512)) can.0.table in
+    let held = table_granule-holds config.granules (tables_of cells) rd level (number / 512) found.0 found.1 in
     record {
       granule = found.0;
       table = held.table;
       is_found = found.1;
       is_held = held.is_held;
-      rewritten = replaced_entries granules (tables_of cells) found.0 held.table rd level number entry placed.found held.is_held
+      rewritten = replaced_entries config.granules (tables_of cells) found.0 held.table rd level number entry placed.found held.is_held
           (record { is_realm = held.is_realm; is_level = held.is_level; is_number = held.is_number }) (placed.whole found.0 held.table held.is_held)
           (leaf-no_link entry _ level number can.0.kind);
     }
-entry_change_is granules cells rd level (RipasSet first last ripas) page placed can =
-    let found = value_there (table_granule granules (tables_of cells) rd level (first / 512)) can.0.table in
-    let held = table_granule-holds granules (tables_of cells) rd level (first / 512) found.0 found.1 in
+entry_change_is config cells rd level (RipasSet first last ripas) page placed can =
+    let found = value_there (table_granule config.granules (tables_of cells) rd level (first / 512)) can.0.table in
+    let held = table_granule-holds config.granules (tables_of cells) rd level (first / 512) found.0 found.1 in
     record {
       granule = found.0;
       table = held.table;
       is_found = found.1;
       is_held = held.is_held;
-      rewritten = ripas_entries granules (tables_of cells) found.0 held.table rd level first last ripas placed.found held.is_held
+      rewritten = ripas_entries config.granules (tables_of cells) found.0 held.table rd level first last ripas placed.found held.is_held
           (record { is_realm = held.is_realm; is_level = held.is_level; is_number = held.is_number }) (placed.whole found.0 held.table held.is_held)
           can.0.some can.0.one_table;
     }
@@ -187,17 +188,17 @@ entries_parts s rd level (RipasSet first last ripas) (Some page) None (Some rec)
 entries_parts s rd level (RipasSet first last ripas) (Some page) (Some realm) None = refl
 entries_parts s rd level (RipasSet first last ripas) (Some page) (Some realm) (Some rec) = refl
 
-pub Makes-entries : (granules : ℕ) (w : Whole) (rd level : ℕ) (entries : EntryChange) (page : Option TagChange) (realm : Option RealmChange) (rec : Option RecChange)
-    → IsShaped granules w → CanChangeEntries (flat_state granules w.cells) rd level entries page → CanChangeRealm (flat_state granules w.cells) realm
-    → CanChangeRec (flat_state granules w.cells) rec → Makes granules w (EntriesChanged rd level entries page realm rec)
+pub Makes-entries : (config : Config) (w : Whole) (rd level : ℕ) (entries : EntryChange) (page : Option TagChange) (realm : Option RealmChange) (rec : Option RecChange)
+    → IsShaped config w → CanChangeEntries (flat_state config w.cells) rd level entries page → CanChangeRealm (flat_state config w.cells) realm
+    → CanChangeRec (flat_state config w.cells) rec → Makes config w (EntriesChanged rd level entries page realm rec)
 unfolding changed cells_changed side_changed places_changed flat_state
-Makes-entries granules w rd level entries page realm rec shaped can can_realm can_rec =
-    let s : State = flat_state granules w.cells in
+Makes-entries config w rd level entries page realm rec shaped can can_realm can_rec =
+    let s : State = flat_state config w.cells in
     let cells = w.cells in
-    let sound = well_shaped-is_sound granules w.side w.places w.cells shaped in
-    let old = IsTied-shaped granules w.side w.places w.cells shaped in
-    let can_page = page_cells granules cells rd level entries page sound can in
-    let change = entry_change_is granules cells rd level entries page old.tables can in
+    let sound = well_shaped-is_sound config w.side w.places w.cells shaped in
+    let old = IsTied-shaped config w.side w.places w.cells shaped in
+    let can_page = page_cells config cells rd level entries page sound can in
+    let change = entry_change_is config cells rd level entries page old.tables can in
     let g : ℕ = change.granule in
     let t : TableRecord = change.table in
     let ys : List Entry = entries_changed entries t.entries in
@@ -207,17 +208,17 @@ Makes-entries granules w rd level entries page realm rec shaped can can_realm ca
     let rds : (a : ℕ) (r : RealmRecord) → cells a ≡ Rd r → one a ≡ Rd r =
     λ a r is. page-stays cells page can_page a (Rd r) is (λ o none _ _ same. none-some r (sym none ∙ ap realm_in same)) in
     let recs : (a : ℕ) (c : RecRecord) → cells a ≡ Rec c → two a ≡ Rec c =
-    λ a c is. realm-stays granules cells one realm sound can_realm rds a (Rec c)
+    λ a c is. realm-stays config cells one realm sound can_realm rds a (Rec c)
     (page-stays cells page can_page a (Rec c) is (λ o _ none _ same. none-some c (sym none ∙ ap rec_in same))) (λ r same. none-some r (sym (ap realm_in same))) in
     let table_is : cells g ≡ Rtt t = cell-table (cells g) t change.is_held in
     let table_still : three g ≡ Rtt t =
-    rec-stays granules cells two rec sound can_rec recs g (Rtt t)
-    (realm-stays granules cells one realm sound can_realm rds g (Rtt t)
+    rec-stays config cells two rec sound can_rec recs g (Rtt t)
+    (realm-stays config cells one realm sound can_realm rds g (Rtt t)
     (page-stays cells page can_page g (Rtt t) table_is (λ o _ _ none same. none-some t (sym none ∙ ap table_in same))) (λ r same. none-some r (sym (ap realm_in same))))
     (λ c same. none-some c (sym (ap rec_in same))) in
-    let first = views_of-page granules cells page can_page in
-    let second = views_of-realm_change granules cells one realm sound can_realm rds (ap (λ (v : Views). v.realms) first) in
-    let third = views_of-rec_change granules cells two rec sound can_rec recs (ap (λ (v : Views). v.recs) second ∙ ap (λ (v : Views). v.recs) first) in
+    let first = views_of-page config cells page can_page in
+    let second = views_of-realm_change config cells one realm sound can_realm rds (ap (λ (v : Views). v.realms) first) in
+    let third = views_of-rec_change config cells two rec sound can_rec recs (ap (λ (v : Views). v.recs) second ∙ ap (λ (v : Views). v.recs) first) in
     let fourth = views_of-entries three g t (entries_changed entries) table_still in
     let all : views_of three ≡ record {
       tags = (with_tag_change s page).tag;
@@ -226,7 +227,7 @@ Makes-entries granules w rd level entries page realm rec shaped can can_realm ca
       tables = tables_of cells;
     } = third ∙ (λ i. record (second i) { recs = (with_rec_change s rec).rec })
     ∙ (λ i. record (first i) { realms = (with_realm_change s realm).realm; recs = (with_rec_change s rec).rec }) in
-    let like = realm_change-like granules cells realm sound can_realm in
+    let like = realm_change-like config cells realm sound can_realm in
     record {
       views = record {
         tags = (with_tag_change s page).tag;
@@ -238,20 +239,20 @@ Makes-entries granules w rd level entries page realm rec shaped can can_realm ca
           ∙ fourth
           ∙ (λ i. record (all i) { tables = put (all i).tables g (Some (with_entries t ys)) });
       flat = (λ i. record {
-        granules = granules;
+        config = config;
         tag = (with_tag_change s page).tag;
         realm = (with_realm_change s realm).realm;
         rec = (with_rec_change s rec).rec;
-        table = table_granule-kept granules (tables_of cells) g t (with_entries t ys) change.is_held refl i;
+        table = table_granule-kept config.granules (tables_of cells) g t (with_entries t ys) change.is_held refl i;
         leaf = λ other l n. change.rewritten.leaves other l n i;
       })
           ∙ entries_parts s rd level entries page realm rec;
       tied = record {
-        sides = AreListed-like granules w.side (realms_of cells) (with_realm_change s realm).realm (recs_of cells) (with_rec_change s rec).rec like
-            (rec_change-alike granules cells rec sound can_rec) old.sides;
-        tables = ArePlaced-entries granules (with_realm_change s realm).realm (tables_of cells) g t (with_entries t ys)
-            (ArePlaced-like granules (realms_of cells) (with_realm_change s realm).realm (tables_of cells) like old.tables) change.is_held refl change.rewritten.whole;
-        links = AreLinks-entries granules (tables_of cells) g t ys change.is_held change.rewritten.links old.links;
-        inside = rec_change-inside granules cells w.places rec sound can_rec old.inside;
+        sides = AreListed-like config.granules w.side (realms_of cells) (with_realm_change s realm).realm (recs_of cells) (with_rec_change s rec).rec like
+            (rec_change-alike config cells rec sound can_rec) old.sides;
+        tables = ArePlaced-entries config.granules (with_realm_change s realm).realm (tables_of cells) g t (with_entries t ys)
+            (ArePlaced-like config.granules (realms_of cells) (with_realm_change s realm).realm (tables_of cells) like old.tables) change.is_held refl change.rewritten.whole;
+        links = AreLinks-entries config.granules (tables_of cells) g t ys change.is_held change.rewritten.links old.links;
+        inside = rec_change-inside config cells w.places rec sound can_rec old.inside;
       };
     }

@@ -1,6 +1,7 @@
 -- What is owed for a kind of change: the maps of the whole that it makes, that they are the changed state's, and their ties.
 use Rattle.std.proofs.Common.{◌≡◌, ℕ, ◌==◌, ◌*◌, IsTrue, Option, Some, None, refl, sym, ap, ◌∙◌, subst}
 use Rattle.std.proofs.lemmas.Option.{same_Some}
+use Rattle.rmm_spec.specs.HistoryText.{Config}
 use Rattle.rmm_spec.specs.declared.change.Change.{Change}
 use Rattle.rmm_spec.specs.declared.tag.Tag.TheVariants as tag
 use Rattle.rmm_spec.specs.State.{RealmRecord, RecRecord}
@@ -22,50 +23,50 @@ use Rattle.shape_laws.proofs.Ties.{IsTied, AreListed, ArePlaced, AreInside, well
 use Rattle.shape_laws.proofs.Shaped.{IsWellShaped-tied}
 
 -- the whole that the change makes is well shaped, and stands for the changed state
-abbrev pub IsChangedShape : ℕ → Whole → Change → Type 0
-IsChangedShape granules w change =
-    IsShaped granules (whole_changed granules w change)
-    × (flat_state granules (cells_changed granules w.cells change) ≡ changed (flat_state granules w.cells) change)
+abbrev pub IsChangedShape : Config → Whole → Change → Type 0
+IsChangedShape config w change =
+    IsShaped config (whole_changed config w change)
+    × (flat_state config (cells_changed config w.cells change) ≡ changed (flat_state config w.cells) change)
 
 -- the maps of the whole that the change makes
-pub record Makes (granules : ℕ) (w : Whole) (change : Change) : Type 0 where
+pub record Makes (config : Config) (w : Whole) (change : Change) : Type 0 where
   pub views : Views
-  pub seen : views_of (cells_changed granules w.cells change) ≡ views
-  pub flat : flat_views granules views ≡ changed (flat_state granules w.cells) change
-  pub tied : IsTied granules (side_changed w.cells w.side change) (places_changed w.cells w.places change) views
+  pub seen : views_of (cells_changed config w.cells change) ≡ views
+  pub flat : flat_views config views ≡ changed (flat_state config w.cells) change
+  pub tied : IsTied config.granules (side_changed w.cells w.side change) (places_changed w.cells w.places change) views
 
 -- what is owed is enough
-pub kept : (granules : ℕ) (w : Whole) (change : Change) → IsShaped granules w → CanApply (flat_state granules w.cells) change
-    → Makes granules w change → IsChangedShape granules w change
-kept granules w change shaped can makes =
-    let new = cells_changed granules w.cells change in
-    let s = flat_state granules w.cells in
-    let flat : flat_state granules new ≡ changed s change = flat_state-views granules new ∙ ap (flat_views granules) makes.seen ∙ makes.flat in
-    let sound : IsSound (flat_state granules new) =
-    subst IsSound (sym flat) (changed_sound s change (well_shaped-is_sound granules w.side w.places w.cells shaped) can) in
-    let tied : IsTied granules (side_changed w.cells w.side change) (places_changed w.cells w.places change) (views_of new) =
-    subst (IsTied granules (side_changed w.cells w.side change) (places_changed w.cells w.places change)) (sym makes.seen) makes.tied in
-    (IsWellShaped-tied granules (side_changed w.cells w.side change) (places_changed w.cells w.places change) new sound tied, flat)
+pub kept : (config : Config) (w : Whole) (change : Change) → IsShaped config w → CanApply (flat_state config w.cells) change
+    → Makes config w change → IsChangedShape config w change
+kept config w change shaped can makes =
+    let new = cells_changed config w.cells change in
+    let s = flat_state config w.cells in
+    let flat : flat_state config new ≡ changed s change = flat_state-views config new ∙ ap (flat_views config) makes.seen ∙ makes.flat in
+    let sound : IsSound (flat_state config new) =
+    subst IsSound (sym flat) (changed_sound s change (well_shaped-is_sound config w.side w.places w.cells shaped) can) in
+    let tied : IsTied config.granules (side_changed w.cells w.side change) (places_changed w.cells w.places change) (views_of new) =
+    subst (IsTied config.granules (side_changed w.cells w.side change) (places_changed w.cells w.places change)) (sym makes.seen) makes.tied in
+    (IsWellShaped-tied config (side_changed w.cells w.side change) (places_changed w.cells w.places change) new sound tied, flat)
 
 -- ---- cells that the conditions name
 
-pub delegated_there : (granules : ℕ) (cells : ℕ → Cell) (address : ℕ) → IsTrue (has_tag (flat_state granules cells) address tag.Delegated)
+pub delegated_there : (config : Config) (cells : ℕ → Cell) (address : ℕ) → IsTrue (has_tag (flat_state config cells) address tag.Delegated)
     → cells address ≡ Delegated
-delegated_there granules cells address has = cell-delegated (cells address) (tag-cell granules cells address tag.Delegated has)
+delegated_there config cells address has = cell-delegated (cells address) (tag-cell config cells address tag.Delegated has)
 
-pub undelegated_there : (granules : ℕ) (cells : ℕ → Cell) (address : ℕ) → IsTrue (has_tag (flat_state granules cells) address tag.Undelegated)
+pub undelegated_there : (config : Config) (cells : ℕ → Cell) (address : ℕ) → IsTrue (has_tag (flat_state config cells) address tag.Undelegated)
     → cells address ≡ Undelegated
-undelegated_there granules cells address has = cell-undelegated (cells address) (tag-cell granules cells address tag.Undelegated has)
+undelegated_there config cells address has = cell-undelegated (cells address) (tag-cell config cells address tag.Undelegated has)
 
-pub rd_there : (granules : ℕ) (cells : ℕ → Cell) (rd : ℕ) → IsSound (flat_state granules cells) → IsTrue (has_tag (flat_state granules cells) rd tag.Rd)
-    → cells rd ≡ Rd (realm_at (flat_state granules cells) rd)
+pub rd_there : (config : Config) (cells : ℕ → Cell) (rd : ℕ) → IsSound (flat_state config cells) → IsTrue (has_tag (flat_state config cells) rd tag.Rd)
+    → cells rd ≡ Rd (realm_at (flat_state config cells) rd)
 unfolding flat_state
-rd_there granules cells rd sound has = cell-realm (cells rd) (realm_at (flat_state granules cells) rd) (realm_there (flat_state granules cells) rd sound has)
+rd_there config cells rd sound has = cell-realm (cells rd) (realm_at (flat_state config cells) rd) (realm_there (flat_state config cells) rd sound has)
 
-pub rec_cell_there : (granules : ℕ) (cells : ℕ → Cell) (rec : ℕ) → IsSound (flat_state granules cells) → IsTrue (has_tag (flat_state granules cells) rec tag.Rec)
-    → cells rec ≡ Rec (rec_at (flat_state granules cells) rec)
+pub rec_cell_there : (config : Config) (cells : ℕ → Cell) (rec : ℕ) → IsSound (flat_state config cells) → IsTrue (has_tag (flat_state config cells) rec tag.Rec)
+    → cells rec ≡ Rec (rec_at (flat_state config cells) rec)
 unfolding flat_state
-rec_cell_there granules cells rec sound has = cell-rec (cells rec) (rec_at (flat_state granules cells) rec) (rec_there (flat_state granules cells) rec sound has)
+rec_cell_there config cells rec sound has = cell-rec (cells rec) (rec_at (flat_state config cells) rec) (rec_there (flat_state config cells) rec sound has)
 
 -- ---- one cell changed, as maps
 

@@ -3,6 +3,7 @@ use Rattle.std.proofs.Common.{◌≡◌, ℕ, zero, suc, ◌+◌, ◌-◌, ◌*�
 use Rattle.std.proofs.lemmas.Bool.{false≢true, false_from_ne_true, cases_order}
 use Rattle.std.proofs.lemmas.Nat.{pow_pos, div-mul-add}
 use Rattle.std.proofs.lemmas.Option.{none-some, same_Some}
+use Rattle.rmm_spec.specs.HistoryText.{Config}
 use Rattle.rmm_spec.specs.declared.change.Change.TheVariants.{RealmMade, RealmDestroyed}
 use Rattle.rmm_spec.specs.declared.entry.Entry.TheVariants.{Unassigned, Table, UnassignedNs}
 use Rattle.rmm_spec.specs.declared.tag.Ripas.TheVariants.{Empty}
@@ -58,27 +59,27 @@ root_no_link i child is = false≢true (halves-all 256 (Unassigned Empty) Unassi
 
 -- ---- made
 
-pub Makes-realm_made : (granules : ℕ) (w : Whole) (rd root width level vmid algo : ℕ) → IsShaped granules w
-    → CanMakeRealm (flat_state granules w.cells) rd root width level vmid algo → Makes granules w (RealmMade rd root width level vmid algo)
+pub Makes-realm_made : (config : Config) (w : Whole) (rd root width level vmid algo : ℕ) → IsShaped config w
+    → CanMakeRealm (flat_state config w.cells) rd root width level vmid algo → Makes config w (RealmMade rd root width level vmid algo)
 unfolding changed cells_changed side_changed places_changed flat_state
-Makes-realm_made granules w rd root width level vmid algo shaped can =
-    let s : State = flat_state granules w.cells in
+Makes-realm_made config w rd root width level vmid algo shaped can =
+    let s : State = flat_state config w.cells in
     let cells = w.cells in
-    let sound = well_shaped-is_sound granules w.side w.places w.cells shaped in
-    let old = IsTied-shaped granules w.side w.places w.cells shaped in
+    let sound = well_shaped-is_sound config w.side w.places w.cells shaped in
+    let old = IsTied-shaped config w.side w.places w.cells shaped in
     let new : RealmRecord = new_realm root width level vmid algo in
     let t : TableRecord = root_table rd width level in
-    let rd_is : cells rd ≡ Delegated = delegated_there granules cells rd can.rd_tag in
-    let root_is : cells root ≡ Delegated = delegated_there granules cells root can.root_tag in
+    let rd_is : cells rd ≡ Delegated = delegated_there config cells rd can.rd_tag in
+    let root_is : cells root ≡ Delegated = delegated_there config cells root can.root_tag in
     let apart : (root == rd) ≡ false = ne_eqb root rd (λ same. both_ways (eq-eqb rd root (sym same)) can.apart) in
     let none : realms_of cells rd ≡ None = ap realm_in rd_is in
-    let unowned : (l n g : ℕ) → table_granule granules (tables_of cells) rd l n ≡ Some g → ⊥ =
+    let unowned : (l n g : ℕ) → table_granule config.granules (tables_of cells) rd l n ≡ Some g → ⊥ =
     λ l n g at. (let owner = sound.tables.owned rd l n g at in none-some owner.0 (sym none ∙ owner.1)) in
-    let can_put : CanPutIn granules (tables_of cells) root t rd level 0 = record {
+    let can_put : CanPutIn config.granules (tables_of cells) root t rd level 0 = record {
       within = granule_from_tag s root tag.Delegated can.root_tag;
       free = ap table_in root_is;
       placed = root_place rd width level;
-      new = not_some (table_granule granules (tables_of cells) rd level 0) (unowned level 0);
+      new = not_some (table_granule config.granules (tables_of cells) rd level 0) (unowned level 0);
     } in
     let unused : (g : ℕ) (r : RealmRecord) → realms_of cells g ≡ Some r → (r.vmid == vmid) ≡ false =
     λ g r at. sym (ap (has_vmid vmid) at) ∙ none_has_vmid s vmid sound can.unused g in
@@ -99,11 +100,11 @@ Makes-realm_made granules w rd root width level vmid algo shaped can =
             tables = put (put-same (tables_of cells) rd None (ap table_in rd_is) i) root (Some t);
           });
       flat = λ i. record {
-        granules = granules;
+        config = config;
         tag = put (put (tags_of cells) rd tag.Rd) root tag.Rtt;
         realm = put (realms_of cells) rd (Some new);
         rec = recs_of cells;
-        table = λ other l n. table-put granules (tables_of cells) root t rd level 0 can_put other l n i;
+        table = λ other l n. table-put config.granules (tables_of cells) root t rd level 0 can_put other l n i;
         leaf = λ other l n. leaves can_put other l n i;
       };
       tied = record {
@@ -117,10 +118,10 @@ Makes-realm_made granules w rd root width level vmid algo shaped can =
               (q.0, put-elsewhere (realms_of cells) rd (Some new) g (false_from_ne_true _ (λ same. none-some q.0 (sym none ∙ ap (realms_of cells) (sym (eqb-true g rd same)) ∙ q.1))) ∙ q.1, q.2));
           counted = old.sides.counted;
         };
-        tables = ArePlaced-put granules (put (realms_of cells) rd (Some new)) (tables_of cells) root t rd level 0
-            (ArePlaced-realms granules (realms_of cells) (put (realms_of cells) rd (Some new)) (tables_of cells)
+        tables = ArePlaced-put config.granules (put (realms_of cells) rd (Some new)) (tables_of cells) root t rd level 0
+            (ArePlaced-realms config.granules (realms_of cells) (put (realms_of cells) rd (Some new)) (tables_of cells)
             (λ g x r held. by_address (λ found. found ≡ Some r → realms_of cells x.place.rd ≡ Some r) x.place.rd rd (Some new) (realms_of cells x.place.rd)
-            (λ here _. absurd (unowned x.place.level (place_number x.place) g ((λ i. table_granule granules (tables_of cells) (sym here i) x.place.level (place_number x.place)) ∙ old.tables.found g x held)))
+            (λ here _. absurd (unowned x.place.level (place_number x.place) g ((λ i. table_granule config.granules (tables_of cells) (sym here i) x.place.level (place_number x.place)) ∙ old.tables.found g x held)))
             (λ _ is. is)) old.tables)
             can_put
             (record {
@@ -129,9 +130,9 @@ Makes-realm_made granules w rd root width level vmid algo shaped can =
               whole = refl;
             });
         links = λ g i child x. by_address (λ found. found ≡ Some x → slice_get x.entries i ≡ Some (Table child)
-            → table_granule granules (put (tables_of cells) root (Some t)) x.place.rd (suc x.place.level) (512 * place_number x.place + i) ≡ Some child) g root (Some t) (tables_of cells g)
+            → table_granule config.granules (put (tables_of cells) root (Some t)) x.place.rd (suc x.place.level) (512 * place_number x.place + i) ≡ Some child) g root (Some t) (tables_of cells g)
             (λ _ is link. absurd (root_no_link i child (ap (λ (u : TableRecord). slice_get u.entries i) (same_Some t x is) ∙ link)))
-            (λ _ is link. table-put_keeps granules (tables_of cells) root t rd level 0 can_put x.place.rd (suc x.place.level) (512 * place_number x.place + i) child (old.links g i child x is link));
+            (λ _ is link. table-put_keeps config.granules (tables_of cells) root t rd level 0 can_put x.place.rd (suc x.place.level) (512 * place_number x.place + i) child (old.links g i child x is link));
         inside = old.inside;
       };
     }
@@ -140,15 +141,15 @@ Makes-realm_made granules w rd root width level vmid algo shaped can =
     not_some None never = refl
     not_some (Some g) never = absurd (never g refl)
 
-    leaves : CanPutIn granules (tables_of w.cells) root (root_table rd width level) rd level 0 → (other l n : ℕ)
-        → leaf_in_tables granules (put (tables_of w.cells) root (Some (root_table rd width level))) other l n
-        ≡ (if is_same_table rd level 0 other l (n / 512) then Some (if nat_lt n 256 then Unassigned Empty else UnassignedNs) else leaf_in_tables granules (tables_of w.cells) other l n)
-    leaves can_put other l n = leaf-put granules (tables_of w.cells) root (root_table rd width level) rd level 0 can_put other l n
+    leaves : CanPutIn config.granules (tables_of w.cells) root (root_table rd width level) rd level 0 → (other l n : ℕ)
+        → leaf_in_tables config.granules (put (tables_of w.cells) root (Some (root_table rd width level))) other l n
+        ≡ (if is_same_table rd level 0 other l (n / 512) then Some (if nat_lt n 256 then Unassigned Empty else UnassignedNs) else leaf_in_tables config.granules (tables_of w.cells) other l n)
+    leaves can_put other l n = leaf-put config.granules (tables_of w.cells) root (root_table rd width level) rd level 0 can_put other l n
         ∙ by (is_same_table rd level 0 other l (n / 512)) refl
       where
         by : (b : Bool) → is_same_table rd level 0 other l (n / 512) ≡ b
-            → (if b then entry_leaf (replicate 256 (Unassigned Empty) ++ replicate 256 UnassignedNs) (n % 512) else leaf_in_tables granules (tables_of w.cells) other l n)
-            ≡ (if b then Some (if nat_lt n 256 then Unassigned Empty else UnassignedNs) else leaf_in_tables granules (tables_of w.cells) other l n)
+            → (if b then entry_leaf (replicate 256 (Unassigned Empty) ++ replicate 256 UnassignedNs) (n % 512) else leaf_in_tables config.granules (tables_of w.cells) other l n)
+            ≡ (if b then Some (if nat_lt n 256 then Unassigned Empty else UnassignedNs) else leaf_in_tables config.granules (tables_of w.cells) other l n)
         by true same = spot_hit rd level 0 other l (n / 512) same (λ _ _ first. root_entry n first)
         by false apart = refl
 
@@ -211,43 +212,43 @@ lone_root s rd l n g r sound at unlinked there = by cases
 
 -- ---- gone
 
-pub Makes-realm_destroyed : (granules : ℕ) (w : Whole) (rd root : ℕ) → IsShaped granules w
-    → CanDestroyRealm (flat_state granules w.cells) rd root → Makes granules w (RealmDestroyed rd root)
+pub Makes-realm_destroyed : (config : Config) (w : Whole) (rd root : ℕ) → IsShaped config w
+    → CanDestroyRealm (flat_state config w.cells) rd root → Makes config w (RealmDestroyed rd root)
 unfolding changed cells_changed side_changed places_changed flat_state
-Makes-realm_destroyed granules w rd root shaped can =
-    let s : State = flat_state granules w.cells in
+Makes-realm_destroyed config w rd root shaped can =
+    let s : State = flat_state config w.cells in
     let cells = w.cells in
-    let sound = well_shaped-is_sound granules w.side w.places w.cells shaped in
-    let old = IsTied-shaped granules w.side w.places w.cells shaped in
+    let sound = well_shaped-is_sound config w.side w.places w.cells shaped in
+    let old = IsTied-shaped config w.side w.places w.cells shaped in
     let r : RealmRecord = realm_at s rd in
     let there : realms_of cells rd ≡ Some r = realm_there s rd sound can.rd_tag in
-    let rd_is : cells rd ≡ Rd r = rd_there granules cells rd sound can.rd_tag in
-    let found : table_granule granules (tables_of cells) rd r.start_level 0 ≡ Some root = sound.tables.roots rd r there ∙ ap Some (sym can.is_root) in
-    let held = table_granule-holds granules (tables_of cells) rd r.start_level 0 root found in
+    let rd_is : cells rd ≡ Rd r = rd_there config cells rd sound can.rd_tag in
+    let found : table_granule config.granules (tables_of cells) rd r.start_level 0 ≡ Some root = sound.tables.roots rd r there ∙ ap Some (sym can.is_root) in
+    let held = table_granule-holds config.granules (tables_of cells) rd r.start_level 0 root found in
     let t : TableRecord = held.table in
     let placed : IsPlaced t rd r.start_level 0 = record { is_realm = held.is_realm; is_level = held.is_level; is_number = held.is_number } in
     let root_is : cells root ≡ Rtt t = cell-table (cells root) t held.is_held in
     let apart : (root == rd) ≡ false = ne_eqb root rd (λ same. (let bad : Rtt t ≡ Rd r = sym root_is ∙ ap cells same ∙ rd_is in cc)) in
-    let alone : (l n g : ℕ) → table_granule granules (tables_of cells) rd l n ≡ Some g → (l ≡ r.start_level) × (n ≡ 0) =
+    let alone : (l n g : ℕ) → table_granule config.granules (tables_of cells) rd l n ≡ Some g → (l ≡ r.start_level) × (n ≡ 0) =
     λ l n g at. lone_root s rd l n g r sound there can.unlinked at in
-    let taken : (other l n : ℕ) → table_granule granules (put (tables_of cells) root None) other l n
-    ≡ (if is_same_table rd r.start_level 0 other l n then None else table_granule granules (tables_of cells) other l n) =
-    table_granule-taken granules (tables_of cells) root t rd r.start_level 0 old.tables.found held.is_held placed in
-    let tables_gone : (other l n : ℕ) → table_granule granules (put (tables_of cells) root None) other l n
-    ≡ (if other == rd then None else table_granule granules (tables_of cells) other l n) =
-    λ other l n. choice (λ x. table_granule granules (put (tables_of cells) root None) other l n ≡ x) (other == rd) (other == rd) None (table_granule granules (tables_of cells) other l n) refl
-    (λ here. taken other l n ∙ none_left (is_same_table rd r.start_level 0 other l n) (table_granule granules (tables_of cells) other l n)
-    (λ g at. let place = alone l n g ((λ i. table_granule granules (tables_of cells) (sym (eqb-true other rd here) i) l n) ∙ at) in
+    let taken : (other l n : ℕ) → table_granule config.granules (put (tables_of cells) root None) other l n
+    ≡ (if is_same_table rd r.start_level 0 other l n then None else table_granule config.granules (tables_of cells) other l n) =
+    table_granule-taken config.granules (tables_of cells) root t rd r.start_level 0 old.tables.found held.is_held placed in
+    let tables_gone : (other l n : ℕ) → table_granule config.granules (put (tables_of cells) root None) other l n
+    ≡ (if other == rd then None else table_granule config.granules (tables_of cells) other l n) =
+    λ other l n. choice (λ x. table_granule config.granules (put (tables_of cells) root None) other l n ≡ x) (other == rd) (other == rd) None (table_granule config.granules (tables_of cells) other l n) refl
+    (λ here. taken other l n ∙ none_left (is_same_table rd r.start_level 0 other l n) (table_granule config.granules (tables_of cells) other l n)
+    (λ g at. let place = alone l n g ((λ i. table_granule config.granules (tables_of cells) (sym (eqb-true other rd here) i) l n) ∙ at) in
     same_place rd r.start_level 0 other l n (eqb-true other rd here) place.0 place.1))
-    (λ elsewhere. taken other l n ∙ ap (λ b. if b then None else table_granule granules (tables_of cells) other l n) (spot_other rd r.start_level 0 other l n elsewhere)) in
-    let leaves_gone : (other l n : ℕ) → leaf_in_tables granules (put (tables_of cells) root None) other l n
-    ≡ (if other == rd then None else leaf_in_tables granules (tables_of cells) other l n) =
-    λ other l n. choice (λ x. leaf_in_tables granules (put (tables_of cells) root None) other l n ≡ x) (other == rd) (other == rd) None (leaf_in_tables granules (tables_of cells) other l n) refl
-    (λ here. leaf-none granules (put (tables_of cells) root None) other l n
-    (tables_gone other l (n / 512) ∙ ap (λ b. if b then None else table_granule granules (tables_of cells) other l (n / 512)) here))
-    (λ elsewhere. leaf-taken granules (tables_of cells) root t rd r.start_level 0 old.tables.found held.is_held placed other l n
-    ∙ ap (λ b. if b then None else leaf_in_tables granules (tables_of cells) other l n) (spot_other rd r.start_level 0 other l (n / 512) elsewhere)) in
-    let listed : AreListed granules (record w.side { vmids = put w.side.vmids r.vmid None }) (put (realms_of cells) rd None) (recs_of cells) =
+    (λ elsewhere. taken other l n ∙ ap (λ b. if b then None else table_granule config.granules (tables_of cells) other l n) (spot_other rd r.start_level 0 other l n elsewhere)) in
+    let leaves_gone : (other l n : ℕ) → leaf_in_tables config.granules (put (tables_of cells) root None) other l n
+    ≡ (if other == rd then None else leaf_in_tables config.granules (tables_of cells) other l n) =
+    λ other l n. choice (λ x. leaf_in_tables config.granules (put (tables_of cells) root None) other l n ≡ x) (other == rd) (other == rd) None (leaf_in_tables config.granules (tables_of cells) other l n) refl
+    (λ here. leaf-none config.granules (put (tables_of cells) root None) other l n
+    (tables_gone other l (n / 512) ∙ ap (λ b. if b then None else table_granule config.granules (tables_of cells) other l (n / 512)) here))
+    (λ elsewhere. leaf-taken config.granules (tables_of cells) root t rd r.start_level 0 old.tables.found held.is_held placed other l n
+    ∙ ap (λ b. if b then None else leaf_in_tables config.granules (tables_of cells) other l n) (spot_other rd r.start_level 0 other l (n / 512) elsewhere)) in
+    let listed : AreListed config.granules (record w.side { vmids = put w.side.vmids r.vmid None }) (put (realms_of cells) rd None) (recs_of cells) =
     record {
       listed = λ g q is.
           let was = left_of (g == rd) (realms_of cells g) q is in
@@ -281,7 +282,7 @@ Makes-realm_destroyed granules w rd root shaped can =
             tables = put (put-same (tables_of cells) rd None (ap table_in rd_is) i) root None;
           });
       flat = λ i. record {
-        granules = granules;
+        config = config;
         tag = put (put (tags_of cells) rd tag.Delegated) root tag.Delegated;
         realm = put (realms_of cells) rd None;
         rec = recs_of cells;
@@ -289,21 +290,21 @@ Makes-realm_destroyed granules w rd root shaped can =
         leaf = λ other l n. leaves_gone other l n i;
       };
       tied = record {
-        sides = subst (λ c. AreListed granules (side_without_vmid w.side c) (put (realms_of cells) rd None) (recs_of cells)) (sym rd_is) listed;
-        tables = ArePlaced-taken granules (put (realms_of cells) rd None) (tables_of cells) root t rd r.start_level 0
-            (ArePlaced-realms granules (realms_of cells) (put (realms_of cells) rd None) (tables_of cells)
+        sides = subst (λ c. AreListed config.granules (side_without_vmid w.side c) (put (realms_of cells) rd None) (recs_of cells)) (sym rd_is) listed;
+        tables = ArePlaced-taken config.granules (put (realms_of cells) rd None) (tables_of cells) root t rd r.start_level 0
+            (ArePlaced-realms config.granules (realms_of cells) (put (realms_of cells) rd None) (tables_of cells)
             (λ g x q _ is. (left_of (x.place.rd == rd) (realms_of cells x.place.rd) q is).1) old.tables)
             held.is_held placed;
         links = λ g i child x is link.
             let was = left_of (g == root) (tables_of cells g) x is in
             let elsewhere : (x.place.rd == rd) ≡ false = false_from_ne_true _ (λ same.
             let here : x.place.rd ≡ rd = eqb-true x.place.rd rd same in
-            let at : table_granule granules (tables_of cells) rd x.place.level (place_number x.place) ≡ Some g =
-            (λ j. table_granule granules (tables_of cells) (sym here j) x.place.level (place_number x.place)) ∙ old.tables.found g x was.1 in
+            let at : table_granule config.granules (tables_of cells) rd x.place.level (place_number x.place) ≡ Some g =
+            (λ j. table_granule config.granules (tables_of cells) (sym here j) x.place.level (place_number x.place)) ∙ old.tables.found g x was.1 in
             let place = alone x.place.level (place_number x.place) g at in
-            both_ways (eq-eqb g root (same_Some g root (sym at ∙ (λ j. table_granule granules (tables_of cells) rd (place.0 j) (place.1 j)) ∙ found))) was.0) in
+            both_ways (eq-eqb g root (same_Some g root (sym at ∙ (λ j. table_granule config.granules (tables_of cells) rd (place.0 j) (place.1 j)) ∙ found))) was.0) in
             tables_gone x.place.rd (suc x.place.level) (512 * place_number x.place + i)
-            ∙ ap (λ b. if b then None else table_granule granules (tables_of cells) x.place.rd (suc x.place.level) (512 * place_number x.place + i)) elsewhere
+            ∙ ap (λ b. if b then None else table_granule config.granules (tables_of cells) x.place.rd (suc x.place.level) (512 * place_number x.place + i)) elsewhere
             ∙ old.links g i child x was.1 link;
         inside = old.inside;
       };

@@ -2,6 +2,7 @@
 use Rattle.std.proofs.Common.{◌≡◌, ℕ, false, IsTrue, Option, Some, None, is_some, is_none, refl, sym, ap, ◌∙◌, subst, eq-eqb, eqb-true}
 use Rattle.std.proofs.lemmas.Bool.{false_from_ne_true}
 use Rattle.std.proofs.lemmas.Option.{none-some, same_Some}
+use Rattle.rmm_spec.specs.HistoryText.{Config}
 use Rattle.rmm_spec.specs.declared.change.Change.TheVariants.{RecordsChanged}
 use Rattle.rmm_spec.specs.declared.change.RealmChange.{RealmChange}
 use Rattle.rmm_spec.specs.declared.change.RecChange.{RecChange}
@@ -26,54 +27,54 @@ use Rattle.shape_laws.proofs.Kept.{Makes, AreLike, AreOwnedAlike, like_put, like
 -- ---- cells
 
 -- a realm's record is updated in its cell, whatever became of the cells beside it
-pub views_of-realm_change : (granules : ℕ) (cells now : ℕ → Cell) (change : Option RealmChange) → IsSound (flat_state granules cells)
-    → CanChangeRealm (flat_state granules cells) change
+pub views_of-realm_change : (config : Config) (cells now : ℕ → Cell) (change : Option RealmChange) → IsSound (flat_state config cells)
+    → CanChangeRealm (flat_state config cells) change
     → ((a : ℕ) (r : RealmRecord) → cells a ≡ Rd r → now a ≡ Rd r) → realms_of now ≡ realms_of cells
-    → views_of (cells_with_realm_change now change) ≡ record (views_of now) { realms = (with_realm_change (flat_state granules cells) change).realm }
+    → views_of (cells_with_realm_change now change) ≡ record (views_of now) { realms = (with_realm_change (flat_state config cells) change).realm }
 unfolding flat_state
-views_of-realm_change granules cells now None sound can stays same = λ i. record (views_of now) { realms = same i }
-views_of-realm_change granules cells now (Some change) sound can stays same =
-    let old : RealmRecord = realm_at (flat_state granules cells) change.rd in
-    let is : now change.rd ≡ Rd old = stays change.rd old (rd_there granules cells change.rd sound can.0) in
+views_of-realm_change config cells now None sound can stays same = λ i. record (views_of now) { realms = same i }
+views_of-realm_change config cells now (Some change) sound can stays same =
+    let old : RealmRecord = realm_at (flat_state config cells) change.rd in
+    let is : now change.rd ≡ Rd old = stays change.rd old (rd_there config cells change.rd sound can.0) in
     ap (λ c. views_of (put now change.rd (cell_with_realm change.update c))) is
     ∙ views_of-put now change.rd (Rd (realm_updated change.update old))
     ∙ views_put-realm (views_of now) change.rd old (realm_updated change.update old) (IsAt-cell now change.rd (Rd old) is)
     ∙ (λ i. record (views_of now) { realms = put (same i) change.rd (Some (realm_updated change.update old)) })
 
 -- a REC's record is updated in its cell, whatever became of the cells beside it
-pub views_of-rec_change : (granules : ℕ) (cells now : ℕ → Cell) (change : Option RecChange) → IsSound (flat_state granules cells)
-    → CanChangeRec (flat_state granules cells) change
+pub views_of-rec_change : (config : Config) (cells now : ℕ → Cell) (change : Option RecChange) → IsSound (flat_state config cells)
+    → CanChangeRec (flat_state config cells) change
     → ((a : ℕ) (c : RecRecord) → cells a ≡ Rec c → now a ≡ Rec c) → recs_of now ≡ recs_of cells
-    → views_of (cells_with_rec_change now change) ≡ record (views_of now) { recs = (with_rec_change (flat_state granules cells) change).rec }
+    → views_of (cells_with_rec_change now change) ≡ record (views_of now) { recs = (with_rec_change (flat_state config cells) change).rec }
 unfolding flat_state
-views_of-rec_change granules cells now None sound can stays same = λ i. record (views_of now) { recs = same i }
-views_of-rec_change granules cells now (Some change) sound can stays same =
-    let old : RecRecord = rec_at (flat_state granules cells) change.rec in
-    let is : now change.rec ≡ Rec old = stays change.rec old (rec_cell_there granules cells change.rec sound can.0) in
+views_of-rec_change config cells now None sound can stays same = λ i. record (views_of now) { recs = same i }
+views_of-rec_change config cells now (Some change) sound can stays same =
+    let old : RecRecord = rec_at (flat_state config cells) change.rec in
+    let is : now change.rec ≡ Rec old = stays change.rec old (rec_cell_there config cells change.rec sound can.0) in
     ap (λ c. views_of (put now change.rec (cell_with_rec change.update c))) is
     ∙ views_of-put now change.rec (Rec (rec_updated change.update old))
     ∙ views_put-rec (views_of now) change.rec old (rec_updated change.update old) (IsAt-cell now change.rec (Rec old) is)
     ∙ (λ i. record (views_of now) { recs = put (same i) change.rec (Some (rec_updated change.update old)) })
 
 -- a REC's cell is no realm's
-pub realm_change-rec_stays : (granules : ℕ) (cells : ℕ → Cell) (change : Option RealmChange) → IsSound (flat_state granules cells)
-    → CanChangeRealm (flat_state granules cells) change → (a : ℕ) (c : RecRecord) → cells a ≡ Rec c → cells_with_realm_change cells change a ≡ Rec c
-realm_change-rec_stays granules cells None sound can a c is = is
-realm_change-rec_stays granules cells (Some change) sound can a c is =
+pub realm_change-rec_stays : (config : Config) (cells : ℕ → Cell) (change : Option RealmChange) → IsSound (flat_state config cells)
+    → CanChangeRealm (flat_state config cells) change → (a : ℕ) (c : RecRecord) → cells a ≡ Rec c → cells_with_realm_change cells change a ≡ Rec c
+realm_change-rec_stays config cells None sound can a c is = is
+realm_change-rec_stays config cells (Some change) sound can a c is =
     by_address (λ x. x ≡ Rec c) a change.rd (cell_with_realm change.update (cells change.rd)) (cells a)
-    (λ here. absurd (let bad : Rd (realm_at (flat_state granules cells) change.rd) ≡ Rec c = sym (rd_there granules cells change.rd sound can.0) ∙ ap cells (sym here) ∙ is in cc))
+    (λ here. absurd (let bad : Rd (realm_at (flat_state config cells) change.rd) ≡ Rec c = sym (rd_there config cells change.rd sound can.0) ∙ ap cells (sym here) ∙ is in cc))
     (λ _. is)
 
 -- ---- ties
 
-pub realm_change-like : (granules : ℕ) (cells : ℕ → Cell) (change : Option RealmChange) → IsSound (flat_state granules cells)
-    → CanChangeRealm (flat_state granules cells) change → AreLike (realms_of cells) (with_realm_change (flat_state granules cells) change).realm
+pub realm_change-like : (config : Config) (cells : ℕ → Cell) (change : Option RealmChange) → IsSound (flat_state config cells)
+    → CanChangeRealm (flat_state config cells) change → AreLike (realms_of cells) (with_realm_change (flat_state config cells) change).realm
 unfolding flat_state
-realm_change-like granules cells None sound can = like_same (realms_of cells)
-realm_change-like granules cells (Some change) sound can =
-    let old : RealmRecord = realm_at (flat_state granules cells) change.rd in
+realm_change-like config cells None sound can = like_same (realms_of cells)
+realm_change-like config cells (Some change) sound can =
+    let old : RealmRecord = realm_at (flat_state config cells) change.rd in
     like_put (realms_of cells) change.rd old (realm_updated change.update old)
-    (realm_there (flat_state granules cells) change.rd sound can.0) (updated_like change.update old)
+    (realm_there (flat_state config cells) change.rd sound can.0) (updated_like change.update old)
 
 -- no update changes a REC's realm
 updated_owner : (update : RecUpdate) (c : RecRecord) → (rec_updated update c).owner ≡ c.owner
@@ -86,14 +87,14 @@ updated_owner rec_update.TurnedOff c = refl
 updated_owner rec_update.SystemTurnedOff c = refl
 updated_owner (rec_update.RequestMoved base) c = refl
 
-pub rec_change-alike : (granules : ℕ) (cells : ℕ → Cell) (change : Option RecChange) → IsSound (flat_state granules cells)
-    → CanChangeRec (flat_state granules cells) change → AreOwnedAlike (recs_of cells) (with_rec_change (flat_state granules cells) change).rec
+pub rec_change-alike : (config : Config) (cells : ℕ → Cell) (change : Option RecChange) → IsSound (flat_state config cells)
+    → CanChangeRec (flat_state config cells) change → AreOwnedAlike (recs_of cells) (with_rec_change (flat_state config cells) change).rec
 unfolding flat_state
-rec_change-alike granules cells None sound can = λ rd g. refl
-rec_change-alike granules cells (Some change) sound can =
-    let old : RecRecord = rec_at (flat_state granules cells) change.rec in
+rec_change-alike config cells None sound can = λ rd g. refl
+rec_change-alike config cells (Some change) sound can =
+    let old : RecRecord = rec_at (flat_state config cells) change.rec in
     alike_put (recs_of cells) change.rec old (rec_updated change.update old)
-    (rec_there (flat_state granules cells) change.rec sound can.0) (updated_owner change.update old)
+    (rec_there (flat_state config cells) change.rec sound can.0) (updated_owner change.update old)
 
 -- ---- places
 
@@ -185,37 +186,37 @@ none_is None there = refl
 none_is (Some x) there = both_ways there refl
 
 -- what becomes of a REC's record, and of the CPUs' places
-updated_inside : (update : RecUpdate) (granules : ℕ) (cells : ℕ → Cell) (places : ℕ → CpuPlace) (a : ℕ) (old : RecRecord) → IsSound (flat_state granules cells)
-    → recs_of cells a ≡ Some old → CanUpdateRec (flat_state granules cells) old update → AreInside places (recs_of cells)
+updated_inside : (update : RecUpdate) (config : Config) (cells : ℕ → Cell) (places : ℕ → CpuPlace) (a : ℕ) (old : RecRecord) → IsSound (flat_state config cells)
+    → recs_of cells a ≡ Some old → CanUpdateRec (flat_state config cells) old update → AreInside places (recs_of cells)
     → AreInside (places_of_rec places a update (Rec old)) (put (recs_of cells) a (Some (rec_updated update old)))
 unfolding rec_updated flat_state
-updated_inside (rec_update.Entered cpu) granules cells places a old sound there can inside =
-    inside_entered places (recs_of cells) a cpu old _ there refl (none_is old.cpu can.0) refl (none_runs (flat_state granules cells) cpu sound can.1) inside
-updated_inside rec_update.Exited granules cells places a old sound there can inside =
+updated_inside (rec_update.Entered cpu) config cells places a old sound there can inside =
+    inside_entered places (recs_of cells) a cpu old _ there refl (none_is old.cpu can.0) refl (none_runs (flat_state config cells) cpu sound can.1) inside
+updated_inside rec_update.Exited config cells places a old sound there can inside =
     let on = some_is old.cpu can in
     subst (λ o. AreInside (places_left places o) (put (recs_of cells) a (Some (rec_updated rec_update.Exited old)))) (sym on.1)
     (inside_left places (recs_of cells) a on.0 old _ there on.1 refl inside)
-updated_inside (rec_update.RipasRequested base top ripas) granules cells places a old sound there can inside =
+updated_inside (rec_update.RipasRequested base top ripas) config cells places a old sound there can inside =
     inside_put places (recs_of cells) a old _ there refl refl inside
-updated_inside (rec_update.HostCalled imm) granules cells places a old sound there can inside =
+updated_inside (rec_update.HostCalled imm) config cells places a old sound there can inside =
     inside_put places (recs_of cells) a old _ there refl refl inside
-updated_inside rec_update.TurnedOff granules cells places a old sound there can inside =
+updated_inside rec_update.TurnedOff config cells places a old sound there can inside =
     inside_put places (recs_of cells) a old _ there refl refl inside
-updated_inside rec_update.SystemTurnedOff granules cells places a old sound there can inside =
+updated_inside rec_update.SystemTurnedOff config cells places a old sound there can inside =
     inside_put places (recs_of cells) a old _ there refl refl inside
-updated_inside (rec_update.RequestMoved base) granules cells places a old sound there can inside =
+updated_inside (rec_update.RequestMoved base) config cells places a old sound there can inside =
     inside_put places (recs_of cells) a old _ there refl refl inside
 
-pub rec_change-inside : (granules : ℕ) (cells : ℕ → Cell) (places : ℕ → CpuPlace) (change : Option RecChange) → IsSound (flat_state granules cells)
-    → CanChangeRec (flat_state granules cells) change → AreInside places (recs_of cells)
-    → AreInside (places_with_rec_change cells places change) (with_rec_change (flat_state granules cells) change).rec
+pub rec_change-inside : (config : Config) (cells : ℕ → Cell) (places : ℕ → CpuPlace) (change : Option RecChange) → IsSound (flat_state config cells)
+    → CanChangeRec (flat_state config cells) change → AreInside places (recs_of cells)
+    → AreInside (places_with_rec_change cells places change) (with_rec_change (flat_state config cells) change).rec
 unfolding flat_state
-rec_change-inside granules cells places None sound can inside = inside
-rec_change-inside granules cells places (Some change) sound can inside =
-    let old : RecRecord = rec_at (flat_state granules cells) change.rec in
+rec_change-inside config cells places None sound can inside = inside
+rec_change-inside config cells places (Some change) sound can inside =
+    let old : RecRecord = rec_at (flat_state config cells) change.rec in
     subst (λ c. AreInside (places_of_rec places change.rec change.update c) (put (recs_of cells) change.rec (Some (rec_updated change.update old))))
-    (sym (rec_cell_there granules cells change.rec sound can.0))
-    (updated_inside change.update granules cells places change.rec old sound (rec_there (flat_state granules cells) change.rec sound can.0) can.1 inside)
+    (sym (rec_cell_there config cells change.rec sound can.0))
+    (updated_inside change.update config cells places change.rec old sound (rec_there (flat_state config cells) change.rec sound can.0) can.1 inside)
 
 -- ---- the change
 
@@ -228,20 +229,20 @@ records_parts s None (Some rec) = refl
 records_parts s (Some realm) None = refl
 records_parts s (Some realm) (Some rec) = refl
 
-pub Makes-records : (granules : ℕ) (w : Whole) (realm : Option RealmChange) (rec : Option RecChange) → IsShaped granules w
-    → CanChangeRealm (flat_state granules w.cells) realm → CanChangeRec (flat_state granules w.cells) rec → Makes granules w (RecordsChanged realm rec)
+pub Makes-records : (config : Config) (w : Whole) (realm : Option RealmChange) (rec : Option RecChange) → IsShaped config w
+    → CanChangeRealm (flat_state config w.cells) realm → CanChangeRec (flat_state config w.cells) rec → Makes config w (RecordsChanged realm rec)
 unfolding changed cells_changed side_changed places_changed flat_state
-Makes-records granules w realm rec shaped can_realm can_rec =
-    let s : State = flat_state granules w.cells in
-    let sound = well_shaped-is_sound granules w.side w.places w.cells shaped in
-    let old = IsTied-shaped granules w.side w.places w.cells shaped in
-    let first = views_of-realm_change granules w.cells w.cells realm sound can_realm (λ a r is. is) refl in
+Makes-records config w realm rec shaped can_realm can_rec =
+    let s : State = flat_state config w.cells in
+    let sound = well_shaped-is_sound config w.side w.places w.cells shaped in
+    let old = IsTied-shaped config w.side w.places w.cells shaped in
+    let first = views_of-realm_change config w.cells w.cells realm sound can_realm (λ a r is. is) refl in
     record {
       views = record (views_of w.cells) { realms = (with_realm_change s realm).realm; recs = (with_rec_change s rec).rec };
-      seen = views_of-rec_change granules w.cells (cells_with_realm_change w.cells realm) rec sound can_rec
-          (realm_change-rec_stays granules w.cells realm sound can_realm) (ap (λ (v : Views). v.recs) first)
+      seen = views_of-rec_change config w.cells (cells_with_realm_change w.cells realm) rec sound can_rec
+          (realm_change-rec_stays config w.cells realm sound can_realm) (ap (λ (v : Views). v.recs) first)
           ∙ (λ i. record (first i) { recs = (with_rec_change s rec).rec });
       flat = records_parts s realm rec;
-      tied = IsTied-records granules w.side w.places _ (views_of w.cells) _ _ (realm_change-like granules w.cells realm sound can_realm)
-          (rec_change-alike granules w.cells rec sound can_rec) (rec_change-inside granules w.cells w.places rec sound can_rec old.inside) old;
+      tied = IsTied-records config.granules w.side w.places _ (views_of w.cells) _ _ (realm_change-like config w.cells realm sound can_realm)
+          (rec_change-alike config w.cells rec sound can_rec) (rec_change-inside config w.cells w.places rec sound can_rec old.inside) old;
     }

@@ -2,6 +2,7 @@
 use Rattle.std.proofs.Common.{◌≡◌, ℕ, suc, ◌+◌, ◌-◌, ◌*◌, ◌/◌, false, ◌==◌, IsTrue, Option, Some, None, is_none, refl, sym, ap, ◌∙◌, subst, eq-eqb, eqb-true, ne_eqb, arith, add-one}
 use Rattle.std.proofs.lemmas.Bool.{false_from_ne_true}
 use Rattle.std.proofs.lemmas.Option.{none-some, same_Some}
+use Rattle.rmm_spec.specs.HistoryText.{Config}
 use Rattle.rmm_spec.specs.declared.change.Change.TheVariants.{RecMade, RecDestroyed}
 use Rattle.rmm_spec.specs.declared.change.RealmUpdate.TheVariants.{RecCounted}
 use Rattle.rmm_spec.specs.declared.tag.Tag.TheVariants as tag
@@ -112,21 +113,21 @@ counted_less granules counts recs a c within is old rd =
 
 -- ---- made
 
-pub Makes-rec_made : (granules : ℕ) (w : Whole) (rd rec mpidr flags aux0 aux1 : ℕ) → IsShaped granules w
-    → CanMakeRec (flat_state granules w.cells) rd rec mpidr flags aux0 aux1 → Makes granules w (RecMade rd rec mpidr flags aux0 aux1)
+pub Makes-rec_made : (config : Config) (w : Whole) (rd rec mpidr flags aux0 aux1 : ℕ) → IsShaped config w
+    → CanMakeRec (flat_state config w.cells) rd rec mpidr flags aux0 aux1 → Makes config w (RecMade rd rec mpidr flags aux0 aux1)
 unfolding changed cells_changed side_changed places_changed flat_state
-Makes-rec_made granules w rd rec mpidr flags aux0 aux1 shaped can =
-    let s : State = flat_state granules w.cells in
+Makes-rec_made config w rd rec mpidr flags aux0 aux1 shaped can =
+    let s : State = flat_state config w.cells in
     let cells = w.cells in
-    let sound = well_shaped-is_sound granules w.side w.places w.cells shaped in
-    let old = IsTied-shaped granules w.side w.places w.cells shaped in
+    let sound = well_shaped-is_sound config w.side w.places w.cells shaped in
+    let old = IsTied-shaped config w.side w.places w.cells shaped in
     let new : RecRecord = new_rec rd mpidr flags aux0 aux1 in
     let realm : RealmRecord = realm_at s rd in
     let counted : RealmRecord = realm_updated (RecCounted mpidr flags) realm in
-    let rec_is : cells rec ≡ Delegated = delegated_there granules cells rec can.rec_tag in
-    let aux0_is : cells aux0 ≡ Delegated = delegated_there granules cells aux0 can.aux0_tag in
-    let aux1_is : cells aux1 ≡ Delegated = delegated_there granules cells aux1 can.aux1_tag in
-    let rd_is : cells rd ≡ Rd realm = rd_there granules cells rd sound can.rd_tag in
+    let rec_is : cells rec ≡ Delegated = delegated_there config cells rec can.rec_tag in
+    let aux0_is : cells aux0 ≡ Delegated = delegated_there config cells aux0 can.aux0_tag in
+    let aux1_is : cells aux1 ≡ Delegated = delegated_there config cells aux1 can.aux1_tag in
+    let rd_is : cells rd ≡ Rd realm = rd_there config cells rd sound can.rd_tag in
     let away : (a : ℕ) → cells a ≡ Delegated → (rd == a) ≡ false =
     λ a is. ne_eqb rd a (λ same. (let bad : Rd realm ≡ Delegated = sym rd_is ∙ ap cells same ∙ is in cc)) in
     let one : ℕ → Cell = put cells rec (Rec new) in
@@ -168,9 +169,9 @@ Makes-rec_made granules w rd rec mpidr flags aux0 aux1 shaped can =
         sides = record {
           listed = λ g r at. let q = like.before g r at in ap w.side.vmids q.2.vmid ∙ old.sides.listed g q.0 q.1;
           used = λ vmid g at. let q = old.sides.used vmid g at in let r = like.after g q.0 q.1 in (r.0, r.1, r.2.vmid ∙ q.2);
-          counted = counted_more granules w.side.rec_counts (recs_of cells) rec new (granule_from_tag s rec tag.Delegated can.rec_tag) none old.sides.counted;
+          counted = counted_more config.granules w.side.rec_counts (recs_of cells) rec new (granule_from_tag s rec tag.Delegated can.rec_tag) none old.sides.counted;
         };
-        tables = ArePlaced-like granules (realms_of cells) (put (realms_of cells) rd (Some counted)) (views_of cells).tables like old.tables;
+        tables = ArePlaced-like config.granules (realms_of cells) (put (realms_of cells) rd (Some counted)) (views_of cells).tables like old.tables;
         links = old.links;
         inside = inside_idle w.places (recs_of cells) rec (Some new) (λ c is. absurd (none-some c (sym none ∙ is)))
             (λ c is. ap (λ (x : RecRecord). x.cpu) (sym (same_Some new c is))) old.inside;
@@ -179,19 +180,19 @@ Makes-rec_made granules w rd rec mpidr flags aux0 aux1 shaped can =
 
 -- ---- gone
 
-pub Makes-rec_destroyed : (granules : ℕ) (w : Whole) (rec aux0 aux1 : ℕ) → IsShaped granules w
-    → CanDestroyRec (flat_state granules w.cells) rec aux0 aux1 → Makes granules w (RecDestroyed rec aux0 aux1)
+pub Makes-rec_destroyed : (config : Config) (w : Whole) (rec aux0 aux1 : ℕ) → IsShaped config w
+    → CanDestroyRec (flat_state config w.cells) rec aux0 aux1 → Makes config w (RecDestroyed rec aux0 aux1)
 unfolding changed cells_changed side_changed places_changed flat_state
-Makes-rec_destroyed granules w rec aux0 aux1 shaped can =
-    let s : State = flat_state granules w.cells in
+Makes-rec_destroyed config w rec aux0 aux1 shaped can =
+    let s : State = flat_state config w.cells in
     let cells = w.cells in
-    let sound = well_shaped-is_sound granules w.side w.places w.cells shaped in
-    let old = IsTied-shaped granules w.side w.places w.cells shaped in
+    let sound = well_shaped-is_sound config w.side w.places w.cells shaped in
+    let old = IsTied-shaped config w.side w.places w.cells shaped in
     let it : RecRecord = rec_at s rec in
     let there : recs_of cells rec ≡ Some it = rec_there s rec sound can.rec_tag in
-    let rec_is : cells rec ≡ Rec it = rec_cell_there granules cells rec sound can.rec_tag in
-    let aux0_is : cells aux0 ≡ RecAux = ap cells can.is_aux0 ∙ cell-aux (cells it.aux0) (tag-cell granules cells it.aux0 tag.RecAux (sound.recs.aux0 rec it there)) in
-    let aux1_is : cells aux1 ≡ RecAux = ap cells can.is_aux1 ∙ cell-aux (cells it.aux1) (tag-cell granules cells it.aux1 tag.RecAux (sound.recs.aux1 rec it there)) in
+    let rec_is : cells rec ≡ Rec it = rec_cell_there config cells rec sound can.rec_tag in
+    let aux0_is : cells aux0 ≡ RecAux = ap cells can.is_aux0 ∙ cell-aux (cells it.aux0) (tag-cell config cells it.aux0 tag.RecAux (sound.recs.aux0 rec it there)) in
+    let aux1_is : cells aux1 ≡ RecAux = ap cells can.is_aux1 ∙ cell-aux (cells it.aux1) (tag-cell config cells it.aux1 tag.RecAux (sound.recs.aux1 rec it there)) in
     let away : (a : ℕ) → cells a ≡ RecAux → (a == rec) ≡ false =
     λ a is. ne_eqb a rec (λ same. (let bad : RecAux ≡ Rec it = sym is ∙ ap cells same ∙ rec_is in cc)) in
     let apart : (aux1 == aux0) ≡ false =
@@ -206,11 +207,11 @@ Makes-rec_destroyed granules w rec aux0 aux1 shaped can =
     views_of-two_plain one aux0 aux1 RecAux RecAux Delegated (put-elsewhere cells rec Delegated aux0 (away aux0 aux0_is) ∙ aux0_is)
     (put-elsewhere cells rec Delegated aux1 (away aux1 aux1_is) ∙ aux1_is) apart plain-aux plain-aux plain-delegated in
     let idle : it.cpu ≡ None = none_is it.cpu can.ready in
-    let listed : AreListed granules (record w.side { rec_counts = put w.side.rec_counts it.owner (w.side.rec_counts it.owner - 1) }) (realms_of cells) (put (recs_of cells) rec None) =
+    let listed : AreListed config.granules (record w.side { rec_counts = put w.side.rec_counts it.owner (w.side.rec_counts it.owner - 1) }) (realms_of cells) (put (recs_of cells) rec None) =
     record {
       listed = old.sides.listed;
       used = old.sides.used;
-      counted = counted_less granules w.side.rec_counts (recs_of cells) rec it (granule_from_tag s rec tag.Rec can.rec_tag) there old.sides.counted;
+      counted = counted_less config.granules w.side.rec_counts (recs_of cells) rec it (granule_from_tag s rec tag.Rec can.rec_tag) there old.sides.counted;
     } in
     record {
       views = record {
@@ -222,7 +223,7 @@ Makes-rec_destroyed granules w rec aux0 aux1 shaped can =
       seen = second ∙ (λ i. record (first i) { tags = put (put (first i).tags aux0 tag.Delegated) aux1 tag.Delegated });
       flat = refl;
       tied = record {
-        sides = subst (λ c. AreListed granules (side_without_rec w.side c) (realms_of cells) (put (recs_of cells) rec None)) (sym rec_is) listed;
+        sides = subst (λ c. AreListed config.granules (side_without_rec w.side c) (realms_of cells) (put (recs_of cells) rec None)) (sym rec_is) listed;
         tables = old.tables;
         links = old.links;
         inside = inside_idle w.places (recs_of cells) rec None (λ c is. ap (λ (x : RecRecord). x.cpu) (sym (same_Some it c (sym there ∙ is))) ∙ idle)

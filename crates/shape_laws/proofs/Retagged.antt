@@ -1,5 +1,6 @@
 -- Nothing changes; or a granule that holds nothing gets another tag.
 use Rattle.std.proofs.Common.{◌≡◌, ℕ, refl, sym, ap, ◌∙◌, inl, inr}
+use Rattle.rmm_spec.specs.HistoryText.{Config}
 use Rattle.rmm_spec.specs.declared.change.Change.TheVariants.{Unchanged, Retagged}
 use Rattle.rmm_spec.specs.declared.change.TagChange.{TagChange}
 use Rattle.rmm_spec.specs.Change.{changed}
@@ -11,13 +12,13 @@ use Rattle.shape_laws.proofs.Cells.{views_of, views_of-put, IsAt-cell}
 use Rattle.shape_laws.proofs.Ties.{IsTied-shaped}
 use Rattle.shape_laws.proofs.Kept.{Makes, IsPlain, plain-undelegated, plain-delegated, views_put-plain, delegated_there, undelegated_there}
 
-pub Makes-unchanged : (granules : ℕ) (w : Whole) → IsShaped granules w → Makes granules w Unchanged
+pub Makes-unchanged : (config : Config) (w : Whole) → IsShaped config w → Makes config w Unchanged
 unfolding changed cells_changed side_changed places_changed flat_state
-Makes-unchanged granules w shaped = record {
+Makes-unchanged config w shaped = record {
   views = views_of w.cells;
   seen = refl;
   flat = refl;
-  tied = IsTied-shaped granules w.side w.places w.cells shaped;
+  tied = IsTied-shaped config w.side w.places w.cells shaped;
 }
 
 -- a cell that holds nothing, and gets another tag
@@ -38,34 +39,34 @@ views_of-retagged cells change can =
     ∙ views_put-plain (views_of cells) change.granule can.old can.new (IsAt-cell cells change.granule can.old can.is_old) can.old_plain can.new_plain
     ∙ ap (λ t. record (views_of cells) { tags = put (tags_of cells) change.granule t }) can.is_tag
 
-retag_cells : (granules : ℕ) (cells : ℕ → Cell) (change : TagChange) → CanRetag (flat_state granules cells) change → CanGetTag cells change
-retag_cells granules cells change (inl lent) = record {
+retag_cells : (config : Config) (cells : ℕ → Cell) (change : TagChange) → CanRetag (flat_state config cells) change → CanGetTag cells change
+retag_cells config cells change (inl lent) = record {
   old = Undelegated;
   new = Delegated;
-  is_old = undelegated_there granules cells change.granule lent.0;
+  is_old = undelegated_there config cells change.granule lent.0;
   is_new = ap (λ t. cell_with_tag t (cells change.granule)) lent.1;
   is_tag = sym lent.1;
   old_plain = plain-undelegated;
   new_plain = plain-delegated;
 }
-retag_cells granules cells change (inr back) = record {
+retag_cells config cells change (inr back) = record {
   old = Delegated;
   new = Undelegated;
-  is_old = delegated_there granules cells change.granule back.0;
+  is_old = delegated_there config cells change.granule back.0;
   is_new = ap (λ t. cell_with_tag t (cells change.granule)) back.1;
   is_tag = sym back.1;
   old_plain = plain-delegated;
   new_plain = plain-undelegated;
 }
 
-pub Makes-retagged : (granules : ℕ) (w : Whole) (change : TagChange) → IsShaped granules w → CanRetag (flat_state granules w.cells) change
-    → Makes granules w (Retagged change)
+pub Makes-retagged : (config : Config) (w : Whole) (change : TagChange) → IsShaped config w → CanRetag (flat_state config w.cells) change
+    → Makes config w (Retagged change)
 unfolding changed cells_changed side_changed places_changed flat_state
-Makes-retagged granules w change shaped can =
-    let old = IsTied-shaped granules w.side w.places w.cells shaped in
+Makes-retagged config w change shaped can =
+    let old = IsTied-shaped config w.side w.places w.cells shaped in
     record {
       views = record (views_of w.cells) { tags = put (tags_of w.cells) change.granule change.tag };
-      seen = views_of-retagged w.cells change (retag_cells granules w.cells change can);
+      seen = views_of-retagged w.cells change (retag_cells config w.cells change can);
       flat = refl;
       tied = record { sides = old.sides; tables = old.tables; links = old.links; inside = old.inside };
     }

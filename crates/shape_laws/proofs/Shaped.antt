@@ -1,6 +1,7 @@
 -- A whole that stands for a sound state, and is tied to it, is well shaped.
 use Rattle.std.proofs.Common.{◌≡◌, ℕ, suc, ◌+◌, ◌*◌, ◌/◌, ◌%◌, ◌<◌, ◌≤◌, false, Option, Some, slice_get, refl, sym, ap, ◌∙◌, subst, inl, inr, arith}
 use Rattle.std.proofs.lemmas.Option.{same_Some, slice_get_within}
+use Rattle.rmm_spec.specs.HistoryText.{Config}
 use Rattle.rmm_spec.specs.declared.entry.Entry.{Entry}
 use Rattle.rmm_spec.specs.declared.entry.Entry.TheVariants.{Unassigned, Assigned, Table, UnassignedNs, AssignedNs}
 use Rattle.rmm_spec.specs.declared.tag.Ripas.{Ripas}
@@ -41,27 +42,27 @@ fits_place (Table granule) r level number leaf fits = both_ways refl leaf
 fits_place UnassignedNs r level number leaf fits = fits
 fits_place (AssignedNs page) r level number leaf fits = fits
 
-tables_shaped : (granules : ℕ) (side : Side) (places : ℕ → CpuPlace) (cells : ℕ → Cell) → IsSound (flat_state granules cells)
-    → IsTied granules side places (views_of cells) → AreTableCells (realms_of cells) (tables_of cells)
+tables_shaped : (config : Config) (side : Side) (places : ℕ → CpuPlace) (cells : ℕ → Cell) → IsSound (flat_state config cells)
+    → IsTied config.granules side places (views_of cells) → AreTableCells (realms_of cells) (tables_of cells)
 unfolding flat_state
-tables_shaped granules side places cells sound tied = record {
-  roots = λ rd realm at. table_granule-holds granules tables rd realm.start_level 0 realm.root (sound.tables.roots rd realm at);
+tables_shaped config side places cells sound tied = record {
+  roots = λ rd realm at. table_granule-holds config.granules tables rd realm.start_level 0 realm.root (sound.tables.roots rd realm at);
   placed = λ g t held. owner g t held;
   whole = tied.tables.whole;
   parents = λ g above t realm held of_realm is_level under.
-      let there : table_granule granules tables t.place.rd (suc above) (place_number t.place) ≡ Some g =
-      ap (λ l. table_granule granules tables t.place.rd l (place_number t.place)) (sym is_level) ∙ tied.tables.found g t held in
-      let parent = value_there (table_granule granules tables t.place.rd above (place_number t.place / 512))
+      let there : table_granule config.granules tables t.place.rd (suc above) (place_number t.place) ≡ Some g =
+      ap (λ l. table_granule config.granules tables t.place.rd l (place_number t.place)) (sym is_level) ∙ tied.tables.found g t held in
+      let parent = value_there (table_granule config.granules tables t.place.rd above (place_number t.place / 512))
       (sound.tables.below t.place.rd above (place_number t.place) g realm there of_realm under) in
-      parent_of t.place.rd above (place_number t.place) g there parent.0 (table_granule-holds granules tables t.place.rd above (place_number t.place / 512) parent.0 parent.1);
-  links = λ g i child t held link. table_granule-holds granules tables t.place.rd (suc t.place.level) (512 * place_number t.place + i) child (tied.links g i child t held link);
-  apart = λ g h t held other. same_Some g h (sym (tied.tables.found g t held) ∙ holds-found granules tables h t.place.rd t.place.level (place_number t.place) tied.tables.found other);
+      parent_of t.place.rd above (place_number t.place) g there parent.0 (table_granule-holds config.granules tables t.place.rd above (place_number t.place / 512) parent.0 parent.1);
+  links = λ g i child t held link. table_granule-holds config.granules tables t.place.rd (suc t.place.level) (512 * place_number t.place + i) child (tied.links g i child t held link);
+  apart = λ g h t held other. same_Some g h (sym (tied.tables.found g t held) ∙ holds-found config.granules tables h t.place.rd t.place.level (place_number t.place) tied.tables.found other);
   kinds = λ g i t realm e held of_realm entry. elim (link_or_leaf e) [
     | inl link ↦ subst (λ x. FitsPlace x realm t.place.level (512 * place_number t.place + i)) (sym link.1)
         (let below = sound.tables.owned t.place.rd (suc t.place.level) (512 * place_number t.place + i) link.0 (tied.links g i link.0 t held (entry ∙ ap Some link.1)) in
         let last : suc t.place.level ≤ 3 = below.2.last in omega arith)
     | inr leaf ↦ fits_place e realm t.place.level (512 * place_number t.place + i) leaf
-        (sound.leaves.kinds t.place.rd t.place.level (512 * place_number t.place + i) e realm (leaf_at granules (realms_of cells) tables tied.tables g i t e held entry leaf) of_realm)
+        (sound.leaves.kinds t.place.rd t.place.level (512 * place_number t.place + i) e realm (leaf_at config.granules (realms_of cells) tables tied.tables g i t e held entry leaf) of_realm)
   ];
 }
   where
@@ -73,36 +74,36 @@ tables_shaped granules side places cells sound tied = record {
         let its = sound.tables.owned t.place.rd t.place.level (place_number t.place) g (tied.tables.found g t held) in
         (its.0, its.1, record { width = tied.tables.widths g t its.0 held its.1; within = its.2; base = tied.tables.bases g t held })
 
-    parent_of : (rd above number g : ℕ) → table_granule granules (tables_of cells) rd (suc above) number ≡ Some g → (parent : ℕ)
+    parent_of : (rd above number g : ℕ) → table_granule config.granules (tables_of cells) rd (suc above) number ≡ Some g → (parent : ℕ)
         → HoldsTable (tables_of cells) parent rd above (number / 512) → IsLinked (tables_of cells) g rd above number
     parent_of rd above number g there parent held =
         let below : number % 512 < 512 = omega arith in
         let entry = entry_there held.table.entries (number % 512) (tied.tables.whole parent held.table held.is_held) below in
         elim (link_or_leaf entry.0) [
-          | inl link ↦ (let leads : table_granule granules (tables_of cells) rd (suc above) number ≡ Some link.0 =
-              subst (λ n. table_granule granules (tables_of cells) rd (suc above) n ≡ Some link.0) (number-again number)
-              (at_place (λ a b c. table_granule granules (tables_of cells) a (suc b) (512 * c + number % 512) ≡ Some link.0) held
+          | inl link ↦ (let leads : table_granule config.granules (tables_of cells) rd (suc above) number ≡ Some link.0 =
+              subst (λ n. table_granule config.granules (tables_of cells) rd (suc above) n ≡ Some link.0) (number-again number)
+              (at_place (λ a b c. table_granule config.granules (tables_of cells) a (suc b) (512 * c + number % 512) ≡ Some link.0) held
               (tied.links parent (number % 512) link.0 held.table held.is_held (entry.1 ∙ ap Some link.1))) in
               record { parent = parent; above = held; link = entry.1 ∙ ap Some link.1 ∙ ap (λ x. Some (Table x)) (same_Some link.0 g (sym leads ∙ there)) })
           | inr leaf ↦ nothing_there
               (sound.leaves.unlinked rd above number entry.0
-              (leaf-found granules (tables_of cells) rd above number parent held.table
-              (holds-found granules (tables_of cells) parent rd above (number / 512) tied.tables.found held) held.is_held
+              (leaf-found config.granules (tables_of cells) rd above number parent held.table
+              (holds-found config.granules (tables_of cells) parent rd above (number / 512) tied.tables.found held) held.is_held
               ∙ entry_leaf-some held.table.entries (number % 512) entry.0 entry.1 leaf)) there
         ]
 
-data_shaped : (granules : ℕ) (side : Side) (places : ℕ → CpuPlace) (cells : ℕ → Cell) → IsSound (flat_state granules cells)
-    → IsTied granules side places (views_of cells) → AreDataCells (tables_of cells) (datas_of cells)
+data_shaped : (config : Config) (side : Side) (places : ℕ → CpuPlace) (cells : ℕ → Cell) → IsSound (flat_state config cells)
+    → IsTied config.granules side places (views_of cells) → AreDataCells (tables_of cells) (datas_of cells)
 unfolding flat_state
-data_shaped granules side places cells sound tied =
+data_shaped config side places cells sound tied =
     let tables = tables_of cells in
     let leaf : (g i page : ℕ) (t : TableRecord) (ripas : Ripas) → tables g ≡ Some t → slice_get t.entries i ≡ Some (Assigned ripas page)
-    → leaf_in_tables granules tables t.place.rd t.place.level (512 * place_number t.place + i) ≡ Some (Assigned ripas page) =
-    λ g i page t ripas held entry. leaf_at granules (realms_of cells) tables tied.tables g i t (Assigned ripas page) held entry refl in
+    → leaf_in_tables config.granules tables t.place.rd t.place.level (512 * place_number t.place + i) ≡ Some (Assigned ripas page) =
+    λ g i page t ripas held entry. leaf_at config.granules (realms_of cells) tables tied.tables g i t (Assigned ripas page) held entry refl in
     record {
       named = λ g i page t ripas held entry.
           ap is_data (cell-data (cells page)
-          (tag-cell granules cells page tag.Data
+          (tag-cell config cells page tag.Data
           (sound.leaves.pages t.place.rd t.place.level (512 * place_number t.place + i) page ripas (leaf g i page t ripas held entry))));
       apart = λ g h i j page t u ripas other held held_too entry entry_too.
           let place = sound.leaves.apart t.place.rd t.place.level (512 * place_number t.place + i) u.place.rd u.place.level (512 * place_number u.place + j)
@@ -113,18 +114,18 @@ data_shaped granules side places cells sound tied =
           let two = number_in (place_number u.place) j j_below in
           let number : place_number t.place ≡ place_number u.place = sym one.0 ∙ ap (λ n. n / 512) place.2 ∙ two.0 in (
             same_Some g h (sym (tied.tables.found g t held)
-                ∙ (λ k. table_granule granules tables (place.0 k) (place.1 k) (number k)) ∙ tied.tables.found h u held_too),
+                ∙ (λ k. table_granule config.granules tables (place.0 k) (place.1 k) (number k)) ∙ tied.tables.found h u held_too),
             sym one.1 ∙ ap (λ n. n % 512) place.2 ∙ two.1,
           );
     }
 
-recs_shaped : (granules : ℕ) (side : Side) (places : ℕ → CpuPlace) (cells : ℕ → Cell) → IsSound (flat_state granules cells)
-    → IsTied granules side places (views_of cells) → AreRecCells places (realms_of cells) (recs_of cells) (auxes_of cells)
+recs_shaped : (config : Config) (side : Side) (places : ℕ → CpuPlace) (cells : ℕ → Cell) → IsSound (flat_state config cells)
+    → IsTied config.granules side places (views_of cells) → AreRecCells places (realms_of cells) (recs_of cells) (auxes_of cells)
 unfolding flat_state
-recs_shaped granules side places cells sound tied = record {
+recs_shaped config side places cells sound tied = record {
   owned = λ g c at. sound.realms.tagged c.owner ∙ sound.recs.owned g c at;
-  aux0 = λ g c at. ap is_aux (cell-aux (cells c.aux0) (tag-cell granules cells c.aux0 tag.RecAux (sound.recs.aux0 g c at)));
-  aux1 = λ g c at. ap is_aux (cell-aux (cells c.aux1) (tag-cell granules cells c.aux1 tag.RecAux (sound.recs.aux1 g c at)));
+  aux0 = λ g c at. ap is_aux (cell-aux (cells c.aux0) (tag-cell config cells c.aux0 tag.RecAux (sound.recs.aux0 g c at)));
+  aux1 = λ g c at. ap is_aux (cell-aux (cells c.aux1) (tag-cell config cells c.aux1 tag.RecAux (sound.recs.aux1 g c at)));
   two = sound.recs.two;
   apart = sound.recs.apart;
   requests = sound.recs.requests;
@@ -133,10 +134,10 @@ recs_shaped granules side places cells sound tied = record {
   inside = tied.inside;
 }
 
-pub IsWellShaped-tied : (granules : ℕ) (side : Side) (places : ℕ → CpuPlace) (cells : ℕ → Cell) → IsSound (flat_state granules cells)
-    → IsTied granules side places (views_of cells) → IsWellShaped granules side places cells
+pub IsWellShaped-tied : (config : Config) (side : Side) (places : ℕ → CpuPlace) (cells : ℕ → Cell) → IsSound (flat_state config cells)
+    → IsTied config.granules side places (views_of cells) → IsWellShaped config side places cells
 unfolding flat_state
-IsWellShaped-tied granules side places cells sound tied = record {
+IsWellShaped-tied config side places cells sound tied = record {
   realms = record {
     spaces = sound.realms.spaces;
     measured = sound.realms.measured;
@@ -144,8 +145,8 @@ IsWellShaped-tied granules side places cells sound tied = record {
     used = tied.sides.used;
     counted = tied.sides.counted;
   };
-  tables = tables_shaped granules side places cells sound tied;
-  data_granules = data_shaped granules side places cells sound tied;
-  recs = recs_shaped granules side places cells sound tied;
+  tables = tables_shaped config side places cells sound tied;
+  data_granules = data_shaped config side places cells sound tied;
+  recs = recs_shaped config side places cells sound tied;
   outside = record { undelegated = λ g none. cell-undelegated (cells g) (sound.outside g none) };
 }

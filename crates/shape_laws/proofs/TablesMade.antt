@@ -4,6 +4,7 @@ use Rattle.std.proofs.lemmas.Bool.{false_from_ne_true}
 use Rattle.std.proofs.lemmas.List.{length-set, length-replicate}
 use Rattle.std.proofs.lemmas.Nat.{pow_pos}
 use Rattle.std.proofs.lemmas.Option.{none-some, same_Some, slice_get_within}
+use Rattle.rmm_spec.specs.HistoryText.{Config}
 use Rattle.rmm_spec.specs.declared.change.Change.TheVariants.{TableMade, TableDestroyed}
 use Rattle.rmm_spec.specs.declared.entry.Entry.{Entry}
 use Rattle.rmm_spec.specs.declared.entry.Entry.TheVariants.{Table}
@@ -79,39 +80,39 @@ level_up rd up number other l n miss =
 
 -- ---- made
 
-pub Makes-table_made : (granules : ℕ) (w : Whole) (rd level number rtt : ℕ) (entry : Entry) → IsShaped granules w
-    → CanMakeTable (flat_state granules w.cells) rd level number rtt entry → Makes granules w (TableMade rd level number rtt entry)
+pub Makes-table_made : (config : Config) (w : Whole) (rd level number rtt : ℕ) (entry : Entry) → IsShaped config w
+    → CanMakeTable (flat_state config w.cells) rd level number rtt entry → Makes config w (TableMade rd level number rtt entry)
 unfolding changed cells_changed side_changed places_changed flat_state
-Makes-table_made granules w rd zero number rtt entry shaped can = absurd (omega (arith, can.below_root))
-Makes-table_made granules w rd (suc up) number rtt entry shaped can =
-    let s : State = flat_state granules w.cells in
+Makes-table_made config w rd zero number rtt entry shaped can = absurd (omega (arith, can.below_root))
+Makes-table_made config w rd (suc up) number rtt entry shaped can =
+    let s : State = flat_state config w.cells in
     let cells = w.cells in
     let tables = tables_of cells in
-    let sound = well_shaped-is_sound granules w.side w.places w.cells shaped in
-    let old = IsTied-shaped granules w.side w.places w.cells shaped in
+    let sound = well_shaped-is_sound config w.side w.places w.cells shaped in
+    let old = IsTied-shaped config w.side w.places w.cells shaped in
     let back : suc up - 1 ≡ up = omega arith in
-    let parent = value_there (table_granule granules tables rd (suc up - 1) (number / 512)) can.parent in
+    let parent = value_there (table_granule config.granules tables rd (suc up - 1) (number / 512)) can.parent in
     let above : ℕ = parent.0 in
-    let found_up : table_granule granules tables rd up (number / 512) ≡ Some above = ap (λ l. table_granule granules tables rd l (number / 512)) (sym back) ∙ parent.1 in
-    let is_above = above_is granules (realms_of cells) tables rd up number above old.tables found_up in
+    let found_up : table_granule config.granules tables rd up (number / 512) ≡ Some above = ap (λ l. table_granule config.granules tables rd l (number / 512)) (sym back) ∙ parent.1 in
+    let is_above = above_is config.granules (realms_of cells) tables rd up number above old.tables found_up in
     let t : TableRecord = is_above.0 in
     let its = is_above.1 in
     let is_entry : entry ≡ entry_at s rd up number = subst (λ l. entry ≡ entry_at s rd l number) back can.is_entry in
-    let leaf : leaf_in_tables granules tables rd up number ≡ Some entry =
+    let leaf : leaf_in_tables config.granules tables rd up number ≡ Some entry =
     leaf_there s sound rd up number (ap is_some found_up) (sym (ap is_table is_entry) ∙ can.leaf) ∙ ap Some (sym is_entry) in
     let above_cell : cells above ≡ Rtt t = cell-table (cells above) t its.is_held in
-    let rtt_cell : cells rtt ≡ Delegated = delegated_there granules cells rtt can.rtt_tag in
+    let rtt_cell : cells rtt ≡ Delegated = delegated_there config cells rtt can.rtt_tag in
     let free : tables rtt ≡ None = ap table_in rtt_cell in
     let apart : (rtt == above) ≡ false = false_from_ne_true _ (λ same. none-some t (sym free ∙ ap tables (eqb-true rtt above same) ∙ its.is_held)) in
     let u : TableRecord = with_entries t (slice_set t.entries (number % 512) (Table rtt)) in
     let new : TableRecord = copied_table rd (suc up) number (width_in (cells above)) entry in
     let one : ℕ → Option TableRecord = put tables above (Some u) in
-    let kept : (other l n : ℕ) → table_granule granules one other l n ≡ table_granule granules tables other l n =
-    λ other l n i. table_granule-kept granules tables above t u its.is_held refl i other l n in
+    let kept : (other l n : ℕ) → table_granule config.granules one other l n ≡ table_granule config.granules tables other l n =
+    λ other l n i. table_granule-kept config.granules tables above t u its.is_held refl i other l n in
     let first : views_of (changed_at cells above (cell_with_entries (λ entries. slice_set entries (number % 512) (Table rtt))))
     ≡ record (views_of cells) { tables = one } =
     views_of-entries cells above t (λ entries. slice_set entries (number % 512) (Table rtt)) above_cell in
-    let can_put : CanPutIn granules one rtt new rd (suc up) number = record {
+    let can_put : CanPutIn config.granules one rtt new rd (suc up) number = record {
       within = granule_from_tag s rtt tag.Delegated can.rtt_tag;
       free = put-elsewhere tables above (Some u) rtt apart ∙ free;
       placed = copied_place rd (suc up) number (width_in (cells above)) entry;
@@ -134,19 +135,19 @@ Makes-table_made granules w rd (suc up) number rtt entry shaped can =
             tables = put one rtt (Some new);
           });
       flat = λ i. record {
-        granules = granules;
+        config = config;
         tag = put (tags_of cells) rtt tag.Rtt;
         realm = realms_of cells;
         rec = recs_of cells;
-        table = λ other l n. (table-put granules one rtt new rd (suc up) number can_put other l n
+        table = λ other l n. (table-put config.granules one rtt new rd (suc up) number can_put other l n
             ∙ ap (λ x. if is_same_table rd (suc up) number other l n then Some rtt else x) (kept other l n)) i;
-        leaf = λ other l n. (leaf-put granules one rtt new rd (suc up) number can_put other l n
+        leaf = λ other l n. (leaf-put config.granules one rtt new rd (suc up) number can_put other l n
             ∙ leaves t its can.leaf old.tables.found other l n (is_same_table rd (suc up) number other l (n / 512))) i;
       };
       tied = record {
         sides = old.sides;
-        tables = ArePlaced-put granules (realms_of cells) one rtt new rd (suc up) number
-            (ArePlaced-entries granules (realms_of cells) tables above t u old.tables its.is_held refl
+        tables = ArePlaced-put config.granules (realms_of cells) one rtt new rd (suc up) number
+            (ArePlaced-entries config.granules (realms_of cells) tables above t u old.tables its.is_held refl
             (length-set t.entries (number % 512) (Table rtt) ∙ old.tables.whole above t its.is_held))
             can_put
             (record {
@@ -155,43 +156,43 @@ Makes-table_made granules w rd (suc up) number rtt entry shaped can =
               whole = length-replicate 512 entry;
             });
         links = λ g i child x. by_address (λ o. o ≡ Some x → slice_get x.entries i ≡ Some (Table child)
-            → table_granule granules (put one rtt (Some new)) x.place.rd (suc x.place.level) (512 * place_number x.place + i) ≡ Some child) g rtt (Some new) (one g)
+            → table_granule config.granules (put one rtt (Some new)) x.place.rd (suc x.place.level) (512 * place_number x.place + i) ≡ Some child) g rtt (Some new) (one g)
             (λ _ is link. no_link-child entry child can.leaf
             (copies-all 512 entry i (Table child) (ap (λ (v : TableRecord). slice_get v.entries i) (same_Some new x is) ∙ link)))
             (λ _. by_address (λ o. o ≡ Some x → slice_get x.entries i ≡ Some (Table child)
-            → table_granule granules (put one rtt (Some new)) x.place.rd (suc x.place.level) (512 * place_number x.place + i) ≡ Some child) g above (Some u) (tables g)
+            → table_granule config.granules (put one rtt (Some new)) x.place.rd (suc x.place.level) (512 * place_number x.place + i) ≡ Some child) g above (Some u) (tables g)
             (λ _ is link.
             let same : u ≡ x = same_Some u x is in
-            subst (λ (v : TableRecord). table_granule granules (put one rtt (Some new)) v.place.rd (suc v.place.level) (512 * place_number v.place + i) ≡ Some child) same
+            subst (λ (v : TableRecord). table_granule config.granules (put one rtt (Some new)) v.place.rd (suc v.place.level) (512 * place_number v.place + i) ≡ Some child) same
             (above_links t its can_put old.links i child (i == number % 512) refl (ap (λ (v : TableRecord). slice_get v.entries i) same ∙ link)))
-            (λ _ is link. table-put_keeps granules one rtt new rd (suc up) number can_put x.place.rd (suc x.place.level) (512 * place_number x.place + i) child
+            (λ _ is link. table-put_keeps config.granules one rtt new rd (suc up) number can_put x.place.rd (suc x.place.level) (512 * place_number x.place + i) child
             (kept x.place.rd (suc x.place.level) (512 * place_number x.place + i) ∙ old.links g i child x is link)));
         inside = old.inside;
       };
     }
   where
-    leaves : {above : ℕ} (t : TableRecord) → IsAbove granules (tables_of w.cells) rd up number above t → is_table entry ≡ false → AreFound granules (tables_of w.cells)
+    leaves : {above : ℕ} (t : TableRecord) → IsAbove config.granules (tables_of w.cells) rd up number above t → is_table entry ≡ false → AreFound config.granules (tables_of w.cells)
         → (other l n : ℕ) (b : Bool)
         → (if b then entry_leaf (replicate 512 entry) (n % 512)
-        else leaf_in_tables granules (put (tables_of w.cells) above (Some (with_entries t (slice_set t.entries (number % 512) (Table rtt))))) other l n)
-        ≡ (if b then Some entry else (if is_same_entry rd (suc up) number other (l + 1) n then None else leaf_in_tables granules (tables_of w.cells) other l n))
+        else leaf_in_tables config.granules (put (tables_of w.cells) above (Some (with_entries t (slice_set t.entries (number % 512) (Table rtt))))) other l n)
+        ≡ (if b then Some entry else (if is_same_entry rd (suc up) number other (l + 1) n then None else leaf_in_tables config.granules (tables_of w.cells) other l n))
     leaves t its leaf found other l n true = entry_leaf-of (replicate 512 entry) (n % 512) entry (slice_get-copies 512 entry (n % 512) (omega arith)) leaf
     leaves {above} t its leaf found other l n false =
-        let now = leaf_in_tables granules (put (tables_of w.cells) above (Some (with_entries t (slice_set t.entries (number % 512) (Table rtt))))) in
-        choice (λ x. now other l n ≡ x) _ (is_same_entry rd (suc up) number other (l + 1) n) None (leaf_in_tables granules (tables_of w.cells) other l n) refl
+        let now = leaf_in_tables config.granules (put (tables_of w.cells) above (Some (with_entries t (slice_set t.entries (number % 512) (Table rtt))))) in
+        choice (λ x. now other l n ≡ x) _ (is_same_entry rd (suc up) number other (l + 1) n) None (leaf_in_tables config.granules (tables_of w.cells) other l n) refl
         (λ hit. spot_hit rd (suc up) number other (l + 1) n hit (λ here next first.
         let at : l ≡ up = omega (arith, next) in
         (λ i. now (here i) (at i) (first i))
-        ∙ leaf-set_here granules (tables_of w.cells) above t rd up number (Table rtt) found its.is_held its.placed
+        ∙ leaf-set_here config.granules (tables_of w.cells) above t rd up number (Table rtt) found its.is_held its.placed
         ∙ entry_leaf-link (slice_set t.entries (number % 512) (Table rtt)) (number % 512) rtt (slice_get-set_same t.entries (number % 512) (Table rtt) its.below)))
-        (λ miss. leaf-set_elsewhere granules (tables_of w.cells) above t rd up number (Table rtt) found its.is_held its.placed other l n (level_up rd up number other l n miss))
+        (λ miss. leaf-set_elsewhere config.granules (tables_of w.cells) above t rd up number (Table rtt) found its.is_held its.placed other l n (level_up rd up number other l n miss))
 
-    above_links : {above width : ℕ} (t : TableRecord) → IsAbove granules (tables_of w.cells) rd up number above t
-        → CanPutIn granules (put (tables_of w.cells) above (Some (with_entries t (slice_set t.entries (number % 512) (Table rtt))))) rtt (copied_table rd (suc up) number width entry) rd (suc up) number
+    above_links : {above width : ℕ} (t : TableRecord) → IsAbove config.granules (tables_of w.cells) rd up number above t
+        → CanPutIn config.granules (put (tables_of w.cells) above (Some (with_entries t (slice_set t.entries (number % 512) (Table rtt))))) rtt (copied_table rd (suc up) number width entry) rd (suc up) number
         → ((g i child : ℕ) (x : TableRecord) → tables_of w.cells g ≡ Some x → slice_get x.entries i ≡ Some (Table child)
-        → table_granule granules (tables_of w.cells) x.place.rd (suc x.place.level) (512 * place_number x.place + i) ≡ Some child)
+        → table_granule config.granules (tables_of w.cells) x.place.rd (suc x.place.level) (512 * place_number x.place + i) ≡ Some child)
         → (i child : ℕ) (b : Bool) → (i == number % 512) ≡ b → slice_get (slice_set t.entries (number % 512) (Table rtt)) i ≡ Some (Table child)
-        → table_granule granules (put (put (tables_of w.cells) above (Some (with_entries t (slice_set t.entries (number % 512) (Table rtt))))) rtt (Some (copied_table rd (suc up) number width entry)))
+        → table_granule config.granules (put (put (tables_of w.cells) above (Some (with_entries t (slice_set t.entries (number % 512) (Table rtt))))) rtt (Some (copied_table rd (suc up) number width entry)))
         t.place.rd (suc t.place.level) (512 * place_number t.place + i) ≡ Some child
     above_links {above} {width} t its can_put old i child true same link =
         let here : i ≡ number % 512 = eqb-true i (number % 512) same in
@@ -201,43 +202,43 @@ Makes-table_made granules w rd (suc up) number rtt entry shaped can =
         sym (slice_get-set_same t.entries (number % 512) (Table rtt) its.below) ∙ ap (slice_get (slice_set t.entries (number % 512) (Table rtt))) (sym here) ∙ link in
         let entries : Table rtt ≡ Table child = same_Some (Table rtt) (Table child) both in cc) in
         let place : 512 * place_number t.place + i ≡ number = ap (λ k. 512 * place_number t.place + k) here ∙ above_number t rd up number its.placed in
-        (λ k. table_granule granules (put one rtt (Some (copied_table rd (suc up) number width entry))) (its.placed.is_realm k) (suc (its.placed.is_level k)) (place k))
-        ∙ table-put granules one rtt (copied_table rd (suc up) number width entry) rd (suc up) number can_put rd (suc up) number
-        ∙ ap (λ b. if b then Some rtt else table_granule granules one rd (suc up) number) (same_place rd (suc up) number rd (suc up) number refl refl refl)
+        (λ k. table_granule config.granules (put one rtt (Some (copied_table rd (suc up) number width entry))) (its.placed.is_realm k) (suc (its.placed.is_level k)) (place k))
+        ∙ table-put config.granules one rtt (copied_table rd (suc up) number width entry) rd (suc up) number can_put rd (suc up) number
+        ∙ ap (λ b. if b then Some rtt else table_granule config.granules one rd (suc up) number) (same_place rd (suc up) number rd (suc up) number refl refl refl)
         ∙ ap Some child_is
     above_links {above} {width} t its can_put old i child false apart link =
         let u = with_entries t (slice_set t.entries (number % 512) (Table rtt)) in
         let one = put (tables_of w.cells) above (Some u) in
         let was : slice_get t.entries i ≡ Some (Table child) =
         sym (slice_get-set_other t.entries (number % 512) i (Table rtt) (λ same. both_ways (eq-eqb i (number % 512) same) apart)) ∙ link in
-        table-put_keeps granules one rtt (copied_table rd (suc up) number width entry) rd (suc up) number can_put t.place.rd (suc t.place.level) (512 * place_number t.place + i) child
-        ((λ k. table_granule-kept granules (tables_of w.cells) above t u its.is_held refl k t.place.rd (suc t.place.level) (512 * place_number t.place + i))
+        table-put_keeps config.granules one rtt (copied_table rd (suc up) number width entry) rd (suc up) number can_put t.place.rd (suc t.place.level) (512 * place_number t.place + i) child
+        ((λ k. table_granule-kept config.granules (tables_of w.cells) above t u its.is_held refl k t.place.rd (suc t.place.level) (512 * place_number t.place + i))
         ∙ old above i child t its.is_held was)
 
 -- ---- gone
 
-pub Makes-table_destroyed : (granules : ℕ) (w : Whole) (rd level number rtt : ℕ) (entry : Entry) → IsShaped granules w
-    → CanDestroyTable (flat_state granules w.cells) rd level number rtt entry → Makes granules w (TableDestroyed rd level number rtt entry)
+pub Makes-table_destroyed : (config : Config) (w : Whole) (rd level number rtt : ℕ) (entry : Entry) → IsShaped config w
+    → CanDestroyTable (flat_state config w.cells) rd level number rtt entry → Makes config w (TableDestroyed rd level number rtt entry)
 unfolding changed cells_changed side_changed places_changed flat_state
-Makes-table_destroyed granules w rd zero number rtt entry shaped can = absurd (omega (arith, can.below_root))
-Makes-table_destroyed granules w rd (suc up) number rtt entry shaped can =
-    let s : State = flat_state granules w.cells in
+Makes-table_destroyed config w rd zero number rtt entry shaped can = absurd (omega (arith, can.below_root))
+Makes-table_destroyed config w rd (suc up) number rtt entry shaped can =
+    let s : State = flat_state config w.cells in
     let cells = w.cells in
     let tables = tables_of cells in
-    let sound = well_shaped-is_sound granules w.side w.places w.cells shaped in
-    let old = IsTied-shaped granules w.side w.places w.cells shaped in
+    let sound = well_shaped-is_sound config w.side w.places w.cells shaped in
+    let old = IsTied-shaped config w.side w.places w.cells shaped in
     let r : RealmRecord = realm_at s rd in
     let realm : realms_of cells rd ≡ Some r = realm_there s rd sound can.rd_tag in
     let back : suc up - 1 ≡ up = omega arith in
-    let parent = value_there (table_granule granules tables rd up (number / 512))
+    let parent = value_there (table_granule config.granules tables rd up (number / 512))
     (sound.tables.below rd up number rtt r can.there realm (omega (arith, can.below_root))) in
     let above : ℕ = parent.0 in
-    let found_at : table_granule granules tables rd (suc up - 1) (number / 512) ≡ Some above = ap (λ l. table_granule granules tables rd l (number / 512)) back ∙ parent.1 in
-    let is_above = above_is granules (realms_of cells) tables rd up number above old.tables parent.1 in
+    let found_at : table_granule config.granules tables rd (suc up - 1) (number / 512) ≡ Some above = ap (λ l. table_granule config.granules tables rd l (number / 512)) back ∙ parent.1 in
+    let is_above = above_is config.granules (realms_of cells) tables rd up number above old.tables parent.1 in
     let t : TableRecord = is_above.0 in
     let its = is_above.1 in
     let no_link : is_table entry ≡ false = leaf-no_link entry r (suc up - 1) number can.kind in
-    let held = table_granule-holds granules tables rd (suc up) number rtt can.there in
+    let held = table_granule-holds config.granules tables rd (suc up) number rtt can.there in
     let gone : TableRecord = held.table in
     let gone_placed : IsPlaced gone rd (suc up) number = record { is_realm = held.is_realm; is_level = held.is_level; is_number = held.is_number } in
     let above_cell : cells above ≡ Rtt t = cell-table (cells above) t its.is_held in
@@ -248,10 +249,10 @@ Makes-table_destroyed granules w rd (suc up) number rtt entry shaped can =
     omega (arith, levels)) in
     let u : TableRecord = with_entries t (slice_set t.entries (number % 512) entry) in
     let one : ℕ → Option TableRecord = put tables above (Some u) in
-    let one_found : AreFound granules one = AreFound-entries granules tables above t u old.tables.found its.is_held refl in
+    let one_found : AreFound config.granules one = AreFound-entries config.granules tables above t u old.tables.found its.is_held refl in
     let one_held : one rtt ≡ Some gone = put-elsewhere tables above (Some u) rtt apart ∙ held.is_held in
-    let kept : (other l n : ℕ) → table_granule granules one other l n ≡ table_granule granules tables other l n =
-    λ other l n i. table_granule-kept granules tables above t u its.is_held refl i other l n in
+    let kept : (other l n : ℕ) → table_granule config.granules one other l n ≡ table_granule config.granules tables other l n =
+    λ other l n i. table_granule-kept config.granules tables above t u its.is_held refl i other l n in
     let first : views_of (changed_at cells above (cell_with_entries (λ entries. slice_set entries (number % 512) entry))) ≡ record (views_of cells) { tables = one } =
     views_of-entries cells above t (λ entries. slice_set entries (number % 512) entry) above_cell in
     record {
@@ -271,61 +272,61 @@ Makes-table_destroyed granules w rd (suc up) number rtt entry shaped can =
             tables = put one rtt None;
           });
       flat = λ i. record {
-        granules = granules;
+        config = config;
         tag = put (tags_of cells) rtt tag.Delegated;
         realm = realms_of cells;
         rec = recs_of cells;
-        table = λ other l n. (table_granule-taken granules one rtt gone rd (suc up) number one_found one_held gone_placed other l n
+        table = λ other l n. (table_granule-taken config.granules one rtt gone rd (suc up) number one_found one_held gone_placed other l n
             ∙ ap (λ x. if is_same_table rd (suc up) number other l n then None else x) (kept other l n)) i;
-        leaf = λ other l n. (leaf-taken granules one rtt gone rd (suc up) number one_found one_held gone_placed other l n
+        leaf = λ other l n. (leaf-taken config.granules one rtt gone rd (suc up) number one_found one_held gone_placed other l n
             ∙ ap (λ x. if is_same_table rd (suc up) number other l (n / 512) then None else x) (leaves t its no_link old.tables.found other l n)) i;
       };
       tied = record {
         sides = old.sides;
-        tables = ArePlaced-taken granules (realms_of cells) one rtt gone rd (suc up) number
-            (ArePlaced-entries granules (realms_of cells) tables above t u old.tables its.is_held refl
+        tables = ArePlaced-taken config.granules (realms_of cells) one rtt gone rd (suc up) number
+            (ArePlaced-entries config.granules (realms_of cells) tables above t u old.tables its.is_held refl
             (length-set t.entries (number % 512) entry ∙ old.tables.whole above t its.is_held))
             one_held gone_placed;
         links = λ g i child x is link.
             let was = left_of (g == rtt) (one g) x is in
-            by_address (λ o. o ≡ Some x → table_granule granules (put one rtt None) x.place.rd (suc x.place.level) (512 * place_number x.place + i) ≡ Some child) g above (Some u) (tables g)
+            by_address (λ o. o ≡ Some x → table_granule config.granules (put one rtt None) x.place.rd (suc x.place.level) (512 * place_number x.place + i) ≡ Some child) g above (Some u) (tables g)
             (λ _ at.
             let same : u ≡ x = same_Some u x at in
             let before = set_links t.entries (number % 512) entry i child its.below no_link (ap (λ (v : TableRecord). slice_get v.entries i) same ∙ link) in
-            let found : table_granule granules tables t.place.rd (suc t.place.level) (512 * place_number t.place + i) ≡ Some child = old.links above i child t its.is_held before.1 in
-            subst (λ (v : TableRecord). table_granule granules (put one rtt None) v.place.rd (suc v.place.level) (512 * place_number v.place + i) ≡ Some child) same
-            (table-taken_keeps granules one rtt gone rd (suc up) number one_found one_held gone_placed t.place.rd (suc t.place.level) (512 * place_number t.place + i) child
+            let found : table_granule config.granules tables t.place.rd (suc t.place.level) (512 * place_number t.place + i) ≡ Some child = old.links above i child t its.is_held before.1 in
+            subst (λ (v : TableRecord). table_granule config.granules (put one rtt None) v.place.rd (suc v.place.level) (512 * place_number v.place + i) ≡ Some child) same
+            (table-taken_keeps config.granules one rtt gone rd (suc up) number one_found one_held gone_placed t.place.rd (suc t.place.level) (512 * place_number t.place + i) child
             (kept t.place.rd (suc t.place.level) (512 * place_number t.place + i) ∙ found)
             (ne_eqb child rtt (λ is_gone.
             let place = sound.tables.apart t.place.rd (suc t.place.level) (512 * place_number t.place + i) rd (suc up) number rtt (found ∙ ap Some is_gone) can.there in
             let here : 512 * place_number t.place + number % 512 ≡ number = above_number t rd up number its.placed in
             before.0 (omega (arith, place.2, here))))))
             (λ elsewhere at.
-            let found : table_granule granules tables x.place.rd (suc x.place.level) (512 * place_number x.place + i) ≡ Some child = old.links g i child x at link in
+            let found : table_granule config.granules tables x.place.rd (suc x.place.level) (512 * place_number x.place + i) ≡ Some child = old.links g i child x at link in
             let below : i < 512 = subst (λ n. i < n) (old.tables.whole g x at) (slice_get_within x.entries i (Table child) link) in
-            table-taken_keeps granules one rtt gone rd (suc up) number one_found one_held gone_placed x.place.rd (suc x.place.level) (512 * place_number x.place + i) child
+            table-taken_keeps config.granules one rtt gone rd (suc up) number one_found one_held gone_placed x.place.rd (suc x.place.level) (512 * place_number x.place + i) child
             (kept x.place.rd (suc x.place.level) (512 * place_number x.place + i) ∙ found)
             (ne_eqb child rtt (λ is_gone.
             let place = sound.tables.apart x.place.rd (suc x.place.level) (512 * place_number x.place + i) rd (suc up) number rtt (found ∙ ap Some is_gone) can.there in
             let level : x.place.level ≡ up = omega (arith, place.1) in
             let parent_number : place_number x.place ≡ number / 512 = omega (arith, place.2, below) in
             both_ways (eq-eqb g above (same_Some g above (sym (old.tables.found g x at)
-            ∙ (λ k. table_granule granules tables (place.0 k) (level k) (parent_number k)) ∙ its.is_found))) elsewhere)))
+            ∙ (λ k. table_granule config.granules tables (place.0 k) (level k) (parent_number k)) ∙ its.is_found))) elsewhere)))
             was.1;
         inside = old.inside;
       };
     }
   where
-    leaves : {above : ℕ} (t : TableRecord) → IsAbove granules (tables_of w.cells) rd up number above t → is_table entry ≡ false → AreFound granules (tables_of w.cells)
+    leaves : {above : ℕ} (t : TableRecord) → IsAbove config.granules (tables_of w.cells) rd up number above t → is_table entry ≡ false → AreFound config.granules (tables_of w.cells)
         → (other l n : ℕ)
-        → leaf_in_tables granules (put (tables_of w.cells) above (Some (with_entries t (slice_set t.entries (number % 512) entry)))) other l n
-        ≡ (if is_same_entry rd (suc up) number other (l + 1) n then Some entry else leaf_in_tables granules (tables_of w.cells) other l n)
+        → leaf_in_tables config.granules (put (tables_of w.cells) above (Some (with_entries t (slice_set t.entries (number % 512) entry)))) other l n
+        ≡ (if is_same_entry rd (suc up) number other (l + 1) n then Some entry else leaf_in_tables config.granules (tables_of w.cells) other l n)
     leaves {above} t its leaf found other l n =
-        let now = leaf_in_tables granules (put (tables_of w.cells) above (Some (with_entries t (slice_set t.entries (number % 512) entry)))) in
-        choice (λ x. now other l n ≡ x) _ (is_same_entry rd (suc up) number other (l + 1) n) (Some entry) (leaf_in_tables granules (tables_of w.cells) other l n) refl
+        let now = leaf_in_tables config.granules (put (tables_of w.cells) above (Some (with_entries t (slice_set t.entries (number % 512) entry)))) in
+        choice (λ x. now other l n ≡ x) _ (is_same_entry rd (suc up) number other (l + 1) n) (Some entry) (leaf_in_tables config.granules (tables_of w.cells) other l n) refl
         (λ hit. spot_hit rd (suc up) number other (l + 1) n hit (λ here next first.
         let at : l ≡ up = omega (arith, next) in
         (λ i. now (here i) (at i) (first i))
-        ∙ leaf-set_here granules (tables_of w.cells) above t rd up number entry found its.is_held its.placed
+        ∙ leaf-set_here config.granules (tables_of w.cells) above t rd up number entry found its.is_held its.placed
         ∙ entry_leaf-of (slice_set t.entries (number % 512) entry) (number % 512) entry (slice_get-set_same t.entries (number % 512) entry its.below) leaf))
-        (λ miss. leaf-set_elsewhere granules (tables_of w.cells) above t rd up number entry found its.is_held its.placed other l n (level_up rd up number other l n miss))
+        (λ miss. leaf-set_elsewhere config.granules (tables_of w.cells) above t rd up number entry found its.is_held its.placed other l n (level_up rd up number other l n miss))

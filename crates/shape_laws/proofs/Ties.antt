@@ -2,6 +2,7 @@
 use Rattle.std.proofs.Common.{◌≡◌, ℕ, suc, ◌+◌, ◌*◌, ◌/◌, ◌%◌, ◌<◌, ◌≤◌, Bool, true, false, ◌↔◌, ◌⊎◌, ◌||◌, if◌then◌else◌, IsTrue, List, length, Option, Some, None, is_some, option_and_then, slice_get, refl, sym, ap, ◌∙◌, subst, inl, inr, arith, eqb-true}
 use Rattle.std.proofs.lemmas.Bool.{false≢true, or_left, or_right}
 use Rattle.std.proofs.lemmas.Option.{none-some, same_Some, option_and_then_some, slice_get_cases}
+use Rattle.rmm_spec.specs.HistoryText.{Config}
 use Rattle.rmm_spec.specs.declared.entry.Entry.{Entry}
 use Rattle.rmm_spec.specs.declared.entry.Entry.TheVariants.{Unassigned, Assigned, Table, UnassignedNs, AssignedNs}
 use Rattle.rmm_spec.specs.declared.tag.Tag.TheVariants as tag
@@ -103,20 +104,20 @@ table_address granules cells granule t outside held = by (is_granule granules gr
     by true is = refl
     by false none = absurd (none-some t (sym (ap table_in (outside.undelegated granule none)) ∙ held))
 
-AreFound-shaped : (granules : ℕ) (side : Side) (places : ℕ → CpuPlace) (cells : ℕ → Cell) → IsWellShaped granules side places cells
-    → AreFound granules (tables_of cells)
-AreFound-shaped granules side places cells w granule t held =
+AreFound-shaped : (config : Config) (side : Side) (places : ℕ → CpuPlace) (cells : ℕ → Cell) → IsWellShaped config side places cells
+    → AreFound config.granules (tables_of cells)
+AreFound-shaped config side places cells w granule t held =
     let here : HoldsTable (tables_of cells) granule t.place.rd t.place.level (place_number t.place) =
     record { table = t; is_held = held; is_realm = refl; is_level = refl; is_number = refl } in
-    let found = table_granule-some granules (tables_of cells) t.place.rd t.place.level (place_number t.place) granule
-    (table_address granules cells granule t w.outside held) here in
+    let found = table_granule-some config.granules (tables_of cells) t.place.rd t.place.level (place_number t.place) granule
+    (table_address config.granules cells granule t w.outside held) here in
     found.1 ∙ ap Some (sym (w.tables.apart granule found.0 t held
-    (table_granule-holds granules (tables_of cells) t.place.rd t.place.level (place_number t.place) found.0 found.1)))
+    (table_granule-holds config.granules (tables_of cells) t.place.rd t.place.level (place_number t.place) found.0 found.1)))
 
-pub IsTied-shaped : (granules : ℕ) (side : Side) (places : ℕ → CpuPlace) (cells : ℕ → Cell) → IsWellShaped granules side places cells
-    → IsTied granules side places (views_of cells)
-IsTied-shaped granules side places cells w =
-    let found = AreFound-shaped granules side places cells w in
+pub IsTied-shaped : (config : Config) (side : Side) (places : ℕ → CpuPlace) (cells : ℕ → Cell) → IsWellShaped config side places cells
+    → IsTied config.granules side places (views_of cells)
+IsTied-shaped config side places cells w =
+    let found = AreFound-shaped config side places cells w in
     let owner : (g : ℕ) (t : TableRecord) → tables_of cells g ≡ Some t
     → (realm : RealmRecord) × (realms_of cells t.place.rd ≡ Some realm) × IsPlaceOf realm t.place = w.tables.placed in
     record {
@@ -128,7 +129,7 @@ IsTied-shaped granules side places cells w =
         bases = λ g t held. (owner g t held).2.base;
         whole = w.tables.whole;
       };
-      links = λ g i child t held link. holds-found granules (tables_of cells) child _ _ _ found (w.tables.links g i child t held link);
+      links = λ g i child t held link. holds-found config.granules (tables_of cells) child _ _ _ found (w.tables.links g i child t held link);
       inside = w.recs.inside;
     }
 
@@ -142,11 +143,11 @@ at_place {rd = rd} {level = level} {number = number} P held is =
     (subst (λ b. P held.table.place.rd b number) held.is_level
     (subst (λ c. P held.table.place.rd held.table.place.level c) held.is_number is))
 
-realms-sound : (granules : ℕ) (side : Side) (places : ℕ → CpuPlace) (cells : ℕ → Cell) → IsWellShaped granules side places cells
-    → AreRealms (flat_state granules cells)
+realms-sound : (config : Config) (side : Side) (places : ℕ → CpuPlace) (cells : ℕ → Cell) → IsWellShaped config side places cells
+    → AreRealms (flat_state config cells)
 unfolding flat_state has_tag
-realms-sound granules side places cells w = record {
-  tagged = λ g. some_realm-tagged (cells g) (is_granule granules g) (w.outside.undelegated g);
+realms-sound config side places cells w = record {
+  tagged = λ g. some_realm-tagged (cells g) (is_granule config.granules g) (w.outside.undelegated g);
   spaces = w.realms.spaces;
   measured = w.realms.measured;
   apart = λ g h r q at too same. same_Some g h (sym (w.realms.listed g r at) ∙ ap side.vmids same ∙ w.realms.listed h q too);
@@ -165,14 +166,14 @@ runs_on-parts recs cpu g (Some c) at runs = (c.owner, record { it = c; is_rec = 
 same_inside : (a b c d : ℕ) → Inside a b ≡ Inside c d → a ≡ c
 same_inside a b c d same = cc
 
-recs-sound : (granules : ℕ) (side : Side) (places : ℕ → CpuPlace) (cells : ℕ → Cell) → IsWellShaped granules side places cells
-    → AreRecs (flat_state granules cells)
+recs-sound : (config : Config) (side : Side) (places : ℕ → CpuPlace) (cells : ℕ → Cell) → IsWellShaped config side places cells
+    → AreRecs (flat_state config cells)
 unfolding flat_state has_tag
-recs-sound granules side places cells w = record {
-  tagged = λ g. some_rec-tagged (cells g) (is_granule granules g) (w.outside.undelegated g);
-  owned = λ g c at. has_tag-cell granules cells c.owner tag.Rd w.outside (tag-some_realm (cells c.owner) (w.recs.owned g c at)) refl;
-  aux0 = λ g c at. has_tag-cell granules cells c.aux0 tag.RecAux w.outside (tag-aux (cells c.aux0) (w.recs.aux0 g c at)) refl;
-  aux1 = λ g c at. has_tag-cell granules cells c.aux1 tag.RecAux w.outside (tag-aux (cells c.aux1) (w.recs.aux1 g c at)) refl;
+recs-sound config side places cells w = record {
+  tagged = λ g. some_rec-tagged (cells g) (is_granule config.granules g) (w.outside.undelegated g);
+  owned = λ g c at. has_tag-cell config cells c.owner tag.Rd w.outside (tag-some_realm (cells c.owner) (w.recs.owned g c at)) refl;
+  aux0 = λ g c at. has_tag-cell config cells c.aux0 tag.RecAux w.outside (tag-aux (cells c.aux0) (w.recs.aux0 g c at)) refl;
+  aux1 = λ g c at. has_tag-cell config cells c.aux1 tag.RecAux w.outside (tag-aux (cells c.aux1) (w.recs.aux1 g c at)) refl;
   two = w.recs.two;
   apart = w.recs.apart;
   alone = λ g h cpu runs too.
@@ -185,43 +186,43 @@ recs-sound granules side places cells w = record {
 }
 
 -- the table above links to this one
-linked : (granules : ℕ) (side : Side) (places : ℕ → CpuPlace) (cells : ℕ → Cell) → IsWellShaped granules side places cells
+linked : (config : Config) (side : Side) (places : ℕ → CpuPlace) (cells : ℕ → Cell) → IsWellShaped config side places cells
     → (granule rd level number : ℕ) (r : RealmRecord) → HoldsTable (tables_of cells) granule rd (suc level) number → realms_of cells rd ≡ Some r
     → r.start_level ≤ level → IsLinked (tables_of cells) granule rd level number
-linked granules side places cells w granule rd level number r held realm under =
+linked config side places cells w granule rd level number r held realm under =
     subst (λ a. IsLinked (tables_of cells) granule a level number) held.is_realm
     (subst (λ c. IsLinked (tables_of cells) granule held.table.place.rd level c) held.is_number
     (w.tables.parents granule level held.table r held.is_held (ap (realms_of cells) held.is_realm ∙ realm) held.is_level under))
 
 -- a table's realm
-table_owner : (granules : ℕ) (side : Side) (places : ℕ → CpuPlace) (cells : ℕ → Cell) → IsWellShaped granules side places cells
+table_owner : (config : Config) (side : Side) (places : ℕ → CpuPlace) (cells : ℕ → Cell) → IsWellShaped config side places cells
     → (granule rd level number : ℕ) → HoldsTable (tables_of cells) granule rd level number
     → (r : RealmRecord) × (realms_of cells rd ≡ Some r) × IsTableOf r level number
-table_owner granules side places cells w granule rd level number held =
+table_owner config side places cells w granule rd level number held =
     let placed = w.tables.placed granule held.table held.is_held in
     at_place (λ a b c. (r : RealmRecord) × (realms_of cells a ≡ Some r) × IsTableOf r b c) held (placed.0, placed.1, placed.2.within)
 
 pub same_table : (tables : ℕ → Option TableRecord) (granule : ℕ) (t u : TableRecord) → tables granule ≡ Some t → tables granule ≡ Some u → t ≡ u
 same_table tables granule t u at too = same_Some t u (sym at ∙ too)
 
-tables-sound : (granules : ℕ) (side : Side) (places : ℕ → CpuPlace) (cells : ℕ → Cell) → IsWellShaped granules side places cells
-    → AreTables (flat_state granules cells)
+tables-sound : (config : Config) (side : Side) (places : ℕ → CpuPlace) (cells : ℕ → Cell) → IsWellShaped config side places cells
+    → AreTables (flat_state config cells)
 unfolding flat_state
-tables-sound granules side places cells w =
+tables-sound config side places cells w =
     let tables = tables_of cells in
-    let found = AreFound-shaped granules side places cells w in
+    let found = AreFound-shaped config side places cells w in
     record {
-      roots = λ rd r at. holds-found granules tables r.root rd r.start_level 0 found (w.tables.roots rd r at);
+      roots = λ rd r at. holds-found config.granules tables r.root rd r.start_level 0 found (w.tables.roots rd r at);
       tagged = λ rd level number granule at.
-          let held = table_granule-holds granules tables rd level number granule at in
-          has_tag-cell granules cells granule tag.Rtt w.outside (ap tag_of (cell-table (cells granule) held.table held.is_held)) refl;
-      owned = λ rd level number granule at. table_owner granules side places cells w granule rd level number (table_granule-holds granules tables rd level number granule at);
+          let held = table_granule-holds config.granules tables rd level number granule at in
+          has_tag-cell config cells granule tag.Rtt w.outside (ap tag_of (cell-table (cells granule) held.table held.is_held)) refl;
+      owned = λ rd level number granule at. table_owner config side places cells w granule rd level number (table_granule-holds config.granules tables rd level number granule at);
       below = λ rd level number granule r at realm under.
-          let link = linked granules side places cells w granule rd level number r (table_granule-holds granules tables rd (suc level) number granule at) realm under in
-          ap is_some (holds-found granules tables link.parent rd level (number / 512) found link.above);
+          let link = linked config side places cells w granule rd level number r (table_granule-holds config.granules tables rd (suc level) number granule at) realm under in
+          ap is_some (holds-found config.granules tables link.parent rd level (number / 512) found link.above);
       apart = λ rd level number other l n granule at too.
-          let one = table_granule-holds granules tables rd level number granule at in
-          let two = table_granule-holds granules tables other l n granule too in
+          let one = table_granule-holds config.granules tables rd level number granule at in
+          let two = table_granule-holds config.granules tables other l n granule too in
           let same : one.table ≡ two.table = same_table tables granule one.table two.table one.is_held two.is_held in (
             sym one.is_realm ∙ ap (λ (t : TableRecord). t.place.rd) same ∙ two.is_realm,
             sym one.is_level ∙ ap (λ (t : TableRecord). t.place.level) same ∙ two.is_level,
@@ -255,23 +256,23 @@ entry_there entries i whole below = elim (slice_get_cases entries i).1 [
 pub number-again : (number : ℕ) → 512 * (number / 512) + number % 512 ≡ number
 number-again number = omega arith
 
-leaves-sound : (granules : ℕ) (side : Side) (places : ℕ → CpuPlace) (cells : ℕ → Cell) → IsWellShaped granules side places cells
-    → AreLeaves (flat_state granules cells)
+leaves-sound : (config : Config) (side : Side) (places : ℕ → CpuPlace) (cells : ℕ → Cell) → IsWellShaped config side places cells
+    → AreLeaves (flat_state config cells)
 unfolding flat_state
-leaves-sound granules side places cells w =
+leaves-sound config side places cells w =
     let tables = tables_of cells in
-    let found = AreFound-shaped granules side places cells w in
-    let parts : (rd level number : ℕ) (e : Entry) → leaf_in_tables granules tables rd level number ≡ Some e → IsLeafIn granules tables rd level number e =
-    λ rd level number e at. leaf-parts granules tables rd level number e at in
-    let holds : (rd level number granule : ℕ) → table_granule granules tables rd level number ≡ Some granule → HoldsTable tables granule rd level number =
-    λ rd level number granule at. table_granule-holds granules tables rd level number granule at in
+    let found = AreFound-shaped config side places cells w in
+    let parts : (rd level number : ℕ) (e : Entry) → leaf_in_tables config.granules tables rd level number ≡ Some e → IsLeafIn config.granules tables rd level number e =
+    λ rd level number e at. leaf-parts config.granules tables rd level number e at in
+    let holds : (rd level number granule : ℕ) → table_granule config.granules tables rd level number ≡ Some granule → HoldsTable tables granule rd level number =
+    λ rd level number granule at. table_granule-holds config.granules tables rd level number granule at in
     record {
       placed = λ rd level number e at. ap is_some (parts rd level number e at).is_found;
       unlinked = λ rd level number e at.
           let leaf = parts rd level number e at in
-          unlinked (table_granule granules tables rd (suc level) number) refl leaf;
+          unlinked (table_granule config.granules tables rd (suc level) number) refl leaf;
       complete = λ rd level number there.
-          let at = value_there (table_granule granules tables rd level (number / 512)) there in
+          let at = value_there (table_granule config.granules tables rd level (number / 512)) there in
           complete rd level number at.0 at.1 (holds rd level (number / 512) at.0 at.1);
       kinds = λ rd level number e r at realm.
           let leaf = parts rd level number e at in
@@ -285,14 +286,14 @@ leaves-sound granules side places cells w =
           (at_place (λ a b c. FitsPlace e r b (512 * c + number % 512)) held fits));
       pages = λ rd level number granule ripas at.
           let leaf = parts rd level number (Assigned ripas granule) at in
-          has_tag-cell granules cells granule tag.Data w.outside
+          has_tag-cell config cells granule tag.Data w.outside
           (tag-data (cells granule) (w.data_granules.named leaf.granule (number % 512) granule leaf.table ripas leaf.is_held leaf.is_entry)) refl;
       apart = λ rd level number other l n granule ripas ripas_too at too.
           let one = parts rd level number (Assigned ripas granule) at in
           let two = parts other l n (Assigned ripas_too granule) too in
           let same = w.data_granules.apart one.granule two.granule (number % 512) (n % 512) granule one.table two.table ripas ripas_too
           one.is_held two.is_held one.is_entry two.is_entry in
-          let place = (tables-sound granules side places cells w).apart rd level (number / 512) other l (n / 512) one.granule one.is_found
+          let place = (tables-sound config side places cells w).apart rd level (number / 512) other l (n / 512) one.granule one.is_found
           (two.is_found ∙ ap Some (sym same.0)) in
           (place.0, place.1, same_number number n place.2 same.1);
     }
@@ -300,44 +301,44 @@ leaves-sound granules side places cells w =
     same_number : (a b : ℕ) → a / 512 ≡ b / 512 → a % 512 ≡ b % 512 → a ≡ b
     same_number a b up low = omega arith
 
-    unlinked : {rd level number : ℕ} {e : Entry} (below : Option ℕ) → table_granule granules (tables_of cells) rd (suc level) number ≡ below
-        → IsLeafIn granules (tables_of cells) rd level number e → below ≡ None
+    unlinked : {rd level number : ℕ} {e : Entry} (below : Option ℕ) → table_granule config.granules (tables_of cells) rd (suc level) number ≡ below
+        → IsLeafIn config.granules (tables_of cells) rd level number e → below ≡ None
     unlinked None at leaf = refl
     unlinked {rd = rd} {level = level} {number = number} {e = e} (Some child) at leaf =
         let tables = tables_of cells in
-        let here = table_granule-holds granules tables rd level (number / 512) leaf.granule leaf.is_found in
-        let owner = table_owner granules side places cells w leaf.granule rd level (number / 512) here in
-        let link = linked granules side places cells w child rd level number owner.0
-        (table_granule-holds granules tables rd (suc level) number child at) owner.1 owner.2.below_root in
+        let here = table_granule-holds config.granules tables rd level (number / 512) leaf.granule leaf.is_found in
+        let owner = table_owner config side places cells w leaf.granule rd level (number / 512) here in
+        let link = linked config side places cells w child rd level number owner.0
+        (table_granule-holds config.granules tables rd (suc level) number child at) owner.1 owner.2.below_root in
         let parent : link.parent ≡ leaf.granule =
-        same_Some link.parent leaf.granule (sym (holds-found granules tables link.parent rd level (number / 512) (AreFound-shaped granules side places cells w) link.above) ∙ leaf.is_found) in
+        same_Some link.parent leaf.granule (sym (holds-found config.granules tables link.parent rd level (number / 512) (AreFound-shaped config side places cells w) link.above) ∙ leaf.is_found) in
         let same : link.above.table ≡ leaf.table = same_table tables leaf.granule link.above.table leaf.table (ap tables (sym parent) ∙ link.above.is_held) leaf.is_held in
         let entry : Some (Table child) ≡ Some e = sym link.link ∙ ap (λ (t : TableRecord). slice_get t.entries (number % 512)) same ∙ leaf.is_entry in
         both_ways (sym (ap is_table (same_Some (Table child) e entry))) leaf.is_leaf
 
-    complete : (rd level number granule : ℕ) → table_granule granules (tables_of cells) rd level (number / 512) ≡ Some granule
+    complete : (rd level number granule : ℕ) → table_granule config.granules (tables_of cells) rd level (number / 512) ≡ Some granule
         → HoldsTable (tables_of cells) granule rd level (number / 512)
-        → IsTrue (is_some (leaf_in_tables granules (tables_of cells) rd level number) || is_some (table_granule granules (tables_of cells) rd (suc level) number))
+        → IsTrue (is_some (leaf_in_tables config.granules (tables_of cells) rd level number) || is_some (table_granule config.granules (tables_of cells) rd (suc level) number))
     complete rd level number granule at held =
         let tables = tables_of cells in
         let below : number % 512 < 512 = omega arith in
         let entry = entry_there held.table.entries (number % 512) (w.tables.whole granule held.table held.is_held) below in
         elim (link_or_leaf entry.0) [
-          | inl link ↦ or_right _ _ (ap is_some (holds-found granules tables link.0 rd (suc level) number (AreFound-shaped granules side places cells w)
+          | inl link ↦ or_right _ _ (ap is_some (holds-found config.granules tables link.0 rd (suc level) number (AreFound-shaped config side places cells w)
               (subst (λ n. HoldsTable tables link.0 rd (suc level) n) (number-again number)
               (at_place (λ a b c. HoldsTable tables link.0 a (suc b) (512 * c + number % 512)) held
               (w.tables.links granule (number % 512) link.0 held.table held.is_held (entry.1 ∙ ap Some link.1))))))
-          | inr leaf ↦ or_left _ _ (ap is_some (leaf-found granules tables rd level number granule held.table at held.is_held
+          | inr leaf ↦ or_left _ _ (ap is_some (leaf-found config.granules tables rd level number granule held.table at held.is_held
               ∙ entry_leaf-some held.table.entries (number % 512) entry.0 entry.1 leaf))
         ]
 
-pub well_shaped-is_sound : (granules : ℕ) (side : Side) (places : ℕ → CpuPlace) (cells : ℕ → Cell) → IsWellShaped granules side places cells
-    → IsSound (flat_state granules cells)
+pub well_shaped-is_sound : (config : Config) (side : Side) (places : ℕ → CpuPlace) (cells : ℕ → Cell) → IsWellShaped config side places cells
+    → IsSound (flat_state config cells)
 unfolding flat_state
-well_shaped-is_sound granules side places cells w = record {
+well_shaped-is_sound config side places cells w = record {
   outside = λ g none. ap tag_of (w.outside.undelegated g none);
-  realms = realms-sound granules side places cells w;
-  recs = recs-sound granules side places cells w;
-  tables = tables-sound granules side places cells w;
-  leaves = leaves-sound granules side places cells w;
+  realms = realms-sound config side places cells w;
+  recs = recs-sound config side places cells w;
+  tables = tables-sound config side places cells w;
+  leaves = leaves-sound config side places cells w;
 }

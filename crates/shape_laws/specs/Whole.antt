@@ -2,6 +2,7 @@
 -- A cell is changed by what lies in it; a cell that isn't what the change means stays as it is.
 -- The records' changes are those of the flat state; that a monitor keeps them so is this project's own.
 use Rattle.std.specs.Prelude.{ℕ, ◌+◌, ◌-◌, ◌*◌, ◌/◌, ◌%◌, List, ◌++◌, replicate, Option, Some, None, slice_set}
+use Rattle.rmm_spec.specs.HistoryText.{Config}
 use Rattle.rmm_spec.specs.declared.change.Change.{Change}
 use Rattle.rmm_spec.specs.declared.change.Change.TheVariants.{Unchanged, Retagged, RealmMade, RealmDestroyed, RecMade, RecDestroyed, RecordsChanged, TableMade, TableDestroyed, EntriesChanged}
 use Rattle.rmm_spec.specs.declared.change.EntryChange.{EntryChange}
@@ -31,8 +32,8 @@ pub record Whole : Type 0 where
   pub side : Side
   pub places : ℕ → CpuPlace
 
-abbrev pub IsShaped : ℕ → Whole → Type 0
-IsShaped granules w = IsWellShaped granules w.side w.places w.cells
+abbrev pub IsShaped : Config → Whole → Type 0
+IsShaped config w = IsWellShaped config w.side w.places w.cells
 
 -- ---- one cell
 
@@ -119,25 +120,25 @@ abbrev pub cells_with_rec_change : (ℕ → Cell) → Option RecChange → ℕ �
 cells_with_rec_change cells None = cells
 cells_with_rec_change cells (Some change) = changed_at cells change.rec (cell_with_rec change.update)
 
-unfoldable pub cells_changed : ℕ → (ℕ → Cell) → Change → ℕ → Cell
-cells_changed granules cells Unchanged = cells
-cells_changed granules cells (Retagged change) = cells_with_tag_change cells (Some change)
-cells_changed granules cells (RealmMade rd root width level vmid algo) =
+unfoldable pub cells_changed : Config → (ℕ → Cell) → Change → ℕ → Cell
+cells_changed config cells Unchanged = cells
+cells_changed config cells (Retagged change) = cells_with_tag_change cells (Some change)
+cells_changed config cells (RealmMade rd root width level vmid algo) =
     put (put cells rd (Rd (new_realm root width level vmid algo))) root (Rtt (root_table rd width level))
-cells_changed granules cells (RealmDestroyed rd root) = put (put cells rd Delegated) root Delegated
-cells_changed granules cells (RecMade rd rec mpidr flags aux0 aux1) =
+cells_changed config cells (RealmDestroyed rd root) = put (put cells rd Delegated) root Delegated
+cells_changed config cells (RecMade rd rec mpidr flags aux0 aux1) =
     changed_at (put (put (put cells rec (Rec (new_rec rd mpidr flags aux0 aux1))) aux0 RecAux) aux1 RecAux) rd
     (cell_with_realm (RecCounted mpidr flags))
-cells_changed granules cells (RecDestroyed rec aux0 aux1) = put (put (put cells rec Delegated) aux0 Delegated) aux1 Delegated
-cells_changed granules cells (RecordsChanged realm rec) = cells_with_rec_change (cells_with_realm_change cells realm) rec
-cells_changed granules cells (TableMade rd level number rtt entry) =
-    cells_with_table cells rd level number rtt entry (table_granule granules (tables_of cells) rd (level - 1) (number / 512))
-cells_changed granules cells (TableDestroyed rd level number rtt entry) =
+cells_changed config cells (RecDestroyed rec aux0 aux1) = put (put (put cells rec Delegated) aux0 Delegated) aux1 Delegated
+cells_changed config cells (RecordsChanged realm rec) = cells_with_rec_change (cells_with_realm_change cells realm) rec
+cells_changed config cells (TableMade rd level number rtt entry) =
+    cells_with_table cells rd level number rtt entry (table_granule config.granules (tables_of cells) rd (level - 1) (number / 512))
+cells_changed config cells (TableDestroyed rd level number rtt entry) =
     put (cells_with_entries cells (λ entries. slice_set entries (number % 512) entry)
-    (table_granule granules (tables_of cells) rd (level - 1) (number / 512))) rtt Delegated
-cells_changed granules cells (EntriesChanged rd level entries page realm rec) =
+    (table_granule config.granules (tables_of cells) rd (level - 1) (number / 512))) rtt Delegated
+cells_changed config cells (EntriesChanged rd level entries page realm rec) =
     cells_with_entries (cells_with_rec_change (cells_with_realm_change (cells_with_tag_change cells page) realm) rec)
-    (entries_changed entries) (table_granule granules (tables_of cells) rd level (table_changed entries))
+    (entries_changed entries) (table_granule config.granules (tables_of cells) rd level (table_changed entries))
 
 -- ---- what is kept beside the cells
 
@@ -186,9 +187,9 @@ places_changed cells places change = places
 
 -- ---- wholes
 
-abbrev pub whole_changed : ℕ → Whole → Change → Whole
-whole_changed granules w change = record {
-  cells = cells_changed granules w.cells change;
+abbrev pub whole_changed : Config → Whole → Change → Whole
+whole_changed config w change = record {
+  cells = cells_changed config w.cells change;
   side = side_changed w.cells w.side change;
   places = places_changed w.cells w.places change;
 }

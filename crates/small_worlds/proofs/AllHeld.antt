@@ -1,6 +1,7 @@
 -- What the machine accepts of a whole is a local step for a CPU that holds all granules.
 use Rattle.std.proofs.Common.{◌≡◌, ℕ, zero, suc, ◌*◌, ◌/◌, ◌<◌, Bool, true, false, ◌==◌, List, [], ◌∷◌, ◌++◌, Ok, ◌⊎◌, inl, inr, refl, sym, ap, ◌∙◌, subst, arith, eqb-true}
 use Rattle.std.specs.Prelude.{Contains}
+use Rattle.rmm_spec.specs.HistoryText.{Config}
 use Rattle.rmm_spec.specs.declared.change.Change.{Change}
 use Rattle.rmm_spec.specs.declared.command.Command.{Command}
 use Rattle.rmm_spec.specs.Call.{call_of}
@@ -72,30 +73,30 @@ put_all-every n cells new outside =
     (λ a is. put_all-listed (granules_below n) cells new a (inl (granule_listed n a is)))
     (λ a not. put_all-listed (granules_below n) cells new a (inr (outside a not)))
 
-pub accepted-is_local : (n cpu : ℕ) (command : Command) (change : Change) (w : Whole) → IsShaped n w
-    → outcome (flat_state n w.cells) cpu (call_of command) ≡ Ok (done [] change)
+pub accepted-is_local : (config : Config) (cpu : ℕ) (command : Command) (change : Change) (w : Whole) → IsShaped config w
+    → outcome (flat_state config w.cells) cpu (call_of command) ≡ Ok (done [] change)
     → ((places : ℕ → CpuPlace) → places_changed w.cells places change ≡ places)
-    → LocalStep n cpu command (ok []) (hold_all n w) (hold_all n (whole_changed n w change))
-accepted-is_local n cpu command change w shaped accepted stays = record {
-  same = granules_held-cells_at (cells_changed n w.cells change) (granules_below n) ∙ sym (granules_held-cells_at w.cells (granules_below n));
+    → LocalStep config cpu command (ok []) (hold_all config w) (hold_all config (whole_changed config w change))
+accepted-is_local config cpu command change w shaped accepted stays = record {
+  same = granules_held-cells_at (cells_changed config w.cells change) (granules_below config.granules) ∙ sym (granules_held-cells_at w.cells (granules_below config.granules));
   right = λ others places others_shaped agrees place.
-      let here : w.cells ≡ others = same_cells n w.cells others
-      (λ a is. sym (agrees-at others (cells_at w.cells (granules_below n)) (held_at a (w.cells a)) agrees (cell_held w.cells (granules_below n) a (granule_listed n a is))))
+      let here : w.cells ≡ others = same_cells config.granules w.cells others
+      (λ a is. sym (agrees-at others (cells_at w.cells (granules_below config.granules)) (held_at a (w.cells a)) agrees (cell_held w.cells (granules_below config.granules) a (granule_listed config.granules a is))))
       (λ a not. shaped.outside.undelegated a not ∙ sym (others_shaped.outside.undelegated a not)) in
-      subst (λ o. Step (flat_state n o) cpu command (ok []) (flat_state n (put_all o (cells_at (cells_changed n w.cells change) (granules_below n))))
-      × IsWellShaped n (side_changed w.cells w.side change) (put places cpu Outside) (put_all o (cells_at (cells_changed n w.cells change) (granules_below n)))) here
-      (at_home places place (subst (IsWellShaped n w.side places) (sym here) others_shaped));
+      subst (λ o. Step (flat_state config o) cpu command (ok []) (flat_state config (put_all o (cells_at (cells_changed config w.cells change) (granules_below config.granules))))
+      × IsWellShaped config (side_changed w.cells w.side change) (put places cpu Outside) (put_all o (cells_at (cells_changed config w.cells change) (granules_below config.granules)))) here
+      (at_home places place (subst (IsWellShaped config w.side places) (sym here) others_shaped));
 }
   where
-    at_home : (places : ℕ → CpuPlace) → places cpu ≡ Outside → IsWellShaped n w.side places w.cells
-        → Step (flat_state n w.cells) cpu command (ok []) (flat_state n (put_all w.cells (cells_at (cells_changed n w.cells change) (granules_below n))))
-        × IsWellShaped n (side_changed w.cells w.side change) (put places cpu Outside) (put_all w.cells (cells_at (cells_changed n w.cells change) (granules_below n)))
+    at_home : (places : ℕ → CpuPlace) → places cpu ≡ Outside → IsWellShaped config w.side places w.cells
+        → Step (flat_state config w.cells) cpu command (ok []) (flat_state config (put_all w.cells (cells_at (cells_changed config w.cells change) (granules_below config.granules))))
+        × IsWellShaped config (side_changed w.cells w.side change) (put places cpu Outside) (put_all w.cells (cells_at (cells_changed config w.cells change) (granules_below config.granules)))
     at_home places place here =
-        let fresh = cells_changed n w.cells change in
-        let goes = done-keeps_shape n (record { cells = w.cells; side = w.side; places = places }) cpu command [] change here accepted in
-        let put_in : put_all w.cells (cells_at fresh (granules_below n)) ≡ fresh =
-        put_all-every n w.cells fresh (λ a not. here.outside.undelegated a not ∙ sym (goes.0.outside.undelegated a not)) in (
-          subst (λ o. Step (flat_state n w.cells) cpu command (ok []) (flat_state n o)) (sym put_in) goes.1,
-          subst (IsWellShaped n (side_changed w.cells w.side change) (put places cpu Outside)) (sym put_in)
-              (subst (λ p. IsWellShaped n (side_changed w.cells w.side change) p fresh) (stays places ∙ sym (put-same places cpu Outside place)) goes.0),
+        let fresh = cells_changed config w.cells change in
+        let goes = done-keeps_shape config (record { cells = w.cells; side = w.side; places = places }) cpu command [] change here accepted in
+        let put_in : put_all w.cells (cells_at fresh (granules_below config.granules)) ≡ fresh =
+        put_all-every config.granules w.cells fresh (λ a not. here.outside.undelegated a not ∙ sym (goes.0.outside.undelegated a not)) in (
+          subst (λ o. Step (flat_state config w.cells) cpu command (ok []) (flat_state config o)) (sym put_in) goes.1,
+          subst (IsWellShaped config (side_changed w.cells w.side change) (put places cpu Outside)) (sym put_in)
+              (subst (λ p. IsWellShaped config (side_changed w.cells w.side change) p fresh) (stays places ∙ sym (put-same places cpu Outside place)) goes.0),
         )

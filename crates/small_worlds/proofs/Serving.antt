@@ -153,13 +153,13 @@ after w cpu number command given held = returned_by (committed_by w cpu number c
 pub serve : (may : World → ℕ → ℕ → Type 0) (w : World) (cpu number : ℕ) (command : Command) (given : Reply) (held : Hold) (granules : List ℕ)
     → cpu < w.config.cpus → w.taken ≡ (λ _. []) → w.phase cpu ≡ Deciding number command None → can_take w.config.granules [] granules ≡ true
     → MayTakeAll may w cpu [] granules
-    → LocalStep w.config.granules cpu command given (record { cells = cells_at w.cells granules; side = w.side; place = w.place cpu }) held
+    → LocalStep w.config cpu command given (record { cells = cells_at w.cells granules; side = w.side; place = w.place cpu }) held
     → HappenBy may w (served_by cpu granules given held) (after w cpu number command given held)
 serve may w cpu number command given held granules is_cpu quiet deciding can all step =
     let done = committed_by w cpu number command given held in
     let last = after w cpu number command given held in
     let decided : done.phase cpu ≡ Decided number command given = put-here w.phase cpu (Decided number command given) in
-    let local = subst (λ (gs : List ℕ). LocalStep w.config.granules cpu command given (record { cells = cells_at w.cells gs; side = w.side; place = w.place cpu }) held)
+    let local = subst (λ (gs : List ℕ). LocalStep w.config cpu command given (record { cells = cells_at w.cells gs; side = w.side; place = w.place cpu }) held)
     (sym (put-here (λ _. []) cpu granules)) step in
     subst (λ first. HappenBy may first (served_by cpu granules given held) last) (with_held-none w cpu quiet)
     (HappenBy-append may (with_held w cpu []) (map (λ g. move.Take cpu g) granules) _ (with_held w cpu granules) last

@@ -73,20 +73,20 @@ class_of-delegate : (granule : ℕ) → class_of (call_of (delegate granule)) �
 unfolding call_from class_of
 class_of-delegate granule = refl
 
-accepts : (cpu granule : ℕ) → is_granule 4 granule ≡ true → LocalStep 4 cpu (delegate granule) (ok []) (holding_at granule Undelegated) (holding_at granule Delegated)
+accepts : (cpu granule : ℕ) → is_granule 4 granule ≡ true → LocalStep two_cpus cpu (delegate granule) (ok []) (holding_at granule Undelegated) (holding_at granule Delegated)
 accepts cpu granule is_lock =
-    subst (λ b. LocalStep 4 cpu (delegate granule) (ok []) (holding_at granule Undelegated) (holding_at granule (if b then Delegated else Undelegated)))
+    subst (λ b. LocalStep two_cpus cpu (delegate granule) (ok []) (holding_at granule Undelegated) (holding_at granule (if b then Delegated else Undelegated)))
     (eq-eqb granule granule refl)
-    (delegate-is_local 4 cpu granule (delegate granule) (holding_at granule Undelegated) (call_of-delegate granule) refl is_lock
+    (delegate-is_local two_cpus cpu granule (delegate granule) (holding_at granule Undelegated) (call_of-delegate granule) refl is_lock
     (Contains-head (held_at granule Undelegated) []))
 
 names_it : (granule : ℕ) → Contains (named (call_of (delegate granule))) (needed granule tag.Undelegated)
 unfolding call_from named
 names_it granule = Contains-head (needed granule tag.Undelegated) []
 
-refuses : (cpu granule : ℕ) → LocalStep 4 cpu (delegate granule) input_error (holding_at granule Delegated) (holding_at granule Delegated)
+refuses : (cpu granule : ℕ) → LocalStep two_cpus cpu (delegate granule) input_error (holding_at granule Delegated) (holding_at granule Delegated)
 refuses cpu granule =
-    tags-are_local 4 cpu (delegate granule) (holding_at granule Delegated) (held_at granule Delegated) (needed granule tag.Undelegated) (class_of-delegate granule) refl
+    tags-are_local two_cpus cpu (delegate granule) (holding_at granule Delegated) (held_at granule Delegated) (needed granule tag.Undelegated) (class_of-delegate granule) refl
     (Contains-head (held_at granule Delegated) []) (names_it granule) refl refl
 
 is_lock : is_granule 4 0x1000 ≡ true
@@ -139,7 +139,7 @@ serves_both first second is_first is_second deciding later outside = (
         (HappenBy-append anything both (delegates first 0x1000 (ok [])) (delegates second 0x1000 input_error) (one_served first) (two_served first second)
         (serve anything both first 0 (delegate 0x1000) (ok []) (holding_at 0x1000 Delegated) (0x1000 ∷ []) is_first refl deciding refl (tt, tt) (accepts first 0x1000 refl))
         (serve anything (one_served first) second 0 (delegate 0x1000) input_error (holding_at 0x1000 Delegated) (0x1000 ∷ []) is_second refl later refl (tt, tt)
-        (subst (λ place. LocalStep 4 second (delegate 0x1000) input_error (record (holding_at 0x1000 Delegated) { place = place }) (holding_at 0x1000 Delegated))
+        (subst (λ place. LocalStep two_cpus second (delegate 0x1000) input_error (record (holding_at 0x1000 Delegated) { place = place }) (holding_at 0x1000 Delegated))
         (sym outside) (refuses second 0x1000)))),
   ),
 )
@@ -329,7 +329,7 @@ names_in Stopped = []
 one_falls : IsRising each_holds 1 0x1000 → ⊥
 one_falls there =
     word_order_falls
-    (subst (λ names. IsRisingTake 4 names (held_at 0x2000 Delegated ∷ []) 0x1000) (sym (ap names_in there.deciding.is_deciding)) there.rising)
+    (subst (λ names. IsRisingTake two_cpus names (held_at 0x2000 Delegated ∷ []) 0x1000) (sym (ap names_in there.deciding.is_deciding)) there.rising)
 
 pub word_order_circle : (w : World) × HappenBy IsWordTake (opening_world two_cpus both_make_realms) one_lock_each w
     × WaitForEachOther IsWordTake w 0x2000 0x1000 × IsRising w 0 0x2000 × (IsRising w 1 0x1000 → ⊥)

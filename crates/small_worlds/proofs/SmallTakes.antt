@@ -11,9 +11,9 @@ use Rattle.rmm_spec.specs.Local.{HeldCell}
 use Rattle.rmm_spec.specs.Locks.{is_named, names_part, IsStray, IsNextNamed, IsNextPart, IsRisingTake}
 use Rattle.world_laws.specs.Replaced.{held_at}
 use Rattle.world_laws.proofs.Members.{Contains-head, each_of_one, each_of_two}
-use Rattle.small_worlds.specs.SmallWorlds.{realm_of}
+use Rattle.small_worlds.specs.SmallWorlds.{two_cpus, realm_of}
 
-pub word_order_rises : IsRisingTake 4 (named (call_of (realm_of 0x1000 0x2000))) (held_at 0x1000 Delegated ∷ []) 0x2000
+pub word_order_rises : IsRisingTake two_cpus (named (call_of (realm_of 0x1000 0x2000))) (held_at 0x1000 Delegated ∷ []) 0x2000
 unfolding call_from named is_granule
 word_order_rises =
     let mine = held_at 0x1000 Delegated in
@@ -34,7 +34,7 @@ word_order_rises =
       });
     }
 
-pub word_order_falls : IsRisingTake 4 (named (call_of (realm_of 0x2000 0x1000))) (held_at 0x2000 Delegated ∷ []) 0x1000 → ⊥
+pub word_order_falls : IsRisingTake two_cpus (named (call_of (realm_of 0x2000 0x1000))) (held_at 0x2000 Delegated ∷ []) 0x1000 → ⊥
 word_order_falls rising =
     let mine = held_at 0x2000 Delegated in
     ⊎_elim

@@ -2,6 +2,7 @@
 use Rattle.std.proofs.Common.{◌≡◌, ℕ, ◌+◌, ◌<◌, ◌≤◌, Bool, true, false, ◌==◌, if◌then◌else◌, IsTrue, List, [], ◌∷◌, ◌++◌, map, None, Ok, inr, refl, sym, ◌∙◌, subst, arith, eq-eqb}
 use Rattle.std.specs.Prelude.{Contains}
 use Rattle.std.proofs.lemmas.Bool.{or_left}
+use Rattle.rmm_spec.specs.HistoryText.{Config}
 use Rattle.rmm_spec.specs.declared.call.Call.TheVariants.{RecDestroy}
 use Rattle.rmm_spec.specs.declared.command.Command.{Command}
 use Rattle.rmm_spec.specs.declared.event.Event.{Event}
@@ -62,7 +63,7 @@ abbrev Stays : Whole → Accepted → Type 0
 Stays w a = (places : ℕ → CpuPlace) → places_changed w.cells places a.change ≡ places
 
 abbrev IsAnswered : Whole → Accepted → Type 0
-IsAnswered w a = outcome (flat_state 9 w.cells) 0 (call_of a.command) ≡ Ok (done [] a.change)
+IsAnswered w a = outcome (flat_state nine_granules w.cells) 0 (call_of a.command) ≡ Ok (done [] a.change)
 
 nine_taken : can_take 9 [] (granules_below 9) ≡ true
 unfolding is_granule
@@ -86,25 +87,25 @@ programs calls rest = λ i other. by other (other == 0) i
     by other true = refl
     by other false = refl
 
-next-by : (w : Whole) (a : Accepted) (number : ℕ) (rest : List Command) (journal : List Commitment) (events : List Event) → IsShaped 9 w → w.places ≡ (λ _. Outside)
+next-by : (w : Whole) (a : Accepted) (number : ℕ) (rest : List Command) (journal : List Commitment) (events : List Event) → IsShaped nine_granules w → w.places ≡ (λ _. Outside)
     → IsAnswered w a → Stays w a
     → HappenBy anything (at_whole w number (a.command ∷ rest) journal events)
-    (move.Call 0 ∷ served_by 0 (granules_below 9) (ok []) (hold_all 9 (whole_changed 9 w a.change)))
-    (at_whole (whole_changed 9 w a.change) (number + 1) rest
+    (move.Call 0 ∷ served_by 0 (granules_below 9) (ok []) (hold_all nine_granules (whole_changed nine_granules w a.change)))
+    (at_whole (whole_changed nine_granules w a.change) (number + 1) rest
     (journal ++ record { cpu = 0; number = number; command = a.command; given = ok [] } ∷ [])
     (events ++ Called 0 number a.command ∷ [] ++ Returned 0 number (ok []) ∷ []))
 next-by w a number rest journal events shaped outside answered stays =
     let old = at_whole w number (a.command ∷ rest) journal events in
     let asked = called old 0 number a.command rest in
-    let new = whole_changed 9 w a.change in
-    let goes = done-keeps_shape 9 w 0 a.command [] a.change shaped answered in
+    let new = whole_changed nine_granules w a.change in
+    let goes = done-keeps_shape nine_granules w 0 a.command [] a.change shaped answered in
     let fresh = put_all-every 9 w.cells new.cells (λ g not. shaped.outside.undelegated g not ∙ sym (goes.0.outside.undelegated g not)) in
     let is_cpu : 0 < 2 = omega arith in
     let placed : put (λ _. Outside) 0 Outside ≡ (λ _. Outside) = put-same (λ _. Outside) 0 Outside refl in (
       asked,
       tt,
       happens-call old 0 number a.command rest is_cpu refl refl,
-      subst (HappenBy anything asked (served_by 0 (granules_below 9) (ok []) (hold_all 9 new)))
+      subst (HappenBy anything asked (served_by 0 (granules_below 9) (ok []) (hold_all nine_granules new)))
           (λ i. record {
             config = nine_granules;
             cells = fresh i;
@@ -116,46 +117,46 @@ next-by w a number rest journal events shaped outside answered stays =
             journal = journal ++ record { cpu = 0; number = number; command = a.command; given = ok [] } ∷ [];
             events = events ++ Called 0 number a.command ∷ [] ++ Returned 0 number (ok []) ∷ [];
           })
-          (serve anything asked 0 number a.command (ok []) (hold_all 9 new) (granules_below 9) is_cpu refl refl nine_taken
-          (takes_anything asked 0 [] (granules_below 9)) (accepted-is_local 9 0 a.command a.change w shaped answered stays)),
+          (serve anything asked 0 number a.command (ok []) (hold_all nine_granules new) (granules_below 9) is_cpu refl refl nine_taken
+          (takes_anything asked 0 [] (granules_below 9)) (accepted-is_local nine_granules 0 a.command a.change w shaped answered stays)),
     )
 
 -- each of these is answered ok in its turn
 abbrev AreAnswered : Whole → List Accepted → Type 0
 AreAnswered w [] = Unit {0}
-AreAnswered w (a ∷ others) = IsAnswered w a × Stays w a × AreAnswered (whole_changed 9 w a.change) others
+AreAnswered w (a ∷ others) = IsAnswered w a × Stays w a × AreAnswered (whole_changed nine_granules w a.change) others
 
 abbrev whole_after : Whole → List Accepted → Whole
 whole_after w [] = w
-whole_after w (a ∷ others) = whole_after (whole_changed 9 w a.change) others
+whole_after w (a ∷ others) = whole_after (whole_changed nine_granules w a.change) others
 
 abbrev number_after : ℕ → List Accepted → ℕ
 number_after number [] = number
 number_after number (a ∷ others) = number_after (number + 1) others
 
-all-by : (script : List Accepted) (w : Whole) (number : ℕ) (rest : List Command) (journal : List Commitment) (events : List Event) → IsShaped 9 w → w.places ≡ (λ _. Outside)
+all-by : (script : List Accepted) (w : Whole) (number : ℕ) (rest : List Command) (journal : List Commitment) (events : List Event) → IsShaped nine_granules w → w.places ≡ (λ _. Outside)
     → AreAnswered w script
-    → (j : List Commitment) × (e : List Event) × HappenBy anything (at_whole w number (map (λ (a : Accepted). a.command) script ++ rest) journal events) (all_accepted 9 w script)
+    → (j : List Commitment) × (e : List Event) × HappenBy anything (at_whole w number (map (λ (a : Accepted). a.command) script ++ rest) journal events) (all_accepted nine_granules w script)
     (at_whole (whole_after w script) (number_after number script) rest j e)
 all-by [] w number rest journal events shaped outside answered = (journal, events, refl)
 all-by (a ∷ others) w number rest journal events shaped outside answered =
-    let new = whole_changed 9 w a.change in
+    let new = whole_changed nine_granules w a.change in
     let more = map (λ (b : Accepted). b.command) others ++ rest in
     let j = journal ++ record { cpu = 0; number = number; command = a.command; given = ok [] } ∷ [] in
     let e = events ++ Called 0 number a.command ∷ [] ++ Returned 0 number (ok []) ∷ [] in
-    let goes = done-keeps_shape 9 w 0 a.command [] a.change shaped answered.0 in
+    let goes = done-keeps_shape nine_granules w 0 a.command [] a.change shaped answered.0 in
     let later = all-by others new (number + 1) rest j e goes.0 (answered.1 w.places ∙ outside) answered.2 in (
       later.0,
       later.1,
       HappenBy-append anything (at_whole w number (a.command ∷ more) journal events)
-          (move.Call 0 ∷ served_by 0 (granules_below 9) (ok []) (hold_all 9 new)) (all_accepted 9 new others)
+          (move.Call 0 ∷ served_by 0 (granules_below 9) (ok []) (hold_all nine_granules new)) (all_accepted nine_granules new others)
           (at_whole new (number + 1) more j e) (at_whole (whole_after new others) (number_after (number + 1) others) rest later.0 later.1)
           (next-by w a number more journal events shaped outside answered.0 answered.1) later.2,
     )
 
 -- ---- two RECs
 
-untouched-shaped : IsShaped 9 untouched
+untouched-shaped : IsShaped nine_granules untouched
 unfolding opening_world
 untouched-shaped = IsShapedWorld-opening nine_granules each_destroys
 
@@ -201,10 +202,10 @@ recs-answered = (
 own_part : (c : RecRecord) → IsTrue (names_part (Rec c) c.aux0)
 own_part c = or_left (c.aux0 == c.aux0) (c.aux1 == c.aux0) (eq-eqb c.aux0 c.aux0 refl)
 
-unguarded : (granules rec stray : ℕ) (c : RecRecord) → is_granule granules c.aux0 ≡ true → (rec ≡ c.aux0 → ⊥) → (stray ≡ c.aux0 → ⊥) → (rec ≡ stray → ⊥)
-    → IsUnguardedTake granules (named (RecDestroy rec)) (held_at rec (Rec c) ∷ held_at stray RecAux ∷ []) c.aux0
+unguarded : (config : Config) (rec stray : ℕ) (c : RecRecord) → is_granule config.granules c.aux0 ≡ true → (rec ≡ c.aux0 → ⊥) → (stray ≡ c.aux0 → ⊥) → (rec ≡ stray → ⊥)
+    → IsUnguardedTake config (named (RecDestroy rec)) (held_at rec (Rec c) ∷ held_at stray RecAux ∷ []) c.aux0
 unfolding named
-unguarded granules rec stray c is_lock own other apart =
+unguarded config rec stray c is_lock own other apart =
     let mine = held_at rec (Rec c) in
     let strange = held_at stray RecAux in
     record {
@@ -306,12 +307,12 @@ unfolding call_from is_granule cells_changed realm_updated
 strays_wait j e = record {
   zero_may = record {
     deciding = record { number = 11; command = destroys 0x3000; learnt = None; is_deciding = refl };
-    take = unguarded 9 0x3000 0x7000 (rec_of 0 0x4000 0x5000) refl (λ same. omega arith) (λ same. omega arith) (λ same. omega arith);
+    take = unguarded nine_granules 0x3000 0x7000 (rec_of 0 0x4000 0x5000) refl (λ same. omega arith) (λ same. omega arith) (λ same. omega arith);
   };
   one_holds = Contains-tail 0x6000 (0x4000 ∷ []) 0x4000 (Contains-head 0x4000 []);
   one_may = record {
     deciding = record { number = 0; command = destroys 0x6000; learnt = None; is_deciding = refl };
-    take = unguarded 9 0x6000 0x4000 (rec_of 1 0x7000 0x8000) refl (λ same. omega arith) (λ same. omega arith) (λ same. omega arith);
+    take = unguarded nine_granules 0x6000 0x4000 (rec_of 1 0x7000 0x8000) refl (λ same. omega arith) (λ same. omega arith) (λ same. omega arith);
   };
   zero_holds = Contains-tail 0x3000 (0x7000 ∷ []) 0x7000 (Contains-head 0x7000 []);
 }
@@ -330,7 +331,7 @@ strays_circle =
       last,
       HappenAll-from_by anything (opening_world nine_granules each_destroys) strays_taken last
           (subst (λ first. HappenBy anything first strays_taken last) (sym opened-same)
-          (HappenBy-append anything (at_whole untouched 0 (each_destroys 0) [] []) (all_accepted 9 untouched two_recs_made)
+          (HappenBy-append anything (at_whole untouched 0 (each_destroys 0) [] []) (all_accepted nine_granules untouched two_recs_made)
           (move.Call 0 ∷ move.Call 1 ∷ move.Take 0 0x3000 ∷ move.Take 1 0x6000 ∷ move.Take 0 0x7000 ∷ move.Take 1 0x4000 ∷ [])
           (at_whole (whole_after untouched two_recs_made) 11 (destroys 0x3000 ∷ []) made.0 made.1) last made.2 (strays_run made.0 made.1))),
       strays_wait made.0 made.1,

@@ -1,5 +1,7 @@
 -- Small wholes of eight granules, written out: one realm; with tables down to a page; with a REC; and two realms.
 use Rattle.std.specs.Prelude.{ℕ, List, [], ◌∷◌, ◌++◌, map, replicate, Some, None}
+use Rattle.rmm_spec.specs.declared.version.Version.TheVariants.{One}
+use Rattle.rmm_spec.specs.HistoryText.{Config}
 use Rattle.rmm_spec.specs.declared.entry.Entry.{Entry}
 use Rattle.rmm_spec.specs.declared.entry.Entry.TheVariants.{Unassigned, Assigned, Table, UnassignedNs}
 use Rattle.rmm_spec.specs.declared.function_id.FunctionId.TheVariants as function
@@ -14,9 +16,12 @@ use Rattle.rmm_spec.specs.Shape.{Side, CpuPlace, IsWellShaped}
 use Rattle.rmm_spec.specs.Local.{put_all}
 use Rattle.world_laws.specs.Replaced.{held_at}
 
+abbrev pub eight_granules : Config
+eight_granules = record { granules = 8; cpus = 1; version = One }
+
 -- such cells, with that side table, are not well shaped, wherever the CPUs are
 abbrev pub IsBroken : Side → (ℕ → Cell) → Type 0
-IsBroken side cells = (places : ℕ → CpuPlace) → IsWellShaped 8 side places cells → ⊥
+IsBroken side cells = (places : ℕ → CpuPlace) → IsWellShaped eight_granules side places cells → ⊥
 
 -- ---- one realm
 

@@ -1,5 +1,6 @@
 -- Small worlds, written out: what two CPUs do on a few granules, and takes by other rules than the rising one.
 use Rattle.std.specs.Prelude.{◌≡◌, ℕ, zero, suc, ◌≤◌, false, ◌⊎◌, IsTrue, List, [], ◌∷◌, ◌++◌, map, Contains, length, None}
+use Rattle.rmm_spec.specs.declared.version.Version.TheVariants.{One}
 use Rattle.rmm_spec.specs.declared.command.Command.{Command}
 use Rattle.rmm_spec.specs.declared.event.Event.{Event}
 use Rattle.rmm_spec.specs.declared.event.Event.TheVariants.{Called}
@@ -51,8 +52,8 @@ pub record IsWordTake (w : World) (cpu granule : ℕ) : Type 0 where
   pub in_order : map (λ (n : Needed). n.granule) (named (call_of deciding.command)) ≡ w.taken cpu ++ granule ∷ rest
 
 -- all that is asked of a rising take but that strays are parts of what is held
-pub record IsUnguardedTake (granules : ℕ) (names : List Needed) (held : List HeldCell) (granule : ℕ) : Type 0 where
-  pub is_lock : IsTrue (is_granule granules granule)
+pub record IsUnguardedTake (config : Config) (names : List Needed) (held : List HeldCell) (granule : ℕ) : Type 0 where
+  pub is_lock : IsTrue (is_granule config.granules granule)
   pub is_new : (h : HeldCell) → Contains held h → h.granule ≡ granule → ⊥
   pub room : length held ≤ 5
   pub no_data : (h : HeldCell) → Contains held h → is_data h.cell ≡ false
@@ -62,7 +63,7 @@ pub record IsUnguardedTake (granules : ℕ) (names : List Needed) (held : List H
 -- the rule by which such takes are allowed
 pub record IsUnguarded (w : World) (cpu granule : ℕ) : Type 0 where
   pub deciding : IsDeciding w cpu
-  pub take : IsUnguardedTake w.config.granules (needs (w.place cpu) deciding.learnt (call_of deciding.command)) (held_cells w cpu) granule
+  pub take : IsUnguardedTake w.config (needs (w.place cpu) deciding.learnt (call_of deciding.command)) (held_cells w cpu) granule
 
 -- ---- moves
 
@@ -79,7 +80,7 @@ served_by cpu granules given held =
 -- ---- two CPUs that delegate one granule
 
 abbrev pub two_cpus : Config
-two_cpus = record { granules = 4; cpus = 2 }
+two_cpus = record { granules = 4; cpus = 2; version = One }
 
 abbrev pub delegate : ℕ → Command
 delegate granule = command_of function.GranuleDelegate (granule ∷ [])

@@ -1,5 +1,6 @@
 -- Two CPUs that each destroy a REC of one realm, and hold an auxiliary granule of the other's.
 use Rattle.std.specs.Prelude.{ℕ, zero, suc, ◌*◌, List, [], ◌∷◌, ◌++◌, map, None}
+use Rattle.rmm_spec.specs.declared.version.Version.TheVariants.{One}
 use Rattle.rmm_spec.specs.declared.change.Change.{Change}
 use Rattle.rmm_spec.specs.declared.change.Change.TheVariants.{Retagged, RealmMade, RecMade}
 use Rattle.rmm_spec.specs.declared.command.Command.{Command}
@@ -26,21 +27,21 @@ granules_below zero = []
 granules_below (suc n) = granules_below n ++ n * 4096 ∷ []
 
 -- all granules of a whole, held by a CPU outside of RECs
-abbrev pub hold_all : ℕ → Whole → Hold
-hold_all granules w = record { cells = map (λ granule. held_at granule (w.cells granule)) (granules_below granules); side = w.side; place = Outside }
+abbrev pub hold_all : Config → Whole → Hold
+hold_all config w = record { cells = map (λ granule. held_at granule (w.cells granule)) (granules_below config.granules); side = w.side; place = Outside }
 
 -- CPU 0 calls each of the commands, takes all granules, commits and returns
-abbrev pub all_accepted : ℕ → Whole → List Accepted → List Move
-all_accepted granules w [] = []
-all_accepted granules w (a ∷ others) =
-    (move.Call 0 ∷ served_by 0 (granules_below granules) (ok []) (hold_all granules (whole_changed granules w a.change)))
-    ++ all_accepted granules (whole_changed granules w a.change) others
+abbrev pub all_accepted : Config → Whole → List Accepted → List Move
+all_accepted config w [] = []
+all_accepted config w (a ∷ others) =
+    (move.Call 0 ∷ served_by 0 (granules_below config.granules) (ok []) (hold_all config (whole_changed config w a.change)))
+    ++ all_accepted config (whole_changed config w a.change) others
 
 abbrev pub untouched : Whole
 untouched = record { cells = λ _. Undelegated; side = record { vmids = λ _. None; rec_counts = λ _. 0 }; places = λ _. Outside }
 
 abbrev pub nine_granules : Config
-nine_granules = record { granules = 9; cpus = 2 }
+nine_granules = record { granules = 9; cpus = 2; version = One }
 
 abbrev pub lends : ℕ → Accepted
 lends granule = record { command = delegate granule; change = Retagged (record { granule = granule; tag = tag.Delegated }) }
@@ -70,5 +71,5 @@ each_destroys (suc cpu) = destroys 0x6000 ∷ []
 -- each takes its REC, and an auxiliary granule of the other's
 abbrev pub strays_taken : List Move
 strays_taken =
-    all_accepted 9 untouched two_recs_made
+    all_accepted nine_granules untouched two_recs_made
     ++ (move.Call 0 ∷ move.Call 1 ∷ move.Take 0 0x3000 ∷ move.Take 1 0x6000 ∷ move.Take 0 0x7000 ∷ move.Take 1 0x4000 ∷ [])

@@ -4,7 +4,7 @@ ghost use Rattle.std.specs.Prelude.{None, Some};
 ghost use Rattle.rmm_spec.specs.State.{HostCall, RipasChange};
 ghost use Rattle.rmm_spec.specs.Cell.{Delegated, Rec, put};
 ghost use Rattle.rmm_spec.specs.Shape.{Outside, Inside, IsWellShaped};
-ghost use Rattle.small_worlds.specs.SmallWholes.{IsBroken, one_rec, one_owned, the_rec, asking};
+ghost use Rattle.small_worlds.specs.SmallWholes.{eight_granules, IsBroken, one_rec, one_owned, the_rec, asking};
 
 /// A whole is not well shaped where a REC has no realm, no first or second auxiliary granule, one in place of two, or one that
 /// another REC has too; where its request begins or ends off the pages, ends before it begins, or reaches past the protected
@@ -27,8 +27,8 @@ pub fn broken_recs_are_not_well_shaped()
 /// Nor where a CPU is inside of a REC that isn't there, of one that doesn't run on it, or of one that belongs to another realm;
 /// nor where a REC runs on a CPU that isn't inside of it.
 pub fn broken_places_are_not_well_shaped()
-    ensures nowhere { IsWellShaped 8 (one_owned 0x1000) (λ _. Inside 0x6000 0x1000) (one_rec the_rec) → ⊥ }
-    ensures not_running { IsWellShaped 8 (one_owned 0x1000) (λ _. Inside 0x3000 0x1000) (one_rec the_rec) → ⊥ }
-    ensures elsewhere { IsWellShaped 8 (one_owned 0x1000) (put (λ _. Outside) 0 (Inside 0x3000 0x2000)) (one_rec (record the_rec { cpu = Some 0 })) → ⊥ }
-    ensures unplaced { IsWellShaped 8 (one_owned 0x1000) (λ _. Outside) (one_rec (record the_rec { cpu = Some 0 })) → ⊥ }
+    ensures nowhere { IsWellShaped eight_granules (one_owned 0x1000) (λ _. Inside 0x6000 0x1000) (one_rec the_rec) → ⊥ }
+    ensures not_running { IsWellShaped eight_granules (one_owned 0x1000) (λ _. Inside 0x3000 0x1000) (one_rec the_rec) → ⊥ }
+    ensures elsewhere { IsWellShaped eight_granules (one_owned 0x1000) (put (λ _. Outside) 0 (Inside 0x3000 0x2000)) (one_rec (record the_rec { cpu = Some 0 })) → ⊥ }
+    ensures unplaced { IsWellShaped eight_granules (one_owned 0x1000) (λ _. Outside) (one_rec (record the_rec { cpu = Some 0 })) → ⊥ }
 {}

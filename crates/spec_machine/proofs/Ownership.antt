@@ -52,7 +52,7 @@ tied-owner s c sound tied =
     subst (λ t. IsTied t s c.granule c.realm) (sym (tag-has_tag s c.granule c.role (tied-tag s c.role c.granule c.realm sound tied))) tied
 
 module _ (old new : State) (opens closes : List Claim) (sound : IsSound old) (new_sound : IsSound new) (a : Accounts old new opens closes)
-    (same : new.granules ≡ old.granules) (owners : List (Option ℕ)) (o : AreOwners old owners) where
+    (same : new.config ≡ old.config) (owners : List (Option ℕ)) (o : AreOwners old owners) where
   -- what is left of the owners without those that are closed
   abbrev pub taken : List (Option ℕ)
   taken = with_owners (λ c. None) closes owners
@@ -66,52 +66,52 @@ module _ (old new : State) (opens closes : List Claim) (sound : IsSound old) (ne
   ]
 
   -- what waits for use is a granule
-  waits-granule : (granule : ℕ) (b : Bool) → is_granule old.granules granule ≡ b → old.tag granule ≡ Delegated → b ≡ true
+  waits-granule : (granule : ℕ) (b : Bool) → is_granule old.config.granules granule ≡ b → old.tag granule ≡ Delegated → b ≡ true
   waits-granule granule true within is = refl
   waits-granule granule false out is = absurd (let bad : Undelegated ≡ Delegated = sym (sound.outside granule out) ∙ is in cc)
 
   -- each granule's owner is as its ties are
-  each-owner : (granule : ℕ) → IsOwner new granule (kept_at old.granules (with_owners (λ c. Some c.realm) opens taken) None granule)
+  each-owner : (granule : ℕ) → IsOwner new granule (kept_at old.config.granules (with_owners (λ c. Some c.realm) opens taken) None granule)
   each-owner granule =
-      owners-written new (λ c. (old.tag c.granule ≡ Delegated) × IsKept new c) (λ c. Some c.realm) old.granules granule opens taken
+      owners-written new (λ c. (old.tag c.granule ≡ Delegated) × IsKept new c) (λ c. Some c.realm) old.config.granules granule opens taken
       (with_owners-length (λ c. None) closes owners ∙ o.places)
-      (λ c p. (waits-granule c.granule (is_granule old.granules c.granule) refl p.0, tied-owner new c new_sound p.1)) a.opened
-      (λ opened. owners-written new (λ c. IsKept old c × IsUnused (new.tag c.granule)) (λ c. None) old.granules granule closes owners o.places
+      (λ c p. (waits-granule c.granule (is_granule old.config.granules c.granule) refl p.0, tied-owner new c new_sound p.1)) a.opened
+      (λ opened. owners-written new (λ c. IsKept old c × IsUnused (new.tag c.granule)) (λ c. None) old.config.granules granule closes owners o.places
       (λ c p. (granule_from_tag old c.granule c.role (tied-tag old c.role c.granule c.realm sound p.0), p.1)) a.closed
-      (λ closed. stays-owner granule (kept_at old.granules owners None granule) opened closed (o.each granule)))
+      (λ closed. stays-owner granule (kept_at old.config.granules owners None granule) opened closed (o.each granule)))
 
   pub accounted-owners : AreOwners new (with_owners (λ c. Some c.realm) opens taken)
   accounted-owners = record {
-    places = with_owners-length (λ c. Some c.realm) opens taken ∙ with_owners-length (λ c. None) closes owners ∙ o.places ∙ sym same;
-    each = subst (λ n. (granule : ℕ) → IsOwner new granule (kept_at n (with_owners (λ c. Some c.realm) opens taken) None granule)) (sym same) each-owner;
+    places = with_owners-length (λ c. Some c.realm) opens taken ∙ with_owners-length (λ c. None) closes owners ∙ o.places ∙ sym (ap (λ (c : Config). c.granules) same);
+    each = subst (λ (c : Config). (granule : ℕ) → IsOwner new granule (kept_at c.granules (with_owners (λ c. Some c.realm) opens taken) None granule)) (sym same) each-owner;
   }
 
 -- ---- each kind
 
--- how many granules there are never changes
-tag-granules : (s : State) (change : Option TagChange) → (with_tag_change s change).granules ≡ s.granules
-tag-granules s None = refl
-tag-granules s (Some change) = refl
+-- the configuration never changes
+tag-config : (s : State) (change : Option TagChange) → (with_tag_change s change).config ≡ s.config
+tag-config s None = refl
+tag-config s (Some change) = refl
 
-realm-granules : (s : State) (change : Option RealmChange) → (with_realm_change s change).granules ≡ s.granules
-realm-granules s None = refl
-realm-granules s (Some change) = refl
+realm-config : (s : State) (change : Option RealmChange) → (with_realm_change s change).config ≡ s.config
+realm-config s None = refl
+realm-config s (Some change) = refl
 
-rec-granules : (s : State) (change : Option RecChange) → (with_rec_change s change).granules ≡ s.granules
-rec-granules s None = refl
-rec-granules s (Some change) = refl
+rec-config : (s : State) (change : Option RecChange) → (with_rec_change s change).config ≡ s.config
+rec-config s None = refl
+rec-config s (Some change) = refl
 
-entry-granules : (s : State) (rd level : ℕ) (entries : EntryChange) → (with_entry_change s rd level entries).granules ≡ s.granules
-entry-granules s rd level (Replaced number entry) = refl
-entry-granules s rd level (RipasSet first last ripas) = refl
+entry-config : (s : State) (rd level : ℕ) (entries : EntryChange) → (with_entry_change s rd level entries).config ≡ s.config
+entry-config s rd level (Replaced number entry) = refl
+entry-config s rd level (RipasSet first last ripas) = refl
 
-changed-granules : (s : State) (change : Change) → (changed s change).granules ≡ s.granules
+changed-config : (s : State) (change : Change) → (changed s change).config ≡ s.config
 unfolding changed
-changed-granules s (RecordsChanged realm rec) = rec-granules (with_realm_change s realm) rec ∙ realm-granules s realm
-changed-granules s (EntriesChanged rd level entries page realm rec) =
-    entry-granules (with_rec_change (with_realm_change (with_tag_change s page) realm) rec) rd level entries
-    ∙ rec-granules (with_realm_change (with_tag_change s page) realm) rec ∙ realm-granules (with_tag_change s page) realm ∙ tag-granules s page
-changed-granules s _ = refl
+changed-config s (RecordsChanged realm rec) = rec-config (with_realm_change s realm) rec ∙ realm-config s realm
+changed-config s (EntriesChanged rd level entries page realm rec) =
+    entry-config (with_rec_change (with_realm_change (with_tag_change s page) realm) rec) rd level entries
+    ∙ rec-config (with_realm_change (with_tag_change s page) realm) rec ∙ realm-config (with_tag_change s page) realm ∙ tag-config s page
+changed-config s _ = refl
 
 -- a page is given where its tag is data, and else taken
 page-written : (rd granule : ℕ) (tag : Tag) (owners : List (Option ℕ)) → (tag ≡ Data) ⊎ (tag ≡ Delegated)
@@ -126,7 +126,7 @@ module _ (s : State) (owners : List (Option ℕ)) (sound : IsSound s) (o : AreOw
       → AreOwners (changed s change) (with_owners (λ c. Some c.realm) (opened change) (with_owners (λ c. None) (closed (roots_at s) (recs_at s) change) owners))
   accounted change can =
       accounted-owners s (changed s change) (opened change) (closed (roots_at s) (recs_at s) change) sound (changed_sound s change sound can)
-      (change-accounts s change sound can) (changed-granules s change) owners o
+      (change-accounts s change sound can) (changed-config s change) owners o
 
   pub changed_owners : (change : Change) → CanApply s change → AreOwners (changed s change) (owners_changed change owners)
   changed_owners (RealmDestroyed rd root) can =
@@ -167,10 +167,10 @@ owner-tied s granule realm (Some other) sound tied = (
   λ tied_too. ap Some (tied-once s (s.tag granule) granule other realm sound tied tied_too),
 )
 
-pub owners-tied : (s : State) (owners : List (Option ℕ)) → IsSound s → AreOwners s owners → IsOwnerOf s (kept_at s.granules owners None)
-owners-tied s owners sound o granule realm = owner-tied s granule realm (kept_at s.granules owners None granule) sound (o.each granule)
+pub owners-tied : (s : State) (owners : List (Option ℕ)) → IsSound s → AreOwners s owners → IsOwnerOf s (kept_at s.config.granules owners None)
+owners-tied s owners sound o granule realm = owner-tied s granule realm (kept_at s.config.granules owners None granule) sound (o.each granule)
 
 -- a new machine has as many granules as it was given
 pub opening-count : (g : Granules) (config : Config) → state_in g ≡ opening config → count_of g ≡ config.granules
 unfolding state_in flat_state opening
-opening-count g config is = ap (λ (s : State). s.granules) is
+opening-count g config is = ap (λ (s : State). s.config.granules) is

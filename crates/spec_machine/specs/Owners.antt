@@ -16,8 +16,8 @@ IsOwner s granule (Some realm) = IsTied (s.tag granule) s granule realm
 
 -- each granule's place has the realm that the granule belongs to
 pub record AreOwners (s : State) (owners : List (Option ℕ)) : Type 0 where
-  pub places : length owners ≡ s.granules
-  pub each : (granule : ℕ) → IsOwner s granule (kept_at s.granules owners None granule)
+  pub places : length owners ≡ s.config.granules
+  pub each : (granule : ℕ) → IsOwner s granule (kept_at s.config.granules owners None granule)
 
 -- a granule belongs to another realm, or to none
 abbrev pub with_owner : ℕ → Option ℕ → List (Option ℕ) → List (Option ℕ)

@@ -16,4 +16,4 @@ owner_rows s owner (suc k) =
 
 -- the rows of all granules come after the old ones
 abbrev pub AddsOwners : State → List OwnerRow → List OwnerRow → Type 0
-AddsOwners s old new = (owner : ℕ → Option ℕ) × IsOwnerOf s owner × (new ≡ old ++ owner_rows s owner s.granules)
+AddsOwners s old new = (owner : ℕ → Option ℕ) × IsOwnerOf s owner × (new ≡ old ++ owner_rows s owner s.config.granules)

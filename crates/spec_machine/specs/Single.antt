@@ -99,6 +99,6 @@ owner_of-single s granule (Some realm) sound = tied-single s (s.tag granule) gra
 
 pub owners-single : (s : State) (owners : List (Option ℕ)) → IsSound s → IsProp (AreOwners s owners)
 owners-single s owners sound =
-    let each : (granule : ℕ) → IsProp (IsOwner s granule (kept_at s.granules owners None granule)) =
-    λ granule. owner_of-single s granule (kept_at s.granules owners None granule) sound in
+    let each : (granule : ℕ) → IsProp (IsOwner s granule (kept_at s.config.granules owners None granule)) =
+    λ granule. owner_of-single s granule (kept_at s.config.granules owners None granule) sound in
     hlevel (props, each)

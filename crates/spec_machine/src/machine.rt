@@ -21,7 +21,7 @@ pub struct Machine {
     pub(crate) granules: Granules,
     pub(crate) owners: Owners,
     // how many offers were made
-    offers: u64,
+    pub(crate) offers: u64,
     ghost shaped: { IsShapedIn granules } by { shaped-single granules },
     ghost owned: { AreOwners (state_in granules) owners.realms.items } by { owners-single (state_in granules) owners.realms.items (shaped-sound granules shaped) },
 }

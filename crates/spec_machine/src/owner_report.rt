@@ -23,7 +23,7 @@ impl Machine {
     pub fn owner_report(&self, rows: &mut Vec<OwnerRow>) -> Result<(), AllocError>
         ensures ok { OnOk result (AddsOwners (state_of self.now) rows.old.items rows.new.items) }
         ensures err { OnErr result (rows.new.items ≡ rows.old.items) }
-        ensures full { OnErr result (vec_capacity rows.old < vec_len rows.old + (state_of self.now).granules) }
+        ensures full { OnErr result (vec_capacity rows.old < vec_len rows.old + (state_of self.now).config.granules) }
     {
         let granules = self.granules.count();
         let Ok(()) = rows.reserve(granules) else {

@@ -3,7 +3,7 @@
 use crate::machine::Machine;
 use command_rows::Sight;
 use realm_desc::{Realm, Rec};
-use rmm_spec::{Entry, EntryTest, Tag, Walked};
+use rmm_spec::{Entry, EntryTest, Tag, Version, Walked};
 
 impl Sight for Machine {
     ghost use Rattle.rmm_spec.specs.Lookup.{has_rec, is_vmid_used};
@@ -14,6 +14,11 @@ impl Sight for Machine {
     ghost uses_vmid = { λ machine. is_vmid_used (state_of machine) };
 
     ghost has_recs = { λ machine. has_rec (state_of machine) };
+
+    #[tactic(auto, unfolding(crate::specs::View::state_of))]
+    fn version(&self) -> Version {
+        self.granules.version()
+    }
 
     #[tactic(auto, unfolding(crate::specs::View::state_of))]
     fn has_tag(&self, address: u64, tag: Tag) -> bool {

@@ -93,7 +93,7 @@ pub fn two_cpus<S: Site>(
     requires name { blank.name ≡ S.name }
     requires parts { blank.parts ≡ S.parts }
     requires one_each { blank.parts ≡ config.cpus }
-    requires granules { config.granules ≡ S.granules }
+    requires granules { config ≡ S.config }
     ensures config { IfOk result (λ made. made.0.config ≡ config) }
     ensures first { IfOk result (λ made. ArePaired made.0 made.1.token made.1.pass) }
     ensures second { IfOk result (λ made. ArePaired made.0 made.2.token made.2.pass) }

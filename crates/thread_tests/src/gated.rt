@@ -165,7 +165,7 @@ fn ask_apart<S: Site + Send + Sync, R: Threads + Wait + Sync>(
     requires name { blank.name ≡ S.name }
     requires parts { blank.parts ≡ S.parts }
     requires one_each { blank.parts ≡ config.cpus }
-    requires granules { config.granules ≡ S.granules }
+    requires granules { config ≡ S.config }
 {
     let (monitor, first, second, _scribe) = two_cpus::<S>(alloc, blank, config)?;
     let first = first
@@ -284,7 +284,7 @@ fn delegate_same<S: Site + Send + Sync, R: Threads + Wait + Sync>(
     requires name { blank.name ≡ S.name }
     requires parts { blank.parts ≡ S.parts }
     requires one_each { blank.parts ≡ config.cpus }
-    requires granules { config.granules ≡ S.granules }
+    requires granules { config ≡ S.config }
 {
     let (monitor, first, second, scribe) = two_cpus::<S>(alloc, blank, config)?;
     let history = History::new(alloc, config);

@@ -224,7 +224,7 @@ fn run_two<S: Site + Send + Sync, R: Threads + Wait + Sync>(
     requires name { blank.name ≡ S.name }
     requires parts { blank.parts ≡ S.parts }
     requires one_each { blank.parts ≡ config.cpus }
-    requires granules { config.granules ≡ S.granules }
+    requires granules { config ≡ S.config }
     requires two { config.cpus ≡ 2 }
 {
     let (monitor, first, second, scribe) = two_cpus::<S>(alloc, blank, config)?;

@@ -1,6 +1,6 @@
 //! Which condition of a command fails, with what it reads.
 
-use rmm_spec::{Removal, Tag};
+use rmm_spec::{Removal, Tag, Version};
 
 /// What RTT_READ_ENTRY reports of an entry.
 #[derive(Clone, Copy)]
@@ -29,6 +29,11 @@ pub enum Condition {
         granule: u64,
         needed: Tag,
         found: Option<Tag>,
+    },
+    /// The version doesn't have the hash.
+    NoHash {
+        version: Version,
+        algo: u64,
     },
     VmidUsed {
         vmid: u64,
@@ -126,7 +131,6 @@ pub enum WordFault {
     SameGranule,
     Space { width: u64, level: u64 },
     Vmid(u64),
-    Algo(u64),
     Flags(u64),
     Level(u64),
     Unaligned { address: u64, size: u64 },

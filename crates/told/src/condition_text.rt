@@ -1,7 +1,7 @@
 //! A condition that fails, in words.
 
 use crate::condition::{Condition, EntryKind, EntryRead, WordFault};
-use rmm_spec::{Removal, Tag};
+use rmm_spec::{Removal, Tag, Version};
 use std::fmt;
 
 impl fmt::Display for Condition {
@@ -17,6 +17,12 @@ impl fmt::Display for Condition {
                 needed,
                 found,
             } => write_tag(f, granule, needed, found),
+            Condition::NoHash { version, algo } => write_about(
+                f,
+                "algo ",
+                algo,
+                isnt_hash(version),
+            ),
             Condition::VmidUsed { vmid } => write_about(f, "a realm has VMID ", vmid, ""),
             Condition::RealmNotNew { rd } => write_about(f, "the realm at ", rd, " isn't NEW"),
             Condition::RealmNew => f.write_str("the REC's realm is NEW"),
@@ -55,6 +61,13 @@ fn write_about<W: fmt::Write>(
     after: &str,
 ) -> fmt::Result {
     write!(f, "{before}{word:x}{after}")
+}
+
+fn isnt_hash(version: Version) -> &'static str {
+    match version {
+        Version::One => " isn't 0",
+        Version::Two => " is neither 0 nor 1",
+    }
 }
 
 // The conditions over requests, addresses and tables.
@@ -216,7 +229,6 @@ impl fmt::Display for WordFault {
                 "no realm has width {width:x} and level {level:x}: 27 and 1, or 30 and 0"
             ),
             WordFault::Vmid(vmid) => write_about(f, "VMID ", vmid, " is above ff"),
-            WordFault::Algo(algo) => write_about(f, "algo ", algo, " isn't 0"),
             WordFault::Flags(flags) => write_about(f, "flags ", flags, " is neither 0 nor 1"),
             WordFault::Level(level) => write_about(f, "level ", level, " is above 3"),
             WordFault::Unaligned { address, size } => {

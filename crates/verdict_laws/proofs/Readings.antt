@@ -15,7 +15,9 @@ use Rattle.rmm_spec.specs.declared.reply.Reply.TheVariants as reply
 use Rattle.rmm_spec.specs.CertificateText.{line_parts}
 use Rattle.rmm_spec.specs.CommandText.{command_parts, reply_parts}
 use Rattle.rmm_spec.specs.Function.{number_of}
-use Rattle.rmm_spec.specs.HistoryText.{Config, config_parts, event_parts}
+use Rattle.rmm_spec.specs.declared.version.Version.{Version}
+use Rattle.rmm_spec.specs.declared.version.Version.TheVariants.{One, Two}
+use Rattle.rmm_spec.specs.HistoryText.{Config, mark, config_parts, event_parts}
 use Rattle.rmm_spec.specs.Text.{glyph, numeral, decimal, word, fixed_hex}
 use Rattle.rmm_spec.proofs.Texts.{numeral_some, numeral-zero, function_numbered}
 
@@ -113,14 +115,23 @@ read_reply-reply_parts reply.Misplaced = refl
 
 -- ---- lines of histories and certificates
 
+-- the version that a history begins with
+pub read_mark : List ℕ → Version
+read_mark bytes = if get_or bytes 3 0 == 50 then Two else One
+
+read_mark-mark : (version : Version) → read_mark (mark version) ≡ version
+unfolding read_mark
+read_mark-mark One = refl
+read_mark-mark Two = refl
+
 -- the configuration of a history's first line
 pub read_config : List (List ℕ) → Config
-read_config parts = record { granules = read_decimal (part parts 1); cpus = read_decimal (part parts 2) }
+read_config parts = record { granules = read_decimal (part parts 1); cpus = read_decimal (part parts 2); version = read_mark (part parts 0) }
 
 -- a configuration is read back from its parts
 pub read_config-config_parts : (config : Config) → read_config (config_parts config) ≡ config
 unfolding read_config
-read_config-config_parts config = λ i. record { granules = read_decimal-decimal config.granules i; cpus = read_decimal-decimal config.cpus i }
+read_config-config_parts config = λ i. record { granules = read_decimal-decimal config.granules i; cpus = read_decimal-decimal config.cpus i; version = read_mark-mark config.version i }
 
 -- the event of a line, by its first byte
 pub read_event : List (List ℕ) → Event

@@ -3,6 +3,7 @@ use Rattle.std.proofs.Common.{◌≡◌, ℕ, ◌-◌, ◌/◌, ◌<◌, ◌≤�
 use Rattle.std.specs.Prelude.{is_some}
 use Rattle.std.specs.List.{list_all}
 use Rattle.std.proofs.lemmas.Bool.{false≢true, and_parts, and_from, ltb-true, leb-true}
+use Rattle.rmm_spec.specs.HistoryText.{Config}
 use Rattle.rmm_spec.specs.declared.accepted.Accepted.{Accepted}
 use Rattle.rmm_spec.specs.declared.accepted.Accepted.TheVariants.{Done, Reaches}
 use Rattle.rmm_spec.specs.declared.call.Call.{Call}
@@ -38,11 +39,11 @@ abbrev IsPlaced : List HeldCell → ℕ → ℕ → ℕ → Type 0
 IsPlaced held rd level number = is_some (table_placed held rd level number) ≡ true
 
 -- the table at the walk's end
-pub end-placed : (granules : ℕ) (held : List HeldCell) (w : Way) → is_walk_held granules held w ≡ true
-    → IsPlaced held w.rd (reach (seen_state granules held) w.rd w.ipa w.max) (table_number (reach (seen_state granules held) w.rd w.ipa w.max) w.ipa)
+pub end-placed : (config : Config) (held : List HeldCell) (w : Way) → is_walk_held config held w ≡ true
+    → IsPlaced held w.rd (reach (seen_state config held) w.rd w.ipa w.max) (table_number (reach (seen_state config held) w.rd w.ipa w.max) w.ipa)
 unfolding is_walk_held
-end-placed granules held w is =
-    let t = seen_state granules held in
+end-placed config held w is =
+    let t = seen_state config held in
     let level = reach t w.rd w.ipa w.max in
     (and_parts (is_some (table_placed held w.rd level (table_number level w.ipa))) (level == w.max || not (is_table (entry_for t w.rd level w.ipa))) is).0
 
@@ -94,139 +95,139 @@ and4 : (a b c d : Bool) → a ≡ true → b ≡ true → c ≡ true → d ≡ t
 and4 a b c d first second third fourth = rw (first, second, third, fourth) refl
 
 -- one lemma a command that changes something: its rows say where the walk ends
-rtt_create-held : (granules : ℕ) (held : List HeldCell) (cpu rd rtt ipa level : ℕ) → are_told (call.RttCreate rd rtt ipa level) held ≡ true
-    → is_walk_held granules held (way rd ipa (level - 1)) ≡ true
-    → AllHold (with_front (seen_state granules held) (call.RttCreate rd rtt ipa level) (behind (seen_state granules held) cpu (call.RttCreate rd rtt ipa level)).0)
-    → IsHeldChange held (behind (seen_state granules held) cpu (call.RttCreate rd rtt ipa level)).1
+rtt_create-held : (config : Config) (held : List HeldCell) (cpu rd rtt ipa level : ℕ) → are_told (call.RttCreate rd rtt ipa level) held ≡ true
+    → is_walk_held config held (way rd ipa (level - 1)) ≡ true
+    → AllHold (with_front (seen_state config held) (call.RttCreate rd rtt ipa level) (behind (seen_state config held) cpu (call.RttCreate rd rtt ipa level)).0)
+    → IsHeldChange held (behind (seen_state config held) cpu (call.RttCreate rd rtt ipa level)).1
 unfolding behind words_of named are_told holds_change
-rtt_create-held granules held cpu rd rtt ipa level told walked (level_fits, (aligned, (rd_tag, (rtt_tag, (above, (below, (ends, (leaf, _)))))))) =
-    let t = seen_state granules held in
+rtt_create-held config held cpu rd rtt ipa level told walked (level_fits, (aligned, (rd_tag, (rtt_tag, (above, (below, (ends, (leaf, _)))))))) =
+    let t = seen_state config held in
     let under : (realm_at t rd).start_level < level = ltb-true (realm_at t rd).start_level level above in
     let last : level ≤ 3 = leb-true level 3 level_fits in
     let keeps = keeps_realm (call.RttCreate rd rtt ipa level) in
     and_from (is_held rtt held) (is_some (table_placed held rd (level - 1) (table_number level ipa / 512)))
     (told-held keeps held (needed rtt tag.Delegated) refl (second-told (is_told keeps held) (needed rd tag.Rd) (needed rtt tag.Delegated) [] told))
-    (above-placed held rd ipa level (reach t rd ipa (level - 1)) (end-placed granules held (way rd ipa (level - 1)) walked)
+    (above-placed held rd ipa level (reach t rd ipa (level - 1)) (end-placed config held (way rd ipa (level - 1)) walked)
     (eqb-true (reach t rd ipa (level - 1)) (level - 1) ends) (omega (arith, under)) last)
 
-rtt_remove-held : (granules : ℕ) (held : List HeldCell) (cpu : ℕ) (removal : Removal) (rd ipa level : ℕ) → is_walk_held granules held (way rd ipa (level - 1)) ≡ true
-    → is_part_held (part_below (call.RttRemove removal rd ipa level) (end_entry granules held (way rd ipa (level - 1)))) held ≡ true
-    → AllHold (with_front (seen_state granules held) (call.RttRemove removal rd ipa level) (behind (seen_state granules held) cpu (call.RttRemove removal rd ipa level)).0)
-    → IsHeldChange held (behind (seen_state granules held) cpu (call.RttRemove removal rd ipa level)).1
+rtt_remove-held : (config : Config) (held : List HeldCell) (cpu : ℕ) (removal : Removal) (rd ipa level : ℕ) → is_walk_held config held (way rd ipa (level - 1)) ≡ true
+    → is_part_held (part_below (call.RttRemove removal rd ipa level) (end_entry config held (way rd ipa (level - 1)))) held ≡ true
+    → AllHold (with_front (seen_state config held) (call.RttRemove removal rd ipa level) (behind (seen_state config held) cpu (call.RttRemove removal rd ipa level)).0)
+    → IsHeldChange held (behind (seen_state config held) cpu (call.RttRemove removal rd ipa level)).1
 unfolding behind words_of named holds_change
-rtt_remove-held granules held cpu removal rd ipa level walked part (level_fits, (aligned, (rd_tag, (above, (below, (linked, (some, _))))))) =
-    let t = seen_state granules held in
+rtt_remove-held config held cpu removal rd ipa level walked part (level_fits, (aligned, (rd_tag, (above, (below, (linked, (some, _))))))) =
+    let t = seen_state config held in
     let under : (realm_at t rd).start_level < level = ltb-true (realm_at t rd).start_level level above in
     let last : level ≤ 3 = leb-true level 3 level_fits in
     let parts = and_parts (reach t rd ipa (level - 1) == level - 1) (is_table (walk t rd ipa (level - 1)).entry) linked in
     and_from (is_held (entry_address (walk t rd ipa (level - 1)).entry) held) (is_some (table_placed held rd (level - 1) (table_number level ipa / 512)))
     (link-held removal rd ipa level held (walk t rd ipa (level - 1)).entry part parts.1)
-    (above-placed held rd ipa level (reach t rd ipa (level - 1)) (end-placed granules held (way rd ipa (level - 1)) walked)
+    (above-placed held rd ipa level (reach t rd ipa (level - 1)) (end-placed config held (way rd ipa (level - 1)) walked)
     (eqb-true (reach t rd ipa (level - 1)) (level - 1) parts.0) (omega (arith, under)) last)
 
-data_create-held : (granules : ℕ) (held : List HeldCell) (cpu rd granule ipa source flags : ℕ) (digest : List ℕ)
-    → are_told (call.DataCreate rd granule ipa source flags digest) held ≡ true → is_walk_held granules held (way rd ipa 3) ≡ true
-    → AllHold (with_front (seen_state granules held) (call.DataCreate rd granule ipa source flags digest) (behind (seen_state granules held) cpu (call.DataCreate rd granule ipa source flags digest)).0)
-    → IsHeldChange held (behind (seen_state granules held) cpu (call.DataCreate rd granule ipa source flags digest)).1
+data_create-held : (config : Config) (held : List HeldCell) (cpu rd granule ipa source flags : ℕ) (digest : List ℕ)
+    → are_told (call.DataCreate rd granule ipa source flags digest) held ≡ true → is_walk_held config held (way rd ipa 3) ≡ true
+    → AllHold (with_front (seen_state config held) (call.DataCreate rd granule ipa source flags digest) (behind (seen_state config held) cpu (call.DataCreate rd granule ipa source flags digest)).0)
+    → IsHeldChange held (behind (seen_state config held) cpu (call.DataCreate rd granule ipa source flags digest)).1
 unfolding behind words_of named are_told keeps_realm holds_change
-data_create-held granules held cpu rd granule ipa source flags digest told walked (flags_fit, (aligned, (rd_tag, (page_tag, (source_tag, (below, (new, (ends, (free, _))))))))) =
-    let t = seen_state granules held in
+data_create-held config held cpu rd granule ipa source flags digest told walked (flags_fit, (aligned, (rd_tag, (page_tag, (source_tag, (below, (new, (ends, (free, _))))))))) =
+    let t = seen_state config held in
     let names = needed granule tag.Delegated ∷ needed source tag.Undelegated ∷ [] in
     and4 _ _ _ _ (told-held true held (needed granule tag.Delegated) refl
     (second-told (is_told true held) (needed rd tag.Rd) (needed granule tag.Delegated) (needed source tag.Undelegated ∷ []) told))
     (told-kept held (needed rd tag.Rd) (first-told (is_told true held) (needed rd tag.Rd) names told)) refl
-    (last-placed held rd ipa (reach t rd ipa 3) (end-placed granules held (way rd ipa 3) walked) ends)
+    (last-placed held rd ipa (reach t rd ipa 3) (end-placed config held (way rd ipa 3) walked) ends)
 
-data_create_unknown-held : (granules : ℕ) (held : List HeldCell) (cpu rd granule ipa : ℕ)
-    → are_told (call.DataCreateUnknown rd granule ipa) held ≡ true → is_walk_held granules held (way rd ipa 3) ≡ true
-    → AllHold (with_front (seen_state granules held) (call.DataCreateUnknown rd granule ipa) (behind (seen_state granules held) cpu (call.DataCreateUnknown rd granule ipa)).0)
-    → IsHeldChange held (behind (seen_state granules held) cpu (call.DataCreateUnknown rd granule ipa)).1
+data_create_unknown-held : (config : Config) (held : List HeldCell) (cpu rd granule ipa : ℕ)
+    → are_told (call.DataCreateUnknown rd granule ipa) held ≡ true → is_walk_held config held (way rd ipa 3) ≡ true
+    → AllHold (with_front (seen_state config held) (call.DataCreateUnknown rd granule ipa) (behind (seen_state config held) cpu (call.DataCreateUnknown rd granule ipa)).0)
+    → IsHeldChange held (behind (seen_state config held) cpu (call.DataCreateUnknown rd granule ipa)).1
 unfolding behind words_of named are_told keeps_realm holds_change
-data_create_unknown-held granules held cpu rd granule ipa told walked (aligned, (rd_tag, (page_tag, (below, (ends, (free, _)))))) =
-    let t = seen_state granules held in
+data_create_unknown-held config held cpu rd granule ipa told walked (aligned, (rd_tag, (page_tag, (below, (ends, (free, _)))))) =
+    let t = seen_state config held in
     and4 _ _ _ _ (told-held false held (needed granule tag.Delegated) refl
     (second-told (is_told false held) (needed rd tag.Rd) (needed granule tag.Delegated) [] told)) refl refl
-    (last-placed held rd ipa (reach t rd ipa 3) (end-placed granules held (way rd ipa 3) walked) ends)
+    (last-placed held rd ipa (reach t rd ipa 3) (end-placed config held (way rd ipa 3) walked) ends)
 
-data_destroy-held : (granules : ℕ) (held : List HeldCell) (cpu rd ipa : ℕ) → is_walk_held granules held (way rd ipa 3) ≡ true
-    → is_part_held (part_below (call.DataDestroy rd ipa) (end_entry granules held (way rd ipa 3))) held ≡ true
-    → AllHold (with_front (seen_state granules held) (call.DataDestroy rd ipa) (behind (seen_state granules held) cpu (call.DataDestroy rd ipa)).0)
-    → IsHeldChange held (behind (seen_state granules held) cpu (call.DataDestroy rd ipa)).1
+data_destroy-held : (config : Config) (held : List HeldCell) (cpu rd ipa : ℕ) → is_walk_held config held (way rd ipa 3) ≡ true
+    → is_part_held (part_below (call.DataDestroy rd ipa) (end_entry config held (way rd ipa 3))) held ≡ true
+    → AllHold (with_front (seen_state config held) (call.DataDestroy rd ipa) (behind (seen_state config held) cpu (call.DataDestroy rd ipa)).0)
+    → IsHeldChange held (behind (seen_state config held) cpu (call.DataDestroy rd ipa)).1
 unfolding behind words_of named holds_change
-data_destroy-held granules held cpu rd ipa walked part (aligned, (rd_tag, (below, (ends, (taken, _))))) =
-    let t = seen_state granules held in
+data_destroy-held config held cpu rd ipa walked part (aligned, (rd_tag, (below, (ends, (taken, _))))) =
+    let t = seen_state config held in
     and4 _ _ _ _ (page-held rd ipa held (walk t rd ipa 3).entry part taken) refl refl
-    (last-placed held rd ipa (reach t rd ipa 3) (end-placed granules held (way rd ipa 3) walked) ends)
+    (last-placed held rd ipa (reach t rd ipa 3) (end-placed config held (way rd ipa 3) walked) ends)
 
-rtt_map-held : (granules : ℕ) (held : List HeldCell) (cpu rd ipa page : ℕ) → is_walk_held granules held (way rd ipa 3) ≡ true
-    → AllHold (with_front (seen_state granules held) (call.RttMapUnprotected rd ipa page) (behind (seen_state granules held) cpu (call.RttMapUnprotected rd ipa page)).0)
-    → IsHeldChange held (behind (seen_state granules held) cpu (call.RttMapUnprotected rd ipa page)).1
+rtt_map-held : (config : Config) (held : List HeldCell) (cpu rd ipa page : ℕ) → is_walk_held config held (way rd ipa 3) ≡ true
+    → AllHold (with_front (seen_state config held) (call.RttMapUnprotected rd ipa page) (behind (seen_state config held) cpu (call.RttMapUnprotected rd ipa page)).0)
+    → IsHeldChange held (behind (seen_state config held) cpu (call.RttMapUnprotected rd ipa page)).1
 unfolding behind words_of named holds_change
-rtt_map-held granules held cpu rd ipa page walked (aligned, (page_fits, (rd_tag, (upper, (ends, (free, _)))))) =
-    last-placed held rd ipa (reach (seen_state granules held) rd ipa 3) (end-placed granules held (way rd ipa 3) walked) ends
+rtt_map-held config held cpu rd ipa page walked (aligned, (page_fits, (rd_tag, (upper, (ends, (free, _)))))) =
+    last-placed held rd ipa (reach (seen_state config held) rd ipa 3) (end-placed config held (way rd ipa 3) walked) ends
 
-rtt_unmap-held : (granules : ℕ) (held : List HeldCell) (cpu rd ipa : ℕ) → is_walk_held granules held (way rd ipa 3) ≡ true
-    → AllHold (with_front (seen_state granules held) (call.RttUnmapUnprotected rd ipa) (behind (seen_state granules held) cpu (call.RttUnmapUnprotected rd ipa)).0)
-    → IsHeldChange held (behind (seen_state granules held) cpu (call.RttUnmapUnprotected rd ipa)).1
+rtt_unmap-held : (config : Config) (held : List HeldCell) (cpu rd ipa : ℕ) → is_walk_held config held (way rd ipa 3) ≡ true
+    → AllHold (with_front (seen_state config held) (call.RttUnmapUnprotected rd ipa) (behind (seen_state config held) cpu (call.RttUnmapUnprotected rd ipa)).0)
+    → IsHeldChange held (behind (seen_state config held) cpu (call.RttUnmapUnprotected rd ipa)).1
 unfolding behind words_of named holds_change
-rtt_unmap-held granules held cpu rd ipa walked (aligned, (rd_tag, (upper, (ends, (free, _))))) =
-    last-placed held rd ipa (reach (seen_state granules held) rd ipa 3) (end-placed granules held (way rd ipa 3) walked) ends
+rtt_unmap-held config held cpu rd ipa walked (aligned, (rd_tag, (upper, (ends, (free, _))))) =
+    last-placed held rd ipa (reach (seen_state config held) rd ipa 3) (end-placed config held (way rd ipa 3) walked) ends
 
-init_ripas-held : (granules : ℕ) (held : List HeldCell) (cpu rd base top : ℕ) → are_told (call.RttInitRipas rd base top) held ≡ true
-    → is_walk_held granules held (way rd base 3) ≡ true → IsHeldChange held (behind (seen_state granules held) cpu (call.RttInitRipas rd base top)).1
+init_ripas-held : (config : Config) (held : List HeldCell) (cpu rd base top : ℕ) → are_told (call.RttInitRipas rd base top) held ≡ true
+    → is_walk_held config held (way rd base 3) ≡ true → IsHeldChange held (behind (seen_state config held) cpu (call.RttInitRipas rd base top)).1
 unfolding behind words_of named are_told keeps_realm holds_change reached_change
-init_ripas-held granules held cpu rd base top told walked end =
-    let t = seen_state granules held in
+init_ripas-held config held cpu rd base top told walked end =
+    let t = seen_state config held in
     and4 _ _ _ _ refl (told-kept held (needed rd tag.Rd) (first-told (is_told true held) (needed rd tag.Rd) [] told)) refl
-    (page-placed held rd base (reach t rd base 3) (end-placed granules held (way rd base 3) walked) (reach-le t rd base 3))
+    (page-placed held rd base (reach t rd base 3) (end-placed config held (way rd base 3) walked) (reach-le t rd base 3))
 
-set_ripas-held : (granules : ℕ) (held : List HeldCell) (cpu rd rec base top : ℕ) → are_told (call.RttSetRipas rd rec base top) held ≡ true
-    → is_walk_held granules held (way rd base 3) ≡ true → IsHeldChange held (behind (seen_state granules held) cpu (call.RttSetRipas rd rec base top)).1
+set_ripas-held : (config : Config) (held : List HeldCell) (cpu rd rec base top : ℕ) → are_told (call.RttSetRipas rd rec base top) held ≡ true
+    → is_walk_held config held (way rd base 3) ≡ true → IsHeldChange held (behind (seen_state config held) cpu (call.RttSetRipas rd rec base top)).1
 unfolding behind words_of named are_told keeps_realm holds_change reached_change
-set_ripas-held granules held cpu rd rec base top told walked end =
-    let t = seen_state granules held in
+set_ripas-held config held cpu rd rec base top told walked end =
+    let t = seen_state config held in
     and4 _ _ _ _ refl refl
     (and_from (is_held rec held) true
     (told-held false held (needed rec tag.Rec) refl (second-told (is_told false held) (needed rd tag.Rd) (needed rec tag.Rec) [] told)) refl)
-    (page-placed held rd base (reach t rd base 3) (end-placed granules held (way rd base 3) walked) (reach-le t rd base 3))
+    (page-placed held rd base (reach t rd base 3) (end-placed config held (way rd base 3) walked) (reach-le t rd base 3))
 
 -- reading changes nothing
-read_entry-held : (granules : ℕ) (held : List HeldCell) (cpu rd ipa level : ℕ) → IsHeldChange held (behind (seen_state granules held) cpu (call.RttReadEntry rd ipa level)).1
+read_entry-held : (config : Config) (held : List HeldCell) (cpu rd ipa level : ℕ) → IsHeldChange held (behind (seen_state config held) cpu (call.RttReadEntry rd ipa level)).1
 unfolding behind holds_change
-read_entry-held granules held cpu rd ipa level = refl
+read_entry-held config held cpu rd ipa level = refl
 
 -- a walk's end is held, with what is taken out below it
-abbrev pub IsSettledBy : ℕ → Call → List HeldCell → Option Way → Type 0
-IsSettledBy granules c held None = ⊥
-IsSettledBy granules c held (Some w) = (is_walk_held granules held w ≡ true) × (is_part_held (part_below c (end_entry granules held w)) held ≡ true)
+abbrev pub IsSettledBy : Config → Call → List HeldCell → Option Way → Type 0
+IsSettledBy config c held None = ⊥
+IsSettledBy config c held (Some w) = (is_walk_held config held w ≡ true) × (is_part_held (part_below c (end_entry config held w)) held ≡ true)
 
 -- what settles a walk, in its two parts
-pub settled-by : (granules : ℕ) (c : Call) (held : List HeldCell) (o : Option Way) → is_way_settled granules c held o ≡ true → IsSettledBy granules c held o
-settled-by granules c held None settled = false≢true settled
-settled-by granules c held (Some w) settled = and_parts (is_walk_held granules held w) (is_part_held (part_below c (end_entry granules held w)) held) settled
+pub settled-by : (config : Config) (c : Call) (held : List HeldCell) (o : Option Way) → is_way_settled config c held o ≡ true → IsSettledBy config c held o
+settled-by config c held None settled = false≢true settled
+settled-by config c held (Some w) settled = and_parts (is_walk_held config held w) (is_part_held (part_below c (end_entry config held w)) held) settled
 
 -- of each command whose rows all hold
-rows-held : (granules : ℕ) (held : List HeldCell) (cpu : ℕ) (c : Call) → are_told c held ≡ true → IsSettledBy granules c held (way_of c)
-    → AllHold (with_front (seen_state granules held) c (behind (seen_state granules held) cpu c).0) → IsHeldChange held (behind (seen_state granules held) cpu c).1
+rows-held : (config : Config) (held : List HeldCell) (cpu : ℕ) (c : Call) → are_told c held ≡ true → IsSettledBy config c held (way_of c)
+    → AllHold (with_front (seen_state config held) c (behind (seen_state config held) cpu c).0) → IsHeldChange held (behind (seen_state config held) cpu c).1
 unfolding way_of
-rows-held granules held cpu (call.RttCreate rd rtt ipa level) told settled rows = rtt_create-held granules held cpu rd rtt ipa level told settled.0 rows
-rows-held granules held cpu (call.RttRemove removal rd ipa level) told settled rows = rtt_remove-held granules held cpu removal rd ipa level settled.0 settled.1 rows
-rows-held granules held cpu (call.RttReadEntry rd ipa level) told settled rows = read_entry-held granules held cpu rd ipa level
-rows-held granules held cpu (call.DataCreate rd granule ipa source flags digest) told settled rows =
-    data_create-held granules held cpu rd granule ipa source flags digest told settled.0 rows
-rows-held granules held cpu (call.DataCreateUnknown rd granule ipa) told settled rows = data_create_unknown-held granules held cpu rd granule ipa told settled.0 rows
-rows-held granules held cpu (call.DataDestroy rd ipa) told settled rows = data_destroy-held granules held cpu rd ipa settled.0 settled.1 rows
-rows-held granules held cpu (call.RttMapUnprotected rd ipa page) told settled rows = rtt_map-held granules held cpu rd ipa page settled.0 rows
-rows-held granules held cpu (call.RttUnmapUnprotected rd ipa) told settled rows = rtt_unmap-held granules held cpu rd ipa settled.0 rows
-rows-held granules held cpu (call.RttInitRipas rd base top) told settled rows = init_ripas-held granules held cpu rd base top told settled.0
-rows-held granules held cpu (call.RttSetRipas rd rec base top) told settled rows = set_ripas-held granules held cpu rd rec base top told settled.0
-rows-held granules held cpu _ told settled rows = absurd settled
+rows-held config held cpu (call.RttCreate rd rtt ipa level) told settled rows = rtt_create-held config held cpu rd rtt ipa level told settled.0 rows
+rows-held config held cpu (call.RttRemove removal rd ipa level) told settled rows = rtt_remove-held config held cpu removal rd ipa level settled.0 settled.1 rows
+rows-held config held cpu (call.RttReadEntry rd ipa level) told settled rows = read_entry-held config held cpu rd ipa level
+rows-held config held cpu (call.DataCreate rd granule ipa source flags digest) told settled rows =
+    data_create-held config held cpu rd granule ipa source flags digest told settled.0 rows
+rows-held config held cpu (call.DataCreateUnknown rd granule ipa) told settled rows = data_create_unknown-held config held cpu rd granule ipa told settled.0 rows
+rows-held config held cpu (call.DataDestroy rd ipa) told settled rows = data_destroy-held config held cpu rd ipa settled.0 settled.1 rows
+rows-held config held cpu (call.RttMapUnprotected rd ipa page) told settled rows = rtt_map-held config held cpu rd ipa page settled.0 rows
+rows-held config held cpu (call.RttUnmapUnprotected rd ipa) told settled rows = rtt_unmap-held config held cpu rd ipa settled.0 rows
+rows-held config held cpu (call.RttInitRipas rd base top) told settled rows = init_ripas-held config held cpu rd base top told settled.0
+rows-held config held cpu (call.RttSetRipas rd rec base top) told settled rows = set_ripas-held config held cpu rd rec base top told settled.0
+rows-held config held cpu _ told settled rows = absurd settled
 
 -- what a settled walk does changes what is held
-pub accepted-held : (granules : ℕ) (held : List HeldCell) (cpu : ℕ) (c : Call) (a : Accepted) → are_told c held ≡ true
-    → is_way_settled granules c held (way_of c) ≡ true → answer_of (seen_state granules held) cpu c ≡ Ok a → IsHeldChange held a
-accepted-held granules held cpu c a told settled is =
-    let t = seen_state granules held in
+pub accepted-held : (config : Config) (held : List HeldCell) (cpu : ℕ) (c : Call) (a : Accepted) → are_told c held ≡ true
+    → is_way_settled config c held (way_of c) ≡ true → answer_of (seen_state config held) cpu c ≡ Ok a → IsHeldChange held a
+accepted-held config held cpu c a told settled is =
+    let t = seen_state config held in
     let rows = behind t cpu c in
     let all = decided-accepted (with_front t c rows.0) rows.1 a (sym rows.2 ∙ is) in
-    subst (IsHeldChange held) all.1 (rows-held granules held cpu c told (settled-by granules c held (way_of c) settled) all.0)
+    subst (IsHeldChange held) all.1 (rows-held config held cpu c told (settled-by config c held (way_of c) settled) all.0)

@@ -7,6 +7,7 @@ use Rattle.std.specs.Option.{option_and_then}
 use Rattle.std.proofs.lemmas.Bool.{false≢true, cases_order, and_from, and_parts, or_right}
 use Rattle.std.proofs.lemmas.Bool.Decides.{nat_tests}
 use Rattle.std.proofs.lemmas.Option.{none-some}
+use Rattle.rmm_spec.specs.HistoryText.{Config}
 use Rattle.rmm_spec.specs.declared.call.Call.{Call}
 use Rattle.rmm_spec.specs.declared.call.Call.TheVariants as call
 use Rattle.rmm_spec.specs.declared.entry.Entry.{Entry}
@@ -62,10 +63,10 @@ link-of_table UnassignedNs child is = absurd (none-some child is)
 link-of_table (AssignedNs page) child is = absurd (none-some child is)
 
 -- an entry that links has a table below
-no_link : {granules : ℕ} {side : Side} {held : List HeldCell} (w : Whole granules side held) (rd ipa level g : ℕ) → level ≤ 3
+no_link : {config : Config} {side : Side} {held : List HeldCell} (w : Whole config side held) (rd ipa level g : ℕ) → level ≤ 3
     → (state w).table rd level (table_number level ipa) ≡ Some g → (state w).table rd (suc level) (table_number (suc level) ipa) ≡ None
     → is_table (entry_for (state w) rd level ipa) ≡ false
-no_link {granules} {side} {held} w rd ipa level g last here none = by (is_table (entry_for (state w) rd level ipa)) refl
+no_link {config} {side} {held} w rd ipa level g last here none = by (is_table (entry_for (state w) rd level ipa)) refl
   where
     table : IsTrue (is_some ((state w).table rd level (entry_number level ipa / 512)))
     table = ap (λ (o : Option ℕ). is_some o) (ap ((state w).table rd level) (sym (table_number-entry level ipa last)) ∙ here)
@@ -78,24 +79,24 @@ no_link {granules} {side} {held} w rd ipa level g last here none = by (is_table 
 
 -- ---- the walk's end
 
-record IsEnd (granules : ℕ) (side : Side) (held : List HeldCell) (w : Whole granules side held) (rd ipa max level g : ℕ) : Type 0 where
-  is_level : reach (flat_state granules w.cells) rd ipa max ≡ level
+record IsEnd (config : Config) (side : Side) (held : List HeldCell) (w : Whole config side held) (rd ipa max level g : ℕ) : Type 0 where
+  is_level : reach (flat_state config w.cells) rd ipa max ≡ level
   last : max ≤ 3
-  found : (flat_state granules w.cells).table rd level (table_number level ipa) ≡ Some g
+  found : (flat_state config w.cells).table rd level (table_number level ipa) ≡ Some g
   has : IsTrue (is_held g held)
 
 -- the end is found among the held tables
-end-placed : {granules : ℕ} {side : Side} {held : List HeldCell} (w : Whole granules side held) (rd ipa max level g : ℕ) → IsEnd granules side held w rd ipa max level g
+end-placed : {config : Config} {side : Side} {held : List HeldCell} (w : Whole config side held) (rd ipa max level g : ℕ) → IsEnd config side held w rd ipa max level g
     → (f : ℕ) × (table_placed held rd level (table_number level ipa) ≡ Some f)
 unfolding flat_state
-end-placed {granules} {side} {held} w rd ipa max level g end =
+end-placed {config} {side} {held} w rd ipa max level g end =
     held-placed w g rd level (table_number level ipa) end.has
-    (table_granule-holds granules (tables_of w.cells) rd level (table_number level ipa) g end.found)
+    (table_granule-holds config.granules (tables_of w.cells) rd level (table_number level ipa) g end.found)
 
 -- nothing is told of below
-none-deeper : {granules : ℕ} {side : Side} {held : List HeldCell} (w : Whole granules side held) (rd ipa max level g : ℕ) → IsEnd granules side held w rd ipa max level g
+none-deeper : {config : Config} {side : Side} {held : List HeldCell} (w : Whole config side held) (rd ipa max level g : ℕ) → IsEnd config side held w rd ipa max level g
     → (up : ℕ) → level ≤ up → suc up ≤ max → table_seen held rd (suc up) (table_number (suc up) ipa) ≡ None
-none-deeper {granules} {side} {held} w rd ipa max level g end up under within =
+none-deeper {config} {side} {held} w rd ipa max level g end up under within =
     seen-below held rd up (table_number (suc up) ipa)
     ∙ (by (table_placed held rd (suc up) (table_number (suc up) ipa)) refl (table_placed held rd up (table_number (suc up) ipa / 512)) refl)
   where
@@ -133,11 +134,11 @@ none-deeper {granules} {side} {held} w rd ipa max level g end up under within =
     by None is (Some f) placed = unlinked f placed None is
 
 -- the end itself is told of
-end-seen : {granules : ℕ} {side : Side} {held : List HeldCell} (w : Whole granules side held) (rd ipa max g : ℕ) (level : ℕ) → IsEnd granules side held w rd ipa max level g
+end-seen : {config : Config} {side : Side} {held : List HeldCell} (w : Whole config side held) (rd ipa max g : ℕ) (level : ℕ) → IsEnd config side held w rd ipa max level g
     → is_some (table_seen held rd level (table_number level ipa)) ≡ true
-end-seen {granules} {side} {held} w rd ipa max g zero end =
+end-seen {config} {side} {held} w rd ipa max g zero end =
     ap (λ (o : Option ℕ). is_some o) (seen-first held rd (table_number 0 ipa) ∙ (end-placed w rd ipa max 0 g end).1)
-end-seen {granules} {side} {held} w rd ipa max g (suc up) end =
+end-seen {config} {side} {held} w rd ipa max g (suc up) end =
     ap (λ (o : Option ℕ). is_some o) (seen-below held rd up (table_number (suc up) ipa)) ∙ by (table_placed held rd up (table_number (suc up) ipa / 512)) refl
   where
     placed : (f : ℕ) × (table_placed held rd (suc up) (table_number (suc up) ipa) ≡ Some f)
@@ -152,51 +153,51 @@ end-seen {granules} {side} {held} w rd ipa max g (suc up) end =
         ap (λ x. is_some (linked_or x (table_placed held rd (suc up) (table_number (suc up) ipa)))) e.found ∙ ap (λ x. is_some (link_of x)) link
 
 -- the tables of the state that is told of
-seen_table : (granules : ℕ) (held : List HeldCell) (rd level number : ℕ) → (seen_state granules held).table rd level number ≡ table_seen held rd level number
+seen_table : (config : Config) (held : List HeldCell) (rd level number : ℕ) → (seen_state config held).table rd level number ≡ table_seen held rd level number
 unfolding seen_state
-seen_table granules held rd level number = refl
+seen_table config held rd level number = refl
 
 -- so the walk that the held cells tell of ends there
-end-reached : {granules : ℕ} {side : Side} {held : List HeldCell} (w : Whole granules side held) (rd ipa max level g : ℕ) → IsEnd granules side held w rd ipa max level g
-    → reach (seen_state granules held) rd ipa max ≡ level
-end-reached {granules} {side} {held} w rd ipa max level g end =
-    let t = seen_state granules held in
-    let there = ap (λ (o : Option ℕ). is_some o) (seen_table granules held rd level (table_number level ipa)) ∙ end-seen w rd ipa max g level end in
+end-reached : {config : Config} {side : Side} {held : List HeldCell} (w : Whole config side held) (rd ipa max level g : ℕ) → IsEnd config side held w rd ipa max level g
+    → reach (seen_state config held) rd ipa max ≡ level
+end-reached {config} {side} {held} w rd ipa max level g end =
+    let t = seen_state config held in
+    let there = ap (λ (o : Option ℕ). is_some o) (seen_table config held rd level (table_number level ipa)) ∙ end-seen w rd ipa max g level end in
     let within : level ≤ max = subst (λ l. l ≤ max) end.is_level (reach-le (state w) rd ipa max) in
     let reached = reach-covers t rd ipa level max there within in
     by (cases_order level (reach t rd ipa max)) reached.0 reached.1
   where
-    by : (level ≡ reach (seen_state granules held) rd ipa max) ⊎ ((level < reach (seen_state granules held) rd ipa max) ⊎ (reach (seen_state granules held) rd ipa max < level))
-        → level ≤ reach (seen_state granules held) rd ipa max
-        → is_some ((seen_state granules held).table rd (reach (seen_state granules held) rd ipa max) (table_number (reach (seen_state granules held) rd ipa max) ipa)) ≡ true
-        → reach (seen_state granules held) rd ipa max ≡ level
+    by : (level ≡ reach (seen_state config held) rd ipa max) ⊎ ((level < reach (seen_state config held) rd ipa max) ⊎ (reach (seen_state config held) rd ipa max < level))
+        → level ≤ reach (seen_state config held) rd ipa max
+        → is_some ((seen_state config held).table rd (reach (seen_state config held) rd ipa max) (table_number (reach (seen_state config held) rd ipa max) ipa)) ≡ true
+        → reach (seen_state config held) rd ipa max ≡ level
     by (inl same) least there = sym same
     by (inr (inr more)) least there = absurd (omega (arith, more, least))
     by (inr (inl less)) least there =
-        let deep = reach (seen_state granules held) rd ipa max in
+        let deep = reach (seen_state config held) rd ipa max in
         let up = deep - 1 in
         let is : suc up ≡ deep = omega (arith, less) in
-        let most = reach-le (seen_state granules held) rd ipa max in
+        let most = reach-le (seen_state config held) rd ipa max in
         let none = none-deeper w rd ipa max level g end up (omega (arith, less)) (omega (arith, is, most)) in
         absurd (false≢true (ap (λ (o : Option ℕ). is_some o) (sym (subst (λ d. table_seen held rd d (table_number d ipa) ≡ None) is none))
-        ∙ (ap (λ (o : Option ℕ). is_some o) (sym (seen_table granules held rd deep (table_number deep ipa))) ∙ there)))
+        ∙ (ap (λ (o : Option ℕ). is_some o) (sym (seen_table config held rd deep (table_number deep ipa))) ∙ there)))
 
 -- so the walk is held
-pub end-held : {granules : ℕ} {side : Side} {held : List HeldCell} (w : Whole granules side held) (way : Way) (g : ℕ) → way.max ≤ 3
+pub end-held : {config : Config} {side : Side} {held : List HeldCell} (w : Whole config side held) (way : Way) (g : ℕ) → way.max ≤ 3
     → (state w).table way.rd (reach (state w) way.rd way.ipa way.max) (table_number (reach (state w) way.rd way.ipa way.max) way.ipa) ≡ Some g → IsTrue (is_held g held)
-    → is_walk_held granules held way ≡ true
+    → is_walk_held config held way ≡ true
 unfolding is_walk_held
-end-held {granules} {side} {held} w way g last found has =
-    subst (λ l. (is_some (table_placed held way.rd l (table_number l way.ipa)) && (l == way.max || not (is_table (entry_for (seen_state granules held) way.rd l way.ipa)))) ≡ true)
+end-held {config} {side} {held} w way g last found has =
+    subst (λ l. (is_some (table_placed held way.rd l (table_number l way.ipa)) && (l == way.max || not (is_table (entry_for (seen_state config held) way.rd l way.ipa)))) ≡ true)
     (sym (end-reached w way.rd way.ipa way.max level g end))
     (and_from (is_some (table_placed held way.rd level (table_number level way.ipa)))
-    (level == way.max || not (is_table (entry_for (seen_state granules held) way.rd level way.ipa)))
+    (level == way.max || not (is_table (entry_for (seen_state config held) way.rd level way.ipa)))
     (ap (λ (o : Option ℕ). is_some o) placed.1) (by (level == way.max) refl))
   where
     level : ℕ
     level = reach (state w) way.rd way.ipa way.max
 
-    end : IsEnd granules side held w way.rd way.ipa way.max level g
+    end : IsEnd config side held w way.rd way.ipa way.max level g
     end = record { is_level = refl; last = last; found = found; has = has }
 
     placed : (f : ℕ) × (table_placed held way.rd level (table_number level way.ipa) ≡ Some f)
@@ -211,7 +212,7 @@ end-held {granules} {side} {held} w way g last found has =
     number : entry_number level way.ipa / 512 ≡ table_number level way.ipa
     number = sym (table_number-entry level way.ipa low)
 
-    leaf : (level == way.max) ≡ false → is_table (entry_for (seen_state granules held) way.rd level way.ipa) ≡ false
+    leaf : (level == way.max) ≡ false → is_table (entry_for (seen_state config held) way.rd level way.ipa) ≡ false
     leaf apart =
         let differ : level ≡ way.max → ⊥ = λ same. false≢true (sym apart ∙ eq-eqb level way.max same) in
         let next : level < suc level = omega arith in
@@ -219,7 +220,7 @@ end-held {granules} {side} {held} w way g last found has =
         ap is_table (sym (entry-same w placed.0 way.rd level (entry_number level way.ipa) (ap (table_placed held way.rd level) number ∙ placed.1)))
         ∙ no_link w way.rd way.ipa level g low found none
 
-    by : (b : Bool) → (level == way.max) ≡ b → (b || not (is_table (entry_for (seen_state granules held) way.rd level way.ipa))) ≡ true
+    by : (b : Bool) → (level == way.max) ≡ b → (b || not (is_table (entry_for (seen_state config held) way.rd level way.ipa))) ≡ true
     by true same = refl
     by false apart = ap not (leaf apart)
 
@@ -275,20 +276,20 @@ kept-told keeps held rd behind (n ∷ names) realms kept =
         (subst (λ x. is_some (table_behind held x) ≡ true) (sym (realms.0 own.1)) behind)
 
 -- what a command keeps to its commit settles it
-pub kept-settled : {granules : ℕ} {side : Side} {held : List HeldCell} (w : Whole granules side held) (c : Call) (way : Way) (g : ℕ) → way_of c ≡ Some way → way.max ≤ 3
+pub kept-settled : {config : Config} {side : Side} {held : List HeldCell} (w : Whole config side held) (c : Call) (way : Way) (g : ℕ) → way_of c ≡ Some way → way.max ≤ 3
     → (state w).table way.rd (reach (state w) way.rd way.ipa way.max) (table_number (reach (state w) way.rd way.ipa way.max) way.ipa) ≡ Some g → IsTrue (is_held g held)
     → is_kept c held ≡ true → is_part_held (part_below c (entry_for (state w) way.rd (reach (state w) way.rd way.ipa way.max) way.ipa)) held ≡ true
-    → is_walk_settled granules c held ≡ true
+    → is_walk_settled config c held ≡ true
 unfolding is_walk_settled are_told is_kept
-kept-settled {granules} {side} {held} w c way g walks last found has kept part =
+kept-settled {config} {side} {held} w c way g walks last found has kept part =
     let ends = end-held w way g last found has in
     let end = walk-end w way ends in
     let realms = subst (AreWayRealms c) walks (way-realms c) in
     let told = kept-told (keeps_realm c) held way.rd (placed-behind held way.rd _ _ end.granule end.placed) (named c) realms kept in
-    let below : is_part_held (part_below c (end_entry granules held way)) held ≡ true =
+    let below : is_part_held (part_below c (end_entry config held way)) held ≡ true =
     subst (λ e. is_part_held (part_below c e) held ≡ true) end.same.entry part in
-    let settled : is_way_settled granules c held (way_of c) ≡ true =
-    subst (λ o. is_way_settled granules c held o ≡ true) (sym walks)
-    (and_from (is_walk_held granules held way) (is_part_held (part_below c (end_entry granules held way)) held) ends below) in
-    and_from (list_all (is_told (keeps_realm c) held) (named c)) (is_refused_early (seen_answer granules c held) || is_way_settled granules c held (way_of c)) told
-    (or_right (is_refused_early (seen_answer granules c held)) (is_way_settled granules c held (way_of c)) settled)
+    let settled : is_way_settled config c held (way_of c) ≡ true =
+    subst (λ o. is_way_settled config c held o ≡ true) (sym walks)
+    (and_from (is_walk_held config held way) (is_part_held (part_below c (end_entry config held way)) held) ends below) in
+    and_from (list_all (is_told (keeps_realm c) held) (named c)) (is_refused_early (seen_answer config c held) || is_way_settled config c held (way_of c)) told
+    (or_right (is_refused_early (seen_answer config c held)) (is_way_settled config c held (way_of c)) settled)

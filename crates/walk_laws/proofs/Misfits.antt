@@ -4,6 +4,7 @@ use Rattle.std.specs.Prelude.{is_some}
 use Rattle.std.specs.List.{list_any}
 use Rattle.std.proofs.lemmas.Bool.{false≢true, or_cases, not-true, and_from}
 use Rattle.std.proofs.lemmas.Option.{same_Some}
+use Rattle.rmm_spec.specs.HistoryText.{Config}
 use Rattle.rmm_spec.specs.declared.entry.Entry.{Entry}
 use Rattle.rmm_spec.specs.declared.entry.Entry.TheVariants.{Unassigned, Assigned, Table, UnassignedNs, AssignedNs}
 use Rattle.rmm_spec.specs.State.{RealmRecord}
@@ -33,9 +34,9 @@ place-from rd level number width t first second third fourth =
     (eq-eqb t.place.base (number * table_size level) third)) (eq-eqb t.place.width width fourth)
 
 -- a table of the whole stands at the place that it is held for, with the width of its realm
-table-place : {granules : ℕ} {side : Side} {held : List HeldCell} (w : Whole granules side held) (g rd level number : ℕ) (realm : RealmRecord)
+table-place : {config : Config} {side : Side} {held : List HeldCell} (w : Whole config side held) (g rd level number : ℕ) (realm : RealmRecord)
     → realms_of w.cells rd ≡ Some realm → (holds : HoldsTable (tables_of w.cells) g rd level number) → is_place rd level number realm.width holds.table.place ≡ true
-table-place {granules} {side} {held} w g rd level number realm at holds =
+table-place {config} {side} {held} w g rd level number realm at holds =
     let own = w.shaped.tables.placed g holds.table holds.is_held in
     let one : own.0 ≡ realm = same_Some own.0 realm (sym own.1 ∙ (ap (realms_of w.cells) holds.is_realm ∙ at)) in
     let base : holds.table.place.base ≡ number * table_size level =
@@ -43,18 +44,18 @@ table-place {granules} {side} {held} w g rd level number realm at holds =
     place-from rd level number realm.width holds.table holds.is_realm holds.is_level base (own.2.width ∙ ap (λ (r : RealmRecord). r.width) one)
 
 -- what isn't undelegated is at a granule
-granule-there : {granules : ℕ} {side : Side} {held : List HeldCell} (w : Whole granules side held) (g : ℕ) → (w.cells g ≡ Undelegated → ⊥) → not (is_granule granules g) ≡ true → ⊥
-granule-there {granules} {side} {held} w g there none =
-    false≢true (sym (not-true (is_granule granules g) none) ∙ cell_is_granule granules side w.places w.cells w.shaped g there)
+granule-there : {config : Config} {side : Side} {held : List HeldCell} (w : Whole config side held) (g : ℕ) → (w.cells g ≡ Undelegated → ⊥) → not (is_granule config.granules g) ≡ true → ⊥
+granule-there {config} {side} {held} w g there none =
+    false≢true (sym (not-true (is_granule config.granules g) none) ∙ cell_is_granule config side w.places w.cells w.shaped g there)
 
 -- ---- tables
 
 -- a table of the whole is at a granule, and is no other where it is held
-other-none : {granules : ℕ} {side : Side} {held : List HeldCell} (w : Whole granules side held) (g rd level number : ℕ) (realm : RealmRecord)
+other-none : {config : Config} {side : Side} {held : List HeldCell} (w : Whole config side held) (g rd level number : ℕ) (realm : RealmRecord)
     → realms_of w.cells rd ≡ Some realm → HoldsTable (tables_of w.cells) g rd level number
-    → (not (is_granule granules g) || is_other_table rd level number realm.width (cell_in g held)) ≡ true → ⊥
-other-none {granules} {side} {held} w g rd level number realm at holds bad =
-    elim (or_cases (not (is_granule granules g)) (is_other_table rd level number realm.width (cell_in g held)) bad) [
+    → (not (is_granule config.granules g) || is_other_table rd level number realm.width (cell_in g held)) ≡ true → ⊥
+other-none {config} {side} {held} w g rd level number realm at holds bad =
+    elim (or_cases (not (is_granule config.granules g)) (is_other_table rd level number realm.width (cell_in g held)) bad) [
       | inl none ↦ granule-there w g (λ undelegated. false≢true (ap (λ (c : Cell). is_some (table_in c)) (sym undelegated ∙ cell))) none
       | inr other ↦ by (cell_in g held) refl other
     ]
@@ -81,10 +82,10 @@ other-none {granules} {side} {held} w g rd level number realm at holds bad =
 -- ---- pages
 
 -- a page of the whole is at a granule, and is DATA where it is held
-page-none : {granules : ℕ} {side : Side} {held : List HeldCell} (w : Whole granules side held) (page : ℕ) → is_data (w.cells page) ≡ true
-    → (not (is_granule granules page) || is_other_page (cell_in page held)) ≡ true → ⊥
-page-none {granules} {side} {held} w page is_one bad =
-    elim (or_cases (not (is_granule granules page)) (is_other_page (cell_in page held)) bad) [
+page-none : {config : Config} {side : Side} {held : List HeldCell} (w : Whole config side held) (page : ℕ) → is_data (w.cells page) ≡ true
+    → (not (is_granule config.granules page) || is_other_page (cell_in page held)) ≡ true → ⊥
+page-none {config} {side} {held} w page is_one bad =
+    elim (or_cases (not (is_granule config.granules page)) (is_other_page (cell_in page held)) bad) [
       | inl none ↦ granule-there w page (λ undelegated. false≢true (ap is_data (sym undelegated) ∙ is_one)) none
       | inr other ↦ by (cell_in page held) refl other
     ]
@@ -96,46 +97,46 @@ page-none {granules} {side} {held} w page is_one bad =
 -- ---- what a held table names
 
 -- what an entry of the whole names is no misfit
-part-none : {granules : ℕ} {side : Side} {held : List HeldCell} (w : Whole granules side held) (g : ℕ) (t : TableRecord) (index : ℕ) (o : Option Entry)
-    → tables_of w.cells g ≡ Some t → slice_get t.entries index ≡ o → is_misfit_part granules held t index o ≡ true → ⊥
-part-none {granules} {side} {held} w g t index (Some (Table child)) at entry bad =
+part-none : {config : Config} {side : Side} {held : List HeldCell} (w : Whole config side held) (g : ℕ) (t : TableRecord) (index : ℕ) (o : Option Entry)
+    → tables_of w.cells g ≡ Some t → slice_get t.entries index ≡ o → is_misfit_part config held t index o ≡ true → ⊥
+part-none {config} {side} {held} w g t index (Some (Table child)) at entry bad =
     let own = w.shaped.tables.placed g t at in
     other-none w child t.place.rd (suc t.place.level) (512 * place_number t.place + index) own.0 own.1 (w.shaped.tables.links g index child t at entry)
-    (subst (λ width. (not (is_granule granules child) || is_other_table t.place.rd (suc t.place.level) (512 * place_number t.place + index) width (cell_in child held)) ≡ true)
+    (subst (λ width. (not (is_granule config.granules child) || is_other_table t.place.rd (suc t.place.level) (512 * place_number t.place + index) width (cell_in child held)) ≡ true)
     own.2.width bad)
-part-none {granules} {side} {held} w g t index (Some (Assigned ripas page)) at entry bad =
+part-none {config} {side} {held} w g t index (Some (Assigned ripas page)) at entry bad =
     page-none w page (w.shaped.data_granules.named g index page t ripas at entry) bad
-part-none {granules} {side} {held} w g t index (Some (Unassigned ripas)) at entry bad = false≢true bad
-part-none {granules} {side} {held} w g t index (Some UnassignedNs) at entry bad = false≢true bad
-part-none {granules} {side} {held} w g t index (Some (AssignedNs page)) at entry bad = false≢true bad
-part-none {granules} {side} {held} w g t index None at entry bad = false≢true bad
+part-none {config} {side} {held} w g t index (Some (Unassigned ripas)) at entry bad = false≢true bad
+part-none {config} {side} {held} w g t index (Some UnassignedNs) at entry bad = false≢true bad
+part-none {config} {side} {held} w g t index (Some (AssignedNs page)) at entry bad = false≢true bad
+part-none {config} {side} {held} w g t index None at entry bad = false≢true bad
 
 -- nor is what a held table names for the address
-table-none : {granules : ℕ} {side : Side} {held : List HeldCell} (w : Whole granules side held) (ipa g : ℕ) (o : Option TableRecord) → table_held held g ≡ o
-    → is_misfit_table granules held ipa o ≡ true → ⊥
-table-none {granules} {side} {held} w ipa g None found bad = false≢true bad
-table-none {granules} {side} {held} w ipa g (Some t) found bad =
+table-none : {config : Config} {side : Side} {held : List HeldCell} (w : Whole config side held) (ipa g : ℕ) (o : Option TableRecord) → table_held held g ≡ o
+    → is_misfit_table config held ipa o ≡ true → ⊥
+table-none {config} {side} {held} w ipa g None found bad = false≢true bad
+table-none {config} {side} {held} w ipa g (Some t) found bad =
     let index = entry_index t.place.level ipa in
     part-none w g t index (slice_get t.entries index) (whole_table w g t found) refl bad
 
 -- ---- a realm's root
 
 -- nor is the root of a held realm
-root-none : {granules : ℕ} {side : Side} {held : List HeldCell} (w : Whole granules side held) (rd : ℕ) (o : Option Cell) → cell_in rd held ≡ o
-    → is_misfit_root granules held rd o ≡ true → ⊥
-root-none {granules} {side} {held} w rd (Some (Rd realm)) found bad =
+root-none : {config : Config} {side : Side} {held : List HeldCell} (w : Whole config side held) (rd : ℕ) (o : Option Cell) → cell_in rd held ≡ o
+    → is_misfit_root config held rd o ≡ true → ⊥
+root-none {config} {side} {held} w rd (Some (Rd realm)) found bad =
     let at : realms_of w.cells rd ≡ Some realm = ap realm_in (whole_cell w rd (Rd realm) found) in
     other-none w realm.root rd realm.start_level 0 realm at (w.shaped.tables.roots rd realm at) bad
-root-none {granules} {side} {held} w rd _ found bad = false≢true bad
+root-none {config} {side} {held} w rd _ found bad = false≢true bad
 
 -- ---- walks
 
 -- a walk meets no misfit in a whole
-pub misfit-none : {granules : ℕ} {side : Side} {held : List HeldCell} (w : Whole granules side held) (rd ipa : ℕ) → is_misfit_walk granules held rd ipa ≡ true → ⊥
+pub misfit-none : {config : Config} {side : Side} {held : List HeldCell} (w : Whole config side held) (rd ipa : ℕ) → is_misfit_walk config held rd ipa ≡ true → ⊥
 unfolding is_misfit_walk
-misfit-none {granules} {side} {held} w rd ipa bad =
-    elim (or_cases (is_misfit_root granules held rd (cell_in rd held)) (list_any (λ g. is_misfit_table granules held ipa (table_held held g)) (granules_held held)) bad) [
+misfit-none {config} {side} {held} w rd ipa bad =
+    elim (or_cases (is_misfit_root config held rd (cell_in rd held)) (list_any (λ g. is_misfit_table config held ipa (table_held held g)) (granules_held held)) bad) [
       | inl root ↦ root-none w rd (cell_in rd held) refl root
-      | inr some ↦ (let at = passing_member (λ g. is_misfit_table granules held ipa (table_held held g)) (granules_held held) some in
+      | inr some ↦ (let at = passing_member (λ g. is_misfit_table config held ipa (table_held held g)) (granules_held held) some in
           table-none w ipa at.1 (table_held held at.1) refl at.3)
     ]

@@ -2,6 +2,7 @@
 use Rattle.std.proofs.Common.{◌≡◌, ℕ, ◌+◌, ◌*◌, ◌/◌, ◌<◌, ◌≤◌, Bool, true, false, not, ◌&&◌, ◌||◌, if◌then◌else◌, List, [], ◌∷◌, Option, Some, None, Result, Ok, Err, nat_lt, inl, inr, refl, sym, ap, ◌∙◌, subst, arith}
 use Rattle.std.specs.Prelude.{IsTrue, is_some}
 use Rattle.std.proofs.lemmas.Bool.{false≢true, and_parts, or_cases, not-true}
+use Rattle.rmm_spec.specs.HistoryText.{Config}
 use Rattle.rmm_spec.specs.declared.accepted.Accepted.{Accepted}
 use Rattle.rmm_spec.specs.declared.accepted.Accepted.TheVariants.{Done, Reaches}
 use Rattle.rmm_spec.specs.declared.accepted.Stretch.{Stretch}
@@ -63,12 +64,12 @@ reached-same s t stretch top reached same = record {
 }
 
 -- a stretch's entries are those of the held table at its base
-stretch-same : {granules : ℕ} {side : Side} {held : List HeldCell} (w : Whole granules side held) (s : State) (stretch : Stretch) (top g : ℕ)
+stretch-same : {config : Config} {side : Side} {held : List HeldCell} (w : Whole config side held) (s : State) (stretch : Stretch) (top g : ℕ)
     → stretch.level ≤ 3 → table_placed held stretch.rd stretch.level (table_number stretch.level stretch.base) ≡ Some g
     → (reached : IsReached s stretch top) (k : ℕ) → k < reached.count
     → entry_at (state w) stretch.rd stretch.level (entry_number stretch.level stretch.base + k)
-    ≡ entry_at (seen_state granules held) stretch.rd stretch.level (entry_number stretch.level stretch.base + k)
-stretch-same {granules} {side} {held} w s stretch top g last placed reached k below =
+    ≡ entry_at (seen_state config held) stretch.rd stretch.level (entry_number stretch.level stretch.base + k)
+stretch-same {config} {side} {held} w s stretch top g last placed reached k below =
     entry-same w g stretch.rd stretch.level (first + k) (ap (table_placed held stretch.rd stretch.level) in_table ∙ placed)
   where
     first : ℕ
@@ -92,18 +93,18 @@ stretch-same {granules} {side} {held} w s stretch top g last placed reached k be
         omega (arith, most, above, below)
 
 -- what is reached in the state that is told of, and in a whole, is the same
-pub reached-told : {granules : ℕ} {side : Side} {held : List HeldCell} (w : Whole granules side held) (stretch : Stretch) (top g : ℕ) → stretch.level ≤ 3
-    → table_placed held stretch.rd stretch.level (table_number stretch.level stretch.base) ≡ Some g → IsReached (seen_state granules held) stretch top
+pub reached-told : {config : Config} {side : Side} {held : List HeldCell} (w : Whole config side held) (stretch : Stretch) (top g : ℕ) → stretch.level ≤ 3
+    → table_placed held stretch.rd stretch.level (table_number stretch.level stretch.base) ≡ Some g → IsReached (seen_state config held) stretch top
     → IsReached (state w) stretch top
-reached-told {granules} {side} {held} w stretch top g last placed reached =
-    reached-same (seen_state granules held) (state w) stretch top reached
-    (λ k below. sym (stretch-same w (seen_state granules held) stretch top g last placed reached k below))
+reached-told {config} {side} {held} w stretch top g last placed reached =
+    reached-same (seen_state config held) (state w) stretch top reached
+    (λ k below. sym (stretch-same w (seen_state config held) stretch top g last placed reached k below))
 
-pub reached-seen : {granules : ℕ} {side : Side} {held : List HeldCell} (w : Whole granules side held) (stretch : Stretch) (top g : ℕ) → stretch.level ≤ 3
+pub reached-seen : {config : Config} {side : Side} {held : List HeldCell} (w : Whole config side held) (stretch : Stretch) (top g : ℕ) → stretch.level ≤ 3
     → table_placed held stretch.rd stretch.level (table_number stretch.level stretch.base) ≡ Some g → IsReached (state w) stretch top
-    → IsReached (seen_state granules held) stretch top
-reached-seen {granules} {side} {held} w stretch top g last placed reached =
-    reached-same (state w) (seen_state granules held) stretch top reached (stretch-same w (state w) stretch top g last placed reached)
+    → IsReached (seen_state config held) stretch top
+reached-seen {config} {side} {held} w stretch top g last placed reached =
+    reached-same (state w) (seen_state config held) stretch top reached (stretch-same w (state w) stretch top g last placed reached)
 
 -- what a stretch is of, where a command leads to one
 abbrev IsStretchOf : State → Option Way → Accepted → Type 0
@@ -168,35 +169,35 @@ hosts (call.RttSetRipas rd rec base top) walks = record { host = refl; alike = �
 hosts _ walks = absurd (false≢true walks)
 
 -- each whole that agrees with a hold gives the outcome
-abbrev IsOutcome : ℕ → ℕ → Command → Hold → Result Accepted Reply → Type 0
-IsOutcome granules cpu command hold answer = (cells : ℕ → Cell) (places : ℕ → CpuPlace) → IsWellShaped granules hold.side places cells → Agrees cells hold.cells
-    → places cpu ≡ hold.place → outcome (flat_state granules cells) cpu (call_of command) ≡ answer
+abbrev IsOutcome : Config → ℕ → Command → Hold → Result Accepted Reply → Type 0
+IsOutcome config cpu command hold answer = (cells : ℕ → Cell) (places : ℕ → CpuPlace) → IsWellShaped config hold.side places cells → Agrees cells hold.cells
+    → places cpu ≡ hold.place → outcome (flat_state config cells) cpu (call_of command) ≡ answer
 
 -- a refusal of every whole changes nothing
-refused-local : (granules cpu : ℕ) (command : Command) (hold : Hold) (given : Reply) → IsOutcome granules cpu command hold (Err given)
-    → LocalStep granules cpu command given hold hold
-refused-local granules cpu command hold given each =
-    unchanged-is_local granules cpu command given hold (λ cells places shaped agrees placed.
-    Step-refused (flat_state granules cells) cpu command given (each cells places shaped agrees placed))
+refused-local : (config : Config) (cpu : ℕ) (command : Command) (hold : Hold) (given : Reply) → IsOutcome config cpu command hold (Err given)
+    → LocalStep config cpu command given hold hold
+refused-local config cpu command hold given each =
+    unchanged-is_local config cpu command given hold (λ cells places shaped agrees placed.
+    Step-refused (flat_state config cells) cpu command given (each cells places shaped agrees placed))
 
 -- the table of a stretch is held
-pub stretch-placed : (granules cpu : ℕ) (c : Call) (held : List HeldCell) (stretch : Stretch) → is_way_settled granules c held (way_of c) ≡ true
-    → answer_of (seen_state granules held) cpu c ≡ Ok (Reaches stretch)
+pub stretch-placed : (config : Config) (cpu : ℕ) (c : Call) (held : List HeldCell) (stretch : Stretch) → is_way_settled config c held (way_of c) ≡ true
+    → answer_of (seen_state config held) cpu c ≡ Ok (Reaches stretch)
     → (stretch.level ≤ 3) × (is_some (table_placed held stretch.rd stretch.level (table_number stretch.level stretch.base)) ≡ true)
-stretch-placed granules cpu c held stretch settled is =
-    by (way_of c) (settled-by granules c held (way_of c) settled) (subst (IsStretchOf t (way_of c)) all.1 (rows-stretch t cpu c))
+stretch-placed config cpu c held stretch settled is =
+    by (way_of c) (settled-by config c held (way_of c) settled) (subst (IsStretchOf t (way_of c)) all.1 (rows-stretch t cpu c))
   where
     t : State
-    t = seen_state granules held
+    t = seen_state config held
 
     all : AllHold (with_front t c (behind t cpu c).0) × ((behind t cpu c).1 ≡ Reaches stretch)
     all = decided-accepted (with_front t c (behind t cpu c).0) (behind t cpu c).1 (Reaches stretch) (sym (behind t cpu c).2 ∙ is)
 
-    by : (o : Option Way) → IsSettledBy granules c held o → IsStretchOf t o (Reaches stretch)
+    by : (o : Option Way) → IsSettledBy config c held o → IsStretchOf t o (Reaches stretch)
         → (stretch.level ≤ 3) × (is_some (table_placed held stretch.rd stretch.level (table_number stretch.level stretch.base)) ≡ true)
     by None none of = absurd none
     by (Some w) ends of =
-        let placed = end-placed granules held w ends.0 in (
+        let placed = end-placed config held w ends.0 in (
           of.3,
           subst (λ l. is_some (table_placed held stretch.rd l (table_number l stretch.base)) ≡ true) (sym of.2)
               (subst (λ x. is_some (table_placed held stretch.rd (reach t w.rd w.ipa w.max) (table_number (reach t w.rd w.ipa w.max) x)) ≡ true) (sym of.1)
@@ -204,20 +205,20 @@ stretch-placed granules cpu c held stretch settled is =
         )
 
 -- what each whole answers as it is told is a local step
-answered-local : (granules cpu : ℕ) (command : Command) (hold : Hold) (a : Result Accepted Reply) → are_told (call_of command) hold.cells ≡ true
-    → is_way_settled granules (call_of command) hold.cells (way_of (call_of command)) ≡ true → answer_of (seen_state granules hold.cells) cpu (call_of command) ≡ a
-    → IsOutcome granules cpu command hold a → IsLocalAnswer granules cpu command hold a
-answered-local granules cpu command hold (Err given) told settled is each = refused-local granules cpu command hold given each
-answered-local granules cpu command hold (Ok (Done words change)) told settled is each =
-    let holds = accepted-held granules hold.cells cpu (call_of command) (Done words change) told settled is in
-    (holds, done-local granules cpu command words.items hold change holds each)
-answered-local granules cpu command hold (Ok (Reaches stretch)) told settled is each = λ top.
-    let holds = accepted-held granules hold.cells cpu (call_of command) (Reaches stretch) told settled is top in
-    let at = stretch-placed granules cpu (call_of command) hold.cells stretch settled is in
+answered-local : (config : Config) (cpu : ℕ) (command : Command) (hold : Hold) (a : Result Accepted Reply) → are_told (call_of command) hold.cells ≡ true
+    → is_way_settled config (call_of command) hold.cells (way_of (call_of command)) ≡ true → answer_of (seen_state config hold.cells) cpu (call_of command) ≡ a
+    → IsOutcome config cpu command hold a → IsLocalAnswer config cpu command hold a
+answered-local config cpu command hold (Err given) told settled is each = refused-local config cpu command hold given each
+answered-local config cpu command hold (Ok (Done words change)) told settled is each =
+    let holds = accepted-held config hold.cells cpu (call_of command) (Done words change) told settled is in
+    (holds, done-local config cpu command words.items hold change holds each)
+answered-local config cpu command hold (Ok (Reaches stretch)) told settled is each = λ top.
+    let holds = accepted-held config hold.cells cpu (call_of command) (Reaches stretch) told settled is top in
+    let at = stretch-placed config cpu (call_of command) hold.cells stretch settled is in
     let g = value_there (table_placed hold.cells stretch.rd stretch.level (table_number stretch.level stretch.base)) at.1 in (
       holds,
-      λ reached. reached-local granules cpu command stretch top hold holds (λ cells places shaped agrees placed.
-          let w : Whole granules hold.side hold.cells = record { cells = cells; places = places; shaped = shaped; agrees = agrees } in
+      λ reached. reached-local config cpu command stretch top hold holds (λ cells places shaped agrees placed.
+          let w : Whole config hold.side hold.cells = record { cells = cells; places = places; shaped = shaped; agrees = agrees } in
           (each cells places shaped agrees placed, reached-told w stretch top g.0 at.0 g.1 reached)),
     )
 
@@ -227,16 +228,16 @@ early-error (Ok accepted) early = absurd (false≢true early)
 early-error (Err given) early = (given, refl, not-true (is_table_error given) early)
 
 -- any command that walks
-pub settled-local : (granules cpu : ℕ) (command : Command) (hold : Hold) → is_some (way_of (call_of command)) ≡ true → hold.place ≡ Outside
-    → is_walk_settled granules (call_of command) hold.cells ≡ true → IsLocalAnswer granules cpu command hold (seen_answer granules (call_of command) hold.cells)
+pub settled-local : (config : Config) (cpu : ℕ) (command : Command) (hold : Hold) → is_some (way_of (call_of command)) ≡ true → hold.place ≡ Outside
+    → is_walk_settled config (call_of command) hold.cells ≡ true → IsLocalAnswer config cpu command hold (seen_answer config (call_of command) hold.cells)
 unfolding is_walk_settled
-settled-local granules cpu command hold walks place settled =
-    elim (or_cases (is_refused_early (seen_answer granules c hold.cells)) (is_way_settled granules c hold.cells (way_of c)) parts.1) [
-      | inl early ↦ refused (early-error (seen_answer granules c hold.cells) early)
-      | inr ends ↦ answered-local granules cpu command hold (seen_answer granules c hold.cells) parts.0 ends ((hosts c walks).alike t cpu)
+settled-local config cpu command hold walks place settled =
+    elim (or_cases (is_refused_early (seen_answer config c hold.cells)) (is_way_settled config c hold.cells (way_of c)) parts.1) [
+      | inl early ↦ refused (early-error (seen_answer config c hold.cells) early)
+      | inr ends ↦ answered-local config cpu command hold (seen_answer config c hold.cells) parts.0 ends ((hosts c walks).alike t cpu)
           (λ cells places shaped agrees placed.
-          let w : Whole granules hold.side hold.cells = record { cells = cells; places = places; shaped = shaped; agrees = agrees } in
-          outcome-host granules hold.side places cells shaped cpu c (hosts c walks).host (placed ∙ place)
+          let w : Whole config hold.side hold.cells = record { cells = cells; places = places; shaped = shaped; agrees = agrees } in
+          outcome-host config hold.side places cells shaped cpu c (hosts c walks).host (placed ∙ place)
           ∙ (walk-told w cpu c parts.0 ends ∙ (hosts c walks).alike t cpu))
     ]
   where
@@ -244,18 +245,18 @@ settled-local granules cpu command hold walks place settled =
     c = call_of command
 
     t : State
-    t = seen_state granules hold.cells
+    t = seen_state config hold.cells
 
-    parts : (are_told c hold.cells ≡ true) × ((is_refused_early (seen_answer granules c hold.cells) || is_way_settled granules c hold.cells (way_of c)) ≡ true)
-    parts = and_parts (are_told c hold.cells) (is_refused_early (seen_answer granules c hold.cells) || is_way_settled granules c hold.cells (way_of c)) settled
+    parts : (are_told c hold.cells ≡ true) × ((is_refused_early (seen_answer config c hold.cells) || is_way_settled config c hold.cells (way_of c)) ≡ true)
+    parts = and_parts (are_told c hold.cells) (is_refused_early (seen_answer config c hold.cells) || is_way_settled config c hold.cells (way_of c)) settled
 
-    refused : (given : Reply) × (seen_answer granules c hold.cells ≡ Err given) × (is_table_error given ≡ false)
-        → IsLocalAnswer granules cpu command hold (seen_answer granules c hold.cells)
+    refused : (given : Reply) × (seen_answer config c hold.cells ≡ Err given) × (is_table_error given ≡ false)
+        → IsLocalAnswer config cpu command hold (seen_answer config c hold.cells)
     refused early =
-        subst (IsLocalAnswer granules cpu command hold) (sym early.1)
-        (refused-local granules cpu command hold early.0 (λ cells places shaped agrees placed.
-        let w : Whole granules hold.side hold.cells = record { cells = cells; places = places; shaped = shaped; agrees = agrees } in
-        outcome-host granules hold.side places cells shaped cpu c (hosts c walks).host (placed ∙ place)
+        subst (IsLocalAnswer config cpu command hold) (sym early.1)
+        (refused-local config cpu command hold early.0 (λ cells places shaped agrees placed.
+        let w : Whole config hold.side hold.cells = record { cells = cells; places = places; shaped = shaped; agrees = agrees } in
+        outcome-host config hold.side places cells shaped cpu c (hosts c walks).host (placed ∙ place)
         ∙ early-told w cpu c early.0 parts.0 walks ((hosts c walks).alike t cpu ∙ early.1) early.2))
 
 -- ---- the realm's call that walks
@@ -287,15 +288,15 @@ get-refused s t rec rd ipa given of_s of_t space is =
     ap (λ r. decided r (get_done s rec ipa)) rows ∙ refused-rows (get_rows t rec ipa) (get_done t rec ipa) (get_done s rec ipa) given is
 
 -- it is told as the whole tells it
-pub get-told : {granules : ℕ} {side : Side} {held : List HeldCell} (w : Whole granules side held) (rec rd ipa : ℕ) → is_held rec held ≡ true
-    → (rec_at (seen_state granules held) rec).owner ≡ rd → (is_held rd held || is_some (table_behind held rd)) ≡ true
-    → (is_walk_held granules held (way rd ipa 3) || is_refused_early (ipa_state_get (seen_state granules held) rec ipa)) ≡ true
-    → ipa_state_get (state w) rec ipa ≡ ipa_state_get (seen_state granules held) rec ipa
-get-told {granules} {side} {held} w rec rd ipa has owner told settled =
-    let t = seen_state granules held in
+pub get-told : {config : Config} {side : Side} {held : List HeldCell} (w : Whole config side held) (rec rd ipa : ℕ) → is_held rec held ≡ true
+    → (rec_at (seen_state config held) rec).owner ≡ rd → (is_held rd held || is_some (table_behind held rd)) ≡ true
+    → (is_walk_held config held (way rd ipa 3) || is_refused_early (ipa_state_get (seen_state config held) rec ipa)) ≡ true
+    → ipa_state_get (state w) rec ipa ≡ ipa_state_get (seen_state config held) rec ipa
+get-told {config} {side} {held} w rec rd ipa has owner told settled =
+    let t = seen_state config held in
     let space = told-space w rd told in
     let of_s : (rec_at (state w) rec).owner ≡ rd = ap (λ r. r.owner) (rec-same w rec has) ∙ owner in
-    elim (or_cases (is_walk_held granules held (way rd ipa 3)) (is_refused_early (ipa_state_get t rec ipa)) settled) [
+    elim (or_cases (is_walk_held config held (way rd ipa 3)) (is_refused_early (ipa_state_get t rec ipa)) settled) [
       | inl ends ↦ ipa_state_get-same (state w) t rec rd ipa of_s owner space (walk-end w (way rd ipa 3) ends).same
       | inr early ↦ (let refusal = early-error (ipa_state_get t rec ipa) early in
           get-refused (state w) t rec rd ipa refusal.0 of_s owner space refusal.1 ∙ sym refusal.1)

@@ -4,6 +4,7 @@ use Rattle.std.specs.Prelude.{IsTrue, is_some, slice_set}
 use Rattle.std.specs.List.{AllByRecursion}
 use Rattle.std.proofs.lemmas.Bool.{false≢true, and_parts}
 use Rattle.std.proofs.lemmas.List.Elements.{All-contains, All-from_recursion}
+use Rattle.rmm_spec.specs.HistoryText.{Config}
 use Rattle.rmm_spec.specs.declared.accepted.Accepted.TheVariants.{Reaches}
 use Rattle.rmm_spec.specs.declared.accepted.Stretch.{Stretch}
 use Rattle.rmm_spec.specs.declared.change.Change.{Change}
@@ -69,38 +70,38 @@ placed-is_held : (held : List HeldCell) (rd level number g : ℕ) → table_plac
 placed-is_held held rd level number g is = let holds = placed-holds held rd level number g is in table-is_held held g holds.table holds.is_held
 
 -- it is found in the whole too
-table-found : {granules : ℕ} {side : Side} {held : List HeldCell} (w : Whole granules side held) (rd level number g : ℕ)
-    → table_placed held rd level number ≡ Some g → table_granule granules (tables_of w.cells) rd level number ≡ Some g
+table-found : {config : Config} {side : Side} {held : List HeldCell} (w : Whole config side held) (rd level number g : ℕ)
+    → table_placed held rd level number ≡ Some g → table_granule config.granules (tables_of w.cells) rd level number ≡ Some g
 unfolding flat_state
-table-found {granules} {side} {held} w rd level number g is = placed-found w rd level number g is
+table-found {config} {side} {held} w rd level number g is = placed-found w rd level number g is
 
 -- a held table is a table of the whole
-table-tag : {granules : ℕ} {side : Side} {held : List HeldCell} (w : Whole granules side held) (rd level number g : ℕ)
+table-tag : {config : Config} {side : Side} {held : List HeldCell} (w : Whole config side held) (rd level number g : ℕ)
     → table_placed held rd level number ≡ Some g → tag_of (w.cells g) ≡ tag.Rtt
-table-tag {granules} {side} {held} w rd level number g is =
+table-tag {config} {side} {held} w rd level number g is =
     let holds = whole_holds w g rd level number (placed-holds held rd level number g is) in
     ap tag_of (cell-table (w.cells g) holds.table holds.is_held)
 
 -- a table is put in
-made-changed : {granules : ℕ} {side : Side} {held : List HeldCell} (w : Whole granules side held) (rd level number rtt : ℕ) (entry : Entry) (o : Option ℕ)
+made-changed : {config : Config} {side : Side} {held : List HeldCell} (w : Whole config side held) (rd level number rtt : ℕ) (entry : Entry) (o : Option ℕ)
     → table_placed held rd (level - 1) (number / 512) ≡ o → is_some o ≡ true
-    → cells_changed granules w.cells (TableMade rd level number rtt entry) ≡ put_all w.cells (made_cells held rd level number rtt entry o)
+    → cells_changed config w.cells (TableMade rd level number rtt entry) ≡ put_all w.cells (made_cells held rd level number rtt entry o)
 unfolding cells_changed
-made-changed {granules} {side} {held} w rd level number rtt entry None is there = absurd (false≢true there)
-made-changed {granules} {side} {held} w rd level number rtt entry (Some above) is there =
+made-changed {config} {side} {held} w rd level number rtt entry None is there = absurd (false≢true there)
+made-changed {config} {side} {held} w rd level number rtt entry (Some above) is there =
     let linked : List Entry → List Entry = λ entries. slice_set entries (number % 512) (Table rtt) in
     ap (cells_with_table w.cells rd level number rtt entry) (table-found w rd (level - 1) (number / 512) above is)
     ∙ ap (λ c. put (put w.cells above (cell_with_entries linked c)) rtt (Rtt (copied_table rd level number (width_in c) entry)))
     (same_at w above (placed-is_held held rd (level - 1) (number / 512) above is))
 
 -- a table is taken out
-destroyed-changed : {granules : ℕ} {side : Side} {held : List HeldCell} (w : Whole granules side held) (rd level number rtt : ℕ) (entry : Entry) (o : Option ℕ)
+destroyed-changed : {config : Config} {side : Side} {held : List HeldCell} (w : Whole config side held) (rd level number rtt : ℕ) (entry : Entry) (o : Option ℕ)
     → table_placed held rd (level - 1) (number / 512) ≡ o → is_some o ≡ true
-    → cells_changed granules w.cells (TableDestroyed rd level number rtt entry)
+    → cells_changed config w.cells (TableDestroyed rd level number rtt entry)
     ≡ put_all w.cells (entry_cells held (λ entries. slice_set entries (number % 512) entry) o ++ held_at rtt Delegated ∷ [])
 unfolding cells_changed
-destroyed-changed {granules} {side} {held} w rd level number rtt entry None is there = absurd (false≢true there)
-destroyed-changed {granules} {side} {held} w rd level number rtt entry (Some above) is there =
+destroyed-changed {config} {side} {held} w rd level number rtt entry None is there = absurd (false≢true there)
+destroyed-changed {config} {side} {held} w rd level number rtt entry (Some above) is there =
     let unlinked : List Entry → List Entry = λ entries. slice_set entries (number % 512) entry in
     ap (λ o. put (cells_with_entries w.cells unlinked o) rtt Delegated) (table-found w rd (level - 1) (number / 512) above is)
     ∙ ap (λ c. put (put w.cells above (cell_with_entries unlinked c)) rtt Delegated)
@@ -129,13 +130,13 @@ IsPage cells None = Unit {0}
 IsPage cells (Some change) = (tag_of (cells change.granule) ≡ tag.Delegated) ⊎ (tag_of (cells change.granule) ≡ tag.Data)
 
 -- by what the change requires of the page
-page-tag : {granules : ℕ} {side : Side} {held : List HeldCell} (w : Whole granules side held) (rd level : ℕ) (entries : EntryChange) (page : Option TagChange)
+page-tag : {config : Config} {side : Side} {held : List HeldCell} (w : Whole config side held) (rd level : ℕ) (entries : EntryChange) (page : Option TagChange)
     → CanChangeEntries (state w) rd level entries page → IsPage w.cells page
-page-tag {granules} {side} {held} w rd level entries None can = tt
-page-tag {granules} {side} {held} w rd level (RipasSet first last ripas) (Some change) can = absurd (let bad : Some change ≡ None = can.1 in cc)
-page-tag {granules} {side} {held} w rd level (Replaced number entry) (Some change) can = elim can.1 [
-  | inl given ↦ inl (tag-cell granules w.cells change.granule tag.Delegated given.0)
-  | inr taken ↦ inr (tag-cell granules w.cells change.granule tag.Data
+page-tag {config} {side} {held} w rd level entries None can = tt
+page-tag {config} {side} {held} w rd level (RipasSet first last ripas) (Some change) can = absurd (let bad : Some change ≡ None = can.1 in cc)
+page-tag {config} {side} {held} w rd level (Replaced number entry) (Some change) can = elim can.1 [
+  | inl given ↦ inl (tag-cell config w.cells change.granule tag.Delegated given.0)
+  | inr taken ↦ inr (tag-cell config w.cells change.granule tag.Data
       ((sound w).leaves.pages rd level number change.granule taken.2.0
       (leaf_there (state w) (sound w) rd level number can.0.table can.0.leaf ∙ ap (λ (e : Entry). Some e) taken.2.1)))
 ]
@@ -165,10 +166,10 @@ rec-kept cells old (Some change) g apart same =
     put-other cells change.rec (cell_with_rec change.update (cells change.rec)) g (apart change refl) ∙ same
 
 -- the cells that are put in, one kind after the other
-page-put : {granules : ℕ} {side : Side} {held : List HeldCell} (w : Whole granules side held) (page : Option TagChange) → holds_page held page ≡ true
+page-put : {config : Config} {side : Side} {held : List HeldCell} (w : Whole config side held) (page : Option TagChange) → holds_page held page ≡ true
     → cells_with_tag_change w.cells page ≡ put_all w.cells (tag_cells held page)
-page-put {granules} {side} {held} w None has = refl
-page-put {granules} {side} {held} w (Some change) has = ap (λ c. put w.cells change.granule (cell_with_tag change.tag c)) (same_at w change.granule has)
+page-put {config} {side} {held} w None has = refl
+page-put {config} {side} {held} w (Some change) has = ap (λ c. put w.cells change.granule (cell_with_tag change.tag c)) (same_at w change.granule has)
 
 -- the realm's cell
 realm-put : (cells : ℕ → Cell) (held : List HeldCell) (realm : Option RealmChange) → ((change : RealmChange) → realm ≡ Some change → cells change.rd ≡ known_cell held change.rd)
@@ -183,18 +184,18 @@ rec-put cells held None same = refl
 rec-put cells held (Some change) same = ap (λ c. put cells change.rec (cell_with_rec change.update c)) (same change refl)
 
 -- the tags of the realm and the REC
-realm-tag : {granules : ℕ} {side : Side} {held : List HeldCell} (w : Whole granules side held) (realm : Option RealmChange) → CanChangeRealm (state w) realm
+realm-tag : {config : Config} {side : Side} {held : List HeldCell} (w : Whole config side held) (realm : Option RealmChange) → CanChangeRealm (state w) realm
     → (change : RealmChange) → realm ≡ Some change → tag_of (w.cells change.rd) ≡ tag.Rd
-realm-tag {granules} {side} {held} w None can change is = absurd cc
-realm-tag {granules} {side} {held} w (Some other) can change is =
-    subst (λ (c : RealmChange). tag_of (w.cells c.rd) ≡ tag.Rd) (let same : other ≡ change = cc in same) (tag-cell granules w.cells other.rd tag.Rd can.0)
+realm-tag {config} {side} {held} w None can change is = absurd cc
+realm-tag {config} {side} {held} w (Some other) can change is =
+    subst (λ (c : RealmChange). tag_of (w.cells c.rd) ≡ tag.Rd) (let same : other ≡ change = cc in same) (tag-cell config w.cells other.rd tag.Rd can.0)
 
 -- and of the REC
-rec-tag : {granules : ℕ} {side : Side} {held : List HeldCell} (w : Whole granules side held) (rec : Option RecChange) → CanChangeRec (state w) rec
+rec-tag : {config : Config} {side : Side} {held : List HeldCell} (w : Whole config side held) (rec : Option RecChange) → CanChangeRec (state w) rec
     → (change : RecChange) → rec ≡ Some change → tag_of (w.cells change.rec) ≡ tag.Rec
-rec-tag {granules} {side} {held} w None can change is = absurd cc
-rec-tag {granules} {side} {held} w (Some other) can change is =
-    subst (λ (c : RecChange). tag_of (w.cells c.rec) ≡ tag.Rec) (let same : other ≡ change = cc in same) (tag-cell granules w.cells other.rec tag.Rec can.0)
+rec-tag {config} {side} {held} w None can change is = absurd cc
+rec-tag {config} {side} {held} w (Some other) can change is =
+    subst (λ (c : RecChange). tag_of (w.cells c.rec) ≡ tag.Rec) (let same : other ≡ change = cc in same) (tag-cell config w.cells other.rec tag.Rec can.0)
 
 -- the realm is held
 realm-held : (held : List HeldCell) (realm : Option RealmChange) → holds_realm held realm ≡ true → (change : RealmChange) → realm ≡ Some change → is_held change.rd held ≡ true
@@ -224,14 +225,14 @@ held-parts held page realm rec table holds =
     record { of_page = second.0; of_realm = second.1; of_rec = third.1; of_table = last.1 }
 
 -- entries are changed, with what goes with them
-entries-put : {granules : ℕ} {side : Side} {held : List HeldCell} (w : Whole granules side held) (rd level : ℕ) (entries : EntryChange)
+entries-put : {config : Config} {side : Side} {held : List HeldCell} (w : Whole config side held) (rd level : ℕ) (entries : EntryChange)
     (page : Option TagChange) (realm : Option RealmChange) (rec : Option RecChange) → CanApply (state w) (EntriesChanged rd level entries page realm rec)
     → (o : Option ℕ) → table_placed held rd level (table_changed entries) ≡ o → HoldsParts held page realm rec o
-    → cells_changed granules w.cells (EntriesChanged rd level entries page realm rec)
+    → cells_changed config w.cells (EntriesChanged rd level entries page realm rec)
     ≡ put_all w.cells (tag_cells held page ++ (realm_cells held realm ++ (rec_cells held rec ++ entry_cells held (entries_changed entries) o)))
 unfolding cells_changed
-entries-put {granules} {side} {held} w rd level entries page realm rec can None is parts = absurd (false≢true parts.of_table)
-entries-put {granules} {side} {held} w rd level entries page realm rec can (Some g) is parts =
+entries-put {config} {side} {held} w rd level entries page realm rec can None is parts = absurd (false≢true parts.of_table)
+entries-put {config} {side} {held} w rd level entries page realm rec can (Some g) is parts =
     ap (cells_with_entries third (entries_changed entries)) (table-found w rd level (table_changed entries) g is)
     ∙ (ap (λ c. put third g (cell_with_entries (entries_changed entries) c)) table_cell
     ∙ (ap (λ cells. put_all cells last) (rec-put second held rec rec_cell ∙ ap (λ cells. put_all cells (rec_cells held rec)) (realm-put first held realm realm_cell
@@ -279,20 +280,20 @@ entries-put {granules} {side} {held} w rd level entries page realm rec can (Some
 -- ---- any change of a walk
 
 -- each kind of change that a walk makes
-pub cells-changed : {granules : ℕ} {side : Side} {held : List HeldCell} (w : Whole granules side held) (change : Change) → CanApply (state w) change
-    → holds_change held change ≡ true → cells_changed granules w.cells change ≡ put_all w.cells (table_cells held change)
+pub cells-changed : {config : Config} {side : Side} {held : List HeldCell} (w : Whole config side held) (change : Change) → CanApply (state w) change
+    → holds_change held change ≡ true → cells_changed config w.cells change ≡ put_all w.cells (table_cells held change)
 unfolding table_cells holds_change cells_changed
-cells-changed {granules} {side} {held} w Unchanged can holds = refl
-cells-changed {granules} {side} {held} w (TableMade rd level number rtt entry) can holds =
+cells-changed {config} {side} {held} w Unchanged can holds = refl
+cells-changed {config} {side} {held} w (TableMade rd level number rtt entry) can holds =
     made-changed w rd level number rtt entry (table_placed held rd (level - 1) (number / 512)) refl
     (and_parts (is_held rtt held) (is_some (table_placed held rd (level - 1) (number / 512))) holds).1
-cells-changed {granules} {side} {held} w (TableDestroyed rd level number rtt entry) can holds =
+cells-changed {config} {side} {held} w (TableDestroyed rd level number rtt entry) can holds =
     destroyed-changed w rd level number rtt entry (table_placed held rd (level - 1) (number / 512)) refl
     (and_parts (is_held rtt held) (is_some (table_placed held rd (level - 1) (number / 512))) holds).1
-cells-changed {granules} {side} {held} w (EntriesChanged rd level entries page realm rec) can holds =
+cells-changed {config} {side} {held} w (EntriesChanged rd level entries page realm rec) can holds =
     entries-put w rd level entries page realm rec can (table_placed held rd level (table_changed entries)) refl
     (held-parts held page realm rec (table_placed held rd level (table_changed entries)) holds)
-cells-changed {granules} {side} {held} w _ can holds = absurd (false≢true holds)
+cells-changed {config} {side} {held} w _ can holds = absurd (false≢true holds)
 
 -- the table whose entries are changed is held
 entry-held : (held : List HeldCell) (change : List Entry → List Entry) (rd level number : ℕ) (o : Option ℕ) → table_placed held rd level number ≡ o
@@ -371,50 +372,50 @@ places-kept held cells places _ holds = absurd (false≢true holds)
 -- ---- local steps
 
 -- what every whole that agrees may do, with a change of what is held, is a local step
-change-local : (granules cpu : ℕ) (command : Command) (given : Reply) (hold : Hold) (change : Change) → holds_change hold.cells change ≡ true
-    → ((cells : ℕ → Cell) (places : ℕ → CpuPlace) → IsWellShaped granules hold.side places cells → Agrees cells hold.cells → places cpu ≡ hold.place
-    → CanApply (flat_state granules cells) change
-    × IsShaped granules (whole_changed granules (record { cells = cells; side = hold.side; places = places }) change)
-    × Step (flat_state granules cells) cpu command given (flat_state granules (cells_changed granules cells change)))
-    → LocalStep granules cpu command given hold (tables_changed hold change)
-change-local granules cpu command given hold change holds each =
-    step-is_local granules cpu command given hold (table_cells hold.cells change) hold.side hold.place
+change-local : (config : Config) (cpu : ℕ) (command : Command) (given : Reply) (hold : Hold) (change : Change) → holds_change hold.cells change ≡ true
+    → ((cells : ℕ → Cell) (places : ℕ → CpuPlace) → IsWellShaped config hold.side places cells → Agrees cells hold.cells → places cpu ≡ hold.place
+    → CanApply (flat_state config cells) change
+    × IsShaped config (whole_changed config (record { cells = cells; side = hold.side; places = places }) change)
+    × Step (flat_state config cells) cpu command given (flat_state config (cells_changed config cells change)))
+    → LocalStep config cpu command given hold (tables_changed hold change)
+change-local config cpu command given hold change holds each =
+    step-is_local config cpu command given hold (table_cells hold.cells change) hold.side hold.place
     (λ h has. held-contains hold.cells h.granule
     (All-contains (λ (x : HeldCell). IsTrue (is_held x.granule hold.cells)) (table_cells hold.cells change) h
     (All-from_recursion (λ (x : HeldCell). IsTrue (is_held x.granule hold.cells)) (table_cells hold.cells change) (cells-held hold.cells change holds)) has))
     (λ cells places shaped agrees placed.
-    let w : Whole granules hold.side hold.cells = record { cells = cells; places = places; shaped = shaped; agrees = agrees } in
-    let s = flat_state granules cells in
+    let w : Whole config hold.side hold.cells = record { cells = cells; places = places; shaped = shaped; agrees = agrees } in
+    let s = flat_state config cells in
     let one = each cells places shaped agrees placed in
     let of_cells = cells-changed w change one.0 holds in
     let kept_side = side-kept hold.cells cells hold.side change holds in
     let kept_places = places-kept hold.cells cells places change holds ∙ sym (put-same places cpu hold.place placed) in (
-      subst (λ new. Step s cpu command given (flat_state granules new)) of_cells one.2,
-      subst (λ new. IsWellShaped granules hold.side (put places cpu hold.place) new) of_cells
-          (subst (λ p. IsWellShaped granules hold.side p (cells_changed granules cells change)) kept_places
-          (subst (λ side. IsWellShaped granules side (places_changed cells places change) (cells_changed granules cells change)) kept_side one.1)),
+      subst (λ new. Step s cpu command given (flat_state config new)) of_cells one.2,
+      subst (λ new. IsWellShaped config hold.side (put places cpu hold.place) new) of_cells
+          (subst (λ p. IsWellShaped config hold.side p (cells_changed config cells change)) kept_places
+          (subst (λ side. IsWellShaped config side (places_changed cells places change) (cells_changed config cells change)) kept_side one.1)),
     ))
 
 -- what is done
-pub done-local : (granules cpu : ℕ) (command : Command) (words : List ℕ) (hold : Hold) (change : Change) → holds_change hold.cells change ≡ true
-    → ((cells : ℕ → Cell) (places : ℕ → CpuPlace) → IsWellShaped granules hold.side places cells → Agrees cells hold.cells → places cpu ≡ hold.place
-    → outcome (flat_state granules cells) cpu (call_of command) ≡ Ok (done words change))
-    → LocalStep granules cpu command (ok words) hold (tables_changed hold change)
-done-local granules cpu command words hold change holds each =
-    change-local granules cpu command (ok words) hold change holds (λ cells places shaped agrees placed.
-    let w : Whole granules hold.side hold.cells = record { cells = cells; places = places; shaped = shaped; agrees = agrees } in
+pub done-local : (config : Config) (cpu : ℕ) (command : Command) (words : List ℕ) (hold : Hold) (change : Change) → holds_change hold.cells change ≡ true
+    → ((cells : ℕ → Cell) (places : ℕ → CpuPlace) → IsWellShaped config hold.side places cells → Agrees cells hold.cells → places cpu ≡ hold.place
+    → outcome (flat_state config cells) cpu (call_of command) ≡ Ok (done words change))
+    → LocalStep config cpu command (ok words) hold (tables_changed hold change)
+done-local config cpu command words hold change holds each =
+    change-local config cpu command (ok words) hold change holds (λ cells places shaped agrees placed.
+    let w : Whole config hold.side hold.cells = record { cells = cells; places = places; shaped = shaped; agrees = agrees } in
     let is = each cells places shaped agrees placed in
-    let kept = done-keeps_shape granules (record { cells = cells; side = hold.side; places = places }) cpu command words change shaped is in
-    (done_applies (flat_state granules cells) cpu command words change (sound w) is, kept.0, kept.1))
+    let kept = done-keeps_shape config (record { cells = cells; side = hold.side; places = places }) cpu command words change shaped is in
+    (done_applies (flat_state config cells) cpu command words change (sound w) is, kept.0, kept.1))
 
 -- an end of a stretch that is chosen
-pub reached-local : (granules cpu : ℕ) (command : Command) (stretch : Stretch) (top : ℕ) (hold : Hold) → holds_change hold.cells (reached_change stretch top) ≡ true
-    → ((cells : ℕ → Cell) (places : ℕ → CpuPlace) → IsWellShaped granules hold.side places cells → Agrees cells hold.cells → places cpu ≡ hold.place
-    → (outcome (flat_state granules cells) cpu (call_of command) ≡ Ok (Reaches stretch)) × IsReached (flat_state granules cells) stretch top)
-    → LocalStep granules cpu command (ok (top ∷ [])) hold (tables_changed hold (reached_change stretch top))
-reached-local granules cpu command stretch top hold holds each =
-    change-local granules cpu command (ok (top ∷ [])) hold (reached_change stretch top) holds (λ cells places shaped agrees placed.
-    let w : Whole granules hold.side hold.cells = record { cells = cells; places = places; shaped = shaped; agrees = agrees } in
+pub reached-local : (config : Config) (cpu : ℕ) (command : Command) (stretch : Stretch) (top : ℕ) (hold : Hold) → holds_change hold.cells (reached_change stretch top) ≡ true
+    → ((cells : ℕ → Cell) (places : ℕ → CpuPlace) → IsWellShaped config hold.side places cells → Agrees cells hold.cells → places cpu ≡ hold.place
+    → (outcome (flat_state config cells) cpu (call_of command) ≡ Ok (Reaches stretch)) × IsReached (flat_state config cells) stretch top)
+    → LocalStep config cpu command (ok (top ∷ [])) hold (tables_changed hold (reached_change stretch top))
+reached-local config cpu command stretch top hold holds each =
+    change-local config cpu command (ok (top ∷ [])) hold (reached_change stretch top) holds (λ cells places shaped agrees placed.
+    let w : Whole config hold.side hold.cells = record { cells = cells; places = places; shaped = shaped; agrees = agrees } in
     let is = each cells places shaped agrees placed in
-    let kept = reached-keeps_shape granules (record { cells = cells; side = hold.side; places = places }) cpu command stretch top shaped is.0 is.1 in
-    (reached_applies (flat_state granules cells) cpu command stretch top (sound w) is.0 is.1, kept.0, kept.1))
+    let kept = reached-keeps_shape config (record { cells = cells; side = hold.side; places = places }) cpu command stretch top shaped is.0 is.1 in
+    (reached_applies (flat_state config cells) cpu command stretch top (sound w) is.0 is.1, kept.0, kept.1))

@@ -4,6 +4,7 @@ use Rattle.std.specs.Prelude.{IsTrue, is_some}
 use Rattle.std.specs.Option.{option_and_then}
 use Rattle.std.proofs.lemmas.Bool.{false≢true, cases_order}
 use Rattle.std.proofs.lemmas.Bool.Decides.{nat_tests}
+use Rattle.rmm_spec.specs.HistoryText.{Config}
 use Rattle.rmm_spec.specs.declared.entry.Entry.{Entry}
 use Rattle.rmm_spec.specs.declared.entry.Entry.TheVariants.{Unassigned, Assigned, Table, UnassignedNs, AssignedNs}
 use Rattle.rmm_spec.specs.State.{State, RealmRecord}
@@ -27,9 +28,9 @@ use Rattle.walk_laws.proofs.Wholes.{Whole, state, sound, whole_table}
 -- ---- tables
 
 -- the held table of a place is the whole's
-pub whole_holds : {granules : ℕ} {side : Side} {held : List HeldCell} (w : Whole granules side held) (g rd level number : ℕ)
+pub whole_holds : {config : Config} {side : Side} {held : List HeldCell} (w : Whole config side held) (g rd level number : ℕ)
     → HoldsTable (table_held held) g rd level number → HoldsTable (tables_of w.cells) g rd level number
-whole_holds {granules} {side} {held} w g rd level number holds = record {
+whole_holds {config} {side} {held} w g rd level number holds = record {
   table = holds.table;
   is_held = whole_table w g holds.table holds.is_held;
   is_realm = holds.is_realm;
@@ -38,32 +39,32 @@ whole_holds {granules} {side} {held} w g rd level number holds = record {
 }
 
 -- a table of the whole is found at its place
-pub whole_found : {granules : ℕ} {side : Side} {held : List HeldCell} (w : Whole granules side held) (g rd level number : ℕ)
-    → HoldsTable (tables_of w.cells) g rd level number → table_granule granules (tables_of w.cells) rd level number ≡ Some g
-whole_found {granules} {side} {held} w g rd level number holds =
-    holds-found granules (tables_of w.cells) g rd level number (IsTied-shaped granules side w.places w.cells w.shaped).tables.found holds
+pub whole_found : {config : Config} {side : Side} {held : List HeldCell} (w : Whole config side held) (g rd level number : ℕ)
+    → HoldsTable (tables_of w.cells) g rd level number → table_granule config.granules (tables_of w.cells) rd level number ≡ Some g
+whole_found {config} {side} {held} w g rd level number holds =
+    holds-found config.granules (tables_of w.cells) g rd level number (IsTied-shaped config side w.places w.cells w.shaped).tables.found holds
 
 -- and found at its place
-pub placed-found : {granules : ℕ} {side : Side} {held : List HeldCell} (w : Whole granules side held) (rd level number g : ℕ)
+pub placed-found : {config : Config} {side : Side} {held : List HeldCell} (w : Whole config side held) (rd level number g : ℕ)
     → table_placed held rd level number ≡ Some g → (state w).table rd level number ≡ Some g
 unfolding flat_state
-placed-found {granules} {side} {held} w rd level number g is =
+placed-found {config} {side} {held} w rd level number g is =
     whole_found w g rd level number (whole_holds w g rd level number (placed-holds held rd level number g is))
 
 -- ---- entries
 
 -- an entry of a table of the whole is the flat state's
-entry-whole : {granules : ℕ} {side : Side} {held : List HeldCell} (w : Whole granules side held) (g rd level number : ℕ) (e : Entry)
+entry-whole : {config : Config} {side : Side} {held : List HeldCell} (w : Whole config side held) (g rd level number : ℕ) (e : Entry)
     → (holds : HoldsTable (tables_of w.cells) g rd level (number / 512)) → slice_get holds.table.entries (number % 512) ≡ Some e
     → entry_at (state w) rd level number ≡ e
 unfolding flat_state
-entry-whole {granules} {side} {held} w g rd level number e holds at = elim (link_or_leaf e) [
+entry-whole {config} {side} {held} w g rd level number e holds at = elim (link_or_leaf e) [
   | inl link ↦ entry-link (state w) (sound w) rd level number link.0 (whole_found w link.0 rd (suc level) number
       (subst (λ n. HoldsTable (tables_of w.cells) link.0 rd (suc level) n) (number-again number)
       (at_place (λ a b c. HoldsTable (tables_of w.cells) link.0 a (suc b) (512 * c + number % 512)) holds
       (w.shaped.tables.links g (number % 512) link.0 holds.table holds.is_held (at ∙ ap Some link.1))))) ∙ sym link.1
   | inr leaf ↦ entry-leaf (state w) (sound w) rd level number e
-      (leaf-found granules (tables_of w.cells) rd level number g holds.table (whole_found w g rd level (number / 512) holds) holds.is_held
+      (leaf-found config.granules (tables_of w.cells) rd level number g holds.table (whole_found w g rd level (number / 512) holds) holds.is_held
       ∙ entry_leaf-some holds.table.entries (number % 512) e at leaf)
 ]
 
@@ -93,10 +94,10 @@ table-below held rd level number e is =
     rw (below, above, is) refl
 
 -- an entry of a held table is that of the state that the cells tell of
-entry-seen : (granules : ℕ) (held : List HeldCell) (rd level number : ℕ) (e : Entry) → entry_held held rd level number ≡ Some e
-    → (nat_lt level 3 ≡ false → is_table e ≡ false) → entry_at (seen_state granules held) rd level number ≡ e
+entry-seen : (config : Config) (held : List HeldCell) (rd level number : ℕ) (e : Entry) → entry_held held rd level number ≡ Some e
+    → (nat_lt level 3 ≡ false → is_table e ≡ false) → entry_at (seen_state config held) rd level number ≡ e
 unfolding entry_at seen_state leaf_seen
-entry-seen granules held rd level number e is last = by (nat_lt level 3) refl
+entry-seen config held rd level number e is last = by (nat_lt level 3) refl
   where
     by : (b : Bool) → nat_lt level 3 ≡ b
         → linked_entry (if b then table_seen held rd (level + 1) number else None) (option_and_then leaf_of (entry_held held rd level number)) ≡ e
@@ -105,32 +106,32 @@ entry-seen granules held rd level number e is last = by (nat_lt level 3) refl
     by false end = ap (λ (o : Option Entry). linked_entry None (option_and_then leaf_of o)) is ∙ unlinked-own e (last end)
 
 -- no link stands at the last level
-last-unlinked : {granules : ℕ} {side : Side} {held : List HeldCell} (w : Whole granules side held) (g i rd level number : ℕ) (e : Entry)
+last-unlinked : {config : Config} {side : Side} {held : List HeldCell} (w : Whole config side held) (g i rd level number : ℕ) (e : Entry)
     → (holds : HoldsTable (tables_of w.cells) g rd level number) → slice_get holds.table.entries i ≡ Some e → nat_lt level 3 ≡ false → is_table e ≡ false
-last-unlinked {granules} {side} {held} w g i rd level number (Table child) holds at end =
+last-unlinked {config} {side} {held} w g i rd level number (Table child) holds at end =
     let owner = w.shaped.tables.placed g holds.table holds.is_held in
     let less : holds.table.place.level < 3 = w.shaped.tables.kinds g i holds.table owner.0 (Table child) holds.is_held owner.1 at in
     let same = holds.is_level in
     let below : level < 3 = omega (arith, less, same) in
     let test : nat_lt level 3 ≡ true = grind (arith, nat_tests, below) in
     absurd (false≢true (sym end ∙ test))
-last-unlinked {granules} {side} {held} w g i rd level number (Unassigned ripas) holds at end = refl
-last-unlinked {granules} {side} {held} w g i rd level number (Assigned ripas granule) holds at end = refl
-last-unlinked {granules} {side} {held} w g i rd level number UnassignedNs holds at end = refl
-last-unlinked {granules} {side} {held} w g i rd level number (AssignedNs page) holds at end = refl
+last-unlinked {config} {side} {held} w g i rd level number (Unassigned ripas) holds at end = refl
+last-unlinked {config} {side} {held} w g i rd level number (Assigned ripas granule) holds at end = refl
+last-unlinked {config} {side} {held} w g i rd level number UnassignedNs holds at end = refl
+last-unlinked {config} {side} {held} w g i rd level number (AssignedNs page) holds at end = refl
 
 -- the entry of a held table, as it is told and as the whole has it
-pub record HeldEntry (granules : ℕ) (cells : ℕ → Cell) (held : List HeldCell) (rd level number : ℕ) : Type 0 where
+pub record HeldEntry (config : Config) (cells : ℕ → Cell) (held : List HeldCell) (rd level number : ℕ) : Type 0 where
   pub entry : Entry
   pub found : entry_held held rd level number ≡ Some entry
-  pub whole : entry_at (flat_state granules cells) rd level number ≡ entry
-  pub seen : entry_at (seen_state granules held) rd level number ≡ entry
+  pub whole : entry_at (flat_state config cells) rd level number ≡ entry
+  pub seen : entry_at (seen_state config held) rd level number ≡ entry
 
 -- each held table has it
-pub entry-there : {granules : ℕ} {side : Side} {held : List HeldCell} (w : Whole granules side held) (g rd level number : ℕ)
-    → table_placed held rd level (number / 512) ≡ Some g → HeldEntry granules w.cells held rd level number
+pub entry-there : {config : Config} {side : Side} {held : List HeldCell} (w : Whole config side held) (g rd level number : ℕ)
+    → table_placed held rd level (number / 512) ≡ Some g → HeldEntry config w.cells held rd level number
 unfolding entry_held whole_holds
-entry-there {granules} {side} {held} w g rd level number is =
+entry-there {config} {side} {held} w g rd level number is =
     let here = placed-holds held rd level (number / 512) g is in
     let holds = whole_holds w g rd level (number / 512) here in
     let low : number % 512 < 512 = omega arith in
@@ -142,14 +143,14 @@ entry-there {granules} {side} {held} w g rd level number is =
       entry = e.0;
       found = found;
       whole = entry-whole w g rd level number e.0 holds e.1;
-      seen = entry-seen granules held rd level number e.0 found (last-unlinked w g (number % 512) rd level (number / 512) e.0 holds e.1);
+      seen = entry-seen config held rd level number e.0 found (last-unlinked w g (number % 512) rd level (number / 512) e.0 holds e.1);
     }
 
 -- an entry whose table is held is told as the whole has it
-pub entry-same : {granules : ℕ} {side : Side} {held : List HeldCell} (w : Whole granules side held) (g rd level number : ℕ)
+pub entry-same : {config : Config} {side : Side} {held : List HeldCell} (w : Whole config side held) (g rd level number : ℕ)
     → table_placed held rd level (number / 512) ≡ Some g
-    → entry_at (state w) rd level number ≡ entry_at (seen_state granules held) rd level number
-entry-same {granules} {side} {held} w g rd level number is = let e = entry-there w g rd level number is in e.whole ∙ sym e.seen
+    → entry_at (state w) rd level number ≡ entry_at (seen_state config held) rd level number
+entry-same {config} {side} {held} w g rd level number is = let e = entry-there w g rd level number is in e.whole ∙ sym e.seen
 
 -- ---- walks
 

@@ -4,6 +4,7 @@ use Rattle.std.specs.Prelude.{IsTrue, is_some}
 use Rattle.std.specs.List.{AllByRecursion, list_all}
 use Rattle.std.proofs.lemmas.Bool.{false≢true, and_parts, not-true, ltb-true}
 use Rattle.std.proofs.lemmas.Option.{same_Some}
+use Rattle.rmm_spec.specs.HistoryText.{Config}
 use Rattle.rmm_spec.specs.declared.call.Call.{Call}
 use Rattle.rmm_spec.specs.declared.call.Call.TheVariants as call
 use Rattle.rmm_spec.specs.declared.call.Removal.{Removal}
@@ -78,12 +79,12 @@ told-either keeps held n told = elim (told-cases keeps held n told) [
     by false there = there
 
 -- a named granule that is told of is the same in each whole
-named-same : {granules : ℕ} {side : Side} {held : List HeldCell} (w : Whole granules side held) (keeps : Bool) (n : Needed) → is_told keeps held n ≡ true
-    → SameNamed (state w) (seen_state granules held) n
-named-same {granules} {side} {held} w keeps n told = (told-tag w n.granule n.tag (told-either keeps held n told), by n.tag (λ other. told-held keeps held n other told))
+named-same : {config : Config} {side : Side} {held : List HeldCell} (w : Whole config side held) (keeps : Bool) (n : Needed) → is_told keeps held n ≡ true
+    → SameNamed (state w) (seen_state config held) n
+named-same {config} {side} {held} w keeps n told = (told-tag w n.granule n.tag (told-either keeps held n told), by n.tag (λ other. told-held keeps held n other told))
   where
     by : (asked : Tag) → ((tag_number asked == tag_number tag.Rd) ≡ false → is_held n.granule held ≡ true)
-        → SameRec (state w) (seen_state granules held) n.granule asked
+        → SameRec (state w) (seen_state config held) n.granule asked
     by tag.Rec has = rec-same w n.granule (has refl)
     by tag.Undelegated has = tt
     by tag.Delegated has = tt
@@ -93,10 +94,10 @@ named-same {granules} {side} {held} w keeps n told = (told-tag w n.granule n.tag
     by tag.Rtt has = tt
 
 -- all of them
-names-same : {granules : ℕ} {side : Side} {held : List HeldCell} (w : Whole granules side held) (keeps : Bool) (names : List Needed) → list_all (is_told keeps held) names ≡ true
-    → AllByRecursion (SameNamed (state w) (seen_state granules held)) names
-names-same {granules} {side} {held} w keeps [] told = tt
-names-same {granules} {side} {held} w keeps (n ∷ names) told =
+names-same : {config : Config} {side : Side} {held : List HeldCell} (w : Whole config side held) (keeps : Bool) (names : List Needed) → list_all (is_told keeps held) names ≡ true
+    → AllByRecursion (SameNamed (state w) (seen_state config held)) names
+names-same {config} {side} {held} w keeps [] told = tt
+names-same {config} {side} {held} w keeps (n ∷ names) told =
     let parts = and_parts (is_told keeps held n) (list_all (is_told keeps held) names) told in
     (named-same w keeps n parts.0, names-same w keeps names parts.1)
 
@@ -142,10 +143,10 @@ way-told (call.RttSetRipas rd rec base top) held told = head (call.RttSetRipas r
 way-told _ held told = tt
 
 -- so what rows look up before the walk is the same
-front-same : {granules : ℕ} {side : Side} {held : List HeldCell} (w : Whole granules side held) (c : Call) (route : Way) → are_told c held ≡ true
-    → is_told (keeps_realm c) held (needed route.rd tag.Rd) ≡ true → SameFront (state w) (seen_state granules held) c route
+front-same : {config : Config} {side : Side} {held : List HeldCell} (w : Whole config side held) (c : Call) (route : Way) → are_told c held ≡ true
+    → is_told (keeps_realm c) held (needed route.rd tag.Rd) ≡ true → SameFront (state w) (seen_state config held) c route
 unfolding are_told
-front-same {granules} {side} {held} w c route told realm = record {
+front-same {config} {side} {held} w c route told realm = record {
   names = names-same w (keeps_realm c) (named c) told;
   space = told-space w route.rd (told-either (keeps_realm c) held (needed route.rd tag.Rd) realm);
   realm = λ keeps. elim (told-cases (keeps_realm c) held (needed route.rd tag.Rd) realm) [
@@ -162,13 +163,13 @@ unfolding part_below
 link_below removal rd ipa level child e is = ap (λ (x : Entry). part_below (call.RttRemove removal rd ipa level) x) is
 
 -- the table that is to be taken out is held, so it is told what is left of it
-used-told : {granules : ℕ} {side : Side} {held : List HeldCell} (w : Whole granules side held) (removal : Removal) (rd ipa level : ℕ)
-    → WalkEnd (state w) (seen_state granules held) held (way rd ipa (level - 1))
-    → is_part_held (part_below (call.RttRemove removal rd ipa level) (end_entry granules held (way rd ipa (level - 1)))) held ≡ true
-    → SameUse (state w) (seen_state granules held) (call.RttRemove removal rd ipa level)
+used-told : {config : Config} {side : Side} {held : List HeldCell} (w : Whole config side held) (removal : Removal) (rd ipa level : ℕ)
+    → WalkEnd (state w) (seen_state config held) held (way rd ipa (level - 1))
+    → is_part_held (part_below (call.RttRemove removal rd ipa level) (end_entry config held (way rd ipa (level - 1)))) held ≡ true
+    → SameUse (state w) (seen_state config held) (call.RttRemove removal rd ipa level)
 unfolding flat_state
-used-told {granules} {side} {held} w removal rd ipa level end part above linked =
-    let t = seen_state granules held in
+used-told {config} {side} {held} w removal rd ipa level end part above linked =
+    let t = seen_state config held in
     let up = level - 1 in
     let parts = and_parts (reach t rd ipa up == up) (is_table (entry_for t rd (reach t rd ipa up) ipa)) linked in
     let at : reach t rd ipa up ≡ up = eqb-true (reach t rd ipa up) up parts.0 in
@@ -183,53 +184,53 @@ used-told {granules} {side} {held} w removal rd ipa level end part above linked 
     let seen : entry_for (state w) rd up ipa ≡ entry_for t rd (reach t rd ipa up) ipa =
     ap (λ l. entry_for (state w) rd l ipa) (sym (end.same.level ∙ at)) ∙ end.same.entry in
     let link = link_there (state w) (sound w) rd up (entry_number up ipa) table (ap is_table seen ∙ parts.1) in
-    let child : end_entry granules held (way rd ipa up) ≡ Table link.0 = sym seen ∙ link.2 in
+    let child : end_entry config held (way rd ipa up) ≡ Table link.0 = sym seen ∙ link.2 in
     let has : is_held link.0 held ≡ true =
-    subst (λ (o : Option ℕ). is_part_held o held ≡ true) (link_below removal rd ipa level link.0 (end_entry granules held (way rd ipa up)) child) part in
-    let holds = table_granule-holds granules (tables_of w.cells) rd (suc up) (entry_number up ipa) link.0 link.1 in
+    subst (λ (o : Option ℕ). is_part_held o held ≡ true) (link_below removal rd ipa level link.0 (end_entry config held (way rd ipa up)) child) part in
+    let holds = table_granule-holds config.granules (tables_of w.cells) rd (suc up) (entry_number up ipa) link.0 link.1 in
     let placed = held-placed w link.0 rd level (table_number level ipa) has
     (subst (λ l. HoldsTable (tables_of w.cells) link.0 rd l (table_number l ipa)) deep
     (subst (λ n. HoldsTable (tables_of w.cells) link.0 rd (suc up) n) (sym (table_number-suc up ipa)) holds)) in
     left-same w removal placed.0 rd level (table_number level ipa) placed.1
 
-use-told : {granules : ℕ} {side : Side} {held : List HeldCell} (w : Whole granules side held) (c : Call)
-    → ((route : Way) → way_of c ≡ Some route → WalkEnd (state w) (seen_state granules held) held route × (is_part_held (part_below c (end_entry granules held route)) held ≡ true))
-    → SameUse (state w) (seen_state granules held) c
+use-told : {config : Config} {side : Side} {held : List HeldCell} (w : Whole config side held) (c : Call)
+    → ((route : Way) → way_of c ≡ Some route → WalkEnd (state w) (seen_state config held) held route × (is_part_held (part_below c (end_entry config held route)) held ≡ true))
+    → SameUse (state w) (seen_state config held) c
 unfolding way_of
-use-told {granules} {side} {held} w (call.RttRemove removal rd ipa level) ends = let end = ends (way rd ipa (level - 1)) refl in used-told w removal rd ipa level end.0 end.1
-use-told {granules} {side} {held} w _ ends = tt
+use-told {config} {side} {held} w (call.RttRemove removal rd ipa level) ends = let end = ends (way rd ipa (level - 1)) refl in used-told w removal rd ipa level end.0 end.1
+use-told {config} {side} {held} w _ ends = tt
 
 -- ---- answers
 
 -- where the walk's end is held, with what is taken out below it, all that is looked up is told
-looks-told : {granules : ℕ} {side : Side} {held : List HeldCell} (w : Whole granules side held) (c : Call) → are_told c held ≡ true
-    → is_way_settled granules c held (way_of c) ≡ true → LooksAlike (state w) (seen_state granules held) c (way_of c)
-looks-told {granules} {side} {held} w c told settled = by (way_of c) refl settled (way-told c held told)
+looks-told : {config : Config} {side : Side} {held : List HeldCell} (w : Whole config side held) (c : Call) → are_told c held ≡ true
+    → is_way_settled config c held (way_of c) ≡ true → LooksAlike (state w) (seen_state config held) c (way_of c)
+looks-told {config} {side} {held} w c told settled = by (way_of c) refl settled (way-told c held told)
   where
-    by : (o : Option Way) → way_of c ≡ o → is_way_settled granules c held o ≡ true → IsWayTold c held o → LooksAlike (state w) (seen_state granules held) c o
+    by : (o : Option Way) → way_of c ≡ o → is_way_settled config c held o ≡ true → IsWayTold c held o → LooksAlike (state w) (seen_state config held) c o
     by None walks is of_rd = absurd (false≢true is)
     by (Some route) walks is of_rd =
-        let parts = and_parts (is_walk_held granules held route) (is_part_held (part_below c (end_entry granules held route)) held) is in
+        let parts = and_parts (is_walk_held config held route) (is_part_held (part_below c (end_entry config held route)) held) is in
         let end = walk-end w route parts.0 in
         record {
           front = front-same w c route told of_rd;
           walk = end.same;
           used = use-told w c (λ other is_other.
               let same : route ≡ other = same_Some route other (sym walks ∙ is_other) in
-              subst (λ (r : Way). WalkEnd (state w) (seen_state granules held) held r × (is_part_held (part_below c (end_entry granules held r)) held ≡ true)) same (end, parts.1));
+              subst (λ (r : Way). WalkEnd (state w) (seen_state config held) held r × (is_part_held (part_below c (end_entry config held r)) held ≡ true)) same (end, parts.1));
         }
 
 -- a settled walk is answered by each whole as it is told
-pub walk-told : {granules : ℕ} {side : Side} {held : List HeldCell} (w : Whole granules side held) (cpu : ℕ) (c : Call) → are_told c held ≡ true
-    → is_way_settled granules c held (way_of c) ≡ true → answer_of (state w) cpu c ≡ answer_of (seen_state granules held) cpu c
-walk-told {granules} {side} {held} w cpu c told settled = answer-same (state w) (seen_state granules held) cpu c (looks-told w c told settled)
+pub walk-told : {config : Config} {side : Side} {held : List HeldCell} (w : Whole config side held) (cpu : ℕ) (c : Call) → are_told c held ≡ true
+    → is_way_settled config c held (way_of c) ≡ true → answer_of (state w) cpu c ≡ answer_of (seen_state config held) cpu c
+walk-told {config} {side} {held} w cpu c told settled = answer-same (state w) (seen_state config held) cpu c (looks-told w c told settled)
 
 -- and so is a refusal before the walk
-pub early-told : {granules : ℕ} {side : Side} {held : List HeldCell} (w : Whole granules side held) (cpu : ℕ) (c : Call) (given : Reply) → are_told c held ≡ true
-    → is_some (way_of c) ≡ true → answer_of (seen_state granules held) cpu c ≡ Err given → is_table_error given ≡ false → answer_of (state w) cpu c ≡ Err given
-early-told {granules} {side} {held} w cpu c given told walks is plain =
-    refused-same (state w) (seen_state granules held) cpu c given (by (way_of c) walks (way-told c held told)) is plain
+pub early-told : {config : Config} {side : Side} {held : List HeldCell} (w : Whole config side held) (cpu : ℕ) (c : Call) (given : Reply) → are_told c held ≡ true
+    → is_some (way_of c) ≡ true → answer_of (seen_state config held) cpu c ≡ Err given → is_table_error given ≡ false → answer_of (state w) cpu c ≡ Err given
+early-told {config} {side} {held} w cpu c given told walks is plain =
+    refused-same (state w) (seen_state config held) cpu c given (by (way_of c) walks (way-told c held told)) is plain
   where
-    by : (o : Option Way) → is_some o ≡ true → IsWayTold c held o → FrontsAlike (state w) (seen_state granules held) c o
+    by : (o : Option Way) → is_some o ≡ true → IsWayTold c held o → FrontsAlike (state w) (seen_state config held) c o
     by None none of_rd = absurd (false≢true none)
     by (Some route) there of_rd = front-same w c route told of_rd

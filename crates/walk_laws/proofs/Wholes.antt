@@ -3,6 +3,7 @@ use Rattle.std.proofs.Common.{◌≡◌, ℕ, Bool, true, false, ◌==◌, if◌
 use Rattle.std.specs.Prelude.{IsTrue, Contains, is_some, unwrap_or}
 use Rattle.std.proofs.lemmas.Bool.{false≢true}
 use Rattle.std.proofs.lemmas.Option.{option_and_then_some}
+use Rattle.rmm_spec.specs.HistoryText.{Config}
 use Rattle.rmm_spec.specs.State.{State}
 use Rattle.rmm_spec.specs.Table.{TableRecord}
 use Rattle.rmm_spec.specs.Sound.{IsSound}
@@ -15,17 +16,17 @@ use Rattle.shape_laws.proofs.Ties.{well_shaped-is_sound}
 use Rattle.walk_laws.specs.Held.{cell_in, is_held, known_cell}
 use Rattle.walk_laws.specs.SeenState.{table_held}
 
-pub record Whole (granules : ℕ) (side : Side) (held : List HeldCell) : Type 0 where
+pub record Whole (config : Config) (side : Side) (held : List HeldCell) : Type 0 where
   pub cells : ℕ → Cell
   pub places : ℕ → CpuPlace
-  pub shaped : IsWellShaped granules side places cells
+  pub shaped : IsWellShaped config side places cells
   pub agrees : Agrees cells held
 
-abbrev pub state : {granules : ℕ} {side : Side} {held : List HeldCell} → Whole granules side held → State
-state {granules} {side} {held} w = flat_state granules w.cells
+abbrev pub state : {config : Config} {side : Side} {held : List HeldCell} → Whole config side held → State
+state {config} {side} {held} w = flat_state config w.cells
 
-pub sound : {granules : ℕ} {side : Side} {held : List HeldCell} (w : Whole granules side held) → IsSound (flat_state granules w.cells)
-sound {granules} {side} {held} w = well_shaped-is_sound granules side w.places w.cells w.shaped
+pub sound : {config : Config} {side : Side} {held : List HeldCell} (w : Whole config side held) → IsSound (flat_state config w.cells)
+sound {config} {side} {held} w = well_shaped-is_sound config side w.places w.cells w.shaped
 
 -- ---- cells
 
@@ -39,17 +40,17 @@ known-same (h ∷ held) cells g agrees has = by (h.granule == g) refl (known-sam
     by false apart rest here = rest here
 
 -- the whole's cell at a granule that is held
-pub same_at : {granules : ℕ} {side : Side} {held : List HeldCell} (w : Whole granules side held) (g : ℕ) → IsTrue (is_held g held) → w.cells g ≡ known_cell held g
-same_at {granules} {side} {held} w g has = known-same held w.cells g w.agrees has
+pub same_at : {config : Config} {side : Side} {held : List HeldCell} (w : Whole config side held) (g : ℕ) → IsTrue (is_held g held) → w.cells g ≡ known_cell held g
+same_at {config} {side} {held} w g has = known-same held w.cells g w.agrees has
 
-pub whole_cell : {granules : ℕ} {side : Side} {held : List HeldCell} (w : Whole granules side held) (g : ℕ) (c : Cell) → cell_in g held ≡ Some c → w.cells g ≡ c
-whole_cell {granules} {side} {held} w g c found =
+pub whole_cell : {config : Config} {side : Side} {held : List HeldCell} (w : Whole config side held) (g : ℕ) (c : Cell) → cell_in g held ≡ Some c → w.cells g ≡ c
+whole_cell {config} {side} {held} w g c found =
     same_at w g (ap (λ (o : Option Cell). is_some o) found) ∙ ap (λ (o : Option Cell). unwrap_or o Undelegated) found
 
 -- a table that is held is the whole's
-pub whole_table : {granules : ℕ} {side : Side} {held : List HeldCell} (w : Whole granules side held) (g : ℕ) (t : TableRecord) → table_held held g ≡ Some t
+pub whole_table : {config : Config} {side : Side} {held : List HeldCell} (w : Whole config side held) (g : ℕ) (t : TableRecord) → table_held held g ≡ Some t
     → tables_of w.cells g ≡ Some t
-whole_table {granules} {side} {held} w g t is =
+whole_table {config} {side} {held} w g t is =
     option_and_then_some table_in (cell_in g held) t is (λ c found table. ap table_in (whole_cell w g c found) ∙ table)
 
 -- a granule whose cell is found is in the list

@@ -2,6 +2,7 @@
 -- else than the entry says or at another place; or the root that a held realm names is. This project's own.
 use Rattle.std.specs.Prelude.{ℕ, suc, ◌+◌, ◌*◌, Bool, true, false, not, ◌&&◌, ◌||◌, ◌==◌, List, Option, Some, None, slice_get}
 use Rattle.std.specs.List.{list_any}
+use Rattle.rmm_spec.specs.HistoryText.{Config}
 use Rattle.rmm_spec.specs.declared.entry.Entry.{Entry}
 use Rattle.rmm_spec.specs.declared.entry.Entry.TheVariants.{Assigned, Table}
 use Rattle.rmm_spec.specs.declared.place.Place.{Place}
@@ -33,26 +34,26 @@ is_other_page (Some cell) = not (is_data cell)
 -- ---- what tables and realms name
 
 -- whether what an entry names can't be: no granule, or held as something else
-abbrev pub is_misfit_part : ℕ → List HeldCell → TableRecord → ℕ → Option Entry → Bool
-is_misfit_part granules held t index (Some (Table child)) =
-    not (is_granule granules child)
+abbrev pub is_misfit_part : Config → List HeldCell → TableRecord → ℕ → Option Entry → Bool
+is_misfit_part config held t index (Some (Table child)) =
+    not (is_granule config.granules child)
     || is_other_table t.place.rd (suc t.place.level) (512 * place_number t.place + index) t.place.width (cell_in child held)
-is_misfit_part granules held t index (Some (Assigned ripas page)) = not (is_granule granules page) || is_other_page (cell_in page held)
-is_misfit_part granules held t index _ = false
+is_misfit_part config held t index (Some (Assigned ripas page)) = not (is_granule config.granules page) || is_other_page (cell_in page held)
+is_misfit_part config held t index _ = false
 
 -- whether a held table's entry for the address names such
-abbrev pub is_misfit_table : ℕ → List HeldCell → ℕ → Option TableRecord → Bool
-is_misfit_table granules held ipa None = false
-is_misfit_table granules held ipa (Some t) =
-    is_misfit_part granules held t (entry_index t.place.level ipa) (slice_get t.entries (entry_index t.place.level ipa))
+abbrev pub is_misfit_table : Config → List HeldCell → ℕ → Option TableRecord → Bool
+is_misfit_table config held ipa None = false
+is_misfit_table config held ipa (Some t) =
+    is_misfit_part config held t (entry_index t.place.level ipa) (slice_get t.entries (entry_index t.place.level ipa))
 
-abbrev pub is_misfit_root : ℕ → List HeldCell → ℕ → Option Cell → Bool
-is_misfit_root granules held rd (Some (Rd realm)) =
-    not (is_granule granules realm.root) || is_other_table rd realm.start_level 0 realm.width (cell_in realm.root held)
-is_misfit_root granules held rd _ = false
+abbrev pub is_misfit_root : Config → List HeldCell → ℕ → Option Cell → Bool
+is_misfit_root config held rd (Some (Rd realm)) =
+    not (is_granule config.granules realm.root) || is_other_table rd realm.start_level 0 realm.width (cell_in realm.root held)
+is_misfit_root config held rd _ = false
 
 -- whether a walk in the tables of the realm for the address meets such among the cells that are held
-unfoldable pub is_misfit_walk : ℕ → List HeldCell → ℕ → ℕ → Bool
-is_misfit_walk granules held rd ipa =
-    is_misfit_root granules held rd (cell_in rd held)
-    || list_any (λ granule. is_misfit_table granules held ipa (table_held held granule)) (granules_held held)
+unfoldable pub is_misfit_walk : Config → List HeldCell → ℕ → ℕ → Bool
+is_misfit_walk config held rd ipa =
+    is_misfit_root config held rd (cell_in rd held)
+    || list_any (λ granule. is_misfit_table config held ipa (table_held held granule)) (granules_held held)

@@ -4,6 +4,7 @@
 use Rattle.std.specs.Prelude.{ℕ, ◌-◌, ◌/◌, ◌%◌, Bool, false, ◌==◌, if◌then◌else◌, List, Option, Some, None, is_some, slice_get}
 use Rattle.std.specs.List.{fold}
 use Rattle.std.specs.Option.{option_and_then}
+use Rattle.rmm_spec.specs.HistoryText.{Config}
 use Rattle.rmm_spec.specs.declared.entry.Entry.{Entry}
 use Rattle.rmm_spec.specs.declared.entry.Entry.TheVariants.{Unassigned, Assigned, Table, UnassignedNs, AssignedNs}
 use Rattle.rmm_spec.specs.State.{State, RealmRecord}
@@ -67,8 +68,8 @@ cell_or None (Some realm) = Rd realm
 cell_or None None = Undelegated
 
 -- what lies at an address
-abbrev pub cell_seen : ℕ → List HeldCell → ℕ → Cell
-cell_seen granules held address = if is_granule granules address then cell_or (cell_in address held) (realm_behind held address) else Undelegated
+abbrev pub cell_seen : Config → List HeldCell → ℕ → Cell
+cell_seen config held address = if is_granule config.granules address then cell_or (cell_in address held) (realm_behind held address) else Undelegated
 
 -- ---- tables
 
@@ -107,12 +108,12 @@ leaf_seen held rd level number = option_and_then leaf_of (entry_held held rd lev
 
 -- ---- all
 
-unfoldable pub seen_state : ℕ → List HeldCell → State
-seen_state granules held = record {
-  granules = granules;
-  tag = tags_of (cell_seen granules held);
-  realm = realms_of (cell_seen granules held);
-  rec = recs_of (cell_seen granules held);
+unfoldable pub seen_state : Config → List HeldCell → State
+seen_state config held = record {
+  config = config;
+  tag = tags_of (cell_seen config held);
+  realm = realms_of (cell_seen config held);
+  rec = recs_of (cell_seen config held);
   table = table_seen held;
   leaf = leaf_seen held;
 }

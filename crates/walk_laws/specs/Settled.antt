@@ -1,6 +1,7 @@
 -- What is owed where what is held settles a command that walks: what is answered in the state that the held cells tell of is a
 -- local step, with the change that it makes of the held cells. This project's own.
 use Rattle.std.specs.Prelude.{◌≡◌, ℕ, true, [], ◌∷◌, Result, Ok, Err}
+use Rattle.rmm_spec.specs.HistoryText.{Config}
 use Rattle.rmm_spec.specs.declared.accepted.Accepted.{Accepted}
 use Rattle.rmm_spec.specs.declared.accepted.Accepted.TheVariants.{Done, Reaches}
 use Rattle.rmm_spec.specs.declared.command.Command.{Command}
@@ -13,11 +14,11 @@ use Rattle.walk_laws.specs.SeenState.{seen_state}
 use Rattle.walk_laws.specs.TableCells.{holds_change, tables_changed}
 
 -- of a stretch, each end that the held table's entries allow may be chosen
-abbrev pub IsLocalAnswer : ℕ → ℕ → Command → Hold → Result Accepted Reply → Type 0
-IsLocalAnswer granules cpu command hold (Err refusal) = LocalStep granules cpu command refusal hold hold
-IsLocalAnswer granules cpu command hold (Ok (Done words change)) =
-    (holds_change hold.cells change ≡ true) × LocalStep granules cpu command (reply.Ok words) hold (tables_changed hold change)
-IsLocalAnswer granules cpu command hold (Ok (Reaches stretch)) =
+abbrev pub IsLocalAnswer : Config → ℕ → Command → Hold → Result Accepted Reply → Type 0
+IsLocalAnswer config cpu command hold (Err refusal) = LocalStep config cpu command refusal hold hold
+IsLocalAnswer config cpu command hold (Ok (Done words change)) =
+    (holds_change hold.cells change ≡ true) × LocalStep config cpu command (reply.Ok words) hold (tables_changed hold change)
+IsLocalAnswer config cpu command hold (Ok (Reaches stretch)) =
     (top : ℕ) → (holds_change hold.cells (reached_change stretch top) ≡ true)
-    × (IsReached (seen_state granules hold.cells) stretch top
-    → LocalStep granules cpu command (ok (top ∷ [])) hold (tables_changed hold (reached_change stretch top)))
+    × (IsReached (seen_state config hold.cells) stretch top
+    → LocalStep config cpu command (ok (top ∷ [])) hold (tables_changed hold (reached_change stretch top)))

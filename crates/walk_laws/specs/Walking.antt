@@ -3,6 +3,7 @@
 -- the walk needs no table. This project's own.
 use Rattle.std.specs.Prelude.{ℕ, ◌-◌, Bool, true, false, not, ◌&&◌, ◌||◌, ◌==◌, List, Option, Some, None, is_some, Result, Ok, Err}
 use Rattle.std.specs.List.{list_all}
+use Rattle.rmm_spec.specs.HistoryText.{Config}
 use Rattle.rmm_spec.specs.declared.accepted.Accepted.{Accepted}
 use Rattle.rmm_spec.specs.declared.call.Call.{Call}
 use Rattle.rmm_spec.specs.declared.call.Call.TheVariants as call
@@ -62,17 +63,17 @@ part_below call entry = None
 
 -- Whether the walk that the held cells tell of ends at a table that is held: at the last level that is asked for, or at an
 -- entry that is no link. Where it isn't, the table at its end is the next one to look at.
-unfoldable pub is_walk_held : ℕ → List HeldCell → Way → Bool
-is_walk_held granules held w =
-    let s : State = seen_state granules held in
+unfoldable pub is_walk_held : Config → List HeldCell → Way → Bool
+is_walk_held config held w =
+    let s : State = seen_state config held in
     let level = reach s w.rd w.ipa w.max in
     is_some (table_placed held w.rd level (table_number level w.ipa))
     && (level == w.max || not (is_table (entry_for s w.rd level w.ipa)))
 
 -- the entry for the address at which that walk ends
-abbrev pub end_entry : ℕ → List HeldCell → Way → Entry
-end_entry granules held w =
-    entry_for (seen_state granules held) w.rd (reach (seen_state granules held) w.rd w.ipa w.max) w.ipa
+abbrev pub end_entry : Config → List HeldCell → Way → Entry
+end_entry config held w =
+    entry_for (seen_state config held) w.rd (reach (seen_state config held) w.rd w.ipa w.max) w.ipa
 
 -- whether the part below, if the command takes one out, is held
 abbrev pub is_part_held : Option ℕ → List HeldCell → Bool
@@ -103,18 +104,18 @@ is_refused_early (Ok accepted) = false
 is_refused_early (Err refusal) = not (is_table_error refusal)
 
 -- what a host's command is answered in the state that the held cells tell of: none that walks asks for the CPU
-abbrev pub seen_answer : ℕ → Call → List HeldCell → Result Accepted Reply
-seen_answer granules c held = answer_of (seen_state granules held) 0 c
+abbrev pub seen_answer : Config → Call → List HeldCell → Result Accepted Reply
+seen_answer config c held = answer_of (seen_state config held) 0 c
 
 -- whether the walk's end is held, with what is taken out below it
-abbrev pub is_way_settled : ℕ → Call → List HeldCell → Option Way → Bool
-is_way_settled granules c held None = false
-is_way_settled granules c held (Some w) = is_walk_held granules held w && is_part_held (part_below c (end_entry granules held w)) held
+abbrev pub is_way_settled : Config → Call → List HeldCell → Option Way → Bool
+is_way_settled config c held None = false
+is_way_settled config c held (Some w) = is_walk_held config held w && is_part_held (part_below c (end_entry config held w)) held
 
 -- whether what is held settles a host's command that walks
-unfoldable pub is_walk_settled : ℕ → Call → List HeldCell → Bool
-is_walk_settled granules c held =
-    are_told c held && (is_refused_early (seen_answer granules c held) || is_way_settled granules c held (way_of c))
+unfoldable pub is_walk_settled : Config → Call → List HeldCell → Bool
+is_walk_settled config c held =
+    are_told c held && (is_refused_early (seen_answer config c held) || is_way_settled config c held (way_of c))
 
 -- whether each named granule is held, but for the realm where the command doesn't keep it
 unfoldable pub is_kept : Call → List HeldCell → Bool

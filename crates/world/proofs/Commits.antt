@@ -31,7 +31,7 @@ unchanged-kept cells new_cells side new_side old new journal entries history hol
 
 -- what is decided as accepted the machine accepts, in the state that the cells stand for
 pub accepts-reached : (config : Config) (w : World) (waits : ℕ → Option ℕ) (cpu : ℕ) (command : Command) → ∥ IsReached config w waits ∥₁
-    → MakesTable w.config.granules cpu command (hold_of w cpu) → AcceptsTable w cpu command
+    → MakesTable w.config cpu command (hold_of w cpu) → AcceptsTable w cpu command
 accepts-reached config w waits cpu command reached makes = record {
   accepts = ∥∥₁_elim reached (hlevel props) (λ (r : IsReached config w waits).
       let start = opening_world config r.programs in

@@ -123,9 +123,9 @@ pub planned-report : (w : World) (cpu : ℕ) (n : Next) → next_for w cpu ≡ S
 unfolding next_for go_report
 planned-report w cpu n is = by (w.phase cpu) is
   where
-    by : (p : Phase) → next_in w.config.granules (w.place cpu) (held_cells w cpu) p ≡ Some n → report_in w cpu p ≡ next_report w n
+    by : (p : Phase) → next_in w.config (w.place cpu) (held_cells w cpu) p ≡ Some n → report_in w cpu p ≡ next_report w n
     by (Between number) next = absurd (none-some n next)
-    by (Deciding number command learnt) next = ap (next_report w) (same_Some (plan.next w.config.granules (call_of command) (w.place cpu) learnt (held_cells w cpu)) n next)
+    by (Deciding number command learnt) next = ap (next_report w) (same_Some (plan.next w.config (call_of command) (w.place cpu) learnt (held_cells w cpu)) n next)
     by (Decided number command given) next = absurd (none-some n next)
     by GivenUp next = absurd (none-some n next)
     by Stopped next = absurd (none-some n next)

@@ -299,7 +299,7 @@ module _ (s : own.World) (cpu : ℕ) (within : cpu < s.history.recorded.config.c
   pub committed : (cells : Cells) (side : own_side.Side) (mid cpus : Cpus) (reserved entries : List Commitment) (config : Config) (number : ℕ)
       (opened command again : Command) (learnt : Option ℕ) (given told : Reply) → config ≡ s.history.recorded.config
       → (views_of s.cpus).phase cpu ≡ Deciding number opened learnt → command ≡ opened
-      → MakesStep config.granules cpu command given (cells_of s.cells) (cells_of cells) (side_of s.side) (side_of side) (views_of s.cpus) (views_of mid)
+      → MakesStep config cpu command given (cells_of s.cells) (cells_of cells) (side_of s.side) (side_of side) (views_of s.cpus) (views_of mid)
       → views_of cpus ≡ record (views_of mid) { waits = put (views_of mid).waits cpu None; phase = put (views_of mid).phase cpu (Decided number command given) }
       → reserved ≡ s.journal.items → again ≡ command → told ≡ given
       → entries ≡ reserved ++ record { cpu = cpu; number = number; command = again; given = told } ∷ []
@@ -315,7 +315,7 @@ module _ (s : own.World) (cpu : ℕ) (within : cpu < s.history.recorded.config.c
   committed cells side mid cpus reserved entries config number opened command again learnt given told same_config was_open same made_step is kept_journal same_again same_told pushed =
       let old = views_of s.cpus in
       let is_open = was_open ∙ (λ i. Deciding number (sym same i) learnt) in
-      let step = subst (λ (c : Config). MakesStep c.granules cpu command given (cells_of s.cells) (cells_of cells) (side_of s.side) (side_of side) old (views_of mid))
+      let step = subst (λ (c : Config). MakesStep c cpu command given (cells_of s.cells) (cells_of cells) (side_of s.side) (side_of side) old (views_of mid))
       same_config made_step in
       let more = pushed ∙ (λ i. kept_journal i ++ record { cpu = cpu; number = number; command = same_again i; given = same_told i } ∷ []) in
       let f : Fields = record {

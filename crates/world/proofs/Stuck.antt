@@ -30,23 +30,23 @@ reported Idle granule is = absurd (none-some granule is)
 module _ (w : World) (holder waits : ℕ → Option ℕ) (kept : IsKept w holder waits) where
   -- the plan's next is right to do
   planned : (cpu number : ℕ) (command : Command) (learnt : Option ℕ) → w.phase cpu ≡ Deciding number command learnt
-      → IsPlanned w.config.granules command (w.place cpu) learnt (held_cells w cpu)
-      (plan.next w.config.granules (call_of command) (w.place cpu) learnt (held_cells w cpu))
+      → IsPlanned w.config command (w.place cpu) learnt (held_cells w cpu)
+      (plan.next w.config (call_of command) (w.place cpu) learnt (held_cells w cpu))
   planned cpu number command learnt deciding =
-      next-planned w.config.granules command (w.place cpu) learnt (held_cells w cpu)
+      next-planned w.config command (w.place cpu) learnt (held_cells w cpu)
       (subst (λ locks. IsTrue (are_distinct locks)) (sym (granules_held-cells_at w.cells (w.taken cpu))) (kept.locked.distinct cpu))
 
   -- a take that is reported as blocked is what comes next
   blocked-next : (cpu granule : ℕ) (command : Command) (learnt : Option ℕ) (n : Next)
-      → IsPlanned w.config.granules command (w.place cpu) learnt (held_cells w cpu) n → next_report w n ≡ Blocked granule
-      → IsPlanned w.config.granules command (w.place cpu) learnt (held_cells w cpu) (Take granule)
+      → IsPlanned w.config command (w.place cpu) learnt (held_cells w cpu) n → next_report w n ≡ Blocked granule
+      → IsPlanned w.config command (w.place cpu) learnt (held_cells w cpu) (Take granule)
   blocked-next cpu granule command learnt (Take lock) right is = by (is_taken w lock) is
     where
       by : (b : Bool) → (if b then Blocked lock else Did turn.Take) ≡ Blocked granule
-          → IsPlanned w.config.granules command (w.place cpu) learnt (held_cells w cpu) (Take granule)
+          → IsPlanned w.config command (w.place cpu) learnt (held_cells w cpu) (Take granule)
       by true same =
           let one : lock ≡ granule = same_Some lock granule (ap awaited same) in
-          subst (λ g. IsPlanned w.config.granules command (w.place cpu) learnt (held_cells w cpu) (Take g)) one right
+          subst (λ g. IsPlanned w.config command (w.place cpu) learnt (held_cells w cpu) (Take g)) one right
       by false same = absurd (none-some granule (ap awaited same))
   blocked-next cpu granule command learnt (Free lock rd) right is = absurd (none-some granule (ap awaited is))
   blocked-next cpu granule command learnt Ready right is = absurd (none-some granule (ap awaited is))
@@ -68,7 +68,7 @@ module _ (w : World) (holder waits : ℕ → Option ℕ) (kept : IsKept w holder
       by (Between number) at blocked = absurd (no_call (w.program cpu) granule blocked)
       by (Deciding number command learnt) at blocked = record {
         deciding = record { number = number; command = command; learnt = learnt; is_deciding = at };
-        rising = blocked-next cpu granule command learnt (plan.next w.config.granules (call_of command) (w.place cpu) learnt (held_cells w cpu))
+        rising = blocked-next cpu granule command learnt (plan.next w.config (call_of command) (w.place cpu) learnt (held_cells w cpu))
             (planned cpu number command learnt at) blocked;
       }
       by (Decided number command given) at blocked = absurd (no_return (w.taken cpu) granule blocked)
@@ -109,7 +109,7 @@ module _ (w : World) (holder waits : ℕ → Option ℕ) (kept : IsKept w holder
       by : (p : Phase) → w.phase cpu ≡ p → IsNoMove (report_in w cpu p) → ((other : ℕ) × WaitsBy w (Wants (blocking w)) cpu other) ⊎ IsIdle w cpu Go
       by (Between number) at none = inr (done-still cpu number (w.program cpu) at refl none)
       by (Deciding number command learnt) at none =
-          inl (still-next cpu (plan.next w.config.granules (call_of command) (w.place cpu) learnt (held_cells w cpu)) (ap (λ p. awaited (report_in w cpu p)) (sym at)) none)
+          inl (still-next cpu (plan.next w.config (call_of command) (w.place cpu) learnt (held_cells w cpu)) (ap (λ p. awaited (report_in w cpu p)) (sym at)) none)
       by (Decided number command given) at none = absurd (no_return_still (w.taken cpu) none)
       by GivenUp at none = inr (inl (λ going. subst IsGoing at going))
       by Stopped at none = inr (inl (λ going. subst IsGoing at going))

@@ -4,6 +4,7 @@ use Rattle.std.specs.Prelude.{Contains}
 use Rattle.std.proofs.lemmas.Bool.{false≢true}
 use Rattle.std.proofs.lemmas.Option.{none-some, same_Some, slice_get_within, get_or_from_slice_get, slice_get-get_or}
 use Rattle.std.proofs.lemmas.List.{length-map, take_all, take_more}
+use Rattle.rmm_spec.specs.HistoryText.{Config}
 use Rattle.rmm_spec.specs.declared.command.Command.{Command}
 use Rattle.rmm_spec.specs.Call.{call_of}
 use Rattle.rmm_spec.specs.Lookup.{is_granule}
@@ -40,22 +41,22 @@ not_deciding phase.GivenUp none number command learnt is = false≢true (ap is_d
 not_deciding phase.Stopped none number command learnt is = false≢true (ap is_deciding is)
 
 -- what is planned on what the world has comes next in it
-pub next-planned : (w : World) (cpu : ℕ) (n : Next) (granules : ℕ) (place : CpuPlace) (held : List HeldCell) (number : ℕ) (command : Command)
-    (learnt : Option ℕ) → w.phase cpu ≡ Deciding number command learnt → granules ≡ w.config.granules → place ≡ w.place cpu → held ≡ held_cells w cpu
-    → n ≡ plan.next granules (call_of command) place learnt held
-    → IsPlanned granules command place learnt held n → is_settled granules (call_of command) place held ≡ is_ready n → IsNext w cpu n
-next-planned w cpu n granules place held number command learnt deciding has_granules at holds is planned settled = record {
+pub next-planned : (w : World) (cpu : ℕ) (n : Next) (config : Config) (place : CpuPlace) (held : List HeldCell) (number : ℕ) (command : Command)
+    (learnt : Option ℕ) → w.phase cpu ≡ Deciding number command learnt → config ≡ w.config → place ≡ w.place cpu → held ≡ held_cells w cpu
+    → n ≡ plan.next config (call_of command) place learnt held
+    → IsPlanned config command place learnt held n → is_settled config (call_of command) place held ≡ is_ready n → IsNext w cpu n
+next-planned w cpu n config place held number command learnt deciding has_granules at holds is planned settled = record {
   deciding = record { number = number; command = command; learnt = learnt; is_deciding = deciding };
   is_next = is ∙ (λ i. plan.next (has_granules i) (call_of command) (at i) learnt (holds i));
   planned = subst (λ g. IsPlanned g command (w.place cpu) learnt (held_cells w cpu) n) has_granules
-      (subst (λ p. IsPlanned granules command p learnt (held_cells w cpu) n) at (subst (λ h. IsPlanned granules command place learnt h n) holds planned));
+      (subst (λ p. IsPlanned config command p learnt (held_cells w cpu) n) at (subst (λ h. IsPlanned config command place learnt h n) holds planned));
   settled = sym (λ i. is_settled (has_granules i) (call_of command) (at i) (holds i)) ∙ settled;
 }
 
 -- it is what the plan says
 pub next-for : (w : World) (cpu : ℕ) (n : Next) → IsNext w cpu n → next_for w cpu ≡ Some n
 unfolding next_for
-next-for w cpu n next = ap (next_in w.config.granules (w.place cpu) (held_cells w cpu)) next.deciding.is_deciding ∙ ap Some (sym next.is_next)
+next-for w cpu n next = ap (next_in w.config (w.place cpu) (held_cells w cpu)) next.deciding.is_deciding ∙ ap Some (sym next.is_next)
 
 pub rising-next : (w : World) (cpu granule : ℕ) → IsNext w cpu (next.Take granule) → IsRising w cpu granule
 rising-next w cpu granule n = record { deciding = n.deciding; rising = n.planned }
@@ -89,7 +90,7 @@ learnt-planned : (w : World) (cpu granule : ℕ) (learnt : Option ℕ) (n : IsNe
     → MayLearn w (Deciding n.deciding.number n.deciding.command n.deciding.learnt) granule learnt
 learnt-planned w cpu granule None n = tt
 learnt-planned w cpu granule (Some rd) n =
-    let owner : LearnsOwner w.config.granules (call_of n.deciding.command) (w.place cpu) (held_cells w cpu) granule rd = n.planned in record {
+    let owner : LearnsOwner w.config (call_of n.deciding.command) (w.place cpu) (held_cells w cpu) granule rd = n.planned in record {
       rec = owner.rec;
       is_enter = owner.is_enter;
       is_rec = ap rec_in (found-cell w.cells (w.taken cpu) granule (Rec owner.rec) owner.is_rec);

@@ -26,7 +26,7 @@ HasOneHolder-locks granules w holder locks cpu other granule has has_too =
 -- what is told of a CPU that is left alone is told again
 next-alone : (old new : World) (cpu : ℕ) → LeavesAlone old new cpu → next_for new cpu ≡ next_for old cpu
 unfolding next_for
-next-alone old new cpu alone = λ i. next_in (alone.config i).granules (alone.place i) (alone.held i) (alone.phase i)
+next-alone old new cpu alone = λ i. next_in (alone.config i) (alone.place i) (alone.held i) (alone.phase i)
 
 -- one CPU waits for what its plan says, or for nothing
 AreNext-put : (w : World) (waits : ℕ → Option ℕ) (cpu : ℕ) (wanted : Option ℕ)

@@ -1,6 +1,7 @@
 -- What comes next for a CPU of a world.
 use Rattle.std.specs.Prelude.{◌≡◌, ℕ, ◌<◌, ◌==◌, if◌then◌else◌, Bool, List, [], ◌∷◌, ◌++◌, Option, Some, None}
 use Rattle.std.specs.List.{list_any}
+use Rattle.rmm_spec.specs.HistoryText.{Config}
 use Rattle.rmm_spec.specs.declared.command.Command.{Command}
 use Rattle.rmm_spec.specs.Call.{call_of}
 use Rattle.rmm_spec.specs.Lookup.{any_below}
@@ -19,9 +20,9 @@ use Rattle.command_core.specs.Plan.{IsPlanned, is_ready}
 -- what a CPU with an open call does next: the plan's one value on the cells that it holds, which is right to do
 pub record IsNext (w : World) (cpu : ℕ) (next : Next) : Type 0 where
   pub deciding : IsDeciding w cpu
-  pub is_next : next ≡ plan.next w.config.granules (call_of deciding.command) (w.place cpu) deciding.learnt (held_cells w cpu)
-  pub planned : IsPlanned w.config.granules deciding.command (w.place cpu) deciding.learnt (held_cells w cpu) next
-  pub settled : is_settled w.config.granules (call_of deciding.command) (w.place cpu) (held_cells w cpu) ≡ is_ready next
+  pub is_next : next ≡ plan.next w.config (call_of deciding.command) (w.place cpu) deciding.learnt (held_cells w cpu)
+  pub planned : IsPlanned w.config deciding.command (w.place cpu) deciding.learnt (held_cells w cpu) next
+  pub settled : is_settled w.config (call_of deciding.command) (w.place cpu) (held_cells w cpu) ≡ is_ready next
 
 -- ---- what comes next is done
 
@@ -52,13 +53,13 @@ pub record DoesPlanned (old : World) (cpu : ℕ) (report : Report) (new : World)
 -- ---- what a go comes to
 
 -- what the plan of an open call says next, on what is held
-abbrev pub next_in : ℕ → CpuPlace → List HeldCell → Phase → Option Next
-next_in granules place held (Deciding number command learnt) = Some (plan.next granules (call_of command) place learnt held)
-next_in granules place held _ = None
+abbrev pub next_in : Config → CpuPlace → List HeldCell → Phase → Option Next
+next_in config place held (Deciding number command learnt) = Some (plan.next config (call_of command) place learnt held)
+next_in config place held _ = None
 
 -- there is none where no call is open, or it is committed
 unfoldable pub next_for : World → ℕ → Option Next
-next_for w cpu = next_in w.config.granules (w.place cpu) (held_cells w cpu) (w.phase cpu)
+next_for w cpu = next_in w.config (w.place cpu) (held_cells w cpu) (w.phase cpu)
 
 -- each CPU that waits has a plan that takes that lock next
 pub record AreNext (w : World) (waits : ℕ → Option ℕ) : Type 0 where
@@ -84,7 +85,7 @@ return_report (lock ∷ others) = Did turn.Free
 abbrev pub report_in : World → ℕ → Phase → Report
 report_in w cpu (Between number) = call_report (w.program cpu)
 report_in w cpu (Deciding number command learnt) =
-    next_report w (plan.next w.config.granules (call_of command) (w.place cpu) learnt (held_cells w cpu))
+    next_report w (plan.next w.config (call_of command) (w.place cpu) learnt (held_cells w cpu))
 report_in w cpu (Decided number command given) = return_report (w.taken cpu)
 report_in w cpu GivenUp = Idle
 report_in w cpu Stopped = Idle

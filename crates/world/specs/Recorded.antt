@@ -1,5 +1,6 @@
 -- Where a turn may be refused memory: where its step records something, and there is no room left for that.
 use Rattle.std.specs.Prelude.{◌≡◌, ℕ, ◌-◌, ◌<◌, ◌⊎◌, true, IsTrue, IsOk, [], length, vec_len, vec_capacity}
+use Rattle.rmm_spec.specs.HistoryText.{Config}
 use Rattle.rmm_spec.specs.declared.change.Change.{Change}
 use Rattle.rmm_spec.specs.declared.command.Command.{Command}
 use Rattle.rmm_spec.specs.declared.reply.Reply.{Reply}
@@ -20,7 +21,7 @@ use Rattle.world.specs.declared.world.World as own
 -- the CPU holds nothing any more. Between its commit and its return it frees locks, and a CPU that has ended makes no step.
 abbrev pub RecordsIn : World → ℕ → Phase → Type 0
 RecordsIn w cpu (Between number) = 0 < length (w.program cpu)
-RecordsIn w cpu (Deciding number command learnt) = IsTrue (is_settled w.config.granules (call_of command) (w.place cpu) (held_cells w cpu))
+RecordsIn w cpu (Deciding number command learnt) = IsTrue (is_settled w.config (call_of command) (w.place cpu) (held_cells w cpu))
 RecordsIn w cpu (Decided number command given) = w.taken cpu ≡ []
 RecordsIn w cpu GivenUp = ⊥
 RecordsIn w cpu Stopped = ⊥
@@ -39,10 +40,10 @@ unfoldable pub commit_room : own.World → ℕ
 commit_room w = vec_capacity w.journal - vec_len w.journal
 
 -- What is decided on that hold is accepted, and puts a table into a granule that is held.
-pub record MakesTable (granules cpu : ℕ) (command : Command) (hold : Hold) : Type 0 where
+pub record MakesTable (config : Config) (cpu : ℕ) (command : Command) (hold : Hold) : Type 0 where
   pub given : Reply
   pub change : Change
-  pub decides : Decides granules cpu command hold given change
+  pub decides : Decides config cpu command hold given change
   pub can : CanChange cpu hold change
   pub accepts : is_accepted given ≡ true
   pub is_table : IsTrue (makes_table change)
@@ -50,8 +51,8 @@ pub record MakesTable (granules cpu : ℕ) (command : Command) (hold : Hold) : T
 -- The machine accepts the command in the state that the cells stand for, and the change puts in a table, which takes memory
 -- each time.
 pub record AcceptsTable (w : World) (cpu : ℕ) (command : Command) : Type 0 where
-  pub accepts : IsOk (outcome (flat_state w.config.granules w.cells) cpu (call_of command))
-  pub makes : MakesTable w.config.granules cpu command (hold_of w cpu)
+  pub accepts : IsOk (outcome (flat_state w.config w.cells) cpu (call_of command))
+  pub makes : MakesTable w.config cpu command (hold_of w cpu)
 
 -- There is no room for the event, or none for the commit; or the command is accepted and makes a table.
 abbrev pub IsShortIn : ℕ → ℕ → World → ℕ → Phase → Type 0

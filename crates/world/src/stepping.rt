@@ -35,13 +35,13 @@ fn step_on<H: Held>(
     side: &mut Side,
     place: &mut CpuPlace,
 ) -> Result<Reply, AllocError>
-    requires settled { IsTrue (is_settled config.now.granules (call_of command.now) (place_of place.old) (H.cells held.old)) }
+    requires settled { IsTrue (is_settled config.now (call_of command.now) (place_of place.old) (H.cells held.old)) }
     ensures same { granules_held (H.cells held.new) ≡ granules_held (H.cells held.old) }
-    ensures ok { IfOk result (λ reply. LocalStep config.now.granules cpu command.now reply
+    ensures ok { IfOk result (λ reply. LocalStep config.now cpu command.now reply
         (hold_of (H.cells held.old) (side_of side.old) (place_of place.old)) (hold_of (H.cells held.new) (side_of side.new) (place_of place.new))) }
     ensures err { OnErr result (hold_of (H.cells held.new) (side_of side.new) (place_of place.new)
         ≡ hold_of (H.cells held.old) (side_of side.old) (place_of place.old)) }
-    ensures only { OnErr result (MakesTable config.now.granules cpu command.now (hold_of (H.cells held.old) (side_of side.old) (place_of place.old))) }
+    ensures only { OnErr result (MakesTable config.now cpu command.now (hold_of (H.cells held.old) (side_of side.old) (place_of place.old))) }
 {
     applied_decisions_are_local();
     let (reply, change) = decide(config, command, cpu, place, held, side);
@@ -74,18 +74,18 @@ impl Cpus {
         side: &mut Side,
     ) -> Result<Reply, AllocError>
         requires cpu { cpu < vec_len self.old.list }
-        requires settled { IsTrue (is_settled config.now.granules (call_of command.now) ((views_of self.old).place cpu)
+        requires settled { IsTrue (is_settled config.now (call_of command.now) ((views_of self.old).place cpu)
             (cells_at (cells_of cells.old) ((views_of self.old).taken cpu))) }
         requires distinct { IsTrue (are_distinct ((views_of self.old).taken cpu)) }
         requires granules { All (λ pa. IsTrue (is_granule (vec_len cells.old.list) pa)) ((views_of self.old).taken cpu) }
         ensures size { vec_len self.new.list ≡ vec_len self.old.list }
         ensures cells_size { vec_len cells.new.list ≡ vec_len cells.old.list }
-        ensures ok { IfOk result (λ reply. MakesStep config.now.granules cpu command.now reply (cells_of cells.old) (cells_of cells.new)
+        ensures ok { IfOk result (λ reply. MakesStep config.now cpu command.now reply (cells_of cells.old) (cells_of cells.new)
             (side_of side.old) (side_of side.new) (views_of self.old) (views_of self.new)) }
         ensures err_cells { OnErr result (cells_of cells.new ≡ cells_of cells.old) }
         ensures err_side { OnErr result (side_of side.new ≡ side_of side.old) }
         ensures err_views { OnErr result (views_of self.new ≡ views_of self.old) }
-        ensures only { OnErr result (MakesTable config.now.granules cpu command.now
+        ensures only { OnErr result (MakesTable config.now cpu command.now
             (hold_of (cells_at (cells_of cells.old) ((views_of self.old).taken cpu)) (side_of side.old) ((views_of self.old).place cpu))) }
     {
         let mut lent = Lent::lend(cells, self.taken(cpu));

@@ -181,7 +181,7 @@ IsCertified-accounted w accounted = record {
         accounted.recorded.in_time i j of.it of_later.it before of.is_it of_later.is_it
         (rw (← of.is_cpu, ← of.is_number, ← of_later.is_cpu, ← of_later.is_number) returns);
     entries = map entry_of w.journal;
-    last = flat_state w.config.granules w.cells;
+    last = flat_state w.config w.cells;
     run = record {
       claimed = AreEntriesOf-line_for w.events w.journal (IsEntryOf-line_for w.journal w.events accounted.recorded);
       run = accounted.run;

@@ -2,6 +2,7 @@
 use Rattle.std.proofs.Common.{◌≡◌, ℕ, Bool, true, false, ◌==◌, if◌then◌else◌, List, [], ◌∷◌, refl, sym, ap, ◌∙◌, subst, eqb-true}
 use Rattle.std.specs.Prelude.{Contains}
 use Rattle.std.proofs.lemmas.List.Elements.{All-contains, All-from_recursion}
+use Rattle.rmm_spec.specs.HistoryText.{Config}
 use Rattle.rmm_spec.specs.declared.command.Command.{Command}
 use Rattle.rmm_spec.specs.declared.reply.Reply.{Reply}
 use Rattle.rmm_spec.specs.Step.{Step}
@@ -32,18 +33,18 @@ agrees-at cells held h agrees has =
     (All-from_recursion (λ (x : HeldCell). cells x.granule ≡ x.cell) held agrees) has
 
 -- a step of every whole that agrees, which changes nothing, is a local step
-pub unchanged-is_local : (granules cpu : ℕ) (command : Command) (given : Reply) (hold : Hold)
-    → ((cells : ℕ → Cell) (places : ℕ → CpuPlace) → IsWellShaped granules hold.side places cells → Agrees cells hold.cells → places cpu ≡ hold.place
-    → Step (flat_state granules cells) cpu command given (flat_state granules cells))
-    → LocalStep granules cpu command given hold hold
-unchanged-is_local granules cpu command given hold steps = record {
+pub unchanged-is_local : (config : Config) (cpu : ℕ) (command : Command) (given : Reply) (hold : Hold)
+    → ((cells : ℕ → Cell) (places : ℕ → CpuPlace) → IsWellShaped config hold.side places cells → Agrees cells hold.cells → places cpu ≡ hold.place
+    → Step (flat_state config cells) cpu command given (flat_state config cells))
+    → LocalStep config cpu command given hold hold
+unchanged-is_local config cpu command given hold steps = record {
   same = refl;
   right = λ cells places shaped agrees place.
       let kept = put_all-agrees hold.cells cells agrees in
       let kept_places = put-same places cpu hold.place place in (
-        subst (λ whole. Step (flat_state granules cells) cpu command given (flat_state granules whole)) (sym kept) (steps cells places shaped agrees place),
-        subst (λ whole. IsWellShaped granules hold.side (put places cpu hold.place) whole) (sym kept)
-            (subst (λ p. IsWellShaped granules hold.side p cells) (sym kept_places) shaped),
+        subst (λ whole. Step (flat_state config cells) cpu command given (flat_state config whole)) (sym kept) (steps cells places shaped agrees place),
+        subst (λ whole. IsWellShaped config hold.side (put places cpu hold.place) whole) (sym kept)
+            (subst (λ p. IsWellShaped config hold.side p cells) (sym kept_places) shaped),
       );
 }
 
@@ -87,21 +88,21 @@ put_all-replaced (h ∷ held) cells granule cell agrees has = by (h.granule == g
         ap (λ whole. put_all whole (replaced_cells held granule cell)) (put-same cells h.granule h.cell agrees.0) ∙ rest (tail apart has)
 
 -- a step of every whole that agrees, which changes one held cell, is a local step on whatever else is held
-pub one_cell-is_local : (granules cpu : ℕ) (command : Command) (given : Reply) (hold : Hold) (granule : ℕ) (cell : Cell)
+pub one_cell-is_local : (config : Config) (cpu : ℕ) (command : Command) (given : Reply) (hold : Hold) (granule : ℕ) (cell : Cell)
     → Contains (granules_held hold.cells) granule
-    → ((cells : ℕ → Cell) (places : ℕ → CpuPlace) → IsWellShaped granules hold.side places cells → Agrees cells hold.cells → places cpu ≡ hold.place
-    → Step (flat_state granules cells) cpu command given (flat_state granules (put cells granule cell))
-    × IsWellShaped granules hold.side places (put cells granule cell))
-    → LocalStep granules cpu command given hold (replaced hold granule cell)
-one_cell-is_local granules cpu command given hold granule cell has steps = record {
+    → ((cells : ℕ → Cell) (places : ℕ → CpuPlace) → IsWellShaped config hold.side places cells → Agrees cells hold.cells → places cpu ≡ hold.place
+    → Step (flat_state config cells) cpu command given (flat_state config (put cells granule cell))
+    × IsWellShaped config hold.side places (put cells granule cell))
+    → LocalStep config cpu command given hold (replaced hold granule cell)
+one_cell-is_local config cpu command given hold granule cell has steps = record {
   same = granules_held-replaced_cells hold.cells granule cell;
   right = λ cells places shaped agrees place.
       let put_in = put_all-replaced hold.cells cells granule cell agrees has in
       let kept_places = put-same places cpu hold.place place in
       let step = steps cells places shaped agrees place in (
-        subst (λ whole. Step (flat_state granules cells) cpu command given (flat_state granules whole)) (sym put_in) step.0,
-        subst (λ whole. IsWellShaped granules hold.side (put places cpu hold.place) whole) (sym put_in)
-            (subst (λ p. IsWellShaped granules hold.side p (put cells granule cell)) (sym kept_places) step.1),
+        subst (λ whole. Step (flat_state config cells) cpu command given (flat_state config whole)) (sym put_in) step.0,
+        subst (λ whole. IsWellShaped config hold.side (put places cpu hold.place) whole) (sym put_in)
+            (subst (λ p. IsWellShaped config hold.side p (put cells granule cell)) (sym kept_places) step.1),
       );
 }
 
@@ -170,18 +171,18 @@ put_all-replaced_all (h ∷ changes) held cells agrees within =
     (λ x has. subst (λ gs. Contains gs x.granule) (sym (granules_held-replaced_cells held h.granule h.cell)) (within x (Contains-tail h changes x has)))
 
 -- a step of every whole that agrees, which changes held cells alone, is a local step on whatever else is held
-pub step-is_local : (granules cpu : ℕ) (command : Command) (given : Reply) (old : Hold) (changes : List HeldCell) (side : Side) (place : CpuPlace)
+pub step-is_local : (config : Config) (cpu : ℕ) (command : Command) (given : Reply) (old : Hold) (changes : List HeldCell) (side : Side) (place : CpuPlace)
     → ((h : HeldCell) → Contains changes h → Contains (granules_held old.cells) h.granule)
-    → ((cells : ℕ → Cell) (places : ℕ → CpuPlace) → IsWellShaped granules old.side places cells → Agrees cells old.cells → places cpu ≡ old.place
-    → Step (flat_state granules cells) cpu command given (flat_state granules (put_all cells changes))
-    × IsWellShaped granules side (put places cpu place) (put_all cells changes))
-    → LocalStep granules cpu command given old (record { cells = replaced_all old.cells changes; side = side; place = place })
-step-is_local granules cpu command given old changes side place within steps = record {
+    → ((cells : ℕ → Cell) (places : ℕ → CpuPlace) → IsWellShaped config old.side places cells → Agrees cells old.cells → places cpu ≡ old.place
+    → Step (flat_state config cells) cpu command given (flat_state config (put_all cells changes))
+    × IsWellShaped config side (put places cpu place) (put_all cells changes))
+    → LocalStep config cpu command given old (record { cells = replaced_all old.cells changes; side = side; place = place })
+step-is_local config cpu command given old changes side place within steps = record {
   same = granules_held-replaced_all changes old.cells;
   right = λ cells places shaped agrees placed.
       let put_in = put_all-replaced_all changes old.cells cells agrees within in
       let step = steps cells places shaped agrees placed in (
-        subst (λ whole. Step (flat_state granules cells) cpu command given (flat_state granules whole)) (sym put_in) step.0,
-        subst (λ whole. IsWellShaped granules side (put places cpu place) whole) (sym put_in) step.1,
+        subst (λ whole. Step (flat_state config cells) cpu command given (flat_state config whole)) (sym put_in) step.0,
+        subst (λ whole. IsWellShaped config side (put places cpu place) whole) (sym put_in) step.1,
       );
 }

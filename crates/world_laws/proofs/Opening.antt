@@ -33,7 +33,7 @@ unfolding leaf_in_tables
 leaf_in_tables-none granules rd level number =
     ap (option_and_then (λ (granule : ℕ). None)) (table_granule-none granules rd level (number / 512))
 
-pub flat_state-opening : (config : Config) → flat_state config.granules (λ _. Undelegated) ≡ opening config
+pub flat_state-opening : (config : Config) → flat_state config (λ _. Undelegated) ≡ opening config
 unfolding flat_state opening
 flat_state-opening config = λ i. record (opening config) {
   table = λ rd level number. table_granule-none config.granules rd level number i;

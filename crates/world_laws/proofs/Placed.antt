@@ -3,6 +3,7 @@ use Rattle.std.proofs.Common.{◌≡◌, ℕ, zero, suc, ◌*◌, ◌/◌, ◌%�
 use Rattle.std.specs.Prelude.{nat_lt}
 use Rattle.std.proofs.lemmas.Bool.{false≢true, and_parts, false_from_ne_true, or_left, or_right}
 use Rattle.std.proofs.lemmas.Option.{none-some}
+use Rattle.rmm_spec.specs.HistoryText.{Config}
 use Rattle.rmm_spec.specs.State.{RecRecord}
 use Rattle.rmm_spec.specs.Lookup.{any_below, runs_on, is_cpu, is_inside, is_granule}
 use Rattle.rmm_spec.specs.Cell.{Cell, Undelegated, recs_of, rec_in}
@@ -49,12 +50,12 @@ outside≢inside : (rec rd : ℕ) → Outside ≡ Inside rec rd → ⊥
 outside≢inside rec rd same = cc
 
 -- a CPU that is outside is inside of no REC
-pub is_inside-outside : (granules : ℕ) (side : Side) (places : ℕ → CpuPlace) (cells : ℕ → Cell) → IsWellShaped granules side places cells
-    → (cpu : ℕ) → places cpu ≡ Outside → is_inside (flat_state granules cells) cpu ≡ false
+pub is_inside-outside : (config : Config) (side : Side) (places : ℕ → CpuPlace) (cells : ℕ → Cell) → IsWellShaped config side places cells
+    → (cpu : ℕ) → places cpu ≡ Outside → is_inside (flat_state config cells) cpu ≡ false
 unfolding is_inside flat_state
-is_inside-outside granules side places cells shaped cpu place =
-    false_from_ne_true (any_below granules (λ k. runs_on cpu (recs_of cells (k * 4096)))) (λ any.
-    let found = passing_below granules (λ k. runs_on cpu (recs_of cells (k * 4096))) any in
+is_inside-outside config side places cells shaped cpu place =
+    false_from_ne_true (any_below config.granules (λ k. runs_on cpu (recs_of cells (k * 4096)))) (λ any.
+    let found = passing_below config.granules (λ k. runs_on cpu (recs_of cells (k * 4096))) any in
     let it = running cpu (recs_of cells (found.0 * 4096)) found.2 in
     let inside : places cpu ≡ Inside (found.0 * 4096) it.0.owner =
     (shaped.recs.inside cpu (found.0 * 4096) it.0.owner).1 (record { it = it.0; is_rec = it.1; is_owner = refl; is_on = it.2 }) in
@@ -70,31 +71,31 @@ granule_number granules address is =
     (address / 4096, omega arith, omega arith)
 
 -- what isn't UNDELEGATED is a granule
-pub cell_is_granule : (granules : ℕ) (side : Side) (places : ℕ → CpuPlace) (cells : ℕ → Cell) → IsWellShaped granules side places cells
-    → (g : ℕ) → (cells g ≡ Undelegated → ⊥) → is_granule granules g ≡ true
-cell_is_granule granules side places cells shaped g delegated = by (is_granule granules g) refl
+pub cell_is_granule : (config : Config) (side : Side) (places : ℕ → CpuPlace) (cells : ℕ → Cell) → IsWellShaped config side places cells
+    → (g : ℕ) → (cells g ≡ Undelegated → ⊥) → is_granule config.granules g ≡ true
+cell_is_granule config side places cells shaped g delegated = by (is_granule config.granules g) refl
   where
-    by : (b : Bool) → is_granule granules g ≡ b → is_granule granules g ≡ true
+    by : (b : Bool) → is_granule config.granules g ≡ b → is_granule config.granules g ≡ true
     by true granule = granule
     by false outside = absurd (delegated (shaped.outside.undelegated g outside))
 
 -- and has a number
-pub cell_granule : (granules : ℕ) (side : Side) (places : ℕ → CpuPlace) (cells : ℕ → Cell) → IsWellShaped granules side places cells
-    → (g : ℕ) → (cells g ≡ Undelegated → ⊥) → (k : ℕ) × (k < granules) × (k * 4096 ≡ g)
-cell_granule granules side places cells shaped g delegated = granule_number granules g (cell_is_granule granules side places cells shaped g delegated)
+pub cell_granule : (config : Config) (side : Side) (places : ℕ → CpuPlace) (cells : ℕ → Cell) → IsWellShaped config side places cells
+    → (g : ℕ) → (cells g ≡ Undelegated → ⊥) → (k : ℕ) × (k < config.granules) × (k * 4096 ≡ g)
+cell_granule config side places cells shaped g delegated = granule_number config.granules g (cell_is_granule config side places cells shaped g delegated)
 
 -- so has what holds a REC
-pub rec_granule : (granules : ℕ) (side : Side) (places : ℕ → CpuPlace) (cells : ℕ → Cell) → IsWellShaped granules side places cells
-    → (g : ℕ) (it : RecRecord) → recs_of cells g ≡ Some it → (k : ℕ) × (k < granules) × (k * 4096 ≡ g)
-rec_granule granules side places cells shaped g it is =
-    cell_granule granules side places cells shaped g (λ undelegated. none-some it (sym (ap rec_in undelegated) ∙ is))
+pub rec_granule : (config : Config) (side : Side) (places : ℕ → CpuPlace) (cells : ℕ → Cell) → IsWellShaped config side places cells
+    → (g : ℕ) (it : RecRecord) → recs_of cells g ≡ Some it → (k : ℕ) × (k < config.granules) × (k * 4096 ≡ g)
+rec_granule config side places cells shaped g it is =
+    cell_granule config side places cells shaped g (λ undelegated. none-some it (sym (ap rec_in undelegated) ∙ is))
 
 -- a CPU that is inside of a REC is inside
-pub is_inside-inside : (granules : ℕ) (side : Side) (places : ℕ → CpuPlace) (cells : ℕ → Cell) → IsWellShaped granules side places cells
-    → (cpu rec rd : ℕ) → places cpu ≡ Inside rec rd → is_inside (flat_state granules cells) cpu ≡ true
+pub is_inside-inside : (config : Config) (side : Side) (places : ℕ → CpuPlace) (cells : ℕ → Cell) → IsWellShaped config side places cells
+    → (cpu rec rd : ℕ) → places cpu ≡ Inside rec rd → is_inside (flat_state config cells) cpu ≡ true
 unfolding is_inside flat_state
-is_inside-inside granules side places cells shaped cpu rec rd place =
+is_inside-inside config side places cells shaped cpu rec rd place =
     let runs = (shaped.recs.inside cpu rec rd).0 place in
-    let at = rec_granule granules side places cells shaped rec runs.it runs.is_rec in
-    any_below-from granules (λ k. runs_on cpu (recs_of cells (k * 4096))) at.0 at.1
+    let at = rec_granule config side places cells shaped rec runs.it runs.is_rec in
+    any_below-from config.granules (λ k. runs_on cpu (recs_of cells (k * 4096))) at.0 at.1
     (runs_on-running cpu (recs_of cells (at.0 * 4096)) runs.it (ap (recs_of cells) at.2 ∙ runs.is_rec) runs.is_on)

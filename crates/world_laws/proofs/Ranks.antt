@@ -6,6 +6,7 @@ use Rattle.std.specs.List.{list_all}
 use Rattle.std.proofs.lemmas.Bool.{false≢true, and_parts, not-true}
 use Rattle.std.proofs.lemmas.List.Elements.{All-contains}
 use Rattle.std.proofs.lemmas.List.Sums.{AllPass-from_list_all}
+use Rattle.rmm_spec.specs.HistoryText.{Config}
 use Rattle.rmm_spec.specs.declared.call.Call.{Call}
 use Rattle.rmm_spec.specs.declared.call.Call.TheVariants as call
 use Rattle.rmm_spec.specs.declared.entry.Entry.{Entry}
@@ -59,9 +60,9 @@ AreWholes-needs Outside (Some rd) c = AreWholes-learnt rd c
 AreWholes-needs (Inside rec rd) learnt c = refl
 
 -- a granule that is held and named has the tag that is needed there, and is no part
-named-no_part : (granules : ℕ) (names : List Needed) (held : List HeldCell) (wanted : ℕ) (h : HeldCell) → AreWholes names
-    → IsRisingTake granules names held wanted → Contains held h → is_named names h.granule ≡ true → is_part_tag (tag_of h.cell) ≡ false
-named-no_part granules names held wanted h wholes rising has is =
+named-no_part : (config : Config) (names : List Needed) (held : List HeldCell) (wanted : ℕ) (h : HeldCell) → AreWholes names
+    → IsRisingTake config names held wanted → Contains held h → is_named names h.granule ≡ true → is_part_tag (tag_of h.cell) ≡ false
+named-no_part config names held wanted h wholes rising has is =
     let found = passing_member (λ (n : Needed). n.granule == h.granule) names is in
     let member = Contains-from_slice_get names found.0 found.1 found.2 in
     let needed_tag : tag_of h.cell ≡ found.1.tag = rising.tags h found.1 has member (eqb-true found.1.granule h.granule found.3) in
@@ -105,18 +106,18 @@ is_aux_cell (Rec rec) is = absurd (false≢true is)
 is_aux_cell Data is = absurd (false≢true is)
 
 -- a table's level is 3 at most
-level_within : (granules : ℕ) (side : Side) (places : ℕ → CpuPlace) (cells : ℕ → Cell) → IsWellShaped granules side places cells
+level_within : (config : Config) (side : Side) (places : ℕ → CpuPlace) (cells : ℕ → Cell) → IsWellShaped config side places cells
     → (g : ℕ) (t : TableRecord) → tables_of cells g ≡ Some t → t.place.level ≤ 3
-level_within granules side places cells shaped g t is = let placed = shaped.tables.placed g t is in placed.2.within.last
+level_within config side places cells shaped g t is = let placed = shaped.tables.placed g t is in placed.2.within.last
 
 -- in a well-shaped whole, what a cell names as its part is one
-part_kind : (granules : ℕ) (side : Side) (places : ℕ → CpuPlace) (cells : ℕ → Cell) → IsWellShaped granules side places cells
+part_kind : (config : Config) (side : Side) (places : ℕ → CpuPlace) (cells : ℕ → Cell) → IsWellShaped config side places cells
     → (g : ℕ) (by : Cell) (part : ℕ) → cells g ≡ by → names_part by part ≡ true → PartKind cells by part
-part_kind granules side places cells shaped g (Rd realm) part is names =
+part_kind config side places cells shaped g (Rd realm) part is names =
     let held = shaped.tables.roots g realm (ap (λ (c : Cell). realms_of (λ _. c) 0) is) in
     let at_part : tables_of cells part ≡ Some held.table = ap (tables_of cells) (sym (eqb-true realm.root part names)) ∙ held.is_held in
-    root held.table (is_rtt (cells part) held.table at_part) refl (level_within granules side places cells shaped part held.table at_part)
-part_kind granules side places cells shaped g (Rec rec) part is names =
+    root held.table (is_rtt (cells part) held.table at_part) refl (level_within config side places cells shaped part held.table at_part)
+part_kind config side places cells shaped g (Rec rec) part is names =
     by_aux (rec.aux0 == part) refl names
   where
     of_rec : recs_of cells g ≡ Some rec
@@ -127,7 +128,7 @@ part_kind granules side places cells shaped g (Rec rec) part is names =
         aux rec (is_aux_cell (cells part) (ap (λ x. is_aux (cells x)) (sym (eqb-true rec.aux0 part is0)) ∙ shaped.recs.aux0 g rec of_rec)) refl
     by_aux false is0 named_it =
         aux rec (is_aux_cell (cells part) (ap (λ x. is_aux (cells x)) (sym (eqb-true rec.aux1 part named_it)) ∙ shaped.recs.aux1 g rec of_rec)) refl
-part_kind granules side places cells shaped g (Rtt table) part is names =
+part_kind config side places cells shaped g (Rtt table) part is names =
     let found = passing_member (leads_to part) table.entries names in by_entry found.0 found.1 found.2 found.3
   where
     of_table : tables_of cells g ≡ Some table
@@ -137,16 +138,16 @@ part_kind granules side places cells shaped g (Rtt table) part is names =
     by_entry i (Table below) at leads =
         let held = shaped.tables.links g i below table of_table at in
         let at_part : tables_of cells part ≡ Some held.table = ap (tables_of cells) (sym (eqb-true below part leads)) ∙ held.is_held in
-        child held.table (is_rtt (cells part) held.table at_part) (sym held.is_level) (level_within granules side places cells shaped part held.table at_part)
+        child held.table (is_rtt (cells part) held.table at_part) (sym held.is_level) (level_within config side places cells shaped part held.table at_part)
     by_entry i (Assigned ripas granule) at leads =
         page (is_data_cell (cells part) (ap (λ x. is_data (cells x)) (sym (eqb-true granule part leads)) ∙ shaped.data_granules.named g i granule table ripas of_table at))
     by_entry i (Unassigned ripas) at leads = absurd (false≢true leads)
     by_entry i UnassignedNs at leads = absurd (false≢true leads)
     by_entry i (AssignedNs granule) at leads = absurd (false≢true leads)
-part_kind granules side places cells shaped g Undelegated part is names = absurd (false≢true names)
-part_kind granules side places cells shaped g Delegated part is names = absurd (false≢true names)
-part_kind granules side places cells shaped g RecAux part is names = absurd (false≢true names)
-part_kind granules side places cells shaped g Data part is names = absurd (false≢true names)
+part_kind config side places cells shaped g Undelegated part is names = absurd (false≢true names)
+part_kind config side places cells shaped g Delegated part is names = absurd (false≢true names)
+part_kind config side places cells shaped g RecAux part is names = absurd (false≢true names)
+part_kind config side places cells shaped g Data part is names = absurd (false≢true names)
 
 -- ---- ranks
 
@@ -187,7 +188,7 @@ held_kind : (w : World) → IsShapedWorld w → (cpu part : ℕ) (by : HeldCell)
     → PartKind w.cells by.cell part
 held_kind w shaped cpu part by has names =
     let held = held_cell w.cells (w.taken cpu) by has in
-    part_kind w.config.granules w.side w.place w.cells shaped by.granule by.cell part (sym held.1) names
+    part_kind w.config w.side w.place w.cells shaped by.granule by.cell part (sym held.1) names
 
 -- a table that another CPU holds ranks below the part that this one waits for
 table_below : (w : World) (part next : ℕ) (by : Cell) (t : TableRecord) → w.cells part ≡ Rtt t → t.place.level ≤ 3
@@ -210,7 +211,7 @@ table_below w part next by t e within deep (aux rec f is_rec) =
 -- an auxiliary granule that one REC has is held by nobody but that REC's holder, if that CPU waits at a rising take
 aux_held_by_one : (w : World) → IsShapedWorld w → IsLocked w → (cpu other part next : ℕ) (names : List Needed) → AreWholes names
     → (by : HeldCell) → Contains (held_cells w cpu) by → (rec : RecRecord) → by.cell ≡ Rec rec → IsTrue (names_part by.cell part)
-    → w.cells part ≡ RecAux → Contains (w.taken other) part → IsRisingTake w.config.granules names (held_cells w other) next → cpu ≡ other
+    → w.cells part ≡ RecAux → Contains (w.taken other) part → IsRisingTake w.config names (held_cells w other) next → cpu ≡ other
 aux_held_by_one w shaped locked cpu other part next names wholes by has_by rec is_rec names_by e holds rising =
     by_named (is_named names part) refl
   where
@@ -238,19 +239,19 @@ aux_held_by_one w shaped locked cpu other part next names wholes by has_by rec i
 
     by_named : (b : Bool) → is_named names part ≡ b → cpu ≡ other
     by_named true is =
-        let whole = named-no_part w.config.granules names (held_cells w other) next (record { granule = part; cell = w.cells part }) wholes rising has is in
+        let whole = named-no_part w.config names (held_cells w other) next (record { granule = part; cell = w.cells part }) wholes rising has is in
         absurd (false≢true (sym whole ∙ ap (λ c. is_part_tag (tag_of c)) e))
     by_named false is = by_stray (rising.strays (record { granule = part; cell = w.cells part }) has is).is_part
 
 -- a CPU holds nothing that it waits for
-holds_not : (w : World) (cpu wanted : ℕ) (names : List Needed) → IsRisingTake w.config.granules names (held_cells w cpu) wanted
+holds_not : (w : World) (cpu wanted : ℕ) (names : List Needed) → IsRisingTake w.config names (held_cells w cpu) wanted
     → Contains (w.taken cpu) wanted → ⊥
 holds_not w cpu wanted names rising holds =
     rising.is_new (record { granule = wanted; cell = w.cells wanted }) (cell_held w.cells (w.taken cpu) wanted holds) refl
 
 -- what one CPU waits for, and another holds that waits too, ranks below what that one waits for
 rises : (w : World) → IsShapedWorld w → IsLocked w → (cpu other wanted next : ℕ) (names others : List Needed) → AreWholes others
-    → IsRisingTake w.config.granules names (held_cells w cpu) wanted → IsRisingTake w.config.granules others (held_cells w other) next
+    → IsRisingTake w.config names (held_cells w cpu) wanted → IsRisingTake w.config others (held_cells w other) next
     → Contains (w.taken other) wanted
     → (here : IsNextNamed names (held_cells w cpu) wanted ⊎ IsNextPart (held_cells w cpu) wanted)
     → (there : IsNextNamed others (held_cells w other) next ⊎ IsNextPart (held_cells w other) next)
@@ -262,7 +263,7 @@ rises w shaped locked cpu other wanted next names others wholes rising rising_th
 rises w shaped locked cpu other wanted next names others wholes rising rising_there holds (inr here) (inl there) =
     let h : HeldCell = record { granule = wanted; cell = w.cells wanted } in
     let has = cell_held w.cells (w.taken other) wanted holds in
-    let whole = named-no_part w.config.granules others (held_cells w other) next h wholes rising_there has (there.all_named h has) in
+    let whole = named-no_part w.config others (held_cells w other) next h wholes rising_there has (there.all_named h has) in
     let part = part_tag w.cells here.by.cell wanted (held_kind w shaped cpu wanted here.by here.is_held here.is_part) in
     absurd (false≢true (sym whole ∙ part))
 rises w shaped locked cpu other wanted next names others wholes rising rising_there holds (inr here) (inr there) =
@@ -300,7 +301,7 @@ rank-rises w shaped locked cpu other wanted next waits there =
     (AreWholes-needs (w.place other) there.deciding.learnt (call_of there.deciding.command))
     waits.rising.rising there.rising waits.is_held waits.rising.rising.upwards there.rising.upwards
 
-rank_by-bounded : (w : World) → IsShapedWorld w → (cpu wanted : ℕ) (names : List Needed) → IsRisingTake w.config.granules names (held_cells w cpu) wanted
+rank_by-bounded : (w : World) → IsShapedWorld w → (cpu wanted : ℕ) (names : List Needed) → IsRisingTake w.config names (held_cells w cpu) wanted
     → (here : IsNextNamed names (held_cells w cpu) wanted ⊎ IsNextPart (held_cells w cpu) wanted)
     → rank_by w.config.granules (w.cells wanted) wanted here < w.config.granules * 4096 + 5
 rank_by-bounded w shaped cpu wanted names rising (inl here) =

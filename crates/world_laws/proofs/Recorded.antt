@@ -284,7 +284,7 @@ entry_of c = record { cpu = c.cpu; command = c.command; given = c.given }
 pub record IsAccounted (w : World) : Type 0 where
   pub recorded : AreRecorded w.journal w.events
   pub phases : (cpu : ℕ) → AtPhase (w.phase cpu) cpu w.journal w.events
-  pub run : IsRun (opening w.config) (map entry_of w.journal) (flat_state w.config.granules w.cells)
+  pub run : IsRun (opening w.config) (map entry_of w.journal) (flat_state w.config w.cells)
   pub shaped : IsShapedWorld w
 
 -- one step more at the end of a run
@@ -375,10 +375,10 @@ IsAccounted-Commits old cpu given held new accounted commits =
       phases = phases-put old.phase cpu (Decided number command given) (old.journal ++ entry ∷ []) old.events
           (AtPhase-own old.journal entry old.events at_phase.0)
           (λ other apart. AtPhase-other (old.phase other) other old.journal entry old.events (λ same. keys_apart other cpu apart (sym same)) (accounted.phases other));
-      run = subst (λ entries. IsRun (opening old.config) entries (flat_state old.config.granules (put_all old.cells held.cells)))
+      run = subst (λ entries. IsRun (opening old.config) entries (flat_state old.config (put_all old.cells held.cells)))
           (sym (map-push entry_of old.journal entry))
-          (IsRun-push (opening old.config) (map entry_of old.journal) (flat_state old.config.granules old.cells) (entry_of entry)
-          (flat_state old.config.granules (put_all old.cells held.cells)) accounted.run right.0);
+          (IsRun-push (opening old.config) (map entry_of old.journal) (flat_state old.config old.cells) (entry_of entry)
+          (flat_state old.config (put_all old.cells held.cells)) accounted.run right.0);
       shaped = right.1;
     })
 

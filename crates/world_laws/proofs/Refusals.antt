@@ -4,6 +4,7 @@ use Rattle.std.specs.Prelude.{Contains, not}
 use Rattle.std.specs.List.{list_all}
 use Rattle.std.proofs.lemmas.Bool.{false≢true, and_right, and_left}
 use Rattle.std.proofs.lemmas.Option.{none-some}
+use Rattle.rmm_spec.specs.HistoryText.{Config}
 use Rattle.rmm_spec.specs.declared.accepted.Accepted.{Accepted}
 use Rattle.rmm_spec.specs.declared.call.Call.{Call}
 use Rattle.rmm_spec.specs.declared.command.Command.{Command}
@@ -75,77 +76,77 @@ pub Step-refused : (s : State) (cpu : ℕ) (command : Command) (refusal : Reply)
 Step-refused s cpu command refusal is = subst (λ o. CarriesOut o s refusal s) (sym is) (refl, refl)
 
 -- a host's command on a CPU that is outside is answered by its rows
-pub outcome-host : (granules : ℕ) (side : Side) (places : ℕ → CpuPlace) (cells : ℕ → Cell) → IsWellShaped granules side places cells
-    → (cpu : ℕ) (c : Call) → class_of c ≡ ByHost → places cpu ≡ Outside → outcome (flat_state granules cells) cpu c ≡ answer_of (flat_state granules cells) cpu c
+pub outcome-host : (config : Config) (side : Side) (places : ℕ → CpuPlace) (cells : ℕ → Cell) → IsWellShaped config side places cells
+    → (cpu : ℕ) (c : Call) → class_of c ≡ ByHost → places cpu ≡ Outside → outcome (flat_state config cells) cpu c ≡ answer_of (flat_state config cells) cpu c
 unfolding outcome
-outcome-host granules side places cells shaped cpu c by_host place =
-    let placed : is_placed (flat_state granules cells) cpu (class_of c) ≡ true =
-    ap (is_placed (flat_state granules cells) cpu) by_host ∙ ap not (is_inside-outside granules side places cells shaped cpu place) in
+outcome-host config side places cells shaped cpu c by_host place =
+    let placed : is_placed (flat_state config cells) cpu (class_of c) ≡ true =
+    ap (is_placed (flat_state config cells) cpu) by_host ∙ ap not (is_inside-outside config side places cells shaped cpu place) in
     rw placed refl
 
 pub outcome-misplaced : (s : State) (cpu : ℕ) (c : Call) → is_placed s cpu (class_of c) ≡ false → outcome s cpu c ≡ Err reply.Misplaced
 unfolding outcome
 outcome-misplaced s cpu c misplaced = rw misplaced refl
 
-refused_in_front-is_local : (granules cpu : ℕ) (command : Command) (hold : Hold) → class_of (call_of command) ≡ ByHost → hold.place ≡ Outside
-    → ((cells : ℕ → Cell) → Agrees cells hold.cells → IsRefusedInFront (flat_state granules cells) (call_of command))
-    → LocalStep granules cpu command input_error hold hold
-refused_in_front-is_local granules cpu command hold by_host outside refused =
-    unchanged-is_local granules cpu command input_error hold (λ cells places shaped agrees place.
-    Step-refused (flat_state granules cells) cpu command input_error
-    (outcome-host granules hold.side places cells shaped cpu (call_of command) by_host (place ∙ outside)
-    ∙ answer_of-front (flat_state granules cells) cpu (call_of command) (refused cells agrees)))
+refused_in_front-is_local : (config : Config) (cpu : ℕ) (command : Command) (hold : Hold) → class_of (call_of command) ≡ ByHost → hold.place ≡ Outside
+    → ((cells : ℕ → Cell) → Agrees cells hold.cells → IsRefusedInFront (flat_state config cells) (call_of command))
+    → LocalStep config cpu command input_error hold hold
+refused_in_front-is_local config cpu command hold by_host outside refused =
+    unchanged-is_local config cpu command input_error hold (λ cells places shaped agrees place.
+    Step-refused (flat_state config cells) cpu command input_error
+    (outcome-host config hold.side places cells shaped cpu (call_of command) by_host (place ∙ outside)
+    ∙ answer_of-front (flat_state config cells) cpu (call_of command) (refused cells agrees)))
 
-pub words-are_local : (granules cpu : ℕ) (command : Command) (hold : Hold) → class_of (call_of command) ≡ ByHost → hold.place ≡ Outside
-    → list_all (λ b. b) (words_of (call_of command)) ≡ false → LocalStep granules cpu command input_error hold hold
-words-are_local granules cpu command hold by_host outside wrong =
-    refused_in_front-is_local granules cpu command hold by_host outside (λ cells agrees. by_words wrong)
+pub words-are_local : (config : Config) (cpu : ℕ) (command : Command) (hold : Hold) → class_of (call_of command) ≡ ByHost → hold.place ≡ Outside
+    → list_all (λ b. b) (words_of (call_of command)) ≡ false → LocalStep config cpu command input_error hold hold
+words-are_local config cpu command hold by_host outside wrong =
+    refused_in_front-is_local config cpu command hold by_host outside (λ cells agrees. by_words wrong)
 
 -- what is no granule has no tag
-has_tag-no_granule : (granules : ℕ) (cells : ℕ → Cell) (n : Needed) → is_granule granules n.granule ≡ false
-    → has_tag (flat_state granules cells) n.granule n.tag ≡ false
+has_tag-no_granule : (config : Config) (cells : ℕ → Cell) (n : Needed) → is_granule config.granules n.granule ≡ false
+    → has_tag (flat_state config cells) n.granule n.tag ≡ false
 unfolding has_tag flat_state
-has_tag-no_granule granules cells n wrong = and_left (is_granule granules n.granule) (tag_number (tag_of (cells n.granule)) == tag_number n.tag) wrong
+has_tag-no_granule config cells n wrong = and_left (is_granule config.granules n.granule) (tag_number (tag_of (cells n.granule)) == tag_number n.tag) wrong
 
 -- nor has a granule a tag that its cell hasn't
-has_tag-other : (granules : ℕ) (cells : ℕ → Cell) (n : Needed) (cell : Cell) → cells n.granule ≡ cell
-    → (tag_number (tag_of cell) == tag_number n.tag) ≡ false → has_tag (flat_state granules cells) n.granule n.tag ≡ false
+has_tag-other : (config : Config) (cells : ℕ → Cell) (n : Needed) (cell : Cell) → cells n.granule ≡ cell
+    → (tag_number (tag_of cell) == tag_number n.tag) ≡ false → has_tag (flat_state config cells) n.granule n.tag ≡ false
 unfolding has_tag flat_state
-has_tag-other granules cells n cell there wrong =
-    and_right (is_granule granules n.granule) (tag_number (tag_of (cells n.granule)) == tag_number n.tag)
+has_tag-other config cells n cell there wrong =
+    and_right (is_granule config.granules n.granule) (tag_number (tag_of (cells n.granule)) == tag_number n.tag)
     (ap (λ (c : Cell). tag_number (tag_of c) == tag_number n.tag) there ∙ wrong)
 
-pub addresses-are_local : (granules cpu : ℕ) (command : Command) (hold : Hold) (n : Needed) → class_of (call_of command) ≡ ByHost → hold.place ≡ Outside
-    → Contains (named (call_of command)) n → is_granule granules n.granule ≡ false → LocalStep granules cpu command input_error hold hold
-addresses-are_local granules cpu command hold n by_host outside has wrong =
+pub addresses-are_local : (config : Config) (cpu : ℕ) (command : Command) (hold : Hold) (n : Needed) → class_of (call_of command) ≡ ByHost → hold.place ≡ Outside
+    → Contains (named (call_of command)) n → is_granule config.granules n.granule ≡ false → LocalStep config cpu command input_error hold hold
+addresses-are_local config cpu command hold n by_host outside has wrong =
     let found = slice_get-from_Contains (named (call_of command)) n has in
-    refused_in_front-is_local granules cpu command hold by_host outside (λ cells agrees. by_tag found.0 n found.1 (has_tag-no_granule granules cells n wrong))
+    refused_in_front-is_local config cpu command hold by_host outside (λ cells agrees. by_tag found.0 n found.1 (has_tag-no_granule config cells n wrong))
 
-pub tags-are_local : (granules cpu : ℕ) (command : Command) (hold : Hold) (h : HeldCell) (n : Needed) → class_of (call_of command) ≡ ByHost
+pub tags-are_local : (config : Config) (cpu : ℕ) (command : Command) (hold : Hold) (h : HeldCell) (n : Needed) → class_of (call_of command) ≡ ByHost
     → hold.place ≡ Outside → Contains hold.cells h → Contains (named (call_of command)) n → n.granule ≡ h.granule
-    → (tag_number (tag_of h.cell) == tag_number n.tag) ≡ false → LocalStep granules cpu command input_error hold hold
-tags-are_local granules cpu command hold h n by_host outside has_h has_n same wrong =
+    → (tag_number (tag_of h.cell) == tag_number n.tag) ≡ false → LocalStep config cpu command input_error hold hold
+tags-are_local config cpu command hold h n by_host outside has_h has_n same wrong =
     let found = slice_get-from_Contains (named (call_of command)) n has_n in
-    refused_in_front-is_local granules cpu command hold by_host outside (λ cells agrees. by_tag found.0 n found.1
-    (has_tag-other granules cells n h.cell (ap cells same ∙ agrees-at cells hold.cells h agrees has_h) wrong))
+    refused_in_front-is_local config cpu command hold by_host outside (λ cells agrees. by_tag found.0 n found.1
+    (has_tag-other config cells n h.cell (ap cells same ∙ agrees-at cells hold.cells h agrees has_h) wrong))
 
 -- a host's command inside of a REC
-pub inside-is_local : (granules cpu : ℕ) (command : Command) (hold : Hold) (rec rd : ℕ) → class_of (call_of command) ≡ ByHost
-    → hold.place ≡ Inside rec rd → LocalStep granules cpu command reply.Misplaced hold hold
-inside-is_local granules cpu command hold rec rd by_host inside =
-    unchanged-is_local granules cpu command reply.Misplaced hold (λ cells places shaped agrees place.
-    let s = flat_state granules cells in
+pub inside-is_local : (config : Config) (cpu : ℕ) (command : Command) (hold : Hold) (rec rd : ℕ) → class_of (call_of command) ≡ ByHost
+    → hold.place ≡ Inside rec rd → LocalStep config cpu command reply.Misplaced hold hold
+inside-is_local config cpu command hold rec rd by_host inside =
+    unchanged-is_local config cpu command reply.Misplaced hold (λ cells places shaped agrees place.
+    let s = flat_state config cells in
     Step-refused s cpu command reply.Misplaced (outcome-misplaced s cpu (call_of command)
-    (ap (is_placed s cpu) by_host ∙ ap not (is_inside-inside granules hold.side places cells shaped cpu rec rd (place ∙ inside)))))
+    (ap (is_placed s cpu) by_host ∙ ap not (is_inside-inside config hold.side places cells shaped cpu rec rd (place ∙ inside)))))
 
 -- a realm's call, and an exit, outside of RECs
-pub outside-is_local : (granules cpu : ℕ) (command : Command) (hold : Hold) → (class_of (call_of command) ≡ ByRealm) ⊎ (class_of (call_of command) ≡ ByExit)
-    → hold.place ≡ Outside → LocalStep granules cpu command reply.Misplaced hold hold
-outside-is_local granules cpu command hold not_host outside =
-    unchanged-is_local granules cpu command reply.Misplaced hold (λ cells places shaped agrees place.
-    let s = flat_state granules cells in
+pub outside-is_local : (config : Config) (cpu : ℕ) (command : Command) (hold : Hold) → (class_of (call_of command) ≡ ByRealm) ⊎ (class_of (call_of command) ≡ ByExit)
+    → hold.place ≡ Outside → LocalStep config cpu command reply.Misplaced hold hold
+outside-is_local config cpu command hold not_host outside =
+    unchanged-is_local config cpu command reply.Misplaced hold (λ cells places shaped agrees place.
+    let s = flat_state config cells in
     Step-refused s cpu command reply.Misplaced (outcome-misplaced s cpu (call_of command)
-    (misplaced s (is_inside-outside granules hold.side places cells shaped cpu (place ∙ outside)) not_host)))
+    (misplaced s (is_inside-outside config hold.side places cells shaped cpu (place ∙ outside)) not_host)))
   where
     misplaced : (s : State) → is_inside s cpu ≡ false → (class_of (call_of command) ≡ ByRealm) ⊎ (class_of (call_of command) ≡ ByExit)
         → is_placed s cpu (class_of (call_of command)) ≡ false

@@ -2,6 +2,7 @@
 use Rattle.std.proofs.Common.{◌≡◌, ℕ, Bool, true, false, ◌==◌, if◌then◌else◌, List, [], None, Ok, refl, sym, ap, ◌∙◌, subst}
 use Rattle.std.specs.Prelude.{Contains}
 use Rattle.std.proofs.lemmas.Bool.{false≢true, and_from, eq-eqb}
+use Rattle.rmm_spec.specs.HistoryText.{Config}
 use Rattle.rmm_spec.specs.declared.call.Call.TheVariants.{GranuleDelegate, GranuleUndelegate}
 use Rattle.rmm_spec.specs.declared.change.Change.TheVariants.{Retagged}
 use Rattle.rmm_spec.specs.declared.command.Command.{Command}
@@ -70,15 +71,15 @@ ViewsKept-blank cells granule c before after = record {
 }
 
 -- a blank cell in place of another keeps wholes well shaped
-pub IsWellShaped-retagged : (granules : ℕ) (side : Side) (places : ℕ → CpuPlace) (cells : ℕ → Cell) (granule : ℕ) (c : Cell)
-    → is_granule granules granule ≡ true → IsBlank (cells granule) → IsBlank c → IsWellShaped granules side places cells
-    → IsWellShaped granules side places (put cells granule c)
-IsWellShaped-retagged granules side places cells granule c is_lock before after shaped =
+pub IsWellShaped-retagged : (config : Config) (side : Side) (places : ℕ → CpuPlace) (cells : ℕ → Cell) (granule : ℕ) (c : Cell)
+    → is_granule config.granules granule ≡ true → IsBlank (cells granule) → IsBlank c → IsWellShaped config side places cells
+    → IsWellShaped config side places (put cells granule c)
+IsWellShaped-retagged config side places cells granule c is_lock before after shaped =
     let kept = ViewsKept-blank cells granule c before after in
     let new = put cells granule c in
     record {
-      realms = subst (λ realms. AreRealmCells granules side realms (recs_of new)) (sym kept.realms)
-          (subst (λ recs. AreRealmCells granules side (realms_of cells) recs) (sym kept.recs) shaped.realms);
+      realms = subst (λ realms. AreRealmCells config.granules side realms (recs_of new)) (sym kept.realms)
+          (subst (λ recs. AreRealmCells config.granules side (realms_of cells) recs) (sym kept.recs) shaped.realms);
       tables = subst (λ realms. AreTableCells realms (tables_of new)) (sym kept.realms)
           (subst (λ tables. AreTableCells (realms_of cells) tables) (sym kept.tables) shaped.tables);
       data_granules = subst (λ tables. AreDataCells tables (datas_of new)) (sym kept.tables)
@@ -88,23 +89,23 @@ IsWellShaped-retagged granules side places cells granule c is_lock before after 
           (subst (λ auxes. AreRecCells places (realms_of cells) (recs_of cells) auxes) (sym kept.auxes) shaped.recs));
       outside = record {
         undelegated = λ address outside. put_elim (λ v. v ≡ Undelegated) cells granule c address
-            (λ same. absurd (false≢true (sym outside ∙ (ap (is_granule granules) same ∙ is_lock)))) (λ apart. shaped.outside.undelegated address outside);
+            (λ same. absurd (false≢true (sym outside ∙ (ap (is_granule config.granules) same ∙ is_lock)))) (λ apart. shaped.outside.undelegated address outside);
       };
     }
 
 -- and changes the tag alone
-pub flat_state-retagged : (granules : ℕ) (cells : ℕ → Cell) (granule : ℕ) (c : Cell) → IsBlank (cells granule) → IsBlank c
-    → flat_state granules (put cells granule c) ≡ with_tag (flat_state granules cells) granule (tag_of c)
+pub flat_state-retagged : (config : Config) (cells : ℕ → Cell) (granule : ℕ) (c : Cell) → IsBlank (cells granule) → IsBlank c
+    → flat_state config (put cells granule c) ≡ with_tag (flat_state config cells) granule (tag_of c)
 unfolding flat_state
-flat_state-retagged granules cells granule c before after =
+flat_state-retagged config cells granule c before after =
     let kept = ViewsKept-blank cells granule c before after in
     λ i. record {
-      granules = granules;
+      config = config;
       tag = λ address. tags address (address == granule) i;
       realm = kept.realms i;
       rec = kept.recs i;
-      table = table_granule granules (kept.tables i);
-      leaf = leaf_in_tables granules (kept.tables i);
+      table = table_granule config.granules (kept.tables i);
+      leaf = leaf_in_tables config.granules (kept.tables i);
     }
   where
     tags : (address : ℕ) (b : Bool) → tag_of (if b then c else cells address) ≡ (if b then tag_of c else tag_of (cells address))
@@ -113,11 +114,11 @@ flat_state-retagged granules cells granule c before after =
 
 -- ---- the two commands
 
-has_tag-cell : (granules : ℕ) (cells : ℕ → Cell) (granule : ℕ) (c : Cell) → is_granule granules granule ≡ true → cells granule ≡ c
-    → has_tag (flat_state granules cells) granule (tag_of c) ≡ true
+has_tag-cell : (config : Config) (cells : ℕ → Cell) (granule : ℕ) (c : Cell) → is_granule config.granules granule ≡ true → cells granule ≡ c
+    → has_tag (flat_state config cells) granule (tag_of c) ≡ true
 unfolding has_tag flat_state
-has_tag-cell granules cells granule c is_lock is =
-    and_from (is_granule granules granule) (tag_number (tag_of (cells granule)) == tag_number (tag_of c)) is_lock
+has_tag-cell config cells granule c is_lock is =
+    and_from (is_granule config.granules granule) (tag_number (tag_of (cells granule)) == tag_number (tag_of c)) is_lock
     (eq-eqb (tag_number (tag_of (cells granule))) (tag_number (tag_of c)) (ap (λ (v : Cell). tag_number (tag_of v)) is))
 
 answer_of-delegate : (s : State) (cpu granule : ℕ) → has_tag s granule tag.Undelegated ≡ true
@@ -131,13 +132,13 @@ unfolding answer_of granule_undelegate words_of named
 answer_of-undelegate s cpu granule has = rw has refl
 
 -- what is accepted as a retag gives no words, and the tag changes
-Step-retagged : (granules : ℕ) (cells : ℕ → Cell) (cpu : ℕ) (command : Command) (granule : ℕ) (c : Cell) → IsBlank (cells granule) → IsBlank c
-    → outcome (flat_state granules cells) cpu (call_of command) ≡ Ok (done [] (Retagged (record { granule = granule; tag = tag_of c })))
-    → Step (flat_state granules cells) cpu command (ok []) (flat_state granules (put cells granule c))
+Step-retagged : (config : Config) (cells : ℕ → Cell) (cpu : ℕ) (command : Command) (granule : ℕ) (c : Cell) → IsBlank (cells granule) → IsBlank c
+    → outcome (flat_state config cells) cpu (call_of command) ≡ Ok (done [] (Retagged (record { granule = granule; tag = tag_of c })))
+    → Step (flat_state config cells) cpu command (ok []) (flat_state config (put cells granule c))
 unfolding changed
-Step-retagged granules cells cpu command granule c before after is =
-    subst (λ o. CarriesOut o (flat_state granules cells) (ok []) (flat_state granules (put cells granule c))) (sym is)
-    (refl, flat_state-retagged granules cells granule c before after)
+Step-retagged config cells cpu command granule c before after is =
+    subst (λ o. CarriesOut o (flat_state config cells) (ok []) (flat_state config (put cells granule c))) (sym is)
+    (refl, flat_state-retagged config cells granule c before after)
 
 class_of-delegate : (granule : ℕ) → class_of (GranuleDelegate granule) ≡ ByHost
 unfolding class_of
@@ -150,32 +151,32 @@ class_of-undelegate granule = refl
 granule_held : (held : List HeldCell) (granule : ℕ) (cell : Cell) → Contains held (held_at granule cell) → Contains (granules_held held) granule
 granule_held held granule cell has = Contains-map (λ (h : HeldCell). h.granule) held (held_at granule cell) has
 
-pub delegate-is_local : (granules cpu granule : ℕ) (command : Command) (hold : Hold) → call_of command ≡ GranuleDelegate granule → hold.place ≡ Outside
-    → is_granule granules granule ≡ true → Contains hold.cells (held_at granule Undelegated)
-    → LocalStep granules cpu command (ok []) hold (replaced hold granule Delegated)
-delegate-is_local granules cpu granule command hold is_call outside is_lock has =
-    one_cell-is_local granules cpu command (ok []) hold granule Delegated (granule_held hold.cells granule Undelegated has)
+pub delegate-is_local : (config : Config) (cpu granule : ℕ) (command : Command) (hold : Hold) → call_of command ≡ GranuleDelegate granule → hold.place ≡ Outside
+    → is_granule config.granules granule ≡ true → Contains hold.cells (held_at granule Undelegated)
+    → LocalStep config cpu command (ok []) hold (replaced hold granule Delegated)
+delegate-is_local config cpu granule command hold is_call outside is_lock has =
+    one_cell-is_local config cpu command (ok []) hold granule Delegated (granule_held hold.cells granule Undelegated has)
     (λ cells places shaped agrees place.
     let there : cells granule ≡ Undelegated = agrees-at cells hold.cells (held_at granule Undelegated) agrees has in
     let blank : IsBlank (cells granule) = subst IsBlank (sym there) IsBlank-Undelegated in (
-      Step-retagged granules cells cpu command granule Delegated blank IsBlank-Delegated
-          (ap (outcome (flat_state granules cells) cpu) is_call
-          ∙ (outcome-host granules hold.side places cells shaped cpu (GranuleDelegate granule) (class_of-delegate granule) (place ∙ outside)
-          ∙ answer_of-delegate (flat_state granules cells) cpu granule (has_tag-cell granules cells granule Undelegated is_lock there))),
-      IsWellShaped-retagged granules hold.side places cells granule Delegated is_lock blank IsBlank-Delegated shaped,
+      Step-retagged config cells cpu command granule Delegated blank IsBlank-Delegated
+          (ap (outcome (flat_state config cells) cpu) is_call
+          ∙ (outcome-host config hold.side places cells shaped cpu (GranuleDelegate granule) (class_of-delegate granule) (place ∙ outside)
+          ∙ answer_of-delegate (flat_state config cells) cpu granule (has_tag-cell config cells granule Undelegated is_lock there))),
+      IsWellShaped-retagged config hold.side places cells granule Delegated is_lock blank IsBlank-Delegated shaped,
     ))
 
-pub undelegate-is_local : (granules cpu granule : ℕ) (command : Command) (hold : Hold) → call_of command ≡ GranuleUndelegate granule → hold.place ≡ Outside
-    → is_granule granules granule ≡ true → Contains hold.cells (held_at granule Delegated)
-    → LocalStep granules cpu command (ok []) hold (replaced hold granule Undelegated)
-undelegate-is_local granules cpu granule command hold is_call outside is_lock has =
-    one_cell-is_local granules cpu command (ok []) hold granule Undelegated (granule_held hold.cells granule Delegated has)
+pub undelegate-is_local : (config : Config) (cpu granule : ℕ) (command : Command) (hold : Hold) → call_of command ≡ GranuleUndelegate granule → hold.place ≡ Outside
+    → is_granule config.granules granule ≡ true → Contains hold.cells (held_at granule Delegated)
+    → LocalStep config cpu command (ok []) hold (replaced hold granule Undelegated)
+undelegate-is_local config cpu granule command hold is_call outside is_lock has =
+    one_cell-is_local config cpu command (ok []) hold granule Undelegated (granule_held hold.cells granule Delegated has)
     (λ cells places shaped agrees place.
     let there : cells granule ≡ Delegated = agrees-at cells hold.cells (held_at granule Delegated) agrees has in
     let blank : IsBlank (cells granule) = subst IsBlank (sym there) IsBlank-Delegated in (
-      Step-retagged granules cells cpu command granule Undelegated blank IsBlank-Undelegated
-          (ap (outcome (flat_state granules cells) cpu) is_call
-          ∙ (outcome-host granules hold.side places cells shaped cpu (GranuleUndelegate granule) (class_of-undelegate granule) (place ∙ outside)
-          ∙ answer_of-undelegate (flat_state granules cells) cpu granule (has_tag-cell granules cells granule Delegated is_lock there))),
-      IsWellShaped-retagged granules hold.side places cells granule Undelegated is_lock blank IsBlank-Undelegated shaped,
+      Step-retagged config cells cpu command granule Undelegated blank IsBlank-Undelegated
+          (ap (outcome (flat_state config cells) cpu) is_call
+          ∙ (outcome-host config hold.side places cells shaped cpu (GranuleUndelegate granule) (class_of-undelegate granule) (place ∙ outside)
+          ∙ answer_of-undelegate (flat_state config cells) cpu granule (has_tag-cell config cells granule Delegated is_lock there))),
+      IsWellShaped-retagged config hold.side places cells granule Undelegated is_lock blank IsBlank-Undelegated shaped,
     ))

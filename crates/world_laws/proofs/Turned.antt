@@ -76,11 +76,11 @@ IsRising-alone : (old new : World) (cpu granule : ℕ) → LeavesAlone old new c
 IsRising-alone old new cpu granule alone was =
     let learnt = was.deciding.learnt in
     let command = was.deciding.command in
-    let of_held = subst (λ held. IsRisingTake old.config.granules (needs (old.place cpu) learnt (call_of command)) held granule) (sym alone.held) was.rising in
-    let of_place = subst (λ place. IsRisingTake old.config.granules (needs place learnt (call_of command)) (held_cells new cpu) granule) (sym alone.place) of_held in
+    let of_held = subst (λ held. IsRisingTake old.config (needs (old.place cpu) learnt (call_of command)) held granule) (sym alone.held) was.rising in
+    let of_place = subst (λ place. IsRisingTake old.config (needs place learnt (call_of command)) (held_cells new cpu) granule) (sym alone.place) of_held in
     record {
       deciding = record { number = was.deciding.number; command = command; learnt = learnt; is_deciding = alone.phase ∙ was.deciding.is_deciding };
-      rising = subst (λ (config : Config). IsRisingTake config.granules (needs (new.place cpu) learnt (call_of command)) (held_cells new cpu) granule)
+      rising = subst (λ (config : Config). IsRisingTake config (needs (new.place cpu) learnt (call_of command)) (held_cells new cpu) granule)
           (sym alone.config) of_place;
     }
 

@@ -2,6 +2,7 @@
 
 ghost use Rattle.std.specs.Prelude.{◌≡◌, ℕ, true, false, ◌==◌, ◌⊎◌, List, [], Contains};
 ghost use Rattle.std.specs.List.{list_all};
+ghost use Rattle.rmm_spec.specs.HistoryText.{Config};
 ghost use Rattle.rmm_spec.specs.declared.call.Call.TheVariants.{GranuleDelegate, GranuleUndelegate};
 ghost use Rattle.rmm_spec.specs.declared.command.Command.{Command};
 ghost use Rattle.rmm_spec.specs.declared.reply.Reply.{Reply};
@@ -21,47 +22,47 @@ ghost use Rattle.world_laws.specs.Replaced.{held_at, replaced, replaced_all};
 /// What is a step of every well-shaped whole that agrees with what is held, and changes held cells, the side table and the
 /// CPU's place alone, is a local step, whatever else is held.
 pub fn local_on_any_hold()
-    ensures { (granules cpu : ℕ) (command : Command) (given : Reply) (old : Hold) (changes : List HeldCell) (side : Side)
+    ensures { (config : Config) (cpu : ℕ) (command : Command) (given : Reply) (old : Hold) (changes : List HeldCell) (side : Side)
         (place : CpuPlace)
         → ((h : HeldCell) → Contains changes h → Contains (granules_held old.cells) h.granule)
-        → ((cells : ℕ → Cell) (places : ℕ → CpuPlace) → IsWellShaped granules old.side places cells
+        → ((cells : ℕ → Cell) (places : ℕ → CpuPlace) → IsWellShaped config old.side places cells
         → Agrees cells old.cells → places cpu ≡ old.place
-        → Step (flat_state granules cells) cpu command given (flat_state granules (put_all cells changes))
-        × IsWellShaped granules side (put places cpu place) (put_all cells changes))
-        → LocalStep granules cpu command given old
+        → Step (flat_state config cells) cpu command given (flat_state config (put_all cells changes))
+        × IsWellShaped config side (put places cpu place) (put_all cells changes))
+        → LocalStep config cpu command given old
         (record { cells = replaced_all old.cells changes; side = side; place = place }) }
 {}
 
 /// What a host's command is refused for by its words, by a named address that is no granule, or by the tag of a named granule
 /// that is held, is refused as input in a local step that changes nothing, whatever else is held.
 pub fn input_refusals_are_local()
-    ensures words { (granules cpu : ℕ) (command : Command) (hold : Hold) → class_of (call_of command) ≡ ByHost → hold.place ≡ Outside
-        → list_all (λ allowed. allowed) (words_of (call_of command)) ≡ false → LocalStep granules cpu command input_error hold hold }
-    ensures addresses { (granules cpu : ℕ) (command : Command) (hold : Hold) (n : Needed) → class_of (call_of command) ≡ ByHost
-        → hold.place ≡ Outside → Contains (named (call_of command)) n → is_granule granules n.granule ≡ false
-        → LocalStep granules cpu command input_error hold hold }
-    ensures tags { (granules cpu : ℕ) (command : Command) (hold : Hold) (h : HeldCell) (n : Needed)
+    ensures words { (config : Config) (cpu : ℕ) (command : Command) (hold : Hold) → class_of (call_of command) ≡ ByHost → hold.place ≡ Outside
+        → list_all (λ allowed. allowed) (words_of (call_of command)) ≡ false → LocalStep config cpu command input_error hold hold }
+    ensures addresses { (config : Config) (cpu : ℕ) (command : Command) (hold : Hold) (n : Needed) → class_of (call_of command) ≡ ByHost
+        → hold.place ≡ Outside → Contains (named (call_of command)) n → is_granule config.granules n.granule ≡ false
+        → LocalStep config cpu command input_error hold hold }
+    ensures tags { (config : Config) (cpu : ℕ) (command : Command) (hold : Hold) (h : HeldCell) (n : Needed)
         → class_of (call_of command) ≡ ByHost → hold.place ≡ Outside → Contains hold.cells h → Contains (named (call_of command)) n
         → n.granule ≡ h.granule → (tag_number (tag_of h.cell) == tag_number n.tag) ≡ false
-        → LocalStep granules cpu command input_error hold hold }
+        → LocalStep config cpu command input_error hold hold }
 {}
 
 /// A host's command inside of a REC, and a realm's call or an exit outside of RECs, is misplaced in a local step that changes
 /// nothing, whatever is held.
 pub fn misplaced_commands_are_local()
-    ensures inside { (granules cpu : ℕ) (command : Command) (hold : Hold) (rec rd : ℕ) → class_of (call_of command) ≡ ByHost
-        → hold.place ≡ Inside rec rd → LocalStep granules cpu command Misplaced hold hold }
-    ensures outside { (granules cpu : ℕ) (command : Command) (hold : Hold)
+    ensures inside { (config : Config) (cpu : ℕ) (command : Command) (hold : Hold) (rec rd : ℕ) → class_of (call_of command) ≡ ByHost
+        → hold.place ≡ Inside rec rd → LocalStep config cpu command Misplaced hold hold }
+    ensures outside { (config : Config) (cpu : ℕ) (command : Command) (hold : Hold)
         → (class_of (call_of command) ≡ ByRealm) ⊎ (class_of (call_of command) ≡ ByExit)
-        → hold.place ≡ Outside → LocalStep granules cpu command Misplaced hold hold }
+        → hold.place ≡ Outside → LocalStep config cpu command Misplaced hold hold }
 {}
 
 /// A granule that is held is delegated, or undelegated, in a local step, whatever else is held.
 pub fn delegations_are_local()
-    ensures delegated { (granules cpu granule : ℕ) (command : Command) (hold : Hold) → call_of command ≡ GranuleDelegate granule
-        → hold.place ≡ Outside → is_granule granules granule ≡ true → Contains hold.cells (held_at granule Undelegated)
-        → LocalStep granules cpu command (ok []) hold (replaced hold granule Delegated) }
-    ensures undelegated { (granules cpu granule : ℕ) (command : Command) (hold : Hold) → call_of command ≡ GranuleUndelegate granule
-        → hold.place ≡ Outside → is_granule granules granule ≡ true → Contains hold.cells (held_at granule Delegated)
-        → LocalStep granules cpu command (ok []) hold (replaced hold granule Undelegated) }
+    ensures delegated { (config : Config) (cpu granule : ℕ) (command : Command) (hold : Hold) → call_of command ≡ GranuleDelegate granule
+        → hold.place ≡ Outside → is_granule config.granules granule ≡ true → Contains hold.cells (held_at granule Undelegated)
+        → LocalStep config cpu command (ok []) hold (replaced hold granule Delegated) }
+    ensures undelegated { (config : Config) (cpu granule : ℕ) (command : Command) (hold : Hold) → call_of command ≡ GranuleUndelegate granule
+        → hold.place ≡ Outside → is_granule config.granules granule ≡ true → Contains hold.cells (held_at granule Delegated)
+        → LocalStep config cpu command (ok []) hold (replaced hold granule Undelegated) }
 {}

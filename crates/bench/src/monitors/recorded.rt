@@ -30,7 +30,7 @@ pub(crate) fn recorded<S: Site + Send + Sync, R: Threads + Wait + Sync>(
     requires name { blank.name ≡ S.name }
     requires parts { blank.parts ≡ S.parts }
     requires one_each { blank.parts ≡ config.cpus }
-    requires granules { config.granules ≡ S.granules }
+    requires granules { config ≡ S.config }
     requires capacity { (1 ≤ capacity) × (capacity ≤ 65536) }
 {
     let (monitor, cpus, scribe) = started::<S>(alloc, blank, config, capacity)?;

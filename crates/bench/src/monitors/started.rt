@@ -21,7 +21,7 @@ pub(crate) fn started<S: Site>(
     requires name { blank.name ≡ S.name }
     requires parts { blank.parts ≡ S.parts }
     requires one_each { blank.parts ≡ config.cpus }
-    requires granules { config.granules ≡ S.granules }
+    requires granules { config ≡ S.config }
     requires capacity { (1 ≤ capacity) × (capacity ≤ 65536) }
     ensures config { IfOk result (λ made. made.0.config ≡ config) }
     ensures cpus { IfOk result (λ made. All (λ cpu. ArePaired made.0 cpu.token cpu.pass) made.1.items) }

@@ -83,7 +83,7 @@ fn round<S: Site + Send + Sync, R: Threads + Wait + Clock + Sync>(
     requires name { blank.name ≡ S.name }
     requires parts { blank.parts ≡ S.parts }
     requires one_each { blank.parts ≡ config.cpus }
-    requires granules { config.granules ≡ S.granules }
+    requires granules { config ≡ S.config }
 {
     let (monitor, cpus, _scribe) = started::<S>(alloc, blank, config, CAPACITY)?;
     let before = first_jobs(alloc, kind)?;

@@ -6,7 +6,7 @@ use Rattle.rmm_spec.specs.declared.change.Change.TheVariants.{RealmMade, RealmDe
 use Rattle.rmm_spec.specs.declared.change.RealmUpdate.TheVariants.{Activated}
 use Rattle.rmm_spec.specs.declared.reply.Reply.{Reply}
 use Rattle.rmm_spec.specs.State.{State}
-use Rattle.rmm_spec.specs.Lookup.{realm_at, is_new, is_vmid_used, has_rec}
+use Rattle.rmm_spec.specs.Lookup.{allows_hash, realm_at, is_new, is_vmid_used, has_rec}
 use Rattle.rmm_spec.specs.Walk.{has_link}
 use Rattle.rmm_spec.specs.Rows.{row, input, decided, done, realm_error}
 use Rattle.rmm_spec.specs.Step.Front.{with_front}
@@ -16,7 +16,8 @@ abbrev pub realm_create_told : Bool → State → ℕ → ℕ → ℕ → ℕ �
 realm_create_told used s rd root width level vmid algo =
     decided
     (with_front s (RealmCreate rd root width level vmid algo)
-    (input (not used)  -- vmid_valid
+    (input (allows_hash s.config.version algo)  -- params_supp
+    ∷ input (not used)  -- vmid_valid
     ∷ []))
     (done [] (RealmMade rd root width level vmid algo))
 

@@ -24,7 +24,6 @@ words_of (RealmCreate rd root width level vmid algo) =
     not (rd == root)  -- alias
     ∷ is_space width level  -- params_supp, rtt_num_level
     ∷ nat_le vmid 0xff  -- vmid_valid
-    ∷ (algo == 0)  -- params_supp
     ∷ []
 words_of (RecCreate rd rec mpidr flags aux0 aux1) =
     (not (rec == aux0) && not (rec == aux1) && not (aux0 == aux1))  -- aux_alias

@@ -1,6 +1,6 @@
-use Rattle.std.proofs.Common.{◌≡◌, ℕ, Bor, List, [], ◌∷◌, codes, get_or, Option, Some, None, sym, ap, subst, ◌∙◌, arith}
+use Rattle.std.proofs.Common.{◌≡◌, ℕ, Bor, List, [], ◌∷◌, get_or, Option, Some, None, sym, ap, subst, ◌∙◌, arith}
 use Rattle.std.specs.Prelude.{IfSome, IfNone}
-use Rattle.rmm_spec.specs.HistoryText.{Config}
+use Rattle.rmm_spec.specs.HistoryText.{Config, mark}
 use Rattle.rmm_spec.specs.Text.{decimal}
 use Rattle.rmm_spec.proofs.Texts.{decimal-injective}
 use Rattle.bad_lines.specs.Wrong.{IsHeaderOf}
@@ -21,7 +21,7 @@ cpus_left : (header middle left : List (List ℕ)) (first second : Option (Bor (
     → IfSome second (λ part. middle ≡ part.now ∷ left) → IfNone second (middle ≡ []) → left ≡ decimal config.cpus ∷ []
 cpus_left header middle left first second config h some none some-2 none-2 =
     left_behind middle left second (decimal config.granules) (decimal config.cpus ∷ []) some-2 none-2
-    (left_behind header middle first (codes "rmh1") (decimal config.granules ∷ decimal config.cpus ∷ []) some none h.1)
+    (left_behind header middle first (mark config.version) (decimal config.granules ∷ decimal config.cpus ∷ []) some none h.1)
 
 pub returns-in-Some : goal.returns-in-Some
 returns-in-Some c = λ config h.

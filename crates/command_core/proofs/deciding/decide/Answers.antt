@@ -9,41 +9,41 @@ use Rattle.command_core.proofs.deciding.decide.Goals as goal
 
 pub unreachable-requires : goal.unreachable-requires
 unreachable-requires g c =
-    (decision c.args.config.now.granules c.args.cpu c.args.command.now
+    (decision c.args.config.now c.args.cpu c.args.command.now
     (hold_of (g.H.Held.cells c.args.held.now) (side_of c.args.side.now) (place_of c.args.place.now)) c.call.result c.settled_answer.result
     (Ok (Reaches c.in-Ok-Reaches.field-0-0)) c.call.ensures c.requires.settled c.settled_answer.ensures.answer
     (c.in-Ok-Reaches.is ∙ ap Ok c.in-Ok-Reaches.field-0-is)).can
 
 pub returns-in-Ok-Done-clause-decides : goal.returns-in-Ok-Done-clause-decides
 returns-in-Ok-Done-clause-decides g c =
-    (decision c.args.config.now.granules c.args.cpu c.args.command.now
+    (decision c.args.config.now c.args.cpu c.args.command.now
     (hold_of (g.H.Held.cells c.args.held.now) (side_of c.args.side.now) (place_of c.args.place.now)) c.call.result c.settled_answer.result
     (Ok (Done c.in-Ok-Done.words c.in-Ok-Done.change)) c.call.ensures c.requires.settled c.settled_answer.ensures.answer
     (c.in-Ok-Done.is ∙ ap Ok c.in-Ok-Done.field-0-is)).is_local
 
 pub returns-in-Ok-Done-clause-furthest : goal.returns-in-Ok-Done-clause-furthest
 returns-in-Ok-Done-clause-furthest g c =
-    (decision c.args.config.now.granules c.args.cpu c.args.command.now
+    (decision c.args.config.now c.args.cpu c.args.command.now
     (hold_of (g.H.Held.cells c.args.held.now) (side_of c.args.side.now) (place_of c.args.place.now)) c.call.result c.settled_answer.result
     (Ok (Done c.in-Ok-Done.words c.in-Ok-Done.change)) c.call.ensures c.requires.settled c.settled_answer.ensures.answer
     (c.in-Ok-Done.is ∙ ap Ok c.in-Ok-Done.field-0-is)).is_furthest
 
 pub returns-in-Ok-Done-clause-can : goal.returns-in-Ok-Done-clause-can
 returns-in-Ok-Done-clause-can g c =
-    (decision c.args.config.now.granules c.args.cpu c.args.command.now
+    (decision c.args.config.now c.args.cpu c.args.command.now
     (hold_of (g.H.Held.cells c.args.held.now) (side_of c.args.side.now) (place_of c.args.place.now)) c.call.result c.settled_answer.result
     (Ok (Done c.in-Ok-Done.words c.in-Ok-Done.change)) c.call.ensures c.requires.settled c.settled_answer.ensures.answer
     (c.in-Ok-Done.is ∙ ap Ok c.in-Ok-Done.field-0-is)).can
 
 pub returns-in-Err-clause-decides : goal.returns-in-Err-clause-decides
 returns-in-Err-clause-decides g c =
-    (decision c.args.config.now.granules c.args.cpu c.args.command.now
+    (decision c.args.config.now c.args.cpu c.args.command.now
     (hold_of (g.H.Held.cells c.args.held.now) (side_of c.args.side.now) (place_of c.args.place.now)) c.call.result c.settled_answer.result
     (Err c.in-Err.refusal) c.call.ensures c.requires.settled c.settled_answer.ensures.answer c.in-Err.is).is_local
 
 pub returns-in-Err-clause-furthest : goal.returns-in-Err-clause-furthest
 returns-in-Err-clause-furthest g c =
-    (decision c.args.config.now.granules c.args.cpu c.args.command.now
+    (decision c.args.config.now c.args.cpu c.args.command.now
     (hold_of (g.H.Held.cells c.args.held.now) (side_of c.args.side.now) (place_of c.args.place.now)) c.call.result c.settled_answer.result
     (Err c.in-Err.refusal) c.call.ensures c.requires.settled c.settled_answer.ensures.answer c.in-Err.is).is_furthest
 
@@ -54,7 +54,7 @@ returns-in-Err-clause-can g c = record { held = tt; tables = tt; here = tt }
 pub returns-in-Ok-Done-clause-misplaced : goal.returns-in-Ok-Done-clause-misplaced
 returns-in-Ok-Done-clause-misplaced g c = λ unshaped.
     let is : c.settled_answer.result ≡ Err Misplaced =
-    decision-unshaped c.args.config.now.granules c.args.cpu c.args.command.now
+    decision-unshaped c.args.config.now c.args.cpu c.args.command.now
     (hold_of (g.H.Held.cells c.args.held.now) (side_of c.args.side.now) (place_of c.args.place.now)) c.call.result c.settled_answer.result
     c.call.ensures c.settled_answer.ensures.answer unshaped in
     absurd (let bad : Ok c.in-Ok-Done.field-0 ≡ Err Misplaced = sym c.in-Ok-Done.is ∙ is in cc)
@@ -62,7 +62,7 @@ returns-in-Ok-Done-clause-misplaced g c = λ unshaped.
 pub returns-in-Err-clause-misplaced : goal.returns-in-Err-clause-misplaced
 returns-in-Err-clause-misplaced g c = λ unshaped.
     let is : c.settled_answer.result ≡ Err Misplaced =
-    decision-unshaped c.args.config.now.granules c.args.cpu c.args.command.now
+    decision-unshaped c.args.config.now c.args.cpu c.args.command.now
     (hold_of (g.H.Held.cells c.args.held.now) (side_of c.args.side.now) (place_of c.args.place.now)) c.call.result c.settled_answer.result
     c.call.ensures c.settled_answer.ensures.answer unshaped in
     let both : Err c.in-Err.refusal ≡ Err Misplaced = sym c.in-Err.is ∙ is in

@@ -13,9 +13,9 @@ answer_outside-requires g c =
     let a = c.args in
     let held = g.H.Held.cells a.sight.now.held.now in
     record {
-      owned = settled-owned a.sight.now.config.now.granules held a.call.now
-          (ap (λ (p : CpuPlace). is_settled a.sight.now.config.now.granules a.call.now (place_of p) held) (sym c.in-Outside.is) ∙ c.requires.settled)
-          (ap (λ (p : CpuPlace). is_unshaped a.sight.now.config.now.granules a.call.now (place_of p) held) (sym c.in-Outside.is) ∙ c.requires.shaped);
+      owned = settled-owned a.sight.now.config.now held a.call.now
+          (ap (λ (p : CpuPlace). is_settled a.sight.now.config.now a.call.now (place_of p) held) (sym c.in-Outside.is) ∙ c.requires.settled)
+          (ap (λ (p : CpuPlace). is_unshaped a.sight.now.config.now a.call.now (place_of p) held) (sym c.in-Outside.is) ∙ c.requires.shaped);
     }
 
 pub answer_inside-requires : goal.answer_inside-requires
@@ -23,8 +23,8 @@ answer_inside-requires g c =
     let a = c.args in
     let held = g.H.Held.cells a.sight.now.held.now in
     record {
-      inside = subst (λ rec. IsInside (seen_state a.sight.now.config.now.granules held) rec a.call.now) (sym c.address.ensures)
-          (settled-placed a.sight.now.config.now.granules c.in-Inside.rec c.in-Inside.rd held a.call.now
-          (ap (λ (p : CpuPlace). is_settled a.sight.now.config.now.granules a.call.now (place_of p) held) (sym c.in-Inside.is) ∙ c.requires.settled)
-          (ap (λ (p : CpuPlace). is_unshaped a.sight.now.config.now.granules a.call.now (place_of p) held) (sym c.in-Inside.is) ∙ c.requires.shaped));
+      inside = subst (λ rec. IsInside (seen_state a.sight.now.config.now held) rec a.call.now) (sym c.address.ensures)
+          (settled-placed a.sight.now.config.now c.in-Inside.rec c.in-Inside.rd held a.call.now
+          (ap (λ (p : CpuPlace). is_settled a.sight.now.config.now a.call.now (place_of p) held) (sym c.in-Inside.is) ∙ c.requires.settled)
+          (ap (λ (p : CpuPlace). is_unshaped a.sight.now.config.now a.call.now (place_of p) held) (sym c.in-Inside.is) ∙ c.requires.shaped));
     }

@@ -8,4 +8,4 @@ use Rattle.command_core.proofs.deciding.settled_answer.Goals as goal
 pub returns-clause-makes : goal.returns-clause-makes
 returns-clause-makes g c =
     let hold = hold_of (g.H.Held.cells c.args.held.now) (side_of c.args.side.now) (place_of c.args.place.now) in
-    subst (CanMakeAnswer hold) (sym c.made_answer.ensures) (answer-makes c.args.config.now.granules hold c.rows_answer-answer.result c.granules.ensures.limits.most_granules)
+    subst (CanMakeAnswer hold) (sym c.made_answer.ensures) (answer-makes c.args.config.now hold c.rows_answer-answer.result c.granules.ensures.limits.most_granules)

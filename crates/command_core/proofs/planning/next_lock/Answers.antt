@@ -13,14 +13,14 @@ returns-clause-settled g c =
     let a = c.args in
     let held = g.H.Held.cells a.held.now in
     let place = place_of a.place.now in
-    next-settled a.config.now.granules (call_of a.command.now) place a.learnt held (g.met.H.Held.distinct a.held.now)
-    ∙ ap is_ready (sym (c.next_held.ensures ∙ ap (λ (x : Call). next a.config.now.granules x place a.learnt held) c.call.ensures))
+    next-settled a.config.now (call_of a.command.now) place a.learnt held (g.met.H.Held.distinct a.held.now)
+    ∙ ap is_ready (sym (c.next_held.ensures ∙ ap (λ (x : Call). next a.config.now x place a.learnt held) c.call.ensures))
 
 pub returns-clause-planned : goal.returns-clause-planned
 returns-clause-planned g c =
     let a = c.args in
     let held = g.H.Held.cells a.held.now in
     let place = place_of a.place.now in
-    subst (λ (n : Next). IsPlanned a.config.now.granules a.command.now place a.learnt held n)
-    (sym (c.next_held.ensures ∙ ap (λ (x : Call). next a.config.now.granules x place a.learnt held) c.call.ensures))
-    (next-planned a.config.now.granules a.command.now place a.learnt held (g.met.H.Held.distinct a.held.now))
+    subst (λ (n : Next). IsPlanned a.config.now a.command.now place a.learnt held n)
+    (sym (c.next_held.ensures ∙ ap (λ (x : Call). next a.config.now x place a.learnt held) c.call.ensures))
+    (next-planned a.config.now a.command.now place a.learnt held (g.met.H.Held.distinct a.held.now))

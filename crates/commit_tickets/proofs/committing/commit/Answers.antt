@@ -14,7 +14,7 @@ use Rattle.commit_tickets.proofs.committing.commit.Goals as goal
 pub returns-then-not-branch-clause-cause : goal.returns-then-not-branch-clause-cause
 returns-then-not-branch-clause-cause g c =
     inl
-    (refused-disagree g.S.Site.granules c.args.command.now _ c.args.journal.now _ c.args.token.now (hold_cells c.args.hold.now) c.decide-reply.result.0
+    (refused-disagree g.S.Site.config c.args.command.now _ c.args.journal.now _ c.args.token.now (hold_cells c.args.hold.now) c.decide-reply.result.0
     c.decide-reply.result.1 (state_of c.journal.inside.books) c.journal.view_is c.token.view_is c.journal.invariant.1 c.decide-reply.ensures.decides
     c.journal.invariant.0 (c.in_ok-offer.ensures.only c.if-not-branch.true))
 

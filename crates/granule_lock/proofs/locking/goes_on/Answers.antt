@@ -13,7 +13,7 @@ give-requires-clause-held g c =
     let call = call_of c.args.command.now in
     let place = place_of c.args.place.now in
     is_held-contained (hold_cells c.args.hold.now) c.in-Free.pa
-    (held-freed c.args.config.now.granules call place (needs place c.args.learnt.now call) (hold_cells c.args.hold.now) c.in-Free.pa c.in-Free.owner
+    (held-freed c.args.config.now call place (needs place c.args.learnt.now call) (hold_cells c.args.hold.now) c.in-Free.pa c.in-Free.owner
     c.in-Free.ensures.planned)
 
 pub returns-in-Free-clause-granules : goal.returns-in-Free-clause-granules

@@ -7,5 +7,5 @@ use Rattle.granule_lock.proofs.locking.lock_for.Given as goal
 abbrev pub invariant-loop-step : goal.invariant-loop-step
 invariant-loop-step g l = record {
   granules : AreGranules l.granules.granules (hold_cells l.hold);
-  planned : IsReached l.config.granules (call_of l.command) (place_of l.place) (locking (hold_cells l.hold) l.learnt);
+  planned : IsReached l.config (call_of l.command) (place_of l.place) (locking (hold_cells l.hold) l.learnt);
 }

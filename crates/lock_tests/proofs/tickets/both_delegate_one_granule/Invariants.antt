@@ -4,4 +4,4 @@ abbrev pub ghosts-commits_of_two-S-Ledger : goal.ghosts-commits_of_two-S-Ledger
 ghosts-commits_of_two-S-Ledger g a = record { name = a.blank.name; parts = a.blank.parts }
 
 abbrev pub ghosts-commits_of_two-S-Site : goal.ghosts-commits_of_two-S-Site
-ghosts-commits_of_two-S-Site g a = record { granules = a.config.granules }
+ghosts-commits_of_two-S-Site g a = record { config = a.config }

@@ -4,4 +4,4 @@ abbrev pub ghosts-delegate_twice-S-Ledger : goal.ghosts-delegate_twice-S-Ledger
 ghosts-delegate_twice-S-Ledger g a = record { name = a.blank.name; parts = a.blank.parts }
 
 abbrev pub ghosts-delegate_twice-S-Site : goal.ghosts-delegate_twice-S-Site
-ghosts-delegate_twice-S-Site g a = record { granules = a.config.granules }
+ghosts-delegate_twice-S-Site g a = record { config = a.config }

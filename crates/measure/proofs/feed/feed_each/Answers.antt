@@ -6,10 +6,10 @@ use Rattle.measure.proofs.feed.feed_each.Goals as goal
 
 pub loop-word-init : goal.loop-word-init
 unfolding words_bytes
-loop-word-init c = λ m held. rw append-nil held
+loop-word-init g c = λ m held. rw append-nil held
 
 pub loop-word-preserved : goal.loop-word-preserved
-loop-word-preserved c = λ m held.
+loop-word-preserved g c = λ m held.
     let step = c.update.ensures (m ++ words_bytes (take c.loop-word.word-index c.args.words.now)) (c.loop-word.invariant m held) in
     let more = words_bytes-take_more m c.args.words.now c.loop-word.word-index c.loop-word-test.true in
     rw (more, ← c.write_u64.ensures) step

@@ -2,7 +2,7 @@ use Rattle.shape_laws.proofs.Changes.{changes-keep_shape}
 use Rattle.shape_laws.proofs.laws.changes_keep_shape.Goals as goal
 
 pub returns-clause-shaped : goal.returns-clause-shaped
-returns-clause-shaped c = λ granules w change shaped can. (changes-keep_shape granules w change shaped can).0
+returns-clause-shaped c = λ config w change shaped can. (changes-keep_shape config w change shaped can).0
 
 pub returns-clause-flat : goal.returns-clause-flat
-returns-clause-flat c = λ granules w change shaped can. (changes-keep_shape granules w change shaped can).1
+returns-clause-flat c = λ config w change shaped can. (changes-keep_shape config w change shaped can).1

@@ -3,4 +3,4 @@ use Rattle.walk_laws.proofs.Settled.{first-reached}
 use Rattle.walk_laws.proofs.laws.first_ends_are_reached.Goals as goal
 
 pub returns : goal.returns
-returns c = λ granules cpu held call stretch is. first-reached (seen_state granules held) cpu call stretch is
+returns c = λ config cpu held call stretch is. first-reached (seen_state config held) cpu call stretch is

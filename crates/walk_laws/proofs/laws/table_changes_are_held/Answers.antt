@@ -2,5 +2,5 @@ use Rattle.walk_laws.proofs.Steps.{cells-changed}
 use Rattle.walk_laws.proofs.laws.table_changes_are_held.Goals as goal
 
 pub returns : goal.returns
-returns c = λ granules side held cells places change shaped agrees can holds.
+returns c = λ config side held cells places change shaped agrees can holds.
     cells-changed (record { cells = cells; places = places; shaped = shaped; agrees = agrees }) change can holds

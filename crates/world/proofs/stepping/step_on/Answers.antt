@@ -9,7 +9,7 @@ use Rattle.world.proofs.stepping.step_on.Goals as goal
 pub returns-then-not-is_accepted-clause-ok : goal.returns-then-not-is_accepted-clause-ok
 returns-then-not-is_accepted-clause-ok g c =
     let hold = hold_of (g.H.Held.cells c.args.held.now) (side_of c.args.side.now) (place_of c.args.place.now) in
-    refused-is_local c.args.config.now.granules c.args.cpu c.args.command.now c.decide-reply.result.0 hold (hold_changed hold c.decide-reply.result.1)
+    refused-is_local c.args.config.now c.args.cpu c.args.command.now c.decide-reply.result.0 hold (hold_changed hold c.decide-reply.result.1)
     (sym c.is_accepted.ensures ∙ c.if-not-is_accepted.true) c.decide-reply.ensures.decides
 
 -- the change that is decided makes a table

@@ -6,11 +6,11 @@ pub returns-else-has_dead_link : goal.returns-else-has_dead_link
 returns-else-has_dead_link g c =
     let a = c.args in
     c.has.ensures
-    ∙ search-held a.self.now.config.now.granules (g.H.Held.cells a.self.now.held.now) a.rd a.level a.number c.in-Some.table.now c.in-Some.ensures a.test
+    ∙ search-held a.self.now.config.now (g.H.Held.cells a.self.now.held.now) a.rd a.level a.number c.in-Some.table.now c.in-Some.ensures a.test
     (sym c.has_dead_link.ensures ∙ c.if-has_dead_link.false)
 
 pub returns-in-None : goal.returns-in-None
 returns-in-None g c =
     let a = c.args in
     c.finds_unheld.ensures
-    ∙ search-unheld a.self.now.config.now.granules (g.H.Held.cells a.self.now.held.now) a.rd a.level a.number c.in-None.ensures a.test
+    ∙ search-unheld a.self.now.config.now (g.H.Held.cells a.self.now.held.now) a.rd a.level a.number c.in-None.ensures a.test

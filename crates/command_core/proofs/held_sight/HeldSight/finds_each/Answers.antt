@@ -9,7 +9,7 @@ pub returns-then-passes : goal.returns-then-passes
 unfolding has_entry
 returns-then-passes g c =
     let a = c.args in
-    let found : ℕ → Bool = λ k. passes a.test (entry_at (seen_state a.self.now.config.now.granules (g.H.Held.cells a.self.now.held.now)) a.rd a.level (512 * a.number + k)) in
+    let found : ℕ → Bool = λ k. passes a.test (entry_at (seen_state a.self.now.config.now (g.H.Held.cells a.self.now.held.now)) a.rd a.level (512 * a.number + k)) in
     let passed = rw c.entry.ensures at c.if-passes.ensures in
     sym (any_below-from 512 found c.loop-place.place (omega arith) (sym passed))
 
@@ -17,6 +17,6 @@ pub returns : goal.returns
 unfolding has_entry
 returns g c =
     let a = c.args in
-    let found : ℕ → Bool = λ k. passes a.test (entry_at (seen_state a.self.now.config.now.granules (g.H.Held.cells a.self.now.held.now)) a.rd a.level (512 * a.number + k)) in
+    let found : ℕ → Bool = λ k. passes a.test (entry_at (seen_state a.self.now.config.now (g.H.Held.cells a.self.now.held.now)) a.rd a.level (512 * a.number + k)) in
     let all : c.loop-place.place ≡ 512 = omega (arith, c.loop-place-test.false, c.loop-place.auto.place-end) in
     sym (subst (λ n. any_below n found ≡ false) all c.loop-place.invariant)

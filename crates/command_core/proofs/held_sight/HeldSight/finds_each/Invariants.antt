@@ -6,4 +6,4 @@ use Rattle.command_core.proofs.held_sight.HeldSight.finds_each.Given as goal
 
 abbrev pub invariant-loop-place : goal.invariant-loop-place
 invariant-loop-place g l =
-    any_below l.place (λ k. passes l.test (entry_at (seen_state l.self.config.now.granules (g.H.Held.cells l.self.held.now)) l.rd l.level (512 * l.number + k))) ≡ false
+    any_below l.place (λ k. passes l.test (entry_at (seen_state l.self.config.now (g.H.Held.cells l.self.held.now)) l.rd l.level (512 * l.number + k))) ≡ false

@@ -17,7 +17,7 @@ set-within p stretch =
 pub overflow_mul-result : goal.overflow_mul-result
 overflow_mul-result g c =
     let a = c.args in
-    let passes : ℕ → Bool = spec.may_set (seen_state a.self.now.config.now.granules (g.H.Held.cells a.self.now.held.now)) a.stretch.now in
+    let passes : ℕ → Bool = spec.may_set (seen_state a.self.now.config.now (g.H.Held.cells a.self.now.held.now)) a.stretch.now in
     let within : c.leading.result * c.entry_size.result ≤ a.stretch.now.top - a.stretch.now.base =
     rw (c.leading.ensures, c.most_set.ensures.exact, c.entry_size.ensures) (set-within passes a.stretch.now) in
     omega (arith, within)
@@ -25,7 +25,7 @@ overflow_mul-result g c =
 pub overflow_add-result : goal.overflow_add-result
 overflow_add-result g c =
     let a = c.args in
-    let passes : ℕ → Bool = spec.may_set (seen_state a.self.now.config.now.granules (g.H.Held.cells a.self.now.held.now)) a.stretch.now in
+    let passes : ℕ → Bool = spec.may_set (seen_state a.self.now.config.now (g.H.Held.cells a.self.now.held.now)) a.stretch.now in
     let within : c.leading.result * c.entry_size.result ≤ a.stretch.now.top - a.stretch.now.base =
     rw (c.leading.ensures, c.most_set.ensures.exact, c.entry_size.ensures) (set-within passes a.stretch.now) in
     omega (arith, within)

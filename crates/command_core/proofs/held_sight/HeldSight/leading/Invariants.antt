@@ -5,4 +5,4 @@ use Rattle.command_core.proofs.held_sight.HeldSight.leading.Given as goal
 
 abbrev pub invariant-loop-behind : goal.invariant-loop-behind
 invariant-loop-behind g l =
-    spec.leading l.behind (spec.may_set (seen_state l.self.config.now.granules (g.H.Held.cells l.self.held.now)) l.stretch) ≡ l.behind
+    spec.leading l.behind (spec.may_set (seen_state l.self.config.now (g.H.Held.cells l.self.held.now)) l.stretch) ≡ l.behind

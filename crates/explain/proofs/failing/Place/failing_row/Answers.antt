@@ -3,7 +3,7 @@ use Rattle.spec_machine.specs.View.{state_of}
 use Rattle.explain.proofs.failing.Place.failing_row.Goals as goal
 
 pub returns-in-1-clause-fails : goal.returns-in-1-clause-fails
-returns-in-1-clause-fails c = c.input_row.ensures.fails (state_of c.args.self.machine.now) c.args.call.now
+returns-in-1-clause-fails c = c.input_row.ensures.fails
 
 pub returns-in-2-clause-fails : goal.returns-in-2-clause-fails
 returns-in-2-clause-fails c = c.realm_row.ensures.fails (state_of c.args.self.machine.now) c.args.call.now

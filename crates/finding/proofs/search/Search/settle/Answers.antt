@@ -20,7 +20,7 @@ returns-in_default c =
     let is_search = c.requires.is_search in
     let few = few_frames history c.well_formed-2.ensures search is_search in
     let reached = rw c.deref.ensures.value at c.in_ok-machine.ensures in
-    (IsSearch-tried history c.well_formed-2.ensures search _ is_search refl refl reached is_search.tried, Moves-stale search _ few c.requires.fresh refl refl refl)
+    (IsSearch-tried history c.well_formed-2.ensures search _ is_search refl refl reached is_search.tried is_search.kept, Moves-stale search _ few c.requires.fresh refl refl refl)
 
 pub returns : goal.returns
 returns c =

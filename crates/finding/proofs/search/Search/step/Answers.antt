@@ -15,11 +15,11 @@ returns-then-bound-ge-PENDING c = (
       (omega (arith, c.rank-bound.ensures.rank, c.if-bound-ge-PENDING.true)),
 )
 
-pub settle-requires-clause-least : goal.settle-requires-clause-least
-settle-requires-clause-least c = rw c.rank-bound.ensures.rank c.in-Some.ensures.least
+pub arrive-requires-clause-least : goal.arrive-requires-clause-least
+arrive-requires-clause-least c = rw c.rank-bound.ensures.rank c.in-Some.ensures.least
 
-pub take_back-requires-clause-nowhere : goal.take_back-requires-clause-nowhere
-take_back-requires-clause-nowhere c =
+pub leave-requires-clause-nowhere : goal.leave-requires-clause-nowhere
+leave-requires-clause-nowhere c =
     nowhere_left c.args.history.now.recorded c.well_formed-2.ensures c.args.self.now c.requires.is_search c.in-Some.first c.in-Some.ensures.next
     (omega (arith, c.rank-bound.ensures.rank, c.if-bound-ge-PENDING.false)) _ c.in_default-next_choice.ensures.least (omega arith)
 
@@ -39,7 +39,7 @@ returns-then-bound-choice c =
       IsSearch-tried history c.well_formed-2.ensures search _ c.requires.is_search refl refl c.requires.is_search.machine
           (Tried-late history c.well_formed-2.ensures search c.requires.is_search c.in-Some.first c.in-Some-next_choice.choice c.in-Some.ensures.next
           (omega (arith, c.rank-bound.ensures.rank, c.if-bound-ge-PENDING.false)) next c.in-Some-next_choice.ensures.least
-          (omega (arith, c.rank-bound.ensures.rank, c.if-bound-choice.true))),
+          (omega (arith, c.rank-bound.ensures.rank, c.if-bound-choice.true))) c.requires.is_search.kept,
       Moves-passed search _ None c.if-self.false (omega (arith, ranked)) (omega (arith, small)),
     )
 

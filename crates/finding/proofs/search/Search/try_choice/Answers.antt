@@ -28,7 +28,7 @@ returns-in_default c =
     let ranked = c.requires.next.ranked in
     rw c.pass.ensures (
       IsSearch-tried history wf search _ c.requires.is_search refl refl reached
-          (Tried-call history wf search c.requires.is_search c.args.choice c.requires.next c.requires.least (c.in_default.ensures (lines_of search.frames.items) may)),
+          (Tried-call history wf search c.requires.is_search c.args.choice c.requires.next c.requires.least (c.in_default.ensures (lines_of search.frames.items) may)) c.requires.is_search.kept,
       record {
         further = (Moves-passed (record search { machine = Some c.in_ok-machine.machine }) (rank_of c.args.choice + 1) None c.requires.fresh
             (omega (arith, ranked)) (omega (arith, small))).further;
@@ -93,6 +93,6 @@ returns c =
     (MayTry-search history c.well_formed-2.ensures search c.requires.is_search c.args.choice c.requires.next c.requires.least (state_of machine)
     reached c.above_for-above.result c.above_for-above.ensures) in (
       IsSearch-refused history c.well_formed-2.ensures search c.requires.is_search c.args.choice machine reached _ c.requires.next c.requires.least
-          c.in-Some.frame attempt c.offer.new.machine (c.in_ok-given.ensures.kept c.if-given.false) refused refl refl refl refl refl,
+          c.in-Some.frame attempt c.offer.new.machine (c.in_ok-given.ensures.kept c.if-given.false) refused refl refl refl refl refl refl,
       Moves-offered search _ c.requires.few c.in_ok-given.ensures.counted,
     )

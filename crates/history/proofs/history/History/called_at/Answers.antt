@@ -1,4 +1,4 @@
-use Rattle.std.proofs.Common.{◌≡◌, length, Some, ap, sym, ◌∙◌, arith}
+use Rattle.std.proofs.Common.{length, Some, ap, sym, ◌∙◌, arith}
 use Rattle.std.proofs.lemmas.Option.{same_Some}
 use Rattle.history.proofs.EntryLaws.{IsEntryAt-read, event_of-numbered, event_of-no_call, length-events_in}
 use Rattle.history.specs.Entry.{event_of, stretch, words_at}

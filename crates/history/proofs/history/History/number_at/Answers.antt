@@ -1,5 +1,5 @@
 -- The event at the place is of the CPU that the entry names, and half its rank is its number.
-use Rattle.std.proofs.Common.{◌==◌, length, Some, ap, sym, ◌∙◌, arith, subst}
+use Rattle.std.proofs.Common.{◌==◌, length, ap, sym, ◌∙◌, arith, subst}
 use Rattle.std.proofs.lemmas.List.Sums.{length-filter, count_by-le-length}
 use Rattle.rmm_spec.specs.HistoryText.{cpu_of}
 use Rattle.rmm_spec.proofs.Places.{IsEvent-slice_get}

@@ -1,4 +1,4 @@
-use Rattle.machine_cells.specs.Whole.{whole_of, state_in, count_of}
+use Rattle.machine_cells.specs.Whole.{whole_of, state_in, config_of}
 use Rattle.machine_cells.proofs.SideTold.{has_rec-counted}
 use Rattle.machine_cells.proofs.granules.Granules.has_rec.Goals as goal
 
@@ -7,4 +7,4 @@ unfolding state_in
 returns c =
     let g = c.args.self.now in
     let w = whole_of g in
-    rw (c.rec_count.ensures, c.new.ensures) (has_rec-counted (count_of g) w.side w.places w.cells c.requires c.args.rd)
+    rw (c.rec_count.ensures, c.new.ensures) (has_rec-counted (config_of g) w.side w.places w.cells c.requires c.args.rd)

@@ -1,6 +1,6 @@
 use Rattle.std.proofs.Common.{sym}
 use Rattle.world_laws.proofs.Placed.{is_inside-outside, is_inside-inside}
-use Rattle.machine_cells.specs.Whole.{whole_of, state_in, count_of}
+use Rattle.machine_cells.specs.Whole.{whole_of, state_in, config_of}
 use Rattle.machine_cells.proofs.SideTold.{rec_inside-place}
 use Rattle.machine_cells.proofs.granules.Granules.rec_inside.Goals as goal
 
@@ -9,18 +9,18 @@ unfolding state_in
 returns-in-Inside-clause-is c =
     let g = c.args.self.now in
     let w = whole_of g in
-    sym (is_inside-inside (count_of g) w.side w.places w.cells c.requires c.args.cpu _ _ (sym c.in-Inside.ensures))
+    sym (is_inside-inside (config_of g) w.side w.places w.cells c.requires c.args.cpu _ _ (sym c.in-Inside.ensures))
 
 pub returns-in-Inside-clause-at : goal.returns-in-Inside-clause-at
 unfolding state_in
 returns-in-Inside-clause-at c =
     let g = c.args.self.now in
     let w = whole_of g in
-    rec_inside-place (count_of g) w.side w.places w.cells c.requires c.args.cpu _ _ (sym c.in-Inside.ensures)
+    rec_inside-place (config_of g) w.side w.places w.cells c.requires c.args.cpu _ _ (sym c.in-Inside.ensures)
 
 pub returns-in-Outside-clause-is : goal.returns-in-Outside-clause-is
 unfolding state_in
 returns-in-Outside-clause-is c =
     let g = c.args.self.now in
     let w = whole_of g in
-    sym (is_inside-outside (count_of g) w.side w.places w.cells c.requires c.args.cpu (sym c.in-Outside.ensures))
+    sym (is_inside-outside (config_of g) w.side w.places w.cells c.requires c.args.cpu (sym c.in-Outside.ensures))

@@ -22,11 +22,11 @@ drain_rest-requires-clause-passes g c cpu pass at =
 
 pub returns-then-not-is_listed_by-clause-cause : goal.returns-then-not-is_listed_by-clause-cause
 returns-then-not-is_listed_by-clause-cause g c disagrees =
-    let granules = sym (ap (λ (x : Config). x.granules) c.config-size.ensures.config) ∙ c.config-size.ensures.granules
-    ∙ sym c.self.invariant.1 ∙ ap (λ (m : MonitorView). m.config.granules) c.self.view_is in
+    let same = sym c.config-size.ensures.config ∙ c.config-size.ensures.site
+    ∙ sym c.self.invariant.1 ∙ ap (λ (m : MonitorView). m.config) c.self.view_is in
     let counted = ap (λ (j : JournalView). length j.entries) c.audit.ensures.journal ∙ c.audit.ensures.counted
     ∙ ap (sum_by (λ (token : TokenView). length token.mine)) c.as_mut_slice-tokens.ensures.value in
-    disagree c.args.self.config c.audit.new.self _ granules c.books-books.ensures c.args.tokens.items c.audit.new.tokens
+    disagree c.args.self.config c.audit.new.self _ same c.books-books.ensures c.args.tokens.items c.audit.new.tokens
     (c.audit.ensures.tokens ∙ c.as_mut_slice-tokens.ensures.value) c.is_listed_by.result c.is_listed_by.ensures counted c.if-not-is_listed_by.true
 
 pub certificate_of-requires-clause-few : goal.certificate_of-requires-clause-few
@@ -45,12 +45,12 @@ certificate_of-requires-clause-few g c =
 
 pub certificate_of-requires-clause-cpus : goal.certificate_of-requires-clause-cpus
 certificate_of-requires-clause-cpus g c =
-    let granules = sym (ap (λ (x : Config). x.granules) c.config-size.ensures.config) ∙ c.config-size.ensures.granules
-    ∙ sym c.self.invariant.1 ∙ ap (λ (m : MonitorView). m.config.granules) c.self.view_is in
+    let same = sym c.config-size.ensures.config ∙ c.config-size.ensures.site
+    ∙ sym c.self.invariant.1 ∙ ap (λ (m : MonitorView). m.config) c.self.view_is in
     let most : length c.args.tokens.items ≤ 8 = omega (arith, c.requires.cpus.count, c.cpus-cpus.ensures.limits.most_cpus, ap (λ (m : MonitorView). m.config.cpus) c.self.view_is) in
     subst (AllByRecursion (λ (entry : JournalEntry). entry.cpu < 8)) (sym c.into_entries.ensures)
     (listed-below c.args.tokens.items c.audit.new.self.entries 8 most
-    (listed c.args.self.config c.audit.new.self _ granules c.books-books.ensures c.args.tokens.items c.audit.new.tokens
+    (listed c.args.self.config c.audit.new.self _ same c.books-books.ensures c.args.tokens.items c.audit.new.tokens
     (c.audit.ensures.tokens ∙ c.as_mut_slice-tokens.ensures.value) c.is_listed_by.result c.is_listed_by.ensures c.if-not-is_listed_by.false))
 
 pub returns-clause-whole : goal.returns-clause-whole
@@ -59,9 +59,9 @@ returns-clause-whole g c cpu pass at =
 
 pub returns-clause-certificate : goal.returns-clause-certificate
 returns-clause-certificate g c =
-    let granules = sym (ap (λ (x : Config). x.granules) c.config-size.ensures.config) ∙ c.config-size.ensures.granules
-    ∙ sym c.self.invariant.1 ∙ ap (λ (m : MonitorView). m.config.granules) c.self.view_is in
-    closed c.args.self.config c.audit.new.self _ granules c.books-books.ensures c.args.tokens.items c.audit.new.tokens
+    let same = sym c.config-size.ensures.config ∙ c.config-size.ensures.site
+    ∙ sym c.self.invariant.1 ∙ ap (λ (m : MonitorView). m.config) c.self.view_is in
+    closed c.args.self.config c.audit.new.self _ same c.books-books.ensures c.args.tokens.items c.audit.new.tokens
     (c.audit.ensures.tokens ∙ c.as_mut_slice-tokens.ensures.value) c.is_listed_by.result c.is_listed_by.ensures c.drain_rest.new.history.recorded.events
     (map entry_of c.into_entries.result.items) _ c.if-not-is_listed_by.false c.into_entries.ensures c.in_ok-certificate.ensures.written
 

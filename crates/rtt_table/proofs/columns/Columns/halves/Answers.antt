@@ -1,17 +1,15 @@
-use Rattle.std.proofs.Common.{◌≡◌, ◌++◌, length, replicate, refl}
+use Rattle.std.proofs.Common.{◌++◌, replicate, refl}
 use Rattle.rtt_table.proofs.Joined.{joined_is, columns_held, columns-written}
 use Rattle.rtt_table.proofs.columns.Columns.halves.Goals as goal
 
 pub invariant_of-result : goal.invariant_of-result
 invariant_of-result c =
     columns_held (replicate 256 c.args.lower ++ replicate 256 c.args.upper) _ _ refl
-    (columns-written c.args.lower c.args.upper c.kind_of.result c.kind_of-kinds.result c.entry_address.result c.entry_address-addresses.result
-    c.fill-2.new.self c.fill.new.self
-    c.kind_of.ensures c.kind_of-kinds.ensures c.entry_address.ensures c.entry_address-addresses.ensures (c.fill-2.ensures.after (λ y same. same)) (c.fill.ensures.after (λ y same. same)))
+    (columns-written c.args.lower c.args.upper c.kind_of.result c.kind_of-2.result c.entry_address.result c.entry_address-2.result _ _
+    c.kind_of.ensures c.kind_of-2.ensures c.entry_address.ensures c.entry_address-2.ensures c.in_ok-kinds.ensures c.in_ok-addresses.ensures)
 
 pub returns : goal.returns
 returns c =
     joined_is (replicate 256 c.args.lower ++ replicate 256 c.args.upper) _ _
-    (columns-written c.args.lower c.args.upper c.kind_of.result c.kind_of-kinds.result c.entry_address.result c.entry_address-addresses.result
-    c.fill-2.new.self c.fill.new.self
-    c.kind_of.ensures c.kind_of-kinds.ensures c.entry_address.ensures c.entry_address-addresses.ensures (c.fill-2.ensures.after (λ y same. same)) (c.fill.ensures.after (λ y same. same)))
+    (columns-written c.args.lower c.args.upper c.kind_of.result c.kind_of-2.result c.entry_address.result c.entry_address-2.result _ _
+    c.kind_of.ensures c.kind_of-2.ensures c.entry_address.ensures c.entry_address-2.ensures c.in_ok-kinds.ensures c.in_ok-addresses.ensures)

@@ -8,4 +8,4 @@ use Rattle.rtt_table.proofs.table.Table.has_link.Goals as goal
 pub returns : goal.returns
 returns c =
     ap (λ n. nat_lt 0 n) c.self.invariant.of_links
-    ∙ (count-any is_table c.self.inside.columns.value ∙ ap (λ (t : TableRecord). list_any is_table t.entries) c.self.view_is)
+    ∙ (count-any is_table c.self.inside.columns ∙ ap (λ (t : TableRecord). list_any is_table t.entries) c.self.view_is)

@@ -8,4 +8,4 @@ use Rattle.rtt_table.proofs.table.Table.is_live.Goals as goal
 pub returns : goal.returns
 returns c =
     ap (λ n. nat_lt 0 n) c.self.invariant.of_live
-    ∙ (count-any is_live c.self.inside.columns.value ∙ ap (λ (t : TableRecord). list_any is_live t.entries) c.self.view_is)
+    ∙ (count-any is_live c.self.inside.columns ∙ ap (λ (t : TableRecord). list_any is_live t.entries) c.self.view_is)

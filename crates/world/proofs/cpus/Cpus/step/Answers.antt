@@ -26,7 +26,7 @@ pub step_on-replied-requires : goal.step_on-replied-requires
 step_on-replied-requires c =
     let held = c.lend-lent.ensures.lent ∙ ap (cells_at (cells_of c.args.cells.now)) c.taken.ensures.taken in
     record {
-      settled = (λ i. is_settled c.args.config.now.granules (call_of c.args.command.now) (c.place.ensures i) (held i)) ∙ c.requires.settled;
+      settled = (λ i. is_settled c.args.config.now (call_of c.args.command.now) (c.place.ensures i) (held i)) ∙ c.requires.settled;
     }
 
 pub give_back-requires : goal.give_back-requires
@@ -52,7 +52,7 @@ returns-clause-ok c =
     λ x apart. c.lend-lent.ensures.kept x (λ has. apart (subst (λ locks. Contains locks x) (sym same) has)) in
     record {
       held = held;
-      step = subst (λ (h : Hold). LocalStep c.args.config.now.granules c.args.cpu c.args.command.now c.in-Ok.reply h held) start c.in-Ok.ensures.ok;
+      step = subst (λ (h : Hold). LocalStep c.args.config.now c.args.cpu c.args.command.now c.in-Ok.reply h held) start c.in-Ok.ensures.ok;
       has_cells = c.give_back.ensures.cells ∙ put_all-lent (lent_cells lent) cells (cells_of c.lend-lent.new.cells) kept;
       has_side = refl;
       has_views = c.set_place.ensures.views;
@@ -71,4 +71,4 @@ returns-in_default-clause-only c =
     let start : hold_of (lent_cells c.lend-lent.result) side (place_of c.place.result.now)
     ≡ hold_of (cells_at cells ((views_of c.args.self.now).taken c.args.cpu)) side ((views_of c.args.self.now).place c.args.cpu) =
     λ i. hold_of ((c.lend-lent.ensures.lent ∙ ap (cells_at cells) c.taken.ensures.taken) i) side (c.place.ensures i) in
-    subst (λ (h : Hold). MakesTable c.args.config.now.granules c.args.cpu c.args.command.now h) start c.in_default.ensures.only
+    subst (λ (h : Hold). MakesTable c.args.config.now c.args.cpu c.args.command.now h) start c.in_default.ensures.only

@@ -33,7 +33,7 @@ unfolding world_of world_from
 step-requires-clause-settled c =
     let w = world_of c.args.self.now in
     let is_open = sym c.phase.ensures ∙ ap phase_in c.in-Deciding.is in
-    (λ i. is_settled ((ap (λ (config : Config). config.granules) c.config-config.ensures) i) (call_of (c.copied_command-command.ensures i)) (w.place c.args.cpu)
+    (λ i. is_settled (c.config-config.ensures i) (call_of (c.copied_command-command.ensures i)) (w.place c.args.cpu)
     (held_cells w c.args.cpu)) ∙ subst (RecordsIn w c.args.cpu) is_open (records-commit w c.args.cpu c.requires.ready)
 
 pub step-requires-clause-distinct : goal.step-requires-clause-distinct
@@ -75,7 +75,7 @@ returns-in_default-step-clause-only_short c =
     let s = c.args.self.now in
     let w = world_of s in
     let is_open = sym c.phase.ensures ∙ ap phase_in c.in-Deciding.is ∙ (λ i. Deciding c.in-Deciding.number (sym c.copied_command-command.ensures i) c.in-Deciding.learnt) in
-    let makes = subst (λ (config : Config). MakesTable config.granules c.args.cpu c.copied_command-command.result (hold_of w c.args.cpu)) c.config-config.ensures
+    let makes = subst (λ (config : Config). MakesTable config c.args.cpu c.copied_command-command.result (hold_of w c.args.cpu)) c.config-config.ensures
     c.in_default-step.ensures.only in
     subst (IsShortIn (event_room s) (commit_room s) w c.args.cpu) (sym is_open)
     (inr (accepts-reached s.history.recorded.config w (views_of s.cpus).waits c.args.cpu c.copied_command-command.result s.kept.reached makes))

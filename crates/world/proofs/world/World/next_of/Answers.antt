@@ -61,9 +61,9 @@ pub returns-clause-next : goal.returns-clause-next
 unfolding world_of world_from
 returns-clause-next c =
     let s = c.args.self.now in
-    next-planned (world_of s) c.args.cpu c.next_lock-next.result c.config-config.result.granules (place_of c.place.result.now)
+    next-planned (world_of s) c.args.cpu c.next_lock-next.result c.config-config.result (place_of c.place.result.now)
     (lent_cells c.lend-lent.result) c.in-Deciding.number c.in-Deciding.command c.in-Deciding.learnt
-    (sym c.phase.ensures ∙ ap phase_in c.in-Deciding.is) (ap (λ (x : Config). x.granules) c.config-config.ensures) c.place.ensures
+    (sym c.phase.ensures ∙ ap phase_in c.in-Deciding.is) c.config-config.ensures c.place.ensures
     (c.lend-lent.ensures.lent ∙ ap (cells_at (cells_of s.cells)) c.taken.ensures.taken) c.next_lock-next.ensures.exact c.next_lock-next.ensures.planned c.next_lock-next.ensures.settled
 
 pub returns-clause-events : goal.returns-clause-events

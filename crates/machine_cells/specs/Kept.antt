@@ -1,0 +1,16 @@
+-- A state that is kept to be compared with.
+use Rattle.std.specs.Prelude.{List, flat_map, map}
+use Rattle.std.specs.Rc.{rc_value}
+use Rattle.rmm_spec.specs.Flat.{flat_state}
+use Rattle.rmm_spec.specs.State.{State}
+use Rattle.granule_cells.specs.declared.cell.Cell.{Cell}
+use Rattle.machine_cells.specs.Whole as whole
+use Rattle.machine_cells.specs.declared.keeping.Block.{Block}
+use Rattle.machine_cells.specs.declared.keeping.KeptState.{KeptState}
+
+-- what lies in the granules of a block
+abbrev pub cells_in : Block → List Cell
+cells_in block = map rc_value block.cells.items
+
+unfoldable pub kept_state : KeptState → State
+kept_state kept = flat_state kept.config (whole.cells_in kept.config.granules (flat_map (λ block. cells_in (rc_value block)) kept.blocks.items))

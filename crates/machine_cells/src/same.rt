@@ -1,0 +1,188 @@
+//! Whether two cells are the same.
+
+ghost use Rattle.std.specs.Prelude.{◌≡◌, IsTrue};
+
+use granule_cells::Cell;
+use granule_state::Config;
+use measure::Rem;
+use realm_desc::{HashAlgorithm, PendingExit, Realm, Rec, RipasRequest, Space};
+use rmm_spec::{Measurement, Place, Version};
+use rtt_table::Table;
+
+/// How many entries a table has.
+pub(crate) const ENTRIES: usize = 512;
+
+/// Whether two machines have the same size and rules.
+pub(crate) fn same_config(one: &Config, other: &Config) -> bool
+    ensures { IsTrue result → one.now ≡ other.now }
+{
+    one.granules() == other.granules()
+        && one.cpus() == other.cpus()
+        && same_version(one.version(), other.version())
+}
+
+fn same_version(one: Version, other: Version) -> bool
+    ensures { IsTrue result → one ≡ other }
+{
+    match one {
+        Version::One => matches!(other, Version::One),
+        Version::Two => matches!(other, Version::Two),
+    }
+}
+
+/// Whether the same lies in two granules.
+pub(crate) fn same_cell(one: &Cell, other: &Cell) -> bool
+    ensures { IsTrue result → one.now ≡ other.now }
+{
+    match one {
+        Cell::Undelegated => matches!(other, Cell::Undelegated),
+        Cell::Delegated => matches!(other, Cell::Delegated),
+        Cell::RecAux => matches!(other, Cell::RecAux),
+        Cell::Data => matches!(other, Cell::Data),
+        Cell::Rd(realm) => match other {
+            Cell::Rd(second) => same_realm(realm, second),
+            _ => false,
+        },
+        Cell::Rec(rec) => match other {
+            Cell::Rec(second) => same_rec(rec, second),
+            _ => false,
+        },
+        Cell::Rtt(table) => match other {
+            Cell::Rtt(second) => same_table(table, second),
+            _ => false,
+        },
+    }
+}
+
+#[tactic(auto, unfolding(realm_desc::specs::View::realm_record))]
+fn same_realm(one: &Realm, other: &Realm) -> bool
+    ensures { IsTrue result → one.now ≡ other.now }
+{
+    one.state == other.state
+        && same_space(one.space, other.space)
+        && one.vmid == other.vmid
+        && same_algorithm(one.algorithm, other.algorithm)
+        && one.root == other.root
+        && one.next_index == other.next_index
+        && same_measurement(one.rim.measurement(), other.rim.measurement())
+        && have_same_rems(&one.rems, &other.rems)
+}
+
+fn have_same_rems(one: &[Rem], other: &[Rem]) -> bool
+    ensures { IsTrue result → one.now ≡ other.now }
+{
+    if one.len() != other.len() {
+        return false;
+    }
+    for index in 0..one.len() {
+        if !same_rem(&one[index], &other[index]) {
+            return false;
+        }
+    }
+    true
+}
+
+fn same_rem(one: &Rem, other: &Rem) -> bool
+    ensures { IsTrue result → one.now ≡ other.now }
+{
+    same_measurement(one.measurement(), other.measurement())
+}
+
+fn same_measurement(one: &Measurement, other: &Measurement) -> bool
+    ensures { IsTrue result → one.now ≡ other.now }
+{
+    match one {
+        Measurement::Sha256(bytes) => match other {
+            Measurement::Sha256(second) => bytes == second,
+            Measurement::Sha512(_) => false,
+        },
+        Measurement::Sha512(bytes) => match other {
+            Measurement::Sha512(second) => bytes == second,
+            Measurement::Sha256(_) => false,
+        },
+    }
+}
+
+fn same_algorithm(one: HashAlgorithm, other: HashAlgorithm) -> bool
+    ensures { IsTrue result → one ≡ other }
+{
+    match one {
+        HashAlgorithm::Sha256 => matches!(other, HashAlgorithm::Sha256),
+        HashAlgorithm::Sha512 => matches!(other, HashAlgorithm::Sha512),
+    }
+}
+
+fn same_space(one: Space, other: Space) -> bool
+    ensures { IsTrue result → one ≡ other }
+{
+    match one {
+        Space::Bits39 => matches!(other, Space::Bits39),
+        Space::Bits48 => matches!(other, Space::Bits48),
+    }
+}
+
+#[tactic(auto, unfolding(realm_desc::specs::View::rec_record))]
+fn same_rec(one: &Rec, other: &Rec) -> bool
+    ensures { IsTrue result → one.now ≡ other.now }
+{
+    one.owner == other.owner
+        && one.index == other.index
+        && one.aux0 == other.aux0
+        && one.aux1 == other.aux1
+        && one.runnable == other.runnable
+        && one.cpu == other.cpu
+        && same_request(one.request, other.request)
+        && same_exit(one.pending, other.pending)
+}
+
+fn same_request(one: Option<RipasRequest>, other: Option<RipasRequest>) -> bool
+    ensures { IsTrue result → one ≡ other }
+{
+    match (one, other) {
+        (None, None) => true,
+        (Some(one), Some(other)) => {
+            one.base == other.base && one.top == other.top && one.ripas == other.ripas
+        }
+        _ => false,
+    }
+}
+
+fn same_exit(one: Option<PendingExit>, other: Option<PendingExit>) -> bool
+    ensures { IsTrue result → one ≡ other }
+{
+    match (one, other) {
+        (None, None) => true,
+        (Some(PendingExit::Psci(one)), Some(PendingExit::Psci(other))) => one == other,
+        (Some(PendingExit::RipasChange), Some(PendingExit::RipasChange)) => true,
+        (Some(PendingExit::HostCall(one)), Some(PendingExit::HostCall(other))) => one == other,
+        _ => false,
+    }
+}
+
+fn same_table(one: &Table, other: &Table) -> bool
+    ensures { IsTrue result → one.now ≡ other.now }
+{
+    same_place(one.place(), other.place()) && have_same_entries(one, other)
+}
+
+fn same_place(one: Place, other: Place) -> bool
+    ensures { IsTrue result → one ≡ other }
+{
+    one.rd == other.rd
+        && one.level == other.level
+        && one.base == other.base
+        && one.width == other.width
+}
+
+fn have_same_entries(one: &Table, other: &Table) -> bool
+    ensures { IsTrue result → one.now.entries ≡ other.now.entries }
+{
+    one.is_whole();
+    other.is_whole();
+    for index in 0..ENTRIES {
+        if one.entry(index) != other.entry(index) {
+            return false;
+        }
+    }
+    true
+}

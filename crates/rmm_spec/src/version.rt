@@ -1,0 +1,8 @@
+//! The versions of the rules.
+
+/// The rules that a machine goes by. Version 1 measures each realm by SHA-256; version 2 also has SHA-512.
+#[derive(Clone, Copy)]
+pub enum Version {
+    One,
+    Two,
+}

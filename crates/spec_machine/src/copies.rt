@@ -1,0 +1,53 @@
+//! Machines once more, and states that are kept to be compared with.
+
+use crate::machine::Machine;
+use crate::owners::Owners;
+use machine_cells::KeptState;
+use std::alloc::{AllocError, Global};
+
+#[tactic(auto, unfolding(crate::specs::View::state_of))]
+impl Machine {
+    ghost use Rattle.std.specs.Prelude.{◌≡◌, IfOk, IsTrue};
+    ghost use Rattle.machine_cells.specs.Kept.{kept_state};
+    ghost use Rattle.spec_machine.specs.View.{state_of};
+
+    /// A machine in the same state, to which no offer was made yet.
+    pub fn copy(&self, alloc: Global) -> Result<Machine, AllocError>
+        ensures { IfOk result (λ machine. state_of machine ≡ state_of self.now) }
+    {
+        let granules = self.granules.copy()?;
+        let owners = self.owners.copy(alloc)?;
+        Ok(Machine {
+            granules,
+            owners,
+            offers: 0,
+        })
+    }
+
+    /// Keeps the state, and shares with another one that was kept what is the same there.
+    pub fn keep(&self, near: Option<&KeptState>) -> Result<KeptState, AllocError>
+        ensures { IfOk result (λ kept. kept_state kept ≡ state_of self.now) }
+    {
+        self.granules.keep(near)
+    }
+
+    /// Whether the state is the one that was kept.
+    pub fn is_at(&self, kept: &KeptState) -> bool
+        ensures { IsTrue result → kept_state kept.now ≡ state_of self.now }
+    {
+        self.granules.is_at(kept)
+    }
+}
+
+impl Owners {
+    ghost use Rattle.std.specs.Prelude.{◌≡◌, IfOk};
+
+    /// The same once more.
+    pub(crate) fn copy(&self, alloc: Global) -> Result<Owners, AllocError>
+        ensures { IfOk result (λ owners. owners.realms.items ≡ self.now.realms.items) }
+    {
+        let mut realms = vec![in alloc; None; self.realms.len()]?;
+        realms.copy_from_slice(self.realms.as_slice());
+        Ok(Owners { realms })
+    }
+}
