@@ -10,8 +10,9 @@ use Rattle.rmm_spec.specs.declared.change.RealmChange.{RealmChange}
 use Rattle.rmm_spec.specs.declared.change.RecChange.{RecChange}
 use Rattle.rmm_spec.specs.declared.change.TagChange.{TagChange}
 use Rattle.rmm_spec.specs.declared.entry.Entry.{Entry}
+use Rattle.rmm_spec.specs.State.{RealmRecord}
 use Rattle.rmm_spec.specs.Table.{TableRecord}
-use Rattle.rmm_spec.specs.Cell.{Cell, Undelegated, Rtt, table_in}
+use Rattle.rmm_spec.specs.Cell.{Cell, Undelegated, Rd, Rtt, table_in}
 use Rattle.rmm_spec.specs.Local.{HeldCell}
 use Rattle.world_laws.specs.Replaced.{held_at, replaced_cells, replaced_all}
 use Rattle.shape_laws.specs.Whole.{cell_with_entries, table_changed}
@@ -65,9 +66,56 @@ replaced_all-last (x ∷ xs) held other g c same =
         replaced_cells-swap held g x.granule d x.cell apart
         ∙ (ap (λ now. replaced_cells now x.granule x.cell) (same d) ∙ sym (replaced_cells-swap other g x.granule d x.cell apart))
 
-replaced_all-append : (xs ys held : List HeldCell) → replaced_all held (xs ++ ys) ≡ replaced_all (replaced_all held xs) ys
+pub replaced_all-append : (xs ys held : List HeldCell) → replaced_all held (xs ++ ys) ≡ replaced_all (replaced_all held xs) ys
 replaced_all-append [] ys held = refl
 replaced_all-append (x ∷ xs) ys held = replaced_all-append xs ys (replaced_cells held x.granule x.cell)
+
+-- what is put back last at a granule was never missed
+pub put-back : (held front : List HeldCell) (g : ℕ) (a c : Cell)
+    → replaced_cells (replaced_all (replaced_cells held g a) front) g c ≡ replaced_cells (replaced_all held front) g c
+put-back held front g a c = replaced_all-last front (replaced_cells held g a) held g c (λ d. replaced_cells-twice held g a d)
+
+-- the same in one list
+pub put-last : (held xs : List HeldCell) (g : ℕ) (a c : Cell)
+    → replaced_all (replaced_cells held g a) (xs ++ held_at g c ∷ []) ≡ replaced_all held (xs ++ held_at g c ∷ [])
+put-last held xs g a c =
+    replaced_all-append xs (held_at g c ∷ []) (replaced_cells held g a)
+    ∙ (put-back held xs g a c ∙ sym (replaced_all-append xs (held_at g c ∷ []) held))
+
+-- ---- realms
+
+-- another granule's cell stays
+cell_in-other : (held : List HeldCell) (rd g : ℕ) (c : Cell) → (rd == g) ≡ false → cell_in g (replaced_cells held rd c) ≡ cell_in g held
+cell_in-other [] rd g c apart = refl
+cell_in-other (h ∷ held) rd g c apart = by (h.granule == g) (h.granule == rd) refl refl (cell_in-other held rd g c apart)
+  where
+    by : (a b : Bool) → (h.granule == g) ≡ a → (h.granule == rd) ≡ b → cell_in g (replaced_cells held rd c) ≡ cell_in g held
+        → (if a then Some (if b then c else h.cell) else cell_in g (replaced_cells held rd c)) ≡ (if a then Some h.cell else cell_in g held)
+    by true true first second rest = absurd (false≢true (sym apart ∙ eq-eqb rd g (sym (eqb-true h.granule rd second) ∙ eqb-true h.granule g first)))
+    by true false first second rest = refl
+    by false b first second rest = rest
+
+-- a granule has no table where its realm lies, and none where that is taken out
+table-taken : (held : List HeldCell) (rd : ℕ) (realm : RealmRecord) → known_cell held rd ≡ Rd realm
+    → table_held (replaced_cells held rd Undelegated) rd ≡ table_held held rd
+table-taken [] rd realm is = refl
+table-taken (h ∷ held) rd realm is = by (h.granule == rd) is (λ below. table-taken held rd realm below)
+  where
+    by : (b : Bool) → unwrap_or (if b then Some h.cell else cell_in rd held) Undelegated ≡ Rd realm
+        → (known_cell held rd ≡ Rd realm → table_held (replaced_cells held rd Undelegated) rd ≡ table_held held rd)
+        → option_and_then table_in (if b then Some (if b then Undelegated else h.cell) else cell_in rd (replaced_cells held rd Undelegated))
+        ≡ option_and_then table_in (if b then Some h.cell else cell_in rd held)
+    by true here rest = sym (ap table_in here)
+    by false here rest = rest here
+
+-- where a realm is taken out, the tables that are held are those that were
+pub tables-taken : (held : List HeldCell) (rd g : ℕ) (realm : RealmRecord) → known_cell held rd ≡ Rd realm
+    → table_held (replaced_cells held rd Undelegated) g ≡ table_held held g
+tables-taken held rd g realm is = by (rd == g) refl
+  where
+    by : (b : Bool) → (rd == g) ≡ b → table_held (replaced_cells held rd Undelegated) g ≡ table_held held g
+    by true same = subst (λ x. table_held (replaced_cells held rd Undelegated) x ≡ table_held held x) (eqb-true rd g same) (table-taken held rd realm is)
+    by false apart = ap (option_and_then table_in) (cell_in-other held rd g Undelegated apart)
 
 -- ---- tables
 

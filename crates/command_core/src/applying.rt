@@ -80,8 +80,8 @@ fn change_side<H: Held>(held: &H, side: &mut Side, change: &Change)
     match *change {
         Change::RealmMade { rd, vmid, .. } => side.set_vmid(vmid, Some(Pa::new(rd))),
         Change::RealmDestroyed { rd, .. } => {
-            if let Some(Cell::Rd(realm)) = held.cell(Pa::new(rd)) {
-                side.set_vmid(realm.vmid, None);
+            if let Some(Cell::Rd(descriptor)) = held.cell(Pa::new(rd)) {
+                side.set_vmid(descriptor.realm().vmid, None);
             }
         }
         Change::RecMade { rd, .. } => side.count_rec(Pa::new(rd)),

@@ -54,7 +54,7 @@ impl<'a, H: Held> HeldSight<'a, H> {
         ensures { result ≡ whole.realm_in (spec.cell_or (cell_in granule (H.cells self.now.held.now)) (spec.realm_behind (H.cells self.now.held.now) granule)) }
     {
         match self.held.cell(Pa::new(granule)) {
-            Some(Cell::Rd(realm)) => Some(*realm),
+            Some(Cell::Rd(descriptor)) => Some(*descriptor.realm()),
             Some(_) => None,
             None => self.realm_behind(granule),
         }

@@ -32,7 +32,7 @@ mod ways;
 pub use applying::apply;
 pub use change_room::Room;
 pub use deciding::decide;
-pub use granule_cells::{Cell, CpuPlace, Side};
+pub use granule_cells::{Cell, CpuPlace, Descriptor, Side};
 pub use held::Held;
 pub use laws::{
     answers_are_local, applied_decisions_are_local, settled_commands_are_ready, tested_takes_rise,

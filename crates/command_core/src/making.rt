@@ -37,7 +37,7 @@ fn counts_in(mpidr: u8, cell: Option<&Cell>) -> bool
     ensures { result ≡ spec.counts_in mpidr (unwrap_or (option_map cell_of (option_copied cell.entry)) whole.Undelegated) }
 {
     match cell {
-        Some(Cell::Rd(realm)) => realm.takes_index(u64::from(mpidr)),
+        Some(Cell::Rd(descriptor)) => descriptor.realm().takes_index(u64::from(mpidr)),
         _ => false,
     }
 }

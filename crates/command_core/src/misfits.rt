@@ -110,7 +110,8 @@ impl<'a, H: Held> HeldSight<'a, H> {
         ensures { result ≡ spec.is_misfit_root self.now.config.now (H.cells self.now.held.now) rd (cell_in rd (H.cells self.now.held.now)) }
     {
         match self.held.cell(Pa::new(rd)) {
-            Some(Cell::Rd(realm)) => {
+            Some(Cell::Rd(descriptor)) => {
+                let realm = descriptor.realm();
                 let level = u64::from(realm.space.start_level());
                 !is_granule(self.config, realm.root.address())
                     || is_other_table(

@@ -106,7 +106,14 @@ fn take_root<H: Held>(config: &Config, names: &[Name], held: &H, rd: Pa) -> Next
     ensures { result ≡ spec.take_root config.now names.now (H.cells held.now) rd (cell_in rd (H.cells held.now)) }
 {
     match held.cell(rd) {
-        Some(Cell::Rd(realm)) => take_part(config, names, held, rd, 0, realm.root),
+        Some(Cell::Rd(descriptor)) => take_part(
+            config,
+            names,
+            held,
+            rd,
+            0,
+            descriptor.realm().root,
+        ),
         _ => take_named(config, names, held, rd.address()),
     }
 }

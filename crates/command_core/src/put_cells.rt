@@ -13,11 +13,11 @@ ghost use Rattle.command_core.specs.Seen.{cell_of, is_held};
 use crate::change_room::Room;
 use crate::held::Held;
 use crate::held_tables::table_changed;
-use crate::new_cells::{page_after, put, put_new, realm_after, rec_after};
+use crate::new_cells::{page_after, put, put_new, rec_after, take_changed_realm, take_realm};
 use crate::put_tables::{destroy_table, make_table, put_entries, table_at};
-use granule_cells::Cell;
+use granule_cells::{Cell, Descriptor};
 use granule_state::Pa;
-use realm_desc::{Realm, Rec};
+use realm_desc::Rec;
 use rmm_spec::{Change, RealmChange, RecChange};
 use rtt_table::Table;
 
@@ -32,16 +32,9 @@ pub(crate) fn put_cells<H: Held>(held: &mut H, change: &Change, room: Room)
     match *change {
         Change::Unchanged => {}
         Change::Retagged(change) => put_new(held, page_after(Some(change))),
-        Change::RealmMade {
-            rd,
-            root,
-            width,
-            level,
-            vmid,
-            algo,
-        } => {
-            let realm = Realm::from_words(root, width, level, vmid, algo);
-            put_realm(held, rd, realm, root, table_of(room));
+        Change::RealmMade { rd, root, .. } => {
+            let (descriptor, table) = realm_of(room);
+            put_realm(held, rd, descriptor, root, table);
         }
         Change::RealmDestroyed { rd, root } => free_realm(held, rd, root),
         Change::RecMade {
@@ -52,9 +45,10 @@ pub(crate) fn put_cells<H: Held>(held: &mut H, change: &Change, room: Room)
             aux0,
             aux1,
         } => {
-            let realm = counted(held.cell(Pa::new(rd)), mpidr, flags);
+            let mut descriptor = take_realm(held, rd);
+            descriptor.count_rec(mpidr, flags);
             let made = Rec::new(Pa::new(rd), mpidr, flags, Pa::new(aux0), Pa::new(aux1));
-            put_rec(held, rec, made, realm);
+            put_rec(held, rec, made, descriptor);
         }
         Change::RecDestroyed { rec, aux0, aux1 } => free_rec(held, rec, aux0, aux1),
         Change::RecordsChanged { realm, rec } => put_records(held, realm, rec),
@@ -91,13 +85,28 @@ fn table_of(room: Room) -> Table
     requires { IsTrue (is_some room.table) }
     ensures { room.table ≡ Some result }
 {
-    let Some(table) = room.table else {
-        unreachable!()
-    };
+    let Room {
+        descriptor: _descriptor,
+        table,
+    } = room;
+    let Some(table) = table else { unreachable!() };
     table
 }
 
-fn put_realm<H: Held>(held: &mut H, rd: u64, realm: Realm, root: u64, table: Table)
+// The descriptor and the root that the room has.
+fn realm_of(room: Room) -> (Descriptor, Table)
+    requires descriptor { IsTrue (is_some room.descriptor) }
+    requires table { IsTrue (is_some room.table) }
+    ensures descriptor { room.descriptor ≡ Some result.0 }
+    ensures table { room.table ≡ Some result.1 }
+{
+    let (Some(descriptor), Some(table)) = (room.descriptor, room.table) else {
+        unreachable!()
+    };
+    (descriptor, table)
+}
+
+fn put_realm<H: Held>(held: &mut H, rd: u64, realm: Descriptor, root: u64, table: Table)
     requires rd { IsTrue (is_held rd (H.cells held.old)) }
     requires root { IsTrue (is_held root (H.cells held.old)) }
     ensures { H.cells held.new ≡ replaced_all (H.cells held.old) (held_at rd (whole.Rd realm) ∷ held_at root (whole.Rtt table) ∷ []) }
@@ -117,7 +126,7 @@ fn free_realm<H: Held>(held: &mut H, rd: u64, root: u64)
 
 // The REC is put in with its two others, and then its realm.
 #[tactic(auto, unfolding(realm_desc::specs::View::rec_record))]
-fn put_rec<H: Held>(held: &mut H, rec: u64, made: Rec, realm: Realm)
+fn put_rec<H: Held>(held: &mut H, rec: u64, made: Rec, realm: Descriptor)
     requires rec { IsTrue (is_held rec (H.cells held.old)) }
     requires aux0 { IsTrue (is_held made.aux0 (H.cells held.old)) }
     requires aux1 { IsTrue (is_held made.aux1 (H.cells held.old)) }
@@ -143,19 +152,6 @@ fn free_rec<H: Held>(held: &mut H, rec: u64, aux0: u64, aux1: u64)
     put(held, aux1, Cell::Delegated);
 }
 
-// The realm that is there, with one REC more counted and measured.
-fn counted(cell: Option<&Cell>, mpidr: u8, flags: u64) -> Realm
-    requires { IsTrue (counts_in mpidr (unwrap_or (option_map cell_of (option_copied cell)) whole.Undelegated)) }
-    ensures { whole.Rd result ≡ cell_with_realm (RecCounted mpidr flags) (unwrap_or (option_map cell_of (option_copied cell.entry)) whole.Undelegated) }
-{
-    let Some(Cell::Rd(realm)) = cell else {
-        unreachable!()
-    };
-    let mut realm = *realm;
-    realm.count_rec(mpidr, flags);
-    realm
-}
-
 // Updates a realm and a REC, each of which is read first.
 fn put_records<H: Held>(held: &mut H, realm: Option<RealmChange>, rec: Option<RecChange>)
     requires held { AreAllHeld (H.cells held.old) (realm_cells (H.cells held.old) realm ++ rec_cells (H.cells held.old) rec) }
@@ -163,8 +159,8 @@ fn put_records<H: Held>(held: &mut H, realm: Option<RealmChange>, rec: Option<Re
     requires rec { IsTrue (fits_rec_change (H.cells held.old) rec) }
     ensures { H.cells held.new ≡ replaced_all (H.cells held.old) (realm_cells (H.cells held.old) realm ++ rec_cells (H.cells held.old) rec) }
 {
-    let new_realm = realm_after(held, realm);
     let new_rec = rec_after(held, rec);
+    let new_realm = take_changed_realm(held, realm);
     put_new(held, new_realm);
     put_new(held, new_rec);
 }

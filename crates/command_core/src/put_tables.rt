@@ -16,7 +16,7 @@ ghost use Rattle.command_core.specs.Seen.{is_held, known_cell};
 use crate::held::Held;
 use crate::held_tables::{placed, table_in};
 use crate::misfits::table_size;
-use crate::new_cells::{page_after, put, put_new, realm_after, rec_after};
+use crate::new_cells::{page_after, put, put_new, rec_after, take_changed_realm};
 use granule_cells::Cell;
 use granule_state::Pa;
 use rmm_spec::{Entry, EntryChange, Place, RealmChange, RecChange, TagChange};
@@ -96,8 +96,8 @@ pub(crate) fn put_entries<H: Held>(
         ++ entry_cells (H.cells held.old) (spec_whole.entries_changed entries) (Some granule)))) }
 {
     let new_page = page_after(page);
-    let new_realm = realm_after(held, realm);
     let new_rec = rec_after(held, rec);
+    let new_realm = take_changed_realm(held, realm);
     let mut table = take_table(held, granule);
     change_entries(&mut table, entries);
     put_new(held, new_page);

@@ -1,12 +1,17 @@
 //! The memory that a change needs, taken before it.
 
-ghost use Rattle.std.specs.Prelude.{◌≡◌, IfOk, OnErr, IsSomeAnd, IsTrue, replicate};
+ghost use Rattle.std.specs.Prelude.{◌≡◌, IfOk, OnErr, IsSomeAnd, IsTrue, Some, ◌&&◌, replicate};
+ghost use Rattle.rmm_spec.specs.Change.{new_realm};
+ghost use Rattle.rmm_spec.specs.Lookup.{is_hash};
+ghost use Rattle.rmm_spec.specs.Step.Words as spec;
 ghost use Rattle.shape_laws.specs.Whole as whole;
 ghost use Rattle.command_core.specs.Rooms.{IsRoomFor, makes_table};
 ghost use Rattle.command_core.specs.Sides.{side_of};
 
 use crate::change_room::Room;
-use granule_cells::Side;
+use command_words::is_space;
+use granule_cells::{Descriptor, Side};
+use realm_desc::Realm;
 use rmm_spec::{Change, Entry, Place, Ripas};
 use rtt_table::Table;
 use std::alloc::{AllocError, Global};
@@ -24,12 +29,15 @@ pub fn room(alloc: Global, _side: &mut Side, change: &Change) -> Result<Room, Al
     match *change {
         Change::RealmMade {
             rd,
+            root,
             width,
             level,
-            ..
+            vmid,
+            algo,
         } => {
-            let root = root_table(alloc, rd, width, level)?;
-            Ok(Room { table: Some(root) })
+            let descriptor = descriptor(alloc, root, width, level, vmid, algo)?;
+            let table = Some(root_table(alloc, rd, width, level)?);
+            Ok(Room { descriptor, table })
         }
         Change::TableMade {
             rd,
@@ -37,7 +45,10 @@ pub fn room(alloc: Global, _side: &mut Side, change: &Change) -> Result<Room, Al
             entry,
             ..
         } => table_room(alloc, rd, level, entry),
-        _ => Ok(Room { table: None }),
+        _ => Ok(Room {
+            descriptor: None,
+            table: None,
+        }),
     }
 }
 
@@ -52,7 +63,28 @@ fn table_room(alloc: Global, rd: u64, level: u8, entry: Entry) -> Result<Room, A
         width: 0,
     };
     let table = Table::new(alloc, place, entry)?;
-    Ok(Room { table: Some(table) })
+    Ok(Room {
+        descriptor: None,
+        table: Some(table),
+    })
+}
+
+// The descriptor of a realm that is made, where the words make one.
+fn descriptor(
+    alloc: Global,
+    root: u64,
+    width: u8,
+    level: u8,
+    vmid: u8,
+    algo: u8,
+) -> Result<Option<Descriptor>, AllocError>
+    ensures { IfOk result (λ made. IsTrue (spec.is_space width level && is_hash algo) → made ≡ Some (new_realm root width level vmid algo)) }
+{
+    if is_space(u64::from(width), u64::from(level)) && (algo == 0 || algo == 1) {
+        let realm = Realm::from_words(root, width, level, vmid, algo);
+        return Ok(Some(Descriptor::new(alloc, realm)?));
+    }
+    Ok(None)
 }
 
 // The root of a realm that was just made: nothing was said of its lower half, and its upper half is the host's.

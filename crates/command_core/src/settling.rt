@@ -43,7 +43,7 @@ fn is_root_held<H: Held>(rd: Pa, held: &H) -> bool
     ensures { result ≡ spec.is_root_held (cell_in rd (H.cells held.now)) (H.cells held.now) }
 {
     match held.cell(rd) {
-        Some(Cell::Rd(realm)) => is_held(held, realm.root),
+        Some(Cell::Rd(descriptor)) => is_held(held, descriptor.realm().root),
         _ => false,
     }
 }

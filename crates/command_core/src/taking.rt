@@ -133,7 +133,7 @@ fn has_part(above: Option<&Cell>, index: usize, granule: u64) -> bool
     ensures { result ≡ spec.has_part (option_map cell_of (option_copied above.entry)) index granule }
 {
     match above {
-        Some(Cell::Rd(realm)) => realm.root.address() == granule,
+        Some(Cell::Rd(descriptor)) => descriptor.realm().root.address() == granule,
         Some(Cell::Rec(rec)) => rec.aux0.address() == granule || rec.aux1.address() == granule,
         Some(Cell::Rtt(table)) => leads_to(granule, table.entry(index)),
         _ => false,

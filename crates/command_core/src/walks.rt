@@ -179,10 +179,10 @@ impl<'a, H: Held> HeldSight<'a, H> {
         ensures within { IfSome result (λ part. part.index < 512) }
     {
         match self.held.cell(Pa::new(rd)) {
-            Some(Cell::Rd(realm)) => Some(Part {
+            Some(Cell::Rd(descriptor)) => Some(Part {
                 above: rd,
                 index: 0,
-                next: realm.root.address(),
+                next: descriptor.realm().root.address(),
             }),
             _ => None,
         }
@@ -209,8 +209,8 @@ impl<'a, H: Held> HeldSight<'a, H> {
         ensures { option_map way_seen result ≡ spec.way_inside call.now rec rd (H.cells self.now.held.now) }
     {
         match (call, self.held.cell(rec), self.held.cell(rd)) {
-            (Call::IpaStateGet { ipa }, Some(Cell::Rec(it)), Some(Cell::Rd(realm)))
-                if it.pending.is_none() && realm.protects(*ipa) => Some(Way {
+            (Call::IpaStateGet { ipa }, Some(Cell::Rec(it)), Some(Cell::Rd(descriptor)))
+                if it.pending.is_none() && descriptor.realm().protects(*ipa) => Some(Way {
                 rd: rd.address(),
                 ipa: *ipa,
                 max: 3,

@@ -2,7 +2,7 @@
 //! 9000 with its REC below it, and from 10000 on one with tables. Each line is a command and what its CPU does until it is ready.
 
 use crate::tables;
-use command_core::{Cell, CpuPlace, Held, Next, PlainHeld, next_lock};
+use command_core::{Cell, CpuPlace, Descriptor, Held, Next, PlainHeld, next_lock};
 use granule_state::{Config, Pa};
 use realm_desc::{HashAlgorithm, Realm, Rec, Space};
 use rmi_codec::read_command;
@@ -74,8 +74,9 @@ pub(crate) fn inside(rec: u64, rd: u64) -> CpuPlace {
     }
 }
 
-pub(crate) fn realm(root: u64, vmid: u8) -> Cell {
-    Cell::Rd(Realm::new(Pa::new(root), Space::Bits39, vmid, HashAlgorithm::Sha256))
+pub(crate) fn realm(alloc: Global, root: u64, vmid: u8) -> Result<Cell, AllocError> {
+    let realm = Realm::new(Pa::new(root), Space::Bits39, vmid, HashAlgorithm::Sha256);
+    Ok(Cell::Rd(Descriptor::new(alloc, realm)?))
 }
 
 pub(crate) fn rec(owner: u64, aux0: u64, aux1: u64) -> Cell {
@@ -95,13 +96,13 @@ fn root(alloc: Global, rd: u64) -> Result<Cell, AllocError> {
 // What lies in each granule.
 fn cell_at(alloc: Global, granule: Pa) -> Result<Cell, AllocError> {
     Ok(match granule.address() {
-        0x1000 => realm(0x2000, 1),
+        0x1000 => realm(alloc, 0x2000, 1)?,
         0x2000 => root(alloc, 0x1000)?,
         0x3000 => rec(0x1000, 0x4000, 0x5000),
         0x4000 | 0x5000 | 0x6000 | 0xa000 => Cell::RecAux,
         0x7000 => rec(0x9000, 0xa000, 0x6000),
         0x8000 => root(alloc, 0x9000)?,
-        0x9000 => realm(0x8000, 2),
+        0x9000 => realm(alloc, 0x8000, 2)?,
         0xb000 | 0xc000 | 0xd000 | 0xe000 => Cell::Delegated,
         0x1_0000.. => tables::cell_at(alloc, granule)?,
         _ => Cell::Undelegated,

@@ -111,7 +111,7 @@ pub(crate) fn cell_at(alloc: Global, granule: Pa) -> Result<Cell, AllocError> {
     let empty = Entry::Unassigned(Ripas::Empty);
     let page = Entry::Assigned(Ripas::Ram, 0x1_b000);
     Ok(match granule.address() {
-        0x1_5000 => realm(0x1_9000, 3),
+        0x1_5000 => realm(alloc, 0x1_9000, 3)?,
         0x1_9000 => {
             let links = [(0, Entry::Table(0x1_3000)), (256, Entry::Table(0x1_a000))];
             table(alloc, 1, 0, empty, &links)?

@@ -80,10 +80,10 @@ fn table(rd: u64, level: u8, base: u64, width: u8, alloc: Global) -> Result<Cell
 // What lies in a granule, with its address.
 fn named_cell(alloc: Global, name: &str) -> Result<(u64, Cell), Fail> {
     Ok(match name {
-        "realm" => (0x1000, realm(0x2000, 1)),
-        "realm_without_root" => (0x1000, realm(0x1_0000, 1)),
-        "realm_with_uneven_root" => (0x1000, realm(0x2001, 1)),
-        "realm_in_its_root" => (0x1000, realm(0x1000, 1)),
+        "realm" => (0x1000, realm(alloc, 0x2000, 1)?),
+        "realm_without_root" => (0x1000, realm(alloc, 0x1_0000, 1)?),
+        "realm_with_uneven_root" => (0x1000, realm(alloc, 0x2001, 1)?),
+        "realm_in_its_root" => (0x1000, realm(alloc, 0x1000, 1)?),
         "lent_realm" => (0x1000, Cell::Delegated),
         "lent_root" => (0x2000, Cell::Delegated),
         "aux_root" => (0x2000, Cell::RecAux),

@@ -1,5 +1,6 @@
 -- The lines of a call that can come next: its recorded reply, or what the specification answers.
 use Rattle.std.proofs.Common.{◌≡◌, ℕ, ◌+◌, ◌<◌, ◌≤◌, inl, inr, List, [], ◌∷◌, ◌++◌, Option, Some, None, Result, Ok, refl, sym, ap, subst, arith}
+use Rattle.std.specs.Global.{Box}
 use Rattle.std.specs.Option.{MatchOption}
 use Rattle.std.proofs.lemmas.Bool.{cases_lt}
 use Rattle.std.proofs.lemmas.Option.{none-some, same_Some}
@@ -21,6 +22,7 @@ use Rattle.rmm_spec.specs.Step.{Step, CarriesOut, outcome}
 use Rattle.rmm_spec.specs.Step.Ripas.{IsReached}
 use Rattle.rmm_spec.specs.Linearization.{IsFinished, IsReturned, IsEntryOf}
 use Rattle.rmm_spec.proofs.Places.{call_is_event}
+use Rattle.spec_machine.specs.declared.machine.Machine.{Machine}
 use Rattle.history.specs.Calls.{ArePlacesOf}
 use Rattle.checker.proofs.Calls.{same_command}
 use Rattle.checker.proofs.Judging.{HasOnePlaces-from_history}
@@ -33,6 +35,20 @@ use Rattle.finding.specs.Ends.{IsBelow, IsEnd}
 use Rattle.finding.specs.Tried.{CallLeadsNowhere}
 use Rattle.finding.specs.declared.choice.Choice.{Choice}
 use Rattle.finding.specs.declared.frame.Frame.{Frame}
+
+-- an attempt is one with a machine that is kept before it
+pub IsAttempt-marked : (history : History) (lines : List Line) (choice : Choice) (frame : Frame) (before : Option (Box Machine))
+    → IsAttempt history lines choice frame → IsAttempt history lines choice (record frame { before = before })
+IsAttempt-marked history lines choice frame before attempt = record {
+  is_line = attempt.is_line;
+  of_cpu = attempt.of_cpu;
+  numbered = attempt.numbered;
+  kind = attempt.kind;
+  left = λ nowhere. elim (attempt.left nowhere) [
+    | inl passed ↦ inl (record { from = passed.from; above = passed.above; nowhere = passed.nowhere })
+    | inr ended ↦ inr (record { from = ended.from; pending = ended.pending; nowhere = ended.nowhere })
+  ];
+}
 
 -- the places of a call that hasn't returned
 pub pending_at : (history : History) (choice : Choice) → ArePlacesOf history.events choice.cpu choice.number choice.places

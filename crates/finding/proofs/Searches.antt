@@ -1,7 +1,8 @@
 -- A search as it tries a line, grows by one and takes one back.
 use Rattle.std.proofs.Common.{◌≡◌, ◌≢◌, ℕ, zero, suc, ◌+◌, ◌-◌, ◌^◌, ◌<◌, ◌≤◌, inl, inr, List, [], ◌∷◌, ◌++◌, length, take, get_or, set, Option, Some, None, refl, sym, ◌∙◌, ap, subst, arith, get_or-set_same, get_or-set_other}
 use Rattle.std.specs.List.{slice_get, AllByRecursion}
-use Rattle.std.specs.Option.{IfSome}
+use Rattle.std.specs.Global.{Box}
+use Rattle.std.specs.Option.{IfSome, option_map}
 use Rattle.std.proofs.Math.Seq.{take-append_seam}
 use Rattle.std.proofs.lemmas.Bool.Decides.{eqb_tells}
 use Rattle.std.proofs.lemmas.List.{length-set, map-append, take-append-le}
@@ -158,6 +159,18 @@ few_of_frame history search is_search frames frame is =
     let last = last_frame history frames frame (subst (λ (fs : List Frame). AreFrames history fs) is is_search.frames) in
     few_cpus frame.line last.is_frame.is_line
 
+-- a machine that is kept before a line is where the lines before it lead
+marked_reached : (history : History) (lines : List Line) (state : State) → Reaches history lines state → (before : Option (Box Machine))
+    → IfSome before (λ (m : Box Machine). state_of m.value ≡ state) → IfSome before (λ (m : Box Machine). Reaches history lines (state_of m.value))
+marked_reached history lines state reached None marked = tt
+marked_reached history lines state reached (Some m) marked = subst (Reaches history lines) (sym marked) reached
+
+unboxed_reached : (history : History) (lines : List Line) (before : Option (Box Machine))
+    → IfSome before (λ (m : Box Machine). Reaches history lines (state_of m.value))
+    → IfSome (option_map (λ (m : Box Machine). m.value) before) (λ x. Reaches history lines (state_of x))
+unboxed_reached history lines None marked = tt
+unboxed_reached history lines (Some m) marked = marked
+
 module _ (history : History) (is_history : IsHistory history) (old new : Search) (is_search : IsSearch history old) where
   -- other things are left to try
   pub IsSearch-tried : new.frames.items ≡ old.frames.items → new.counts ≡ old.counts
@@ -180,13 +193,18 @@ module _ (history : History) (is_history : IsHistory history) (old new : Search)
       → (LeadsNowhere history (lines_of old.frames.items ++ frame.line ∷ []) → Tried history (lines_of old.frames.items) frame.from frame.above)
       → new.frames.items ≡ old.frames.items ++ frame ∷ [] → (cpu number : ℕ) → cpu_named frame.line ≡ cpu → number_named frame.line ≡ number → cpu < 8
       → new.counts ≡ set old.counts cpu (number + 1) → new.from ≡ 0 → new.above ≡ None → new.machine ≡ Some machine → state_of machine ≡ next
-      → new.kept ≡ old.kept → IsSearch history new
-  IsSearch-grown frame state next machine reached grows is_line resumes frames cpu number of_cpu numbered within counts from above held leads kept =
+      → new.kept ≡ old.kept → IfSome frame.before (λ (m : Box Machine). state_of m.value ≡ state) → IsSearch history new
+  IsSearch-grown frame state next machine reached grows is_line resumes frames cpu number of_cpu numbered within counts from above held leads kept marked =
       let lines = lines_of old.frames.items in
       let longer : lines_of new.frames.items ≡ lines ++ frame.line ∷ [] = ap lines_of frames ∙ lines_of-push old.frames.items frame in
       let further = Reaches-push history is_history lines state reached frame.line next grows in
       let stands : StandsAt history lines frame =
-      record { state = state; reached = reached; is_frame = record { is_line = is_line; next = grows.next; resumes = resumes } } in
+      record {
+        state = state;
+        reached = reached;
+        is_frame = record { is_line = is_line; next = grows.next; resumes = resumes };
+        marked = marked_reached history lines state reached frame.before marked;
+      } in
       let counted : number + 1 ≡ count_of cpu lines + 1 =
       ap (λ (n : ℕ). n + 1) (sym numbered ∙ grows.next.numbered ∙ ap (λ (c : ℕ). count_of c lines) of_cpu) in
       let are : AreCounts (set old.counts cpu (number + 1)) (lines ++ frame.line ∷ []) =
@@ -208,8 +226,8 @@ module _ (history : History) (is_history : IsHistory history) (old new : Search)
   -- the last line was taken back
   pub IsSearch-back : (frame : Frame) → old.frames.items ≡ new.frames.items ++ frame ∷ [] → LeadsNowhere history (lines_of old.frames.items)
       → new.counts ≡ set old.counts (cpu_named frame.line) (number_named frame.line) → new.from ≡ frame.from → new.above ≡ frame.above
-      → new.machine ≡ None → new.kept ≡ old.kept → IsSearch history new
-  IsSearch-back frame frames nowhere counts from above none kept =
+      → new.machine ≡ option_map (λ (m : Box Machine). m.value) frame.before → new.kept ≡ old.kept → IsSearch history new
+  IsSearch-back frame frames nowhere counts from above held kept =
       let lines = lines_of new.frames.items in
       let longer : lines_of old.frames.items ≡ lines ++ frame.line ∷ [] = ap lines_of frames ∙ lines_of-push new.frames.items frame in
       let were : AreFrames history (new.frames.items ++ frame ∷ []) = subst (λ (fs : List Frame). AreFrames history fs) frames is_search.frames in
@@ -222,7 +240,8 @@ module _ (history : History) (is_history : IsHistory history) (old new : Search)
         frames = AreFrames-pop history new.frames.items frame were;
         state = last.state;
         reached = last.reached;
-        machine = subst (λ (m : Option Machine). IfSome m (λ x. Reaches history lines (state_of x))) (sym none) tt;
+        machine = subst (λ (m : Option Machine). IfSome m (λ x. Reaches history lines (state_of x))) (sym held)
+            (unboxed_reached history lines frame.before last.marked);
         counts = subst (λ (cs : List ℕ). AreCounts cs lines) (sym counts) are;
         tried = subst (λ (f : ℕ). Tried history lines f new.above) (sym from)
             (subst (λ (a : Option ℕ). Tried history lines frame.from a) (sym above)
@@ -389,32 +408,35 @@ module _ (history : History) (is_history : IsHistory history) (search : Search) 
   -- a call that is refused here stands in the order
   pub IsSearch-settled : (next : IsNextCall history search.counts 0 choice) (bound : ℕ) → choice.places.called ≤ bound → IsRefusedHere history (state_of machine) choice
       → IsLeast history.events search.counts 0 history.config.cpus bound
+      → (before : Option (Box Machine)) → IfSome before (λ (m : Box Machine). state_of m.value ≡ state_of machine)
       → (count : ℕ) → IsLonger search.frames.items search.counts (Some machine) count search.kept choice
-      (record { line = Keep choice.cpu choice.number; from = 2 ^ 32 - 1; above = None }) new
+      (record { line = Keep choice.cpu choice.number; from = 2 ^ 32 - 1; above = None; before = before }) new
       → IsSearch history new
   unfolding Grows-refused
-  IsSearch-settled next bound early refused is_least count longer =
+  IsSearch-settled next bound early refused is_least before marked count longer =
       let lines = lines_of search.frames.items in
       let soon = ReturnBehind-called history is_history lines (state_of machine) reached search.counts is_search.counts bound is_least choice.places.called
       choice.cpu choice.number next.places.called.0 next.places.called.1 early in
       let grows = Grows-refused history is_history lines (state_of machine) search.counts choice is_search.counts next soon refused in
       let at = of_a_line history is_history choice next.places in
-      IsSearch-grown history is_history search new is_search (record { line = Keep choice.cpu choice.number; from = 2 ^ 32 - 1; above = None })
+      IsSearch-grown history is_history search new is_search (record { line = Keep choice.cpu choice.number; from = 2 ^ 32 - 1; above = None; before = before })
       (state_of machine) (state_of machine) machine reached grows at
       (λ nowhere. Tried-all history lines _ _ (nowhere_settled history is_history lines (state_of machine) reached choice.cpu choice.number grows refused.refusal nowhere))
-      longer.frames choice.cpu choice.number refl refl at.0 longer.counts longer.from longer.above longer.machine refl longer.kept
+      longer.frames choice.cpu choice.number refl refl at.0 longer.counts longer.from longer.above longer.machine refl longer.kept marked
 
   module _ (next : IsNextCall history search.counts search.from choice) (is_least : IsLeast history.events search.counts search.from history.config.cpus (rank_of choice)) (frame : Frame) (attempt : IsAttempt history (lines_of search.frames.items) choice frame) where
     -- a call that is given its reply stands in the order
     pub IsSearch-given : (later : Machine) → ReturnBehind history.events (lines_of search.frames.items) choice.places.called
         → IsGiven history.events frame.line choice.places.called (state_of machine) (state_of later)
+        → IfSome frame.before (λ (m : Box Machine). state_of m.value ≡ state_of machine)
         → (count : ℕ) → IsLonger search.frames.items search.counts (Some later) count search.kept choice frame new → IsSearch history new
-    IsSearch-given later soon given count longer =
+    IsSearch-given later soon given marked count longer =
         let at = of_a_line history is_history choice next.places in
         IsSearch-grown history is_history search new is_search frame (state_of machine) (state_of later) later reached
         (Grows-given history is_history search is_search choice next is_least frame (state_of machine) (state_of later) attempt soon given)
         attempt.is_line (Tried-frame history is_history search is_search choice next is_least frame attempt)
         longer.frames choice.cpu choice.number attempt.of_cpu attempt.numbered at.0 longer.counts longer.from longer.above longer.machine refl longer.kept
+        marked
 
     -- one that is refused it is left behind
     pub IsSearch-refused : (later : Machine) → state_of later ≡ state_of machine → IsRefused history.events (state_of machine) frame.line

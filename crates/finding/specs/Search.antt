@@ -1,5 +1,6 @@
 -- What a search holds.
 use Rattle.std.specs.Prelude.{◌≡◌, ℕ, ◌<◌, ◌*◌, ◌-◌, ◌^◌, ◌⊎◌, Bool, true, false, List, [], ◌∷◌, ◌++◌, map, take, length, slice_get, slice_index, slice_set, Some, None, Option, IfSome, ◌+◌}
+use Rattle.std.specs.Global.{Box}
 use Rattle.rmm_spec.specs.declared.command.Command.{Command}
 use Rattle.rmm_spec.specs.declared.event.Event.{Event}
 use Rattle.rmm_spec.specs.declared.line.Line.{Line}
@@ -32,11 +33,12 @@ pub record IsFrame (history : History) (before : List Line) (frame : Frame) : Ty
   pub next : IsNext history.events before frame.line
   pub resumes : LeadsNowhere history (before ++ frame.line ∷ []) → Tried history before frame.from frame.above
 
--- a frame among others: some state is reached by the lines before it
+-- a frame among others: some state is reached by the lines before it, and the machine that is kept there is in one
 pub record StandsAt (history : History) (before : List Line) (frame : Frame) : Type 0 where
   pub state : State
   pub reached : Reaches history before state
   pub is_frame : IsFrame history before frame
+  pub marked : IfSome frame.before (λ (m : Box Machine). Reaches history before (state_of m.value))
 
 abbrev pub AreFrames : History → List Frame → Type 0
 AreFrames history frames =

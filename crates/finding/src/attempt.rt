@@ -58,6 +58,7 @@ fn kept(choice: Choice) -> Frame
         },
         from: rank(&choice) + 1,
         above: None,
+        before: None,
     }
 }
 
@@ -94,6 +95,7 @@ fn only_claim(choice: Choice, reply: Reply) -> Frame
         },
         from: rank(&choice) + 1,
         above: None,
+        before: None,
     }
 }
 
@@ -116,5 +118,6 @@ fn one_end(choice: Choice, top: u64) -> Frame
         },
         from: rank(&choice),
         above: Some(top),
+        before: None,
     }
 }

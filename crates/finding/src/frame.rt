@@ -5,6 +5,7 @@ ghost use Rattle.rmm_spec.specs.Linearization.{cpu_named, number_named};
 
 use rmi_view::copied_reply;
 use rmm_spec::Line;
+use spec_machine::Machine;
 
 /// A line of an order, and what is to be tried in its place where it leads nowhere: calls that are tried at `from` or behind it, and
 /// of the first of them the ends of its stretch below `above`.
@@ -13,6 +14,8 @@ pub(crate) struct Frame {
     pub(crate) line: Line,
     pub(crate) from: u32,
     pub(crate) above: Option<u64>,
+    /// The machine before the line, where one is kept.
+    pub(crate) before: Option<Box<Machine>>,
 }
 
 /// The CPU and the number of the call that a line names.

@@ -12,6 +12,7 @@ mod finding;
 mod frame;
 mod kept;
 mod longest;
+mod marks;
 mod offers;
 mod refused;
 mod restoring;

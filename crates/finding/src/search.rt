@@ -1,6 +1,6 @@
 //! An order that is begun.
 
-ghost use Rattle.std.specs.Prelude.{◌≡◌, ℕ, ◌+◌, ◌-◌, ◌^◌, ◌<◌, [], ◌++◌, ◌∷◌, slice_set, false, Some, None, IfOk, OnOk, IsTrue};
+ghost use Rattle.std.specs.Prelude.{◌≡◌, ℕ, ◌+◌, ◌-◌, ◌^◌, ◌<◌, [], ◌++◌, ◌∷◌, slice_set, false, Some, None, IfOk, IfSome, OnOk, IsTrue};
 ghost use Rattle.std.specs.Bool.{MatchBool};
 ghost use Rattle.rmm_spec.specs.FirstFault.{IsRefused};
 ghost use Rattle.rmm_spec.specs.Linearization.{IsFinished, IsOfItsKind, IsReplyOf, IsReturned, cpu_named, number_named};
@@ -9,6 +9,8 @@ ghost use Rattle.history.specs.Calls.{ArePlacesOf};
 ghost use Rattle.order_laws.specs.Order.{LeadsNowhere, Reaches, ReturnBehind};
 ghost use Rattle.finding.specs.Choice.{IsLeast, IsNextCall, rank_of};
 ghost use Rattle.finding.specs.Search.{IsGiven, lines_of};
+ghost use Rattle.std.specs.Global.{Box};
+ghost use Rattle.spec_machine.specs.declared.machine.Machine.{Machine as SpecMachine};
 ghost use Rattle.spec_machine.specs.Offers.{one_more};
 ghost use Rattle.spec_machine.specs.View.{state_of};
 
@@ -16,6 +18,7 @@ use crate::attempt::attempt;
 use crate::choice::{Choice, PENDING, next_choice, rank};
 use crate::frame::{Frame, name_of};
 use crate::kept::Kept;
+use crate::marks::{Marks, unboxed};
 use crate::offers::Offers;
 use crate::refused::refused_choice;
 use crate::restoring::{certificate_of, machine_at};
@@ -39,6 +42,7 @@ pub(crate) struct Search {
     pub(crate) fresh: bool,
     pub(crate) offers: Offers,
     pub(crate) kept: Kept,
+    pub(crate) marks: Marks,
 }
 
 /// How a search goes on.
@@ -68,6 +72,7 @@ impl Search {
             fresh: true,
             offers: Offers::none(),
             kept: Kept::new(alloc),
+            marks: Marks::none(),
         }
     }
 
@@ -177,7 +182,8 @@ impl Search {
         self.counts[cpu as usize] = number;
         self.from = frame.from;
         self.above = frame.above;
-        self.machine = None;
+        self.marks.drop_one(&frame.before, self.frames.len());
+        self.machine = unboxed(frame.before);
         self.fresh = false;
         Progress::Going
     }
@@ -193,11 +199,13 @@ impl Search {
         history.well_formed();
         let machine = machine_at(alloc, history, &self.frames, self.machine.take())?;
         let found = refused_choice(history, &machine, &self.counts, bound);
-        self.machine = Some(machine);
         let Some(choice) = found else {
+            self.machine = Some(machine);
             self.fresh = false;
             return Ok(());
         };
+        let before = self.mark(alloc, history, &machine)?;
+        self.machine = Some(machine);
         let frame = Frame {
             line: Line::Keep {
                 cpu: choice.cpu,
@@ -205,6 +213,7 @@ impl Search {
             },
             from: u32::MAX,
             above: None,
+            before,
         };
         self.push(choice, frame)
     }
@@ -238,11 +247,12 @@ impl Search {
         history.well_formed();
         let above = self.above_for(choice);
         let mut machine = machine_at(alloc, history, &self.frames, self.machine.take())?;
-        let Some(frame) = attempt(history, &machine, choice, above) else {
+        let Some(mut frame) = attempt(history, &machine, choice, above) else {
             self.machine = Some(machine);
             self.pass(choice);
             return Ok(());
         };
+        frame.before = self.mark(alloc, history, &machine)?;
         let given = offer(&mut self.offers, &mut machine, history, choice, &frame.line)?;
         self.machine = Some(machine);
         if given {
@@ -253,12 +263,33 @@ impl Search {
         Ok(())
     }
 
+    /// The machine once more, where lines may soon be taken back to here.
+    fn mark(
+        &self,
+        alloc: Global,
+        history: &History,
+        machine: &Machine,
+    ) -> Result<Option<Box<Machine>>, AllocError>
+        ensures { IfOk result (λ mark. IfSome mark (λ (m : Box SpecMachine). state_of m.value ≡ state_of machine.now)) }
+    {
+        let config = history.config();
+        if !self.marks.wants(self.frames.len(), config.granules()) {
+            return Ok(None);
+        }
+        let copy = machine.copy()?;
+        match Box::new(alloc, copy) {
+            Ok(mark) => Ok(Some(mark)),
+            Err(_) => Err(AllocError),
+        }
+    }
+
     /// Makes the order one line longer.
     fn push(&mut self, choice: Choice, frame: Frame) -> Result<(), AllocError>
         requires cpu { choice.cpu < 8 }
         requires number { choice.number < 1000000 }
         ensures { OnOk result (IsLonger self.old.frames.items self.old.counts self.old.machine self.old.offers.count self.old.kept choice frame self.new) }
     {
+        self.marks.add(&frame.before);
         self.frames.push(frame)?;
         self.counts[choice.cpu as usize] = choice.number + 1;
         self.from = 0;

@@ -1,6 +1,7 @@
 //! What is kept of one granule.
 
-use realm_desc::{Realm, Rec};
+use crate::descriptor::Descriptor;
+use realm_desc::Rec;
 use rmm_spec::Tag;
 use rtt_table::Table;
 
@@ -10,7 +11,7 @@ pub enum Cell {
     #[default]
     Undelegated,
     Delegated,
-    Rd(Realm),
+    Rd(Descriptor),
     Rec(Rec),
     RecAux,
     Data,

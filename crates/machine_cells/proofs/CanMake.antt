@@ -1,5 +1,5 @@
 -- What a change that a well-shaped whole can take finds there.
-use Rattle.std.proofs.Common.{◌≡◌, ℕ, ◌*◌, ◌^◌, ◌<◌, ◌≤◌, zero, suc, Bool, true, false, ◌==◌, IsTrue, if◌then◌else◌, Option, Some, None, IfSome, nat_lt, ◌%◌, refl, sym, ap, ◌∙◌, subst, inl, inr, arith}
+use Rattle.std.proofs.Common.{◌≡◌, ℕ, ◌*◌, ◌^◌, ◌<◌, ◌≤◌, zero, suc, Bool, true, false, ◌==◌, IsTrue, if◌then◌else◌, Option, Some, None, IfSome, ◌&&◌, nat_lt, ◌%◌, refl, sym, ap, ◌∙◌, subst, inl, inr, arith}
 use Rattle.std.proofs.lemmas.Bool.{and_from, and_parts, eqb-true, false_from_ne_true, ltb-true, lt-ltb}
 use Rattle.std.proofs.lemmas.Option.{none-some, same_Some}
 use Rattle.rmm_spec.specs.declared.change.EntryChange.{EntryChange}
@@ -31,10 +31,9 @@ use Rattle.rmm_sound.proofs.Tags.{has_tag-other}
 use Rattle.realm_desc.specs.Updates.{IsRecUpdate}
 use Rattle.shape_laws.specs.Whole.{cell_with_tag, cell_with_realm, changed_at, cells_with_tag_change, cells_with_realm_change}
 use Rattle.machine_cells.specs.declared.granules.Granules.{Granules}
-use Rattle.machine_cells.specs.Changes.{CanGetTag, CanUpdate}
+use Rattle.machine_cells.specs.Changes.{CanGetTag, CanUpdate, TakesIndex}
 use Rattle.machine_cells.specs.Whole.{cells_of, count_of, whole_of, state_in, IsShapedIn}
 use Rattle.machine_cells.proofs.Found.{sound_in}
-use Rattle.machine_cells.proofs.OneChanged.{realm_cell}
 use Rattle.machine_cells.proofs.Tagged.{granule_tagged}
 
 -- ---- granules that are freed
@@ -158,17 +157,17 @@ counted-cell : (cells : ℕ → spec.Cell) (rd rec aux0 aux1 : ℕ) (made c0 c1 
     → put (put (put cells rec made) aux0 c0) aux1 c1 rd ≡ cells rd
 counted-cell cells rd rec aux0 aux1 made c0 c1 first second third = rw (first, second, third) refl
 
-pub realm-counted : (g : Granules) → IsShapedIn g → (rd rec mpidr flags aux0 aux1 : ℕ) → CanMakeRec (state_in g) rd rec mpidr flags aux0 aux1
-    → (update : RealmUpdate) (realm new : RealmRecord) (made c0 c1 : spec.Cell) → Some realm ≡ (state_in g).realm rd → spec.Rd new ≡ cell_with_realm update (spec.Rd realm)
-    → let x = put (put (put (cells_of g.list) rec made) aux0 c0) aux1 c1 in put x rd (spec.Rd new) ≡ changed_at x rd (cell_with_realm update)
+-- so the realm counts the REC that is made
+pub index-made : (g : Granules) → IsShapedIn g → (rd rec mpidr flags aux0 aux1 : ℕ) → CanMakeRec (state_in g) rd rec mpidr flags aux0 aux1
+    → (made c0 c1 : spec.Cell) → TakesIndex (put (put (put (cells_of g.list) rec made) aux0 c0) aux1 c1) rd mpidr
 unfolding state_in flat_state
-realm-counted g shaped rd rec mpidr flags aux0 aux1 can update realm new made c0 c1 is after =
+index-made g shaped rd rec mpidr flags aux0 aux1 can made c0 c1 = λ realm is.
     let s = state_in g in
-    let x = put (put (put (cells_of g.list) rec made) aux0 c0) aux1 c1 in
     let kept = counted-cell (cells_of g.list) rd rec aux0 aux1 made c0 c1
     (tags_apart s rd rec tag.Rd tag.Delegated can.rd_tag can.rec_tag refl) (tags_apart s rd aux0 tag.Rd tag.Delegated can.rd_tag can.aux0_tag refl)
     (tags_apart s rd aux1 tag.Rd tag.Delegated can.rd_tag can.aux1_tag refl) in
-    ap (put x rd) (after ∙ ap (cell_with_realm update) (sym (kept ∙ realm_cell (cells_of g.list rd) realm is)))
+    let there : Some realm ≡ Some (realm_at s rd) = sym is ∙ (ap spec.realm_in kept ∙ realm-there g shaped rd can.rd_tag (s.realm rd) refl) in
+    subst (λ (r : RealmRecord). IsTrue (mpidr == r.next_index && nat_lt mpidr 8)) (sym (same_Some realm (realm_at s rd) there)) can.index_fits
 
 -- ---- counts
 

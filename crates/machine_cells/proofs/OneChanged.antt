@@ -67,13 +67,21 @@ pub not_rec-same : (c : Cell) (update : RecUpdate) → ((r : RecRecord) → c �
 not_rec-same (Rec r) update none = absurd (none r refl)
 not_rec-same _ update none = refl
 
--- what is read of a REC's cell is the REC there
+-- what is read of a cell is what lies there
+cell-read : (list : CellList) (granule place : ℕ) (read : Cell) → IsTrue (is_granule list.config.granules granule)
+    → place ≡ granule / 4096 → read ≡ slice_index_or list.cells.items place read → cells_of list granule ≡ cell_of read
+unfolding cells_of
+cell-read list granule place read is at is_read =
+    let placed : length list.cells.items ≡ list.config.granules = omega (arith, list.each, list.cells.ok.0) in
+    ap cell_of (sym (kept_at-granule list.config.granules granule place list.cells.items Undelegated read placed is at is_read))
+
+pub realm-read : (list : CellList) (granule place : ℕ) (read : Cell) (r : RealmRecord) → IsTrue (is_granule list.config.granules granule)
+    → place ≡ granule / 4096 → read ≡ slice_index_or list.cells.items place read → read ≡ Rd r → spec.realms_of (cells_of list) granule ≡ Some r
+realm-read list granule place read r is at is_read realm = ap spec.realm_in (cell-read list granule place read is at is_read ∙ ap cell_of realm)
+
 pub rec-read : (list : CellList) (granule place : ℕ) (read : Cell) (r : RecRecord) → IsTrue (is_granule list.config.granules granule)
     → place ≡ granule / 4096 → read ≡ slice_index_or list.cells.items place read → read ≡ Rec r → spec.recs_of (cells_of list) granule ≡ Some r
-unfolding cells_of
-rec-read list granule place read r is at is_read rec =
-    let placed : length list.cells.items ≡ list.config.granules = omega (arith, list.each, list.cells.ok.0) in
-    ap (λ (x : Cell). spec.rec_in (cell_of x)) (sym (kept_at-granule list.config.granules granule place list.cells.items Undelegated read placed is at is_read) ∙ rec)
+rec-read list granule place read r is at is_read rec = ap spec.rec_in (cell-read list granule place read is at is_read ∙ ap cell_of rec)
 
 -- only a table has entries
 pub not_table-same : (c : Cell) (change : List Entry → List Entry) → ((t : TableRecord) → c ≡ Rtt t → ⊥) → cell_with_entries change (cell_of c) ≡ cell_of c

@@ -1,5 +1,5 @@
 -- What a change of single cells requires of them.
-use Rattle.std.specs.Prelude.{◌≡◌, ℕ, ◌+◌, ◌*◌, ◌/◌, Bool, true, false, ◌&&◌, nat_lt, nat_le, IsTrue, Some}
+use Rattle.std.specs.Prelude.{◌≡◌, ℕ, ◌+◌, ◌*◌, ◌/◌, Bool, true, false, ◌&&◌, ◌==◌, nat_lt, nat_le, IsTrue, Some}
 use Rattle.rmm_spec.specs.declared.change.Change.{Change}
 use Rattle.rmm_spec.specs.declared.change.Change.TheVariants.{RealmMade, TableMade}
 use Rattle.rmm_spec.specs.declared.change.EntryChange.{EntryChange}
@@ -9,8 +9,8 @@ use Rattle.rmm_spec.specs.declared.change.TagChange.{TagChange}
 use Rattle.rmm_spec.specs.declared.tag.Tag.{Tag}
 use Rattle.rmm_spec.specs.declared.tag.Tag.TheVariants.{Rd, Rec, Rtt}
 use Rattle.rmm_spec.specs.Lookup.{is_granule}
-use Rattle.rmm_spec.specs.State.{RecRecord}
-use Rattle.rmm_spec.specs.Cell.{Cell, recs_of}
+use Rattle.rmm_spec.specs.State.{RealmRecord, RecRecord}
+use Rattle.rmm_spec.specs.Cell.{Cell, realms_of, recs_of}
 use Rattle.realm_desc.specs.Updates.{IsRecUpdate}
 
 -- a granule that holds nothing
@@ -28,6 +28,10 @@ pub record CanGetTag (granules : ℕ) (change : TagChange) : Type 0 where
 -- the REC that is there takes the update
 abbrev pub CanUpdate : (ℕ → Cell) → RecChange → Type 0
 CanUpdate cells change = (rec : RecRecord) → recs_of cells change.rec ≡ Some rec → IsRecUpdate rec change.update
+
+-- the next REC of the realm that is there has the index
+abbrev pub TakesIndex : (ℕ → Cell) → ℕ → ℕ → Type 0
+TakesIndex cells rd index = (realm : RealmRecord) → realms_of cells rd ≡ Some realm → IsTrue (index == realm.next_index && nat_lt index 8)
 
 -- the entries of a stretch are those of one table
 abbrev pub fits_entries : EntryChange → Bool

@@ -19,7 +19,7 @@ pub(crate) fn free_vmid(list: &CellList, side: &mut Side, rd: u64)
     ensures { side_of side.new ≡ whole.side_without_vmid (side_of side.old) (cells_of list.now rd) }
 {
     if let Some(Cell::Rd(realm)) = list.cell(rd) {
-        side.set_vmid(realm.vmid, None);
+        side.set_vmid(realm.realm().vmid, None);
     }
 }
 

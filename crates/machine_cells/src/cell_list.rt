@@ -56,7 +56,7 @@ impl CellList {
         ensures { option_copied result ≡ realms_of (cells_of self.now) address }
     {
         match self.cell(address) {
-            Some(Cell::Rd(realm)) => Some(realm),
+            Some(Cell::Rd(descriptor)) => Some(descriptor.realm()),
             _ => None,
         }
     }

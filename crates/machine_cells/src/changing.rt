@@ -6,7 +6,7 @@ ghost use Rattle.shape_laws.specs.Whole as whole;
 use crate::beside_changes::{change_places, free_vmid, uncount_rec};
 use crate::granules::Granules;
 use crate::walks::table_size;
-use granule_cells::Cell;
+use granule_cells::{Cell, Descriptor};
 use granule_state::Pa;
 use realm_desc::{Realm, Rec};
 use rmm_spec::{Entry, EntryChange, Place, RealmChange, RecChange, Ripas, Tag, TagChange};
@@ -45,6 +45,9 @@ impl Granules {
         ensures err { OnErr result (whole_of self.new ≡ whole_of self.old) }
     {
         let realm = Realm::from_words(root, width, level, vmid, algo);
+        let Ok(realm) = Descriptor::new(self.alloc, realm) else {
+            return Err(AllocError);
+        };
         let Ok(table) = root_table(self.alloc, rd, width, level) else {
             return Err(AllocError);
         };
@@ -82,16 +85,12 @@ impl Granules {
         ensures whole { whole_of self.new ≡ whole_changed (config_of self.old) (whole_of self.old) (change.RecMade rd rec mpidr flags aux0 aux1) }
     {
         let _granules = self.list.config.granules();
-        let Some(mut realm) = self.realm(rd) else {
-            unreachable!()
-        };
-        realm.count_rec(mpidr, flags);
         let made = Rec::new(Pa::new(rd), mpidr, flags, Pa::new(aux0), Pa::new(aux1));
         self.side.count_rec(Pa::new(rd));
         self.list.put(rec, Cell::Rec(made));
         self.list.put(aux0, Cell::RecAux);
         self.list.put(aux1, Cell::RecAux);
-        self.list.put(rd, Cell::Rd(realm));
+        self.list.count_rec(rd, mpidr, flags);
     }
 
     #[inline(never)]

@@ -5,9 +5,7 @@ ghost use Rattle.std.specs.Prelude.{◌≡◌, IfOk};
 use crate::cell_list::CellList;
 use crate::granules::Granules;
 use crate::places::{CPUS, Places};
-use crate::same::ENTRIES;
-use granule_cells::{Cell, CpuPlace};
-use rtt_table::Table;
+use granule_cells::{Cell, CpuPlace, Descriptor};
 use std::alloc::{AllocError, Global};
 
 impl Granules {
@@ -74,22 +72,10 @@ pub(crate) fn copied_cell(alloc: Global, cell: &Cell) -> Result<Cell, AllocError
     match cell {
         Cell::Undelegated => Ok(Cell::Undelegated),
         Cell::Delegated => Ok(Cell::Delegated),
-        Cell::Rd(realm) => Ok(Cell::Rd(*realm)),
+        Cell::Rd(descriptor) => Ok(Cell::Rd(Descriptor::new(alloc, *descriptor.realm())?)),
         Cell::Rec(rec) => Ok(Cell::Rec(*rec)),
         Cell::RecAux => Ok(Cell::RecAux),
         Cell::Data => Ok(Cell::Data),
-        Cell::Rtt(table) => Ok(Cell::Rtt(copied_table(alloc, table)?)),
+        Cell::Rtt(table) => Ok(Cell::Rtt(table.copy(alloc)?)),
     }
-}
-
-fn copied_table(alloc: Global, table: &Table) -> Result<Table, AllocError>
-    ensures { IfOk result (λ copy. copy ≡ table.now) }
-{
-    table.is_whole();
-    let mut copy = Table::new(alloc, table.place(), table.entry(0))?;
-    copy.is_whole();
-    for index in 0..ENTRIES {
-        copy.set_entry(index, table.entry(index));
-    }
-    Ok(copy)
 }

@@ -83,7 +83,7 @@ impl Granules {
         ensures { result ≡ (state_in self.now).realm rd }
     {
         match self.list.cell(rd) {
-            Some(Cell::Rd(realm)) => Some(*realm),
+            Some(Cell::Rd(descriptor)) => Some(*descriptor.realm()),
             _ => None,
         }
     }

@@ -15,10 +15,11 @@ use rtt_table::Table;
 impl CellList {
     ghost use Rattle.std.specs.Prelude.{◌≡◌, ◌/◌, IfSome, IsTrue};
     ghost use Rattle.std.specs.Option.{SomeIff};
+    ghost use Rattle.rmm_spec.specs.declared.change.RealmUpdate.TheVariants.{RecCounted};
     ghost use Rattle.rmm_spec.specs.Applicable.{IsRealmUpdate};
     ghost use Rattle.rmm_spec.specs.Lookup.{is_granule};
-    ghost use Rattle.shape_laws.specs.Whole.{cells_with_tag_change, cells_with_realm_change, cells_with_rec_change, cells_with_entries, entries_changed, width_in};
-    ghost use Rattle.machine_cells.specs.Changes.{CanGetTag, CanUpdate, fits_entries};
+    ghost use Rattle.shape_laws.specs.Whole.{changed_at, cell_with_realm, cells_with_tag_change, cells_with_realm_change, cells_with_rec_change, cells_with_entries, entries_changed, width_in};
+    ghost use Rattle.machine_cells.specs.Changes.{CanGetTag, CanUpdate, TakesIndex, fits_entries};
     ghost use Rattle.machine_cells.specs.Whole.{cells_of};
 
     /// Gives a granule that holds nothing another tag, where one goes with a change.
@@ -44,8 +45,22 @@ impl CellList {
         let Some(place) = self.place_of(rd) else {
             return;
         };
-        if let Cell::Rd(realm) = &mut self.cells[place] {
-            realm.update(update);
+        if let Cell::Rd(descriptor) = &mut self.cells[place] {
+            descriptor.update(update);
+        }
+    }
+
+    /// Counts and measures one REC more of the realm that is there.
+    pub(crate) fn count_rec(&mut self, rd: u64, index: u8, flags: u64)
+        requires { TakesIndex (cells_of self.old) rd index }
+        ensures size { self.new.config ≡ self.old.config }
+        ensures cells { cells_of self.new ≡ changed_at (cells_of self.old) rd (cell_with_realm (RecCounted index flags)) }
+    {
+        let Some(place) = self.place_of(rd) else {
+            return;
+        };
+        if let Cell::Rd(descriptor) = &mut self.cells[place] {
+            descriptor.count_rec(index, flags);
         }
     }
 

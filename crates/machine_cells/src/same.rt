@@ -10,7 +10,7 @@ use rmm_spec::{Measurement, Place, Version};
 use rtt_table::Table;
 
 /// How many entries a table has.
-pub(crate) const ENTRIES: usize = 512;
+const ENTRIES: usize = 512;
 
 /// Whether two machines have the same size and rules.
 pub(crate) fn same_config(one: &Config, other: &Config) -> bool
@@ -39,8 +39,8 @@ pub(crate) fn same_cell(one: &Cell, other: &Cell) -> bool
         Cell::Delegated => matches!(other, Cell::Delegated),
         Cell::RecAux => matches!(other, Cell::RecAux),
         Cell::Data => matches!(other, Cell::Data),
-        Cell::Rd(realm) => match other {
-            Cell::Rd(second) => same_realm(realm, second),
+        Cell::Rd(descriptor) => match other {
+            Cell::Rd(second) => same_realm(descriptor.realm(), second.realm()),
             _ => false,
         },
         Cell::Rec(rec) => match other {

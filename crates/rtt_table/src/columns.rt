@@ -48,6 +48,15 @@ impl Columns {
         Ok(Columns { addresses, kinds })
     }
 
+    /// The same columns once more.
+    pub fn copy(&self, alloc: Global) -> Result<Self, AllocError>
+        ensures { IfOk result (λ columns. columns ≡ self.now) }
+    {
+        let addresses = Vec::from_slice(alloc, self.addresses.as_slice())?;
+        let kinds = Vec::from_slice(alloc, self.kinds.as_slice())?;
+        Ok(Columns { addresses, kinds })
+    }
+
     /// There are 512 entries.
     pub fn is_whole(&self)
         ensures { length self.now ≡ 512 }

@@ -69,6 +69,19 @@ impl Table {
         })
     }
 
+    /// The same table once more.
+    pub fn copy(&self, alloc: Global) -> Result<Self, AllocError>
+        ensures { IfOk result (λ t. t ≡ self.now) }
+    {
+        let columns = self.columns.copy(alloc)?;
+        Ok(Table {
+            place: self.place,
+            columns,
+            live: self.live,
+            links: self.links,
+        })
+    }
+
     pub fn place(&self) -> Place
         ensures { result ≡ self.now.place }
     {

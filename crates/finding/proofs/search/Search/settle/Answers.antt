@@ -31,6 +31,6 @@ returns c =
     on_ok_weaker c.push.result (λ longer. (
       IsSearch-settled history c.well_formed-2.ensures search is_search c.in-Some.choice c.in_ok-machine.machine
           (rw c.deref.ensures.value at c.in_ok-machine.ensures) c.push.new.self c.in-Some.ensures.next c.args.bound c.in-Some.ensures.bound
-          c.in-Some.ensures.refused c.requires.least search.offers.count longer,
+          c.in-Some.ensures.refused c.requires.least c.in_ok-before.before c.in_ok-before.ensures search.offers.count longer,
       Moves-settled search c.push.new.self _ few c.requires.fresh longer.fresh longer.frames (sym longer.offers),
     )) c.push.ensures

@@ -15,6 +15,6 @@ returns c =
     let history = c.args.history.now.recorded in
     let search = c.args.self.now in (
       IsSearch-back history c.well_formed-2.ensures search _ c.requires.is_search c.in-Some.frame c.in-Some.ensures.items
-          c.requires.nowhere (rw (c.name_of-cpu.ensures.cpu, c.name_of-cpu.ensures.number) refl) refl refl refl refl,
+          c.requires.nowhere (rw (c.name_of-cpu.ensures.cpu, c.name_of-cpu.ensures.number) refl) refl refl c.unboxed.ensures refl,
       Moves-back search _ c.in-Some.frame (few_frames history c.well_formed-2.ensures search c.requires.is_search) c.in-Some.ensures.items refl refl,
     )

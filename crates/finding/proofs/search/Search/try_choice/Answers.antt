@@ -4,6 +4,7 @@ use Rattle.std.proofs.lemmas.Result.{on_ok_weaker}
 use Rattle.finding.specs.Choice.{rank_of}
 use Rattle.finding.specs.Search.{lines_of}
 use Rattle.spec_machine.specs.View.{state_of}
+use Rattle.finding.proofs.Attempts.{IsAttempt-marked}
 use Rattle.finding.proofs.Moving.{Moves-offered, Moves-passed}
 use Rattle.finding.proofs.Searches.{IsCertificate-search, IsSearch-given, IsSearch-refused, IsSearch-tried, MayTry-search, Tried-call, number_of_next, rank_of_next}
 use Rattle.finding.proofs.search.Search.try_choice.Goals as goal
@@ -78,7 +79,8 @@ returns-then-given c =
     reached c.above_for-above.result c.above_for-above.ensures) in
     on_ok_weaker c.push.result (λ longer. (
       IsSearch-given history c.well_formed-2.ensures search c.requires.is_search c.args.choice machine reached c.push.new.self c.requires.next c.requires.least
-          c.in-Some.frame attempt c.offer.new.machine c.requires.soon given c.offer.new.offers.count longer,
+          _ (IsAttempt-marked history (lines_of search.frames.items) c.args.choice c.in-Some.frame c.in_ok-self.self attempt)
+          c.offer.new.machine c.requires.soon given c.in_ok-self.ensures c.offer.new.offers.count longer,
       Moves-offered search c.push.new.self c.requires.few (longer.offers ∙ c.in_ok-given.ensures.counted),
     )) c.push.ensures
 
