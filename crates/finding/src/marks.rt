@@ -9,13 +9,13 @@ use spec_machine::Machine;
 /// How many lines behind the place where one was taken back have their machine kept.
 const NEAR: usize = 64;
 
-/// How many granules' cells are kept at most, in all machines together.
-const MOST_CELLS: u64 = 1 << 16;
+/// How many machines are kept at most.
+const MOST: usize = 64;
 
 /// How many machines are kept, and up to how many lines one more is wanted.
 #[derive(Clone, Copy)]
 pub(crate) struct Marks {
-    count: u64,
+    count: usize,
     to: usize,
 }
 
@@ -25,9 +25,9 @@ impl Marks {
         Marks { count: 0, to: 0 }
     }
 
-    /// Whether a machine of so many granules is wanted behind so many lines.
-    pub(crate) fn wants(&self, lines: usize, granules: u64) -> bool {
-        lines < self.to && self.count < MOST_CELLS / granules.max(1)
+    /// Whether a machine is wanted behind so many lines.
+    pub(crate) fn wants(&self, lines: usize) -> bool {
+        lines < self.to && self.count < MOST
     }
 
     /// A line is added.

@@ -204,7 +204,7 @@ impl Search {
             self.fresh = false;
             return Ok(());
         };
-        let before = self.mark(alloc, history, &machine)?;
+        let before = self.mark(alloc, &machine)?;
         self.machine = Some(machine);
         let frame = Frame {
             line: Line::Keep {
@@ -252,7 +252,7 @@ impl Search {
             self.pass(choice);
             return Ok(());
         };
-        frame.before = self.mark(alloc, history, &machine)?;
+        frame.before = self.mark(alloc, &machine)?;
         let given = offer(&mut self.offers, &mut machine, history, choice, &frame.line)?;
         self.machine = Some(machine);
         if given {
@@ -264,19 +264,13 @@ impl Search {
     }
 
     /// The machine once more, where lines may soon be taken back to here.
-    fn mark(
-        &self,
-        alloc: Global,
-        history: &History,
-        machine: &Machine,
-    ) -> Result<Option<Box<Machine>>, AllocError>
+    fn mark(&self, alloc: Global, machine: &Machine) -> Result<Option<Box<Machine>>, AllocError>
         ensures { IfOk result (λ mark. IfSome mark (λ (m : Box SpecMachine). state_of m.value ≡ state_of machine.now)) }
     {
-        let config = history.config();
-        if !self.marks.wants(self.frames.len(), config.granules()) {
+        if !self.marks.wants(self.frames.len()) {
             return Ok(None);
         }
-        let copy = machine.copy()?;
+        let copy = machine.copy(alloc)?;
         match Box::new(alloc, copy) {
             Ok(mark) => Ok(Some(mark)),
             Err(_) => Err(AllocError),
