@@ -90,14 +90,14 @@ pub IsAttempt-kept : (history : History) (lines : List Line) (state : State) (ch
     → IsAttempt history lines choice frame
 IsAttempt-kept history lines state choice above frame may finished is_line from none =
     let at = of_a_line history may.is_history choice may.places in
-    let here : IsAttempt history lines choice (record { line = Keep choice.cpu choice.number; from = frame.from; above = frame.above }) = record {
+    let here : IsAttempt history lines choice (record frame { line = Keep choice.cpu choice.number }) = record {
       is_line = at;
       of_cpu = refl;
       numbered = refl;
       kind = finished;
       left = λ nowhere. inl (record { from = from; above = none; nowhere = nowhere_kept history lines choice.cpu choice.number finished nowhere });
     } in
-    subst (λ (l : Line). IsAttempt history lines choice (record { line = l; from = frame.from; above = frame.above })) (sym is_line) here
+    subst (λ (l : Line). IsAttempt history lines choice (record frame { line = l })) (sym is_line) here
 
 module _ (history : History) (lines : List Line) (state : State) (choice : Choice) (above : Option ℕ) (may : MayTry history lines state choice above) (command : Command) (answer : Result Accepted Reply) (answered : IsAnswered history choice state command answer) where
   pending : ¬ IsFinished history.events choice.cpu choice.number
@@ -133,14 +133,14 @@ module _ (history : History) (lines : List Line) (state : State) (choice : Choic
       → IsAttempt history lines choice frame
   IsAttempt-only given only frame is_line from none has_text =
       let at = of_a_line history may.is_history choice may.places in
-      let here : IsAttempt history lines choice (record { line = Unfinished choice.cpu choice.number given; from = frame.from; above = frame.above }) = record {
+      let here : IsAttempt history lines choice (record frame { line = Unfinished choice.cpu choice.number given }) = record {
         is_line = (at.0, at.1, has_text);
         of_cpu = refl;
         numbered = refl;
         kind = pending;
         left = λ nowhere. inl (record { from = from; above = none; nowhere = only_reply given only nowhere });
       } in
-      subst (λ (l : Line). IsAttempt history lines choice (record { line = l; from = frame.from; above = frame.above })) (sym is_line) here
+      subst (λ (l : Line). IsAttempt history lines choice (record frame { line = l })) (sym is_line) here
 
 -- what is reached is an end of the stretch
 IsEnd-reached : (s : State) (stretch : Stretch) (top : ℕ) → IsReached s stretch top → IsEnd stretch top
@@ -197,7 +197,7 @@ module _ (history : History) (lines : List Line) (state : State) (choice : Choic
       → IsAttempt history lines choice frame
   IsAttempt-ended top greatest frame is_line from is_above has_text =
       let at = of_a_line history may.is_history choice may.places in
-      let here : IsAttempt history lines choice (record { line = Unfinished choice.cpu choice.number (ok (top ∷ [])); from = frame.from; above = frame.above }) = record {
+      let here : IsAttempt history lines choice (record frame { line = Unfinished choice.cpu choice.number (ok (top ∷ [])) }) = record {
         is_line = (at.0, at.1, has_text);
         of_cpu = refl;
         numbered = refl;
@@ -208,4 +208,4 @@ module _ (history : History) (lines : List Line) (state : State) (choice : Choic
           nowhere = subst (EndsLeadNowhere history lines choice) (sym is_above) (ended top greatest nowhere);
         });
       } in
-      subst (λ (l : Line). IsAttempt history lines choice (record { line = l; from = frame.from; above = frame.above })) (sym is_line) here
+      subst (λ (l : Line). IsAttempt history lines choice (record frame { line = l })) (sym is_line) here

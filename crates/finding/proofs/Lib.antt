@@ -5,5 +5,6 @@ pub mod EndLaws
 pub mod Searches
 pub mod OfferLaws
 pub mod LeftBehind
+pub mod Replayed
 pub mod KeptLaws
 pub mod Moving

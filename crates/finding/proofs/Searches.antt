@@ -5,7 +5,8 @@ use Rattle.std.specs.Global.{Box}
 use Rattle.std.specs.Option.{IfSome, option_map}
 use Rattle.std.proofs.Math.Seq.{take-append_seam}
 use Rattle.std.proofs.lemmas.Bool.Decides.{eqb_tells}
-use Rattle.std.proofs.lemmas.List.{length-set, map-append, take-append-le}
+use Rattle.std.proofs.lemmas.Bool.{cases_lt}
+use Rattle.std.proofs.lemmas.List.{length-append, length-set, map-append, take-append-le, take_all}
 use Rattle.std.proofs.lemmas.Option.{none-some, slice_get_within}
 use Rattle.rmm_spec.specs.declared.line.Line.{Line}
 use Rattle.rmm_spec.specs.declared.line.Line.TheVariants.{Keep, Unfinished}
@@ -30,8 +31,9 @@ use Rattle.finding.specs.Counts.{AreCounts}
 use Rattle.finding.specs.Kept.{AreNowhere}
 use Rattle.finding.specs.declared.kept.Configuration.{Configuration}
 use Rattle.finding.specs.declared.kept.Kept.{Kept}
-use Rattle.finding.specs.Search.{AreFrames, Continues, IsGiven, IsLonger, IsRefusedHere, IsSearch, StandsAt, lines_of}
+use Rattle.finding.specs.Search.{AreFrames, AreReached, Continues, IsCheckpoint, IsGiven, IsLonger, IsRefusedHere, IsSearch, StandsAt, lines_of}
 use Rattle.finding.specs.Tried.{Tried, CallLeadsNowhere}
+use Rattle.finding.specs.declared.checkpoint.Checkpoint.{Checkpoint}
 use Rattle.finding.specs.declared.choice.Choice.{Choice}
 use Rattle.finding.specs.declared.frame.Frame.{Frame}
 use Rattle.finding.specs.declared.search.Search.{Search}
@@ -129,6 +131,45 @@ last_frame history frames frame are =
     subst (λ (fs : List Frame). StandsAt history (lines_of fs) frame) (take-append_seam frames (frame ∷ []))
     (are (length frames) frame (slice_get_push frames frame))
 
+-- ---- checkpoints
+
+checkpoint-push : (history : History) (frames : List Frame) (frame : Frame) (o : Option Checkpoint) → IfSome o (IsCheckpoint history frames)
+    → IfSome o (IsCheckpoint history (frames ++ frame ∷ []))
+checkpoint-push history frames frame None is = tt
+checkpoint-push history frames frame (Some c) is = record {
+  within = let longer = length-append frames (frame ∷ []) in let within = is.within in omega (arith, longer, within);
+  reached = subst (λ (fs : List Frame). Reaches history (lines_of fs) (state_of c.machine)) (sym (take-append-le c.lines frames (frame ∷ []) is.within)) is.reached;
+}
+
+checkpoint-pop : (history : History) (frames : List Frame) (frame : Frame) (old new : Option Checkpoint)
+    → IfSome old (IsCheckpoint history (frames ++ frame ∷ [])) → IfSome new (λ (c : Checkpoint). c.lines ≤ length frames)
+    → IfSome new (λ c. old ≡ Some c) → IfSome new (IsCheckpoint history frames)
+checkpoint-pop history frames frame old None was within same = tt
+checkpoint-pop history frames frame old (Some c) was within same =
+    let is : IsCheckpoint history (frames ++ frame ∷ []) c = subst (λ (o : Option Checkpoint). IfSome o (IsCheckpoint history (frames ++ frame ∷ []))) same was in
+    record {
+      within = within;
+      reached = subst (λ (fs : List Frame). Reaches history (lines_of fs) (state_of c.machine)) (take-append-le c.lines frames (frame ∷ []) within) is.reached;
+    }
+
+-- each frame is somewhere
+frame_at : (frames : List Frame) (i : ℕ) → i < length frames → (frame : Frame) × (slice_get frames i ≡ Some frame)
+frame_at [] i within = absurd (omega (arith, within))
+frame_at (frame ∷ frames) zero within = (frame, refl)
+frame_at (frame ∷ frames) (suc i) within = frame_at frames i (omega (arith, within))
+
+pub AreReached-search : (history : History) (search : Search) → IsSearch history search → AreReached history search.frames.items
+AreReached-search history search is_search i within = elim (cases_lt i (length search.frames.items)) [
+  | inl below ↦
+      let there = frame_at search.frames.items i below in
+      let stands = is_search.frames i there.0 there.1 in
+      (stands.state, stands.reached)
+  | inr past ↦ (
+    is_search.state,
+    subst (λ (fs : List Frame). Reaches history (lines_of fs) is_search.state) (sym (take_all i search.frames.items past)) is_search.reached,
+  )
+]
+
 -- ---- the certificate
 
 are_lines : (history : History) (frames : List Frame) → ((i : ℕ) (frame : Frame) → slice_get frames i ≡ Some frame → IsLine frame.line)
@@ -175,8 +216,9 @@ module _ (history : History) (is_history : IsHistory history) (old new : Search)
   -- other things are left to try
   pub IsSearch-tried : new.frames.items ≡ old.frames.items → new.counts ≡ old.counts
       → IfSome new.machine (λ machine. Reaches history (lines_of old.frames.items) (state_of machine))
-      → Tried history (lines_of old.frames.items) new.from new.above → AreNowhere history new.kept.configurations.items → IsSearch history new
-  IsSearch-tried frames counts machine tried kept = record {
+      → Tried history (lines_of old.frames.items) new.from new.above → AreNowhere history new.kept.configurations.items
+      → IfSome new.checkpoint (IsCheckpoint history old.frames.items) → IsSearch history new
+  IsSearch-tried frames counts machine tried kept point = record {
     frames = subst (λ (fs : List Frame). AreFrames history fs) (sym frames) is_search.frames;
     state = is_search.state;
     reached = subst (λ (fs : List Frame). Reaches history (lines_of fs) is_search.state) (sym frames) is_search.reached;
@@ -185,6 +227,7 @@ module _ (history : History) (is_history : IsHistory history) (old new : Search)
         (subst (λ (fs : List Frame). AreCounts old.counts (lines_of fs)) (sym frames) is_search.counts);
     tried = subst (λ (fs : List Frame). Tried history (lines_of fs) new.from new.above) (sym frames) tried;
     kept = kept;
+    checkpoint = subst (λ (fs : List Frame). IfSome new.checkpoint (IsCheckpoint history fs)) (sym frames) point;
   }
 
   -- the order has grown by a line
@@ -193,8 +236,9 @@ module _ (history : History) (is_history : IsHistory history) (old new : Search)
       → (LeadsNowhere history (lines_of old.frames.items ++ frame.line ∷ []) → Tried history (lines_of old.frames.items) frame.from frame.above)
       → new.frames.items ≡ old.frames.items ++ frame ∷ [] → (cpu number : ℕ) → cpu_named frame.line ≡ cpu → number_named frame.line ≡ number → cpu < 8
       → new.counts ≡ set old.counts cpu (number + 1) → new.from ≡ 0 → new.above ≡ None → new.machine ≡ Some machine → state_of machine ≡ next
-      → new.kept ≡ old.kept → IfSome frame.before (λ (m : Box Machine). state_of m.value ≡ state) → IsSearch history new
-  IsSearch-grown frame state next machine reached grows is_line resumes frames cpu number of_cpu numbered within counts from above held leads kept marked =
+      → new.kept ≡ old.kept → IfSome frame.before (λ (m : Box Machine). state_of m.value ≡ state)
+      → IfSome new.checkpoint (IsCheckpoint history old.frames.items) → IsSearch history new
+  IsSearch-grown frame state next machine reached grows is_line resumes frames cpu number of_cpu numbered within counts from above held leads kept marked point =
       let lines = lines_of old.frames.items in
       let longer : lines_of new.frames.items ≡ lines ++ frame.line ∷ [] = ap lines_of frames ∙ lines_of-push old.frames.items frame in
       let further = Reaches-push history is_history lines state reached frame.line next grows in
@@ -221,13 +265,16 @@ module _ (history : History) (is_history : IsHistory history) (old new : Search)
         tried = subst (λ (f : ℕ). Tried history (lines_of new.frames.items) f new.above) (sym from)
             (subst (λ (a : Option ℕ). Tried history (lines_of new.frames.items) 0 a) (sym above) (Tried-none history (lines_of new.frames.items)));
         kept = subst (λ (k : Kept). AreNowhere history k.configurations.items) (sym kept) is_search.kept;
+        checkpoint = subst (λ (fs : List Frame). IfSome new.checkpoint (IsCheckpoint history fs)) (sym frames)
+            (checkpoint-push history old.frames.items frame new.checkpoint point);
       }
 
   -- the last line was taken back
   pub IsSearch-back : (frame : Frame) → old.frames.items ≡ new.frames.items ++ frame ∷ [] → LeadsNowhere history (lines_of old.frames.items)
       → new.counts ≡ set old.counts (cpu_named frame.line) (number_named frame.line) → new.from ≡ frame.from → new.above ≡ frame.above
-      → new.machine ≡ option_map (λ (m : Box Machine). m.value) frame.before → new.kept ≡ old.kept → IsSearch history new
-  IsSearch-back frame frames nowhere counts from above held kept =
+      → new.machine ≡ option_map (λ (m : Box Machine). m.value) frame.before → new.kept ≡ old.kept
+      → IfSome new.checkpoint (λ (c : Checkpoint). c.lines ≤ length new.frames.items) → IfSome new.checkpoint (λ c. old.checkpoint ≡ Some c) → IsSearch history new
+  IsSearch-back frame frames nowhere counts from above held kept within same =
       let lines = lines_of new.frames.items in
       let longer : lines_of old.frames.items ≡ lines ++ frame.line ∷ [] = ap lines_of frames ∙ lines_of-push new.frames.items frame in
       let were : AreFrames history (new.frames.items ++ frame ∷ []) = subst (λ (fs : List Frame). AreFrames history fs) frames is_search.frames in
@@ -247,6 +294,8 @@ module _ (history : History) (is_history : IsHistory history) (old new : Search)
             (subst (λ (a : Option ℕ). Tried history lines frame.from a) (sym above)
             (last.is_frame.resumes (subst (λ (ls : List Line). LeadsNowhere history ls) longer nowhere)));
         kept = subst (λ (k : Kept). AreNowhere history k.configurations.items) (sym kept) is_search.kept;
+        checkpoint = checkpoint-pop history new.frames.items frame old.checkpoint new.checkpoint
+            (subst (λ (fs : List Frame). IfSome old.checkpoint (IsCheckpoint history fs)) frames is_search.checkpoint) within same;
       }
 
 -- lines that pass lead to a state by each machine that is behind them
@@ -257,8 +306,8 @@ Reaches-machine history lines state other reached passes =
 
 -- no line
 pub IsSearch-nil : (history : History) (new : Search) → new.frames.items ≡ [] → new.counts ≡ 0 ∷ 0 ∷ 0 ∷ 0 ∷ 0 ∷ 0 ∷ 0 ∷ 0 ∷ [] → new.from ≡ 0
-    → new.above ≡ None → new.machine ≡ None → new.kept.configurations.items ≡ [] → IsSearch history new
-IsSearch-nil history new frames counts from above none nothing = record {
+    → new.above ≡ None → new.machine ≡ None → new.kept.configurations.items ≡ [] → new.checkpoint ≡ None → IsSearch history new
+IsSearch-nil history new frames counts from above none nothing far = record {
   frames = subst (λ (fs : List Frame). AreFrames history fs) (sym frames) (λ i frame is. absurd (none-some frame is));
   state = opening history.config;
   reached = subst (λ (fs : List Frame). Reaches history (lines_of fs) (opening history.config)) (sym frames) (Reaches-nil history);
@@ -268,6 +317,7 @@ IsSearch-nil history new frames counts from above none nothing = record {
   tried = subst (λ (f : ℕ). Tried history (lines_of new.frames.items) f new.above) (sym from)
       (subst (λ (a : Option ℕ). Tried history (lines_of new.frames.items) 0 a) (sym above) (Tried-none history (lines_of new.frames.items)));
   kept = subst (λ (ks : List Configuration). AreNowhere history ks) (sym nothing) (λ i configuration is. absurd (none-some configuration is));
+  checkpoint = subst (λ (o : Option Checkpoint). IfSome o (IsCheckpoint history new.frames.items)) (sym far) tt;
 }
 
 -- ---- what the next calls tell
@@ -408,12 +458,13 @@ module _ (history : History) (is_history : IsHistory history) (search : Search) 
   -- a call that is refused here stands in the order
   pub IsSearch-settled : (next : IsNextCall history search.counts 0 choice) (bound : ℕ) → choice.places.called ≤ bound → IsRefusedHere history (state_of machine) choice
       → IsLeast history.events search.counts 0 history.config.cpus bound
+      → (point : Option Checkpoint) → IfSome point (IsCheckpoint history search.frames.items)
       → (before : Option (Box Machine)) → IfSome before (λ (m : Box Machine). state_of m.value ≡ state_of machine)
-      → (count : ℕ) → IsLonger search.frames.items search.counts (Some machine) count search.kept choice
+      → (count : ℕ) → IsLonger search.frames.items search.counts (Some machine) count search.kept point choice
       (record { line = Keep choice.cpu choice.number; from = 2 ^ 32 - 1; above = None; before = before }) new
       → IsSearch history new
   unfolding Grows-refused
-  IsSearch-settled next bound early refused is_least before marked count longer =
+  IsSearch-settled next bound early refused is_least point stands before marked count longer =
       let lines = lines_of search.frames.items in
       let soon = ReturnBehind-called history is_history lines (state_of machine) reached search.counts is_search.counts bound is_least choice.places.called
       choice.cpu choice.number next.places.called.0 next.places.called.1 early in
@@ -423,33 +474,35 @@ module _ (history : History) (is_history : IsHistory history) (search : Search) 
       (state_of machine) (state_of machine) machine reached grows at
       (λ nowhere. Tried-all history lines _ _ (nowhere_settled history is_history lines (state_of machine) reached choice.cpu choice.number grows refused.refusal nowhere))
       longer.frames choice.cpu choice.number refl refl at.0 longer.counts longer.from longer.above longer.machine refl longer.kept marked
+      (subst (λ (o : Option Checkpoint). IfSome o (IsCheckpoint history search.frames.items)) (sym longer.checkpoint) stands)
 
   module _ (next : IsNextCall history search.counts search.from choice) (is_least : IsLeast history.events search.counts search.from history.config.cpus (rank_of choice)) (frame : Frame) (attempt : IsAttempt history (lines_of search.frames.items) choice frame) where
     -- a call that is given its reply stands in the order
     pub IsSearch-given : (later : Machine) → ReturnBehind history.events (lines_of search.frames.items) choice.places.called
         → IsGiven history.events frame.line choice.places.called (state_of machine) (state_of later)
         → IfSome frame.before (λ (m : Box Machine). state_of m.value ≡ state_of machine)
-        → (count : ℕ) → IsLonger search.frames.items search.counts (Some later) count search.kept choice frame new → IsSearch history new
-    IsSearch-given later soon given marked count longer =
+        → (point : Option Checkpoint) → IfSome point (IsCheckpoint history search.frames.items)
+        → (count : ℕ) → IsLonger search.frames.items search.counts (Some later) count search.kept point choice frame new → IsSearch history new
+    IsSearch-given later soon given marked point stands count longer =
         let at = of_a_line history is_history choice next.places in
         IsSearch-grown history is_history search new is_search frame (state_of machine) (state_of later) later reached
         (Grows-given history is_history search is_search choice next is_least frame (state_of machine) (state_of later) attempt soon given)
         attempt.is_line (Tried-frame history is_history search is_search choice next is_least frame attempt)
         longer.frames choice.cpu choice.number attempt.of_cpu attempt.numbered at.0 longer.counts longer.from longer.above longer.machine refl longer.kept
-        marked
+        marked (subst (λ (o : Option Checkpoint). IfSome o (IsCheckpoint history search.frames.items)) (sym longer.checkpoint) stands)
 
     -- one that is refused it is left behind
     pub IsSearch-refused : (later : Machine) → state_of later ≡ state_of machine → IsRefused history.events (state_of machine) frame.line
         → new.frames.items ≡ search.frames.items → new.counts ≡ search.counts → new.machine ≡ Some later → new.from ≡ frame.from → new.above ≡ frame.above
-        → new.kept ≡ search.kept → IsSearch history new
-    IsSearch-refused later kept refused frames counts held from above configurations =
+        → new.kept ≡ search.kept → IfSome new.checkpoint (IsCheckpoint history search.frames.items) → IsSearch history new
+    IsSearch-refused later kept refused frames counts held from above configurations point =
         let tried = Tried-refused history is_history search is_search choice next is_least frame (state_of machine) attempt reached refused in
         IsSearch-tried history is_history search new is_search frames counts
         (subst (λ (m : Option Machine). IfSome m (λ x. Reaches history (lines_of search.frames.items) (state_of x))) (sym held)
         (subst (Reaches history (lines_of search.frames.items)) (sym kept) reached))
         (subst (λ (f : ℕ). Tried history (lines_of search.frames.items) f new.above) (sym from)
         (subst (λ (a : Option ℕ). Tried history (lines_of search.frames.items) frame.from a) (sym above) tried))
-        (subst (λ (k : Kept). AreNowhere history k.configurations.items) (sym configurations) is_search.kept)
+        (subst (λ (k : Kept). AreNowhere history k.configurations.items) (sym configurations) is_search.kept) point
 
 -- ---- bounds of a call that may come next
 

@@ -1,5 +1,5 @@
 -- What a search holds.
-use Rattle.std.specs.Prelude.{◌≡◌, ℕ, ◌<◌, ◌*◌, ◌-◌, ◌^◌, ◌⊎◌, Bool, true, false, List, [], ◌∷◌, ◌++◌, map, take, length, slice_get, slice_index, slice_set, Some, None, Option, IfSome, ◌+◌}
+use Rattle.std.specs.Prelude.{◌≡◌, ℕ, ◌<◌, ◌≤◌, ◌*◌, ◌-◌, ◌^◌, ◌⊎◌, Bool, true, false, List, [], ◌∷◌, ◌++◌, map, take, length, slice_get, slice_index, slice_set, Some, None, Option, IfSome, ◌+◌}
 use Rattle.std.specs.Global.{Box}
 use Rattle.rmm_spec.specs.declared.command.Command.{Command}
 use Rattle.rmm_spec.specs.declared.event.Event.{Event}
@@ -17,6 +17,7 @@ use Rattle.order_laws.specs.Order.{IsNext, IsRefusal, LeadsNowhere, Reaches}
 use Rattle.finding.specs.Counts.{AreCounts}
 use Rattle.finding.specs.Kept.{AreNowhere}
 use Rattle.finding.specs.Tried.{Tried}
+use Rattle.finding.specs.declared.checkpoint.Checkpoint.{Checkpoint}
 use Rattle.finding.specs.declared.choice.Choice.{Choice}
 use Rattle.finding.specs.declared.frame.Frame.{Frame}
 use Rattle.finding.specs.declared.kept.Kept.{Kept}
@@ -44,6 +45,15 @@ abbrev pub AreFrames : History → List Frame → Type 0
 AreFrames history frames =
     (i : ℕ) (frame : Frame) → slice_get frames i ≡ Some frame → StandsAt history (lines_of (take i frames)) frame
 
+-- the machine is behind the first lines, so many
+pub record IsCheckpoint (history : History) (frames : List Frame) (checkpoint : Checkpoint) : Type 0 where
+  pub within : checkpoint.lines ≤ length frames
+  pub reached : Reaches history (lines_of (take checkpoint.lines frames)) (state_of checkpoint.machine)
+
+-- the first lines, however many, lead somewhere
+abbrev pub AreReached : History → List Frame → Type 0
+AreReached history frames = (i : ℕ) → i ≤ length frames → (state : State) × Reaches history (lines_of (take i frames)) state
+
 pub record IsSearch (history : History) (search : Search) : Type 0 where
   pub frames : AreFrames history search.frames.items
   pub state : State
@@ -52,9 +62,10 @@ pub record IsSearch (history : History) (search : Search) : Type 0 where
   pub counts : AreCounts search.counts (lines_of search.frames.items)
   pub tried : Tried history (lines_of search.frames.items) search.from search.above
   pub kept : AreNowhere history search.kept.configurations.items
+  pub checkpoint : IfSome search.checkpoint (IsCheckpoint history search.frames.items)
 
 -- the search has one line more, behind which nothing was tried
-pub record IsLonger (old_frames : List Frame) (old_counts : List ℕ) (held : Option Machine) (count : ℕ) (known : Kept) (choice : Choice) (frame : Frame) (new : Search) : Type 0 where
+pub record IsLonger (old_frames : List Frame) (old_counts : List ℕ) (held : Option Machine) (count : ℕ) (known : Kept) (point : Option Checkpoint) (choice : Choice) (frame : Frame) (new : Search) : Type 0 where
   pub frames : new.frames.items ≡ old_frames ++ frame ∷ []
   pub counts : new.counts ≡ slice_set old_counts choice.cpu (choice.number + 1)
   pub from : new.from ≡ 0
@@ -63,6 +74,7 @@ pub record IsLonger (old_frames : List Frame) (old_counts : List ℕ) (held : Op
   pub fresh : new.fresh ≡ true
   pub offers : new.offers.count ≡ count
   pub kept : new.kept ≡ known
+  pub checkpoint : new.checkpoint ≡ point
 
 -- the call has returned with a refusal that the specification gives it in the state
 pub record IsRefusedHere (history : History) (state : State) (choice : Choice) : Type 0 where

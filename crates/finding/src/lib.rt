@@ -6,6 +6,7 @@
 #![tactic(auto)]
 
 mod attempt;
+mod checkpoint;
 mod choice;
 mod ends;
 mod finding;
@@ -13,6 +14,7 @@ mod frame;
 mod kept;
 mod longest;
 mod marks;
+mod offering;
 mod offers;
 mod refused;
 mod restoring;

@@ -1,30 +1,25 @@
 //! An order that is begun.
 
 ghost use Rattle.std.specs.Prelude.{◌≡◌, ℕ, ◌+◌, ◌-◌, ◌^◌, ◌<◌, [], ◌++◌, ◌∷◌, slice_set, false, Some, None, IfOk, IfSome, OnOk, IsTrue};
-ghost use Rattle.std.specs.Bool.{MatchBool};
-ghost use Rattle.rmm_spec.specs.FirstFault.{IsRefused};
-ghost use Rattle.rmm_spec.specs.Linearization.{IsFinished, IsOfItsKind, IsReplyOf, IsReturned, cpu_named, number_named};
-ghost use Rattle.rmi_view.specs.Seen.{reply_seen};
-ghost use Rattle.history.specs.Calls.{ArePlacesOf};
 ghost use Rattle.order_laws.specs.Order.{LeadsNowhere, Reaches, ReturnBehind};
 ghost use Rattle.finding.specs.Choice.{IsLeast, IsNextCall, rank_of};
-ghost use Rattle.finding.specs.Search.{IsGiven, lines_of};
+ghost use Rattle.finding.specs.Search.{lines_of};
 ghost use Rattle.std.specs.Global.{Box};
 ghost use Rattle.spec_machine.specs.declared.machine.Machine.{Machine as SpecMachine};
-ghost use Rattle.spec_machine.specs.Offers.{one_more};
 ghost use Rattle.spec_machine.specs.View.{state_of};
 
 use crate::attempt::attempt;
+use crate::checkpoint::{Checkpoint, still_at};
 use crate::choice::{Choice, PENDING, next_choice, rank};
 use crate::frame::{Frame, name_of};
 use crate::kept::Kept;
 use crate::marks::{Marks, unboxed};
+use crate::offering::offer;
 use crate::offers::Offers;
 use crate::refused::refused_choice;
 use crate::restoring::{certificate_of, machine_at};
 use certificate::Certificate;
 use history::History;
-use rmi_view::ReplyRef;
 use rmm_spec::Line;
 use spec_machine::Machine;
 use std::alloc::{AllocError, Global};
@@ -43,6 +38,7 @@ pub(crate) struct Search {
     pub(crate) offers: Offers,
     pub(crate) kept: Kept,
     pub(crate) marks: Marks,
+    pub(crate) checkpoint: Option<Checkpoint>,
 }
 
 /// How a search goes on.
@@ -73,6 +69,7 @@ impl Search {
             offers: Offers::none(),
             kept: Kept::new(alloc),
             marks: Marks::none(),
+            checkpoint: None,
         }
     }
 
@@ -145,7 +142,15 @@ impl Search {
         ensures { IfOk result (λ progress. Continues progress history.now.recorded self.old self.new) }
     {
         history.well_formed();
-        let machine = machine_at(alloc, history, &self.frames, self.machine.take())?;
+        let standing = machine_at(
+            alloc,
+            history,
+            &self.frames,
+            self.machine.take(),
+            self.checkpoint.take(),
+        )?;
+        self.checkpoint = standing.checkpoint;
+        let machine = standing.machine;
         let known = self.kept.has(&self.counts, &machine);
         self.machine = Some(machine);
         if known {
@@ -162,7 +167,15 @@ impl Search {
         ensures { IfOk result (λ progress. Continues progress history.now.recorded self.old self.new) }
     {
         history.well_formed();
-        let machine = machine_at(alloc, history, &self.frames, self.machine.take())?;
+        let standing = machine_at(
+            alloc,
+            history,
+            &self.frames,
+            self.machine.take(),
+            self.checkpoint.take(),
+        )?;
+        self.checkpoint = standing.checkpoint;
+        let machine = standing.machine;
         self.kept.keep(alloc, history, &self.counts, &machine)?;
         self.machine = Some(machine);
         Ok(self.take_back(history))
@@ -184,6 +197,7 @@ impl Search {
         self.above = frame.above;
         self.marks.drop_one(&frame.before, self.frames.len());
         self.machine = unboxed(frame.before);
+        self.checkpoint = still_at(self.checkpoint.take(), self.frames.len());
         self.fresh = false;
         Progress::Going
     }
@@ -197,7 +211,15 @@ impl Search {
         ensures { OnOk result (GoesOn history.now.recorded self.old self.new) }
     {
         history.well_formed();
-        let machine = machine_at(alloc, history, &self.frames, self.machine.take())?;
+        let standing = machine_at(
+            alloc,
+            history,
+            &self.frames,
+            self.machine.take(),
+            self.checkpoint.take(),
+        )?;
+        self.checkpoint = standing.checkpoint;
+        let machine = standing.machine;
         let found = refused_choice(history, &machine, &self.counts, bound);
         let Some(choice) = found else {
             self.machine = Some(machine);
@@ -246,7 +268,15 @@ impl Search {
     {
         history.well_formed();
         let above = self.above_for(choice);
-        let mut machine = machine_at(alloc, history, &self.frames, self.machine.take())?;
+        let standing = machine_at(
+            alloc,
+            history,
+            &self.frames,
+            self.machine.take(),
+            self.checkpoint.take(),
+        )?;
+        self.checkpoint = standing.checkpoint;
+        let mut machine = standing.machine;
         let Some(mut frame) = attempt(history, &machine, choice, above) else {
             self.machine = Some(machine);
             self.pass(choice);
@@ -281,7 +311,7 @@ impl Search {
     fn push(&mut self, choice: Choice, frame: Frame) -> Result<(), AllocError>
         requires cpu { choice.cpu < 8 }
         requires number { choice.number < 1000000 }
-        ensures { OnOk result (IsLonger self.old.frames.items self.old.counts self.old.machine self.old.offers.count self.old.kept choice frame self.new) }
+        ensures { OnOk result (IsLonger self.old.frames.items self.old.counts self.old.machine self.old.offers.count self.old.kept self.old.checkpoint choice frame self.new) }
     {
         self.marks.add(&frame.before);
         self.frames.push(frame)?;
@@ -291,62 +321,4 @@ impl Search {
         self.fresh = true;
         Ok(())
     }
-}
-
-/// Whether the machine gives the call its reply: the recorded one, or the one that the line claims.
-fn offer(
-    offers: &mut Offers,
-    machine: &mut Machine,
-    history: &History,
-    choice: Choice,
-    line: &Line,
-) -> Result<bool, AllocError>
-    requires places { ArePlacesOf history.now.recorded.events choice.cpu choice.number choice.places }
-    requires of_cpu { cpu_named line.now ≡ choice.cpu }
-    requires numbered { number_named line.now ≡ choice.number }
-    requires kind { IsOfItsKind history.now.recorded.events line.now }
-    ensures given { IfOk result (λ given. MatchBool given
-        (IsGiven history.now.recorded.events line.now choice.places.called (state_of machine.old) (state_of machine.new))
-        (IsRefused history.now.recorded.events (state_of machine.old) line.now)) }
-    ensures kept { IfOk result (λ given. given ≡ false → state_of machine.new ≡ state_of machine.old) }
-    ensures counted { offers.new.count ≡ one_more offers.old.count }
-{
-    history.well_formed();
-    let Some(command) = history.command_at(choice.places.called as usize) else {
-        unreachable!()
-    };
-    let reply = reply_of(history, choice, line);
-    let given = offers.make(machine, choice.cpu, command, reply)?;
-    Ok(given)
-}
-
-/// The reply of a line: the recorded one, or the one that it claims.
-fn reply_of<'a>(history: &'a History, choice: Choice, line: &'a Line) -> ReplyRef<'a>
-    requires places { ArePlacesOf history.now.recorded.events choice.cpu choice.number choice.places }
-    requires of_cpu { cpu_named line.now ≡ choice.cpu }
-    requires numbered { number_named line.now ≡ choice.number }
-    requires kind { IsOfItsKind history.now.recorded.events line.now }
-    ensures { IsReplyOf history.now.recorded.events line.now (reply_seen result) }
-{
-    history.well_formed();
-    match line {
-        Line::Keep { .. } => recorded(history, choice),
-        Line::Unfinished { reply, .. } => ReplyRef::of(reply),
-    }
-}
-
-/// The reply that the history records of a finished call.
-fn recorded<'a>(history: &'a History, choice: Choice) -> ReplyRef<'a>
-    requires places { ArePlacesOf history.now.recorded.events choice.cpu choice.number choice.places }
-    requires finished { IsFinished history.now.recorded.events choice.cpu choice.number }
-    ensures { (place : ℕ) × IsReturned history.now.recorded.events place choice.cpu choice.number (reply_seen result) }
-{
-    history.well_formed();
-    let Some(returned) = choice.places.returned else {
-        unreachable!()
-    };
-    let Some(reply) = history.reply_at(returned as usize) else {
-        unreachable!()
-    };
-    reply
 }

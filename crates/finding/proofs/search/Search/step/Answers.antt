@@ -39,7 +39,7 @@ returns-then-bound-choice c =
       IsSearch-tried history c.well_formed-2.ensures search _ c.requires.is_search refl refl c.requires.is_search.machine
           (Tried-late history c.well_formed-2.ensures search c.requires.is_search c.in-Some.first c.in-Some-next_choice.choice c.in-Some.ensures.next
           (omega (arith, c.rank-bound.ensures.rank, c.if-bound-ge-PENDING.false)) next c.in-Some-next_choice.ensures.least
-          (omega (arith, c.rank-bound.ensures.rank, c.if-bound-choice.true))) c.requires.is_search.kept,
+          (omega (arith, c.rank-bound.ensures.rank, c.if-bound-choice.true))) c.requires.is_search.kept c.requires.is_search.checkpoint,
       Moves-passed search _ None c.if-self.false (omega (arith, ranked)) (omega (arith, small)),
     )
 

@@ -1,5 +1,7 @@
 -- The last line taken back, where there is one.
-use Rattle.std.proofs.Common.{refl, arith}
+use Rattle.std.proofs.Common.{◌≡◌, ◌≤◌, length, refl, subst, arith}
+use Rattle.std.specs.Option.{IfSome}
+use Rattle.finding.specs.declared.checkpoint.Checkpoint.{Checkpoint}
 use Rattle.finding.proofs.Moving.{Moves-back, few_frames}
 use Rattle.finding.proofs.Searches.{IsSearch-back, few_of_frame}
 use Rattle.finding.proofs.search.Search.take_back.Goals as goal
@@ -13,8 +15,12 @@ bounds-self-cpu c =
 pub returns : goal.returns
 returns c =
     let history = c.args.history.now.recorded in
-    let search = c.args.self.now in (
+    let search = c.args.self.now in
+    let frames = c.pop.new.self in
+    let same : frames.len ≡ length frames.items = omega (arith, frames.ok.0) in (
       IsSearch-back history c.well_formed-2.ensures search _ c.requires.is_search c.in-Some.frame c.in-Some.ensures.items
-          c.requires.nowhere (rw (c.name_of-cpu.ensures.cpu, c.name_of-cpu.ensures.number) refl) refl refl c.unboxed.ensures refl,
+          c.requires.nowhere (rw (c.name_of-cpu.ensures.cpu, c.name_of-cpu.ensures.number) refl) refl refl c.unboxed.ensures refl
+          (subst (λ n. IfSome c.still_at.result (λ (point : Checkpoint). point.lines ≤ n)) same (rw c.len-2.ensures at c.still_at.ensures.within))
+          (rw c.take.ensures.value at c.still_at.ensures.same),
       Moves-back search _ c.in-Some.frame (few_frames history c.well_formed-2.ensures search c.requires.is_search) c.in-Some.ensures.items refl refl,
     )

@@ -6,12 +6,16 @@ use Rattle.finding.specs.Search.{lines_of}
 use Rattle.spec_machine.specs.View.{state_of}
 use Rattle.finding.proofs.Attempts.{IsAttempt-marked}
 use Rattle.finding.proofs.Moving.{Moves-offered, Moves-passed}
-use Rattle.finding.proofs.Searches.{IsCertificate-search, IsSearch-given, IsSearch-refused, IsSearch-tried, MayTry-search, Tried-call, number_of_next, rank_of_next}
+use Rattle.finding.proofs.Searches.{AreReached-search, IsCertificate-search, IsSearch-given, IsSearch-refused, IsSearch-tried, MayTry-search, Tried-call, number_of_next, rank_of_next}
 use Rattle.finding.proofs.search.Search.try_choice.Goals as goal
 
 pub machine_at-requires-clause-certificate : goal.machine_at-requires-clause-certificate
 machine_at-requires-clause-certificate c =
     rw c.deref.ensures.value (IsCertificate-search c.args.history.now.recorded c.well_formed-2.ensures c.args.self.now c.requires.is_search)
+
+pub machine_at-requires-clause-reached : goal.machine_at-requires-clause-reached
+machine_at-requires-clause-reached c =
+    rw c.deref.ensures.value (AreReached-search c.args.history.now.recorded c.args.self.now c.requires.is_search)
 
 pub pass-requires : goal.pass-requires
 pass-requires c =
@@ -22,16 +26,17 @@ returns-in_default c =
     let history = c.args.history.now.recorded in
     let search = c.args.self.now in
     let wf = c.well_formed-2.ensures in
-    let reached = rw c.deref.ensures.value at c.in_ok-machine.ensures in
-    let may = MayTry-search history wf search c.requires.is_search c.args.choice c.requires.next c.requires.least (state_of c.in_ok-machine.machine) reached
+    let reached = rw c.deref.ensures.value at c.in_ok-standing.ensures.machine in
+    let may = MayTry-search history wf search c.requires.is_search c.args.choice c.requires.next c.requires.least (state_of c.in_ok-standing.standing.machine) reached
     c.above_for-above.result c.above_for-above.ensures in
     let small = rank_of_next history wf search.counts search.from c.args.choice c.requires.next in
     let ranked = c.requires.next.ranked in
     rw c.pass.ensures (
       IsSearch-tried history wf search _ c.requires.is_search refl refl reached
-          (Tried-call history wf search c.requires.is_search c.args.choice c.requires.next c.requires.least (c.in_default.ensures (lines_of search.frames.items) may)) c.requires.is_search.kept,
+          (Tried-call history wf search c.requires.is_search c.args.choice c.requires.next c.requires.least (c.in_default.ensures (lines_of search.frames.items) may)) c.requires.is_search.kept
+          (rw c.deref.ensures.value at c.in_ok-standing.ensures.checkpoint),
       record {
-        further = (Moves-passed (record search { machine = Some c.in_ok-machine.machine }) (rank_of c.args.choice + 1) None c.requires.fresh
+        further = (Moves-passed (record search { machine = Some c.in_ok-standing.standing.machine }) (rank_of c.args.choice + 1) None c.requires.fresh
             (omega (arith, ranked)) (omega (arith, small))).further;
       },
     )
@@ -40,27 +45,27 @@ pub offer-requires-clause-of_cpu : goal.offer-requires-clause-of_cpu
 offer-requires-clause-of_cpu c =
     let history = c.args.history.now.recorded in
     let search = c.args.self.now in
-    let reached = rw c.deref.ensures.value at c.in_ok-machine.ensures in
+    let reached = rw c.deref.ensures.value at c.in_ok-standing.ensures.machine in
     (c.in-Some.ensures (lines_of search.frames.items)
-    (MayTry-search history c.well_formed-2.ensures search c.requires.is_search c.args.choice c.requires.next c.requires.least (state_of c.in_ok-machine.machine)
+    (MayTry-search history c.well_formed-2.ensures search c.requires.is_search c.args.choice c.requires.next c.requires.least (state_of c.in_ok-standing.standing.machine)
     reached c.above_for-above.result c.above_for-above.ensures)).of_cpu
 
 pub offer-requires-clause-numbered : goal.offer-requires-clause-numbered
 offer-requires-clause-numbered c =
     let history = c.args.history.now.recorded in
     let search = c.args.self.now in
-    let reached = rw c.deref.ensures.value at c.in_ok-machine.ensures in
+    let reached = rw c.deref.ensures.value at c.in_ok-standing.ensures.machine in
     (c.in-Some.ensures (lines_of search.frames.items)
-    (MayTry-search history c.well_formed-2.ensures search c.requires.is_search c.args.choice c.requires.next c.requires.least (state_of c.in_ok-machine.machine)
+    (MayTry-search history c.well_formed-2.ensures search c.requires.is_search c.args.choice c.requires.next c.requires.least (state_of c.in_ok-standing.standing.machine)
     reached c.above_for-above.result c.above_for-above.ensures)).numbered
 
 pub offer-requires-clause-kind : goal.offer-requires-clause-kind
 offer-requires-clause-kind c =
     let history = c.args.history.now.recorded in
     let search = c.args.self.now in
-    let reached = rw c.deref.ensures.value at c.in_ok-machine.ensures in
+    let reached = rw c.deref.ensures.value at c.in_ok-standing.ensures.machine in
     (c.in-Some.ensures (lines_of search.frames.items)
-    (MayTry-search history c.well_formed-2.ensures search c.requires.is_search c.args.choice c.requires.next c.requires.least (state_of c.in_ok-machine.machine)
+    (MayTry-search history c.well_formed-2.ensures search c.requires.is_search c.args.choice c.requires.next c.requires.least (state_of c.in_ok-standing.standing.machine)
     reached c.above_for-above.result c.above_for-above.ensures)).kind
 
 pub push-requires-clause-number : goal.push-requires-clause-number
@@ -71,16 +76,16 @@ pub returns-then-given : goal.returns-then-given
 returns-then-given c =
     let history = c.args.history.now.recorded in
     let search = c.args.self.now in
-    let machine = c.in_ok-machine.machine in
-    let reached = rw c.deref.ensures.value at c.in_ok-machine.ensures in
+    let machine = c.in_ok-standing.standing.machine in
+    let reached = rw c.deref.ensures.value at c.in_ok-standing.ensures.machine in
     let given = rw c.if-given.true at c.in_ok-given.ensures.given in
     let attempt = c.in-Some.ensures (lines_of search.frames.items)
     (MayTry-search history c.well_formed-2.ensures search c.requires.is_search c.args.choice c.requires.next c.requires.least (state_of machine)
     reached c.above_for-above.result c.above_for-above.ensures) in
     on_ok_weaker c.push.result (λ longer. (
       IsSearch-given history c.well_formed-2.ensures search c.requires.is_search c.args.choice machine reached c.push.new.self c.requires.next c.requires.least
-          _ (IsAttempt-marked history (lines_of search.frames.items) c.args.choice c.in-Some.frame c.in_ok-self.self attempt)
-          c.offer.new.machine c.requires.soon given c.in_ok-self.ensures c.offer.new.offers.count longer,
+          _ (IsAttempt-marked history (lines_of search.frames.items) c.args.choice c.in-Some.frame c.in_ok-frame.field-0 attempt)
+          c.offer.new.machine c.requires.soon given c.in_ok-frame.ensures _ (rw c.deref.ensures.value at c.in_ok-standing.ensures.checkpoint) c.offer.new.offers.count longer,
       Moves-offered search c.push.new.self c.requires.few (longer.offers ∙ c.in_ok-given.ensures.counted),
     )) c.push.ensures
 
@@ -88,13 +93,14 @@ pub returns : goal.returns
 returns c =
     let history = c.args.history.now.recorded in
     let search = c.args.self.now in
-    let machine = c.in_ok-machine.machine in
-    let reached = rw c.deref.ensures.value at c.in_ok-machine.ensures in
+    let machine = c.in_ok-standing.standing.machine in
+    let reached = rw c.deref.ensures.value at c.in_ok-standing.ensures.machine in
     let refused = rw c.if-given.false at c.in_ok-given.ensures.given in
     let attempt = c.in-Some.ensures (lines_of search.frames.items)
     (MayTry-search history c.well_formed-2.ensures search c.requires.is_search c.args.choice c.requires.next c.requires.least (state_of machine)
     reached c.above_for-above.result c.above_for-above.ensures) in (
       IsSearch-refused history c.well_formed-2.ensures search c.requires.is_search c.args.choice machine reached _ c.requires.next c.requires.least
-          c.in-Some.frame attempt c.offer.new.machine (c.in_ok-given.ensures.kept c.if-given.false) refused refl refl refl refl refl refl,
+          c.in-Some.frame attempt c.offer.new.machine (c.in_ok-given.ensures.kept c.if-given.false) refused refl refl refl refl refl refl
+          (rw c.deref.ensures.value at c.in_ok-standing.ensures.checkpoint),
       Moves-offered search _ c.requires.few c.in_ok-given.ensures.counted,
     )

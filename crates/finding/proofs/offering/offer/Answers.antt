@@ -2,7 +2,7 @@ use Rattle.rmi_view.specs.Seen.{command_seen, reply_seen}
 use Rattle.spec_machine.specs.View.{state_of}
 use Rattle.checker.proofs.Judging.{HasOnePlaces-from_history}
 use Rattle.finding.proofs.OfferLaws.{offered}
-use Rattle.finding.proofs.search.offer.Goals as goal
+use Rattle.finding.proofs.offering.offer.Goals as goal
 
 pub returns-clause-given : goal.returns-clause-given
 returns-clause-given c =

@@ -1,0 +1,77 @@
+//! Replies that a machine is offered.
+
+ghost use Rattle.std.specs.Prelude.{◌≡◌, ℕ, false, IfOk};
+ghost use Rattle.std.specs.Bool.{MatchBool};
+ghost use Rattle.rmm_spec.specs.FirstFault.{IsRefused};
+ghost use Rattle.rmm_spec.specs.Linearization.{IsFinished, IsOfItsKind, IsReplyOf, IsReturned, cpu_named, number_named};
+ghost use Rattle.rmi_view.specs.Seen.{reply_seen};
+ghost use Rattle.history.specs.Calls.{ArePlacesOf};
+ghost use Rattle.finding.specs.Search.{IsGiven};
+ghost use Rattle.spec_machine.specs.Offers.{one_more};
+ghost use Rattle.spec_machine.specs.View.{state_of};
+
+use crate::choice::Choice;
+use crate::offers::Offers;
+use history::History;
+use rmi_view::ReplyRef;
+use rmm_spec::Line;
+use spec_machine::Machine;
+use std::alloc::AllocError;
+
+/// Whether the machine gives the call its reply: the recorded one, or the one that the line claims.
+pub(crate) fn offer(
+    offers: &mut Offers,
+    machine: &mut Machine,
+    history: &History,
+    choice: Choice,
+    line: &Line,
+) -> Result<bool, AllocError>
+    requires places { ArePlacesOf history.now.recorded.events choice.cpu choice.number choice.places }
+    requires of_cpu { cpu_named line.now ≡ choice.cpu }
+    requires numbered { number_named line.now ≡ choice.number }
+    requires kind { IsOfItsKind history.now.recorded.events line.now }
+    ensures given { IfOk result (λ given. MatchBool given
+        (IsGiven history.now.recorded.events line.now choice.places.called (state_of machine.old) (state_of machine.new))
+        (IsRefused history.now.recorded.events (state_of machine.old) line.now)) }
+    ensures kept { IfOk result (λ given. given ≡ false → state_of machine.new ≡ state_of machine.old) }
+    ensures counted { offers.new.count ≡ one_more offers.old.count }
+{
+    history.well_formed();
+    let Some(command) = history.command_at(choice.places.called as usize) else {
+        unreachable!()
+    };
+    let reply = reply_of(history, choice, line);
+    let given = offers.make(machine, choice.cpu, command, reply)?;
+    Ok(given)
+}
+
+/// The reply of a line: the recorded one, or the one that it claims.
+fn reply_of<'a>(history: &'a History, choice: Choice, line: &'a Line) -> ReplyRef<'a>
+    requires places { ArePlacesOf history.now.recorded.events choice.cpu choice.number choice.places }
+    requires of_cpu { cpu_named line.now ≡ choice.cpu }
+    requires numbered { number_named line.now ≡ choice.number }
+    requires kind { IsOfItsKind history.now.recorded.events line.now }
+    ensures { IsReplyOf history.now.recorded.events line.now (reply_seen result) }
+{
+    history.well_formed();
+    match line {
+        Line::Keep { .. } => recorded(history, choice),
+        Line::Unfinished { reply, .. } => ReplyRef::of(reply),
+    }
+}
+
+/// The reply that the history records of a finished call.
+fn recorded<'a>(history: &'a History, choice: Choice) -> ReplyRef<'a>
+    requires places { ArePlacesOf history.now.recorded.events choice.cpu choice.number choice.places }
+    requires finished { IsFinished history.now.recorded.events choice.cpu choice.number }
+    ensures { (place : ℕ) × IsReturned history.now.recorded.events place choice.cpu choice.number (reply_seen result) }
+{
+    history.well_formed();
+    let Some(returned) = choice.places.returned else {
+        unreachable!()
+    };
+    let Some(reply) = history.reply_at(returned as usize) else {
+        unreachable!()
+    };
+    reply
+}
