@@ -13,7 +13,7 @@ use std::alloc::{AllocError, Global};
 const HASHES: usize = 1 << 16;
 
 /// How many granules' cells are kept at most, in all configurations together.
-const MOST_CELLS: u64 = 1 << 26;
+const MOST_CELLS: u64 = 1 << 29;
 
 /// Where none is in a list.
 const NOWHERE: u32 = u32::MAX;
