@@ -65,4 +65,5 @@ def main():
         print(f"{name}: {reply}: {count}")
 
 
-main()
+if __name__ == "__main__":
+    main()

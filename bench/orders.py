@@ -74,11 +74,11 @@ def has_order(machine, calls, left):
 
 
 def some_order(history):
-    granules, calls = read_history(history)
+    machine, calls = read_history(history)
     left = collections.defaultdict(list)
     for cpu, number in sorted(calls):
         left[cpu].append(number)
-    return has_order(Machine(granules), calls, dict(left))
+    return has_order(machine, calls, dict(left))
 
 
 def short_history(draw, changed):
