@@ -11,7 +11,7 @@ use Rattle.rmm_spec.specs.Linearization.{IsReturned, IsKnown, IsFinished}
 use Rattle.history.specs.Calls.{ArePlacesOf}
 use Rattle.history.specs.declared.history.Places.{Places}
 use Rattle.checker.proofs.Calls.{HasOnePlaces}
-use Rattle.finding.specs.Choice.{pending_rank, rank_at, rank_of, least_of, IsNextCall, IsLeast, IsSooner}
+use Rattle.finding.specs.Choice.{pending_rank, rank_at, rank_of, least_of, IsNextCall, IsLeast}
 use Rattle.finding.specs.declared.choice.Choice.{Choice}
 
 -- a finished call is tried at the place of its return
@@ -91,15 +91,22 @@ IsLeast-past events one counts from bound least so_far unknown = record {
   ];
 }
 
+-- a lower bound says less
+pub IsLeast-lower : (events : List Event) (counts : List ℕ) (from bound least lower : ℕ) → lower ≤ least → IsLeast events counts from bound least
+    → IsLeast events counts from bound lower
+IsLeast-lower events counts from bound least lower low so_far = record {
+  returned = λ cpu place given within is_returned late. let least = so_far.returned cpu place given within is_returned late in omega (arith, low, least);
+  pending = λ cpu within known none late. let least = so_far.pending cpu within known none late in omega (arith, low, least);
+}
+
 -- a CPU's next call may be tried sooner than those before
-pub IsLeast-sooner : (history : History) → HasOnePlaces history.events → (counts : List ℕ) (from bound : ℕ) (best sooner : Option Choice) (choice : Choice)
-    → IsLeast history.events counts from bound (least_of best) → IsNextCall history counts 0 choice → choice.cpu ≡ bound
-    → IsSooner best choice from sooner → IsLeast history.events counts from (bound + 1) (least_of sooner)
-IsLeast-sooner history one counts from bound best sooner choice so_far next of_cpu is_sooner = record {
+pub IsLeast-sooner : (history : History) → HasOnePlaces history.events → (counts : List ℕ) (from bound before new : ℕ) (choice : Choice)
+    → IsLeast history.events counts from bound before → IsNextCall history counts 0 choice → choice.cpu ≡ bound
+    → new ≤ before → (from ≤ rank_of choice → new ≤ rank_of choice) → IsLeast history.events counts from (bound + 1) new
+IsLeast-sooner history one counts from bound before new choice so_far next of_cpu no_later sooner = record {
   returned = λ cpu place given within is_returned late. elim (cases_lt cpu bound) [
-    | inl before ↦
-        let least = so_far.returned cpu place given before is_returned late in
-        let no_later = is_sooner.no_later in
+    | inl below ↦
+        let least = so_far.returned cpu place given below is_returned late in
         omega (arith, least, no_later)
     | inr after ↦
         let at : cpu ≡ choice.cpu = omega (arith, after, within, of_cpu) in
@@ -108,13 +115,12 @@ IsLeast-sooner history one counts from bound best sooner choice so_far next of_c
         let is_next : IsReturned history.events place choice.cpu choice.number given =
         subst (λ (n : ℕ). IsReturned history.events place choice.cpu n given) (sym next.numbered) here in
         let rank = rank_returned history.events one choice.cpu choice.number place given choice.places next.places is_next in
-        let least = is_sooner.least (omega (arith, late, rank)) in
+        let least = sooner (omega (arith, late, rank)) in
         omega (arith, least, rank)
   ];
   pending = λ cpu within known none late. elim (cases_lt cpu bound) [
-    | inl before ↦
-        let least = so_far.pending cpu before known none late in
-        let no_later = is_sooner.no_later in
+    | inl below ↦
+        let least = so_far.pending cpu below known none late in
         omega (arith, least, no_later)
     | inr after ↦
         let at : cpu ≡ choice.cpu = omega (arith, after, within, of_cpu) in
@@ -123,42 +129,7 @@ IsLeast-sooner history one counts from bound best sooner choice so_far next of_c
         let is_next : ¬ IsFinished history.events choice.cpu choice.number =
         subst (λ (n : ℕ). ¬ IsFinished history.events choice.cpu n) (sym next.numbered) here in
         let rank = rank_pending history.events choice.cpu choice.number choice.places next.places is_next in
-        let least = is_sooner.least (omega (arith, late, rank, at)) in
+        let least = sooner (omega (arith, late, rank, at)) in
         omega (arith, least, rank, at)
   ];
 }
-
--- what is said of the call that was found holds of the one that is tried first
-pub IsNextCall-sooner : (history : History) (counts : List ℕ) (from : ℕ) (best sooner : Option Choice) (choice : Choice)
-    → IfSome best (IsNextCall history counts from) → IsNextCall history counts 0 choice
-    → IsSooner best choice from sooner → IfSome sooner (IsNextCall history counts from)
-IsNextCall-sooner history counts from best sooner choice so_far next is_sooner = elim is_sooner.which [
-  | inl same ↦ subst (λ (o : Option Choice). IfSome o (IsNextCall history counts from)) (sym same) so_far
-  | inr new ↦
-      let is_next : IsNextCall history counts from choice =
-      record { of_machine = next.of_machine; numbered = next.numbered; places = next.places; ranked = new.1 } in
-      subst (λ (o : Option Choice). IfSome o (IsNextCall history counts from)) (sym new.0) is_next
-]
-
--- ---- which of two is tried first
-
--- the second is tried before the rank
-pub IsSooner-kept : (best : Option Choice) (choice : Choice) (from : ℕ) → rank_of choice < from → IsSooner best choice from best
-IsSooner-kept best choice from early = record {
-  which = inl refl;
-  no_later = omega arith;
-  least = λ late. absurd (omega (arith, early, late));
-}
-
--- there is no first
-pub IsSooner-none : (choice : Choice) (from : ℕ) → from ≤ rank_of choice → rank_of choice < 2 ^ 32 → IsSooner None choice from (Some choice)
-IsSooner-none choice from late small = record { which = inr (refl, late); no_later = omega (arith, small); least = λ _. omega arith }
-
--- the first is tried first
-pub IsSooner-first : (first choice : Choice) (from : ℕ) → rank_of first ≤ rank_of choice → IsSooner (Some first) choice from (Some first)
-IsSooner-first first choice from before = record { which = inl refl; no_later = omega arith; least = λ _. before }
-
--- the second is
-pub IsSooner-second : (first choice : Choice) (from : ℕ) → from ≤ rank_of choice → rank_of choice < rank_of first
-    → IsSooner (Some first) choice from (Some choice)
-IsSooner-second first choice from late before = record { which = inr (refl, late); no_later = omega (arith, before); least = λ _. omega arith }

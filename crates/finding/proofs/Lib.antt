@@ -1,4 +1,5 @@
 pub mod Choices
+pub mod Fronts
 pub mod TriedLaws
 pub mod Attempts
 pub mod EndLaws

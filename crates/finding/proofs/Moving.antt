@@ -4,9 +4,11 @@ use Rattle.std.proofs.lemmas.List.{length-append, length-map}
 use Rattle.rmm_spec.specs.HistoryText.{History, IsHistory}
 use Rattle.spec_machine.specs.Offers.{one_more}
 use Rattle.order_laws.proofs.Short.{length-lines}
-use Rattle.finding.specs.Search.{IsSearch, Moves, left_of, left_with, lines_of}
+use Rattle.finding.specs.Search.{Continues, IsSearch, IsStanding, Moves, left_of, left_with, lines_of}
 use Rattle.finding.specs.declared.frame.Frame.{Frame}
 use Rattle.finding.specs.declared.search.Search.{Search}
+use Rattle.finding.specs.declared.search.Progress.{Progress}
+use Rattle.finding.specs.declared.search.Progress.TheVariants.{Going, Whole, Exhausted}
 
 -- ---- what is left is bounded
 
@@ -106,3 +108,13 @@ Moves-settled old new frame few fresh still frames same =
             (subst (λ (lines : ℕ). left_with true lines new.from < left_with true (length old.frames.items) old.from) (sym longer) less)),
       );
     }
+
+-- the machine alone was brought behind the lines before
+Moves-standing : (history : History) (old standing new : Search) → IsStanding history old standing → Moves standing new → Moves old new
+Moves-standing history old standing new is moves = record { further = (subst (λ (s : Search). Moves s new) is.same moves).further }
+
+pub Continues-standing : (history : History) (old standing new : Search) → IsStanding history old standing → (progress : Progress)
+    → Continues progress history standing new → Continues progress history old new
+Continues-standing history old standing new is Going goes = (goes.0, Moves-standing history old standing new is goes.1)
+Continues-standing history old standing new is Whole whole = whole
+Continues-standing history old standing new is Exhausted nowhere = nowhere

@@ -1,8 +1,9 @@
 -- A search as it tries a line, grows by one and takes one back.
-use Rattle.std.proofs.Common.{◌≡◌, ◌≢◌, ℕ, zero, suc, ◌+◌, ◌-◌, ◌^◌, ◌<◌, ◌≤◌, inl, inr, List, [], ◌∷◌, ◌++◌, length, take, get_or, set, Option, Some, None, refl, sym, ◌∙◌, ap, subst, arith, get_or-set_same, get_or-set_other}
+use Rattle.std.proofs.Common.{◌≡◌, ◌≢◌, ℕ, zero, suc, ◌+◌, ◌-◌, ◌^◌, ◌<◌, ◌≤◌, inl, inr, true, List, [], ◌∷◌, ◌++◌, length, take, get_or, set, Option, Some, None, refl, sym, ◌∙◌, ap, subst, arith, get_or-set_same, get_or-set_other}
 use Rattle.std.specs.List.{slice_get, AllByRecursion}
 use Rattle.std.specs.Global.{Box}
-use Rattle.std.specs.Option.{IfSome, option_map}
+use Rattle.std.specs.Option.{IfSome}
+use Rattle.std.specs.Bool.{IsTrue}
 use Rattle.std.proofs.Math.Seq.{take-append_seam}
 use Rattle.std.proofs.lemmas.Bool.Decides.{eqb_tells}
 use Rattle.std.proofs.lemmas.Bool.{cases_lt}
@@ -28,14 +29,17 @@ use Rattle.order_laws.proofs.Short.{length-lines}
 use Rattle.finding.specs.Attempt.{IsAttempt, MayTry}
 use Rattle.finding.specs.Choice.{rank_of, IsNextCall, IsLeast}
 use Rattle.finding.specs.Counts.{AreCounts}
+use Rattle.finding.specs.Front.{IsFront}
 use Rattle.finding.specs.Kept.{AreNowhere}
 use Rattle.finding.specs.declared.kept.Configuration.{Configuration}
 use Rattle.finding.specs.declared.kept.Kept.{Kept}
-use Rattle.finding.specs.Search.{AreFrames, AreReached, Continues, IsCheckpoint, IsGiven, IsLonger, IsRefusedHere, IsSearch, StandsAt, lines_of}
+use Rattle.finding.specs.Search.{AreFrames, AreReached, Continues, IsCheckpoint, IsGiven, IsLonger, IsRefusedHere, IsSearch, IsStanding, StandsAt, lines_of}
 use Rattle.finding.specs.Tried.{Tried, CallLeadsNowhere}
 use Rattle.finding.specs.declared.checkpoint.Checkpoint.{Checkpoint}
 use Rattle.finding.specs.declared.choice.Choice.{Choice}
 use Rattle.finding.specs.declared.frame.Frame.{Frame}
+use Rattle.finding.specs.declared.front.Front.{Front}
+use Rattle.finding.specs.declared.offers.Offers.{Offers}
 use Rattle.finding.specs.declared.search.Search.{Search}
 use Rattle.finding.specs.declared.search.Progress.{Progress}
 use Rattle.finding.specs.declared.search.Progress.TheVariants.{Going, Whole, Exhausted}
@@ -206,39 +210,42 @@ marked_reached : (history : History) (lines : List Line) (state : State) → Rea
 marked_reached history lines state reached None marked = tt
 marked_reached history lines state reached (Some m) marked = subst (Reaches history lines) (sym marked) reached
 
-unboxed_reached : (history : History) (lines : List Line) (before : Option (Box Machine))
+-- so is the one that is put back
+back_reached : (history : History) (lines : List Line) (before : Option (Box Machine)) (machine : Machine)
     → IfSome before (λ (m : Box Machine). Reaches history lines (state_of m.value))
-    → IfSome (option_map (λ (m : Box Machine). m.value) before) (λ x. Reaches history lines (state_of x))
-unboxed_reached history lines None marked = tt
-unboxed_reached history lines (Some m) marked = marked
+    → (m : Box Machine) × (before ≡ Some m) × (machine ≡ m.value) → Reaches history lines (state_of machine)
+back_reached history lines before machine marked (m, is, same) =
+    subst (λ (x : Machine). Reaches history lines (state_of x)) (sym same)
+    (subst (λ (o : Option (Box Machine)). IfSome o (λ (m : Box Machine). Reaches history lines (state_of m.value))) is marked)
 
 module _ (history : History) (is_history : IsHistory history) (old new : Search) (is_search : IsSearch history old) where
   -- other things are left to try
-  pub IsSearch-tried : new.frames.items ≡ old.frames.items → new.counts ≡ old.counts
-      → IfSome new.machine (λ machine. Reaches history (lines_of old.frames.items) (state_of machine))
+  pub IsSearch-tried : new.frames.items ≡ old.frames.items → new.front ≡ old.front
+      → (IsTrue new.stands → Reaches history (lines_of old.frames.items) (state_of new.machine))
       → Tried history (lines_of old.frames.items) new.from new.above → AreNowhere history new.kept.configurations.items
       → IfSome new.checkpoint (IsCheckpoint history old.frames.items) → IsSearch history new
-  IsSearch-tried frames counts machine tried kept point = record {
+  IsSearch-tried frames front machine tried kept point = record {
     frames = subst (λ (fs : List Frame). AreFrames history fs) (sym frames) is_search.frames;
     state = is_search.state;
     reached = subst (λ (fs : List Frame). Reaches history (lines_of fs) is_search.state) (sym frames) is_search.reached;
-    machine = subst (λ (fs : List Frame). IfSome new.machine (λ machine. Reaches history (lines_of fs) (state_of machine))) (sym frames) machine;
-    counts = subst (λ (cs : List ℕ). AreCounts cs (lines_of new.frames.items)) (sym counts)
-        (subst (λ (fs : List Frame). AreCounts old.counts (lines_of fs)) (sym frames) is_search.counts);
+    machine = subst (λ (fs : List Frame). IsTrue new.stands → Reaches history (lines_of fs) (state_of new.machine)) (sym frames) machine;
+    counts = subst (λ (f : Front). AreCounts f.counts (lines_of new.frames.items)) (sym front)
+        (subst (λ (fs : List Frame). AreCounts old.front.counts (lines_of fs)) (sym frames) is_search.counts);
+    front = subst (IsFront history) (sym front) is_search.front;
     tried = subst (λ (fs : List Frame). Tried history (lines_of fs) new.from new.above) (sym frames) tried;
     kept = kept;
     checkpoint = subst (λ (fs : List Frame). IfSome new.checkpoint (IsCheckpoint history fs)) (sym frames) point;
   }
 
   -- the order has grown by a line
-  pub IsSearch-grown : (frame : Frame) (state next : State) (machine : Machine) → Reaches history (lines_of old.frames.items) state
+  pub IsSearch-grown : (frame : Frame) (state next : State) → Reaches history (lines_of old.frames.items) state
       → Grows history (lines_of old.frames.items) state frame.line next → IsLine frame.line
       → (LeadsNowhere history (lines_of old.frames.items ++ frame.line ∷ []) → Tried history (lines_of old.frames.items) frame.from frame.above)
       → new.frames.items ≡ old.frames.items ++ frame ∷ [] → (cpu number : ℕ) → cpu_named frame.line ≡ cpu → number_named frame.line ≡ number → cpu < 8
-      → new.counts ≡ set old.counts cpu (number + 1) → new.from ≡ 0 → new.above ≡ None → new.machine ≡ Some machine → state_of machine ≡ next
-      → new.kept ≡ old.kept → IfSome frame.before (λ (m : Box Machine). state_of m.value ≡ state)
+      → new.front.counts ≡ set old.front.counts cpu (number + 1) → new.from ≡ 0 → new.above ≡ None → state_of new.machine ≡ next
+      → IsFront history new.front → new.kept ≡ old.kept → IfSome frame.before (λ (m : Box Machine). state_of m.value ≡ state)
       → IfSome new.checkpoint (IsCheckpoint history old.frames.items) → IsSearch history new
-  IsSearch-grown frame state next machine reached grows is_line resumes frames cpu number of_cpu numbered within counts from above held leads kept marked point =
+  IsSearch-grown frame state next reached grows is_line resumes frames cpu number of_cpu numbered within counts from above leads front kept marked point =
       let lines = lines_of old.frames.items in
       let longer : lines_of new.frames.items ≡ lines ++ frame.line ∷ [] = ap lines_of frames ∙ lines_of-push old.frames.items frame in
       let further = Reaches-push history is_history lines state reached frame.line next grows in
@@ -251,17 +258,16 @@ module _ (history : History) (is_history : IsHistory history) (old new : Search)
       } in
       let counted : number + 1 ≡ count_of cpu lines + 1 =
       ap (λ (n : ℕ). n + 1) (sym numbered ∙ grows.next.numbered ∙ ap (λ (c : ℕ). count_of c lines) of_cpu) in
-      let are : AreCounts (set old.counts cpu (number + 1)) (lines ++ frame.line ∷ []) =
-      AreCounts-push old.counts lines frame.line cpu (number + 1) is_search.counts of_cpu within counted in
+      let are : AreCounts (set old.front.counts cpu (number + 1)) (lines ++ frame.line ∷ []) =
+      AreCounts-push old.front.counts lines frame.line cpu (number + 1) is_search.counts of_cpu within counted in
       record {
         frames = subst (λ (fs : List Frame). AreFrames history fs) (sym frames) (AreFrames-push history old.frames.items frame is_search.frames stands);
         state = next;
         reached = subst (λ (ls : List Line). Reaches history ls next) (sym longer) further;
-        machine = subst (λ (m : Option Machine). IfSome m (λ x. Reaches history (lines_of new.frames.items) (state_of x))) (sym held)
-            (subst (λ (s : State). Reaches history (lines_of new.frames.items) s) (sym leads)
-            (subst (λ (ls : List Line). Reaches history ls next) (sym longer) further));
+        machine = λ _. subst (Reaches history (lines_of new.frames.items)) (sym leads) (subst (λ (ls : List Line). Reaches history ls next) (sym longer) further);
+        front = front;
         counts = subst (λ (cs : List ℕ). AreCounts cs (lines_of new.frames.items)) (sym counts)
-            (subst (λ (ls : List Line). AreCounts (set old.counts cpu (number + 1)) ls) (sym longer) are);
+            (subst (λ (ls : List Line). AreCounts (set old.front.counts cpu (number + 1)) ls) (sym longer) are);
         tried = subst (λ (f : ℕ). Tried history (lines_of new.frames.items) f new.above) (sym from)
             (subst (λ (a : Option ℕ). Tried history (lines_of new.frames.items) 0 a) (sym above) (Tried-none history (lines_of new.frames.items)));
         kept = subst (λ (k : Kept). AreNowhere history k.configurations.items) (sym kept) is_search.kept;
@@ -271,24 +277,24 @@ module _ (history : History) (is_history : IsHistory history) (old new : Search)
 
   -- the last line was taken back
   pub IsSearch-back : (frame : Frame) → old.frames.items ≡ new.frames.items ++ frame ∷ [] → LeadsNowhere history (lines_of old.frames.items)
-      → new.counts ≡ set old.counts (cpu_named frame.line) (number_named frame.line) → new.from ≡ frame.from → new.above ≡ frame.above
-      → new.machine ≡ option_map (λ (m : Box Machine). m.value) frame.before → new.kept ≡ old.kept
+      → new.front.counts ≡ set old.front.counts (cpu_named frame.line) (number_named frame.line) → new.from ≡ frame.from → new.above ≡ frame.above
+      → (IsTrue new.stands → (m : Box Machine) × (frame.before ≡ Some m) × (new.machine ≡ m.value)) → IsFront history new.front → new.kept ≡ old.kept
       → IfSome new.checkpoint (λ (c : Checkpoint). c.lines ≤ length new.frames.items) → IfSome new.checkpoint (λ c. old.checkpoint ≡ Some c) → IsSearch history new
-  IsSearch-back frame frames nowhere counts from above held kept within same =
+  IsSearch-back frame frames nowhere counts from above held front kept within same =
       let lines = lines_of new.frames.items in
       let longer : lines_of old.frames.items ≡ lines ++ frame.line ∷ [] = ap lines_of frames ∙ lines_of-push new.frames.items frame in
       let were : AreFrames history (new.frames.items ++ frame ∷ []) = subst (λ (fs : List Frame). AreFrames history fs) frames is_search.frames in
       let last = last_frame history new.frames.items frame were in
       let of_line = last.is_frame.is_line in
-      let are : AreCounts (set old.counts (cpu_named frame.line) (number_named frame.line)) lines =
-      AreCounts-pop old.counts lines frame.line (cpu_named frame.line) (number_named frame.line)
-      (subst (λ (ls : List Line). AreCounts old.counts ls) longer is_search.counts) refl (few_cpus frame.line of_line) last.is_frame.next.numbered in
+      let are : AreCounts (set old.front.counts (cpu_named frame.line) (number_named frame.line)) lines =
+      AreCounts-pop old.front.counts lines frame.line (cpu_named frame.line) (number_named frame.line)
+      (subst (λ (ls : List Line). AreCounts old.front.counts ls) longer is_search.counts) refl (few_cpus frame.line of_line) last.is_frame.next.numbered in
       record {
         frames = AreFrames-pop history new.frames.items frame were;
         state = last.state;
         reached = last.reached;
-        machine = subst (λ (m : Option Machine). IfSome m (λ x. Reaches history lines (state_of x))) (sym held)
-            (unboxed_reached history lines frame.before last.marked);
+        machine = λ stands. back_reached history lines frame.before new.machine last.marked (held stands);
+        front = front;
         counts = subst (λ (cs : List ℕ). AreCounts cs lines) (sym counts) are;
         tried = subst (λ (f : ℕ). Tried history lines f new.above) (sym from)
             (subst (λ (a : Option ℕ). Tried history lines frame.from a) (sym above)
@@ -305,65 +311,110 @@ Reaches-machine history lines state other reached passes =
     record { passes = passes; named = reached.named; first = reached.first; in_time = reached.in_time }
 
 -- no line
-pub IsSearch-nil : (history : History) (new : Search) → new.frames.items ≡ [] → new.counts ≡ 0 ∷ 0 ∷ 0 ∷ 0 ∷ 0 ∷ 0 ∷ 0 ∷ 0 ∷ [] → new.from ≡ 0
-    → new.above ≡ None → new.machine ≡ None → new.kept.configurations.items ≡ [] → new.checkpoint ≡ None → IsSearch history new
-IsSearch-nil history new frames counts from above none nothing far = record {
-  frames = subst (λ (fs : List Frame). AreFrames history fs) (sym frames) (λ i frame is. absurd (none-some frame is));
-  state = opening history.config;
-  reached = subst (λ (fs : List Frame). Reaches history (lines_of fs) (opening history.config)) (sym frames) (Reaches-nil history);
-  machine = subst (λ (m : Option Machine). IfSome m (λ x. Reaches history (lines_of new.frames.items) (state_of x))) (sym none) tt;
-  counts = subst (λ (cs : List ℕ). AreCounts cs (lines_of new.frames.items)) (sym counts)
-      (subst (λ (fs : List Frame). AreCounts (0 ∷ 0 ∷ 0 ∷ 0 ∷ 0 ∷ 0 ∷ 0 ∷ 0 ∷ []) (lines_of fs)) (sym frames) AreCounts-nil);
-  tried = subst (λ (f : ℕ). Tried history (lines_of new.frames.items) f new.above) (sym from)
-      (subst (λ (a : Option ℕ). Tried history (lines_of new.frames.items) 0 a) (sym above) (Tried-none history (lines_of new.frames.items)));
-  kept = subst (λ (ks : List Configuration). AreNowhere history ks) (sym nothing) (λ i configuration is. absurd (none-some configuration is));
-  checkpoint = subst (λ (o : Option Checkpoint). IfSome o (IsCheckpoint history new.frames.items)) (sym far) tt;
+pub IsSearch-nil : (history : History) (new : Search) → new.frames.items ≡ [] → new.front.counts ≡ 0 ∷ 0 ∷ 0 ∷ 0 ∷ 0 ∷ 0 ∷ 0 ∷ 0 ∷ []
+    → IsFront history new.front → new.from ≡ 0 → new.above ≡ None → state_of new.machine ≡ opening history.config → new.kept.configurations.items ≡ []
+    → new.checkpoint ≡ None → IsSearch history new
+IsSearch-nil history new frames counts front from above opens nothing far =
+    let reached : Reaches history (lines_of new.frames.items) (opening history.config) =
+    subst (λ (fs : List Frame). Reaches history (lines_of fs) (opening history.config)) (sym frames) (Reaches-nil history) in
+    record {
+      frames = subst (λ (fs : List Frame). AreFrames history fs) (sym frames) (λ i frame is. absurd (none-some frame is));
+      state = opening history.config;
+      reached = reached;
+      machine = λ _. subst (Reaches history (lines_of new.frames.items)) (sym opens) reached;
+      counts = subst (λ (cs : List ℕ). AreCounts cs (lines_of new.frames.items)) (sym counts)
+          (subst (λ (fs : List Frame). AreCounts (0 ∷ 0 ∷ 0 ∷ 0 ∷ 0 ∷ 0 ∷ 0 ∷ 0 ∷ []) (lines_of fs)) (sym frames) AreCounts-nil);
+      front = front;
+      tried = subst (λ (f : ℕ). Tried history (lines_of new.frames.items) f new.above) (sym from)
+          (subst (λ (a : Option ℕ). Tried history (lines_of new.frames.items) 0 a) (sym above) (Tried-none history (lines_of new.frames.items)));
+      kept = subst (λ (ks : List Configuration). AreNowhere history ks) (sym nothing) (λ i configuration is. absurd (none-some configuration is));
+      checkpoint = subst (λ (o : Option Checkpoint). IfSome o (IsCheckpoint history new.frames.items)) (sym far) tt;
+    }
+
+-- ---- the machine behind the lines
+
+-- it was there
+pub IsStanding-same : (history : History) (search : Search) → IsSearch history search → IsTrue search.stands → IsStanding history search search
+IsStanding-same history search is_search stands =
+    record { is_search = is_search; stands = stands; same = λ i. record search { stands = stands i } }
+
+-- a checkpoint is left behind all lines
+pub IsStanding-noted : (history : History) (search : Search) → IsSearch history search → IsTrue search.stands → (lines : ℕ) → lines ≡ length search.frames.items
+    → (machine : Machine) → state_of machine ≡ state_of search.machine
+    → IsStanding history search (record search { checkpoint = Some (record { lines = lines; machine = machine }) })
+IsStanding-noted history search is_search stands lines all machine same = record {
+  is_search = record {
+    frames = is_search.frames;
+    state = is_search.state;
+    reached = is_search.reached;
+    machine = is_search.machine;
+    counts = is_search.counts;
+    front = is_search.front;
+    tried = is_search.tried;
+    kept = is_search.kept;
+    checkpoint = record {
+      within = omega (arith, all);
+      reached = subst (λ (fs : List Frame). Reaches history (lines_of fs) (state_of machine)) (sym (take_all lines search.frames.items (omega (arith, all))))
+          (subst (Reaches history (lines_of search.frames.items)) (sym same) (is_search.machine stands));
+    };
+  };
+  stands = stands;
+  same = λ i. record search { stands = stands i; checkpoint = Some (record { lines = lines; machine = machine }) };
+}
+
+-- one after the other
+pub IsStanding-both : (history : History) (old standing new : Search) → IsStanding history old standing → IsStanding history standing new
+    → IsStanding history old new
+IsStanding-both history old standing new first second = record {
+  is_search = second.is_search;
+  stands = second.stands;
+  same = second.same ∙ ap (λ (s : Search). record s { machine = new.machine; stands = true; checkpoint = new.checkpoint }) first.same;
 }
 
 -- ---- what the next calls tell
 
 module _ (history : History) (is_history : IsHistory history) (search : Search) (is_search : IsSearch history search) where
   -- no finished call is left
-  pub Whole-search : (least : ℕ) → IsLeast history.events search.counts 0 history.config.cpus least → 1000000 ≤ least
+  pub Whole-search : (least : ℕ) → IsLeast history.events search.front.counts 0 history.config.cpus least → 1000000 ≤ least
       → IsLinearization history (lines_of search.frames.items)
   Whole-search least is_least past =
       IsLinearization-from_Reaches history (lines_of search.frames.items) is_search.state is_search.reached
-      (all_named history is_history (lines_of search.frames.items) is_search.state is_search.reached search.counts is_search.counts least is_least past)
+      (all_named history is_history (lines_of search.frames.items) is_search.state is_search.reached search.front.counts is_search.counts least is_least past)
 
   -- one is, and no call is left to try
-  pub nowhere_left : (first : Choice) → IsNextCall history search.counts 0 first → rank_of first < 1000000 → (least : ℕ)
-      → IsLeast history.events search.counts search.from history.config.cpus least → 2 ^ 32 ≤ least
+  pub nowhere_left : (first : Choice) → IsNextCall history search.front.counts 0 first → rank_of first < 1000000 → (least : ℕ)
+      → IsLeast history.events search.front.counts search.from history.config.cpus least → 2 ^ 32 ≤ least
       → LeadsNowhere history (lines_of search.frames.items)
   nowhere_left first next below least is_least past =
       let told = returned_first history.events first next.places below in
-      all_nowhere history is_history (lines_of search.frames.items) is_search.state is_search.reached search.counts is_search.counts search.from search.above
+      all_nowhere history is_history (lines_of search.frames.items) is_search.state is_search.reached search.front.counts is_search.counts search.from search.above
       is_search.tried least is_least
-      (HasOpen-first history is_history (lines_of search.frames.items) is_search.state is_search.reached search.counts is_search.counts 0 first next
+      (HasOpen-first history is_history (lines_of search.frames.items) is_search.state is_search.reached search.front.counts is_search.counts 0 first next
       (rank_of first, told.0, told.1)) past
 
   -- a call that was made by the first return can come next
-  pub soon_enough : (first choice : Choice) → IsLeast history.events search.counts 0 history.config.cpus (rank_of first) → (from : ℕ)
-      → IsNextCall history search.counts from choice → choice.places.called ≤ rank_of first
+  pub soon_enough : (first choice : Choice) → IsLeast history.events search.front.counts 0 history.config.cpus (rank_of first) → (from : ℕ)
+      → IsNextCall history search.front.counts from choice → choice.places.called ≤ rank_of first
       → ReturnBehind history.events (lines_of search.frames.items) choice.places.called
   soon_enough first choice is_least from next early =
-      ReturnBehind-called history is_history (lines_of search.frames.items) is_search.state is_search.reached search.counts is_search.counts (rank_of first)
+      ReturnBehind-called history is_history (lines_of search.frames.items) is_search.state is_search.reached search.front.counts is_search.counts (rank_of first)
       is_least choice.places.called choice.cpu choice.number next.places.called.0 next.places.called.1 early
 
   -- one that was made behind it can't
-  pub Tried-late : (first choice : Choice) → IsNextCall history search.counts 0 first → rank_of first < 1000000
-      → IsNextCall history search.counts search.from choice
-      → IsLeast history.events search.counts search.from history.config.cpus (rank_of choice) → rank_of first < choice.places.called
+  pub Tried-late : (first choice : Choice) → IsNextCall history search.front.counts 0 first → rank_of first < 1000000
+      → IsNextCall history search.front.counts search.from choice
+      → IsLeast history.events search.front.counts search.from history.config.cpus (rank_of choice) → rank_of first < choice.places.called
       → Tried history (lines_of search.frames.items) (rank_of choice + 1) None
   Tried-late first choice is_first below next is_least late =
       let told = returned_first history.events first is_first.places below in
-      Tried-passed history is_history (lines_of search.frames.items) is_search.state is_search.reached search.counts is_search.counts search.from search.above
+      Tried-passed history is_history (lines_of search.frames.items) is_search.state is_search.reached search.front.counts is_search.counts search.from search.above
       is_search.tried choice next is_least
-      (too_late history is_history (lines_of search.frames.items) is_search.state is_search.reached search.counts is_search.counts 0 search.from first choice
+      (too_late history is_history (lines_of search.frames.items) is_search.state is_search.reached search.front.counts is_search.counts 0 search.from first choice
       is_first next (rank_of first) told.0 told.1 late)
 
 -- ---- what an attempt leads to
 
-module _ (history : History) (is_history : IsHistory history) (search : Search) (is_search : IsSearch history search) (choice : Choice) (next : IsNextCall history search.counts search.from choice) (is_least : IsLeast history.events search.counts search.from history.config.cpus (rank_of choice)) where
+module _ (history : History) (is_history : IsHistory history) (search : Search) (is_search : IsSearch history search) (choice : Choice) (next : IsNextCall history search.front.counts search.from choice) (is_least : IsLeast history.events search.front.counts search.from history.config.cpus (rank_of choice)) where
   -- the call may be tried, with the ends that are left
   pub MayTry-search : (state : State) → Reaches history (lines_of search.frames.items) state → (above : Option ℕ)
       → ((bound : ℕ) → above ≡ Some bound → (search.above ≡ Some bound) × (rank_of choice ≡ search.from))
@@ -385,7 +436,7 @@ module _ (history : History) (is_history : IsHistory history) (search : Search) 
   pub Tried-call : CallLeadsNowhere history (lines_of search.frames.items) choice.cpu choice.number
       → Tried history (lines_of search.frames.items) (rank_of choice + 1) None
   Tried-call nowhere =
-      Tried-passed history is_history (lines_of search.frames.items) is_search.state is_search.reached search.counts is_search.counts search.from search.above
+      Tried-passed history is_history (lines_of search.frames.items) is_search.state is_search.reached search.front.counts is_search.counts search.from search.above
       is_search.tried choice next is_least nowhere
 
   -- the line that was tried leads nowhere
@@ -398,7 +449,7 @@ module _ (history : History) (is_history : IsHistory history) (search : Search) 
         (subst (λ (a : Option ℕ). Tried history (lines_of search.frames.items) (rank_of choice + 1) a) (sym passed.above) (Tried-call passed.nowhere))
     | inr ended ↦
         subst (λ (f : ℕ). Tried history (lines_of search.frames.items) f frame.above) (sym ended.from)
-        (Tried-ended history is_history (lines_of search.frames.items) is_search.state is_search.reached search.counts is_search.counts search.from search.above
+        (Tried-ended history is_history (lines_of search.frames.items) is_search.state is_search.reached search.front.counts is_search.counts search.from search.above
         is_search.tried choice next is_least frame.above ended.nowhere)
   ]
 
@@ -454,55 +505,53 @@ Grows-refused history is_history lines state counts choice are next soon refused
 
 -- ---- what a search is after each way of a step
 
-module _ (history : History) (is_history : IsHistory history) (search : Search) (is_search : IsSearch history search) (choice : Choice) (machine : Machine) (reached : Reaches history (lines_of search.frames.items) (state_of machine)) (new : Search) where
+module _ (history : History) (is_history : IsHistory history) (search : Search) (is_search : IsSearch history search) (stands : IsTrue search.stands) (choice : Choice) (new : Search) where
+  reached : Reaches history (lines_of search.frames.items) (state_of search.machine)
+  reached = is_search.machine stands
+
   -- a call that is refused here stands in the order
-  pub IsSearch-settled : (next : IsNextCall history search.counts 0 choice) (bound : ℕ) → choice.places.called ≤ bound → IsRefusedHere history (state_of machine) choice
-      → IsLeast history.events search.counts 0 history.config.cpus bound
-      → (point : Option Checkpoint) → IfSome point (IsCheckpoint history search.frames.items)
-      → (before : Option (Box Machine)) → IfSome before (λ (m : Box Machine). state_of m.value ≡ state_of machine)
-      → (count : ℕ) → IsLonger search.frames.items search.counts (Some machine) count search.kept point choice
-      (record { line = Keep choice.cpu choice.number; from = 2 ^ 32 - 1; above = None; before = before }) new
+  pub IsSearch-settled : (next : IsNextCall history search.front.counts 0 choice) (bound : ℕ) → choice.places.called ≤ bound
+      → IsRefusedHere history (state_of search.machine) choice → IsLeast history.events search.front.counts 0 history.config.cpus bound
+      → (before : Option (Box Machine)) → IfSome before (λ (m : Box Machine). state_of m.value ≡ state_of search.machine)
+      → IsLonger history search choice (record { line = Keep choice.cpu choice.number; from = 2 ^ 32 - 1; above = None; before = before }) new
       → IsSearch history new
   unfolding Grows-refused
-  IsSearch-settled next bound early refused is_least point stands before marked count longer =
+  IsSearch-settled next bound early refused is_least before marked longer =
       let lines = lines_of search.frames.items in
-      let soon = ReturnBehind-called history is_history lines (state_of machine) reached search.counts is_search.counts bound is_least choice.places.called
+      let state = state_of search.machine in
+      let soon = ReturnBehind-called history is_history lines state reached search.front.counts is_search.counts bound is_least choice.places.called
       choice.cpu choice.number next.places.called.0 next.places.called.1 early in
-      let grows = Grows-refused history is_history lines (state_of machine) search.counts choice is_search.counts next soon refused in
+      let grows = Grows-refused history is_history lines state search.front.counts choice is_search.counts next soon refused in
       let at = of_a_line history is_history choice next.places in
       IsSearch-grown history is_history search new is_search (record { line = Keep choice.cpu choice.number; from = 2 ^ 32 - 1; above = None; before = before })
-      (state_of machine) (state_of machine) machine reached grows at
-      (λ nowhere. Tried-all history lines _ _ (nowhere_settled history is_history lines (state_of machine) reached choice.cpu choice.number grows refused.refusal nowhere))
-      longer.frames choice.cpu choice.number refl refl at.0 longer.counts longer.from longer.above longer.machine refl longer.kept marked
-      (subst (λ (o : Option Checkpoint). IfSome o (IsCheckpoint history search.frames.items)) (sym longer.checkpoint) stands)
+      state state reached grows at
+      (λ nowhere. Tried-all history lines _ _ (nowhere_settled history is_history lines state reached choice.cpu choice.number grows refused.refusal nowhere))
+      longer.frames choice.cpu choice.number refl refl at.0 longer.counts longer.from longer.above (ap state_of longer.machine) longer.front longer.kept marked
+      (subst (λ (o : Option Checkpoint). IfSome o (IsCheckpoint history search.frames.items)) (sym longer.checkpoint) is_search.checkpoint)
 
-  module _ (next : IsNextCall history search.counts search.from choice) (is_least : IsLeast history.events search.counts search.from history.config.cpus (rank_of choice)) (frame : Frame) (attempt : IsAttempt history (lines_of search.frames.items) choice frame) where
+  module _ (next : IsNextCall history search.front.counts search.from choice) (is_least : IsLeast history.events search.front.counts search.from history.config.cpus (rank_of choice)) (frame : Frame) (attempt : IsAttempt history (lines_of search.frames.items) choice frame) (later : Machine) where
     -- a call that is given its reply stands in the order
-    pub IsSearch-given : (later : Machine) → ReturnBehind history.events (lines_of search.frames.items) choice.places.called
-        → IsGiven history.events frame.line choice.places.called (state_of machine) (state_of later)
-        → IfSome frame.before (λ (m : Box Machine). state_of m.value ≡ state_of machine)
-        → (point : Option Checkpoint) → IfSome point (IsCheckpoint history search.frames.items)
-        → (count : ℕ) → IsLonger search.frames.items search.counts (Some later) count search.kept point choice frame new → IsSearch history new
-    IsSearch-given later soon given marked point stands count longer =
+    pub IsSearch-given : ReturnBehind history.events (lines_of search.frames.items) choice.places.called
+        → IsGiven history.events frame.line choice.places.called (state_of search.machine) (state_of later)
+        → IfSome frame.before (λ (m : Box Machine). state_of m.value ≡ state_of search.machine)
+        → (offers : Offers) → IsLonger history (record search { machine = later; offers = offers }) choice frame new → IsSearch history new
+    IsSearch-given soon given marked offers longer =
         let at = of_a_line history is_history choice next.places in
-        IsSearch-grown history is_history search new is_search frame (state_of machine) (state_of later) later reached
-        (Grows-given history is_history search is_search choice next is_least frame (state_of machine) (state_of later) attempt soon given)
+        IsSearch-grown history is_history search new is_search frame (state_of search.machine) (state_of later) reached
+        (Grows-given history is_history search is_search choice next is_least frame (state_of search.machine) (state_of later) attempt soon given)
         attempt.is_line (Tried-frame history is_history search is_search choice next is_least frame attempt)
-        longer.frames choice.cpu choice.number attempt.of_cpu attempt.numbered at.0 longer.counts longer.from longer.above longer.machine refl longer.kept
-        marked (subst (λ (o : Option Checkpoint). IfSome o (IsCheckpoint history search.frames.items)) (sym longer.checkpoint) stands)
+        longer.frames choice.cpu choice.number attempt.of_cpu attempt.numbered at.0 longer.counts longer.from longer.above (ap state_of longer.machine) longer.front
+        longer.kept marked (subst (λ (o : Option Checkpoint). IfSome o (IsCheckpoint history search.frames.items)) (sym longer.checkpoint) is_search.checkpoint)
 
     -- one that is refused it is left behind
-    pub IsSearch-refused : (later : Machine) → state_of later ≡ state_of machine → IsRefused history.events (state_of machine) frame.line
-        → new.frames.items ≡ search.frames.items → new.counts ≡ search.counts → new.machine ≡ Some later → new.from ≡ frame.from → new.above ≡ frame.above
-        → new.kept ≡ search.kept → IfSome new.checkpoint (IsCheckpoint history search.frames.items) → IsSearch history new
-    IsSearch-refused later kept refused frames counts held from above configurations point =
-        let tried = Tried-refused history is_history search is_search choice next is_least frame (state_of machine) attempt reached refused in
-        IsSearch-tried history is_history search new is_search frames counts
-        (subst (λ (m : Option Machine). IfSome m (λ x. Reaches history (lines_of search.frames.items) (state_of x))) (sym held)
-        (subst (Reaches history (lines_of search.frames.items)) (sym kept) reached))
-        (subst (λ (f : ℕ). Tried history (lines_of search.frames.items) f new.above) (sym from)
-        (subst (λ (a : Option ℕ). Tried history (lines_of search.frames.items) frame.from a) (sym above) tried))
-        (subst (λ (k : Kept). AreNowhere history k.configurations.items) (sym configurations) is_search.kept) point
+    pub IsSearch-refused : state_of later ≡ state_of search.machine → IsRefused history.events (state_of search.machine) frame.line
+        → (offers : Offers) → new ≡ record search { machine = later; offers = offers; from = frame.from; above = frame.above } → IsSearch history new
+    IsSearch-refused kept refused offers same =
+        subst (IsSearch history) (sym same)
+        (IsSearch-tried history is_history search (record search { machine = later; offers = offers; from = frame.from; above = frame.above }) is_search refl refl
+        (λ _. subst (Reaches history (lines_of search.frames.items)) (sym kept) reached)
+        (Tried-refused history is_history search is_search choice next is_least frame (state_of search.machine) attempt reached refused)
+        is_search.kept is_search.checkpoint)
 
 -- ---- bounds of a call that may come next
 

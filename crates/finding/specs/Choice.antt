@@ -31,6 +31,11 @@ pub record IsNextCall (history : History) (counts : List ℕ) (from : ℕ) (choi
   pub places : ArePlacesOf history.events choice.cpu choice.number choice.places
   pub ranked : from ≤ rank_of choice
 
+-- the next call of a CPU, where it has one
+abbrev pub IsNextOf : History → List ℕ → ℕ → Option Choice → Type 0
+IsNextOf history counts cpu None = ¬ IsKnown history.events cpu (slice_index counts cpu)
+IsNextOf history counts cpu (Some choice) = IsNextCall history counts 0 choice × (choice.cpu ≡ cpu)
+
 -- Of the next calls of the first CPUs, so many, that are tried at one rank or behind it, each is tried at the least one or
 -- behind it.
 pub record IsLeast (events : List Event) (counts : List ℕ) (from bound least : ℕ) : Type 0 where
@@ -38,9 +43,3 @@ pub record IsLeast (events : List Event) (counts : List ℕ) (from bound least :
       → from ≤ place → least ≤ place
   pub pending : (cpu : ℕ) → cpu < bound → IsKnown events cpu (slice_index counts cpu) → ¬ IsFinished events cpu (slice_index counts cpu)
       → from ≤ pending_rank cpu → least ≤ pending_rank cpu
-
--- the one of two calls that is tried first, where the second is tried at the rank or behind it
-pub record IsSooner (best : Option Choice) (choice : Choice) (from : ℕ) (sooner : Option Choice) : Type 0 where
-  pub which : (sooner ≡ best) ⊎ ((sooner ≡ Some choice) × (from ≤ rank_of choice))
-  pub no_later : least_of sooner ≤ least_of best
-  pub least : from ≤ rank_of choice → least_of sooner ≤ rank_of choice

@@ -1,4 +1,5 @@
 pub mod Choice
+pub mod Front
 pub mod Ends
 pub mod Tried
 pub mod Attempt

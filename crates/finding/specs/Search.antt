@@ -1,5 +1,5 @@
 -- What a search holds.
-use Rattle.std.specs.Prelude.{◌≡◌, ℕ, ◌<◌, ◌≤◌, ◌*◌, ◌-◌, ◌^◌, ◌⊎◌, Bool, true, false, List, [], ◌∷◌, ◌++◌, map, take, length, slice_get, slice_index, slice_set, Some, None, Option, IfSome, ◌+◌}
+use Rattle.std.specs.Prelude.{◌≡◌, ℕ, ◌<◌, ◌≤◌, ◌*◌, ◌-◌, ◌^◌, ◌⊎◌, Bool, true, false, List, [], ◌∷◌, ◌++◌, map, take, length, slice_get, slice_set, Some, None, IfSome, IsTrue, ◌+◌}
 use Rattle.std.specs.Global.{Box}
 use Rattle.rmm_spec.specs.declared.command.Command.{Command}
 use Rattle.rmm_spec.specs.declared.event.Event.{Event}
@@ -15,12 +15,12 @@ use Rattle.spec_machine.specs.View.{state_of}
 use Rattle.spec_machine.specs.declared.machine.Machine.{Machine}
 use Rattle.order_laws.specs.Order.{IsNext, IsRefusal, LeadsNowhere, Reaches}
 use Rattle.finding.specs.Counts.{AreCounts}
+use Rattle.finding.specs.Front.{IsFront}
 use Rattle.finding.specs.Kept.{AreNowhere}
 use Rattle.finding.specs.Tried.{Tried}
 use Rattle.finding.specs.declared.checkpoint.Checkpoint.{Checkpoint}
 use Rattle.finding.specs.declared.choice.Choice.{Choice}
 use Rattle.finding.specs.declared.frame.Frame.{Frame}
-use Rattle.finding.specs.declared.kept.Kept.{Kept}
 use Rattle.finding.specs.declared.search.Search.{Search}
 use Rattle.finding.specs.declared.search.Progress.{Progress}
 use Rattle.finding.specs.declared.search.Progress.TheVariants as progress
@@ -58,23 +58,31 @@ pub record IsSearch (history : History) (search : Search) : Type 0 where
   pub frames : AreFrames history search.frames.items
   pub state : State
   pub reached : Reaches history (lines_of search.frames.items) state
-  pub machine : IfSome search.machine (λ machine. Reaches history (lines_of search.frames.items) (state_of machine))
-  pub counts : AreCounts search.counts (lines_of search.frames.items)
+  pub machine : IsTrue search.stands → Reaches history (lines_of search.frames.items) (state_of search.machine)
+  pub counts : AreCounts search.front.counts (lines_of search.frames.items)
+  pub front : IsFront history search.front
   pub tried : Tried history (lines_of search.frames.items) search.from search.above
   pub kept : AreNowhere history search.kept.configurations.items
   pub checkpoint : IfSome search.checkpoint (IsCheckpoint history search.frames.items)
 
+-- the search is the same, with the machine behind its lines
+pub record IsStanding (history : History) (old new : Search) : Type 0 where
+  pub is_search : IsSearch history new
+  pub stands : IsTrue new.stands
+  pub same : new ≡ record old { machine = new.machine; stands = true; checkpoint = new.checkpoint }
+
 -- the search has one line more, behind which nothing was tried
-pub record IsLonger (old_frames : List Frame) (old_counts : List ℕ) (held : Option Machine) (count : ℕ) (known : Kept) (point : Option Checkpoint) (choice : Choice) (frame : Frame) (new : Search) : Type 0 where
-  pub frames : new.frames.items ≡ old_frames ++ frame ∷ []
-  pub counts : new.counts ≡ slice_set old_counts choice.cpu (choice.number + 1)
+pub record IsLonger (history : History) (old : Search) (choice : Choice) (frame : Frame) (new : Search) : Type 0 where
+  pub frames : new.frames.items ≡ old.frames.items ++ frame ∷ []
+  pub counts : new.front.counts ≡ slice_set old.front.counts choice.cpu (choice.number + 1)
+  pub front : IsFront history new.front
   pub from : new.from ≡ 0
   pub above : new.above ≡ None
-  pub machine : new.machine ≡ held
+  pub machine : new.machine ≡ old.machine
   pub fresh : new.fresh ≡ true
-  pub offers : new.offers.count ≡ count
-  pub kept : new.kept ≡ known
-  pub checkpoint : new.checkpoint ≡ point
+  pub offers : new.offers.count ≡ old.offers.count
+  pub kept : new.kept ≡ old.kept
+  pub checkpoint : new.checkpoint ≡ old.checkpoint
 
 -- the call has returned with a refusal that the specification gives it in the state
 pub record IsRefusedHere (history : History) (state : State) (choice : Choice) : Type 0 where

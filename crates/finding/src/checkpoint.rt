@@ -1,17 +1,11 @@
 //! Machines that are kept behind the first lines of an order.
 
-ghost use Rattle.std.specs.Prelude.{◌≤◌, ◌≡◌, Some, IfSome, IfOk};
-ghost use Rattle.order_laws.specs.Order.{Reaches};
-ghost use Rattle.spec_machine.specs.View.{state_of};
-ghost use Rattle.finding.specs.Search.{IsCheckpoint, lines_of};
+ghost use Rattle.std.specs.Prelude.{◌≤◌, ◌≡◌, Some, IfSome};
 
-use crate::frame::Frame;
-use history::History;
 use spec_machine::Machine;
-use std::alloc::{AllocError, Global};
 
 /// How many lines there are at least from one checkpoint to the next.
-const FAR: usize = 1024;
+const FAR: usize = 8192;
 
 /// A machine behind the first lines of an order, so many, from which those behind them are replayed.
 #[derive(Drop)]
@@ -38,40 +32,11 @@ pub(crate) struct Standing {
     pub(crate) checkpoint: Option<Checkpoint>,
 }
 
-/// The machine behind the lines, with a checkpoint behind all of them where the last one is far.
-pub(crate) fn noted(
-    alloc: Global,
-    history: &History,
-    frames: &[Frame],
-    machine: Machine,
-    checkpoint: Option<Checkpoint>,
-) -> Result<Standing, AllocError>
-    requires machine { Reaches history.now.recorded (lines_of frames.now) (state_of machine) }
-    requires checkpoint { IfSome checkpoint (IsCheckpoint history.now.recorded frames.now) }
-    ensures machine { IfOk result (λ s. Reaches history.now.recorded (lines_of frames.now) (state_of s.machine)) }
-    ensures checkpoint { IfOk result (λ s. IfSome s.checkpoint (IsCheckpoint history.now.recorded frames.now)) }
-{
-    if frames.len() < next_of(&checkpoint) {
-        return Ok(Standing {
-            machine,
-            checkpoint,
-        });
-    }
-    let copy = machine.copy(alloc)?;
-    let lines = frames.len();
-    Ok(Standing {
-        machine,
-        checkpoint: Some(Checkpoint {
-            lines,
-            machine: copy,
-        }),
-    })
-}
-
-/// How many lines the next checkpoint is behind at least.
-fn next_of(checkpoint: &Option<Checkpoint>) -> usize {
-    match checkpoint {
-        Some(checkpoint) => checkpoint.lines.saturating_add(FAR),
-        None => FAR,
-    }
+/// Whether the checkpoint is far behind so many lines.
+pub(crate) fn is_far(checkpoint: &Option<Checkpoint>, lines: usize) -> bool {
+    let first = match checkpoint {
+        Some(checkpoint) => checkpoint.lines,
+        None => 0,
+    };
+    lines >= first.saturating_add(FAR)
 }

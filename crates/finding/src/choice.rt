@@ -1,10 +1,11 @@
 //! Which calls can come next, and in which order they are tried.
 
-ghost use Rattle.std.specs.Prelude.{◌≡◌, ◌≤◌, ◌<◌, ◌^◌, IfSome, IfNone, slice_index};
-ghost use Rattle.rmm_spec.specs.Linearization.{IsKnown};
-ghost use Rattle.finding.specs.Choice.{IsLeast, IsNextCall, IsSooner, least_of, rank_of};
+ghost use Rattle.std.specs.Prelude.{◌≡◌, ◌≤◌, ◌<◌, ◌^◌};
+ghost use Rattle.history.specs.Calls.{ArePlacesOf};
+ghost use Rattle.finding.specs.Choice.{IsNextOf, rank_of};
 
 use history::{History, Places};
+use rmi_view::ReplyRef;
 
 /// Calls that haven't returned are tried behind all places of returns.
 pub(crate) const PENDING: u32 = 1_000_000;
@@ -15,6 +16,8 @@ pub(crate) struct Choice {
     pub(crate) cpu: u8,
     pub(crate) number: u32,
     pub(crate) places: Places,
+    // whether it has returned with a refusal
+    pub(crate) refusal: bool,
 }
 
 /// When a call is tried: in the order of the returns, and behind them, by its CPU, where it hasn't returned.
@@ -37,28 +40,10 @@ pub(crate) fn cpus_of(history: &History) -> u8
     config.cpus()
 }
 
-/// The next call that is tried first, of those that are tried at `from` or behind it.
-pub(crate) fn next_choice(history: &History, counts: &[u32; 8], from: u32) -> Option<Choice>
-    ensures next { IfSome result (IsNextCall history.now.recorded counts.now from) }
-    ensures least { IsLeast history.now.recorded.events counts.now from history.now.recorded.config.cpus (least_of result) }
-{
-    history.well_formed();
-    let mut best = None;
-    for cpu in 0..cpus_of(history) {
-        let Some(choice) = next_of(history, counts, cpu) else {
-            continue;
-        };
-        best = sooner(best, choice, from);
-    }
-    best
-}
-
 /// The next call of a CPU.
 pub(crate) fn next_of(history: &History, counts: &[u32; 8], cpu: u8) -> Option<Choice>
     requires { cpu < history.now.recorded.config.cpus }
-    ensures some { IfSome result (IsNextCall history.now.recorded counts.now 0) }
-    ensures of_cpu { IfSome result (λ choice. choice.cpu ≡ cpu) }
-    ensures none { IfNone result (¬ IsKnown history.now.recorded.events cpu (slice_index counts.now cpu)) }
+    ensures { IsNextOf history.now.recorded counts.now cpu result }
 {
     let _few = cpus_of(history);
     let number = counts[cpu as usize];
@@ -69,26 +54,20 @@ pub(crate) fn next_of(history: &History, counts: &[u32; 8], cpu: u8) -> Option<C
         cpu,
         number,
         places,
+        refusal: is_refusal(history, cpu, number, places),
     })
 }
 
-/// Which of two calls is tried first, where the second is tried at `from` or behind it.
-fn sooner(best: Option<Choice>, choice: Choice, from: u32) -> Option<Choice>
-    ensures { IsSooner best choice from result }
+/// Whether a call that is in these places has returned with a refusal.
+fn is_refusal(history: &History, cpu: u8, number: u32, places: Places) -> bool
+    requires { ArePlacesOf history.now.recorded.events cpu number places }
 {
-    let due = rank(&choice);
-    if due < from {
-        return best;
-    }
-    match best {
-        None => Some(choice),
-        Some(first) => {
-            let before = rank(&first);
-            if before <= due {
-                Some(first)
-            } else {
-                Some(choice)
-            }
-        }
+    history.well_formed();
+    let Some(returned) = places.returned else {
+        return false;
+    };
+    match history.reply_at(returned as usize) {
+        Some(ReplyRef::Ok(_)) | None => false,
+        Some(_) => true,
     }
 }

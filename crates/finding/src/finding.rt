@@ -25,7 +25,7 @@ pub fn find(alloc: Global, history: &History, limit: u64) -> Result<Found, Alloc
     ensures { IfOk result (IsFound history.now.recorded limit) }
 {
     history.well_formed();
-    let mut search = Search::new(alloc, history);
+    let mut search = Search::new(alloc, history)?;
     'going: while search.offers.count() < limit {
         match search.step(alloc, history)? {
             Progress::Going => {}

@@ -11,6 +11,7 @@ mod choice;
 mod ends;
 mod finding;
 mod frame;
+mod front;
 mod kept;
 mod longest;
 mod marks;

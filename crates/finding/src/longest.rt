@@ -20,7 +20,7 @@ pub fn longest_order(
     ensures { IfOk result (λ certificate. (state : State) × Passes history.now.recorded certificate.lines state) }
 {
     let most = greatest_length(alloc, history, limit)?;
-    let mut search = Search::new(alloc, history);
+    let mut search = Search::new(alloc, history)?;
     go_until(&mut search, alloc, history, limit, most)?;
     search.certificate(alloc, history)
 }
@@ -28,7 +28,7 @@ pub fn longest_order(
 /// How many lines the longest order has that a search of so many offers begins.
 fn greatest_length(alloc: Global, history: &History, limit: u64) -> Result<usize, AllocError> {
     history.well_formed();
-    let mut search = Search::new(alloc, history);
+    let mut search = Search::new(alloc, history)?;
     let mut most = 0;
     'going: while search.offers.count() < limit {
         if !goes_on(&mut search, alloc, history)? {
@@ -52,7 +52,10 @@ fn go_until(
 {
     history.well_formed();
     'going: while search.offers.count() < limit {
-        if search.len() == most || !goes_on(search, alloc, history)? {
+        if search.len() == most {
+            return Ok(());
+        }
+        if !goes_on(search, alloc, history)? {
             return Ok(());
         }
     }

@@ -1,6 +1,6 @@
 //! Machines that are kept before lines.
 
-ghost use Rattle.std.specs.Prelude.{◌≡◌, option_map};
+ghost use Rattle.std.specs.Prelude.{◌≡◌, Some, IsTrue};
 ghost use Rattle.std.specs.Global.{Box};
 ghost use Rattle.spec_machine.specs.declared.machine.Machine.{Machine as SpecMachine};
 
@@ -46,12 +46,15 @@ impl Marks {
     }
 }
 
-/// The machine that was kept.
-pub(crate) fn unboxed(kept: Option<Box<Machine>>) -> Option<Machine>
-    ensures { result ≡ option_map (λ (m : Box SpecMachine). m.value) kept }
+/// Puts the machine that was kept into this one's place, where one was, and tells whether it did.
+pub(crate) fn put_back(machine: &mut Machine, kept: Option<Box<Machine>>) -> bool
+    ensures { IsTrue result → (m : Box SpecMachine) × (kept ≡ Some m) × (machine.new ≡ m.value) }
 {
     match kept {
-        Some(machine) => Some(Box::into_inner(machine)),
-        None => None,
+        Some(kept) => {
+            *machine = Box::into_inner(kept);
+            true
+        }
+        None => false,
     }
 }

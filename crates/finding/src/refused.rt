@@ -4,9 +4,11 @@ ghost use Rattle.std.specs.Prelude.{◌≤◌, IfSome, IsTrue};
 ghost use Rattle.history.specs.Calls.{ArePlacesOf};
 ghost use Rattle.spec_machine.specs.View.{state_of};
 ghost use Rattle.finding.specs.Choice.{IsNextCall};
+ghost use Rattle.finding.specs.Front.{IsFront};
 ghost use Rattle.finding.specs.Search.{IsRefusedHere};
 
-use crate::choice::{Choice, cpus_of, next_of};
+use crate::choice::{Choice, cpus_of};
+use crate::front::Front;
 use history::History;
 use rmi_view::ReplyRef;
 use spec_machine::Machine;
@@ -15,18 +17,19 @@ use spec_machine::Machine;
 pub(crate) fn refused_choice(
     history: &History,
     machine: &Machine,
-    counts: &[u32; 8],
+    front: &Front,
     bound: u32,
 ) -> Option<Choice>
-    ensures next { IfSome result (IsNextCall history.now.recorded counts.now 0) }
+    requires { IsFront history.now.recorded front.now }
+    ensures next { IfSome result (IsNextCall history.now.recorded front.now.counts 0) }
     ensures bound { IfSome result (λ choice. choice.places.called ≤ bound) }
     ensures refused { IfSome result (IsRefusedHere history.now.recorded (state_of machine.now)) }
 {
     for cpu in 0..cpus_of(history) {
-        let Some(choice) = next_of(history, counts, cpu) else {
+        let Some(choice) = front.next(history, cpu) else {
             continue;
         };
-        if choice.places.called <= bound && is_refused(history, machine, choice) {
+        if choice.refusal && choice.places.called <= bound && is_refused(history, machine, choice) {
             return Some(choice);
         }
     }

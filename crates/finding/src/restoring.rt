@@ -9,7 +9,7 @@ ghost use Rattle.spec_machine.specs.View.{state_of};
 ghost use Rattle.finding.specs.declared.frame.Frame.{Frame as HeldFrame};
 ghost use Rattle.finding.specs.Search.{AreFrames, AreReached, IsCheckpoint, IsGiven, lines_of};
 
-use crate::checkpoint::{Checkpoint, Standing, noted};
+use crate::checkpoint::{Checkpoint, Standing};
 use crate::choice::Choice;
 use crate::frame::{Frame, copied_line, name_of};
 use crate::offering::offer;
@@ -37,30 +37,8 @@ pub(crate) fn certificate_of(alloc: Global, frames: &[Frame]) -> Result<Certific
     Ok(certificate)
 }
 
-/// The machine behind the lines of an order that is begun: the one that is kept, or one that is made from a checkpoint.
-pub(crate) fn machine_at(
-    alloc: Global,
-    history: &History,
-    frames: &[Frame],
-    kept: Option<Machine>,
-    checkpoint: Option<Checkpoint>,
-) -> Result<Standing, AllocError>
-    requires certificate { IsCertificate (lines_of frames.now) }
-    requires frames { AreFrames history.now.recorded frames.now }
-    requires reached { AreReached history.now.recorded frames.now }
-    requires kept { IfSome kept (λ machine. Reaches history.now.recorded (lines_of frames.now) (state_of machine)) }
-    requires checkpoint { IfSome checkpoint (IsCheckpoint history.now.recorded frames.now) }
-    ensures machine { IfOk result (λ s. Reaches history.now.recorded (lines_of frames.now) (state_of s.machine)) }
-    ensures checkpoint { IfOk result (λ s. IfSome s.checkpoint (IsCheckpoint history.now.recorded frames.now)) }
-{
-    match kept {
-        Some(machine) => noted(alloc, history, frames, machine, checkpoint),
-        None => restored(alloc, history, frames, checkpoint),
-    }
-}
-
 /// The machine behind the lines, made from a checkpoint or before all lines, with a checkpoint near the last line.
-fn restored(
+pub(crate) fn restored(
     alloc: Global,
     history: &History,
     frames: &[Frame],
@@ -152,6 +130,7 @@ fn is_given(history: &History, machine: &mut Machine, line: &Line) -> Result<boo
         cpu,
         number,
         places,
+        refusal: false,
     };
     let mut uncounted = Offers::none();
     offer(&mut uncounted, machine, history, choice, line)

@@ -1,38 +1,42 @@
 //! An order that is begun.
 
-ghost use Rattle.std.specs.Prelude.{◌≡◌, ℕ, ◌+◌, ◌-◌, ◌^◌, ◌<◌, [], ◌++◌, ◌∷◌, slice_set, false, Some, None, IfOk, IfSome, OnOk, IsTrue};
-ghost use Rattle.order_laws.specs.Order.{LeadsNowhere, Reaches, ReturnBehind};
+ghost use Rattle.std.specs.Prelude.{◌≡◌, ℕ, ◌+◌, ◌-◌, ◌^◌, ◌<◌, Some, IfOk, IfSome, OnOk, IsTrue, false};
+ghost use Rattle.order_laws.specs.Order.{LeadsNowhere, ReturnBehind};
 ghost use Rattle.finding.specs.Choice.{IsLeast, IsNextCall, rank_of};
+ghost use Rattle.finding.specs.Front.{IsFront};
 ghost use Rattle.finding.specs.Search.{lines_of};
 ghost use Rattle.std.specs.Global.{Box};
 ghost use Rattle.spec_machine.specs.declared.machine.Machine.{Machine as SpecMachine};
 ghost use Rattle.spec_machine.specs.View.{state_of};
 
 use crate::attempt::attempt;
-use crate::checkpoint::{Checkpoint, still_at};
-use crate::choice::{Choice, PENDING, next_choice, rank};
+use crate::checkpoint::{Checkpoint, is_far, still_at};
+use crate::choice::{Choice, PENDING, rank};
 use crate::frame::{Frame, name_of};
+use crate::front::Front;
 use crate::kept::Kept;
-use crate::marks::{Marks, unboxed};
+use crate::marks::{Marks, put_back};
 use crate::offering::offer;
 use crate::offers::Offers;
 use crate::refused::refused_choice;
-use crate::restoring::{certificate_of, machine_at};
+use crate::restoring::{certificate_of, restored};
 use certificate::Certificate;
 use history::History;
 use rmm_spec::Line;
 use spec_machine::Machine;
 use std::alloc::{AllocError, Global};
 
-/// The lines of an order that is begun, what is left to try behind them, and how many calls of each CPU stand there. The machine
-/// behind them is kept until a line is taken back.
+/// The lines of an order that is begun, what is left to try behind them, and how far they have come. The machine is behind them as long
+/// as no line is taken back.
 #[derive(Drop)]
 pub(crate) struct Search {
     pub(crate) frames: Vec<Frame>,
-    pub(crate) counts: [u32; 8],
+    pub(crate) front: Front,
     pub(crate) from: u32,
     pub(crate) above: Option<u64>,
-    pub(crate) machine: Option<Machine>,
+    pub(crate) machine: Machine,
+    // whether the machine is behind these lines
+    pub(crate) stands: bool,
     // no call was tried behind these lines yet
     pub(crate) fresh: bool,
     pub(crate) offers: Offers,
@@ -52,25 +56,27 @@ pub(crate) enum Progress {
 }
 
 impl Search {
-    ghost use Rattle.finding.specs.Search.{Continues, GoesOn, IsLonger, IsSearch};
+    ghost use Rattle.finding.specs.Search.{Continues, GoesOn, IsLonger, IsSearch, IsStanding};
 
     /// No line yet.
-    pub(crate) fn new(alloc: Global, history: &History) -> Search
-        ensures { IsSearch history.now.recorded result }
+    pub(crate) fn new(alloc: Global, history: &History) -> Result<Search, AllocError>
+        ensures { IfOk result (IsSearch history.now.recorded) }
     {
         history.well_formed();
-        Search {
+        let machine = Machine::new(alloc, history.config())?;
+        Ok(Search {
             frames: Vec::new(alloc),
-            counts: [0; 8],
+            front: Front::new(history),
             from: 0,
             above: None,
-            machine: None,
+            machine,
+            stands: true,
             fresh: true,
             offers: Offers::none(),
             kept: Kept::new(alloc),
             marks: Marks::none(),
             checkpoint: None,
-        }
+        })
     }
 
     /// How many lines there are.
@@ -97,8 +103,59 @@ impl Search {
         requires few { self.old.offers.count < 2 ^ 64 - 1 }
         ensures { IfOk result (λ progress. Continues progress history.now.recorded self.old self.new) }
     {
+        self.stand(alloc, history)?;
+        self.go_on(alloc, history)
+    }
+
+    /// Brings the machine behind the lines, and leaves a checkpoint there where the last one is far.
+    fn stand(&mut self, alloc: Global, history: &History) -> Result<(), AllocError>
+        requires { IsSearch history.now.recorded self.old }
+        ensures { OnOk result (IsStanding history.now.recorded self.old self.new) }
+    {
+        self.restore(alloc, history)?;
+        self.note(alloc, history)
+    }
+
+    /// Makes the machine behind the lines anew, where it isn't there.
+    fn restore(&mut self, alloc: Global, history: &History) -> Result<(), AllocError>
+        requires { IsSearch history.now.recorded self.old }
+        ensures { OnOk result (IsStanding history.now.recorded self.old self.new) }
+    {
         history.well_formed();
-        let Some(first) = next_choice(history, &self.counts, 0) else {
+        if self.stands {
+            return Ok(());
+        }
+        let standing = restored(alloc, history, &self.frames, self.checkpoint.take())?;
+        self.machine = standing.machine;
+        self.checkpoint = standing.checkpoint;
+        self.stands = true;
+        Ok(())
+    }
+
+    /// Leaves a checkpoint behind the lines, where the last one is far.
+    fn note(&mut self, alloc: Global, history: &History) -> Result<(), AllocError>
+        requires is_search { IsSearch history.now.recorded self.old }
+        requires stands { IsTrue self.old.stands }
+        ensures { OnOk result (IsStanding history.now.recorded self.old self.new) }
+    {
+        let lines = self.frames.len();
+        if !is_far(&self.checkpoint, lines) {
+            return Ok(());
+        }
+        let machine = self.machine.copy(alloc)?;
+        self.checkpoint = Some(Checkpoint { lines, machine });
+        Ok(())
+    }
+
+    /// Tries one line, or takes one back, where the machine is behind the lines.
+    fn go_on(&mut self, alloc: Global, history: &History) -> Result<Progress, AllocError>
+        requires is_search { IsSearch history.now.recorded self.old }
+        requires stands { IsTrue self.old.stands }
+        requires few { self.old.offers.count < 2 ^ 64 - 1 }
+        ensures { IfOk result (λ progress. Continues progress history.now.recorded self.old self.new) }
+    {
+        history.well_formed();
+        let Some(first) = self.front.first_at(history, 0) else {
             return Ok(Progress::Whole);
         };
         let bound = rank(&first);
@@ -108,7 +165,7 @@ impl Search {
         if self.fresh {
             return self.arrive(alloc, history, bound);
         }
-        let Some(choice) = next_choice(history, &self.counts, self.from) else {
+        let Some(choice) = self.front.first_at(history, self.from) else {
             return self.leave(alloc, history);
         };
         if bound < choice.places.called {
@@ -137,23 +194,12 @@ impl Search {
         bound: u32,
     ) -> Result<Progress, AllocError>
         requires is_search { IsSearch history.now.recorded self.old }
-        requires least { IsLeast history.now.recorded.events self.old.counts 0 history.now.recorded.config.cpus bound }
+        requires stands { IsTrue self.old.stands }
+        requires least { IsLeast history.now.recorded.events self.old.front.counts 0 history.now.recorded.config.cpus bound }
         requires fresh { IsTrue self.old.fresh }
         ensures { IfOk result (λ progress. Continues progress history.now.recorded self.old self.new) }
     {
-        history.well_formed();
-        let standing = machine_at(
-            alloc,
-            history,
-            &self.frames,
-            self.machine.take(),
-            self.checkpoint.take(),
-        )?;
-        self.checkpoint = standing.checkpoint;
-        let machine = standing.machine;
-        let known = self.kept.has(&self.counts, &machine);
-        self.machine = Some(machine);
-        if known {
+        if self.kept.has(&self.front.counts, &self.machine) {
             return Ok(self.take_back(history));
         }
         self.settle(alloc, history, bound)?;
@@ -163,21 +209,13 @@ impl Search {
     /// Keeps that the lines lead nowhere, and takes the last one back.
     fn leave(&mut self, alloc: Global, history: &History) -> Result<Progress, AllocError>
         requires is_search { IsSearch history.now.recorded self.old }
+        requires stands { IsTrue self.old.stands }
         requires nowhere { LeadsNowhere history.now.recorded (lines_of self.old.frames.items) }
         ensures { IfOk result (λ progress. Continues progress history.now.recorded self.old self.new) }
     {
         history.well_formed();
-        let standing = machine_at(
-            alloc,
-            history,
-            &self.frames,
-            self.machine.take(),
-            self.checkpoint.take(),
-        )?;
-        self.checkpoint = standing.checkpoint;
-        let machine = standing.machine;
-        self.kept.keep(alloc, history, &self.counts, &machine)?;
-        self.machine = Some(machine);
+        self.kept
+            .keep(alloc, history, &self.front.counts, &self.machine)?;
         Ok(self.take_back(history))
     }
 
@@ -192,11 +230,11 @@ impl Search {
             return Progress::Exhausted;
         };
         let (cpu, number) = name_of(&frame.line);
-        self.counts[cpu as usize] = number;
+        self.front.set(history, cpu, number);
         self.from = frame.from;
         self.above = frame.above;
         self.marks.drop_one(&frame.before, self.frames.len());
-        self.machine = unboxed(frame.before);
+        self.stands = put_back(&mut self.machine, frame.before);
         self.checkpoint = still_at(self.checkpoint.take(), self.frames.len());
         self.fresh = false;
         Progress::Going
@@ -206,28 +244,17 @@ impl Search {
     /// that nothing else need be tried.
     fn settle(&mut self, alloc: Global, history: &History, bound: u32) -> Result<(), AllocError>
         requires is_search { IsSearch history.now.recorded self.old }
-        requires least { IsLeast history.now.recorded.events self.old.counts 0 history.now.recorded.config.cpus bound }
+        requires stands { IsTrue self.old.stands }
+        requires least { IsLeast history.now.recorded.events self.old.front.counts 0 history.now.recorded.config.cpus bound }
         requires fresh { IsTrue self.old.fresh }
         ensures { OnOk result (GoesOn history.now.recorded self.old self.new) }
     {
         history.well_formed();
-        let standing = machine_at(
-            alloc,
-            history,
-            &self.frames,
-            self.machine.take(),
-            self.checkpoint.take(),
-        )?;
-        self.checkpoint = standing.checkpoint;
-        let machine = standing.machine;
-        let found = refused_choice(history, &machine, &self.counts, bound);
-        let Some(choice) = found else {
-            self.machine = Some(machine);
+        let Some(choice) = refused_choice(history, &self.machine, &self.front, bound) else {
             self.fresh = false;
             return Ok(());
         };
-        let before = self.mark(alloc, &machine)?;
-        self.machine = Some(machine);
+        let before = self.mark(alloc)?;
         let frame = Frame {
             line: Line::Keep {
                 cpu: choice.cpu,
@@ -237,7 +264,7 @@ impl Search {
             above: None,
             before,
         };
-        self.push(choice, frame)
+        self.push(history, choice, frame)
     }
 
     /// The ends that are left to try for a call.
@@ -259,8 +286,9 @@ impl Search {
         choice: Choice,
     ) -> Result<(), AllocError>
         requires is_search { IsSearch history.now.recorded self.old }
-        requires next { IsNextCall history.now.recorded self.old.counts self.old.from choice }
-        requires least { IsLeast history.now.recorded.events self.old.counts self.old.from history.now.recorded.config.cpus (rank_of choice) }
+        requires stands { IsTrue self.old.stands }
+        requires next { IsNextCall history.now.recorded self.old.front.counts self.old.from choice }
+        requires least { IsLeast history.now.recorded.events self.old.front.counts self.old.from history.now.recorded.config.cpus (rank_of choice) }
         requires soon { ReturnBehind history.now.recorded.events (lines_of self.old.frames.items) choice.places.called }
         requires fresh { self.old.fresh ≡ false }
         requires few { self.old.offers.count < 2 ^ 64 - 1 }
@@ -268,25 +296,20 @@ impl Search {
     {
         history.well_formed();
         let above = self.above_for(choice);
-        let standing = machine_at(
-            alloc,
-            history,
-            &self.frames,
-            self.machine.take(),
-            self.checkpoint.take(),
-        )?;
-        self.checkpoint = standing.checkpoint;
-        let mut machine = standing.machine;
-        let Some(mut frame) = attempt(history, &machine, choice, above) else {
-            self.machine = Some(machine);
+        let Some(mut frame) = attempt(history, &self.machine, choice, above) else {
             self.pass(choice);
             return Ok(());
         };
-        frame.before = self.mark(alloc, &machine)?;
-        let given = offer(&mut self.offers, &mut machine, history, choice, &frame.line)?;
-        self.machine = Some(machine);
+        frame.before = self.mark(alloc)?;
+        let given = offer(
+            &mut self.offers,
+            &mut self.machine,
+            history,
+            choice,
+            &frame.line,
+        )?;
         if given {
-            return self.push(choice, frame);
+            return self.push(history, choice, frame);
         }
         self.from = frame.from;
         self.above = frame.above;
@@ -294,13 +317,13 @@ impl Search {
     }
 
     /// The machine once more, where lines may soon be taken back to here.
-    fn mark(&self, alloc: Global, machine: &Machine) -> Result<Option<Box<Machine>>, AllocError>
-        ensures { IfOk result (λ mark. IfSome mark (λ (m : Box SpecMachine). state_of m.value ≡ state_of machine.now)) }
+    fn mark(&self, alloc: Global) -> Result<Option<Box<Machine>>, AllocError>
+        ensures { IfOk result (λ mark. IfSome mark (λ (m : Box SpecMachine). state_of m.value ≡ state_of self.now.machine)) }
     {
         if !self.marks.wants(self.frames.len()) {
             return Ok(None);
         }
-        let copy = machine.copy(alloc)?;
+        let copy = self.machine.copy(alloc)?;
         match Box::new(alloc, copy) {
             Ok(mark) => Ok(Some(mark)),
             Err(_) => Err(AllocError),
@@ -308,14 +331,15 @@ impl Search {
     }
 
     /// Makes the order one line longer.
-    fn push(&mut self, choice: Choice, frame: Frame) -> Result<(), AllocError>
+    fn push(&mut self, history: &History, choice: Choice, frame: Frame) -> Result<(), AllocError>
         requires cpu { choice.cpu < 8 }
         requires number { choice.number < 1000000 }
-        ensures { OnOk result (IsLonger self.old.frames.items self.old.counts self.old.machine self.old.offers.count self.old.kept self.old.checkpoint choice frame self.new) }
+        requires front { IsFront history.now.recorded self.old.front }
+        ensures { OnOk result (IsLonger history.now.recorded self.old choice frame self.new) }
     {
         self.marks.add(&frame.before);
         self.frames.push(frame)?;
-        self.counts[choice.cpu as usize] = choice.number + 1;
+        self.front.set(history, choice.cpu, choice.number + 1);
         self.from = 0;
         self.above = None;
         self.fresh = true;

@@ -1,6 +1,9 @@
-use Rattle.std.proofs.Common.{refl}
+use Rattle.std.proofs.Common.{ap, ◌∙◌, refl}
+use Rattle.rmm_spec.specs.State.{opening}
 use Rattle.finding.proofs.Searches.{IsSearch-nil}
 use Rattle.finding.proofs.search.Search.new.Goals as goal
 
 pub returns : goal.returns
-returns c = IsSearch-nil c.args.history.now.recorded _ c.new.ensures.items refl refl refl refl c.new-2.ensures refl
+returns c =
+    IsSearch-nil c.args.history.now.recorded _ c.new-2.ensures.items c.new-3.ensures.counts c.new-3.ensures.front refl refl
+    (c.in_ok-machine.ensures.opening ∙ ap opening c.config.ensures) c.new-4.ensures refl

@@ -6,8 +6,8 @@ use Rattle.finding.proofs.Moving.{Moves-back, few_frames}
 use Rattle.finding.proofs.Searches.{IsSearch-back, few_of_frame}
 use Rattle.finding.proofs.search.Search.take_back.Goals as goal
 
-pub bounds-self-cpu : goal.bounds-self-cpu
-bounds-self-cpu c =
+pub set-requires-clause-cpu : goal.set-requires-clause-cpu
+set-requires-clause-cpu c =
     let few = few_of_frame c.args.history.now.recorded c.args.self.now c.requires.is_search c.pop.new.self.items c.in-Some.frame
     c.in-Some.ensures.items in
     omega (arith, few, c.name_of-cpu.ensures.cpu)
@@ -19,7 +19,7 @@ returns c =
     let frames = c.pop.new.self in
     let same : frames.len ≡ length frames.items = omega (arith, frames.ok.0) in (
       IsSearch-back history c.well_formed-2.ensures search _ c.requires.is_search c.in-Some.frame c.in-Some.ensures.items
-          c.requires.nowhere (rw (c.name_of-cpu.ensures.cpu, c.name_of-cpu.ensures.number) refl) refl refl c.unboxed.ensures refl
+          c.requires.nowhere (rw (← c.name_of-cpu.ensures.cpu, ← c.name_of-cpu.ensures.number) c.set.ensures.counts) refl refl c.put_back-self.ensures c.set.ensures.front refl
           (subst (λ n. IfSome c.still_at.result (λ (point : Checkpoint). point.lines ≤ n)) same (rw c.len-2.ensures at c.still_at.ensures.within))
           (rw c.take.ensures.value at c.still_at.ensures.same),
       Moves-back search _ c.in-Some.frame (few_frames history c.well_formed-2.ensures search c.requires.is_search) c.in-Some.ensures.items refl refl,

@@ -1,91 +1,79 @@
 -- The next line of a call: none is left, or the machine gives it its reply, or refuses it.
-use Rattle.std.proofs.Common.{◌+◌, None, Some, refl, ◌∙◌, arith}
+use Rattle.std.proofs.Common.{◌+◌, None, refl, ◌∙◌, arith}
 use Rattle.std.proofs.lemmas.Result.{on_ok_weaker}
 use Rattle.finding.specs.Choice.{rank_of}
 use Rattle.finding.specs.Search.{lines_of}
 use Rattle.spec_machine.specs.View.{state_of}
 use Rattle.finding.proofs.Attempts.{IsAttempt-marked}
 use Rattle.finding.proofs.Moving.{Moves-offered, Moves-passed}
-use Rattle.finding.proofs.Searches.{AreReached-search, IsCertificate-search, IsSearch-given, IsSearch-refused, IsSearch-tried, MayTry-search, Tried-call, number_of_next, rank_of_next}
+use Rattle.finding.proofs.Searches.{IsSearch-given, IsSearch-refused, IsSearch-tried, MayTry-search, Tried-call, number_of_next, rank_of_next}
 use Rattle.finding.proofs.search.Search.try_choice.Goals as goal
-
-pub machine_at-requires-clause-certificate : goal.machine_at-requires-clause-certificate
-machine_at-requires-clause-certificate c =
-    rw c.deref.ensures.value (IsCertificate-search c.args.history.now.recorded c.well_formed-2.ensures c.args.self.now c.requires.is_search)
-
-pub machine_at-requires-clause-reached : goal.machine_at-requires-clause-reached
-machine_at-requires-clause-reached c =
-    rw c.deref.ensures.value (AreReached-search c.args.history.now.recorded c.args.self.now c.requires.is_search)
 
 pub pass-requires : goal.pass-requires
 pass-requires c =
-    rank_of_next c.args.history.now.recorded c.well_formed-2.ensures c.args.self.now.counts c.args.self.now.from c.args.choice c.requires.next
+    rank_of_next c.args.history.now.recorded c.well_formed-2.ensures c.args.self.now.front.counts c.args.self.now.from c.args.choice c.requires.next
 
 pub returns-in_default : goal.returns-in_default
 returns-in_default c =
     let history = c.args.history.now.recorded in
     let search = c.args.self.now in
     let wf = c.well_formed-2.ensures in
-    let reached = rw c.deref.ensures.value at c.in_ok-standing.ensures.machine in
-    let may = MayTry-search history wf search c.requires.is_search c.args.choice c.requires.next c.requires.least (state_of c.in_ok-standing.standing.machine) reached
-    c.above_for-above.result c.above_for-above.ensures in
-    let small = rank_of_next history wf search.counts search.from c.args.choice c.requires.next in
+    let is_search = c.requires.is_search in
+    let may = MayTry-search history wf search is_search c.args.choice c.requires.next c.requires.least (state_of search.machine)
+    (is_search.machine c.requires.stands) c.above_for-above.result c.above_for-above.ensures in
+    let small = rank_of_next history wf search.front.counts search.from c.args.choice c.requires.next in
     let ranked = c.requires.next.ranked in
     rw c.pass.ensures (
-      IsSearch-tried history wf search _ c.requires.is_search refl refl reached
-          (Tried-call history wf search c.requires.is_search c.args.choice c.requires.next c.requires.least (c.in_default.ensures (lines_of search.frames.items) may)) c.requires.is_search.kept
-          (rw c.deref.ensures.value at c.in_ok-standing.ensures.checkpoint),
-      record {
-        further = (Moves-passed (record search { machine = Some c.in_ok-standing.standing.machine }) (rank_of c.args.choice + 1) None c.requires.fresh
-            (omega (arith, ranked)) (omega (arith, small))).further;
-      },
+      IsSearch-tried history wf search _ is_search refl refl is_search.machine
+          (Tried-call history wf search is_search c.args.choice c.requires.next c.requires.least (c.in_default.ensures (lines_of search.frames.items) may))
+          is_search.kept is_search.checkpoint,
+      Moves-passed search (rank_of c.args.choice + 1) None c.requires.fresh (omega (arith, ranked)) (omega (arith, small)),
     )
 
 pub offer-requires-clause-of_cpu : goal.offer-requires-clause-of_cpu
 offer-requires-clause-of_cpu c =
     let history = c.args.history.now.recorded in
     let search = c.args.self.now in
-    let reached = rw c.deref.ensures.value at c.in_ok-standing.ensures.machine in
+    let is_search = c.requires.is_search in
     (c.in-Some.ensures (lines_of search.frames.items)
-    (MayTry-search history c.well_formed-2.ensures search c.requires.is_search c.args.choice c.requires.next c.requires.least (state_of c.in_ok-standing.standing.machine)
-    reached c.above_for-above.result c.above_for-above.ensures)).of_cpu
+    (MayTry-search history c.well_formed-2.ensures search is_search c.args.choice c.requires.next c.requires.least (state_of search.machine)
+    (is_search.machine c.requires.stands) c.above_for-above.result c.above_for-above.ensures)).of_cpu
 
 pub offer-requires-clause-numbered : goal.offer-requires-clause-numbered
 offer-requires-clause-numbered c =
     let history = c.args.history.now.recorded in
     let search = c.args.self.now in
-    let reached = rw c.deref.ensures.value at c.in_ok-standing.ensures.machine in
+    let is_search = c.requires.is_search in
     (c.in-Some.ensures (lines_of search.frames.items)
-    (MayTry-search history c.well_formed-2.ensures search c.requires.is_search c.args.choice c.requires.next c.requires.least (state_of c.in_ok-standing.standing.machine)
-    reached c.above_for-above.result c.above_for-above.ensures)).numbered
+    (MayTry-search history c.well_formed-2.ensures search is_search c.args.choice c.requires.next c.requires.least (state_of search.machine)
+    (is_search.machine c.requires.stands) c.above_for-above.result c.above_for-above.ensures)).numbered
 
 pub offer-requires-clause-kind : goal.offer-requires-clause-kind
 offer-requires-clause-kind c =
     let history = c.args.history.now.recorded in
     let search = c.args.self.now in
-    let reached = rw c.deref.ensures.value at c.in_ok-standing.ensures.machine in
+    let is_search = c.requires.is_search in
     (c.in-Some.ensures (lines_of search.frames.items)
-    (MayTry-search history c.well_formed-2.ensures search c.requires.is_search c.args.choice c.requires.next c.requires.least (state_of c.in_ok-standing.standing.machine)
-    reached c.above_for-above.result c.above_for-above.ensures)).kind
+    (MayTry-search history c.well_formed-2.ensures search is_search c.args.choice c.requires.next c.requires.least (state_of search.machine)
+    (is_search.machine c.requires.stands) c.above_for-above.result c.above_for-above.ensures)).kind
 
 pub push-requires-clause-number : goal.push-requires-clause-number
 push-requires-clause-number c =
-    number_of_next c.args.history.now.recorded c.well_formed-2.ensures c.args.self.now.counts c.args.self.now.from c.args.choice c.requires.next
+    number_of_next c.args.history.now.recorded c.well_formed-2.ensures c.args.self.now.front.counts c.args.self.now.from c.args.choice c.requires.next
 
 pub returns-then-given : goal.returns-then-given
 returns-then-given c =
     let history = c.args.history.now.recorded in
     let search = c.args.self.now in
-    let machine = c.in_ok-standing.standing.machine in
-    let reached = rw c.deref.ensures.value at c.in_ok-standing.ensures.machine in
+    let is_search = c.requires.is_search in
     let given = rw c.if-given.true at c.in_ok-given.ensures.given in
     let attempt = c.in-Some.ensures (lines_of search.frames.items)
-    (MayTry-search history c.well_formed-2.ensures search c.requires.is_search c.args.choice c.requires.next c.requires.least (state_of machine)
-    reached c.above_for-above.result c.above_for-above.ensures) in
+    (MayTry-search history c.well_formed-2.ensures search is_search c.args.choice c.requires.next c.requires.least (state_of search.machine)
+    (is_search.machine c.requires.stands) c.above_for-above.result c.above_for-above.ensures) in
     on_ok_weaker c.push.result (λ longer. (
-      IsSearch-given history c.well_formed-2.ensures search c.requires.is_search c.args.choice machine reached c.push.new.self c.requires.next c.requires.least
+      IsSearch-given history c.well_formed-2.ensures search is_search c.requires.stands c.args.choice c.push.new.self c.requires.next c.requires.least
           _ (IsAttempt-marked history (lines_of search.frames.items) c.args.choice c.in-Some.frame c.in_ok-frame.field-0 attempt)
-          c.offer.new.machine c.requires.soon given c.in_ok-frame.ensures _ (rw c.deref.ensures.value at c.in_ok-standing.ensures.checkpoint) c.offer.new.offers.count longer,
+          c.offer.new.machine c.requires.soon given c.in_ok-frame.ensures c.offer.new.offers longer,
       Moves-offered search c.push.new.self c.requires.few (longer.offers ∙ c.in_ok-given.ensures.counted),
     )) c.push.ensures
 
@@ -93,14 +81,12 @@ pub returns : goal.returns
 returns c =
     let history = c.args.history.now.recorded in
     let search = c.args.self.now in
-    let machine = c.in_ok-standing.standing.machine in
-    let reached = rw c.deref.ensures.value at c.in_ok-standing.ensures.machine in
+    let is_search = c.requires.is_search in
     let refused = rw c.if-given.false at c.in_ok-given.ensures.given in
     let attempt = c.in-Some.ensures (lines_of search.frames.items)
-    (MayTry-search history c.well_formed-2.ensures search c.requires.is_search c.args.choice c.requires.next c.requires.least (state_of machine)
-    reached c.above_for-above.result c.above_for-above.ensures) in (
-      IsSearch-refused history c.well_formed-2.ensures search c.requires.is_search c.args.choice machine reached _ c.requires.next c.requires.least
-          c.in-Some.frame attempt c.offer.new.machine (c.in_ok-given.ensures.kept c.if-given.false) refused refl refl refl refl refl refl
-          (rw c.deref.ensures.value at c.in_ok-standing.ensures.checkpoint),
+    (MayTry-search history c.well_formed-2.ensures search is_search c.args.choice c.requires.next c.requires.least (state_of search.machine)
+    (is_search.machine c.requires.stands) c.above_for-above.result c.above_for-above.ensures) in (
+      IsSearch-refused history c.well_formed-2.ensures search is_search c.requires.stands c.args.choice _ c.requires.next c.requires.least
+          c.in-Some.frame attempt c.offer.new.machine (c.in_ok-given.ensures.kept c.if-given.false) refused c.offer.new.offers refl,
       Moves-offered search _ c.requires.few c.in_ok-given.ensures.counted,
     )
