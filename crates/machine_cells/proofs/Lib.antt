@@ -7,6 +7,8 @@ pub mod SideTold
 pub mod Found
 pub mod HeldEntries
 pub mod Stretches
+pub mod FreeTables
+pub mod NearTables
 pub mod OneChanged
 pub mod Tagged
 pub mod CanMake

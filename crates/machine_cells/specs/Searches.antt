@@ -1,13 +1,16 @@
 -- Tables that are looked up by their place, and where a stretch may end.
-use Rattle.std.specs.Prelude.{◌≡◌, ℕ, ◌+◌, ◌-◌, ◌*◌, Bool, ◌&&◌, ◌||◌, nat_lt, nat_le, Option, Some, None}
+use Rattle.std.specs.Prelude.{◌≡◌, ℕ, ◌+◌, ◌-◌, ◌*◌, Bool, false, ◌&&◌, ◌||◌, nat_lt, nat_le, Option, Some, None}
+use Rattle.std.specs.List.{list_any}
 use Rattle.rmm_spec.specs.declared.accepted.Stretch.{Stretch}
+use Rattle.rmm_spec.specs.declared.accepted.StretchUse.{StretchUse}
+use Rattle.rmm_spec.specs.declared.accepted.StretchUse.TheVariants.{Init, Requested}
 use Rattle.rmm_spec.specs.declared.entry.Entry.TheVariants.{Unassigned}
 use Rattle.rmm_spec.specs.declared.entry.EntryTest.{EntryTest}
 use Rattle.rmm_spec.specs.declared.tag.Ripas.TheVariants.{Empty}
 use Rattle.rmm_spec.specs.State.{State}
 use Rattle.rmm_spec.specs.Table.{TableRecord}
 use Rattle.rmm_spec.specs.Cell.{tables_of}
-use Rattle.rmm_spec.specs.Walk.{entry_size, table_size, entry_at, passes, table_number, is_multiple}
+use Rattle.rmm_spec.specs.Walk.{entry_size, table_size, entry_at, is_live, is_table, passes, table_number, is_multiple}
 use Rattle.machine_cells.specs.declared.granules.Granules.{Granules}
 use Rattle.machine_cells.specs.Whole.{cells_of, state_in}
 
@@ -21,6 +24,12 @@ pub record StandsAs (g : Granules) (rd level number : ℕ) (table : TableRecord)
 abbrev pub IsTable : Granules → ℕ → ℕ → ℕ → Option TableRecord → Type 0
 IsTable g rd level number None = (state_in g).table rd level number ≡ None
 IsTable g rd level number (Some table) = StandsAs g rd level number table
+
+-- a table stands, and no entry of it is one that a stretch may not set
+abbrev pub IsFree : Option TableRecord → StretchUse → Type 0
+IsFree None purpose = ⊥
+IsFree (Some table) Init = list_any is_live table.entries ≡ false
+IsFree (Some table) (Requested rec ripas) = list_any is_table table.entries ≡ false
 
 -- whether an entry of a table that doesn't stand is one that is looked for: a root may stand below the first, and the others have nothing
 abbrev pub has_unlisted : State → ℕ → ℕ → ℕ → EntryTest → Bool

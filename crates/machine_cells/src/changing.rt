@@ -150,6 +150,7 @@ impl Granules {
         self.list
             .change_entries(Some(above), EntryChange::Replaced { number, entry });
         self.list.put(rtt, Cell::Rtt(table));
+        self.near.keep(rd, level, number, Some(rtt));
         Ok(())
     }
 
@@ -181,7 +182,9 @@ impl Granules {
         ensures size { config_of self.new ≡ config_of self.old }
         ensures whole { whole_of self.new ≡ whole_changed (config_of self.old) (whole_of self.old) (change.EntriesChanged rd level entries page realm rec) }
     {
-        let at = self.table_at(rd, level, table_changed(entries));
+        let number = table_changed(entries);
+        let at = self.table_at(rd, level, number);
+        self.near.keep(rd, level, number, at);
         change_places(&self.list, &mut self.places, rec);
         self.list.change_tag(page);
         self.list.change_realm(realm);

@@ -4,6 +4,7 @@ ghost use Rattle.std.specs.Prelude.{◌≡◌, IfOk};
 
 use crate::cell_list::CellList;
 use crate::granules::Granules;
+use crate::near::Near;
 use crate::places::{CPUS, Places};
 use granule_cells::{Cell, CpuPlace, Descriptor};
 use std::alloc::{AllocError, Global};
@@ -25,6 +26,7 @@ impl Granules {
             list,
             side,
             places,
+            near: Near::new(),
         })
     }
 }

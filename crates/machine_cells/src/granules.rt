@@ -1,6 +1,7 @@
 //! What is kept of all granules, and what lies in one.
 
 use crate::cell_list::CellList;
+use crate::near::Near;
 use crate::places::Places;
 use granule_cells::{Cell, Side};
 use granule_state::Config;
@@ -8,17 +9,18 @@ use realm_desc::{Realm, Rec};
 use rmm_spec::{Tag, Version};
 use std::alloc::{AllocError, Global};
 
-/// A cell for each granule of a machine, the side table, and each CPU's place.
+/// A cell for each granule of a machine, the side table, and each CPU's place. Where tables were found before is no part of the state.
 #[derive(Drop)]
 pub struct Granules {
     pub(crate) alloc: Global,
     pub(crate) list: CellList,
     pub(crate) side: Side,
     pub(crate) places: Places,
+    pub(crate) near: Near,
 }
 
 impl Granules {
-    ghost use Rattle.std.specs.Prelude.{◌≡◌, ◌≤◌, IfOk};
+    ghost use Rattle.std.specs.Prelude.{◌≡◌, ◌≤◌, IfOk, option_copied};
     ghost use Rattle.rmm_spec.specs.Lookup.{has_tag};
     ghost use Rattle.rmm_spec.specs.State.{opening};
     ghost use Rattle.machine_cells.specs.Whole.{count_of, state_in, IsShapedIn};
@@ -37,6 +39,7 @@ impl Granules {
             list,
             side,
             places,
+            near: Near::new(),
         })
     }
 
@@ -77,24 +80,21 @@ impl Granules {
         }
     }
 
-    /// The realm whose descriptor is at the address.
+    /// The realm whose descriptor is at the address, where it lies.
     #[tactic(auto, unfolding(crate::specs::Whole::state_in, rmm_spec::specs::Flat::flat_state))]
-    pub fn realm(&self, rd: u64) -> Option<Realm>
-        ensures { result ≡ (state_in self.now).realm rd }
+    pub fn realm(&self, rd: u64) -> Option<&Realm>
+        ensures { option_copied result ≡ (state_in self.now).realm rd }
     {
-        match self.list.cell(rd) {
-            Some(Cell::Rd(descriptor)) => Some(*descriptor.realm()),
-            _ => None,
-        }
+        self.list.realm_in(rd)
     }
 
-    /// The REC whose granule is at the address.
+    /// The REC whose granule is at the address, where it lies.
     #[tactic(auto, unfolding(crate::specs::Whole::state_in, rmm_spec::specs::Flat::flat_state))]
-    pub fn rec(&self, address: u64) -> Option<Rec>
-        ensures { result ≡ (state_in self.now).rec address }
+    pub fn rec(&self, address: u64) -> Option<&Rec>
+        ensures { option_copied result ≡ (state_in self.now).rec address }
     {
         match self.list.cell(address) {
-            Some(Cell::Rec(rec)) => Some(*rec),
+            Some(Cell::Rec(rec)) => Some(rec),
             _ => None,
         }
     }

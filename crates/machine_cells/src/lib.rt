@@ -14,6 +14,7 @@ mod changing;
 mod copies;
 mod granules;
 mod keeping;
+mod near;
 mod places;
 mod put_cells;
 mod same;

@@ -1,10 +1,10 @@
 //! Searches through the entries of one table.
 
-ghost use Rattle.std.specs.Prelude.{◌≡◌, ◌≤◌};
+ghost use Rattle.std.specs.Prelude.{◌≡◌, ◌≤◌, IsTrue, option_copied};
 ghost use Rattle.machine_cells.specs.Searches as search;
 
 use crate::granules::Granules;
-use rmm_spec::{Entry, EntryTest, Ripas, Stretch};
+use rmm_spec::{Entry, EntryTest, Ripas, Stretch, StretchUse};
 use rtt_table::Table;
 use table_entries::{can_be_set, entry_number, entry_size, passes, table_number};
 
@@ -97,6 +97,9 @@ impl Granules {
         let first = entry_number(level, stretch.base);
         let count = entry_number(level, top - stretch.base);
         let table = self.table_here(stretch.rd, level, first / 512);
+        if is_free(table, stretch.purpose) {
+            return true;
+        }
         for place in 0..count {
             let entry = self.entry_in(table, stretch.rd, level, first + place);
             if !can_be_set(stretch.purpose, entry) {
@@ -104,6 +107,17 @@ impl Granules {
             }
         }
         true
+    }
+}
+
+// Whether the counts of a table tell that each of its entries may be set.
+fn is_free(table: Option<&Table>, purpose: StretchUse) -> bool
+    ensures { IsTrue result → search.IsFree (option_copied table.entry) purpose }
+{
+    match (table, purpose) {
+        (Some(table), StretchUse::Init) => !table.is_live(),
+        (Some(table), StretchUse::Requested { .. }) => !table.has_link(),
+        (None, _) => false,
     }
 }
 

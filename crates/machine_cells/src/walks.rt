@@ -1,6 +1,7 @@
 //! Walks through a realm's tables by links, from its root on.
 
-ghost use Rattle.std.specs.Prelude.{◌≡◌, ◌≤◌, ◌<◌, ◌*◌, ◌^◌, IfSome, IfNone};
+ghost use Rattle.std.specs.Prelude.{◌≡◌, ◌≤◌, ◌<◌, ◌*◌, ◌^◌, IfSome, IfNone, IsTrue};
+ghost use Rattle.rmm_spec.specs.Table.{place_number};
 ghost use Rattle.rmm_spec.specs.Walk as spec;
 ghost use Rattle.machine_cells.specs.Walks.{IsFirst};
 
@@ -8,6 +9,8 @@ use crate::granules::Granules;
 use granule_state::{Ipa, Pa};
 use realm_desc::Realm;
 use rmm_spec::{Entry, Ripas, Walked};
+use rtt_table::{Table, index_of};
+use table_entries::table_number;
 
 /// Where a walk starts.
 #[derive(Clone, Copy)]
@@ -46,6 +49,37 @@ impl Granules {
         requires max { max ≤ 3 }
         ensures { result ≡ walk (state_in self.now) rd ipa max }
     {
+        match self.walk_near(rd, ipa, max) {
+            Some(end) => end,
+            None => self.walk_from_root(rd, ipa, max),
+        }
+    }
+
+    // The same, where it ends at that level in a table that was found before: none is deeper.
+    fn walk_near(&self, rd: u64, ipa: u64, max: u8) -> Option<Walked>
+        requires shaped { IsShapedIn self.now }
+        requires max { max ≤ 3 }
+        ensures { IfSome result (λ end. end ≡ walk (state_in self.now) rd ipa max) }
+    {
+        let Some(granule) = self.table_near(rd, max, table_number(max, ipa)) else {
+            return None;
+        };
+        let Some(table) = self.list.table_in(granule) else {
+            return None;
+        };
+        Some(Walked {
+            level: max,
+            granule,
+            entry: table.entry(index_of(max, Ipa::new(ipa))),
+        })
+    }
+
+    // The same, by links.
+    fn walk_from_root(&self, rd: u64, ipa: u64, max: u8) -> Walked
+        requires shaped { IsShapedIn self.now }
+        requires max { max ≤ 3 }
+        ensures { result ≡ walk (state_in self.now) rd ipa max }
+    {
         let Some(start) = self.start(rd, ipa) else {
             return Walked {
                 level: 0,
@@ -73,6 +107,32 @@ impl Granules {
         requires { IsShapedIn self.now }
         ensures { result ≡ (state_in self.now).table rd level number }
     {
+        match self.table_near(rd, level, number) {
+            Some(granule) => Some(granule),
+            None => self.table_from_root(rd, level, number),
+        }
+    }
+
+    // The same, where it was found before.
+    fn table_near(&self, rd: u64, level: u8, number: u64) -> Option<u64>
+        requires { IsShapedIn self.now }
+        ensures { IfSome result (λ granule. (state_in self.now).table rd level number ≡ Some granule) }
+    {
+        let granule = self.near.granule(rd, level, number);
+        let Some(table) = self.list.table_in(granule) else {
+            return None;
+        };
+        if !is_placed(table, rd, level, number) {
+            return None;
+        }
+        Some(granule)
+    }
+
+    // The same, by links.
+    fn table_from_root(&self, rd: u64, level: u8, number: u64) -> Option<u64>
+        requires { IsShapedIn self.now }
+        ensures { result ≡ (state_in self.now).table rd level number }
+    {
         let Some(ipa) = first_address(level, number) else {
             return None;
         };
@@ -89,6 +149,15 @@ impl Granules {
             None
         }
     }
+}
+
+// Whether a table is the realm's of that number at the level.
+#[tactic(auto, unfolding(rmm_spec::specs::Table::place_number))]
+fn is_placed(table: &Table, rd: u64, level: u8, number: u64) -> bool
+    ensures { IsTrue result → (table.now.place.rd ≡ rd) × (table.now.place.level ≡ level) × (place_number table.now.place ≡ number) }
+{
+    let place = table.place();
+    place.rd == rd && place.level == level && table_number(place.level, place.base) == number
 }
 
 // Where a realm's tables begin.

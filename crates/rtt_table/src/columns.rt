@@ -1,13 +1,13 @@
 //! The entries of a table in two columns, nine bytes an entry.
 
-ghost use Rattle.std.specs.Prelude.{All, ◌≡◌, ◌++◌, ◌<◌, ◌≤◌, ◌↔◌, IfOk, IsTrue, length, map, replicate, Some, slice_get, slice_set};
+ghost use Rattle.std.specs.Prelude.{All, ◌≡◌, ◌++◌, ◌<◌, ◌≤◌, ◌↔◌, IfOk, IsTrue, false, length, map, replicate, Some, slice_get, slice_set};
 ghost use Rattle.std.specs.List.{list_any};
 ghost use Rattle.rmm_spec.specs.Table.{entries_with_ripas, AreAlike};
 ghost use Rattle.rmm_spec.specs.Walk.{is_unlike};
 ghost use Rattle.rtt_table.specs.Columns as spec;
 ghost use Rattle.rtt_table.specs.Columns.{kind_with_ripas};
 
-use crate::kind::{Kind, entry_from, kind_of, kind_with_ripas};
+use crate::kind::{Kind, assigned, entry_from, kind_of, kind_of_two, unassigned};
 use rmm_spec::{Entry, EntryTest, Ripas};
 use std::alloc::{AllocError, Global};
 use std::marker::Model;
@@ -84,7 +84,7 @@ impl Columns {
     pub fn has_unlike(&self, first: Entry) -> bool
         ensures { result ≡ list_any (is_unlike first) self.now }
     {
-        are_unlike(&self.kinds, first)
+        !are_like(&self.kinds, first) && are_unlike(&self.kinds, first)
     }
 
     /// Whether all entries are equal.
@@ -114,11 +114,21 @@ fn column<T: Copy>(alloc: Global, lower: T, upper: T) -> Result<Vec<T>, AllocErr
     Ok(column)
 }
 
-// Whether each entry is of the given kind.
+// Whether each entry is of the given kind. It looks at all of them, so that many are compared at a time.
 fn are_kind(kinds: &[Kind], same: Kind) -> bool
     ensures { IsTrue result ↔ All (λ k. k ≡ same) kinds.now }
 {
-    kinds.iter().all(|kind| *kind == same)
+    let mut are = true;
+    for kind in kinds.iter() {
+        are &= is_kind(*kind, same);
+    }
+    are
+}
+
+fn is_kind(kind: Kind, same: Kind) -> bool
+    ensures { IsTrue result ↔ (kind ≡ same) }
+{
+    kind == same
 }
 
 // Whether each entry names the given address.
@@ -126,6 +136,14 @@ fn are_at(addresses: &[u64], same: u64) -> bool
     ensures { IsTrue result ↔ All (λ a. a ≡ same) addresses.now }
 {
     addresses.iter().all(|address| *address == same)
+}
+
+// Whether all kinds are that of the given entry, where it is unassigned.
+fn are_like(kinds: &[Kind], first: Entry) -> bool
+    ensures { IsTrue result → list_any (λ kind. is_unlike first (spec.entry_from kind 0)) kinds.now ≡ false }
+{
+    let same = kind_of(first);
+    !passes(EntryTest::Unlike(first), entry_from(same, 0)) && are_kind(kinds, same)
 }
 
 // Whether some kind isn't that of an entry that is unassigned as the given one is.
@@ -139,7 +157,9 @@ fn are_unlike(kinds: &[Kind], first: Entry) -> bool
 fn change_ripas(kinds: &mut [Kind], ripas: Ripas)
     ensures { kinds.new ≡ map (kind_with_ripas ripas) kinds.old }
 {
+    let unassigned = unassigned(ripas);
+    let assigned = assigned(ripas);
     for kind in kinds.iter_mut() {
-        *kind = kind_with_ripas(*kind, ripas);
+        *kind = kind_of_two(*kind, unassigned, assigned);
     }
 }

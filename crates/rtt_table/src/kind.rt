@@ -1,6 +1,7 @@
 //! What an entry is, apart from the address that it names, in one byte.
 
 ghost use Rattle.std.specs.Prelude.{◌≡◌};
+ghost use Rattle.rmm_spec.specs.declared.tag.Ripas.{Ripas};
 ghost use Rattle.rtt_table.specs.Columns as spec;
 
 use rmm_spec::{Entry, Ripas};
@@ -52,20 +53,27 @@ pub fn entry_from(kind: Kind, address: u64) -> Entry
     }
 }
 
-/// The kind with another RIPAS, where it has one.
-pub fn kind_with_ripas(kind: Kind, ripas: Ripas) -> Kind
-    ensures { result ≡ spec.kind_with_ripas ripas kind }
+/// The kind with another RIPAS, where it has one: one of the two kinds with that RIPAS.
+pub fn kind_of_two(kind: Kind, unassigned: Kind, assigned: Kind) -> Kind
+    ensures { (ripas : Ripas) → unassigned ≡ spec.unassigned ripas → assigned ≡ spec.assigned ripas → result ≡ spec.kind_with_ripas ripas kind }
 {
-    match kind {
-        Kind::UnassignedEmpty | Kind::UnassignedRam | Kind::UnassignedDestroyed => {
-            unassigned(ripas)
-        }
-        Kind::AssignedEmpty | Kind::AssignedRam | Kind::AssignedDestroyed => assigned(ripas),
-        Kind::Table | Kind::UnassignedNs | Kind::AssignedNs => kind,
+    if matches!(
+        kind,
+        Kind::UnassignedEmpty | Kind::UnassignedRam | Kind::UnassignedDestroyed
+    ) {
+        unassigned
+    } else if matches!(
+        kind,
+        Kind::AssignedEmpty | Kind::AssignedRam | Kind::AssignedDestroyed
+    ) {
+        assigned
+    } else {
+        kind
     }
 }
 
-fn unassigned(ripas: Ripas) -> Kind
+/// The kind of an entry that is unassigned with this RIPAS.
+pub fn unassigned(ripas: Ripas) -> Kind
     ensures { result ≡ spec.unassigned ripas }
 {
     match ripas {
@@ -75,7 +83,8 @@ fn unassigned(ripas: Ripas) -> Kind
     }
 }
 
-fn assigned(ripas: Ripas) -> Kind
+/// The kind of an entry that has a data granule and this RIPAS.
+pub fn assigned(ripas: Ripas) -> Kind
     ensures { result ≡ spec.assigned ripas }
 {
     match ripas {

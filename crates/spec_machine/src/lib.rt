@@ -9,6 +9,7 @@
 mod change;
 mod copies;
 mod granules;
+mod inside;
 mod lending;
 mod machine;
 mod owner_report;

@@ -12,7 +12,7 @@ use command_rows::{answer_inside, answer_outside};
 use granule_state::Config;
 use machine_cells::Granules;
 use rmi_view::{CommandRef, ReplyRef};
-use rmm_spec::{Accepted, Command, Reply};
+use rmm_spec::{Accepted, Call, Command, Reply};
 use std::alloc::{AllocError, Global};
 
 /// A state of the specification machine: all its granules, and to which realm each belongs.
@@ -27,8 +27,9 @@ pub struct Machine {
 }
 
 impl Machine {
-    ghost use Rattle.std.specs.Prelude.{◌≡◌, IfOk, IsOk, OnErr, IsTrue, false};
+    ghost use Rattle.std.specs.Prelude.{◌≡◌, IfOk, IsOk, Ok, OnErr, IsTrue, false};
     ghost use Rattle.rmm_spec.specs.Call.{call_of};
+    ghost use Rattle.rmm_spec.specs.Lookup.{is_inside};
     ghost use Rattle.rmm_spec.specs.State.{State, opening};
     ghost use Rattle.rmm_spec.specs.Step.{Step, outcome};
     ghost use Rattle.spec_machine.specs.Memory.{makes_table};
@@ -148,18 +149,69 @@ impl Machine {
         ensures only_tables { OnErr result (IsTrue (makes_table command.entry.function)) }
         ensures only_accepted { OnErr result (IsOk (outcome (state_of self.old) cpu (call_of (command_seen command.entry)))) }
     {
-        match self.outcome_seen(cpu, command) {
-            Err(refusal) => Ok(reply.is(&refusal)),
-            Ok(Accepted::Done { words, change }) => {
-                if !is_ok(reply, &words) {
+        let call = command.call();
+        match self.rec_inside(cpu) {
+            None => self.offer_outside(cpu, command, &call, reply),
+            Some(rec) => Ok(self.offer_inside(cpu, rec, &call, command, reply)),
+        }
+    }
+
+    // Takes one step of a CPU that is outside of RECs. What is answered is seen where it lies, since it is large.
+    #[inline(always)]
+    fn offer_outside(
+        &mut self,
+        cpu: u8,
+        command: CommandRef<'_>,
+        call: &Call,
+        reply: ReplyRef<'_>,
+    ) -> Result<bool, AllocError>
+        requires outside { is_inside (state_of self.old) cpu ≡ false }
+        requires call { call.now ≡ call_of (command_seen command) }
+        ensures step { IfOk result (λ given. IsTrue given
+            → Step (state_of self.old) cpu (command_seen command.entry) (reply_seen reply.entry) (state_of self.new)) }
+        ensures only { IfOk result (λ given. given ≡ false
+            → (next : State) → ¬ Step (state_of self.old) cpu (command_seen command.entry) (reply_seen reply.entry) next) }
+        ensures kept { IfOk result (λ given. given ≡ false → state_of self.new ≡ state_of self.old) }
+        ensures err { OnErr result (state_of self.new ≡ state_of self.old) }
+        ensures only_tables { OnErr result (IsTrue (makes_table command.entry.function)) }
+        ensures only_accepted { OnErr result (IsOk (outcome (state_of self.old) cpu (call_of (command_seen command.entry)))) }
+    {
+        match answer_outside(self, cpu, call) {
+            Err(ref refusal) => Ok(reply.is(refusal)),
+            Ok(ref accepted) => self.take_accepted(cpu, command, accepted, reply),
+        }
+    }
+
+    // Takes the step of the command for which this is accepted.
+    #[inline(always)]
+    fn take_accepted(
+        &mut self,
+        cpu: u8,
+        command: CommandRef<'_>,
+        accepted: &Accepted,
+        reply: ReplyRef<'_>,
+    ) -> Result<bool, AllocError>
+        requires { Ok accepted.now ≡ outcome (state_of self.old) cpu (call_of (command_seen command)) }
+        ensures step { IfOk result (λ given. IsTrue given
+            → Step (state_of self.old) cpu (command_seen command.entry) (reply_seen reply.entry) (state_of self.new)) }
+        ensures only { IfOk result (λ given. given ≡ false
+            → (next : State) → ¬ Step (state_of self.old) cpu (command_seen command.entry) (reply_seen reply.entry) next) }
+        ensures kept { IfOk result (λ given. given ≡ false → state_of self.new ≡ state_of self.old) }
+        ensures err { OnErr result (state_of self.new ≡ state_of self.old) }
+        ensures only_tables { OnErr result (IsTrue (makes_table command.entry.function)) }
+        ensures only_accepted { OnErr result (IsOk (outcome (state_of self.old) cpu (call_of (command_seen command.entry)))) }
+    {
+        match accepted {
+            Accepted::Done { words, change } => {
+                if !is_ok(reply, words) {
                     return Ok(false);
                 }
-                let Ok(()) = self.apply(&change) else {
+                let Ok(()) = self.apply(change) else {
                     return Err(AllocError);
                 };
                 Ok(true)
             }
-            Ok(Accepted::Reaches(stretch)) => Ok(self.reach(&stretch, reply)),
+            Accepted::Reaches(stretch) => Ok(self.reach(stretch, reply)),
         }
     }
 

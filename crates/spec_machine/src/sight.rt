@@ -27,12 +27,12 @@ impl Sight for Machine {
 
     #[tactic(auto, unfolding(crate::specs::View::state_of))]
     fn realm(&self, rd: u64) -> Option<Realm> {
-        self.granules.realm(rd)
+        self.granules.realm(rd).copied()
     }
 
     #[tactic(auto, unfolding(crate::specs::View::state_of))]
     fn rec(&self, address: u64) -> Option<Rec> {
-        self.granules.rec(address)
+        self.granules.rec(address).copied()
     }
 
     #[tactic(auto, unfolding(crate::specs::View::state_of))]

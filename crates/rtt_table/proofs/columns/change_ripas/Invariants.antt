@@ -4,4 +4,4 @@ use Rattle.rtt_table.proofs.columns.change_ripas.Given as goal
 
 abbrev pub invariant-loop-kind : goal.invariant-loop-kind
 invariant-loop-kind l =
-    l.kinds ≡ map (kind_with_ripas l.ripas) (take l.kind-index l.initial.kinds) ++ drop l.kind-index l.initial.kinds
+    l.kinds ≡ map (kind_with_ripas l.fn.ripas) (take l.kind-index l.initial.kinds) ++ drop l.kind-index l.initial.kinds

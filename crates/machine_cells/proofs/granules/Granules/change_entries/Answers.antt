@@ -23,6 +23,6 @@ returns-clause-whole c =
     let g = a.self.now in
     let before = c.change_rec.ensures.cells ∙ ap (λ x. cells_with_rec_change x a.rec)
     (c.change_realm.ensures.cells ∙ ap (λ x. cells_with_realm_change x a.realm) c.change_tag.ensures.cells) in
-    let at = c.table_at-at.ensures ∙ ap ((state_in g).table a.rd a.level) c.table_changed.ensures in
+    let at = c.table_at-at.ensures ∙ ap ((state_in g).table a.rd a.level) c.table_changed-number.ensures in
     let cells = c.change_entries.ensures.cells ∙ (λ i. cells_with_entries (before i) (entries_changed a.entries) (at i)) in
     λ i. record { cells = cells i; side = (whole_of g).side; places = c.change_places.ensures i }

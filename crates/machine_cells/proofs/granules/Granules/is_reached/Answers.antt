@@ -1,13 +1,19 @@
-use Rattle.std.proofs.Common.{◌≡◌, ◌+◌, ◌-◌, ◌/◌, ◌<◌, sym, subst, arith}
+use Rattle.std.proofs.Common.{◌≡◌, ◌+◌, ◌-◌, ◌/◌, ◌<◌, refl, sym, subst, arith}
 use Rattle.std.specs.Option.{option_copied}
 use Rattle.rmm_spec.specs.Walk.{entry_number}
 use Rattle.machine_cells.specs.Searches.{IsTable}
 use Rattle.machine_cells.specs.Whole.{state_in}
+use Rattle.machine_cells.proofs.FreeTables.{reached-free}
 use Rattle.machine_cells.proofs.Stretches.{end-order, in_table, reached-no_end, reached-fails, reached-more, reached-all}
 use Rattle.machine_cells.proofs.granules.Granules.is_reached.Goals as goal
 
 pub returns-then-not-is_end : goal.returns-then-not-is_end
 returns-then-not-is_end c = reached-no_end (state_in c.args.self.now) c.args.stretch.now c.args.top (sym c.if-not-is_end.ensures)
+
+pub returns-then-is_free : goal.returns-then-is_free
+returns-then-is_free c =
+    reached-free c.args.self.now c.requires.shaped c.args.stretch.now c.args.top c.requires.level (sym c.if-not-is_end.ensures)
+    c.entry_number-first.result (option_copied c.table_here-table.result) c.entry_number-first.ensures.number c.table_here-table.ensures (c.if-is_free.ensures refl)
 
 pub overflow_sub-top : goal.overflow_sub-top
 overflow_sub-top c = omega (arith, end-order c.args.stretch.now c.args.top (sym c.if-not-is_end.ensures))

@@ -1,9 +1,16 @@
-use Rattle.std.proofs.Common.{◌∙◌}
+use Rattle.std.proofs.Common.{not, sym, ap, ◌∙◌}
 use Rattle.rtt_table.specs.Columns.{joined}
 use Rattle.rtt_table.proofs.Unlike.{any-unlike}
 use Rattle.rtt_table.proofs.columns.Columns.has_unlike.Goals as goal
 
-pub returns : goal.returns
-returns c =
+pub returns-then-not-are_like : goal.returns-then-not-are_like
+returns-then-not-are_like c =
     let t = c.self.inside in
-    rw (← c.self.view_is) ((rw c.deref.ensures.value at c.are_unlike.ensures) ∙ any-unlike c.args.first (joined t.kinds.items t.addresses.items) t.kinds.items t.addresses.items c.self.invariant.1)
+    let same = any-unlike c.args.first (joined t.kinds.items t.addresses.items) t.kinds.items t.addresses.items c.self.invariant.1 in
+    rw (← c.self.view_is) ((rw c.deref-then-not-are_like.ensures.value at c.are_unlike.ensures) ∙ same)
+
+pub returns-else-not-are_like : goal.returns-else-not-are_like
+returns-else-not-are_like c =
+    let t = c.self.inside in
+    let same = any-unlike c.args.first (joined t.kinds.items t.addresses.items) t.kinds.items t.addresses.items c.self.invariant.1 in
+    rw (← c.self.view_is) (ap not c.if-not-are_like.false ∙ sym (rw c.deref.ensures.value at c.are_like.ensures c.if-not-are_like.false) ∙ same)

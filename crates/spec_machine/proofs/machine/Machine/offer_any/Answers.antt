@@ -1,29 +1,8 @@
-use Rattle.spec_machine.proofs.Common.{command_seen, done_applies, reached_applies, sound_in, state_of, sym}
-use Rattle.spec_machine.proofs.Memory.{done_makes, stretch_level}
+use Rattle.spec_machine.proofs.Common.{sym}
 use Rattle.spec_machine.proofs.machine.Machine.offer_any.Goals as goal
 
-pub apply-requires : goal.apply-requires
-unfolding state_of
-apply-requires c =
-    let is = rw c.in-Ok-Done.field-0-is at c.in-Ok-Done.ensures in
-    done_applies (state_of c.args.self.now) c.args.cpu (command_seen c.args.command) _ _ (sound_in c.args.self.now.granules c.args.self.now.shaped) (sym is)
+pub offer_outside-requires : goal.offer_outside-requires
+offer_outside-requires c = record { outside = sym c.in-None.ensures.is; call = c.call-call.ensures }
 
-pub returns-in_default-clause-only_tables : goal.returns-in_default-clause-only_tables
-returns-in_default-clause-only_tables c =
-    let is = rw c.in-Ok-Done.field-0-is at c.in-Ok-Done.ensures in
-    done_makes (state_of c.args.self.now) c.args.cpu (command_seen c.args.command) _ _ (sym is) c.in_default.ensures.only
-
-pub reach-requires : goal.reach-requires
-unfolding state_of
-reach-requires c =
-    let s = state_of c.args.self.now in
-    let is = sym (rw c.in-Ok-Reaches.field-0-is at c.in-Ok-Reaches.ensures) in
-    record {
-      level = stretch_level s c.args.cpu (command_seen c.args.command) _ (sound_in c.args.self.now.granules c.args.self.now.shaped) is;
-      can = λ top. reached_applies s c.args.cpu (command_seen c.args.command) _ top (sound_in c.args.self.now.granules c.args.self.now.shaped) is;
-    }
-
-pub returns-in-Ok-Reaches-clause-only : goal.returns-in-Ok-Reaches-clause-only
-returns-in-Ok-Reaches-clause-only c =
-    let is = sym (rw c.in-Ok-Reaches.field-0-is at c.in-Ok-Reaches.ensures) in
-    λ refused next. rw is (c.reach.ensures.only refused next)
+pub offer_inside-requires : goal.offer_inside-requires
+offer_inside-requires c = record { inside = sym c.in-Some.ensures.is; at = c.in-Some.ensures.at; call = c.call-call.ensures }

@@ -5,4 +5,4 @@ pub returns-clause-tagged : goal.returns-clause-tagged
 unfolding state_of
 returns-clause-tagged c =
     let m = c.args.self.now in
-    ap is_some c.realm.ensures ∙ (sound_in m.granules m.shaped).realms.tagged c.args.rd
+    ap is_some (c.copied.ensures ∙ c.realm.ensures) ∙ (sound_in m.granules m.shaped).realms.tagged c.args.rd

@@ -5,4 +5,4 @@ pub returns-clause-tagged : goal.returns-clause-tagged
 unfolding state_of
 returns-clause-tagged c =
     let m = c.args.self.now in
-    ap is_some c.rec.ensures ∙ (sound_in m.granules m.shaped).recs.tagged c.args.address
+    ap is_some (c.copied.ensures ∙ c.rec.ensures) ∙ (sound_in m.granules m.shaped).recs.tagged c.args.address

@@ -2,7 +2,7 @@ use Rattle.std.proofs.Common.{arith}
 use Rattle.machine_cells.specs.Whole.{state_in}
 use Rattle.machine_cells.proofs.WalkEnds.{walk-elsewhere, walk-above, walk-is}
 use Rattle.machine_cells.proofs.Found.{sound_in, start-walkable, start-walks}
-use Rattle.machine_cells.proofs.granules.Granules.walk.Goals as goal
+use Rattle.machine_cells.proofs.granules.Granules.walk_from_root.Goals as goal
 
 pub returns-in_default : goal.returns-in_default
 returns-in_default c =

@@ -3,7 +3,7 @@ use Rattle.rmm_spec.specs.Walk.{IsWalk}
 use Rattle.machine_cells.specs.Whole.{state_in}
 use Rattle.machine_cells.proofs.WalkEnds.{table-large, table-elsewhere, table-above, walk-here, walk-short}
 use Rattle.machine_cells.proofs.Found.{sound_in, start-walkable, start-walks}
-use Rattle.machine_cells.proofs.granules.Granules.table_at.Goals as goal
+use Rattle.machine_cells.proofs.granules.Granules.table_from_root.Goals as goal
 
 pub returns-then-start-level : goal.returns-then-start-level
 returns-then-start-level c =

@@ -1,0 +1,8 @@
+use Rattle.std.proofs.Common.{refl}
+use Rattle.machine_cells.proofs.NearTables.{near-table}
+use Rattle.machine_cells.proofs.granules.Granules.table_near.Goals as goal
+
+pub returns : goal.returns
+returns c =
+    let a = c.args in
+    near-table a.self.now c.requires a.rd a.level a.number c.granule-granule.result c.in-Some.table.now c.in-Some.ensures (c.if-not-is_placed.ensures refl)

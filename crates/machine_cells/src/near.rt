@@ -1,0 +1,42 @@
+//! Where tables were found before.
+
+ghost use Rattle.std.specs.Prelude.{◌<◌};
+
+/// How many granules are kept.
+const SLOTS: usize = 256;
+
+/// Granules in which tables were found, each by what was looked for. What lies in one may have changed since, so who takes a granule
+/// from here looks at it.
+#[derive(Drop)]
+pub(crate) struct Near {
+    granules: [u64; SLOTS],
+}
+
+impl Near {
+    /// Nothing was found yet.
+    pub(crate) fn new() -> Near {
+        Near {
+            granules: [0; SLOTS],
+        }
+    }
+
+    /// Where the realm's table of that number at the level may lie.
+    pub(crate) fn granule(&self, rd: u64, level: u8, number: u64) -> u64 {
+        self.granules[slot(rd, level, number)]
+    }
+
+    /// The realm's table of that number at the level was found, where a granule is given.
+    pub(crate) fn keep(&mut self, rd: u64, level: u8, number: u64, granule: Option<u64>) {
+        if let Some(granule) = granule {
+            self.granules[slot(rd, level, number)] = granule;
+        }
+    }
+}
+
+// Where it is kept in which granule such a table lies: tables of one realm, and the same of two realms, mostly have slots of their own.
+fn slot(rd: u64, level: u8, number: u64) -> usize
+    ensures { result < 256 }
+{
+    let key = rd ^ number ^ (u64::from(level) << 40);
+    (key.wrapping_mul(0x9e37_79b9_7f4a_7c15) >> 40) as usize % SLOTS
+}

@@ -1,0 +1,30 @@
+use Rattle.spec_machine.proofs.Common.{ap, outcome, refl, reply_seen, sound_in, state_of, subst, sym, CarriesOut, ◌∙◌}
+use Rattle.std.proofs.lemmas.Bool.{false≢true}
+use Rattle.spec_machine.proofs.Memory.{owner_tagged}
+use Rattle.command_rows.proofs.Outcomes.{owned, outcome-outside}
+use Rattle.spec_machine.proofs.machine.Machine.offer_outside.Goals as goal
+
+pub answer_outside-requires : goal.answer_outside-requires
+unfolding state_of
+answer_outside-requires c =
+    let m = c.args.self.now in
+    record { owned = owned (state_of m) c.args.call.now (owner_tagged (state_of m) (sound_in m.granules m.shaped)) }
+
+pub take_accepted-requires : goal.take_accepted-requires
+take_accepted-requires c =
+    let s = state_of c.args.self.now in
+    sym c.in-Ok.is ∙ c.answer_outside.ensures ∙ outcome-outside s c.args.cpu c.args.call.now c.requires.outside ∙ ap (outcome s c.args.cpu) c.requires.call
+
+pub returns-in-Err-clause-step : goal.returns-in-Err-clause-step
+returns-in-Err-clause-step c =
+    let s = state_of c.args.self.now in
+    let is = sym c.in-Err.is ∙ c.answer_outside.ensures ∙ outcome-outside s c.args.cpu c.args.call.now c.requires.outside ∙ ap (outcome s c.args.cpu) c.requires.call in
+    λ holds. subst (λ answer. CarriesOut answer s (reply_seen c.args.reply) s) is (c.is.ensures.0 holds, refl)
+
+pub returns-in-Err-clause-only : goal.returns-in-Err-clause-only
+returns-in-Err-clause-only c =
+    let s = state_of c.args.self.now in
+    let is = sym c.in-Err.is ∙ c.answer_outside.ensures ∙ outcome-outside s c.args.cpu c.args.call.now c.requires.outside ∙ ap (outcome s c.args.cpu) c.requires.call in
+    λ fails next carries.
+    let given = subst (λ answer. CarriesOut answer s (reply_seen c.args.reply) next) (sym is) carries in
+    false≢true (sym fails ∙ c.is.ensures.1 given.0)
