@@ -3,8 +3,8 @@
 mod locked;
 mod queued;
 
-use crate::timing::Timing;
 use anyhow::{Context, Result, bail};
+use bench_words::Timing;
 use granule_state::Config;
 use std::alloc::Global;
 use std::sync::Wait;

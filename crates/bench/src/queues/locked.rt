@@ -3,7 +3,7 @@
 ghost use Rattle.std.specs.Prelude.{◌<◌};
 
 use crate::queues::{CALL, CALLS, CAPACITY, REPLY};
-use crate::timing::Timing;
+use bench_words::Timing;
 use granule_state::Config;
 use history::{Event, History};
 use rmi_codec::{read_command, read_reply};

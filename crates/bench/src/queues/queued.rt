@@ -5,7 +5,7 @@ ghost use Rattle.std.specs.List.{AllWithin};
 ghost use Rattle.event_queue.specs.View.{CanDrain};
 
 use crate::queues::{CALL, CALLS, CAPACITY, REPLY};
-use crate::timing::Timing;
+use bench_words::Timing;
 use event_queue::{CpuPass, Recorder, ScribePass};
 use granule_state::Config;
 use history::History;

@@ -1,0 +1,12 @@
+//! Programs of commands, one after another: the life of a realm with its REC, one with tables and pages in both halves, and a table
+//! of pages that is filled and emptied. No clause says which commands they are.
+//! `random_runs`, `world_bench` and `monitor_bench` depend on it.
+#![tactic(auto)]
+
+mod deep_lives;
+mod lives;
+mod pages;
+
+pub use deep_lives::{DEEP_SPAN, DeepLife};
+pub use lives::{LENGTH, Life, command};
+pub use pages::Pages;
