@@ -2,7 +2,11 @@
 
 use crate::hold::Away;
 use command_core::Cell;
+use std::hint::spin_loop;
 use std::sync::{Condvar, Mutex, Wait};
+
+/// How often a thread looks whether the cell came home before it sleeps: for some tens of microseconds, in which a command or two end.
+const LOOKS: u32 = 1000;
 
 /// A granule's cell while it is home. Who holds the granule has taken the cell away.
 #[derive(Drop)]
@@ -20,12 +24,33 @@ impl Granule {
         }
     }
 
-    /// Takes the cell away, once it is home.
+    /// Takes the cell away, once it is home. It looks for a while whether one came home before it sleeps, since to be woken takes longer
+    /// than most commands.
     pub fn take<R: Wait>(&self, rt: &R) -> Away {
+        let mut seen = self.came_home.notifications();
+        if let Some(cell) = self.taken() {
+            return Away::of(cell);
+        }
+        for _look in 0..LOOKS {
+            let came = self.came_home.notifications();
+            if came != seen {
+                seen = came;
+                if let Some(cell) = self.taken() {
+                    return Away::of(cell);
+                }
+            }
+            spin_loop();
+        }
         let mut home = self
             .came_home
             .wait_while(rt, self.home.lock(rt), |home| home.is_none());
         Away::of(home.take().unwrap())
+    }
+
+    // The cell, where it is home and its lock is free.
+    fn taken(&self) -> Option<Cell> {
+        let mut home = self.home.try_lock()?;
+        home.take()
     }
 
     /// Brings the cell home, and wakes one that waits for it.

@@ -111,11 +111,14 @@ impl<S: Site> Monitor<S> {
         ensures fault { IfErr result (λ fault. HasFailed token.old fault token.new) }
         ensures cause { IfErr result (λ fault. HadCause self.now.config fault command.now token.old) }
     {
-        let mut locked = self.journal.lock(rt);
-        let journal = &mut *locked;
+        let mut locked = self.journal.enter(rt);
+        let journal = &mut **locked;
         let _size = journal.config();
         let _books = journal.books();
-        commit(alloc, journal, token, hold, command)
+        let done = commit(alloc, journal, token, hold, command);
+        drop(locked);
+        self.journal.leave();
+        done
     }
 
     // Records the return of what was done. Where the queue is full, the CPU is stopped.

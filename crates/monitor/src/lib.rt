@@ -3,7 +3,7 @@
 //! that a refused commit has its cause; that a drain appends what it took; and that a close gives each CPU's whole list as
 //! history and the journal, which the tokens list, as certificate; and that there a call comes after all calls that its token
 //! was told of. Calls may wait, and promise where they return.
-//! `monitor_runs` and `bench` run their threads through it.
+//! `monitor_runs` and `monitor_bench` run their threads through it.
 #![tactic(auto)]
 
 mod close_fault;
@@ -13,6 +13,7 @@ mod gate;
 mod journal_lines;
 mod monitor;
 mod refused;
+mod soon;
 mod told_order;
 
 pub use certificate::Certificate;

@@ -6,6 +6,7 @@ ghost use Rattle.commit_tickets.specs.View.{first_tokens};
 ghost use Rattle.event_queue.specs.View.{CanDrain, before_calls};
 ghost use Rattle.monitor.specs.Cpus.{AreCpus};
 
+use crate::soon::Soon;
 use commit_tickets::{CpuToken, Journal, Site};
 use event_queue::{CpuPass, History, Recorder, ScribePass};
 use granule_lock::Granules;
@@ -13,15 +14,15 @@ use granule_state::Config;
 use history::MOST_LINES;
 use std::alloc::{AllocError, Global};
 use std::marker::Model;
+use std::sync::Wait;
 use std::sync::ledger::Blank;
-use std::sync::{Mutex, Wait};
 
 /// The granules, each behind a lock of its own, the journal behind its one lock, and the queue of events.
 #[derive(Drop)]
 pub struct Monitor<S: Site> {
     pub(crate) config: Config,
     pub(crate) granules: Granules,
-    pub(crate) journal: Mutex<Journal<S>>,
+    pub(crate) journal: Soon<Journal<S>>,
     pub(crate) recorder: Recorder,
 }
 
@@ -66,7 +67,7 @@ impl<S: Site> Monitor<S> {
         let monitor = Monitor {
             config,
             granules: Granules::new(alloc, &config)?,
-            journal: Mutex::new(journal),
+            journal: Soon::new(journal),
             recorder,
         };
         Ok((monitor, tokens, passes, scribe))

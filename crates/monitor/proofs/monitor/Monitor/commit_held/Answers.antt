@@ -8,7 +8,7 @@ use Rattle.monitor.proofs.monitor.Monitor.commit_held.Goals as goal
 pub returns-clause-cause : goal.returns-clause-cause
 returns-clause-cause g c =
     fault-had_cause c.args.self.now.config c.args.command.now c.args.token.now c.deref_mut-journal.result.now _ (hold_cells c.args.hold.now)
-    g.S.Site.config c.commit.result
+    g.S.Site.config c.commit-done.result
     (sym (ap (λ (m : MonitorView). m.config) c.self.view_is) ∙ c.self.invariant.1)
     (sym c.config-size.ensures.config ∙ c.config-size.ensures.site)
-    c.books-books.ensures c.requires.granules c.requires.settled c.commit.ensures.cause
+    c.books-books.ensures c.requires.granules c.requires.settled c.commit-done.ensures.cause
