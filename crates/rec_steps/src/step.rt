@@ -15,7 +15,7 @@ pub struct RecStep {
 
 impl RecStep {
     ghost use Rattle.std.specs.Prelude.{◌≡◌, ◌≤◌, length, [], Some, None};
-    ghost use Rattle.rec_steps.specs.Answers.{accepted_at, realm_after, rec_after, IsStep};
+    ghost use Rattle.rec_steps.specs.Answers.{accepted_at, change_at, realm_after, rec_after, IsStep};
 
     /// Nothing changes, and the reply has these words.
     pub(crate) fn read(words: &[u64]) -> RecStep
@@ -40,18 +40,25 @@ impl RecStep {
         }
     }
 
-    /// The step of the realm and the REC at these addresses, as the definitions accept it.
-    #[inline(never)]
-    pub fn accepted(self, rd: u64, rec: u64) -> Accepted
-        ensures { result ≡ accepted_at rd rec self }
+    /// What it changes of the realm and the REC at these addresses.
+    pub fn change(&self, rd: u64, rec: u64) -> Change
+        ensures { result ≡ change_at rd rec self.now.realm self.now.rec }
     {
-        let change = match (self.realm, self.rec) {
+        match (self.realm, self.rec) {
             (None, None) => Change::Unchanged,
             (realm, update) => Change::RecordsChanged {
                 realm: realm.map(|update| RealmChange { rd, update }),
                 rec: update.map(|update| RecChange { rec, update }),
             },
-        };
+        }
+    }
+
+    /// The step of the realm and the REC at these addresses, as the definitions accept it.
+    #[inline(never)]
+    pub fn accepted(self, rd: u64, rec: u64) -> Accepted
+        ensures { result ≡ accepted_at rd rec self }
+    {
+        let change = self.change(rd, rec);
         Accepted::Done {
             words: self.words,
             change,

@@ -1,7 +1,6 @@
 //! The steps of a CPU that is inside a REC, decided over the records where they lie, so that no realm is copied.
 
 ghost use Rattle.std.specs.Prelude.{◌≡◌};
-ghost use Rattle.rec_steps.specs.Answers.{change_at};
 
 use crate::machine::Machine;
 use crate::reply::is_ok;
@@ -10,7 +9,7 @@ use granule_state::Pa;
 use realm_desc::Rec;
 use rec_steps::{RecStep, answer_inside};
 use rmi_view::{CommandRef, ReplyRef};
-use rmm_spec::{Call, Change, RealmChange, RecChange, Reply, Ripas};
+use rmm_spec::{Call, Reply, Ripas};
 use table_entries::entry_ripas;
 
 impl Machine {
@@ -51,7 +50,7 @@ impl Machine {
                 if !is_ok(reply, &step.words) {
                     return false;
                 }
-                let change = change_of(step, rd, rec.address());
+                let change = step.change(rd, rec.address());
                 let Ok(()) = self.apply(&change) else {
                     unreachable!()
                 };
@@ -106,17 +105,4 @@ fn owner(rec: &Rec) -> u64
     ensures { result ≡ rec.now.owner }
 {
     rec.owner.address()
-}
-
-// What a step changes of a realm and a REC at their addresses.
-fn change_of(step: &RecStep, rd: u64, rec: u64) -> Change
-    ensures { result ≡ change_at rd rec step.now.realm step.now.rec }
-{
-    match (step.realm, step.rec) {
-        (None, None) => Change::Unchanged,
-        (realm, update) => Change::RecordsChanged {
-            realm: realm.map(|update| RealmChange { rd, update }),
-            rec: update.map(|update| RecChange { rec, update }),
-        },
-    }
 }
