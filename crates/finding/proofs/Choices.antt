@@ -1,6 +1,6 @@
 -- The next call that is tried first, CPU by CPU.
 use Rattle.std.proofs.Common.{◌≡◌, ℕ, ◌+◌, ◌^◌, ◌<◌, ◌≤◌, inl, inr, List, get_or, Option, Some, None, refl, sym, subst, arith}
-use Rattle.std.specs.Option.{MatchOption, IfSome}
+use Rattle.std.specs.Option.{MatchOption}
 use Rattle.std.proofs.lemmas.Bool.{cases_lt}
 use Rattle.std.proofs.lemmas.Option.{slice_get_within}
 use Rattle.rmm_spec.specs.declared.event.Event.{Event}
@@ -11,7 +11,7 @@ use Rattle.rmm_spec.specs.Linearization.{IsReturned, IsKnown, IsFinished}
 use Rattle.history.specs.Calls.{ArePlacesOf}
 use Rattle.history.specs.declared.history.Places.{Places}
 use Rattle.checker.proofs.Calls.{HasOnePlaces}
-use Rattle.finding.specs.Choice.{pending_rank, rank_at, rank_of, least_of, IsNextCall, IsLeast}
+use Rattle.finding.specs.Choice.{pending_rank, rank_at, rank_of, IsNextCall, IsLeast}
 use Rattle.finding.specs.declared.choice.Choice.{Choice}
 
 -- a finished call is tried at the place of its return

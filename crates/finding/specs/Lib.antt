@@ -4,6 +4,7 @@ pub mod Ends
 pub mod Tried
 pub mod Attempt
 pub mod Counts
+pub mod Held
 pub mod Kept
 pub mod Search
 pub mod Found

@@ -11,7 +11,7 @@ ghost use Rattle.finding.specs.Search.{AreFrames, AreReached, IsCheckpoint, IsGi
 
 use crate::checkpoint::{Checkpoint, Standing};
 use crate::choice::Choice;
-use crate::frame::{Frame, copied_line, name_of};
+use crate::frame::{HeldFrame, name_of};
 use crate::offering::offer;
 use crate::offers::Offers;
 use certificate::Certificate;
@@ -26,13 +26,13 @@ use std::cmp::max;
 const NEAR: usize = 64;
 
 /// The certificate of the lines.
-pub(crate) fn certificate_of(alloc: Global, frames: &[Frame]) -> Result<Certificate, AllocError>
+pub(crate) fn certificate_of(alloc: Global, frames: &[HeldFrame]) -> Result<Certificate, AllocError>
     requires { IsCertificate (lines_of frames.now) }
     ensures { IfOk result (λ certificate. certificate.lines ≡ lines_of frames.now) }
 {
     let mut certificate = Certificate::new(alloc);
     for frame in frames {
-        certificate.push(copied_line(&frame.line))?;
+        certificate.push(frame.line())?;
     }
     Ok(certificate)
 }
@@ -41,7 +41,7 @@ pub(crate) fn certificate_of(alloc: Global, frames: &[Frame]) -> Result<Certific
 pub(crate) fn restored(
     alloc: Global,
     history: &History,
-    frames: &[Frame],
+    frames: &[HeldFrame],
     checkpoint: Option<Checkpoint>,
 ) -> Result<Standing, AllocError>
     requires certificate { IsCertificate (lines_of frames.now) }
@@ -93,7 +93,7 @@ fn start_of(
 /// The machine behind so many lines, by a replay of those that are behind the checkpoint.
 fn replayed(
     history: &History,
-    frames: &[Frame],
+    frames: &[HeldFrame],
     to: usize,
     from: Checkpoint,
 ) -> Result<Option<Checkpoint>, AllocError>
@@ -109,7 +109,7 @@ fn replayed(
     let first = from.lines;
     let mut machine = from.machine;
     for at in first..to {
-        if !is_given(history, &mut machine, &frames[at].line)? {
+        if !is_given(history, &mut machine, &frames[at].line())? {
             return Ok(None);
         }
     }
@@ -137,7 +137,11 @@ fn is_given(history: &History, machine: &mut Machine, line: &Line) -> Result<boo
 }
 
 /// The same by the judgement of all lines, with no checkpoint.
-fn replayed_anew(alloc: Global, history: &History, frames: &[Frame]) -> Result<Standing, AllocError>
+fn replayed_anew(
+    alloc: Global,
+    history: &History,
+    frames: &[HeldFrame],
+) -> Result<Standing, AllocError>
     requires certificate { IsCertificate (lines_of frames.now) }
     requires reached { AreReached history.now.recorded frames.now }
     ensures machine { IfOk result (λ s. Reaches history.now.recorded (lines_of frames.now) (state_of s.machine)) }
@@ -150,7 +154,11 @@ fn replayed_anew(alloc: Global, history: &History, frames: &[Frame]) -> Result<S
 }
 
 /// The machine behind the lines, by a replay of all of them: the state that they lead to is one.
-fn machine_behind(alloc: Global, history: &History, frames: &[Frame]) -> Result<Machine, AllocError>
+fn machine_behind(
+    alloc: Global,
+    history: &History,
+    frames: &[HeldFrame],
+) -> Result<Machine, AllocError>
     requires certificate { IsCertificate (lines_of frames.now) }
     requires reached { (state : State) × Reaches history.now.recorded (lines_of frames.now) state }
     ensures { IfOk result (λ machine. Reaches history.now.recorded (lines_of frames.now) (state_of machine)) }

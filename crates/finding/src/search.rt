@@ -12,7 +12,7 @@ ghost use Rattle.spec_machine.specs.View.{state_of};
 use crate::attempt::attempt;
 use crate::checkpoint::{Checkpoint, is_far, still_at};
 use crate::choice::{Choice, PENDING, rank};
-use crate::frame::{Frame, name_of};
+use crate::frame::{Frame, HeldFrame, name_of};
 use crate::front::Front;
 use crate::kept::Kept;
 use crate::marks::{Marks, put_back};
@@ -30,7 +30,7 @@ use std::alloc::{AllocError, Global};
 /// as no line is taken back.
 #[derive(Drop)]
 pub(crate) struct Search {
-    pub(crate) frames: Vec<Frame>,
+    pub(crate) frames: Vec<HeldFrame>,
     pub(crate) front: Front,
     pub(crate) from: u32,
     pub(crate) above: Option<u64>,
@@ -226,9 +226,10 @@ impl Search {
         ensures { Continues result history.now.recorded self.old self.new }
     {
         history.well_formed();
-        let Some(frame) = self.frames.pop() else {
+        let Some(held) = self.frames.pop() else {
             return Progress::Exhausted;
         };
+        let frame = held.into_frame();
         let (cpu, number) = name_of(&frame.line);
         self.front.set(history, cpu, number);
         self.from = frame.from;
@@ -264,7 +265,7 @@ impl Search {
             above: None,
             before,
         };
-        self.push(history, choice, frame)
+        self.push(alloc, history, choice, frame)
     }
 
     /// The ends that are left to try for a call.
@@ -309,7 +310,7 @@ impl Search {
             &frame.line,
         )?;
         if given {
-            return self.push(history, choice, frame);
+            return self.push(alloc, history, choice, frame);
         }
         self.from = frame.from;
         self.above = frame.above;
@@ -331,14 +332,20 @@ impl Search {
     }
 
     /// Makes the order one line longer.
-    fn push(&mut self, history: &History, choice: Choice, frame: Frame) -> Result<(), AllocError>
+    fn push(
+        &mut self,
+        alloc: Global,
+        history: &History,
+        choice: Choice,
+        frame: Frame,
+    ) -> Result<(), AllocError>
         requires cpu { choice.cpu < 8 }
         requires number { choice.number < 1000000 }
         requires front { IsFront history.now.recorded self.old.front }
         ensures { OnOk result (IsLonger history.now.recorded self.old choice frame self.new) }
     {
         self.marks.add(&frame.before);
-        self.frames.push(frame)?;
+        self.frames.push(HeldFrame::of(alloc, frame)?)?;
         self.front.set(history, choice.cpu, choice.number + 1);
         self.from = 0;
         self.above = None;

@@ -1,10 +1,8 @@
-use Rattle.std.proofs.Common.{◌<◌, refl, sym, subst, take, length, arith}
+use Rattle.std.proofs.Common.{◌<◌, refl, subst, take, length, arith}
 use Rattle.std.proofs.lemmas.Option.{slice_get_read}
-use Rattle.rmm_spec.specs.Linearization.{IsOfItsKind}
 use Rattle.order_laws.specs.Order.{Reaches}
 use Rattle.spec_machine.specs.View.{state_of}
-use Rattle.finding.specs.Search.{IsGiven, lines_of}
-use Rattle.finding.specs.declared.frame.Frame.{Frame}
+use Rattle.finding.specs.Search.{lines_of}
 use Rattle.finding.proofs.Replayed.{Reaches-replayed}
 use Rattle.finding.proofs.restoring.replayed.Goals as goal
 
@@ -13,8 +11,7 @@ is_given-requires c =
     let frames = c.args.frames.now in
     let frame = c.index-frames-at.result in
     let there = slice_get_read frames _ c.loop-at.at frame refl (omega (arith, c.loop-at-test.true, c.requires.within)) c.index-frames-at.is in
-    subst (λ (f : Frame). IsOfItsKind c.args.history.now.recorded.events f.line) c.index-frames-at.is
-    ((c.requires.frames c.loop-at.at frame there).is_frame.next.kind)
+    rw c.line.ensures (c.requires.frames c.loop-at.at frame there).is_frame.next.kind
 
 pub loop-at-preserved : goal.loop-at-preserved
 loop-at-preserved c =
@@ -23,10 +20,10 @@ loop-at-preserved c =
     let frame = c.index-frames-at.result in
     let within : c.loop-at.at < length frames = omega (arith, c.loop-at-test.true, c.requires.within) in
     let there = slice_get_read frames _ c.loop-at.at frame refl within c.index-frames-at.is in
-    let given = c.in_ok-is_given.ensures c.if-not-branch.false in
+    let given = rw c.line.ensures at (c.in_ok-is_given.ensures c.if-not-branch.false) in
     Reaches-replayed history c.well_formed-2.ensures frames c.requires.frames c.requires.reached c.loop-at.at frame within there
     (state_of c.loop-at.machine) (state_of c.is_given.new.machine) c.loop-at.invariant given.0
-    (subst (λ (f : Frame). IsGiven history.events f.line given.0 (state_of c.loop-at.machine) (state_of c.is_given.new.machine)) (sym c.index-frames-at.is) given.1)
+    given.1
 
 pub returns-clause-stands : goal.returns-clause-stands
 returns-clause-stands c = record {

@@ -1,7 +1,6 @@
 -- CPU by CPU.
-use Rattle.std.proofs.Common.{◌≤◌, inr, refl, arith}
+use Rattle.std.proofs.Common.{inr, refl, arith}
 use Rattle.checker.proofs.Judging.{HasOnePlaces-from_history}
-use Rattle.finding.proofs.Choices.{IsLeast-fewer, IsLeast-none}
 use Rattle.finding.proofs.Fronts.{IsLeast-looked}
 use Rattle.finding.proofs.front.Front.first_at.Goals as goal
 
