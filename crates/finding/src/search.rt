@@ -121,10 +121,19 @@ impl Search {
         requires { IsSearch history.now.recorded self.old }
         ensures { OnOk result (IsStanding history.now.recorded self.old self.new) }
     {
-        history.well_formed();
         if self.stands {
             return Ok(());
         }
+        self.make_anew(alloc, history)
+    }
+
+    // The same, where it isn't there. It has machines of its own, which no other step fills.
+    #[inline(never)]
+    fn make_anew(&mut self, alloc: Global, history: &History) -> Result<(), AllocError>
+        requires { IsSearch history.now.recorded self.old }
+        ensures { OnOk result (IsStanding history.now.recorded self.old self.new) }
+    {
+        history.well_formed();
         let standing = restored(alloc, history, &self.frames, self.checkpoint.take())?;
         self.machine = standing.machine;
         self.checkpoint = standing.checkpoint;
@@ -138,10 +147,20 @@ impl Search {
         requires stands { IsTrue self.old.stands }
         ensures { OnOk result (IsStanding history.now.recorded self.old self.new) }
     {
-        let lines = self.frames.len();
-        if !is_far(&self.checkpoint, lines) {
+        if !is_far(&self.checkpoint, self.frames.len()) {
             return Ok(());
         }
+        self.note_here(alloc, history)
+    }
+
+    // The same, where it is.
+    #[inline(never)]
+    fn note_here(&mut self, alloc: Global, history: &History) -> Result<(), AllocError>
+        requires is_search { IsSearch history.now.recorded self.old }
+        requires stands { IsTrue self.old.stands }
+        ensures { OnOk result (IsStanding history.now.recorded self.old self.new) }
+    {
+        let lines = self.frames.len();
         let machine = self.machine.copy(alloc)?;
         self.checkpoint = Some(Checkpoint { lines, machine });
         Ok(())
@@ -324,11 +343,7 @@ impl Search {
         if !self.marks.wants(self.frames.len()) {
             return Ok(None);
         }
-        let copy = self.machine.copy(alloc)?;
-        match Box::new(alloc, copy) {
-            Ok(mark) => Ok(Some(mark)),
-            Err(_) => Err(AllocError),
-        }
+        Ok(Some(boxed_copy(alloc, &self.machine)?))
     }
 
     /// Makes the order one line longer.
@@ -351,5 +366,17 @@ impl Search {
         self.above = None;
         self.fresh = true;
         Ok(())
+    }
+}
+
+/// The machine once more, on the heap.
+#[inline(never)]
+fn boxed_copy(alloc: Global, machine: &Machine) -> Result<Box<Machine>, AllocError>
+    ensures { IfOk result (λ (m : Box SpecMachine). state_of m.value ≡ state_of machine.now) }
+{
+    let copy = machine.copy(alloc)?;
+    match Box::new(alloc, copy) {
+        Ok(copy) => Ok(copy),
+        Err(_) => Err(AllocError),
     }
 }
