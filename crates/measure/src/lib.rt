@@ -10,6 +10,7 @@ ghost use Rattle.rmm_spec.specs.declared.measurement.Measurement.TheVariants.{Sh
 ghost use Rattle.rmm_spec.specs.Measure.{measurement_words, words_bytes};
 
 mod feed;
+mod known;
 mod rem;
 mod rim;
 

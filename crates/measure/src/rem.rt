@@ -5,6 +5,7 @@ ghost use Rattle.sha2.specs.Sha256.{sha256};
 ghost use Rattle.sha2.specs.Sha512.{sha512};
 ghost use Rattle.rmm_spec.specs.Measure.{rem_extended, rem_start};
 
+use crate::feed::{AT_ONCE, digest_of_two};
 use rmm_spec::Measurement;
 use sha2::{Digest, Sha256, Sha512};
 use std::marker::Model;
@@ -59,7 +60,21 @@ pub fn extend_bytes(rem: &Rem, bytes: &[u8]) -> Rem
     Rem { measurement }
 }
 
+// Apart, so that a digest is moved in whole words.
+#[inline(never)]
 fn extended_256(old: &[u8; 32], bytes: &[u8]) -> [u8; 32]
+    ensures { result ≡ sha256 (old.now ++ bytes.now) }
+{
+    if bytes.len() > 8 * AT_ONCE {
+        return digest_in_two(old, bytes);
+    }
+    let mut buffer = [0; 32 + 8 * AT_ONCE];
+    digest_of_two::<Sha256>(&mut buffer[..32 + bytes.len()], old, bytes)
+}
+
+// The same, however many bytes they are.
+#[inline(never)]
+fn digest_in_two(old: &[u8; 32], bytes: &[u8]) -> [u8; 32]
     ensures { result ≡ sha256 (old.now ++ bytes.now) }
 {
     let mut hasher = Sha256::new_with_prefix(old);
