@@ -2,14 +2,20 @@
 
 ghost use Rattle.std.specs.Prelude.{◌<◌};
 
+use granule_state::GRANULE_BYTES;
+
 /// How many granules are kept.
 const SLOTS: usize = 256;
+
+/// As many granules are told apart.
+const NUMBERS: u64 = 1 << 32;
 
 /// Granules in which tables were found, each by what was looked for. What lies in one may have changed since, so who takes a granule
 /// from here looks at it.
 #[derive(Drop)]
 pub(crate) struct Near {
-    granules: [u64; SLOTS],
+    // by their numbers, in few bytes since they are moved with the machine
+    granules: [u32; SLOTS],
 }
 
 impl Near {
@@ -22,13 +28,14 @@ impl Near {
 
     /// Where the realm's table of that number at the level may lie.
     pub(crate) fn granule(&self, rd: u64, level: u8, number: u64) -> u64 {
-        self.granules[slot(rd, level, number)]
+        u64::from(self.granules[slot(rd, level, number)]) * GRANULE_BYTES
     }
 
     /// The realm's table of that number at the level was found, where a granule is given.
     pub(crate) fn keep(&mut self, rd: u64, level: u8, number: u64, granule: Option<u64>) {
         if let Some(granule) = granule {
-            self.granules[slot(rd, level, number)] = granule;
+            let kept = granule / GRANULE_BYTES % NUMBERS;
+            self.granules[slot(rd, level, number)] = kept as u32;
         }
     }
 }
