@@ -1,13 +1,13 @@
 //! A change that is made, whichever kind it is.
 
 use crate::granules::Granules;
-use rmm_spec::{Change, Tag, TagChange};
+use rmm_spec::{Change, RealmChange, RecChange, Tag, TagChange};
 use std::alloc::AllocError;
 
 impl Granules {
     ghost use Rattle.std.specs.Prelude.{◌≡◌, IsTrue, OnOk, OnErr};
     ghost use Rattle.rmm_spec.specs.Change.{changed};
-    ghost use Rattle.rmm_spec.specs.declared.change.Change.TheVariants.{Retagged};
+    ghost use Rattle.rmm_spec.specs.declared.change.Change.TheVariants.{Retagged, RecordsChanged};
     ghost use Rattle.rmm_spec.specs.Applicable.{CanApply, CanRetag};
     ghost use Rattle.shape_laws.specs.Whole.{whole_changed};
     ghost use Rattle.machine_cells.specs.Changes.{takes_memory};
@@ -36,6 +36,16 @@ impl Granules {
         ensures state { state_in self.new ≡ changed (state_in self.old) (Retagged (record { granule = granule; tag = tag })) }
     {
         self.make_retag(granule, tag);
+    }
+
+    /// Replaces the records of a realm and of a REC.
+    pub fn update_records(&mut self, realm: Option<RealmChange>, rec: Option<RecChange>)
+        requires shaped { IsShapedIn self.old }
+        requires can { CanApply (state_in self.old) (RecordsChanged realm rec) }
+        ensures shaped { IsShapedIn self.new }
+        ensures state { state_in self.new ≡ changed (state_in self.old) (RecordsChanged realm rec) }
+    {
+        self.change_records(realm, rec);
     }
 
     // Makes the change of the whole, by its kind.

@@ -1,12 +1,12 @@
 //! What an accepted command changes: the granules, and to which realm each belongs.
 
 use crate::machine::Machine;
-use rmm_spec::{Change, Tag};
+use rmm_spec::{Change, RealmChange, RecChange, Tag};
 use std::alloc::AllocError;
 
 impl Machine {
     ghost use Rattle.std.specs.Prelude.{◌≡◌, IsTrue, OnOk, OnErr};
-    ghost use Rattle.rmm_spec.specs.declared.change.Change.TheVariants.{Retagged};
+    ghost use Rattle.rmm_spec.specs.declared.change.Change.TheVariants.{Retagged, RecordsChanged};
     ghost use Rattle.rmm_spec.specs.Change.{changed};
     ghost use Rattle.rmm_spec.specs.Applicable.{CanApply, CanRetag};
     ghost use Rattle.spec_machine.specs.Memory.{takes_memory};
@@ -34,5 +34,14 @@ impl Machine {
         ensures { state_of self.new ≡ changed (state_of self.old) (Retagged (record { granule = granule; tag = tag })) }
     {
         self.granules.retag(granule, tag);
+    }
+
+    /// Replaces the records of a realm and of a REC.
+    #[tactic(auto, unfolding(crate::specs::View::state_of))]
+    pub(crate) fn update_records(&mut self, realm: Option<RealmChange>, rec: Option<RecChange>)
+        requires { CanApply (state_of self.old) (RecordsChanged realm rec) }
+        ensures { state_of self.new ≡ changed (state_of self.old) (RecordsChanged realm rec) }
+    {
+        self.granules.update_records(realm, rec);
     }
 }

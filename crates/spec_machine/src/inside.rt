@@ -9,17 +9,19 @@ use granule_state::Pa;
 use realm_desc::Rec;
 use rec_steps::{RecStep, answer_inside};
 use rmi_view::{CommandRef, ReplyRef};
-use rmm_spec::{Call, Reply, Ripas};
+use rmm_spec::{Call, RealmChange, RecChange, Reply, Ripas};
 use table_entries::entry_ripas;
 
 impl Machine {
     ghost use Rattle.std.specs.Prelude.{◌≡◌, IfSome, IsTrue, is_some, false};
+    ghost use Rattle.rmm_spec.specs.Applicable.{CanApply};
     ghost use Rattle.rmm_spec.specs.Call.{call_of};
+    ghost use Rattle.rmm_spec.specs.Change.{changed};
     ghost use Rattle.rmm_spec.specs.declared.tag.Tag.TheVariants as tag;
     ghost use Rattle.rmm_spec.specs.Lookup.{has_tag, is_inside, rec_at, rec_inside};
     ghost use Rattle.rmm_spec.specs.State.{State, RealmRecord, RecRecord};
     ghost use Rattle.rmm_spec.specs.Step.{CarriesOut, outcome};
-    ghost use Rattle.rec_steps.specs.Answers.{answer_at, is_walk, IsRipasRead};
+    ghost use Rattle.rec_steps.specs.Answers.{answer_at, change_at, is_walk, IsRipasRead};
     ghost use Rattle.rmi_view.specs.Seen.{command_seen, reply_seen};
     ghost use Rattle.spec_machine.specs.View.{state_of};
 
@@ -50,12 +52,23 @@ impl Machine {
                 if !is_ok(reply, &step.words) {
                     return false;
                 }
-                let change = step.change(rd, rec.address());
-                let Ok(()) = self.apply(&change) else {
-                    unreachable!()
-                };
+                self.update(rd, rec.address(), step);
                 true
             }
+        }
+    }
+
+    // Makes what the step changes of the realm and the REC at these addresses.
+    fn update(&mut self, rd: u64, rec: u64, step: &RecStep)
+        requires { CanApply (state_of self.old) (change_at rd rec step.now.realm step.now.rec) }
+        ensures { state_of self.new ≡ changed (state_of self.old) (change_at rd rec step.now.realm step.now.rec) }
+    {
+        match (step.realm, step.rec) {
+            (None, None) => {}
+            (realm, update) => self.update_records(
+                realm.map(|update| RealmChange { rd, update }),
+                update.map(|update| RecChange { rec, update }),
+            ),
         }
     }
 

@@ -16,13 +16,13 @@ owner_of-rd-requires c =
     let s = state_of m in
     ap (λ a. has_tag s a Rec) c.requires.at ∙ (inside_running s c.args.cpu (sound_in m.granules m.shaped) c.requires.inside).tag
 
-pub apply-requires : goal.apply-requires
+pub update-requires : goal.update-requires
 unfolding state_of
-apply-requires c =
+update-requires c =
     let a = c.args in
     let m = a.self.now in
     let step = c.in-Ok.step in
-    let made : change_at c.owner_of-rd.result a.rec step.realm step.rec ≡ c.change-change.result =
-    ap (λ rec. change_at c.owner_of-rd.result rec step.realm step.rec) (sym c.address.ensures) ∙ sym c.change-change.ensures in
+    let made : change_at c.owner_of-rd.result a.rec step.realm step.rec ≡ change_at c.owner_of-rd.result c.address.result step.realm step.rec =
+    ap (λ rec. change_at c.owner_of-rd.result rec step.realm step.rec) (sym c.address.ensures) in
     let is = ap (outcome (state_of m) a.cpu) (sym c.requires.call) ∙ sym c.answer_here-answer.ensures ∙ ap (answer_at c.owner_of-rd.result a.rec) c.in-Ok.is ∙ ap (λ (change : Change). Ok (done step.words.items change)) made in
     done_applies (state_of m) a.cpu (command_seen a.command) _ _ (sound_in m.granules m.shaped) is

@@ -1,0 +1,7 @@
+use Rattle.std.proofs.Common.{refl}
+use Rattle.rmm_spec.specs.Change.{changed}
+use Rattle.spec_machine.proofs.machine.Machine.update.Goals as goal
+
+pub returns-in-None-None : goal.returns-in-None-None
+unfolding changed
+returns-in-None-None c = rw (c.in-None-None.is-0, c.in-None-None.is-1) refl
