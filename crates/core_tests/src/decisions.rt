@@ -110,6 +110,19 @@ fn answer(
     Ok(Some(given))
 }
 
+/// Whether the line's command is answered with the line's reply.
+fn is_answered(
+    alloc: Global,
+    config: &Config,
+    holder: &mut Holder,
+    line: &str,
+) -> Result<bool, Fail> {
+    let (command, reply) = line.split_once(" -> ").ok_or("a line without a reply")?;
+    let expected = read_reply(reply)?;
+    let answered = answer(alloc, config, holder, &read_command(command)?)?;
+    Ok(answered == Some(expected))
+}
+
 /// Each line is a command and its reply.
 fn expect_answers<R: Abort + AllocGlobal>(
     rt: &R,
@@ -118,9 +131,8 @@ fn expect_answers<R: Abort + AllocGlobal>(
 ) -> Result<(), Fail> {
     let config = Config::new(16, 2).ok_or("no such machine")?;
     for line in text.lines() {
-        let (command, reply) = line.split_once(" -> ").ok_or("a line without a reply")?;
-        let answered = answer(rt.alloc(), &config, holder, &read_command(command)?)?;
-        assert!(rt; answered == Some(read_reply(reply)?), "at {line}");
+        let is_so = is_answered(rt.alloc(), &config, holder, line)?;
+        assert!(rt; is_so, "at {line}");
     }
     Ok(())
 }

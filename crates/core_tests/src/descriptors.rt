@@ -9,12 +9,13 @@ fn new_realm(space: Space) -> Realm {
     Realm::new(Pa::new(0x2000), space, 1, HashAlgorithm::Sha256)
 }
 
-// The realm's initial measurement, as `sha256sum` or `sha512sum` shows a digest.
-fn rim(alloc: Global, realm: &Realm) -> Result<String, AllocError> {
-    match realm.rim.measurement() {
-        Measurement::Sha256(bytes) => hex::encode(alloc, bytes.as_slice()),
-        Measurement::Sha512(bytes) => hex::encode(alloc, bytes.as_slice()),
-    }
+// Whether the realm's initial measurement is this, as `sha256sum` or `sha512sum` shows a digest.
+fn has_rim(alloc: Global, realm: &Realm, digest: &str) -> Result<bool, AllocError> {
+    let rim = match realm.rim.measurement() {
+        Measurement::Sha256(bytes) => hex::encode(alloc, bytes.as_slice())?,
+        Measurement::Sha512(bytes) => hex::encode(alloc, bytes.as_slice())?,
+    };
+    Ok(rim.as_str() == digest)
 }
 
 // Counts a REC of that index with those flags, where it is the next.
@@ -30,32 +31,24 @@ fn counts(realm: &mut Realm, index: u8, flags: u64) -> bool {
 fn rim_of_two_recs(rt: HostRuntime) -> Result<(), AllocError> {
     let mut realm = new_realm(Space::Bits39);
     // 580100c400000000 2700000000000000 0100000000000000 0000000000000000
-    let made = rim(rt.alloc(), &realm)?;
+    let made = "39f3ce61f3cc5d6d7208f6b0fecbf6b39274b4605fe90e6ae686b056168c2241";
+    assert!(rt; has_rim(rt.alloc(), &realm, made)?);
     // the 32 bytes above, 5a0100c400000000 0000000000000000 0100000000000000
+    let first = "a42c396228319368e7b1e21d4c3c557a6247a50bcf242fc4f8892370b922d36e";
     assert!(rt; !counts(&mut realm, 1, 0) && counts(&mut realm, 0, 1));
-    let first = rim(rt.alloc(), &realm)?;
+    assert!(rt; has_rim(rt.alloc(), &realm, first)?);
     // the 32 bytes above, 5a0100c400000000 0100000000000000 0000000000000000
+    let second = "c53d5a7d11940f4179880e3c45787d3364b96125422f6d0d918e995dd831ac9c";
     assert!(rt; !counts(&mut realm, 0, 1) && counts(&mut realm, 1, 0));
-    let second = rim(rt.alloc(), &realm)?;
-    assert!(rt;
-        made.as_str() == "39f3ce61f3cc5d6d7208f6b0fecbf6b39274b4605fe90e6ae686b056168c2241"
-    );
-    assert!(rt;
-        first.as_str() == "a42c396228319368e7b1e21d4c3c557a6247a50bcf242fc4f8892370b922d36e"
-    );
-    assert!(rt;
-        second.as_str() == "c53d5a7d11940f4179880e3c45787d3364b96125422f6d0d918e995dd831ac9c"
-    );
+    assert!(rt; has_rim(rt.alloc(), &realm, second)?);
     Ok(())
 }
 
 #[test]
 fn rim_of_a_wide_realm(rt: HostRuntime) -> Result<(), AllocError> {
     // 580100c400000000 3000000000000000 0000000000000000 0000000000000000
-    let made = rim(rt.alloc(), &new_realm(Space::Bits48))?;
-    assert!(rt;
-        made.as_str() == "5fca5e5cfa95f492ad2de98798b1d78f2e9b836174de6087945670d0b0ae21c5"
-    );
+    let made = "5fca5e5cfa95f492ad2de98798b1d78f2e9b836174de6087945670d0b0ae21c5";
+    assert!(rt; has_rim(rt.alloc(), &new_realm(Space::Bits48), made)?);
     Ok(())
 }
 
@@ -63,20 +56,13 @@ fn rim_of_a_wide_realm(rt: HostRuntime) -> Result<(), AllocError> {
 fn rim_by_sha512(rt: HostRuntime) -> Result<(), AllocError> {
     let mut realm = Realm::new(Pa::new(0x2000), Space::Bits39, 1, HashAlgorithm::Sha512);
     // 580100c400000000 2700000000000000 0100000000000000 0100000000000000
-    let made = rim(rt.alloc(), &realm)?;
+    let made = "fa21dedb536c68f43cf1910e3183d98cd11a79c258fc8d4b44209bd8c784100f\
+                22c5f05af25312caf8efa76c16f18d060ccabb086754d143ecd78b97f585a5af";
+    assert!(rt; has_rim(rt.alloc(), &realm, made)?);
     // the 64 bytes above, 5a0100c400000000 0000000000000000 0100000000000000
-    assert!(rt; counts(&mut realm, 0, 1));
-    let first = rim(rt.alloc(), &realm)?;
-    assert!(rt;
-        made.as_str()
-            == "fa21dedb536c68f43cf1910e3183d98cd11a79c258fc8d4b44209bd8c784100f\
-                22c5f05af25312caf8efa76c16f18d060ccabb086754d143ecd78b97f585a5af"
-    );
-    assert!(rt;
-        first.as_str()
-            == "c6c57acf524fd481f81418dc373ab64ce494a546e83906faea93770783a186e6\
-                af36b67a234fb99da6748c0415abcfef40d4ce46fabdad63897408c2c262c6f7"
-    );
+    let first = "c6c57acf524fd481f81418dc373ab64ce494a546e83906faea93770783a186e6\
+                af36b67a234fb99da6748c0415abcfef40d4ce46fabdad63897408c2c262c6f7";
+    assert!(rt; counts(&mut realm, 0, 1) && has_rim(rt.alloc(), &realm, first)?);
     Ok(())
 }
 

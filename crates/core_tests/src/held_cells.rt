@@ -5,13 +5,19 @@ use granule_state::Pa;
 use rmm_spec::Tag;
 use std::test::Fail;
 
+// Whether there is data at 2000, and nothing else.
+fn has_data_alone(held: &PlainHeld) -> bool {
+    matches!(held.cell(Pa::new(0x2000)), Some(Cell::Data))
+        && held.cell(Pa::new(0x3000)).is_none()
+        && held.held().len() == 1
+}
+
 #[test]
 fn a_cell_is_replaced_at_its_granule(rt: HostRuntime) -> Result<(), Fail> {
     let mut held = PlainHeld::new(rt.alloc());
     held.push(Pa::new(0x2000), Cell::Delegated)?;
     let before = held.swap(Pa::new(0x2000), Cell::Data);
     assert!(rt; before.tag() == Tag::Delegated);
-    assert!(rt; matches!(held.cell(Pa::new(0x2000)), Some(Cell::Data)));
-    assert!(rt; held.cell(Pa::new(0x3000)).is_none() && held.held().len() == 1);
+    assert!(rt; has_data_alone(&held));
     Ok(())
 }
