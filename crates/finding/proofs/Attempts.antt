@@ -67,7 +67,7 @@ of_a_line history is_history choice are =
     (omega (arith, event.0, most), few_calls history is_history choice.cpu choice.number (choice.places.called, called.0, called.1))
 
 -- only a kept line is of a finished call's kind
-nowhere_kept : (history : History) (lines : List Line) (cpu number : ℕ) → IsFinished history.events cpu number
+pub nowhere_kept : (history : History) (lines : List Line) (cpu number : ℕ) → IsFinished history.events cpu number
     → LeadsNowhere history (lines ++ Keep cpu number ∷ []) → CallLeadsNowhere history lines cpu number
 nowhere_kept history lines cpu number finished nowhere (Keep c n) of_cpu numbered kind =
     subst (λ (x : ℕ). LeadsNowhere history (lines ++ Keep x n ∷ [])) (sym of_cpu)
@@ -83,21 +83,6 @@ nowhere_pending history lines cpu number pending each (Keep c n) of_cpu numbered
 nowhere_pending history lines cpu number pending each (Unfinished c n claimed) of_cpu numbered kind =
     subst (λ (x : ℕ). LeadsNowhere history (lines ++ Unfinished x n claimed ∷ [])) (sym of_cpu)
     (subst (λ (x : ℕ). LeadsNowhere history (lines ++ Unfinished cpu x claimed ∷ [])) (sym numbered) (each claimed))
-
--- the line of a call that has returned
-pub IsAttempt-kept : (history : History) (lines : List Line) (state : State) (choice : Choice) (above : Option ℕ) (frame : Frame) → MayTry history lines state choice above
-    → IsFinished history.events choice.cpu choice.number → frame.line ≡ Keep choice.cpu choice.number → frame.from ≡ rank_of choice + 1 → frame.above ≡ None
-    → IsAttempt history lines choice frame
-IsAttempt-kept history lines state choice above frame may finished is_line from none =
-    let at = of_a_line history may.is_history choice may.places in
-    let here : IsAttempt history lines choice (record frame { line = Keep choice.cpu choice.number }) = record {
-      is_line = at;
-      of_cpu = refl;
-      numbered = refl;
-      kind = finished;
-      left = λ nowhere. inl (record { from = from; above = none; nowhere = nowhere_kept history lines choice.cpu choice.number finished nowhere });
-    } in
-    subst (λ (l : Line). IsAttempt history lines choice (record frame { line = l })) (sym is_line) here
 
 module _ (history : History) (lines : List Line) (state : State) (choice : Choice) (above : Option ℕ) (may : MayTry history lines state choice above) (command : Command) (answer : Result Accepted Reply) (answered : IsAnswered history choice state command answer) where
   pending : ¬ IsFinished history.events choice.cpu choice.number

@@ -70,10 +70,10 @@ module _ (history : History) where
   )
 
   -- a CPU of the machine has come further
-  pub IsFront-set : (front : Front) (cpu count : ℕ) (next : Option Choice) → cpu < 8 → IsFront history front
+  pub IsFront-set : (front : Front) (cpu count : ℕ) (next : Option Choice) (refusals : ℕ) → cpu < 8 → IsFront history front
       → IsNextOf history (set front.counts cpu count) cpu next
-      → IsFront history (record { counts = set front.counts cpu count; nexts = set front.nexts cpu next; ranks = set front.ranks cpu (least_of next) })
-  IsFront-set front cpu count next inside is_front is =
+      → IsFront history (record { counts = set front.counts cpu count; nexts = set front.nexts cpu next; ranks = set front.ranks cpu (least_of next); refusals = refusals })
+  IsFront-set front cpu count next refusals inside is_front is =
       let eight = is_front.ranks in
       let within : cpu < length front.ranks = omega (arith, inside, eight) in
       record {

@@ -1,11 +1,13 @@
 -- How each way of a step comes further: by an offer, or by less that is left to be done before one.
-use Rattle.std.proofs.Common.{◌≡◌, ℕ, ◌+◌, ◌-◌, ◌*◌, ◌^◌, ◌<◌, ◌≤◌, inl, inr, Bool, true, false, List, [], ◌∷◌, ◌++◌, length, Option, refl, sym, ◌∙◌, ap, subst, arith}
+use Rattle.std.proofs.Common.{◌≡◌, ℕ, ◌+◌, ◌-◌, ◌*◌, ◌^◌, ◌<◌, ◌≤◌, inl, inr, Bool, true, false, IsTrue, List, [], ◌∷◌, ◌++◌, length, Option, refl, sym, ◌∙◌, ap, subst, arith}
 use Rattle.std.proofs.lemmas.List.{length-append, length-map}
 use Rattle.rmm_spec.specs.HistoryText.{History, IsHistory}
 use Rattle.spec_machine.specs.Offers.{one_more}
 use Rattle.order_laws.proofs.Short.{length-lines}
-use Rattle.finding.specs.Search.{Continues, IsSearch, IsStanding, Moves, left_of, left_with, lines_of}
+use Rattle.finding.specs.Search.{Continues, GoesOn, IsDeclined, IsOffered, IsSearch, IsStanding, Moves, left_of, left_with, lines_of}
+use Rattle.finding.specs.declared.choice.Choice.{Choice}
 use Rattle.finding.specs.declared.frame.Frame.{Frame}
+use Rattle.finding.proofs.Searches.{IsSearch-declined}
 use Rattle.finding.specs.declared.search.Search.{Search}
 use Rattle.finding.specs.declared.search.Progress.{Progress}
 use Rattle.finding.specs.declared.search.Progress.TheVariants.{Going, Whole, Exhausted}
@@ -52,6 +54,21 @@ Moves-offered old new few counted =
     let more = one_more_greater old.offers.count few in
     record { further = inl (omega (arith, more, counted)) }
 
+-- the machine refused what it was offered
+pub Moves-declined : (history : History) (choice : Choice) (old middle new : Search) → IsDeclined history choice old middle
+    → new.offers.count ≡ middle.offers.count → Moves old new
+Moves-declined history choice old middle new is same =
+    let counted : middle.offers.count ≡ is.offers.count = ap (λ (s : Search). s.offers.count) is.same in
+    let more = is.counted in
+    record { further = inl (omega (arith, more, counted, same)) }
+
+-- whether it gave the reply or not
+pub GoesOn-offered : (history : History) → IsHistory history → (choice : Choice) (old new : Search) → IsSearch history old → IsTrue old.stands → (given : Bool)
+    → IsOffered history choice old new given → GoesOn history old new
+GoesOn-offered history is_history choice old new is_search stands true goes = goes
+GoesOn-offered history is_history choice old new is_search stands false declined =
+    (IsSearch-declined history is_history old is_search stands choice new declined, Moves-declined history choice old new new declined refl)
+
 -- what is left is tried from further behind
 pub Moves-passed : (old : Search) (from : ℕ) (above : Option ℕ) → old.fresh ≡ false → old.from < from → from ≤ 2 ^ 33 → Moves old (record old { from = from; above = above })
 Moves-passed old from above stale further small = record {
@@ -80,20 +97,6 @@ Moves-back old new frame few frames stale same =
       );
     }
 
--- no line was settled, and calls are tried now
-pub Moves-stale : (old new : Search) → length old.frames.items < 1000000 → old.fresh ≡ true → new.fresh ≡ false → new.frames.items ≡ old.frames.items
-    → old.offers.count ≡ new.offers.count → Moves old new
-Moves-stale old new few fresh stale frames same =
-    let less : left_with false (length old.frames.items) new.from < left_with true (length old.frames.items) old.from = omega (arith, few) in
-    record {
-      further = inr (
-        same,
-        subst (λ (now : Bool). left_with now (length new.frames.items) new.from < left_of old) (sym stale)
-            (subst (λ (then : Bool). left_with false (length new.frames.items) new.from < left_with then (length old.frames.items) old.from) (sym fresh)
-            (subst (λ (fs : List Frame). left_with false (length fs) new.from < left_with true (length old.frames.items) old.from) (sym frames) less)),
-      );
-    }
-
 -- a line was settled
 pub Moves-settled : (old new : Search) (frame : Frame) → length old.frames.items < 1000000 → old.fresh ≡ true → new.fresh ≡ true
     → new.frames.items ≡ old.frames.items ++ frame ∷ [] → old.offers.count ≡ new.offers.count → Moves old new
@@ -109,12 +112,41 @@ Moves-settled old new frame few fresh still frames same =
       );
     }
 
+-- what changed before doesn't count
+Continues-from : (history : History) (old middle new : Search) → (Moves middle new → Moves old new) → (progress : Progress)
+    → Continues progress history middle new → Continues progress history old new
+Continues-from history old middle new moves Going goes = (goes.0, moves goes.1)
+Continues-from history old middle new moves Whole whole = whole
+Continues-from history old middle new moves Exhausted nowhere = nowhere
+
+-- what came further from where less was left has come further
+Moves-then : (old middle new : Search) → old.offers.count ≡ middle.offers.count → left_of middle < left_of old → Moves middle new → Moves old new
+Moves-then old middle new same less moves = record {
+  further = elim moves.further [
+    | inl more ↦ inl (omega (arith, same, more))
+    | inr (equal, left) ↦ inr (same ∙ equal, omega (arith, less, left))
+  ];
+}
+
+-- no line was settled before
+pub Continues-stale : (history : History) (old new : Search) → length old.frames.items < 1000000 → IsTrue old.fresh → (progress : Progress)
+    → Continues progress history (record old { fresh = false }) new → Continues progress history old new
+Continues-stale history old new few fresh =
+    let less : left_with false (length old.frames.items) old.from < left_with true (length old.frames.items) old.from = omega (arith, few) in
+    Continues-from history old (record old { fresh = false }) new
+    (Moves-then old (record old { fresh = false }) new refl
+    (subst (λ (now : Bool). left_with false (length old.frames.items) old.from < left_with now (length old.frames.items) old.from) (sym fresh) less))
+
 -- the machine alone was brought behind the lines before
 Moves-standing : (history : History) (old standing new : Search) → IsStanding history old standing → Moves standing new → Moves old new
 Moves-standing history old standing new is moves = record { further = (subst (λ (s : Search). Moves s new) is.same moves).further }
 
 pub Continues-standing : (history : History) (old standing new : Search) → IsStanding history old standing → (progress : Progress)
     → Continues progress history standing new → Continues progress history old new
-Continues-standing history old standing new is Going goes = (goes.0, Moves-standing history old standing new is goes.1)
-Continues-standing history old standing new is Whole whole = whole
-Continues-standing history old standing new is Exhausted nowhere = nowhere
+Continues-standing history old standing new is = Continues-from history old standing new (Moves-standing history old standing new is)
+
+-- it was looked before where a call may come earlier
+pub Continues-looked : (history : History) (old looked new : Search) → looked ≡ record old { earlier = looked.earlier; moved = looked.moved } → (progress : Progress)
+    → Continues progress history looked new → Continues progress history old new
+Continues-looked history old looked new same =
+    Continues-from history old looked new (λ moves. record { further = (subst (λ (s : Search). Moves s new) same moves).further })

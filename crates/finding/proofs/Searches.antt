@@ -1,5 +1,5 @@
 -- A search as it tries a line, grows by one and takes one back.
-use Rattle.std.proofs.Common.{◌≡◌, ◌≢◌, ℕ, zero, suc, ◌+◌, ◌-◌, ◌^◌, ◌<◌, ◌≤◌, inl, inr, true, List, [], ◌∷◌, ◌++◌, length, take, get_or, set, Option, Some, None, refl, sym, ◌∙◌, ap, subst, arith, get_or-set_same, get_or-set_other}
+use Rattle.std.proofs.Common.{◌≡◌, ◌≢◌, ℕ, zero, suc, ◌+◌, ◌-◌, ◌^◌, ◌<◌, ◌≤◌, inl, inr, true, false, List, [], ◌∷◌, ◌++◌, length, take, get_or, set, Option, Some, None, refl, sym, ◌∙◌, ap, subst, arith, get_or-set_same, get_or-set_other}
 use Rattle.std.specs.List.{slice_get, AllByRecursion}
 use Rattle.std.specs.Global.{Box}
 use Rattle.std.specs.Option.{IfSome}
@@ -16,7 +16,7 @@ use Rattle.rmm_spec.specs.CertificateText.{IsLine, IsCertificate}
 use Rattle.rmm_spec.specs.Rows.{ok}
 use Rattle.rmm_spec.specs.State.{State, opening}
 use Rattle.rmm_spec.specs.FirstFault.{IsRefused, Passes}
-use Rattle.rmm_spec.specs.Linearization.{IsLinearization, cpu_named, number_named}
+use Rattle.rmm_spec.specs.Linearization.{IsFinished, IsLinearization, IsOfItsKind, cpu_named, number_named}
 use Rattle.checker.proofs.Elements.{slice_get-append_left, slice_get_push, slice_get_push_cases}
 use Rattle.spec_machine.specs.View.{state_of}
 use Rattle.spec_machine.specs.declared.machine.Machine.{Machine}
@@ -33,18 +33,19 @@ use Rattle.finding.specs.Front.{IsFront}
 use Rattle.finding.specs.Kept.{AreNowhere}
 use Rattle.finding.specs.declared.kept.Configuration.{Configuration}
 use Rattle.finding.specs.declared.kept.Kept.{Kept}
-use Rattle.finding.specs.Search.{AreFrames, AreReached, Continues, IsCheckpoint, IsGiven, IsLonger, IsRefusedHere, IsSearch, IsStanding, StandsAt, lines_of}
+use Rattle.finding.specs.Search.{AreFrames, AreReached, Continues, IsCheckpoint, IsDeclined, IsGiven, IsLonger, IsRefusedHere, IsSearch, IsShorter, IsStanding, StandsAt, lines_of}
 use Rattle.finding.specs.Tried.{Tried, CallLeadsNowhere}
 use Rattle.finding.specs.declared.checkpoint.Checkpoint.{Checkpoint}
 use Rattle.finding.specs.declared.choice.Choice.{Choice}
 use Rattle.finding.specs.declared.frame.Frame.{Frame}
 use Rattle.finding.specs.declared.front.Front.{Front}
 use Rattle.finding.specs.declared.offers.Offers.{Offers}
+use Rattle.finding.specs.declared.search.Left.{Left}
 use Rattle.finding.specs.declared.search.Search.{Search}
 use Rattle.finding.specs.declared.search.Progress.{Progress}
 use Rattle.finding.specs.declared.search.Progress.TheVariants.{Going, Whole, Exhausted}
 use Rattle.finding.proofs.TriedLaws.{Tried-none, Tried-all, Tried-passed, Tried-ended, all_named, all_nowhere, HasOpen-first, ReturnBehind-called, too_late}
-use Rattle.finding.proofs.Attempts.{of_a_line}
+use Rattle.finding.proofs.Attempts.{nowhere_kept, of_a_line}
 use Rattle.finding.proofs.Choices.{rank_pending, rank_small, returned_first}
 
 -- ---- lines of frames
@@ -237,6 +238,21 @@ module _ (history : History) (is_history : IsHistory history) (old new : Search)
     checkpoint = subst (λ (fs : List Frame). IfSome new.checkpoint (IsCheckpoint history fs)) (sym frames) point;
   }
 
+  -- it was looked where a call may come earlier
+  pub IsSearch-looked : new ≡ record old { earlier = new.earlier; moved = new.moved } → IsSearch history new
+  IsSearch-looked same =
+      subst (IsSearch history) (sym same) (record {
+        frames = is_search.frames;
+        state = is_search.state;
+        reached = is_search.reached;
+        machine = is_search.machine;
+        counts = is_search.counts;
+        front = is_search.front;
+        tried = is_search.tried;
+        kept = is_search.kept;
+        checkpoint = is_search.checkpoint;
+      })
+
   -- the order has grown by a line
   pub IsSearch-grown : (frame : Frame) (state next : State) → Reaches history (lines_of old.frames.items) state
       → Grows history (lines_of old.frames.items) state frame.line next → IsLine frame.line
@@ -275,12 +291,13 @@ module _ (history : History) (is_history : IsHistory history) (old new : Search)
             (checkpoint-push history old.frames.items frame new.checkpoint point);
       }
 
-  -- the last line was taken back
-  pub IsSearch-back : (frame : Frame) → old.frames.items ≡ new.frames.items ++ frame ∷ [] → LeadsNowhere history (lines_of old.frames.items)
-      → new.front.counts ≡ set old.front.counts (cpu_named frame.line) (number_named frame.line) → new.from ≡ frame.from → new.above ≡ frame.above
+  -- the last line was taken off
+  pub IsShorter-drop : (frame : Frame) (left : Left) → old.frames.items ≡ new.frames.items ++ frame ∷ [] → left.from ≡ frame.from → left.above ≡ frame.above
+      → new.front.counts ≡ set old.front.counts (cpu_named frame.line) (number_named frame.line) → new.from ≡ 0 → new.above ≡ None
       → (IsTrue new.stands → (m : Box Machine) × (frame.before ≡ Some m) × (new.machine ≡ m.value)) → IsFront history new.front → new.kept ≡ old.kept
-      → IfSome new.checkpoint (λ (c : Checkpoint). c.lines ≤ length new.frames.items) → IfSome new.checkpoint (λ c. old.checkpoint ≡ Some c) → IsSearch history new
-  IsSearch-back frame frames nowhere counts from above held front kept within same =
+      → IfSome new.checkpoint (λ (c : Checkpoint). c.lines ≤ length new.frames.items) → IfSome new.checkpoint (λ c. old.checkpoint ≡ Some c)
+      → new.fresh ≡ false → old.offers.count ≡ new.offers.count → IsShorter history old left new
+  IsShorter-drop frame left frames left_from left_above counts from above held front kept within same stale offers =
       let lines = lines_of new.frames.items in
       let longer : lines_of old.frames.items ≡ lines ++ frame.line ∷ [] = ap lines_of frames ∙ lines_of-push new.frames.items frame in
       let were : AreFrames history (new.frames.items ++ frame ∷ []) = subst (λ (fs : List Frame). AreFrames history fs) frames is_search.frames in
@@ -290,18 +307,26 @@ module _ (history : History) (is_history : IsHistory history) (old new : Search)
       AreCounts-pop old.front.counts lines frame.line (cpu_named frame.line) (number_named frame.line)
       (subst (λ (ls : List Line). AreCounts old.front.counts ls) longer is_search.counts) refl (few_cpus frame.line of_line) last.is_frame.next.numbered in
       record {
-        frames = AreFrames-pop history new.frames.items frame were;
-        state = last.state;
-        reached = last.reached;
-        machine = λ stands. back_reached history lines frame.before new.machine last.marked (held stands);
-        front = front;
-        counts = subst (λ (cs : List ℕ). AreCounts cs lines) (sym counts) are;
-        tried = subst (λ (f : ℕ). Tried history lines f new.above) (sym from)
-            (subst (λ (a : Option ℕ). Tried history lines frame.from a) (sym above)
+        is_search = record {
+          frames = AreFrames-pop history new.frames.items frame were;
+          state = last.state;
+          reached = last.reached;
+          machine = λ stands. back_reached history lines frame.before new.machine last.marked (held stands);
+          front = front;
+          counts = subst (λ (cs : List ℕ). AreCounts cs lines) (sym counts) are;
+          tried = subst (λ (f : ℕ). Tried history lines f new.above) (sym from)
+              (subst (λ (a : Option ℕ). Tried history lines 0 a) (sym above) (Tried-none history lines));
+          kept = subst (λ (k : Kept). AreNowhere history k.configurations.items) (sym kept) is_search.kept;
+          checkpoint = checkpoint-pop history new.frames.items frame old.checkpoint new.checkpoint
+              (subst (λ (fs : List Frame). IfSome old.checkpoint (IsCheckpoint history fs)) frames is_search.checkpoint) within same;
+        };
+        frame = frame;
+        frames = frames;
+        resumes = λ nowhere. subst (λ (f : ℕ). Tried history lines f left.above) (sym left_from)
+            (subst (λ (a : Option ℕ). Tried history lines frame.from a) (sym left_above)
             (last.is_frame.resumes (subst (λ (ls : List Line). LeadsNowhere history ls) longer nowhere)));
-        kept = subst (λ (k : Kept). AreNowhere history k.configurations.items) (sym kept) is_search.kept;
-        checkpoint = checkpoint-pop history new.frames.items frame old.checkpoint new.checkpoint
-            (subst (λ (fs : List Frame). IfSome old.checkpoint (IsCheckpoint history fs)) frames is_search.checkpoint) within same;
+        fresh = stale;
+        offers = offers;
       }
 
 -- lines that pass lead to a state by each machine that is behind them
@@ -439,6 +464,12 @@ module _ (history : History) (is_history : IsHistory history) (search : Search) 
       Tried-passed history is_history (lines_of search.frames.items) is_search.state is_search.reached search.front.counts is_search.counts search.from search.above
       is_search.tried choice next is_least nowhere
 
+  -- the line of a finished call leads nowhere
+  pub Tried-kept : IsFinished history.events choice.cpu choice.number
+      → LeadsNowhere history (lines_of search.frames.items ++ Keep choice.cpu choice.number ∷ [])
+      → Tried history (lines_of search.frames.items) (rank_of choice + 1) None
+  Tried-kept finished nowhere = Tried-call (nowhere_kept history (lines_of search.frames.items) choice.cpu choice.number finished nowhere)
+
   -- the line that was tried leads nowhere
   pub Tried-frame : (frame : Frame) → IsAttempt history (lines_of search.frames.items) choice frame
       → LeadsNowhere history (lines_of search.frames.items ++ frame.line ∷ [])
@@ -461,28 +492,27 @@ module _ (history : History) (is_history : IsHistory history) (search : Search) 
       Tried-frame frame attempt (nowhere_by history is_history (lines_of search.frames.items) state reached frame.line
       (λ entry new is_entry step. absurd (refused entry new is_entry step)))
 
-  -- the machine gives it
-  pub Grows-given : (frame : Frame) (state new : State) → IsAttempt history (lines_of search.frames.items) choice frame
-      → ReturnBehind history.events (lines_of search.frames.items) choice.places.called
-      → IsGiven history.events frame.line choice.places.called state new → Grows history (lines_of search.frames.items) state frame.line new
-  Grows-given frame state new attempt soon given = record {
-    next = record {
-      known = (choice.places.called, given.command, given.is_called);
-      kind = attempt.kind;
-      numbered = attempt.numbered ∙ next.numbered ∙ is_search.counts.each choice.cpu (cpus choice.cpu next.of_machine)
-          ∙ ap (λ (c : ℕ). count_of c (lines_of search.frames.items)) (sym attempt.of_cpu);
-    };
-    called = choice.places.called;
-    command = given.command;
-    is_called = given.is_called;
-    soon = soon;
-    entry = given.entry;
-    is_entry = given.is_entry;
-    step = given.step;
-  }
-    where
-      cpus : (cpu : ℕ) → cpu < history.config.cpus → cpu < 8
-      cpus cpu within = let most = is_history.config.most_cpus in omega (arith, within, most)
+-- a call that is given its reply makes the order longer
+Grows-given : (history : History) → IsHistory history → (lines : List Line) (state later : State) (counts : List ℕ) (from : ℕ) (choice : Choice) (line : Line)
+    → AreCounts counts lines → IsNextCall history counts from choice → cpu_named line ≡ choice.cpu → number_named line ≡ choice.number
+    → IsOfItsKind history.events line → ReturnBehind history.events lines choice.places.called
+    → IsGiven history.events line choice.places.called state later → Grows history lines state line later
+Grows-given history is_history lines state later counts from choice line are next of_cpu numbered kind soon given = record {
+  next = record {
+    known = (choice.places.called, given.command, given.is_called);
+    kind = kind;
+    numbered = numbered ∙ next.numbered
+        ∙ are.each choice.cpu (let most = is_history.config.most_cpus in let within = next.of_machine in omega (arith, within, most))
+        ∙ ap (λ (c : ℕ). count_of c lines) (sym of_cpu);
+  };
+  called = choice.places.called;
+  command = given.command;
+  is_called = given.is_called;
+  soon = soon;
+  entry = given.entry;
+  is_entry = given.is_entry;
+  step = given.step;
+}
 
 -- a call that is refused here makes the order longer, and changes nothing
 unfoldable pub Grows-refused : (history : History) → IsHistory history → (lines : List Line) (state : State) (counts : List ℕ) (choice : Choice) → AreCounts counts lines
@@ -529,6 +559,49 @@ module _ (history : History) (is_history : IsHistory history) (search : Search) 
       longer.frames choice.cpu choice.number refl refl at.0 longer.counts longer.from longer.above (ap state_of longer.machine) longer.front longer.kept marked
       (subst (λ (o : Option Checkpoint). IfSome o (IsCheckpoint history search.frames.items)) (sym longer.checkpoint) is_search.checkpoint)
 
+  -- a finished call that is given its reply stands in the order
+  pub IsSearch-kept : (next : IsNextCall history search.front.counts 0 choice) → IsFinished history.events choice.cpu choice.number
+      → ReturnBehind history.events (lines_of search.frames.items) choice.places.called → (later : Machine)
+      → IsGiven history.events (Keep choice.cpu choice.number) choice.places.called (state_of search.machine) (state_of later)
+      → (frame : Frame) → frame.line ≡ Keep choice.cpu choice.number
+      → (LeadsNowhere history (lines_of search.frames.items ++ Keep choice.cpu choice.number ∷ [])
+      → Tried history (lines_of search.frames.items) frame.from frame.above)
+      → IfSome frame.before (λ (m : Box Machine). state_of m.value ≡ state_of search.machine) → (offers : Offers)
+      → IsLonger history (record search { machine = later; offers = offers }) choice frame new → IsSearch history new
+  IsSearch-kept next finished soon later given frame is_line resumes marked offers longer =
+      let lines = lines_of search.frames.items in
+      let at = of_a_line history is_history choice next.places in
+      let grows : Grows history lines (state_of search.machine) (Keep choice.cpu choice.number) (state_of later) =
+      Grows-given history is_history lines (state_of search.machine) (state_of later) search.front.counts 0 choice (Keep choice.cpu choice.number)
+      is_search.counts next refl refl finished soon given in
+      IsSearch-grown history is_history search new is_search frame (state_of search.machine) (state_of later) reached
+      (subst (λ (l : Line). Grows history lines (state_of search.machine) l (state_of later)) (sym is_line) grows)
+      (subst IsLine (sym is_line) at)
+      (λ nowhere. resumes (subst (λ (l : Line). LeadsNowhere history (lines ++ l ∷ [])) is_line nowhere))
+      longer.frames choice.cpu choice.number (ap cpu_named is_line) (ap number_named is_line) at.0 longer.counts longer.from longer.above
+      (ap state_of longer.machine) longer.front longer.kept marked
+      (subst (λ (o : Option Checkpoint). IfSome o (IsCheckpoint history search.frames.items)) (sym longer.checkpoint) is_search.checkpoint)
+
+  -- one that is refused it changes nothing
+  pub IsSearch-declined : (is : IsDeclined history choice search new) → IsSearch history new
+  IsSearch-declined is =
+      subst (IsSearch history) (sym is.same)
+      (IsSearch-tried history is_history search (record search { machine = is.machine; offers = is.offers }) is_search refl refl
+      (λ _. subst (Reaches history (lines_of search.frames.items)) (sym is.kept) reached) is_search.tried is_search.kept is_search.checkpoint)
+
+  -- and it is tried no more
+  pub IsSearch-passed : IsNextCall history search.front.counts search.from choice
+      → IsLeast history.events search.front.counts search.from history.config.cpus (rank_of choice) → IsFinished history.events choice.cpu choice.number
+      → (declined : Search) → IsDeclined history choice search declined → new ≡ record declined { from = rank_of choice + 1; above = None } → IsSearch history new
+  IsSearch-passed next is_least finished declined is same =
+      let lines = lines_of search.frames.items in
+      let nowhere = nowhere_by history is_history lines (state_of search.machine) reached (Keep choice.cpu choice.number)
+      (λ entry later is_entry step. absurd (is.refused entry later is_entry step)) in
+      subst (IsSearch history) (sym (same ∙ ap (λ (s : Search). record s { from = rank_of choice + 1; above = None }) is.same))
+      (IsSearch-tried history is_history search (record search { machine = is.machine; offers = is.offers; from = rank_of choice + 1; above = None }) is_search
+      refl refl (λ _. subst (Reaches history lines) (sym is.kept) reached)
+      (Tried-kept history is_history search is_search choice next is_least finished nowhere) is_search.kept is_search.checkpoint)
+
   module _ (next : IsNextCall history search.front.counts search.from choice) (is_least : IsLeast history.events search.front.counts search.from history.config.cpus (rank_of choice)) (frame : Frame) (attempt : IsAttempt history (lines_of search.frames.items) choice frame) (later : Machine) where
     -- a call that is given its reply stands in the order
     pub IsSearch-given : ReturnBehind history.events (lines_of search.frames.items) choice.places.called
@@ -538,7 +611,8 @@ module _ (history : History) (is_history : IsHistory history) (search : Search) 
     IsSearch-given soon given marked offers longer =
         let at = of_a_line history is_history choice next.places in
         IsSearch-grown history is_history search new is_search frame (state_of search.machine) (state_of later) reached
-        (Grows-given history is_history search is_search choice next is_least frame (state_of search.machine) (state_of later) attempt soon given)
+        (Grows-given history is_history (lines_of search.frames.items) (state_of search.machine) (state_of later) search.front.counts search.from choice frame.line
+        is_search.counts next attempt.of_cpu attempt.numbered attempt.kind soon given)
         attempt.is_line (Tried-frame history is_history search is_search choice next is_least frame attempt)
         longer.frames choice.cpu choice.number attempt.of_cpu attempt.numbered at.0 longer.counts longer.from longer.above (ap state_of longer.machine) longer.front
         longer.kept marked (subst (λ (o : Option Checkpoint). IfSome o (IsCheckpoint history search.frames.items)) (sym longer.checkpoint) is_search.checkpoint)
@@ -554,6 +628,11 @@ module _ (history : History) (is_history : IsHistory history) (search : Search) 
         is_search.kept is_search.checkpoint)
 
 -- ---- bounds of a call that may come next
+
+-- what is tried at a rank or behind it is tried at some rank
+pub IsNextCall-0 : (history : History) (counts : List ℕ) (from : ℕ) (choice : Choice) → IsNextCall history counts from choice → IsNextCall history counts 0 choice
+IsNextCall-0 history counts from choice next =
+    record { of_machine = next.of_machine; numbered = next.numbered; places = next.places; ranked = omega arith }
 
 pub rank_of_next : (history : History) → IsHistory history → (counts : List ℕ) (from : ℕ) (choice : Choice) → IsNextCall history counts from choice
     → rank_of choice < 2 ^ 31

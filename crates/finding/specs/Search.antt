@@ -4,6 +4,8 @@ use Rattle.std.specs.Global.{Box}
 use Rattle.rmm_spec.specs.declared.command.Command.{Command}
 use Rattle.rmm_spec.specs.declared.event.Event.{Event}
 use Rattle.rmm_spec.specs.declared.line.Line.{Line}
+use Rattle.rmm_spec.specs.declared.line.Line.TheVariants.{Keep}
+use Rattle.rmm_spec.specs.FirstFault.{IsRefused}
 use Rattle.rmm_spec.specs.declared.reply.Reply.{Reply}
 use Rattle.rmm_spec.specs.Run.{JournalEntry}
 use Rattle.rmm_spec.specs.Step.{Step}
@@ -21,6 +23,8 @@ use Rattle.finding.specs.Tried.{Tried}
 use Rattle.finding.specs.declared.checkpoint.Checkpoint.{Checkpoint}
 use Rattle.finding.specs.declared.choice.Choice.{Choice}
 use Rattle.finding.specs.declared.frame.Frame.{Frame}
+use Rattle.finding.specs.declared.offers.Offers.{Offers}
+use Rattle.finding.specs.declared.search.Left.{Left}
 use Rattle.finding.specs.declared.search.Search.{Search}
 use Rattle.finding.specs.declared.search.Progress.{Progress}
 use Rattle.finding.specs.declared.search.Progress.TheVariants as progress
@@ -84,6 +88,15 @@ pub record IsLonger (history : History) (old : Search) (choice : Choice) (frame 
   pub kept : new.kept ≡ old.kept
   pub checkpoint : new.checkpoint ≡ old.checkpoint
 
+-- the search has one line less, behind which it is as if nothing had been tried, and this is left to try in that line's place
+pub record IsShorter (history : History) (old : Search) (left : Left) (new : Search) : Type 0 where
+  pub is_search : IsSearch history new
+  pub frame : Frame
+  pub frames : old.frames.items ≡ new.frames.items ++ frame ∷ []
+  pub resumes : LeadsNowhere history (lines_of old.frames.items) → Tried history (lines_of new.frames.items) left.from left.above
+  pub fresh : new.fresh ≡ false
+  pub offers : old.offers.count ≡ new.offers.count
+
 -- the call has returned with a refusal that the specification gives it in the state
 pub record IsRefusedHere (history : History) (state : State) (choice : Choice) : Type 0 where
   pub place : ℕ
@@ -114,9 +127,23 @@ left_of search = left_with search.fresh (length search.frames.items) search.from
 pub record Moves (old new : Search) : Type 0 where
   pub further : (old.offers.count < new.offers.count) ⊎ ((old.offers.count ≡ new.offers.count) × (left_of new < left_of old))
 
+-- the machine refused the call its recorded reply, and nothing else changed
+pub record IsDeclined (history : History) (choice : Choice) (old new : Search) : Type 0 where
+  pub machine : Machine
+  pub offers : Offers
+  pub kept : state_of machine ≡ state_of old.machine
+  pub refused : IsRefused history.events (state_of old.machine) (Keep choice.cpu choice.number)
+  pub counted : old.offers.count < offers.count
+  pub same : new ≡ record old { machine = machine; offers = offers }
+
 -- the search is one still, and has come further
 abbrev pub GoesOn : History → Search → Search → Type 0
 GoesOn history old new = IsSearch history new × Moves old new
+
+-- the order has come further by the call, or an offer was made that the machine refused
+abbrev pub IsOffered : History → Choice → Search → Search → Bool → Type 0
+IsOffered history choice old new true = GoesOn history old new
+IsOffered history choice old new false = IsDeclined history choice old new
 
 -- what a step leaves
 abbrev pub Continues : Progress → History → Search → Search → Type 0

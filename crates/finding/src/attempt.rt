@@ -22,8 +22,8 @@ use rmi_codec::reply_has_text;
 use rmm_spec::{Accepted, Line, Reply};
 use spec_machine::Machine;
 
-/// The next line for a call that can come next, and what is tried behind it. Where the call hasn't returned and its stretch may have
-/// several ends, those below `above` are left.
+/// The next line for a call that can come next and hasn't returned, and what is tried behind it. Where its stretch may have several ends,
+/// those below `above` are left.
 pub(crate) fn attempt(
     history: &History,
     machine: &Machine,
@@ -31,35 +31,15 @@ pub(crate) fn attempt(
     above: Option<u64>,
 ) -> Option<Frame>
     requires places { ArePlacesOf history.now.recorded.events choice.cpu choice.number choice.places }
+    requires pending { choice.places.returned ≡ None }
     ensures { (lines : List Line) → MayTry history.now.recorded lines (state_of machine.now) choice above → IsTriedNext history.now.recorded lines choice result }
 {
     history.well_formed();
-    if choice.places.returned.is_some() {
-        return Some(kept(choice));
-    }
     let Some(command) = history.command_at(choice.places.called as usize) else {
         unreachable!()
     };
     let command = command.to_command();
     claim(choice, machine.outcome(choice.cpu, &command), above)
-}
-
-/// The line of a call that has returned.
-fn kept(choice: Choice) -> Frame
-    requires { rank_of choice < 2 ^ 31 }
-    ensures line { result.line ≡ line.Keep choice.cpu choice.number }
-    ensures from { result.from ≡ rank_of choice + 1 }
-    ensures above { result.above ≡ None }
-{
-    Frame {
-        line: Line::Keep {
-            cpu: choice.cpu,
-            number: choice.number,
-        },
-        from: rank(&choice) + 1,
-        above: None,
-        before: None,
-    }
 }
 
 /// The line of a call that hasn't returned, by what the specification answers it.

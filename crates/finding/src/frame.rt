@@ -52,7 +52,45 @@ impl Model for HeldFrame {
 }
 
 impl HeldFrame {
-    ghost use Rattle.std.specs.Prelude.{◌≡◌, IfOk};
+    ghost use Rattle.std.specs.Prelude.{◌≡◌, None, IfOk};
+    ghost use Rattle.rmm_spec.specs.declared.line.Line.TheVariants.{Keep};
+
+    /// The frame of a call that has returned.
+    pub(crate) fn keep(
+        alloc: Global,
+        cpu: u8,
+        number: u32,
+        from: u32,
+        before: Option<Box<Machine>>,
+    ) -> Result<HeldFrame, AllocError>
+        ensures { IfOk result (λ held. held ≡ record { line = Keep cpu number; from = from; above = None; before = before }) }
+    {
+        let rest = match before {
+            None => None,
+            before => Some(boxed(
+                alloc,
+                Rest {
+                    reply: None,
+                    above: None,
+                    before,
+                },
+            )?),
+        };
+        Ok(HeldFrame {
+            cpu,
+            number,
+            from,
+            rest,
+        })
+    }
+
+    /// Whether it keeps a machine.
+    pub(crate) fn has_machine(&self) -> bool {
+        match &self.rest {
+            Some(rest) => rest.before.is_some(),
+            None => false,
+        }
+    }
 
     /// Takes a frame.
     pub(crate) fn of(alloc: Global, frame: Frame) -> Result<HeldFrame, AllocError>

@@ -17,6 +17,8 @@ pub(crate) struct Front {
     pub(crate) nexts: [Option<Choice>; 8],
     // when each of them is tried
     pub(crate) ranks: [u64; 8],
+    // how many of them have returned with a refusal
+    pub(crate) refusals: u8,
 }
 
 impl Front {
@@ -28,15 +30,18 @@ impl Front {
         let counts = [0; 8];
         let mut nexts = [None; 8];
         let mut ranks = [NOWHERE; 8];
+        let mut refusals = 0u8;
         for cpu in 0..cpus_of(history) {
             let next = next_of(history, &counts, cpu);
             ranks[cpu as usize] = rank_or_nowhere(&next);
+            refusals = refusals.wrapping_add(refusals_in(&next));
             nexts[cpu as usize] = next;
         }
         Front {
             counts,
             nexts,
             ranks,
+            refusals,
         }
     }
 
@@ -51,6 +56,10 @@ impl Front {
         if cpu < cpus_of(history) {
             let next = next_of(history, &self.counts, cpu);
             self.ranks[cpu as usize] = rank_or_nowhere(&next);
+            self.refusals = self
+                .refusals
+                .wrapping_sub(refusals_in(&self.nexts[cpu as usize]))
+                .wrapping_add(refusals_in(&next));
             self.nexts[cpu as usize] = next;
         }
     }
@@ -100,5 +109,13 @@ fn rank_or_nowhere(next: &Option<Choice>) -> u64
     match next {
         Some(choice) => rank(choice) as u64,
         None => NOWHERE,
+    }
+}
+
+/// One, where the call has returned with a refusal.
+fn refusals_in(next: &Option<Choice>) -> u8 {
+    match next {
+        Some(choice) if choice.refusal => 1,
+        _ => 0,
     }
 }

@@ -8,6 +8,7 @@
 mod attempt;
 mod checkpoint;
 mod choice;
+mod earlier;
 mod ends;
 mod finding;
 mod frame;

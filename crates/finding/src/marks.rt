@@ -30,18 +30,20 @@ impl Marks {
         lines < self.to && self.count < MOST
     }
 
-    /// A line is added.
-    pub(crate) fn add(&mut self, before: &Option<Box<Machine>>) {
-        if before.is_some() {
-            self.count = self.count.saturating_add(1);
-        }
+    /// One is kept.
+    pub(crate) fn add(&mut self) {
+        self.count = self.count.saturating_add(1);
     }
 
-    /// A line is taken back, and so many stay.
-    pub(crate) fn drop_one(&mut self, before: &Option<Box<Machine>>, lines: usize) {
+    /// A line is taken off.
+    pub(crate) fn drop_one(&mut self, before: &Option<Box<Machine>>) {
         if before.is_some() {
             self.count = self.count.saturating_sub(1);
         }
+    }
+
+    /// A line that led nowhere was taken back, and so many stay.
+    pub(crate) fn want_to(&mut self, lines: usize) {
         self.to = lines.saturating_add(NEAR);
     }
 }

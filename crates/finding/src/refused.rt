@@ -25,6 +25,9 @@ pub(crate) fn refused_choice(
     ensures bound { IfSome result (λ choice. choice.places.called ≤ bound) }
     ensures refused { IfSome result (IsRefusedHere history.now.recorded (state_of machine.now)) }
 {
+    if front.refusals == 0 {
+        return None;
+    }
     for cpu in 0..cpus_of(history) {
         let Some(choice) = front.next(history, cpu) else {
             continue;

@@ -73,7 +73,7 @@ pub(crate) fn restored(
 }
 
 /// Where a replay starts: at the checkpoint, or before all lines.
-fn start_of(
+pub(crate) fn start_of(
     alloc: Global,
     history: &History,
     checkpoint: Option<Checkpoint>,
@@ -91,7 +91,7 @@ fn start_of(
 }
 
 /// The machine behind so many lines, by a replay of those that are behind the checkpoint.
-fn replayed(
+pub(crate) fn replayed(
     history: &History,
     frames: &[HeldFrame],
     to: usize,

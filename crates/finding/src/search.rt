@@ -1,17 +1,22 @@
 //! An order that is begun.
 
-ghost use Rattle.std.specs.Prelude.{◌≡◌, ℕ, ◌+◌, ◌-◌, ◌^◌, ◌<◌, Some, IfOk, IfSome, OnOk, IsTrue, false};
+ghost use Rattle.std.specs.Prelude.{◌≡◌, ℕ, ◌+◌, ◌-◌, ◌^◌, ◌<◌, ◌≤◌, Some, None, [], ◌∷◌, ◌++◌, length, IfOk, IfSome, OnOk, IsTrue, false};
+ghost use Rattle.rmm_spec.specs.Linearization.{IsFinished};
+ghost use Rattle.history.specs.Calls.{ArePlacesOf};
 ghost use Rattle.order_laws.specs.Order.{LeadsNowhere, ReturnBehind};
-ghost use Rattle.finding.specs.Choice.{IsLeast, IsNextCall, rank_of};
+ghost use Rattle.rmm_spec.specs.declared.line.Line.TheVariants as line;
+ghost use Rattle.finding.specs.Choice.{IsLeast, IsNextCall, least_of, rank_of};
+ghost use Rattle.finding.specs.Tried.{Tried};
 ghost use Rattle.finding.specs.Front.{IsFront};
-ghost use Rattle.finding.specs.Search.{lines_of};
+ghost use Rattle.finding.specs.Search.{IsRefusedHere, lines_of};
 ghost use Rattle.std.specs.Global.{Box};
 ghost use Rattle.spec_machine.specs.declared.machine.Machine.{Machine as SpecMachine};
 ghost use Rattle.spec_machine.specs.View.{state_of};
 
 use crate::attempt::attempt;
 use crate::checkpoint::{Checkpoint, is_far, still_at};
-use crate::choice::{Choice, PENDING, rank};
+use crate::choice::{Choice, PENDING, cpus_of, rank};
+use crate::earlier::{Earlier, earlier_place};
 use crate::frame::{Frame, HeldFrame, name_of};
 use crate::front::Front;
 use crate::kept::Kept;
@@ -39,10 +44,21 @@ pub(crate) struct Search {
     pub(crate) stands: bool,
     // no call was tried behind these lines yet
     pub(crate) fresh: bool,
+    // the call that comes next behind the first lines, once those behind them are taken off
+    pub(crate) earlier: Option<Earlier>,
+    // calls that are tried before this were moved already, or need no move
+    pub(crate) moved: u32,
     pub(crate) offers: Offers,
     pub(crate) kept: Kept,
     pub(crate) marks: Marks,
     pub(crate) checkpoint: Option<Checkpoint>,
+}
+
+/// What is left to try in a line's place.
+#[derive(Clone, Copy)]
+pub(crate) struct Left {
+    pub(crate) from: u32,
+    pub(crate) above: Option<u64>,
 }
 
 /// How a search goes on.
@@ -56,7 +72,7 @@ pub(crate) enum Progress {
 }
 
 impl Search {
-    ghost use Rattle.finding.specs.Search.{Continues, GoesOn, IsLonger, IsSearch, IsStanding};
+    ghost use Rattle.finding.specs.Search.{Continues, GoesOn, IsLonger, IsOffered, IsSearch, IsShorter, IsStanding};
 
     /// No line yet.
     pub(crate) fn new(alloc: Global, history: &History) -> Result<Search, AllocError>
@@ -72,6 +88,8 @@ impl Search {
             machine,
             stands: true,
             fresh: true,
+            earlier: None,
+            moved: 0,
             offers: Offers::none(),
             kept: Kept::new(alloc),
             marks: Marks::none(),
@@ -103,8 +121,38 @@ impl Search {
         requires few { self.old.offers.count < 2 ^ 64 - 1 }
         ensures { IfOk result (λ progress. Continues progress history.now.recorded self.old self.new) }
     {
+        if self.goes_back() {
+            return Ok(self.go_back(history));
+        }
         self.stand(alloc, history)?;
-        self.go_on(alloc, history)
+        match self.earlier_choice(history) {
+            Some(choice) => {
+                self.try_earlier(alloc, history, choice)?;
+                Ok(Progress::Going)
+            }
+            None => self.go_on(alloc, history),
+        }
+    }
+
+    /// Whether lines are to be taken off before a call comes earlier.
+    fn goes_back(&self) -> bool
+        ensures { IsTrue result → 0 < length self.now.frames.items }
+    {
+        match &self.earlier {
+            Some(earlier) => earlier.lines < self.frames.len(),
+            None => false,
+        }
+    }
+
+    /// Takes one of them off.
+    fn go_back(&mut self, history: &History) -> Progress
+        requires is_search { IsSearch history.now.recorded self.old }
+        requires some { 0 < length self.old.frames.items }
+        ensures { Continues result history.now.recorded self.old self.new }
+    {
+        history.well_formed();
+        self.drop_last(history);
+        Progress::Going
     }
 
     /// Brings the machine behind the lines, and leaves a checkpoint there where the last one is far.
@@ -177,22 +225,55 @@ impl Search {
         let Some(first) = self.front.first_at(history, 0) else {
             return Ok(Progress::Whole);
         };
-        let bound = rank(&first);
-        if bound >= PENDING {
+        if rank(&first) >= PENDING {
             return Ok(Progress::Whole);
         }
         if self.fresh {
-            return self.arrive(alloc, history, bound);
+            return self.arrive(alloc, history, first);
         }
-        let Some(choice) = self.front.first_at(history, self.from) else {
-            return self.leave(alloc, history);
+        self.try_next(alloc, history, first)
+    }
+
+    /// Tries one line, or takes one back, where no call can be settled. The call that is tried first of all has returned.
+    fn try_next(
+        &mut self,
+        alloc: Global,
+        history: &History,
+        first: Choice,
+    ) -> Result<Progress, AllocError>
+        requires is_search { IsSearch history.now.recorded self.old }
+        requires stands { IsTrue self.old.stands }
+        requires next { IsNextCall history.now.recorded self.old.front.counts 0 first }
+        requires least { IsLeast history.now.recorded.events self.old.front.counts 0 history.now.recorded.config.cpus (rank_of first) }
+        requires returned { rank_of first < 1000000 }
+        requires fresh { self.old.fresh ≡ false }
+        requires few { self.old.offers.count < 2 ^ 64 - 1 }
+        ensures { IfOk result (λ progress. Continues progress history.now.recorded self.old self.new) }
+    {
+        history.well_formed();
+        let Some(choice) = self.next_choice(history, first) else {
+            return self.leave(alloc, history, first);
         };
-        if bound < choice.places.called {
+        if rank(&first) < choice.places.called {
             self.pass(choice);
             return Ok(Progress::Going);
         }
         self.try_choice(alloc, history, choice)?;
         Ok(Progress::Going)
+    }
+
+    /// The call that is tried next, where `first` is the first of all.
+    fn next_choice(&self, history: &History, first: Choice) -> Option<Choice>
+        requires is_search { IsSearch history.now.recorded self.now }
+        requires next { IsNextCall history.now.recorded self.now.front.counts 0 first }
+        requires least { IsLeast history.now.recorded.events self.now.front.counts 0 history.now.recorded.config.cpus (rank_of first) }
+        ensures next { IfSome result (IsNextCall history.now.recorded self.now.front.counts self.now.from) }
+        ensures least { IsLeast history.now.recorded.events self.now.front.counts self.now.from history.now.recorded.config.cpus (least_of result) }
+    {
+        if self.from == 0 {
+            return Some(first);
+        }
+        self.front.first_at(history, self.from)
     }
 
     /// Goes on behind a call that can't come next.
@@ -204,38 +285,77 @@ impl Search {
         self.above = None;
     }
 
-    /// Goes on behind lines that were come to just now: it takes the last one back where it is known that they lead nowhere, or
-    /// settles what it can.
+    /// Goes on behind lines that were come to just now: it takes the last one back where it is known that they lead nowhere, or settles
+    /// what it can. Else it tries the first call.
     fn arrive(
         &mut self,
         alloc: Global,
         history: &History,
-        bound: u32,
+        first: Choice,
     ) -> Result<Progress, AllocError>
         requires is_search { IsSearch history.now.recorded self.old }
         requires stands { IsTrue self.old.stands }
-        requires least { IsLeast history.now.recorded.events self.old.front.counts 0 history.now.recorded.config.cpus bound }
+        requires next { IsNextCall history.now.recorded self.old.front.counts 0 first }
+        requires least { IsLeast history.now.recorded.events self.old.front.counts 0 history.now.recorded.config.cpus (rank_of first) }
+        requires returned { rank_of first < 1000000 }
         requires fresh { IsTrue self.old.fresh }
+        requires few { self.old.offers.count < 2 ^ 64 - 1 }
         ensures { IfOk result (λ progress. Continues progress history.now.recorded self.old self.new) }
     {
+        history.well_formed();
         if self.kept.has(&self.front.counts, &self.machine) {
             return Ok(self.take_back(history));
         }
-        self.settle(alloc, history, bound)?;
-        Ok(Progress::Going)
+        if let Some(choice) = refused_choice(history, &self.machine, &self.front, rank(&first)) {
+            self.settle(alloc, history, first, choice)?;
+            return Ok(Progress::Going);
+        }
+        self.fresh = false;
+        self.try_next(alloc, history, first)
     }
 
-    /// Keeps that the lines lead nowhere, and takes the last one back.
-    fn leave(&mut self, alloc: Global, history: &History) -> Result<Progress, AllocError>
+    /// Leaves lines that lead nowhere. The call that had to come next may have to come earlier: then what stands behind that place is
+    /// taken off, once for each call. Else it is kept that they lead nowhere, and the last one is taken back.
+    fn leave(
+        &mut self,
+        alloc: Global,
+        history: &History,
+        first: Choice,
+    ) -> Result<Progress, AllocError>
         requires is_search { IsSearch history.now.recorded self.old }
         requires stands { IsTrue self.old.stands }
+        requires first { IsNextCall history.now.recorded self.old.front.counts 0 first }
         requires nowhere { LeadsNowhere history.now.recorded (lines_of self.old.frames.items) }
         ensures { IfOk result (λ progress. Continues progress history.now.recorded self.old self.new) }
     {
         history.well_formed();
+        if self.finds_earlier(alloc, history, first)? {
+            return Ok(self.go_back(history));
+        }
         self.kept
             .keep(alloc, history, &self.front.counts, &self.machine)?;
         Ok(self.take_back(history))
+    }
+
+    /// Looks where a call may come earlier, unless that was done for it or a later one, and tells whether there is such a place.
+    fn finds_earlier(
+        &mut self,
+        alloc: Global,
+        history: &History,
+        choice: Choice,
+    ) -> Result<bool, AllocError>
+        requires is_search { IsSearch history.now.recorded self.old }
+        requires next { IsNextCall history.now.recorded self.old.front.counts 0 choice }
+        ensures same { OnOk result (self.new ≡ record self.old { earlier = self.new.earlier; moved = self.new.moved }) }
+        ensures some { IfOk result (λ found. IsTrue found → 0 < length self.new.frames.items) }
+    {
+        history.well_formed();
+        if rank(&choice) < self.moved {
+            return Ok(false);
+        }
+        self.earlier = earlier_place(alloc, history, &self.frames, &self.checkpoint, choice)?;
+        self.moved = rank(&choice) + 1;
+        Ok(self.goes_back())
     }
 
     /// Takes the last line back, and goes on behind it.
@@ -245,46 +365,147 @@ impl Search {
         ensures { Continues result history.now.recorded self.old self.new }
     {
         history.well_formed();
-        let Some(held) = self.frames.pop() else {
+        if self.frames.is_empty() {
             return Progress::Exhausted;
+        }
+        let left = self.drop_last(history);
+        self.from = left.from;
+        self.above = left.above;
+        self.marks.want_to(self.frames.len());
+        Progress::Going
+    }
+
+    /// Takes the last line off, as if nothing had been tried behind those that stay, and returns what is left to try in its place.
+    fn drop_last(&mut self, history: &History) -> Left
+        requires is_search { IsSearch history.now.recorded self.old }
+        requires some { 0 < length self.old.frames.items }
+        ensures { IsShorter history.now.recorded self.old result self.new }
+    {
+        history.well_formed();
+        let Some(held) = self.frames.pop() else {
+            unreachable!()
         };
         let frame = held.into_frame();
         let (cpu, number) = name_of(&frame.line);
         self.front.set(history, cpu, number);
-        self.from = frame.from;
-        self.above = frame.above;
-        self.marks.drop_one(&frame.before, self.frames.len());
+        self.from = 0;
+        self.above = None;
+        self.marks.drop_one(&frame.before);
         self.stands = put_back(&mut self.machine, frame.before);
         self.checkpoint = still_at(self.checkpoint.take(), self.frames.len());
         self.fresh = false;
-        Progress::Going
+        Left {
+            from: frame.from,
+            above: frame.above,
+        }
     }
 
-    /// Makes the order one line longer by a call that was refused, where the specification refuses it here. That changes nothing, so
-    /// that nothing else need be tried.
-    fn settle(&mut self, alloc: Global, history: &History, bound: u32) -> Result<(), AllocError>
+    /// The call that is to come earlier, where it can come next.
+    fn earlier_choice(&self, history: &History) -> Option<Choice>
+        requires { IsSearch history.now.recorded self.now }
+        ensures next { IfSome result (IsNextCall history.now.recorded self.now.front.counts 0) }
+        ensures returned { IfSome result (λ choice. IsFinished history.now.recorded.events choice.cpu choice.number) }
+        ensures soon { IfSome result (λ choice. ReturnBehind history.now.recorded.events (lines_of self.now.frames.items) choice.places.called) }
+    {
+        history.well_formed();
+        let Some(earlier) = self.earlier else {
+            return None;
+        };
+        if earlier.cpu >= cpus_of(history) {
+            return None;
+        }
+        let Some(first) = self.front.first_at(history, 0) else {
+            return None;
+        };
+        let Some(choice) = self.front.next(history, earlier.cpu) else {
+            return None;
+        };
+        if choice.places.returned.is_none() {
+            return None;
+        }
+        if rank(&first) < choice.places.called {
+            return None;
+        }
+        Some(choice)
+    }
+
+    /// Tries a call before all others. Where it leads nowhere, all are tried as if it hadn't been.
+    fn try_earlier(
+        &mut self,
+        alloc: Global,
+        history: &History,
+        choice: Choice,
+    ) -> Result<(), AllocError>
         requires is_search { IsSearch history.now.recorded self.old }
         requires stands { IsTrue self.old.stands }
-        requires least { IsLeast history.now.recorded.events self.old.front.counts 0 history.now.recorded.config.cpus bound }
+        requires next { IsNextCall history.now.recorded self.old.front.counts 0 choice }
+        requires returned { IsFinished history.now.recorded.events choice.cpu choice.number }
+        requires soon { ReturnBehind history.now.recorded.events (lines_of self.old.frames.items) choice.places.called }
+        requires few { self.old.offers.count < 2 ^ 64 - 1 }
+        ensures { OnOk result (GoesOn history.now.recorded self.old self.new) }
+    {
+        history.well_formed();
+        let _given = self.offer_kept(alloc, history, choice, 0)?;
+        self.earlier = None;
+        Ok(())
+    }
+
+    /// Offers the machine the reply of a call that has returned, and tells whether it gave it: then the order is one line longer. Where
+    /// that leads nowhere, calls that are tried at `from` or behind it are left.
+    fn offer_kept(
+        &mut self,
+        alloc: Global,
+        history: &History,
+        choice: Choice,
+        from: u32,
+    ) -> Result<bool, AllocError>
+        requires is_search { IsSearch history.now.recorded self.old }
+        requires stands { IsTrue self.old.stands }
+        requires next { IsNextCall history.now.recorded self.old.front.counts 0 choice }
+        requires returned { IsFinished history.now.recorded.events choice.cpu choice.number }
+        requires soon { ReturnBehind history.now.recorded.events (lines_of self.old.frames.items) choice.places.called }
+        requires resumes { LeadsNowhere history.now.recorded (lines_of self.old.frames.items ++ line.Keep choice.cpu choice.number ∷ [])
+            → Tried history.now.recorded (lines_of self.old.frames.items) from None }
+        requires few { self.old.offers.count < 2 ^ 64 - 1 }
+        ensures { IfOk result (IsOffered history.now.recorded choice self.old self.new) }
+    {
+        history.well_formed();
+        let before = self.mark(alloc)?;
+        let line = Line::Keep {
+            cpu: choice.cpu,
+            number: choice.number,
+        };
+        let given = offer(&mut self.offers, &mut self.machine, history, choice, &line)?;
+        if given {
+            let frame = HeldFrame::keep(alloc, choice.cpu, choice.number, from, before)?;
+            self.push(history, choice, frame)?;
+            return Ok(true);
+        }
+        Ok(false)
+    }
+
+    /// Makes the order one line longer by a call that the specification refuses here, as it was. That changes nothing, so that nothing
+    /// else need be tried.
+    fn settle(
+        &mut self,
+        alloc: Global,
+        history: &History,
+        first: Choice,
+        choice: Choice,
+    ) -> Result<(), AllocError>
+        requires is_search { IsSearch history.now.recorded self.old }
+        requires stands { IsTrue self.old.stands }
+        requires least { IsLeast history.now.recorded.events self.old.front.counts 0 history.now.recorded.config.cpus (rank_of first) }
+        requires next { IsNextCall history.now.recorded self.old.front.counts 0 choice }
+        requires bound { choice.places.called ≤ rank_of first }
+        requires refused { IsRefusedHere history.now.recorded (state_of self.old.machine) choice }
         requires fresh { IsTrue self.old.fresh }
         ensures { OnOk result (GoesOn history.now.recorded self.old self.new) }
     {
         history.well_formed();
-        let Some(choice) = refused_choice(history, &self.machine, &self.front, bound) else {
-            self.fresh = false;
-            return Ok(());
-        };
         let before = self.mark(alloc)?;
-        let frame = Frame {
-            line: Line::Keep {
-                cpu: choice.cpu,
-                number: choice.number,
-            },
-            from: u32::MAX,
-            above: None,
-            before,
-        };
-        self.push(alloc, history, choice, frame)
+        let frame = HeldFrame::keep(alloc, choice.cpu, choice.number, u32::MAX, before)?;
+        self.push(history, choice, frame)
     }
 
     /// The ends that are left to try for a call.
@@ -314,6 +535,54 @@ impl Search {
         requires few { self.old.offers.count < 2 ^ 64 - 1 }
         ensures { OnOk result (GoesOn history.now.recorded self.old self.new) }
     {
+        match choice.places.returned {
+            Some(_) => self.try_finished(alloc, history, choice),
+            None => self.try_open(alloc, history, choice),
+        }
+    }
+
+    /// Tries the line of a call that has returned.
+    fn try_finished(
+        &mut self,
+        alloc: Global,
+        history: &History,
+        choice: Choice,
+    ) -> Result<(), AllocError>
+        requires is_search { IsSearch history.now.recorded self.old }
+        requires stands { IsTrue self.old.stands }
+        requires next { IsNextCall history.now.recorded self.old.front.counts self.old.from choice }
+        requires returned { IsFinished history.now.recorded.events choice.cpu choice.number }
+        requires least { IsLeast history.now.recorded.events self.old.front.counts self.old.from history.now.recorded.config.cpus (rank_of choice) }
+        requires soon { ReturnBehind history.now.recorded.events (lines_of self.old.frames.items) choice.places.called }
+        requires few { self.old.offers.count < 2 ^ 64 - 1 }
+        ensures { OnOk result (GoesOn history.now.recorded self.old self.new) }
+    {
+        history.well_formed();
+        let given = self.offer_kept(alloc, history, choice, rank(&choice) + 1)?;
+        if given {
+            return Ok(());
+        }
+        self.pass(choice);
+        Ok(())
+    }
+
+    /// Tries the next line of a call that hasn't returned.
+    fn try_open(
+        &mut self,
+        alloc: Global,
+        history: &History,
+        choice: Choice,
+    ) -> Result<(), AllocError>
+        requires is_search { IsSearch history.now.recorded self.old }
+        requires stands { IsTrue self.old.stands }
+        requires next { IsNextCall history.now.recorded self.old.front.counts self.old.from choice }
+        requires least { IsLeast history.now.recorded.events self.old.front.counts self.old.from history.now.recorded.config.cpus (rank_of choice) }
+        requires pending { choice.places.returned ≡ None }
+        requires soon { ReturnBehind history.now.recorded.events (lines_of self.old.frames.items) choice.places.called }
+        requires fresh { self.old.fresh ≡ false }
+        requires few { self.old.offers.count < 2 ^ 64 - 1 }
+        ensures { OnOk result (GoesOn history.now.recorded self.old self.new) }
+    {
         history.well_formed();
         let above = self.above_for(choice);
         let Some(mut frame) = attempt(history, &self.machine, choice, above) else {
@@ -329,7 +598,8 @@ impl Search {
             &frame.line,
         )?;
         if given {
-            return self.push(alloc, history, choice, frame);
+            let held = HeldFrame::of(alloc, frame)?;
+            return self.push(history, choice, held);
         }
         self.from = frame.from;
         self.above = frame.above;
@@ -349,22 +619,24 @@ impl Search {
     /// Makes the order one line longer.
     fn push(
         &mut self,
-        alloc: Global,
         history: &History,
         choice: Choice,
-        frame: Frame,
+        frame: HeldFrame,
     ) -> Result<(), AllocError>
         requires cpu { choice.cpu < 8 }
         requires number { choice.number < 1000000 }
         requires front { IsFront history.now.recorded self.old.front }
         ensures { OnOk result (IsLonger history.now.recorded self.old choice frame self.new) }
     {
-        self.marks.add(&frame.before);
-        self.frames.push(HeldFrame::of(alloc, frame)?)?;
+        if frame.has_machine() {
+            self.marks.add();
+        }
+        self.frames.push(frame)?;
         self.front.set(history, choice.cpu, choice.number + 1);
         self.from = 0;
         self.above = None;
         self.fresh = true;
+        self.earlier = None;
         Ok(())
     }
 }

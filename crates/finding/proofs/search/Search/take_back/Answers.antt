@@ -1,29 +1,16 @@
--- The last line taken back, where there is one.
-use Rattle.std.proofs.Common.{◌≡◌, ◌≤◌, [], ◌∷◌, ◌++◌, length, refl, sym, ap, ◌∙◌, subst, arith}
-use Rattle.std.specs.Option.{IfSome}
-use Rattle.finding.specs.declared.checkpoint.Checkpoint.{Checkpoint}
-use Rattle.finding.specs.declared.frame.Frame.{Frame}
+-- The last line is taken back, where there is one.
+use Rattle.std.proofs.Common.{refl}
 use Rattle.finding.proofs.Moving.{Moves-back, few_frames}
-use Rattle.finding.proofs.Searches.{IsSearch-back, few_of_frame}
+use Rattle.finding.proofs.Searches.{IsSearch-tried}
 use Rattle.finding.proofs.search.Search.take_back.Goals as goal
-
-pub set-requires-clause-cpu : goal.set-requires-clause-cpu
-set-requires-clause-cpu c =
-    let few = few_of_frame c.args.history.now.recorded c.args.self.now c.requires.is_search c.pop.new.self.items c.into_frame-frame.result
-    (c.in-Some.ensures.items ∙ ap (λ (f : Frame). c.pop.new.self.items ++ f ∷ []) (sym c.into_frame-frame.ensures)) in
-    omega (arith, few, c.name_of-cpu.ensures.cpu)
 
 pub returns : goal.returns
 returns c =
     let history = c.args.history.now.recorded in
     let search = c.args.self.now in
-    let frames = c.pop.new.self in
-    let same : frames.len ≡ length frames.items = omega (arith, frames.ok.0) in
-    let frame = c.into_frame-frame.result in
-    let items = c.in-Some.ensures.items ∙ ap (λ (f : Frame). frames.items ++ f ∷ []) (sym c.into_frame-frame.ensures) in (
-      IsSearch-back history c.well_formed-2.ensures search _ c.requires.is_search frame items
-          c.requires.nowhere (rw (← c.name_of-cpu.ensures.cpu, ← c.name_of-cpu.ensures.number) c.set.ensures.counts) refl refl c.put_back-self.ensures c.set.ensures.front refl
-          (subst (λ n. IfSome c.still_at.result (λ (point : Checkpoint). point.lines ≤ n)) same (rw c.len-2.ensures at c.still_at.ensures.within))
-          (rw c.take.ensures.value at c.still_at.ensures.same),
-      Moves-back search _ frame (few_frames history c.well_formed-2.ensures search c.requires.is_search) items refl refl,
+    let shorter = c.drop_last-left.ensures in
+    let is_search = shorter.is_search in (
+      IsSearch-tried history c.well_formed-2.ensures c.drop_last-left.new.self _ is_search refl refl is_search.machine (shorter.resumes c.requires.nowhere)
+          is_search.kept is_search.checkpoint,
+      Moves-back search _ shorter.frame (few_frames history c.well_formed-2.ensures search c.requires.is_search) shorter.frames shorter.fresh shorter.offers,
     )

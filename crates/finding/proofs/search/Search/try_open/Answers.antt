@@ -1,4 +1,4 @@
--- The next line of a call: none is left, or the machine gives it its reply, or refuses it.
+-- The next line of an open call: none is left, or the machine gives it its reply, or refuses it.
 use Rattle.std.proofs.Common.{◌+◌, None, refl, ◌∙◌, arith}
 use Rattle.std.proofs.lemmas.Result.{on_ok_weaker}
 use Rattle.finding.specs.Choice.{rank_of}
@@ -7,7 +7,7 @@ use Rattle.spec_machine.specs.View.{state_of}
 use Rattle.finding.proofs.Attempts.{IsAttempt-marked}
 use Rattle.finding.proofs.Moving.{Moves-offered, Moves-passed}
 use Rattle.finding.proofs.Searches.{IsSearch-given, IsSearch-refused, IsSearch-tried, MayTry-search, Tried-call, number_of_next, rank_of_next}
-use Rattle.finding.proofs.search.Search.try_choice.Goals as goal
+use Rattle.finding.proofs.search.Search.try_open.Goals as goal
 
 pub pass-requires : goal.pass-requires
 pass-requires c =
@@ -73,7 +73,7 @@ returns-then-given c =
     on_ok_weaker c.push.result (λ longer. (
       IsSearch-given history c.well_formed-2.ensures search is_search c.requires.stands c.args.choice c.push.new.self c.requires.next c.requires.least
           _ (IsAttempt-marked history (lines_of search.frames.items) c.args.choice c.in-Some.frame c.in_ok-frame.field-0 attempt)
-          c.offer.new.machine c.requires.soon given c.in_ok-frame.ensures c.offer.new.offers longer,
+          c.offer.new.machine c.requires.soon given c.in_ok-frame.ensures c.offer.new.offers (rw c.in_ok-held.ensures at longer),
       Moves-offered search c.push.new.self c.requires.few (longer.offers ∙ c.in_ok-given.ensures.counted),
     )) c.push.ensures
 
