@@ -39,6 +39,7 @@ impl Granules {
     }
 
     /// Replaces the records of a realm and of a REC.
+    #[inline(always)]
     pub fn update_records(&mut self, realm: Option<RealmChange>, rec: Option<RecChange>)
         requires shaped { IsShapedIn self.old }
         requires can { CanApply (state_in self.old) (RecordsChanged realm rec) }

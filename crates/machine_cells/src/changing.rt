@@ -106,7 +106,7 @@ impl Granules {
         self.list.put(aux1, Cell::Delegated);
     }
 
-    #[inline(never)]
+    #[inline(always)]
     pub(crate) fn change_records(&mut self, realm: Option<RealmChange>, rec: Option<RecChange>)
         requires shaped { IsShapedIn self.old }
         requires can { CanApply (state_in self.old) (change.RecordsChanged realm rec) }

@@ -34,6 +34,7 @@ impl CellList {
     }
 
     /// Updates the realm that is there, where one is updated.
+    #[inline(always)]
     pub(crate) fn change_realm(&mut self, change: Option<RealmChange>)
         requires { IfSome change (λ c. IsRealmUpdate c.update) }
         ensures size { self.new.config ≡ self.old.config }

@@ -38,6 +38,7 @@ impl Machine {
 
     /// Replaces the records of a realm and of a REC.
     #[tactic(auto, unfolding(crate::specs::View::state_of))]
+    #[inline(always)]
     pub(crate) fn update_records(&mut self, realm: Option<RealmChange>, rec: Option<RecChange>)
         requires { CanApply (state_of self.old) (RecordsChanged realm rec) }
         ensures { state_of self.new ≡ changed (state_of self.old) (RecordsChanged realm rec) }
