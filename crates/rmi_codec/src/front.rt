@@ -10,7 +10,7 @@ ghost use Rattle.rmi_codec.specs.Head.{head_text};
 ghost use Rattle.rmi_codec.specs.Spaced.{spaced};
 
 use crate::function::{function_front, words_of};
-use crate::numeral::{digit_of, with_digit};
+use crate::numeral::digit_of;
 use rmi_view::CommandRef;
 use rmm_spec::FunctionId;
 
@@ -18,41 +18,6 @@ use rmm_spec::FunctionId;
 const DECIMAL: usize = 6;
 
 const HEX: usize = 16;
-
-// The number within the limit whose digits a text begins with, and how many they are. Another byte follows them.
-#[inline(never)]
-fn numeral_front(text: &[u8], base: u64, most: u64) -> Option<(u64, usize)>
-    requires least { 2 ≤ base }
-    requires most { base ≤ 16 }
-    ensures found { IfSome result (λ p. take p.1 text.now ≡ numeral base p.0) }
-    ensures within { IfSome result (λ p. p.0 ≤ most) }
-    ensures inside { IfSome result (λ p. p.1 < length text.now) }
-{
-    if text.len() < 2 {
-        return None;
-    }
-    let first = digit_of(text[0], base);
-    if first >= base {
-        return None;
-    }
-    if first > most {
-        return None;
-    }
-    if first == 0 {
-        return Some((0, 1));
-    }
-    let mut number = first;
-    let mut count: usize = 1;
-    while count < text.len() {
-        let digit = digit_of(text[count], base);
-        if digit >= base {
-            return Some((number, count));
-        }
-        number = with_digit(number, base, digit, most)?;
-        count += 1;
-    }
-    None
-}
 
 // The number that the digits at a text's front spell, up to so many of them, and how many they are. None of them needs a test for
 // the text's end or for the number's size.
@@ -86,7 +51,8 @@ fn digits_front(text: &[u8], base: u64, width: usize) -> Option<(u64, usize)>
     Some((number, count))
 }
 
-// The number within the limit whose digits, up to so many, a text begins with, and how many they are. Another byte follows them.
+// The number within the limit whose digits, up to so many, a text begins with, and how many they are. Another byte follows them. It is
+// read where the text is longer than that.
 #[inline(always)]
 fn limited_front(text: &[u8], base: u64, width: usize, most: u64) -> Option<(u64, usize)>
     requires least { 2 ≤ base }
@@ -98,7 +64,7 @@ fn limited_front(text: &[u8], base: u64, width: usize, most: u64) -> Option<(u64
     ensures inside { IfSome result (λ p. p.1 < length text.now) }
 {
     if text.len() <= width {
-        return numeral_front(text, base, most);
+        return None;
     }
     let (number, count) = digits_front(text, base, width)?;
     if number > most {

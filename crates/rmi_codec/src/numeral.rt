@@ -42,7 +42,7 @@ pub(crate) fn digit_of(byte: u8, base: u64) -> u64
 
 // The number with one digit more, where it is within the limit. Where the limit is small, the product can't pass 64 bits.
 #[inline(always)]
-pub(crate) fn with_digit(number: u64, base: u64, digit: u64, most: u64) -> Option<u64>
+fn with_digit(number: u64, base: u64, digit: u64, most: u64) -> Option<u64>
     requires number { number ≤ most }
     requires base { base ≤ 16 }
     requires digit { digit < base }
