@@ -146,7 +146,7 @@ pub Continues-standing : (history : History) (old standing new : Search) → IsS
 Continues-standing history old standing new is = Continues-from history old standing new (Moves-standing history old standing new is)
 
 -- it was looked before where a call may come earlier
-pub Continues-looked : (history : History) (old looked new : Search) → looked ≡ record old { earlier = looked.earlier; moved = looked.moved } → (progress : Progress)
+pub Continues-looked : (history : History) (old looked new : Search) → looked ≡ record old { checkpoint = looked.checkpoint; earlier = looked.earlier; moved = looked.moved } → (progress : Progress)
     → Continues progress history looked new → Continues progress history old new
 Continues-looked history old looked new same =
     Continues-from history old looked new (λ moves. record { further = (subst (λ (s : Search). Moves s new) same moves).further })

@@ -238,9 +238,10 @@ module _ (history : History) (is_history : IsHistory history) (old new : Search)
     checkpoint = subst (λ (fs : List Frame). IfSome new.checkpoint (IsCheckpoint history fs)) (sym frames) point;
   }
 
-  -- it was looked where a call may come earlier
-  pub IsSearch-looked : new ≡ record old { earlier = new.earlier; moved = new.moved } → IsSearch history new
-  IsSearch-looked same =
+  -- it was looked where a call may come earlier, and another checkpoint left
+  pub IsSearch-looked : new ≡ record old { checkpoint = new.checkpoint; earlier = new.earlier; moved = new.moved }
+      → IfSome new.checkpoint (IsCheckpoint history old.frames.items) → IsSearch history new
+  IsSearch-looked same point =
       subst (IsSearch history) (sym same) (record {
         frames = is_search.frames;
         state = is_search.state;
@@ -250,7 +251,7 @@ module _ (history : History) (is_history : IsHistory history) (old new : Search)
         front = is_search.front;
         tried = is_search.tried;
         kept = is_search.kept;
-        checkpoint = is_search.checkpoint;
+        checkpoint = point;
       })
 
   -- the order has grown by a line

@@ -1,14 +1,14 @@
 //! Where a call may come earlier than by its return.
 
-ghost use Rattle.std.specs.Prelude.{◌≤◌, List, length, IfOk, IfSome};
-ghost use Rattle.rmm_spec.specs.HistoryText.{History as Recorded};
+ghost use Rattle.std.specs.Prelude.{◌≤◌, length, IfOk, IfSome};
 ghost use Rattle.history.specs.Calls.{ArePlacesOf};
-ghost use Rattle.finding.specs.declared.frame.Frame.{Frame as HeldFrame};
+ghost use Rattle.finding.specs.Front.{IsFront};
 ghost use Rattle.finding.specs.Search.{AreFrames, AreReached, IsCheckpoint};
 
 use crate::checkpoint::Checkpoint;
-use crate::choice::Choice;
+use crate::choice::{Choice, cpus_of, rank};
 use crate::frame::{HeldFrame, name_of};
+use crate::front::Front;
 use crate::restoring::{replayed, start_of};
 use history::History;
 use rmi_view::ReplyRef;
@@ -27,43 +27,45 @@ pub(crate) struct Earlier {
     pub(crate) cpu: u8,
 }
 
+/// Where a call is to come earlier, and a checkpoint near there.
+#[derive(Drop)]
+pub(crate) struct Looked {
+    pub(crate) earlier: Option<Earlier>,
+    pub(crate) checkpoint: Option<Checkpoint>,
+}
+
 /// The last place among the lines where a finished call may come and is given its reply, where there is one. Nothing is claimed of it:
 /// the call is offered there.
 pub(crate) fn earlier_place(
     alloc: Global,
     history: &History,
     frames: &[HeldFrame],
-    checkpoint: &Option<Checkpoint>,
+    checkpoint: Option<Checkpoint>,
     choice: Choice,
-) -> Result<Option<Earlier>, AllocError>
+) -> Result<Looked, AllocError>
     requires frames { AreFrames history.now.recorded frames.now }
     requires reached { AreReached history.now.recorded frames.now }
-    requires checkpoint { IfSome checkpoint.now (IsCheckpoint history.now.recorded frames.now) }
+    requires checkpoint { IfSome checkpoint (IsCheckpoint history.now.recorded frames.now) }
     requires places { ArePlacesOf history.now.recorded.events choice.cpu choice.number choice.places }
+    ensures { IfOk result (λ looked. IfSome looked.checkpoint (IsCheckpoint history.now.recorded frames.now)) }
 {
-    let start = start_of(alloc, history, copied(alloc, checkpoint)?)?;
+    let start = start_of(alloc, history, checkpoint)?;
     let first = max(start.lines, first_place(history, frames, choice));
-    match replayed(history, frames, first, start)? {
-        Some(behind) => last_given(history, frames, behind, choice),
-        None => Ok(None),
-    }
-}
-
-/// The checkpoint once more.
-fn copied(alloc: Global, checkpoint: &Option<Checkpoint>) -> Result<Option<Checkpoint>, AllocError>
-    ensures { IfOk result (λ copy. (history : Recorded) (frames : List HeldFrame) → IfSome checkpoint.now (IsCheckpoint history frames)
-        → IfSome copy (IsCheckpoint history frames)) }
-{
-    match checkpoint {
-        Some(checkpoint) => {
-            let machine = checkpoint.machine.copy(alloc)?;
-            Ok(Some(Checkpoint {
-                lines: checkpoint.lines,
-                machine,
-            }))
-        }
-        None => Ok(None),
-    }
+    let Some(behind) = replayed(history, frames, first, start)? else {
+        return Ok(Looked {
+            earlier: None,
+            checkpoint: None,
+        });
+    };
+    let machine = behind.machine.copy(alloc)?;
+    let near = Checkpoint {
+        lines: behind.lines,
+        machine,
+    };
+    Ok(Looked {
+        earlier: last_given(history, frames, behind, choice)?,
+        checkpoint: Some(near),
+    })
 }
 
 /// Behind how many lines the call may come first: behind each that returned before it was made.
@@ -140,5 +142,65 @@ fn gives(history: &History, machine: &Machine, choice: Choice) -> bool
         Err(refusal) => reply.is(&refusal),
         Ok(Accepted::Done { words, .. }) => reply.is(&Reply::Ok(words)),
         Ok(Accepted::Reaches(_)) => matches!(reply, ReplyRef::Ok(_)),
+    }
+}
+
+/// The call that comes first of those which name a word of one that had to come next and was refused: it may be what was missing. Nothing is
+/// claimed of it. No call is it unless it is asked for.
+pub(crate) fn related(
+    history: &History,
+    front: &Front,
+    choice: Choice,
+    asked: bool,
+    lines: usize,
+) -> Option<Earlier>
+    requires front { IsFront history.now.recorded front.now }
+    requires places { ArePlacesOf history.now.recorded.events choice.cpu choice.number choice.places }
+{
+    if !asked {
+        return None;
+    }
+    let mut first = None;
+    let mut least = u32::MAX;
+    for cpu in 0..cpus_of(history) {
+        let Some(next) = front.next(history, cpu) else {
+            continue;
+        };
+        if next.cpu == choice.cpu || rank(&next) >= least {
+            continue;
+        }
+        if rank(&choice) < next.places.called {
+            continue;
+        }
+        if shares_word(history, choice, next) {
+            least = rank(&next);
+            first = Some(Earlier { lines, cpu });
+        }
+    }
+    first
+}
+
+/// Whether two calls name one word.
+fn shares_word(history: &History, one: Choice, other: Choice) -> bool
+    requires one { ArePlacesOf history.now.recorded.events one.cpu one.number one.places }
+    requires other { ArePlacesOf history.now.recorded.events other.cpu other.number other.places }
+{
+    let words = words_of(history, other);
+    for word in words_of(history, one) {
+        if words.contains(word) {
+            return true;
+        }
+    }
+    false
+}
+
+/// The words of a call's command.
+fn words_of(history: &History, choice: Choice) -> &[u64]
+    requires { ArePlacesOf history.now.recorded.events choice.cpu choice.number choice.places }
+{
+    history.well_formed();
+    match history.command_at(choice.places.called as usize) {
+        Some(command) => command.words,
+        None => &[],
     }
 }

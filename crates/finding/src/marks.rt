@@ -7,7 +7,7 @@ ghost use Rattle.spec_machine.specs.declared.machine.Machine.{Machine as SpecMac
 use spec_machine::Machine;
 
 /// How many lines behind the place where one was taken back have their machine kept.
-const NEAR: usize = 64;
+const NEAR: usize = 16;
 
 /// How many machines are kept at most.
 const MOST: usize = 64;

@@ -8,7 +8,7 @@ ghost use Rattle.rmm_spec.specs.declared.line.Line.TheVariants as line;
 ghost use Rattle.finding.specs.Choice.{IsLeast, IsNextCall, least_of, rank_of};
 ghost use Rattle.finding.specs.Tried.{Tried};
 ghost use Rattle.finding.specs.Front.{IsFront};
-ghost use Rattle.finding.specs.Search.{IsRefusedHere, lines_of};
+ghost use Rattle.finding.specs.Search.{IsCheckpoint, IsRefusedHere, lines_of};
 ghost use Rattle.std.specs.Global.{Box};
 ghost use Rattle.spec_machine.specs.declared.machine.Machine.{Machine as SpecMachine};
 ghost use Rattle.spec_machine.specs.View.{state_of};
@@ -16,7 +16,7 @@ ghost use Rattle.spec_machine.specs.View.{state_of};
 use crate::attempt::attempt;
 use crate::checkpoint::{Checkpoint, is_far, still_at};
 use crate::choice::{Choice, PENDING, cpus_of, rank};
-use crate::earlier::{Earlier, earlier_place};
+use crate::earlier::{Earlier, earlier_place, related};
 use crate::frame::{Frame, HeldFrame, name_of};
 use crate::front::Front;
 use crate::kept::Kept;
@@ -258,7 +258,7 @@ impl Search {
             self.pass(choice);
             return Ok(Progress::Going);
         }
-        self.try_choice(alloc, history, choice)?;
+        self.try_choice(alloc, history, choice, rank(&choice) == rank(&first))?;
         Ok(Progress::Going)
     }
 
@@ -346,14 +346,18 @@ impl Search {
     ) -> Result<bool, AllocError>
         requires is_search { IsSearch history.now.recorded self.old }
         requires next { IsNextCall history.now.recorded self.old.front.counts 0 choice }
-        ensures same { OnOk result (self.new ≡ record self.old { earlier = self.new.earlier; moved = self.new.moved }) }
+        ensures same { OnOk result (self.new ≡ record self.old { checkpoint = self.new.checkpoint; earlier = self.new.earlier; moved = self.new.moved }) }
+        ensures checkpoint { OnOk result (IfSome self.new.checkpoint (IsCheckpoint history.now.recorded self.old.frames.items)) }
         ensures some { IfOk result (λ found. IsTrue found → 0 < length self.new.frames.items) }
     {
         history.well_formed();
         if rank(&choice) < self.moved {
             return Ok(false);
         }
-        self.earlier = earlier_place(alloc, history, &self.frames, &self.checkpoint, choice)?;
+        let checkpoint = self.checkpoint.take();
+        let looked = earlier_place(alloc, history, &self.frames, checkpoint, choice)?;
+        self.checkpoint = looked.checkpoint;
+        self.earlier = looked.earlier;
         self.moved = rank(&choice) + 1;
         Ok(self.goes_back())
     }
@@ -429,7 +433,7 @@ impl Search {
         Some(choice)
     }
 
-    /// Tries a call before all others. Where it leads nowhere, all are tried as if it hadn't been.
+    /// Tries a call before all others that are left. Where it leads nowhere, all of them are tried as if it hadn't been.
     fn try_earlier(
         &mut self,
         alloc: Global,
@@ -445,9 +449,21 @@ impl Search {
         ensures { OnOk result (GoesOn history.now.recorded self.old self.new) }
     {
         history.well_formed();
-        let _given = self.offer_kept(alloc, history, choice, 0)?;
+        let from = self.left_from(history);
+        let _given = self.offer_kept(alloc, history, choice, from)?;
         self.earlier = None;
         Ok(())
+    }
+
+    /// Where calls are tried that are left here, each with all of its lines.
+    fn left_from(&self, history: &History) -> u32
+        requires { IsSearch history.now.recorded self.now }
+        ensures { Tried history.now.recorded (lines_of self.now.frames.items) result None }
+    {
+        match self.above {
+            None => self.from,
+            Some(_) => 0,
+        }
     }
 
     /// Offers the machine the reply of a call that has returned, and tells whether it gave it: then the order is one line longer. Where
@@ -519,12 +535,13 @@ impl Search {
         }
     }
 
-    /// Tries the next line of a call.
+    /// Tries the next line of a call, which may be the one that is tried first of all.
     fn try_choice(
         &mut self,
         alloc: Global,
         history: &History,
         choice: Choice,
+        is_first: bool,
     ) -> Result<(), AllocError>
         requires is_search { IsSearch history.now.recorded self.old }
         requires stands { IsTrue self.old.stands }
@@ -536,17 +553,19 @@ impl Search {
         ensures { OnOk result (GoesOn history.now.recorded self.old self.new) }
     {
         match choice.places.returned {
-            Some(_) => self.try_finished(alloc, history, choice),
+            Some(_) => self.try_finished(alloc, history, choice, is_first),
             None => self.try_open(alloc, history, choice),
         }
     }
 
-    /// Tries the line of a call that has returned.
+    /// Tries the line of a call that has returned. Where the machine refuses it though it is the first of all, one that is related to it is
+    /// tried before the others.
     fn try_finished(
         &mut self,
         alloc: Global,
         history: &History,
         choice: Choice,
+        is_first: bool,
     ) -> Result<(), AllocError>
         requires is_search { IsSearch history.now.recorded self.old }
         requires stands { IsTrue self.old.stands }
@@ -563,6 +582,7 @@ impl Search {
             return Ok(());
         }
         self.pass(choice);
+        self.earlier = related(history, &self.front, choice, is_first, self.frames.len());
         Ok(())
     }
 

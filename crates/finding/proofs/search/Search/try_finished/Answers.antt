@@ -1,8 +1,8 @@
 -- The line of a finished call.
-use Rattle.std.proofs.Common.{arith, ap}
+use Rattle.std.proofs.Common.{arith, ap, refl}
 use Rattle.finding.specs.declared.search.Search.{Search}
 use Rattle.finding.proofs.Moving.{Moves-declined}
-use Rattle.finding.proofs.Searches.{IsNextCall-0, IsSearch-passed, Tried-kept, rank_of_next}
+use Rattle.finding.proofs.Searches.{IsNextCall-0, IsSearch-looked, IsSearch-passed, Tried-kept, rank_of_next}
 use Rattle.finding.proofs.search.Search.try_finished.Goals as goal
 
 pub overflow_add-rank : goal.overflow_add-rank
@@ -31,8 +31,10 @@ pub returns : goal.returns
 returns c =
     let history = c.args.history.now.recorded in
     let search = c.args.self.now in
-    let declined = rw c.if-given.false at c.in_ok-given.ensures in (
-      IsSearch-passed history c.well_formed-2.ensures search c.requires.is_search c.requires.stands c.args.choice c.pass.new.self c.requires.next c.requires.least
-          c.requires.returned c.offer_kept.new.self declined c.pass.ensures,
-      Moves-declined history c.args.choice search c.offer_kept.new.self c.pass.new.self declined (ap (λ (s : Search). s.offers.count) c.pass.ensures),
+    let declined = rw c.if-given.false at c.in_ok-given.ensures in
+    let is_search = IsSearch-passed history c.well_formed-2.ensures search c.requires.is_search c.requires.stands c.args.choice c.pass.new.self c.requires.next
+    c.requires.least c.requires.returned c.offer_kept.new.self declined c.pass.ensures in (
+      IsSearch-looked history c.well_formed-2.ensures c.pass.new.self (record c.pass.new.self { earlier = c.related-self.result }) is_search refl
+          is_search.checkpoint,
+      Moves-declined history c.args.choice search c.offer_kept.new.self _ declined (ap (λ (s : Search). s.offers.count) c.pass.ensures),
     )
