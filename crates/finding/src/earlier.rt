@@ -145,8 +145,8 @@ fn gives(history: &History, machine: &Machine, choice: Choice) -> bool
     }
 }
 
-/// The call that comes first of those which name a word of one that had to come next and was refused: it may be what was missing. Nothing is
-/// claimed of it. No call is it unless it is asked for.
+/// The call that comes first of those which weren't refused and name a word of one that had to come next and can't: it may be what is missing.
+/// Nothing is claimed of it. No call is it unless it is asked for.
 pub(crate) fn related(
     history: &History,
     front: &Front,
@@ -169,7 +169,7 @@ pub(crate) fn related(
         if next.cpu == choice.cpu || rank(&next) >= least {
             continue;
         }
-        if rank(&choice) < next.places.called {
+        if next.refusal || rank(&choice) < next.places.called {
             continue;
         }
         if shares_word(history, choice, next) {
