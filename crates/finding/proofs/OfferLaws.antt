@@ -44,21 +44,6 @@ returned_place events cpu number returned places are some =
     let told = returned_at events cpu number returned places are some in
     slice_get_within events returned (Returned cpu number told.0) told.1
 
--- a call with a place of its return is finished
-pub finished_at : (events : List Event) (cpu number : ℕ) (places : Places) → ArePlacesOf events cpu number places → is_some places.returned ≡ true
-    → IsFinished events cpu number
-finished_at events cpu number places are = at places.returned are.returned
-  where
-    at : (o : Option ℕ) → MatchOption o (¬ IsFinished events cpu number) (λ place. (given : Reply) × IsReturned events place cpu number given)
-        → is_some o ≡ true → IsFinished events cpu number
-    at None pending some = absurd (let bad : false ≡ true = some in cc)
-    at (Some place) told some = (place, told.0, told.1)
-
--- one without has none
-pub none_at : (o : Option ℕ) → is_some o ≡ false → o ≡ None
-none_at None none = refl
-none_at (Some place) none = absurd (let bad : true ≡ false = none in cc)
-
 -- a finished call has one
 pub not_pending : (events : List Event) (cpu number : ℕ) (places : Places) → ArePlacesOf events cpu number places → IsFinished events cpu number
     → places.returned ≡ None → ⊥
