@@ -62,8 +62,7 @@ def main():
     parser.add_argument("lines", type=int, nargs="*", default=[10_000, 100_000, 1_000_000])
     words = parser.parse_args()
     # Builds the program where it isn't built yet.
-    first = ["check", "examples/one-granule.history", "examples/one-granule.certificate"]
-    subprocess.run([os.path.join(TOP, "rmmcheck"), *first], cwd=TOP, check=True, stdout=subprocess.DEVNULL)
+    subprocess.run([os.path.join(TOP, "tools", "built"), "rmmcheck"], check=True, stdout=subprocess.DEVNULL)
     print("| Load | History lines | Both texts | `wc -l` | `rmmcheck check` | Times `wc -l` | A line | Peak memory | Bytes a line |")
     print("|---|---|---|---|---|---|---|---|---|")
     with tempfile.TemporaryDirectory() as folder:

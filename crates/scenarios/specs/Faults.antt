@@ -1,23 +1,20 @@
 -- What the program ends with where one of its parts reports a fault of its own, and what each fault says of the words.
-use Rattle.std.specs.Prelude.{◌≡◌, ◌≢◌, ◌⊎◌, ⊤, ℕ, List, Err, codes}
+use Rattle.std.specs.Prelude.{◌≡◌, ◌≢◌, ⊤, ℕ, List, codes}
 use Rattle.std.specs.Borrow.{Bor}
-use Rattle.std.specs.declared.io.ErrorKind.{ErrorKind}
-use Rattle.std.specs.declared.io.ErrorKind.TheVariants.{OutOfMemory}
-use Rattle.judging.specs.Ending.{status_of, fault_line, fault_at}
+use Rattle.checking.specs.Faults.{check_status, Names, Plays}
+use Rattle.checking.specs.declared.fault.CheckFault.TheVariants as of_check
 use Rattle.judging.specs.declared.fault.Fault.TheVariants as of_device
-use Rattle.judging.specs.declared.fault.Paths.{Paths}
-use Rattle.judging.specs.declared.judgement.JudgeFault.{JudgeFault}
 use Rattle.playing.specs.declared.fault.PlayFault.{PlayFault}
 use Rattle.playing.specs.declared.fault.PlayFault.TheVariants as of_play
 use Rattle.program_words.specs.declared.words.Request.{Request}
 use Rattle.program_words.specs.declared.words.Request.TheVariants as request
-use Rattle.program_words.specs.declared.words.WordsFault.{WordsFault}
-use Rattle.program_words.specs.declared.words.WordsFault.TheVariants as of_words
 use Rattle.program_words.specs.Words.{AreRefused, Asks}
 use Rattle.scenario_text.specs.declared.fault.ScenarioFault.{ScenarioFault}
 use Rattle.scenario_text.specs.declared.fault.ScenarioFault.TheVariants as of_scenario
 use Rattle.scenarios.specs.declared.fault.ProgramFault.{ProgramFault}
 use Rattle.scenarios.specs.declared.fault.ProgramFault.TheVariants as fault
+use Rattle.scenarios.specs.declared.fault.RunFault.{RunFault}
+use Rattle.scenarios.specs.declared.fault.RunFault.TheVariants as of_run
 
 -- ---- how the program ends
 
@@ -26,13 +23,16 @@ abbrev pub scenario_status : ScenarioFault → ℕ
 scenario_status of_scenario.NoMemory = 3
 scenario_status _ = 2
 
--- its exit status after a fault
+-- its exit status after a run's fault
+abbrev pub run_status : RunFault → ℕ
+run_status (of_run.Scenario refused) = scenario_status refused
+run_status of_run.NoThread = 3
+run_status of_run.Disagrees = 3
+
+-- and after any fault
 abbrev pub fault_status : ProgramFault → ℕ
-fault_status fault.Arguments = 2
-fault_status (fault.Scenario refused) = scenario_status refused
-fault_status (fault.Device failed) = status_of (Err failed)
-fault_status fault.NoThread = 3
-fault_status fault.Disagrees = 3
+fault_status (fault.Check failed) = check_status failed
+fault_status (fault.Run failed) = run_status failed
 
 -- the line of a scenario's fault, without the newline
 abbrev pub scenario_line : ScenarioFault → List ℕ
@@ -43,38 +43,22 @@ scenario_line of_scenario.NoCommand = codes "rmmcheck: scenario 4"
 scenario_line of_scenario.NoTurn = codes "rmmcheck: scenario 5"
 scenario_line of_scenario.NoMemory = codes "rmmcheck: no memory"
 
--- and that of any fault
-abbrev pub program_line : ProgramFault → List ℕ
-program_line fault.Arguments = codes "rmmcheck: arguments"
-program_line (fault.Scenario refused) = scenario_line refused
-program_line (fault.Device failed) = fault_line failed
-program_line fault.NoThread = codes "rmmcheck: cannot start a thread"
-program_line fault.Disagrees = codes "rmmcheck: disagrees"
+-- and that of a run's fault
+abbrev pub run_line : RunFault → List ℕ
+run_line (of_run.Scenario refused) = scenario_line refused
+run_line of_run.NoThread = codes "rmmcheck: cannot start a thread"
+run_line of_run.Disagrees = codes "rmmcheck: disagrees"
 
 -- ---- faults of its parts
 
--- the words ask for nothing
-abbrev pub words_fault : WordsFault → ProgramFault
-words_fault of_words.Arguments = fault.Arguments
-words_fault of_words.NoMemory = fault.Device of_device.NoMemory
-
--- the words can't be read: memory is refused, or one of them isn't UTF-8
-abbrev pub unread_fault : ErrorKind → ProgramFault
-unread_fault OutOfMemory = fault.Device of_device.NoMemory
-unread_fault _ = fault.Arguments
-
 -- the file at this path isn't played
 abbrev pub play_fault : Bor (List ℕ) → PlayFault → ProgramFault
-play_fault path of_play.Read = fault.Device (of_device.CannotRead path)
-play_fault path (of_play.Scenario refused) = fault.Scenario refused
-play_fault path of_play.Write = fault.Device of_device.CannotWrite
-play_fault path of_play.NoMemory = fault.Device of_device.NoMemory
-play_fault path of_play.Thread = fault.NoThread
-play_fault path of_play.Disagrees = fault.Disagrees
-
--- a check of the files at these paths ends so: the judgement has a fault, an open one being a read of its file
-abbrev pub EndsCheck : Paths → ProgramFault → Type 0
-EndsCheck paths ended = (failed : JudgeFault) × (ended ≡ fault.Device (fault_at paths failed))
+play_fault path of_play.Read = fault.Check (of_check.Device (of_device.CannotRead path))
+play_fault path (of_play.Scenario refused) = fault.Run (of_run.Scenario refused)
+play_fault path of_play.Write = fault.Check (of_check.Device of_device.CannotWrite)
+play_fault path of_play.NoMemory = fault.Check (of_check.Device of_device.NoMemory)
+play_fault path of_play.Thread = fault.Run of_run.NoThread
+play_fault path of_play.Disagrees = fault.Run of_run.Disagrees
 
 -- the file at this path is played on threads, and that ends so, a file that isn't opened being one that isn't read
 abbrev pub EndsThreads : Bor (List ℕ) → ProgramFault → Type 0
@@ -82,19 +66,7 @@ EndsThreads path ended = (failed : PlayFault) × (ended ≡ play_fault path fail
 
 -- the file at this path is played in turns, and that ends so: it starts no thread, and has one list of commits alone
 abbrev pub EndsTurns : Bor (List ℕ) → ProgramFault → Type 0
-EndsTurns path ended = EndsThreads path ended × (ended ≢ fault.NoThread) × (ended ≢ fault.Disagrees)
-
--- the request names this file
-abbrev pub Names : Request → List ℕ → Type 0
-Names (request.Check history certificate) path = (path ≡ history.now) ⊎ (path ≡ certificate.now)
-Names (request.Run scenario) path = path ≡ scenario.now
-Names (request.Threads scenario) path = path ≡ scenario.now
-
--- the request is for a scenario
-abbrev pub Plays : Request → Type 0
-Plays (request.Check history certificate) = ⊥
-Plays (request.Run scenario) = ⊤
-Plays (request.Threads scenario) = ⊤
+EndsTurns path ended = EndsThreads path ended × (ended ≢ fault.Run of_run.NoThread) × (ended ≢ fault.Run of_run.Disagrees)
 
 -- the request is for threads
 abbrev pub StartsThreads : Request → Type 0
@@ -106,10 +78,10 @@ StartsThreads (request.Threads scenario) = ⊤
 -- scenario only where they ask for one to be played, a thread or a disagreement only where that is to be on threads, and
 -- standard output only where they ask for something.
 abbrev pub HasCause : List (List ℕ) → ProgramFault → Type 0
-HasCause words fault.Arguments = AreRefused words
-HasCause words (fault.Scenario refused) = (asked : Request) × Asks words asked × Plays asked
-HasCause words (fault.Device (of_device.CannotRead path)) = (asked : Request) × Asks words asked × Names asked path.now
-HasCause words (fault.Device of_device.CannotWrite) = (asked : Request) × Asks words asked
-HasCause words (fault.Device of_device.NoMemory) = ⊤
-HasCause words fault.NoThread = (asked : Request) × Asks words asked × StartsThreads asked
-HasCause words fault.Disagrees = (asked : Request) × Asks words asked × StartsThreads asked
+HasCause words (fault.Check of_check.Arguments) = AreRefused words
+HasCause words (fault.Check (of_check.Device (of_device.CannotRead path))) = (asked : Request) × Asks words asked × Names asked path.now
+HasCause words (fault.Check (of_check.Device of_device.CannotWrite)) = (asked : Request) × Asks words asked
+HasCause words (fault.Check (of_check.Device of_device.NoMemory)) = ⊤
+HasCause words (fault.Run (of_run.Scenario refused)) = (asked : Request) × Asks words asked × Plays asked
+HasCause words (fault.Run of_run.NoThread) = (asked : Request) × Asks words asked × StartsThreads asked
+HasCause words (fault.Run of_run.Disagrees) = (asked : Request) × Asks words asked × StartsThreads asked

@@ -1,49 +1,49 @@
 //! Why the program ends without a verdict.
 
 ghost use Rattle.std.specs.Prelude.{◌≡◌, Some};
-ghost use Rattle.scenarios.specs.Faults.{program_line, scenario_line, words_fault};
+ghost use Rattle.scenarios.specs.Faults.{run_line, scenario_line};
+ghost use Rattle.scenarios.specs.declared.fault.ProgramFault.TheVariants.{Check};
 
-use judging::Fault;
-use program_words::WordsFault;
+use checking::CheckFault;
 use scenario_text::ScenarioFault;
 use std::fmt;
 
-/// What ended the program. Its `Display` is its line on standard error.
+/// What ended the program.
 #[derive(Clone, Copy)]
 pub(crate) enum ProgramFault<'a> {
-    /// The words ask for nothing.
-    Arguments,
+    /// Words, a device or memory, as they end a check too.
+    Check(CheckFault<'a>),
+    /// A run, and no check.
+    Run(RunFault),
+}
+
+/// What ends a run alone. Its `Display` is its line on standard error.
+#[derive(Clone, Copy)]
+pub(crate) enum RunFault {
     /// The file states no scenario.
     Scenario(ScenarioFault),
-    /// A device failed, or memory was refused.
-    Device(Fault<'a>),
     /// A thread can't be started.
     NoThread,
     /// A CPU's list of commits isn't what the journal has of it.
     Disagrees,
 }
 
-impl From<WordsFault> for ProgramFault<'_> {
-    ghost from_gives = { λ fault ended. ended ≡ words_fault fault };
+impl<'a> From<CheckFault<'a>> for ProgramFault<'a> {
+    ghost from_gives = { λ fault ended. ended ≡ Check fault };
 
-    fn from(fault: WordsFault) -> Self {
-        match fault {
-            WordsFault::Arguments => ProgramFault::Arguments,
-            WordsFault::NoMemory => ProgramFault::Device(Fault::NoMemory),
-        }
+    fn from(fault: CheckFault<'a>) -> Self {
+        ProgramFault::Check(fault)
     }
 }
 
-impl fmt::Display for ProgramFault<'_> {
-    ghost output = { λ fault. Some (program_line fault) };
+impl fmt::Display for RunFault {
+    ghost output = { λ fault. Some (run_line fault) };
 
     fn fmt<W: fmt::Write>(&self, f: &mut fmt::Formatter<W>) -> fmt::Result {
         match self {
-            ProgramFault::Arguments => f.write_str("rmmcheck: arguments"),
-            ProgramFault::Scenario(refused) => ScenarioLine(*refused).fmt(f),
-            ProgramFault::Device(fault) => fault.fmt(f),
-            ProgramFault::NoThread => f.write_str("rmmcheck: cannot start a thread"),
-            ProgramFault::Disagrees => f.write_str("rmmcheck: disagrees"),
+            RunFault::Scenario(refused) => ScenarioLine(*refused).fmt(f),
+            RunFault::NoThread => f.write_str("rmmcheck: cannot start a thread"),
+            RunFault::Disagrees => f.write_str("rmmcheck: disagrees"),
         }
     }
 }

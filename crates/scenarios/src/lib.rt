@@ -1,5 +1,5 @@
 //! What the program `rmmcheck` does, as one call over any runtime: its files, its output and its exit status.
-//! `run` has `program_words` read its words, and `judging` judge two files or `playing` play one; `end` has the exit statuses.
+//! `run` has `program_words` read its words, and `checking` check two files or `playing` play one; `end` has the exit statuses.
 //! It promises that each fault it ends with has its cause in the words and in what its parts report.
 //! Which bytes a file holds is beyond any contract; what is done with them is promised by the parts.
 //! The program `rmmcheck` depends on it.

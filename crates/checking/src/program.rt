@@ -1,0 +1,118 @@
+//! A check over any runtime: words, files, the output, the exit status.
+
+ghost use Rattle.std.specs.Prelude.{◌≡◌, ◌⊎◌, ◌≤◌, Ok, IfOk, IfErr, map, string_bytes};
+ghost use Rattle.std.specs.IoError.{error_kind};
+ghost use Rattle.judging.specs.Ending.{status_of};
+ghost use Rattle.checking.specs.Faults.{check_status, unread_fault, EndsCheck, HasCause};
+
+use crate::fault::CheckFault;
+use checker::Verdict;
+use judging::{Fault, FileSource, OutputSink, Paths, ends_with, judge};
+use program_words::{Request, request_given};
+use std::io::ErrorKind;
+use std::rt::{Env, Files};
+use std::{env, fs, io};
+
+/// Runs a check and returns its exit status: 0 for yes, 1 for no, 2 for words or texts at fault, 3 for a device or memory. Where
+/// the line of a fault can't be written to standard error, the status alone reports it.
+pub fn run<R: Env + Files + Print + Eprint + AllocGlobal>(rt: &R) -> u8
+    ensures { result ≤ 3 }
+{
+    let words = words_of(rt);
+    let outcome = match &words {
+        Ok(words) => serve(rt, words.as_slice()),
+        Err(fault) => Err(*fault),
+    };
+    end_check(rt, outcome)
+}
+
+// Does what the words ask for, where that is a check.
+fn serve<'a, R: Files + Print + AllocGlobal>(
+    rt: &R,
+    words: &'a [String],
+) -> Result<Verdict, CheckFault<'a>>
+    ensures { IfErr result (HasCause (map string_bytes words.now)) }
+{
+    match request_given(rt.alloc(), words) {
+        Ok(
+            Request::Check {
+                history,
+                certificate,
+            },
+        ) => check_files(
+            rt,
+            Paths {
+                history,
+                certificate,
+            },
+        ),
+        Ok(Request::Run(_) | Request::Threads(_)) => Err(CheckFault::Arguments),
+        Err(fault) => Err(CheckFault::from(fault)),
+    }
+}
+
+/// Opens both files before either is read, and judges what they hold. The verdict's line goes to standard output.
+pub fn check_files<'a, R: Files + Print + AllocGlobal>(
+    rt: &R,
+    paths: Paths<'a>,
+) -> Result<Verdict, CheckFault<'a>>
+    ensures { IfErr result (EndsCheck paths.entry) }
+{
+    let mut history = FileSource::new(opened(rt, paths.history)?);
+    let mut certificate = FileSource::new(opened(rt, paths.certificate)?);
+    let mut sink = OutputSink::new(rt.alloc(), io::writer(rt));
+    match judge(rt.alloc(), &mut history, &mut certificate, &mut sink) {
+        Ok(verdict) => Ok(verdict),
+        Err(fault) => Err(CheckFault::Device(paths.fault(fault))),
+    }
+}
+
+/// The file at that path.
+pub fn opened<'a, R: Files>(rt: &R, path: &'a str) -> Result<R::File, CheckFault<'a>>
+    ensures { IfErr result (λ ended. ended ≡ CheckFault.Device (Fault.CannotRead path.entry)) }
+{
+    match fs::open(rt, path) {
+        Ok(file) => Ok(file),
+        Err(_) => Err(CheckFault::Device(Fault::CannotRead(path))),
+    }
+}
+
+/// The words of the command line.
+pub fn words_of<R: Env + AllocGlobal>(rt: &R) -> Result<Vec<String>, CheckFault<'static>>
+    ensures { IfErr result (λ fault. (fault ≡ CheckFault.Device Fault.NoMemory) ⊎ (fault ≡ CheckFault.Arguments)) }
+{
+    match env::args(rt) {
+        Ok(args) => match args.collect(rt.alloc()) {
+            Ok(words) => Ok(words),
+            Err(_) => Err(CheckFault::Device(Fault::NoMemory)),
+        },
+        Err(error) => Err(fault_of_unread(&error)),
+    }
+}
+
+// What ends the program where its words can't be read.
+fn fault_of_unread(error: &io::Error) -> CheckFault<'static>
+    ensures cause { result ≡ unread_fault (error_kind error.now) }
+    ensures either { (result ≡ CheckFault.Device Fault.NoMemory) ⊎ (result ≡ CheckFault.Arguments) }
+{
+    match error.kind() {
+        ErrorKind::OutOfMemory => CheckFault::Device(Fault::NoMemory),
+        _ => CheckFault::Arguments,
+    }
+}
+
+/// Writes the fault's line, where there is one, and returns the exit status.
+pub fn end_check<R: Eprint>(rt: &R, outcome: Result<Verdict, CheckFault<'_>>) -> u8
+    ensures ok { IfOk outcome.entry (λ verdict. result ≡ status_of (Ok verdict)) }
+    ensures err { IfErr outcome.entry (λ fault. result ≡ check_status fault) }
+    ensures most { result ≤ 3 }
+{
+    if let Err(fault) = outcome {
+        let _ = rt.eprintln(fault);
+    }
+    match outcome {
+        Ok(verdict) => ends_with(Ok(verdict)).status,
+        Err(CheckFault::Device(fault)) => ends_with(Err(fault)).status,
+        Err(CheckFault::Arguments) => 2,
+    }
+}
