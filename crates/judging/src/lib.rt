@@ -2,7 +2,7 @@
 //! `judge` reads the history to its end and then the certificate, in pieces and keeping neither, and hands `checker`'s verdict to the sink.
 //! It blames a device only for a failure of its own, and after any fault but `Write` the sink is as it was; `read_text` keeps a source's text.
 //! `FileSource` and `OutputSink` are the devices over std's readers and writers; `ends_with` is the table of its exit statuses and lines.
-//! `playing` and `scenarios` depend on it, and so the program `rmmcheck`.
+//! `checking` and `playing` depend on it, and so the program `rmmcheck`.
 #![tactic(auto)]
 
 mod ending;

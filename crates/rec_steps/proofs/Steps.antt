@@ -131,13 +131,13 @@ unfolding outcome answer_of class_of
 outcome-enter s cpu address c is outside = rw (is, outside) refl
 
 -- a REC with no exit pending is answered by its rows, and gives no host's command
-pub outcome-row : (s : State) (cpu : ℕ) (c : Call) (realm : RealmRecord) (rec : RecRecord) → IsTrue (is_inside s cpu)
-    → IsHeld s (rec_inside s cpu) realm rec → is_none rec.pending ≡ true → (c ≡ call.Exit → ⊥) → call_row s (rec_inside s cpu) c ≡ outcome s cpu c
+pub outcome-row : (s : State) (cpu : ℕ) (c : Call) (rec : RecRecord) → IsTrue (is_inside s cpu)
+    → s.rec (rec_inside s cpu) ≡ Some rec → is_none rec.pending ≡ true → (c ≡ call.Exit → ⊥) → call_row s (rec_inside s cpu) c ≡ outcome s cpu c
 unfolding outcome answer_of class_of call_row
-outcome-row s cpu c realm rec inside held free other = by c other
+outcome-row s cpu c rec inside held free other = by c other
   where
     placed : is_placed s cpu ByRealm ≡ true
-    placed = and_from (is_inside s cpu) _ inside (ap (λ (r : RecRecord). is_none r.pending) (rec_at-held s (rec_inside s cpu) rec held.has_rec) ∙ free)
+    placed = and_from (is_inside s cpu) _ inside (ap (λ (r : RecRecord). is_none r.pending) (rec_at-held s (rec_inside s cpu) rec held) ∙ free)
 
     by : (d : Call) → (d ≡ call.Exit → ⊥) → call_row s (rec_inside s cpu) d ≡ outcome s cpu d
     by (call.MeasurementRead index) other = when_true (is_placed s cpu ByRealm) _ _ placed

@@ -1,5 +1,5 @@
 -- What is answered from the records of a REC and of its realm alone, and what they become.
-use Rattle.std.specs.Prelude.{◌≡◌, ℕ, Bool, true, false, not, ◌&&◌, [], ◌∷◌, Result, Ok, Err, Option, Some, None, IfSome, is_none}
+use Rattle.std.specs.Prelude.{◌≡◌, ℕ, Bool, true, false, not, ◌&&◌, List, [], ◌∷◌, Result, Ok, Err, Option, Some, None, IfSome, is_none}
 use Rattle.rmm_spec.specs.declared.accepted.Accepted.{Accepted}
 use Rattle.rmm_spec.specs.declared.accepted.Accepted.TheVariants.{Done}
 use Rattle.rmm_spec.specs.declared.call.Call.{Call}
@@ -7,6 +7,7 @@ use Rattle.rmm_spec.specs.declared.call.Call.TheVariants.{MeasurementRead, Measu
 use Rattle.rmm_spec.specs.declared.change.Change.{Change}
 use Rattle.rmm_spec.specs.declared.change.Change.TheVariants.{Unchanged, RecordsChanged}
 use Rattle.rmm_spec.specs.declared.change.RealmUpdate.{RealmUpdate}
+use Rattle.rmm_spec.specs.declared.change.RealmUpdate.TheVariants.{MeasurementExtended}
 use Rattle.rmm_spec.specs.declared.change.RecUpdate.{RecUpdate}
 use Rattle.rmm_spec.specs.declared.change.RecUpdate.TheVariants.{Entered}
 use Rattle.rmm_spec.specs.declared.reply.Reply.{Reply}
@@ -17,9 +18,10 @@ use Rattle.rmm_spec.specs.Change.{realm_updated, rec_updated}
 use Rattle.rmm_spec.specs.Lookup.{request_of, is_new, is_system_off}
 use Rattle.rmm_spec.specs.Rows.{row, decided, done, realm_error, rec_error}
 use Rattle.rmm_spec.specs.State.{State, RealmRecord, RecRecord}
-use Rattle.rmm_spec.specs.Step.RealmCall.{rec_change, measurement_read, measurement_extend, realm_config, ipa_state_set, ipa_state_get, host_call, cpu_off, system_off}
+use Rattle.rmm_spec.specs.Step.RealmCall.{rec_change, realm_change, measurement_read, measurement_extend, realm_config, ipa_state_set, ipa_state_get, host_call, cpu_off, system_off}
 use Rattle.rmm_spec.specs.Walk.{walk, entry_ripas, is_protected}
 use Rattle.realm_desc.specs.Updates.{IsRecUpdate}
+use Rattle.rec_steps.specs.declared.measurement.Extension.{Extension}
 use Rattle.rec_steps.specs.declared.step.RecStep.{RecStep}
 
 -- ---- answers
@@ -40,6 +42,11 @@ accepted_at rd rec step = Done step.words (change_at rd rec step.realm step.rec)
 abbrev pub answer_at : ℕ → ℕ → Result RecStep Reply → Result Accepted Reply
 answer_at rd rec (Ok step) = Ok (accepted_at rd rec step)
 answer_at rd rec (Err refusal) = Err refusal
+
+-- what is answered to a realm that extends a measurement by these values
+abbrev pub extension_at : ℕ → List ℕ → Result Extension Reply → Result Accepted Reply
+extension_at rd values (Ok extension) = Ok (done [] (realm_change rd (MeasurementExtended extension.index extension.size values)))
+extension_at rd values (Err refusal) = Err refusal
 
 -- what a realm's call is answered by its rows, to the REC at an address
 unfoldable pub call_row : State → ℕ → Call → Result Accepted Reply

@@ -1,17 +1,18 @@
 //! The commands of a CPU that is inside a REC.
 
-ghost use Rattle.std.specs.Prelude.{◌≡◌, ℕ, IfOk, IfSome, IsTrue, is_some};
+ghost use Rattle.std.specs.Prelude.{◌≡◌, ℕ, List, Some, IfOk, IfSome, IsTrue, is_some};
+ghost use Rattle.rmm_spec.specs.declared.call.Call.TheVariants.{MeasurementExtend};
 ghost use Rattle.rmm_spec.specs.Call.{call_of};
 ghost use Rattle.rmm_spec.specs.State.{State};
 ghost use Rattle.rmm_spec.specs.Lookup.{is_inside, rec_inside, realm_at, rec_at};
 ghost use Rattle.rmm_spec.specs.Step.{Step, outcome};
 ghost use Rattle.rmm_spec.specs.Update.{with_realm, with_rec};
-ghost use Rattle.rec_steps.specs.Answers.{answer_at, call_row, is_refusal, is_read, is_walk, IsRipasRead, IsStep};
+ghost use Rattle.rec_steps.specs.Answers.{answer_at, call_row, extension_at, is_refusal, is_read, is_walk, IsRipasRead, IsStep};
 ghost use Rattle.rec_steps.specs.Held.{IsHeld};
 
 use crate::ipa_state::{ipa_state_get, ipa_state_set};
 use crate::leaving::{answer_to_exit, cpu_off, host_call, system_off};
-use crate::measurement::{measurement_extend, measurement_read};
+use crate::measurement::{Extension, extension_of, measurement_extend, measurement_read};
 use crate::realm_config::config_of;
 use crate::step::RecStep;
 use realm_desc::{Realm, Rec};
@@ -47,6 +48,18 @@ pub fn answer_inside(
         return Err(Reply::Misplaced);
     }
     answer_to_call(realm, call, ripas)
+}
+
+/// What is answered to a CPU inside the REC that asks for an extension of a measurement: the extension, which then is all
+/// that is done, or the refusal.
+pub fn extension_inside(rec: &Rec, index: u64, size: u64) -> Result<Extension, Reply>
+    ensures { (s : State) (cpu : ℕ) (values : List ℕ) → IsTrue (is_inside s cpu) → s.rec (rec_inside s cpu) ≡ Some rec.now
+        → extension_at rec.now.owner values result ≡ outcome s cpu (MeasurementExtend index size values) }
+{
+    if !rec.can_call() {
+        return Err(Reply::Misplaced);
+    }
+    extension_of(index, size)
 }
 
 /// What is answered to a realm's call of a REC that doesn't wait to leave. Where the call reads an entry, the RIPAS is that

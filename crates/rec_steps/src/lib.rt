@@ -17,8 +17,9 @@ mod step;
 mod tests;
 
 pub use entering::{answer_to_enter, enter};
-pub use inside::{answer_inside, answer_to_call, realm_call, walks};
+pub use inside::{answer_inside, answer_to_call, extension_inside, realm_call, walks};
 pub use leaving::{answer_to_exit, exit};
+pub use measurement::Extension;
 pub use realm_desc::{Realm, Rec};
 pub use reply::{input_error, realm_error, rec_error};
 pub use rmm_spec::{Accepted, Call, Command, Reply, Ripas};

@@ -3,40 +3,40 @@
 ghost use Rattle.std.specs.Prelude.{◌≡◌};
 
 use crate::machine::Machine;
-use crate::reply::is_ok;
+use crate::reply::{is_done, is_ok};
 use command_rows::Sight;
 use granule_state::Pa;
 use realm_desc::Rec;
-use rec_steps::{RecStep, answer_inside};
+use rec_steps::{Extension, RecStep, answer_inside, extension_inside};
 use rmi_view::{CommandRef, ReplyRef};
-use rmm_spec::{Call, RealmChange, RecChange, Reply, Ripas};
+use rmm_spec::{Call, RealmChange, RealmUpdate, RecChange, Reply, Ripas};
 use table_entries::entry_ripas;
 
 impl Machine {
-    ghost use Rattle.std.specs.Prelude.{◌≡◌, IfSome, IsTrue, is_some, false};
+    ghost use Rattle.std.specs.Prelude.{◌≡◌, Some, IfSome, IsTrue, is_some, false};
     ghost use Rattle.rmm_spec.specs.Applicable.{CanApply};
     ghost use Rattle.rmm_spec.specs.Call.{call_of};
     ghost use Rattle.rmm_spec.specs.Change.{changed};
-    ghost use Rattle.rmm_spec.specs.declared.tag.Tag.TheVariants as tag;
-    ghost use Rattle.rmm_spec.specs.Lookup.{has_tag, is_inside, rec_at, rec_inside};
+    ghost use Rattle.rmm_spec.specs.Lookup.{is_inside, rec_inside};
     ghost use Rattle.rmm_spec.specs.State.{State, RealmRecord, RecRecord};
     ghost use Rattle.rmm_spec.specs.Step.{CarriesOut, outcome};
     ghost use Rattle.rec_steps.specs.Answers.{answer_at, change_at, is_walk, IsRipasRead};
     ghost use Rattle.rmi_view.specs.Seen.{command_seen, reply_seen};
     ghost use Rattle.spec_machine.specs.View.{state_of};
 
-    /// Takes one step of the CPU, which is inside the REC, as `offer` does.
+    /// Takes one step of the CPU, which is inside the REC. An extension of a measurement is made as it is decided, since the
+    /// step that it is takes longer to hand over than to make.
     #[inline(never)]
     pub(crate) fn offer_inside(
         &mut self,
         cpu: u8,
-        rec: Pa,
+        address: Pa,
         call: &Call,
         command: CommandRef<'_>,
         reply: ReplyRef<'_>,
     ) -> bool
         requires inside { IsTrue (is_inside (state_of self.old) cpu) }
-        requires at { rec ≡ rec_inside (state_of self.old) cpu }
+        requires at { address ≡ rec_inside (state_of self.old) cpu }
         requires call { call.now ≡ call_of (command_seen command) }
         ensures step { IsTrue result
             → CarriesOut (outcome (state_of self.old) cpu (call_of (command_seen command.entry))) (state_of self.old) (reply_seen reply.entry) (state_of self.new) }
@@ -44,15 +44,61 @@ impl Machine {
             → ¬ CarriesOut (outcome (state_of self.old) cpu (call_of (command_seen command.entry))) (state_of self.old) (reply_seen reply.entry) next }
         ensures kept { result ≡ false → state_of self.new ≡ state_of self.old }
     {
-        let rd = self.owner_of(rec);
-        let answer = self.answer_here(cpu, rec, rd, call);
+        let Call::MeasurementExtend {
+            index,
+            size,
+            values,
+        } = call
+        else {
+            return self.step_inside(cpu, address, call, command, reply);
+        };
+        let rec = self.rec_here(cpu, address);
+        let Extension { index, size } = match extension_inside(rec, *index, *size) {
+            Err(ref refusal) => return reply.is(refusal),
+            Ok(extension) => extension,
+        };
+        if !is_done(reply) {
+            return false;
+        }
+        let update = RealmUpdate::MeasurementExtended {
+            index,
+            size,
+            values: *values,
+        };
+        let rd = owner(rec);
+        self.update_records(Some(RealmChange { rd, update }), None);
+        true
+    }
+
+    // Takes one step of the CPU, by what the records answer.
+    #[inline(never)]
+    fn step_inside(
+        &mut self,
+        cpu: u8,
+        address: Pa,
+        call: &Call,
+        command: CommandRef<'_>,
+        reply: ReplyRef<'_>,
+    ) -> bool
+        requires inside { IsTrue (is_inside (state_of self.old) cpu) }
+        requires at { address ≡ rec_inside (state_of self.old) cpu }
+        requires call { call.now ≡ call_of (command_seen command) }
+        ensures step { IsTrue result
+            → CarriesOut (outcome (state_of self.old) cpu (call_of (command_seen command.entry))) (state_of self.old) (reply_seen reply.entry) (state_of self.new) }
+        ensures only { result ≡ false → (next : State)
+            → ¬ CarriesOut (outcome (state_of self.old) cpu (call_of (command_seen command.entry))) (state_of self.old) (reply_seen reply.entry) next }
+        ensures kept { result ≡ false → state_of self.new ≡ state_of self.old }
+    {
+        let rec = self.rec_here(cpu, address);
+        let rd = owner(rec);
+        let answer = self.answer_here(cpu, rec, call);
         match &answer {
             Err(refusal) => reply.is(refusal),
             Ok(step) => {
                 if !is_ok(reply, &step.words) {
                     return false;
                 }
-                self.update(rd, rec.address(), step);
+                self.update(rd, address.address(), step);
                 true
             }
         }
@@ -72,27 +118,25 @@ impl Machine {
         }
     }
 
-    // The realm that the REC belongs to.
-    fn owner_of(&self, address: Pa) -> u64
-        requires { IsTrue (has_tag (state_of self.now) address tag.Rec) }
-        ensures { result ≡ (rec_at (state_of self.now) address).owner }
-    {
-        let Some(rec) = self.granules.rec(address.address()) else {
-            unreachable!()
-        };
-        owner(rec)
-    }
-
-    // What the records of the REC and of its realm answer.
-    fn answer_here(&self, cpu: u8, address: Pa, rd: u64, call: &Call) -> Result<RecStep, Reply>
+    // The REC that the CPU is inside.
+    fn rec_here(&self, cpu: u8, address: Pa) -> &Rec
         requires inside { IsTrue (is_inside (state_of self.now) cpu) }
         requires at { address ≡ rec_inside (state_of self.now) cpu }
-        requires owner { rd ≡ (rec_at (state_of self.now) address).owner }
-        ensures { answer_at rd address result ≡ outcome (state_of self.now) cpu call.now }
+        ensures { (state_of self.now).rec (rec_inside (state_of self.now) cpu) ≡ Some result.now }
     {
         let Some(rec) = self.granules.rec(address.address()) else {
             unreachable!()
         };
+        rec
+    }
+
+    // What the records of the REC that the CPU is inside and of its realm answer.
+    fn answer_here(&self, cpu: u8, rec: &Rec, call: &Call) -> Result<RecStep, Reply>
+        requires inside { IsTrue (is_inside (state_of self.now) cpu) }
+        requires held { (state_of self.now).rec (rec_inside (state_of self.now) cpu) ≡ Some rec.now }
+        ensures { answer_at rec.now.owner (rec_inside (state_of self.now) cpu) result ≡ outcome (state_of self.now) cpu call.now }
+    {
+        let rd = owner(rec);
         let Some(realm) = self.granules.realm(rd) else {
             unreachable!()
         };

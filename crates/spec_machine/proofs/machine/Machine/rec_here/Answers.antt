@@ -1,0 +1,20 @@
+use Rattle.std.proofs.Common.{is_some, ap, sym, ◌∙◌}
+use Rattle.std.proofs.lemmas.Bool.{false≢true}
+use Rattle.rmm_spec.specs.declared.tag.Tag.TheVariants.{Rec}
+use Rattle.rmm_spec.specs.Lookup.{has_tag}
+use Rattle.rmm_sound.proofs.Applies.{inside_running}
+use Rattle.spec_machine.proofs.Common.{sound_in, state_of}
+use Rattle.spec_machine.proofs.machine.Machine.rec_here.Goals as goal
+
+pub unreachable-requires : goal.unreachable-requires
+unfolding state_of
+unreachable-requires c =
+    let m = c.args.self.now in
+    let s = state_of m in
+    let sound = sound_in m.granules m.shaped in
+    let running = inside_running s c.args.cpu sound c.requires.inside in
+    false≢true (ap is_some c.in_default.ensures ∙ sound.recs.tagged _ ∙ ap (λ a. has_tag s a Rec) (c.address.ensures ∙ c.requires.at) ∙ running.tag)
+
+pub returns : goal.returns
+unfolding state_of
+returns c = ap (state_of c.args.self.now).rec (sym (c.address.ensures ∙ c.requires.at)) ∙ sym c.in-Some.ensures
