@@ -7,7 +7,7 @@ use crate::reply::{is_done, is_ok};
 use command_rows::Sight;
 use granule_state::Pa;
 use realm_desc::Rec;
-use rec_steps::{Extension, RecStep, answer_inside, extension_inside};
+use rec_steps::{RecStep, answer_inside, extension_inside};
 use rmi_view::{CommandRef, ReplyRef};
 use rmm_spec::{Call, RealmChange, RealmUpdate, RecChange, Reply, Ripas};
 use table_entries::entry_ripas;
@@ -53,16 +53,15 @@ impl Machine {
             return self.step_inside(cpu, address, call, command, reply);
         };
         let rec = self.rec_here(cpu, address);
-        let Extension { index, size } = match extension_inside(rec, *index, *size) {
-            Err(ref refusal) => return reply.is(refusal),
-            Ok(extension) => extension,
+        let Ok(extension) = extension_inside(rec, *index, *size) else {
+            return self.step_inside(cpu, address, call, command, reply);
         };
         if !is_done(reply) {
             return false;
         }
         let update = RealmUpdate::MeasurementExtended {
-            index,
-            size,
+            index: extension.index,
+            size: extension.size,
             values: *values,
         };
         let rd = owner(rec);
