@@ -1,4 +1,4 @@
-//! `rmmcheck check HISTORY CERT` without what plays scenarios: `./rmmcheck` builds no more than this for a check.
+//! `check_only HISTORY CERT` is `rmmcheck check HISTORY CERT` without options and scenarios: `./rmmcheck` builds no more for a check.
 #![tactic(auto)]
 
 use std::process::ExitCode;

@@ -1,30 +1,18 @@
 //! Why a check ends without a verdict.
 
 ghost use Rattle.std.specs.Prelude.{◌≡◌, Some};
-ghost use Rattle.checking.specs.Faults.{check_line, words_fault};
+ghost use Rattle.checking.specs.Faults.{check_line};
 
 use judging::Fault;
-use program_words::WordsFault;
 use std::fmt;
 
 /// What ended the check. Its `Display` is its line on standard error.
 #[derive(Clone, Copy)]
 pub enum CheckFault<'a> {
-    /// The words ask for nothing that is done here.
+    /// The words ask for nothing that the program does.
     Arguments,
     /// A device failed, or memory was refused.
     Device(Fault<'a>),
-}
-
-impl From<WordsFault> for CheckFault<'_> {
-    ghost from_gives = { λ fault ended. ended ≡ words_fault fault };
-
-    fn from(fault: WordsFault) -> Self {
-        match fault {
-            WordsFault::Arguments => CheckFault::Arguments,
-            WordsFault::NoMemory => CheckFault::Device(Fault::NoMemory),
-        }
-    }
 }
 
 impl fmt::Display for CheckFault<'_> {

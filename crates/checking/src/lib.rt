@@ -1,8 +1,8 @@
-//! What `rmmcheck check HISTORY CERT` does, as one call over any runtime: its words, its files, its output and its exit status.
-//! `run` has `program_words` read its words and `judging` judge the two files; `end_check` has the exit statuses.
+//! What a check of two files does, as one call over any runtime: its words, its files, its output and its exit status.
+//! `run` takes two paths as its words and has `judging` judge what they hold; `end_check` has the exit statuses.
 //! It promises that each fault it ends with has its cause in the words and in what its parts report.
-//! Words that ask for a scenario are refused here as words that ask for nothing are.
-//! The program `check_only` depends on it, and `scenarios`, which plays those too.
+//! No command line is parsed here, so that nothing below needs `clap`, over which each further crate takes a minute to prove.
+//! The program `check_only` depends on it, and `scenarios`, which parses the words of `rmmcheck` and plays scenarios too.
 #![tactic(auto)]
 
 mod fault;

@@ -8,13 +8,13 @@ ghost use Rattle.checking.specs.Faults.{check_status, unread_fault, EndsCheck, H
 use crate::fault::CheckFault;
 use checker::Verdict;
 use judging::{Fault, FileSource, OutputSink, Paths, ends_with, judge};
-use program_words::{Request, request_given};
 use std::io::ErrorKind;
 use std::rt::{Env, Files};
 use std::{env, fs, io};
 
-/// Runs a check and returns its exit status: 0 for yes, 1 for no, 2 for words or texts at fault, 3 for a device or memory. Where
-/// the line of a fault can't be written to standard error, the status alone reports it.
+/// Runs a check of the two files that the words name behind the program's own name, HISTORY and CERT, and returns its exit status: 0
+/// for yes, 1 for no, 2 for words or texts at fault, 3 for a device or memory. No word is an option: a path may begin with a dash.
+/// Where the line of a fault can't be written to standard error, the status alone reports it.
 pub fn run<R: Env + Files + Print + Eprint + AllocGlobal>(rt: &R) -> u8
     ensures { result ≤ 3 }
 {
@@ -26,29 +26,23 @@ pub fn run<R: Env + Files + Print + Eprint + AllocGlobal>(rt: &R) -> u8
     end_check(rt, outcome)
 }
 
-// Does what the words ask for, where that is a check.
+// Checks the two files that the words name.
 fn serve<'a, R: Files + Print + AllocGlobal>(
     rt: &R,
     words: &'a [String],
 ) -> Result<Verdict, CheckFault<'a>>
     ensures { IfErr result (HasCause (map string_bytes words.now)) }
 {
-    match request_given(rt.alloc(), words) {
-        Ok(
-            Request::Check {
-                history,
-                certificate,
-            },
-        ) => check_files(
-            rt,
-            Paths {
-                history,
-                certificate,
-            },
-        ),
-        Ok(Request::Run(_) | Request::Threads(_)) => Err(CheckFault::Arguments),
-        Err(fault) => Err(CheckFault::from(fault)),
-    }
+    let [_name, history, certificate] = words else {
+        return Err(CheckFault::Arguments);
+    };
+    check_files(
+        rt,
+        Paths {
+            history,
+            certificate,
+        },
+    )
 }
 
 /// Opens both files before either is read, and judges what they hold. The verdict's line goes to standard output.

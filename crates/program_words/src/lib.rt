@@ -2,7 +2,7 @@
 //! `request_given` takes words exactly where `clap`'s own definition finds no fault in them, and gives what they ask for.
 //! The command is one table of subcommands, in `specs/Words.antt`: a further one is a row there, with what it asks for.
 //! It alone depends on `clap`, which is slow to prove; nothing is opened or printed.
-//! `checking` and `scenarios` depend on it.
+//! `scenarios` depends on it.
 #![tactic(auto)]
 
 mod words;

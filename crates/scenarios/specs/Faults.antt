@@ -1,13 +1,15 @@
 -- What the program ends with where one of its parts reports a fault of its own, and what each fault says of the words.
-use Rattle.std.specs.Prelude.{◌≡◌, ◌≢◌, ⊤, ℕ, List, codes}
+use Rattle.std.specs.Prelude.{◌≡◌, ◌≢◌, ◌⊎◌, ⊤, ℕ, List, codes}
 use Rattle.std.specs.Borrow.{Bor}
-use Rattle.checking.specs.Faults.{check_status, Names, Plays}
+use Rattle.checking.specs.Faults.{check_status}
 use Rattle.checking.specs.declared.fault.CheckFault.TheVariants as of_check
 use Rattle.judging.specs.declared.fault.Fault.TheVariants as of_device
 use Rattle.playing.specs.declared.fault.PlayFault.{PlayFault}
 use Rattle.playing.specs.declared.fault.PlayFault.TheVariants as of_play
 use Rattle.program_words.specs.declared.words.Request.{Request}
 use Rattle.program_words.specs.declared.words.Request.TheVariants as request
+use Rattle.program_words.specs.declared.words.WordsFault.{WordsFault}
+use Rattle.program_words.specs.declared.words.WordsFault.TheVariants as of_words
 use Rattle.program_words.specs.Words.{AreRefused, Asks}
 use Rattle.scenario_text.specs.declared.fault.ScenarioFault.{ScenarioFault}
 use Rattle.scenario_text.specs.declared.fault.ScenarioFault.TheVariants as of_scenario
@@ -51,6 +53,11 @@ run_line of_run.Disagrees = codes "rmmcheck: disagrees"
 
 -- ---- faults of its parts
 
+-- the words ask for nothing, or memory for them was refused
+abbrev pub words_fault : WordsFault → ProgramFault
+words_fault of_words.Arguments = fault.Check of_check.Arguments
+words_fault of_words.NoMemory = fault.Check (of_check.Device of_device.NoMemory)
+
 -- the file at this path isn't played
 abbrev pub play_fault : Bor (List ℕ) → PlayFault → ProgramFault
 play_fault path of_play.Read = fault.Check (of_check.Device (of_device.CannotRead path))
@@ -67,6 +74,20 @@ EndsThreads path ended = (failed : PlayFault) × (ended ≡ play_fault path fail
 -- the file at this path is played in turns, and that ends so: it starts no thread, and has one list of commits alone
 abbrev pub EndsTurns : Bor (List ℕ) → ProgramFault → Type 0
 EndsTurns path ended = EndsThreads path ended × (ended ≢ fault.Run of_run.NoThread) × (ended ≢ fault.Run of_run.Disagrees)
+
+-- ---- causes in the words
+
+-- the request names this file
+abbrev pub Names : Request → List ℕ → Type 0
+Names (request.Check history certificate) path = (path ≡ history.now) ⊎ (path ≡ certificate.now)
+Names (request.Run scenario) path = path ≡ scenario.now
+Names (request.Threads scenario) path = path ≡ scenario.now
+
+-- the request is for a scenario
+abbrev pub Plays : Request → Type 0
+Plays (request.Check history certificate) = ⊥
+Plays (request.Run scenario) = ⊤
+Plays (request.Threads scenario) = ⊤
 
 -- the request is for threads
 abbrev pub StartsThreads : Request → Type 0

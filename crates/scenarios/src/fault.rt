@@ -1,10 +1,12 @@
 //! Why the program ends without a verdict.
 
 ghost use Rattle.std.specs.Prelude.{◌≡◌, Some};
-ghost use Rattle.scenarios.specs.Faults.{run_line, scenario_line};
+ghost use Rattle.scenarios.specs.Faults.{run_line, scenario_line, words_fault};
 ghost use Rattle.scenarios.specs.declared.fault.ProgramFault.TheVariants.{Check};
 
 use checking::CheckFault;
+use judging::Fault;
+use program_words::WordsFault;
 use scenario_text::ScenarioFault;
 use std::fmt;
 
@@ -33,6 +35,17 @@ impl<'a> From<CheckFault<'a>> for ProgramFault<'a> {
 
     fn from(fault: CheckFault<'a>) -> Self {
         ProgramFault::Check(fault)
+    }
+}
+
+impl From<WordsFault> for ProgramFault<'_> {
+    ghost from_gives = { λ fault ended. ended ≡ words_fault fault };
+
+    fn from(fault: WordsFault) -> Self {
+        ProgramFault::Check(match fault {
+            WordsFault::Arguments => CheckFault::Arguments,
+            WordsFault::NoMemory => CheckFault::Device(Fault::NoMemory),
+        })
     }
 }
 

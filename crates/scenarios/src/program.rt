@@ -56,7 +56,7 @@ fn serve<'a, R: Files + Print + AllocGlobal, T: Threads + Wait + Sync>(
         )?),
         Ok(Request::Run(scenario)) => run_file(rt, scenario),
         Ok(Request::Threads(scenario)) => run_file_on(rt, threads, scenario),
-        Err(fault) => Err(ProgramFault::Check(CheckFault::from(fault))),
+        Err(fault) => Err(ProgramFault::from(fault)),
     }
 }
 
