@@ -2,10 +2,10 @@
 use Rattle.std.specs.Prelude.{◌≡◌, ◌≢◌, ◌⊎◌, ⊤, ℕ, List, [], ◌∷◌, length, Err, codes}
 use Rattle.std.specs.declared.io.ErrorKind.{ErrorKind}
 use Rattle.std.specs.declared.io.ErrorKind.TheVariants.{OutOfMemory}
-use Rattle.judging.specs.Ending.{status_of, fault_line, fault_at}
-use Rattle.judging.specs.declared.fault.Fault.TheVariants as of_device
-use Rattle.judging.specs.declared.fault.Paths.{Paths}
-use Rattle.judging.specs.declared.judgement.JudgeFault.{JudgeFault}
+use Rattle.checking.specs.Ending.{status_of, fault_line, fault_at}
+use Rattle.checking.specs.declared.fault.Fault.TheVariants as of_device
+use Rattle.checking.specs.declared.fault.Paths.{Paths}
+use Rattle.checking.specs.declared.judgement.JudgeFault.{JudgeFault}
 use Rattle.checking.specs.declared.fault.CheckFault.{CheckFault}
 use Rattle.checking.specs.declared.fault.CheckFault.TheVariants as fault
 

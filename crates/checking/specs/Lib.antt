@@ -1,1 +1,4 @@
+pub mod Ending
 pub mod Faults
+pub mod Judgement
+pub mod Taken

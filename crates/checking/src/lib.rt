@@ -1,12 +1,17 @@
-//! What a check of two files does, as one call over any runtime: its words, its files, its output and its exit status.
-//! `run` takes two paths as its words and has `judging` judge what they hold; `end_check` has the exit statuses.
-//! It promises that each fault it ends with has its cause in the words and in what its parts report.
-//! No command line is parsed here, so that nothing below needs `clap`, over which each further crate takes a minute to prove.
-//! The program `check_only` depends on it, and `scenarios`, which parses the words of `rmmcheck` and plays scenarios too.
+//! Judges what two devices give, or two files, and writes the verdict's line to a third, up to the exit status of a program.
+//! `judge` reads the history to its end and then the certificate, and keeps neither; after any fault but `Write` the sink is as it was.
+//! `run` takes two paths as its words, without `clap`, over which each crate is slow to prove; `ends_with` and `end_check` have the statuses.
+//! It promises that each fault has its cause, in the words and in what a device reports.
+//! The programs `check_only`, `rmmexplain` and `rmmfind` depend on it, and `scenarios`, which parses the words of `rmmcheck`.
 #![tactic(auto)]
 
+mod ending;
 mod fault;
+mod judgement;
 mod program;
+mod takers;
 
-pub use fault::CheckFault;
+pub use ending::{Ending, ends_with};
+pub use fault::{CheckFault, Fault, Paths};
+pub use judgement::{JudgeFault, judge};
 pub use program::{check_files, end_check, opened, run, words_of};

@@ -2,12 +2,14 @@
 
 ghost use Rattle.std.specs.Prelude.{◌≡◌, ◌⊎◌, ◌≤◌, Ok, IfOk, IfErr, map, string_bytes};
 ghost use Rattle.std.specs.IoError.{error_kind};
-ghost use Rattle.judging.specs.Ending.{status_of};
+ghost use Rattle.checking.specs.Ending.{status_of};
 ghost use Rattle.checking.specs.Faults.{check_status, unread_fault, EndsCheck, HasCause};
 
-use crate::fault::CheckFault;
+use crate::ending::ends_with;
+use crate::fault::{CheckFault, Fault, Paths};
+use crate::judgement::judge;
 use checker::Verdict;
-use judging::{Fault, FileSource, OutputSink, Paths, ends_with, judge};
+use devices::{FileSource, OutputSink};
 use std::io::ErrorKind;
 use std::rt::{Env, Files};
 use std::{env, fs, io};

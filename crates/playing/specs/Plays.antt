@@ -2,8 +2,8 @@
 use Rattle.std.specs.Prelude.{◌≢◌, ⊤, ℕ, List, Result, Ok, Err}
 use Rattle.rmm_spec.specs.declared.verdict.Verdict.{Verdict}
 use Rattle.rmm_spec.specs.Scenario.{Scenario}
-use Rattle.judging.specs.declared.source.ReadError.{ReadError}
-use Rattle.judging.specs.declared.source.ReadError.TheVariants as of_read
+use Rattle.devices.specs.declared.source.ReadError.{ReadError}
+use Rattle.devices.specs.declared.source.ReadError.TheVariants as of_read
 use Rattle.run_texts.specs.declared.fault.RunFault.{RunFault}
 use Rattle.run_texts.specs.declared.fault.RunFault.TheVariants as of_run
 use Rattle.scenario_text.specs.declared.fault.ScenarioFault.{ScenarioFault}

@@ -4,7 +4,7 @@ ghost use Rattle.std.specs.Prelude.{◌≡◌};
 ghost use Rattle.playing.specs.declared.fault.PlayFault.TheVariants.{NoMemory, Write};
 ghost use Rattle.playing.specs.Plays.{fault_of_read, fault_of_run, fault_of_scenario};
 
-use judging::{ReadError, WriteError};
+use devices::{ReadError, WriteError};
 use run_texts::RunFault;
 use scenario_text::ScenarioFault;
 use std::alloc::AllocError;

@@ -2,15 +2,15 @@
 
 ghost use Rattle.std.specs.Prelude.{◌≡◌, ◌≢◌, ◌+◌, ℕ, List, ◌++◌, IfOk, IfErr, Err};
 ghost use Rattle.std.specs.Io.KnownBytes.{Appends};
-ghost use Rattle.judging.specs.Sink.{HoldsBeginning};
-ghost use Rattle.judging.specs.Source.{Gives, GivesWhole};
+ghost use Rattle.devices.specs.Sink.{HoldsBeginning};
+ghost use Rattle.devices.specs.Source.{Gives, GivesWhole};
 ghost use Rattle.playing.specs.Plays.{IsCaused, Plays, failures_of};
 ghost use Rattle.world_runs.specs.Played as turns;
 ghost use Rattle.monitor_runs.specs.ThreadRun as threads;
 
 use crate::fault::PlayFault;
 use crate::steps::{scenario_from, write_text};
-use judging::{Sink, Source};
+use devices::{Sink, Source};
 use monitor_runs::threads_text;
 use run_texts::Verdict;
 use std::alloc::Global;

@@ -2,12 +2,12 @@
 
 ghost use Rattle.std.specs.Prelude.{◌≡◌, ◌≢◌, ◌⊎◌, ◌+◌, ℕ, List, ◌++◌, length, IfOk, IfErr, OnOk, Err};
 ghost use Rattle.std.specs.Io.KnownBytes.{Appends};
-ghost use Rattle.judging.specs.Sink.{HoldsBeginning};
-ghost use Rattle.judging.specs.Source.{Gives, GivesWhole};
+ghost use Rattle.devices.specs.Sink.{HoldsBeginning};
+ghost use Rattle.devices.specs.Source.{Gives, GivesWhole};
 ghost use Rattle.playing.specs.Plays.{IsCaused, IsStated, failures_of};
 
 use crate::fault::PlayFault;
-use judging::{Sink, Source, read_text, write_whole};
+use devices::{Sink, Source, read_text, write_whole};
 use scenario::Scenario;
 use scenario_text::read_scenario;
 use std::alloc::Global;

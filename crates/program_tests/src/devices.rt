@@ -1,11 +1,11 @@
 //! `judge` over devices of the test's, each of which fails at one of its calls.
 
 ghost use Rattle.std.specs.Prelude.{◌<◌, Some};
-ghost use Rattle.judging.specs.Sink.{prepared_room};
+ghost use Rattle.devices.specs.Sink.{prepared_room};
 
 use crate::runtime::TestFile;
 use checker::Verdict;
-use judging::{FileSource, WriteError};
+use devices::{FileSource, WriteError};
 use scenarios::{JudgeFault, Sink, judge};
 use std::alloc::{AllocError, Global};
 use std::io::ErrorKind;

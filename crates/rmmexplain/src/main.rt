@@ -6,9 +6,9 @@
 mod words;
 
 use crate::words::{Texts, Words, words_given};
+use checking::ends_with;
 use explain::{explain, explain_run, report};
 use explain_page::append_page;
-use judging::ends_with;
 use std::alloc::AllocError;
 use std::io::{ErrorKind, Write};
 use std::process::ExitCode;

@@ -3,7 +3,7 @@ use Rattle.std.specs.Prelude.{◌≡◌, ◌≢◌, ◌⊎◌, ⊤, ℕ, List, c
 use Rattle.std.specs.Borrow.{Bor}
 use Rattle.checking.specs.Faults.{check_status}
 use Rattle.checking.specs.declared.fault.CheckFault.TheVariants as of_check
-use Rattle.judging.specs.declared.fault.Fault.TheVariants as of_device
+use Rattle.checking.specs.declared.fault.Fault.TheVariants as of_device
 use Rattle.playing.specs.declared.fault.PlayFault.{PlayFault}
 use Rattle.playing.specs.declared.fault.PlayFault.TheVariants as of_play
 use Rattle.program_words.specs.declared.words.Request.{Request}

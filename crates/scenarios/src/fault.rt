@@ -4,8 +4,7 @@ ghost use Rattle.std.specs.Prelude.{◌≡◌, Some};
 ghost use Rattle.scenarios.specs.Faults.{run_line, scenario_line, words_fault};
 ghost use Rattle.scenarios.specs.declared.fault.ProgramFault.TheVariants.{Check};
 
-use checking::CheckFault;
-use judging::Fault;
+use checking::{CheckFault, Fault};
 use program_words::WordsFault;
 use scenario_text::ScenarioFault;
 use std::fmt;

@@ -8,5 +8,6 @@
 mod fault;
 mod program;
 
-pub use judging::{JudgeFault, Paths, Sink, Source, judge};
+pub use checking::{JudgeFault, Paths, judge};
+pub use devices::{Sink, Source};
 pub use program::run;

@@ -1,13 +1,13 @@
 //! The program over any runtime: words, files, the output, the exit status.
 
 ghost use Rattle.std.specs.Prelude.{◌≡◌, ◌≤◌, Ok, IfOk, IfErr, map, string_bytes};
-ghost use Rattle.judging.specs.Ending.{status_of};
+ghost use Rattle.checking.specs.Ending.{status_of};
 ghost use Rattle.scenarios.specs.Faults.{fault_status, play_fault, run_status, scenario_status, EndsThreads, EndsTurns, HasCause};
 
 use crate::fault::{ProgramFault, RunFault};
 use checker::Verdict;
-use checking::{CheckFault, check_files, end_check, opened, words_of};
-use judging::{Fault, FileSource, OutputSink, Paths};
+use checking::{CheckFault, Fault, Paths, check_files, end_check, opened, words_of};
+use devices::{FileSource, OutputSink};
 use playing::{PlayFault, play_threads, play_turns};
 use program_words::{Request, request_given};
 use scenario_text::ScenarioFault;

@@ -1,0 +1,36 @@
+-- How a judgement ends: its exit status, and its line on standard error where it has one. This project's own.
+use Rattle.std.specs.Prelude.{ℕ, List, ◌++◌, Option, None, Some, Result, Ok, Err, codes}
+use Rattle.rmm_spec.specs.declared.verdict.Verdict.{Verdict}
+use Rattle.rmm_spec.specs.declared.verdict.Verdict.TheVariants as verdict
+use Rattle.checking.specs.declared.fault.Fault.{Fault}
+use Rattle.checking.specs.declared.fault.Fault.TheVariants as fault
+use Rattle.checking.specs.declared.fault.Paths.{Paths}
+use Rattle.checking.specs.declared.judgement.JudgeFault.{JudgeFault}
+use Rattle.checking.specs.declared.judgement.JudgeFault.TheVariants as judge_fault
+
+abbrev pub status_of : Result Verdict Fault → ℕ
+status_of (Ok (verdict.Yes count)) = 0
+status_of (Ok (verdict.No step why)) = 1
+status_of (Ok (verdict.HistoryFault line)) = 2
+status_of (Ok (verdict.CertificateFault line)) = 2
+status_of (Err (fault.CannotRead path)) = 3
+status_of (Err fault.CannotWrite) = 3
+status_of (Err fault.NoMemory) = 3
+
+-- without its newline
+abbrev pub fault_line : Fault → List ℕ
+fault_line (fault.CannotRead path) = codes "rmmcheck: cannot read " ++ path.now
+fault_line fault.CannotWrite = codes "rmmcheck: cannot write"
+fault_line fault.NoMemory = codes "rmmcheck: no memory"
+
+-- a verdict has no line there, and a fault has its own
+abbrev pub error_line : Result Verdict Fault → Option (List ℕ)
+error_line (Ok judged) = None
+error_line (Err failed) = Some (fault_line failed)
+
+-- what a fault of the judgement is, for the files at two paths
+abbrev pub fault_at : Paths → JudgeFault → Fault
+fault_at paths judge_fault.ReadHistory = fault.CannotRead paths.history
+fault_at paths judge_fault.ReadCertificate = fault.CannotRead paths.certificate
+fault_at paths judge_fault.Write = fault.CannotWrite
+fault_at paths judge_fault.NoMemory = fault.NoMemory

@@ -1,0 +1,43 @@
+//! What takes a text in pieces, and how a source is read to its end by it.
+
+ghost use Rattle.std.specs.Prelude.{◌≡◌, ℕ, ◌+◌, List, [], ◌++◌, OnOk, IfSome};
+ghost use Rattle.devices.specs.Source.{Gives, read_failures};
+ghost use Rattle.devices.specs.declared.source.ReadError.TheVariants.{NoMemory};
+
+use crate::source::{MOST_PIECE, ReadError, Source};
+use std::alloc::AllocError;
+
+impl From<AllocError> for ReadError {
+    ghost from_gives = { λ _ error. error ≡ NoMemory };
+
+    fn from(_error: AllocError) -> ReadError {
+        ReadError::NoMemory
+    }
+}
+
+/// What takes a text in pieces, behind another one that was read before.
+pub trait Taker {
+    /// Behind the first text it has taken the second.
+    ghost has_taken: { Self → List ℕ → List ℕ → Type 0 };
+
+    fn take(&mut self, piece: &[u8]) -> Result<(), AllocError>
+        ensures { OnOk result ((before text : List ℕ) → has_taken self.old before text → has_taken self.new before (text ++ piece.now)) };
+}
+
+/// Reads a source to its end, and hands each piece on.
+pub fn read_whole<S: Source, T: Taker>(source: &mut S, taker: &mut T) -> Result<(), ReadError>
+    ensures read { (text : List ℕ) × (Gives S.gives source.old text source.new
+        × OnOk result (IfSome (S.left source.old) (λ whole. text ≡ whole)
+        × ((before : List ℕ) → T.has_taken taker.old before [] → T.has_taken taker.new before text))) }
+    ensures end { OnOk result (S.is_ended source.new) }
+    ensures failures { S.failures source.new ≡ S.failures source.old + read_failures result }
+{
+    let mut piece = [0; MOST_PIECE];
+    loop {
+        let count = source.read_more(&mut piece)?;
+        if count == 0 {
+            return Ok(());
+        }
+        taker.take(&piece[..count])?;
+    }
+}

@@ -1,0 +1,31 @@
+//! A source's whole text, which is kept.
+
+ghost use Rattle.std.specs.Prelude.{◌≡◌, ℕ, ◌+◌, List, OnOk, IfOk};
+ghost use Rattle.devices.specs.Source.{Gives, GivesWhole, read_failures};
+
+use crate::source::{ReadError, Source};
+use crate::taker::{Taker, read_whole};
+use std::alloc::{AllocError, Global};
+
+/// Keeps all that it takes.
+impl Taker for Vec<u8> {
+    ghost use Rattle.std.specs.Prelude.{◌≡◌};
+
+    ghost has_taken = { λ kept _ text. kept.items ≡ text };
+
+    fn take(&mut self, piece: &[u8]) -> Result<(), AllocError> {
+        self.extend_from_slice(piece)
+    }
+}
+
+/// Reads a source to its end, and returns its text.
+pub fn read_text<S: Source>(alloc: Global, source: &mut S) -> Result<Vec<u8>, ReadError>
+    ensures read { (text : List ℕ) × Gives S.gives source.old text source.new }
+    ensures whole { IfOk result (λ text. GivesWhole S.gives (S.left source.old) source.old source.new text.items) }
+    ensures end { OnOk result (S.is_ended source.new) }
+    ensures failures { S.failures source.new ≡ S.failures source.old + read_failures result }
+{
+    let mut text = Vec::new(alloc);
+    read_whole(source, &mut text)?;
+    Ok(text)
+}

@@ -1,4 +1,0 @@
-mod Written
-mod ReadSoFar
-mod HistoryTexts
-mod KnownReads
