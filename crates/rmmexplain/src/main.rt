@@ -9,64 +9,13 @@ use crate::words::{Texts, Words, words_given};
 use checking::ends_with;
 use explain::{explain, explain_run, report};
 use explain_page::append_page;
-use std::alloc::AllocError;
-use std::io::{ErrorKind, Write};
+use file_programs::{Fault, bytes_of, end, print};
+use std::fs;
 use std::process::ExitCode;
 use std::rt::{Env, Files};
-use std::{fmt, fs, io};
-
-/// Why nothing, or not all, was printed.
-#[derive(Debug, Drop)]
-enum Fault {
-    /// The words are neither two paths, with `--html FILE` before them or not, nor `--scenario FILE`.
-    Arguments,
-    /// A file can't be opened, or not be read to its end.
-    CannotRead(String),
-    /// Standard output, or the page's file, didn't take the whole report.
-    CannotWrite,
-    NoMemory,
-}
-
-impl From<AllocError> for Fault {
-    fn from(_refused: AllocError) -> Fault {
-        Fault::NoMemory
-    }
-}
-
-impl Fault {
-    fn status(&self) -> u8 {
-        match self {
-            Fault::Arguments => 2,
-            Fault::CannotRead(_) | Fault::CannotWrite | Fault::NoMemory => 3,
-        }
-    }
-}
-
-impl fmt::Display for Fault {
-    fn fmt<W: fmt::Write>(&self, f: &mut fmt::Formatter<W>) -> fmt::Result {
-        match self {
-            Fault::Arguments => f.write_str("rmmexplain: arguments"),
-            Fault::CannotRead(path) => write!(f, "rmmexplain: cannot read {path}"),
-            Fault::CannotWrite => f.write_str("rmmexplain: cannot write"),
-            Fault::NoMemory => f.write_str("rmmexplain: no memory"),
-        }
-    }
-}
 
 fn main(rt: HostRuntime) -> ExitCode {
-    ExitCode::from(run(&rt))
-}
-
-// The exit status, at most 3. Where a fault's line can't be written, the status alone reports it.
-fn run<R: Env + Files + Print + Eprint + AllocGlobal>(rt: &R) -> u8 {
-    match told(rt) {
-        Ok(status) => status,
-        Err(fault) => {
-            let status = fault.status();
-            let _ = rt.eprintln(fault);
-            status
-        }
-    }
+    ExitCode::from(end(&rt, "rmmexplain", told(&rt)))
 }
 
 fn told<R: Env + Files + Print + AllocGlobal>(rt: &R) -> Result<u8, Fault> {
@@ -111,13 +60,6 @@ fn print_report<R: Print + AllocGlobal>(
     Ok(ends_with(Ok(explanation.verdict())).status)
 }
 
-fn print<R: Print>(rt: &R, text: &[u8]) -> Result<(), Fault> {
-    match io::writer(rt).write_all(text) {
-        Ok(()) => Ok(()),
-        Err(_) => Err(Fault::CannotWrite),
-    }
-}
-
 // The page is whole before its file is opened.
 fn write_page<R: Files + AllocGlobal>(
     rt: &R,
@@ -131,13 +73,5 @@ fn write_page<R: Files + AllocGlobal>(
     match fs::write(rt, path.as_str(), page.as_slice()) {
         Ok(()) => Ok(ends_with(Ok(told.explanation.verdict())).status),
         Err(_) => Err(Fault::CannotWrite),
-    }
-}
-
-fn bytes_of<R: Files + AllocGlobal>(rt: &R, path: String) -> Result<Vec<u8>, Fault> {
-    match fs::read(rt, path.as_str()) {
-        Ok(bytes) => Ok(bytes),
-        Err(error) if error.kind() == ErrorKind::OutOfMemory => Err(Fault::NoMemory),
-        Err(_) => Err(Fault::CannotRead(path)),
     }
 }

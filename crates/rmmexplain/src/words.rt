@@ -1,6 +1,6 @@
 //! The words behind the program's name.
 
-use crate::Fault;
+use file_programs::Fault;
 use std::alloc::AllocError;
 use std::env;
 use std::io::ErrorKind;

@@ -9,66 +9,15 @@ use crate::explaining::append_longest;
 use crate::words::{Asked, words_given};
 use checker::{Verdict, verdict_text};
 use checking::ends_with;
+use file_programs::{Fault, bytes_of, end, print};
 use finding::{Found, find};
 use history::HistoryFault;
 use std::alloc::{AllocError, Global};
-use std::io::{ErrorKind, Write};
 use std::process::ExitCode;
 use std::rt::{Env, Files};
-use std::{fmt, fs, io};
-
-/// Why nothing, or not all, was printed.
-#[derive(Debug, Drop)]
-enum Fault {
-    /// The words aren't a path, behind a number of offers, `--explain`, both or neither.
-    Arguments,
-    /// The file can't be opened, or not be read to its end.
-    CannotRead(String),
-    /// Standard output didn't take all.
-    CannotWrite,
-    NoMemory,
-}
-
-impl From<AllocError> for Fault {
-    fn from(_refused: AllocError) -> Fault {
-        Fault::NoMemory
-    }
-}
-
-impl Fault {
-    fn status(&self) -> u8 {
-        match self {
-            Fault::Arguments => 2,
-            Fault::CannotRead(_) | Fault::CannotWrite | Fault::NoMemory => 3,
-        }
-    }
-}
-
-impl fmt::Display for Fault {
-    fn fmt<W: fmt::Write>(&self, f: &mut fmt::Formatter<W>) -> fmt::Result {
-        match self {
-            Fault::Arguments => f.write_str("rmmfind: arguments"),
-            Fault::CannotRead(path) => write!(f, "rmmfind: cannot read {path}"),
-            Fault::CannotWrite => f.write_str("rmmfind: cannot write"),
-            Fault::NoMemory => f.write_str("rmmfind: no memory"),
-        }
-    }
-}
 
 fn main(rt: HostRuntime) -> ExitCode {
-    ExitCode::from(run(&rt))
-}
-
-// The exit status, at most 3. Where a fault's line can't be written, the status alone reports it.
-fn run<R: Env + Files + Print + Eprint + AllocGlobal>(rt: &R) -> u8 {
-    match found(rt) {
-        Ok(status) => status,
-        Err(fault) => {
-            let status = fault.status();
-            let _ = rt.eprintln(fault);
-            status
-        }
-    }
+    ExitCode::from(end(&rt, "rmmfind", found(&rt)))
 }
 
 fn found<R: Env + Files + Print + AllocGlobal>(rt: &R) -> Result<u8, Fault> {
@@ -112,20 +61,5 @@ fn append_answer(
             text.extend_from_slice(b"gave up\n")?;
             Ok(3)
         }
-    }
-}
-
-fn print<R: Print>(rt: &R, text: &[u8]) -> Result<(), Fault> {
-    match io::writer(rt).write_all(text) {
-        Ok(()) => Ok(()),
-        Err(_) => Err(Fault::CannotWrite),
-    }
-}
-
-fn bytes_of<R: Files + AllocGlobal>(rt: &R, path: String) -> Result<Vec<u8>, Fault> {
-    match fs::read(rt, path.as_str()) {
-        Ok(bytes) => Ok(bytes),
-        Err(error) if error.kind() == ErrorKind::OutOfMemory => Err(Fault::NoMemory),
-        Err(_) => Err(Fault::CannotRead(path)),
     }
 }

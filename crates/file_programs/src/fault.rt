@@ -1,0 +1,78 @@
+//! Why a program printed nothing, or not all, and how it ends then.
+
+ghost use Rattle.std.specs.Prelude.{◌≡◌, ◌≤◌, ◌++◌, Some, IfOk, IfErr};
+ghost use Rattle.file_programs.specs.Ends.{status_of, words_of};
+ghost use Rattle.file_programs.specs.declared.fault.Fault.TheVariants.{NoMemory};
+
+use std::alloc::AllocError;
+use std::fmt;
+
+/// What ended the program.
+#[derive(Drop)]
+pub enum Fault {
+    /// The words ask for nothing that it does.
+    Arguments,
+    /// The file at this path can't be opened, or not be read to its end.
+    CannotRead(String),
+    /// Standard output, or a file that is written, didn't take the whole text.
+    CannotWrite,
+    /// The allocator refused memory.
+    NoMemory,
+}
+
+impl From<AllocError> for Fault {
+    ghost from_gives = { λ _ fault. fault ≡ NoMemory };
+
+    fn from(_refused: AllocError) -> Fault {
+        Fault::NoMemory
+    }
+}
+
+impl Fault {
+    fn status(&self) -> u8
+        ensures { result ≡ status_of self.now }
+    {
+        match self {
+            Fault::Arguments => 2,
+            Fault::CannotRead(_) | Fault::CannotWrite | Fault::NoMemory => 3,
+        }
+    }
+}
+
+// A program's line for a fault.
+#[derive(Drop)]
+struct Line<'a> {
+    program: &'a str,
+    fault: &'a Fault,
+}
+
+impl fmt::Display for Line<'_> {
+    ghost output = { λ line. Some (line.program.now ++ words_of line.fault.now) };
+
+    fn fmt<W: fmt::Write>(&self, f: &mut fmt::Formatter<W>) -> fmt::Result {
+        let program = self.program;
+        match self.fault {
+            Fault::Arguments => write!(f, "{program}: arguments"),
+            Fault::CannotRead(path) => write!(f, "{program}: cannot read {path}"),
+            Fault::CannotWrite => write!(f, "{program}: cannot write"),
+            Fault::NoMemory => write!(f, "{program}: no memory"),
+        }
+    }
+}
+
+/// The exit status of the program of that name: its own, or that of its fault, whose line goes to standard error.
+pub fn end<R: Eprint>(rt: &R, program: &str, outcome: Result<u8, Fault>) -> u8
+    ensures ok { IfOk outcome (λ status. result ≡ status) }
+    ensures err { IfErr outcome (λ fault. result ≡ status_of fault) }
+{
+    match outcome {
+        Ok(status) => status,
+        Err(fault) => {
+            let _ = rt.eprintln(Line {
+                program,
+                fault: &fault,
+            });
+            fault.status()
+        }
+    }
+}
