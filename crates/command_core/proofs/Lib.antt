@@ -18,6 +18,7 @@ pub mod Stretches
 pub mod Made
 pub mod Walked
 pub mod Ready
+pub mod Foreseen
 pub mod Steps
 pub mod Puts
 pub mod PlainCells

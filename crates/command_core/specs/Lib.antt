@@ -12,6 +12,7 @@ pub mod Plan
 pub mod Sides
 pub mod Furthest
 pub mod Decided
+pub mod Foreseen
 pub mod Next
 pub mod Rooms
 pub mod NewCells

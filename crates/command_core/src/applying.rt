@@ -32,9 +32,20 @@ pub fn apply<H: Held>(
     ensures side { side_of side.new ≡ side_changed (known_cell (H.cells held.old)) (side_of side.old) change }
     ensures place { place_of place.new ≡ spec.new_place (H.cells held.old) (place_of place.old) change }
 {
-    *place = place_after(held, *place, &change);
-    change_side(held, side, &change);
-    put_cells(held, &change, room);
+    apply_aside(held, side, &change);
+    apply_held(held, place, &change, room);
+}
+
+/// Makes the change of what is held and of the CPU's place, and leaves the side table to `apply_aside`, which comes first.
+pub fn apply_held<H: Held>(held: &mut H, place: &mut CpuPlace, change: &Change, room: Room)
+    requires held { AreHeld (H.cells held.old) change.now }
+    requires fits { IsTrue (spec.fits_cells (H.cells held.old) change.now) }
+    requires room { IsRoomFor change.now room }
+    ensures cells { H.cells held.new ≡ replaced_all (H.cells held.old) (new_cells (H.cells held.old) change.now) }
+    ensures place { place_of place.new ≡ spec.new_place (H.cells held.old) (place_of place.old) change.now }
+{
+    *place = place_after(held, *place, change);
+    put_cells(held, change, room);
 }
 
 // Where the CPU is after the change.
@@ -71,9 +82,9 @@ fn place_with_rec(cell: Option<&Cell>, place: CpuPlace, change: &RecChange) -> C
     }
 }
 
-// What the change makes of the side table: of the VMIDs where a realm is made or destroyed, of the counts where a REC is.
+/// Makes the change of the side table: of the VMIDs where a realm is made or destroyed, of the counts where a REC is.
 #[tactic(auto, unfolding(shape_laws::specs::Whole::side_changed, realm_desc::specs::View::realm_record, realm_desc::specs::View::rec_record))]
-fn change_side<H: Held>(held: &H, side: &mut Side, change: &Change)
+pub fn apply_aside<H: Held>(held: &H, side: &mut Side, change: &Change)
     requires { IsTrue (can_count 4096 (side_of side.old) change.now) }
     ensures { side_of side.new ≡ side_changed (known_cell (H.cells held.now)) (side_of side.old) change.now }
 {

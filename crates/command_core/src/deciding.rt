@@ -1,9 +1,10 @@
 //! What is answered to a command where what is held settles it.
 
-ghost use Rattle.std.specs.Prelude.{◌≡◌, false, IsTrue, option_map, option_copied};
+ghost use Rattle.std.specs.Prelude.{◌≡◌, false, IsTrue, Some, option_map, option_copied};
 ghost use Rattle.rmm_spec.specs.Call.{call_of};
-ghost use Rattle.command_core.specs.Changed.{hold_of, CanChange, CanMake, CanMakeAnswer, Decides, IsFurthest};
+ghost use Rattle.command_core.specs.Changed.{hold_of, CanChange, CanMake, CanMakeAnswer, Decides, IsFurthest, given_of};
 ghost use Rattle.command_core.specs.Decided as spec;
+ghost use Rattle.command_core.specs.Foreseen.{side_or_unlisted, unlisted, IsDecision, change_of};
 ghost use Rattle.command_core.specs.Seen.{place_of};
 ghost use Rattle.command_core.specs.Settled.{is_settled};
 ghost use Rattle.command_core.specs.Sides.{side_of};
@@ -39,14 +40,44 @@ pub fn decide<H: Held>(
     ensures misplaced { IsTrue (is_unshaped config.now (call_of command.now) (place_of place.now) (H.cells held.now))
         → (result.0 ≡ Reply.Misplaced) × (result.1 ≡ Change.Unchanged) }
 {
-    match settled_answer(config, &command.call(), cpu, place, held, side) {
+    match settled_answer(config, &command.call(), cpu, place, held, Some(side)) {
         Ok(Accepted::Done { words, change }) => (Reply::Ok(words), change),
         Ok(Accepted::Reaches(_)) => unreachable!(),
         Err(refusal) => (refusal, Change::Unchanged),
     }
 }
 
-// The answer of what is settled.
+/// What `decide` decides, as one answer: a refusal, or what is done.
+pub fn answer<H: Held>(
+    config: &Config,
+    command: &Command,
+    cpu: u8,
+    place: &CpuPlace,
+    held: &H,
+    side: &Side,
+) -> Result<Accepted, Reply>
+    requires settled { IsTrue (is_settled config.now (call_of command.now) (place_of place.now) (H.cells held.now)) }
+    ensures decides { IsDecision config.now cpu command.now
+        (hold_of (H.cells held.now) (side_of side.now) (place_of place.now)) (given_of result) (change_of result) }
+{
+    settled_answer(config, &command.call(), cpu, place, held, Some(side))
+}
+
+/// The answer of a side table that lists nothing, while the side table isn't at hand. `bears_out` tells whether that answers so too.
+pub fn foresee<H: Held>(
+    config: &Config,
+    command: &Command,
+    cpu: u8,
+    place: &CpuPlace,
+    held: &H,
+) -> Result<Accepted, Reply>
+    requires settled { IsTrue (is_settled config.now (call_of command.now) (place_of place.now) (H.cells held.now)) }
+    ensures foreseen { result ≡ spec.settled_answer config.now cpu (call_of command.now) (H.cells held.now) unlisted (place_of place.now) }
+{
+    settled_answer(config, &command.call(), cpu, place, held, None)
+}
+
+// The answer of what is settled, by the side table or by one that lists nothing.
 #[tactic(auto, unfolding(crate::specs::Decided::settled_answer))]
 fn settled_answer<'a, H: Held>(
     config: &'a Config,
@@ -54,22 +85,19 @@ fn settled_answer<'a, H: Held>(
     cpu: u8,
     place: &CpuPlace,
     held: &'a H,
-    side: &'a Side,
+    side: Option<&'a Side>,
 ) -> Result<Accepted, Reply>
     requires { IsTrue (is_settled config.now call.now (place_of place.now) (H.cells held.now)) }
-    ensures answer { result ≡ spec.settled_answer config.now cpu call.now (H.cells held.now) (side_of side.now) (place_of place.now) }
-    ensures makes { CanMakeAnswer (hold_of (H.cells held.now) (side_of side.now) (place_of place.now)) result }
+    ensures answer { result ≡ spec.settled_answer config.now cpu call.now (H.cells held.now)
+        (side_or_unlisted (option_map side_of (option_copied side.entry))) (place_of place.now) }
+    ensures makes { CanMakeAnswer (hold_of (H.cells held.now) (side_or_unlisted (option_map side_of (option_copied side.entry))) (place_of place.now)) result }
 {
-    let sight = HeldSight {
-        config,
-        held,
-        side: Some(side),
-    };
+    let sight = HeldSight { config, held, side };
     if is_unshaped(&sight, call, place) {
         return Err(Reply::Misplaced);
     }
     let answer = rows_answer(&sight, call, cpu, place);
-    made_answer(&sight, config.granules(), side, answer)
+    made_answer(&sight, config.granules(), answer)
 }
 
 // What the command's rows answer in the state that the held cells tell of.
@@ -93,11 +121,11 @@ fn rows_answer<H: Held>(
 fn made_answer<H: Held>(
     sight: &HeldSight<'_, H>,
     granules: u64,
-    side: &Side,
     answer: Result<Accepted, Reply>,
 ) -> Result<Accepted, Reply>
     requires { granules ≡ sight.now.config.now.granules }
-    ensures { result ≡ spec.made_answer sight.now.config.now (H.cells sight.now.held.now) (side_of side.now) answer }
+    ensures { result ≡ spec.made_answer sight.now.config.now (H.cells sight.now.held.now)
+        (side_or_unlisted (option_map side_of (option_copied sight.now.side))) answer }
 {
     let (words, change) = match answer {
         Ok(Accepted::Done { words, change }) => (words, change),
@@ -109,7 +137,7 @@ fn made_answer<H: Held>(
         }
         Err(refusal) => return Err(refusal),
     };
-    if can_make(sight.config, granules, sight.held, side, &change) {
+    if can_make(sight.config, granules, sight.held, sight.side, &change) {
         Ok(Accepted::Done { words, change })
     } else {
         Err(Reply::Misplaced)

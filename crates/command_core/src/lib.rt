@@ -6,6 +6,7 @@
 #![tactic(auto)]
 
 mod applying;
+mod bearing_out;
 mod change_room;
 mod deciding;
 mod furthest;
@@ -29,9 +30,10 @@ mod unshaped;
 mod walks;
 mod ways;
 
-pub use applying::apply;
+pub use applying::{apply, apply_aside, apply_held};
+pub use bearing_out::bears_out;
 pub use change_room::Room;
-pub use deciding::decide;
+pub use deciding::{answer, decide, foresee};
 pub use granule_cells::{Cell, CpuPlace, Descriptor, Side};
 pub use held::Held;
 pub use laws::{
@@ -42,5 +44,5 @@ pub use next::Next;
 pub use plain_held::PlainHeld;
 pub use planning::next_lock;
 pub use rmm_spec::Change;
-pub use rooms::room;
+pub use rooms::{room, room_for};
 pub use serving::served;

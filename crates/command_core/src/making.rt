@@ -6,6 +6,7 @@ ghost use Rattle.rmm_spec.specs.Walk.{table_size};
 ghost use Rattle.walk_laws.specs.SeenState.{table_placed};
 ghost use Rattle.walk_laws.specs.TableCells as tables;
 ghost use Rattle.command_core.specs.Changed as spec;
+ghost use Rattle.command_core.specs.Foreseen.{side_or_unlisted};
 ghost use Rattle.command_core.specs.Seen as seen;
 ghost use Rattle.command_core.specs.Seen.{cell_of};
 ghost use Rattle.command_core.specs.Sides.{side_of};
@@ -228,15 +229,23 @@ fn fits_cells<H: Held>(held: &H, change: &Change) -> bool
     }
 }
 
+// How many RECs belong to a realm. A side table that isn't at hand lists none.
+fn rec_count(side: Option<&Side>, rd: u64) -> u64
+    ensures { result ≡ (side_or_unlisted (option_map side_of (option_copied side.entry))).rec_counts rd }
+{
+    match side {
+        Some(side) => side.rec_count(Pa::new(rd)),
+        None => 0,
+    }
+}
+
 // Whether a REC that is made can be counted.
-fn can_count(config: &Config, granules: u64, side: &Side, change: &Change) -> bool
+fn can_count(config: &Config, granules: u64, side: Option<&Side>, change: &Change) -> bool
     requires { granules ≡ config.now.granules }
-    ensures { result ≡ spec.can_count config.now.granules (side_of side.now) change.now }
+    ensures { result ≡ spec.can_count config.now.granules (side_or_unlisted (option_map side_of (option_copied side.entry))) change.now }
 {
     match change {
-        Change::RecMade { rd, .. } => {
-            is_granule(config, *rd) && side.rec_count(Pa::new(*rd)) <= granules
-        }
+        Change::RecMade { rd, .. } => is_granule(config, *rd) && rec_count(side, *rd) <= granules,
         _ => true,
     }
 }
@@ -247,11 +256,11 @@ pub(crate) fn can_make<H: Held>(
     config: &Config,
     granules: u64,
     held: &H,
-    side: &Side,
+    side: Option<&Side>,
     change: &Change,
 ) -> bool
     requires { granules ≡ config.now.granules }
-    ensures { result ≡ spec.can_make config.now (H.cells held.now) (side_of side.now) change.now }
+    ensures { result ≡ spec.can_make config.now (H.cells held.now) (side_or_unlisted (option_map side_of (option_copied side.entry))) change.now }
 {
     fits_cells(held, change) && can_count(config, granules, side, change)
 }

@@ -26,6 +26,14 @@ pub fn room(alloc: Global, _side: &mut Side, change: &Change) -> Result<Room, Al
     ensures ok { IfOk result (IsRoomFor change.now) }
     ensures only { OnErr result (IsTrue (makes_table change.now)) }
 {
+    room_for(alloc, change)
+}
+
+/// The same while the side table isn't at hand, which needs no memory.
+pub fn room_for(alloc: Global, change: &Change) -> Result<Room, AllocError>
+    ensures ok { IfOk result (IsRoomFor change.now) }
+    ensures only { OnErr result (IsTrue (makes_table change.now)) }
+{
     match *change {
         Change::RealmMade {
             rd,

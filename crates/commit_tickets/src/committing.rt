@@ -1,9 +1,8 @@
 //! A CPU commits a command on the cells that it holds.
 
-ghost use Rattle.std.specs.Prelude.{◌≡◌, ◌+◌, ◌<◌, ◌≤◌, [], ◌∷◌, ◌++◌, length, Some, None, Err, IsTrue, IfOk, IfErr, OnOk, OnErr};
+ghost use Rattle.std.specs.Prelude.{◌≡◌, ◌+◌, ◌<◌, ◌≤◌, [], ◌∷◌, ◌++◌, length, Some, None, Err, IsTrue, IfOk, IfErr, OnErr};
 ghost use Rattle.rmm_spec.specs.Call.{call_of};
 ghost use Rattle.rmm_spec.specs.Local.{LocalStep};
-ghost use Rattle.command_core.specs.Changed.{hold_of};
 ghost use Rattle.command_core.specs.Seen.{place_of};
 ghost use Rattle.command_core.specs.Settled.{is_settled};
 ghost use Rattle.command_core.specs.Sides.{side_of};
@@ -12,13 +11,15 @@ ghost use Rattle.commit_tickets.specs.declared.fault.CommitFault.TheVariants.{Di
 ghost use Rattle.commit_tickets.specs.Faults.{HasCause};
 ghost use Rattle.commit_tickets.specs.View.{entry, hold_with};
 
+use crate::draft::first_draft;
+use crate::entering::enter;
 use crate::fault::CommitFault;
-use crate::journal::{Journal, JournalEntry};
+use crate::journal::Journal;
+use crate::settling::settle;
 use crate::site::Site;
-use crate::token::{Committed, CpuToken};
-use command_core::{applied_decisions_are_local, apply, decide, room};
+use crate::token::CpuToken;
+use command_core::applied_decisions_are_local;
 use granule_lock::Hold;
-use rmi_view::copied_reply;
 use rmm_spec::{Command, Reply};
 use std::alloc::Global;
 
@@ -29,10 +30,11 @@ pub struct Done {
     pub reply: Reply,
 }
 
-/// Commits a command that what is held settles, as `next_lock` tells by Ready, by the token of its CPU. The reply is
-/// decided on the held cells and offered to the journal's books. Where they give it, the cells, the side table and the token's
-/// place make the step; where they don't, or memory is refused, or the journal has fewer entries than the token was told of,
-/// nothing changes but that the token keeps the fault. The ticket is at or past what the token was told of. It waits for nobody.
+/// Commits a command that what is held settles, as `next_lock` tells by Ready, by the token of its CPU: drafts it, enters it into
+/// the journal and settles it. The reply is decided on the held cells and offered to the journal's books. Where they give it, the
+/// cells, the side table and the token's place make the step; where they don't, or memory is refused, or the journal has fewer
+/// entries than the token was told of, nothing changes but that the token keeps the fault. The ticket is at or past what the token
+/// was told of. It waits for nobody.
 pub fn commit<S: Site>(
     alloc: Global,
     journal: &mut Journal<S>,
@@ -65,40 +67,16 @@ pub fn commit<S: Site>(
     ensures kept_hold { OnErr result (hold.new ≡ hold.old) }
 {
     applied_decisions_are_local();
-    let cpu = token.cpu;
-    if (journal.len() as u64) < token.seen {
-        token.fault = Some(CommitFault::Disagrees);
-        return Err(CommitFault::Disagrees);
+    let config = journal.config();
+    let mut draft = first_draft(alloc, &config, token, hold, command);
+    match enter(alloc, journal, token, hold, command, &mut draft) {
+        Ok(ticket) => {
+            let reply = settle(draft, token, hold);
+            Ok(Done { ticket, reply })
+        }
+        Err(fault) => {
+            draft.discard();
+            Err(fault)
+        }
     }
-    // what each `?` answers
-    token.fault = Some(CommitFault::NoMemory);
-    let (reply, change) = decide(
-        &journal.config,
-        command,
-        cpu,
-        &token.place,
-        hold,
-        &journal.side,
-    );
-    let room = room(alloc, &mut journal.side, &change)?;
-    journal.entries.reserve(1)?;
-    token.mine.reserve(1)?;
-    if !journal.books.offer(cpu, command, &reply)? {
-        token.fault = Some(CommitFault::Disagrees);
-        return Err(CommitFault::Disagrees);
-    }
-    token.fault = None;
-    apply(hold, &mut journal.side, &mut token.place, change, room);
-    journal.commits.add(&mut token.share, 1);
-    let ticket = journal.entries.len();
-    let recorded = copied_reply(&reply);
-    journal
-        .entries
-        .push_reserved(JournalEntry::of(cpu, command, recorded));
-    let listed = copied_reply(&reply);
-    token
-        .mine
-        .push_reserved(Committed::of(ticket, command, listed));
-    token.seen = journal.entries.len() as u64;
-    Ok(Done { ticket, reply })
 }

@@ -8,6 +8,8 @@
 
 mod audit;
 mod committing;
+mod draft;
+mod entering;
 mod fault;
 mod journal;
 mod listing;
@@ -15,13 +17,17 @@ mod meeting;
 mod numbers;
 mod opening;
 mod same;
+mod settling;
 mod site;
 mod token;
 
 pub use committing::{Done, commit};
+pub use draft::{Draft, first_draft};
+pub use entering::enter;
 pub use fault::CommitFault;
 pub use journal::{Journal, JournalEntry};
 pub use meeting::meet;
 pub use numbers::Numbers;
+pub use settling::settle;
 pub use site::Site;
 pub use token::{Committed, CpuToken};

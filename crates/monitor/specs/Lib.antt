@@ -1,5 +1,6 @@
 pub mod View
 pub mod Executed
+pub mod Entered
 pub mod Causes
 pub mod Cpus
 pub mod Closed

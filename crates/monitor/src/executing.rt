@@ -1,11 +1,14 @@
 //! A CPU executes a command.
 
-ghost use Rattle.std.specs.Prelude.{◌≡◌, ◌≤◌, ◌↔◌, true, false, [], IsTrue, IfOk, IfErr, OnErr, Err};
+ghost use Rattle.std.specs.Prelude.{◌≡◌, ◌≤◌, ◌↔◌, true, false, [], IsTrue, IfOk, IfErr, OnOk, OnErr, Err};
 ghost use Rattle.rmm_spec.specs.Call.{call_of};
 ghost use Rattle.rmm_spec.specs.CommandText.{IsCommand};
+ghost use Rattle.command_core.specs.Changed.{given_of};
 ghost use Rattle.command_core.specs.Seen.{place_of};
 ghost use Rattle.command_core.specs.Settled.{is_settled};
 ghost use Rattle.granule_lock.specs.HeldCells.{hold_cells};
+ghost use Rattle.commit_tickets.specs.Drafts.{IsDraft};
+ghost use Rattle.monitor.specs.Entered.{IsOwedBy, entered};
 ghost use Rattle.monitor.specs.Causes.{HadCause, FaultHadCause};
 ghost use Rattle.monitor.specs.Executed.{ArePaired, Leaves, FullAtSomeMoment, HasCalled, HasCommitted, HasFailed, IsPastSeen, returned, unreturned};
 ghost use Rattle.granule_lock.specs.Locked.{AreGranules};
@@ -14,7 +17,7 @@ ghost use Rattle.monitor.specs.declared.refused.Refused.TheVariants as refused;
 use crate::gate::Gate;
 use crate::monitor::Monitor;
 use crate::refused::Refused;
-use commit_tickets::{CommitFault, CpuToken, Done, Site, commit};
+use commit_tickets::{CommitFault, CpuToken, Done, Draft, Site, enter, first_draft, settle};
 use event_queue::CpuPass;
 use granule_lock::{Hold, free_all, lock_for};
 use rmi_view::{copied_command, copied_reply};
@@ -91,18 +94,18 @@ impl<S: Site> Monitor<S> {
         done
     }
 
-    // Commits a command that is called, on what is held, under the journal's lock. That the journal is then a run of this machine is what its
-    // size and its books show.
+    // Commits a command that is called, on what is held. Only its draft's entry takes the journal's lock: what is entered is drafted
+    // before, and settled after.
     fn commit_held<R: Wait>(
         &self,
         rt: &R,
         alloc: Global,
         token: &mut CpuToken<S>,
-        _pass: &CpuPass,
+        pass: &CpuPass,
         hold: &mut Hold,
         command: &Command,
     ) -> Result<Done, CommitFault>
-        requires called { HasCalled token.old command.now _pass.now }
+        requires called { HasCalled token.old command.now pass.now }
         requires granules { AreGranules self.now.config.granules (hold_cells hold.old) }
         requires settled { IsTrue (is_settled self.now.config (call_of command.now) (place_of token.old.place) (hold_cells hold.old)) }
         ensures granules { AreGranules self.now.config.granules (hold_cells hold.new) }
@@ -111,14 +114,49 @@ impl<S: Site> Monitor<S> {
         ensures fault { IfErr result (λ fault. HasFailed token.old fault token.new) }
         ensures cause { IfErr result (λ fault. HadCause self.now.config fault command.now token.old) }
     {
+        let mut draft = first_draft(alloc, &self.config, token, hold, command);
+        match self.enter_locked(rt, alloc, token, pass, hold, command, &mut draft) {
+            Ok(ticket) => {
+                let reply = settle(draft, token, hold);
+                Ok(Done { ticket, reply })
+            }
+            Err(fault) => {
+                draft.discard();
+                Err(fault)
+            }
+        }
+    }
+
+    // Enters a draft under the journal's lock. That the journal is then a run of this machine is what its size and its books show.
+    fn enter_locked<R: Wait>(
+        &self,
+        rt: &R,
+        alloc: Global,
+        token: &mut CpuToken<S>,
+        _pass: &CpuPass,
+        hold: &Hold,
+        command: &Command,
+        draft: &mut Draft,
+    ) -> Result<usize, CommitFault>
+        requires called { HasCalled token.old command.now _pass.now }
+        requires granules { AreGranules self.now.config.granules (hold_cells hold.now) }
+        requires settled { IsTrue (is_settled self.now.config (call_of command.now) (place_of token.old.place) (hold_cells hold.now)) }
+        requires draft { IsDraft self.now.config command.now token.old (hold_cells hold.now) draft.old }
+        ensures token { IfOk result (λ ticket. token.new ≡ entered token.old command.now ticket (given_of draft.new.answer) token.new.room) }
+        ensures owed { OnOk result (IsOwedBy self.now.config command.now token.old (hold_cells hold.now) draft.new) }
+        ensures told { IfOk result (λ ticket. token.old.seen ≤ ticket) }
+        ensures fault { IfErr result (λ fault. HasFailed token.old fault token.new) }
+        ensures cause { IfErr result (λ fault. HadCause self.now.config fault command.now token.old) }
+        ensures kept { OnErr result (draft.new.is_entered ≡ false) }
+    {
         let mut locked = self.journal.enter(rt);
         let journal = &mut **locked;
         let _size = journal.config();
         let _books = journal.books();
-        let done = commit(alloc, journal, token, hold, command);
+        let entered = enter(alloc, journal, token, hold, command, draft);
         drop(locked);
         self.journal.leave();
-        done
+        entered
     }
 
     // Records the return of what was done. Where the queue is full, the CPU is stopped.

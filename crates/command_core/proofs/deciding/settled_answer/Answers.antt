@@ -1,5 +1,7 @@
 use Rattle.std.proofs.Common.{sym, subst}
+use Rattle.std.specs.Prelude.{option_map, option_copied}
 use Rattle.command_core.specs.Changed.{hold_of, CanMakeAnswer}
+use Rattle.command_core.specs.Foreseen.{side_or_unlisted}
 use Rattle.command_core.specs.Seen.{place_of}
 use Rattle.command_core.specs.Sides.{side_of}
 use Rattle.command_core.proofs.Ready.{answer-makes}
@@ -7,5 +9,5 @@ use Rattle.command_core.proofs.deciding.settled_answer.Goals as goal
 
 pub returns-clause-makes : goal.returns-clause-makes
 returns-clause-makes g c =
-    let hold = hold_of (g.H.Held.cells c.args.held.now) (side_of c.args.side.now) (place_of c.args.place.now) in
+    let hold = hold_of (g.H.Held.cells c.args.held.now) (side_or_unlisted (option_map side_of (option_copied c.args.side))) (place_of c.args.place.now) in
     subst (CanMakeAnswer hold) (sym c.made_answer.ensures) (answer-makes c.args.config.now hold c.rows_answer-answer.result c.granules.ensures.limits.most_granules)

@@ -1,14 +1,7 @@
-use Rattle.std.proofs.Common.{sym, ap, ◌∙◌}
-use Rattle.rmm_spec.specs.HistoryText.{Config}
-use Rattle.granule_lock.specs.HeldCells.{hold_cells}
-use Rattle.monitor.specs.View.{MonitorView}
-use Rattle.monitor.proofs.Causes.{fault-had_cause}
+use Rattle.monitor.proofs.Causes.{had_cause-less}
 use Rattle.monitor.proofs.monitor.Monitor.commit_held.Goals as goal
 
-pub returns-clause-cause : goal.returns-clause-cause
-returns-clause-cause g c =
-    fault-had_cause c.args.self.now.config c.args.command.now c.args.token.now c.deref_mut-journal.result.now _ (hold_cells c.args.hold.now)
-    g.S.Site.config c.commit-done.result
-    (sym (ap (λ (m : MonitorView). m.config) c.self.view_is) ∙ c.self.invariant.1)
-    (sym c.config-size.ensures.config ∙ c.config-size.ensures.site)
-    c.books-books.ensures c.requires.granules c.requires.settled c.commit-done.ensures.cause
+pub returns-in-Err-clause-cause : goal.returns-in-Err-clause-cause
+returns-in-Err-clause-cause g c =
+    had_cause-less c.args.self.now.config c.in-Err.fault c.args.command.now c.args.token.now c.first_draft-draft.new.token
+    c.first_draft-draft.ensures.token c.first_draft-draft.ensures.room c.in-Err.ensures.cause

@@ -1,0 +1,31 @@
+-- What a CPU is about to commit.
+use Rattle.std.specs.Prelude.{◌≡◌, ℕ, true, false, IfSome, IsSomeAnd, List}
+use Rattle.rmm_spec.specs.declared.command.Command.{Command}
+use Rattle.rmm_spec.specs.Call.{call_of}
+use Rattle.rmm_spec.specs.HistoryText.{Config}
+use Rattle.rmm_spec.specs.Local.{HeldCell, Hold}
+use Rattle.command_core.specs.Changed.{given_of}
+use Rattle.command_core.specs.Decided.{settled_answer}
+use Rattle.command_core.specs.Foreseen.{IsDecision, change_of, unlisted}
+use Rattle.command_core.specs.Rooms.{IsRoomFor}
+use Rattle.command_core.specs.Seen.{place_of}
+use Rattle.commit_tickets.specs.declared.draft.Draft.{Draft}
+use Rattle.commit_tickets.specs.View.{TokenView}
+
+-- The draft is what a side table that lists nothing answers, with the room for its change, if it has any, and isn't in the journal.
+pub record IsDraft (config : Config) (command : Command) (token : TokenView) (cells : List HeldCell) (draft : Draft) : Type 0 where
+  pub foreseen : draft.answer ≡ settled_answer config token.cpu (call_of command) cells unlisted (place_of token.place)
+  pub room : IfSome draft.room (IsRoomFor (change_of draft.answer))
+  pub fresh : draft.is_entered ≡ false
+
+-- The draft is a decision on what is held, with the room for its change, and isn't in the journal.
+pub record IsDecided (config : Config) (cpu : ℕ) (command : Command) (hold : Hold) (draft : Draft) : Type 0 where
+  pub decision : IsDecision config cpu command hold (given_of draft.answer) (change_of draft.answer)
+  pub room : IsSomeAnd draft.room (IsRoomFor (change_of draft.answer))
+  pub fresh : draft.is_entered ≡ false
+
+-- The draft is in the journal with its reply, and its change, for which it has the room, isn't made yet of what is held.
+pub record IsOwed (config : Config) (cpu : ℕ) (command : Command) (hold : Hold) (draft : Draft) : Type 0 where
+  pub decision : IsDecision config cpu command hold (given_of draft.answer) (change_of draft.answer)
+  pub room : IsSomeAnd draft.room (IsRoomFor (change_of draft.answer))
+  pub entered : draft.is_entered ≡ true

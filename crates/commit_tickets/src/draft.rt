@@ -1,0 +1,101 @@
+//! What a CPU is about to commit.
+
+ghost use Rattle.std.specs.Prelude.{◌≡◌, ◌≤◌, false, IfOk, OnErr, IsTrue, option_copied, unwrap_or};
+ghost use Rattle.rmm_spec.specs.Call.{call_of};
+ghost use Rattle.rmm_spec.specs.declared.change.Change.TheVariants.{Unchanged};
+ghost use Rattle.rmi_view.specs.Seen.{HasFewWords, reply_seen};
+ghost use Rattle.command_core.specs.Changed.{given_of};
+ghost use Rattle.command_core.specs.Foreseen as spec;
+ghost use Rattle.command_core.specs.Rooms.{IsRoomFor, makes_table};
+ghost use Rattle.command_core.specs.Seen.{place_of};
+ghost use Rattle.command_core.specs.Settled.{is_settled};
+ghost use Rattle.granule_lock.specs.HeldCells.{hold_cells};
+ghost use Rattle.commit_tickets.specs.Drafts.{IsDraft};
+
+use crate::site::Site;
+use crate::token::CpuToken;
+use command_core::{Room, foresee, room_for};
+use granule_lock::Hold;
+use granule_state::Config;
+use rmi_view::ReplyRef;
+use rmm_spec::{Accepted, Change, Command, Reply};
+use std::alloc::{AllocError, Global};
+
+/// What is answered to a command, the memory for its change, and whether it stands in the journal. It has no `Drop`, so that once it
+/// does, it is settled.
+pub struct Draft {
+    pub(crate) answer: Result<Accepted, Reply>,
+    pub(crate) room: Option<Room>,
+    pub(crate) is_entered: bool,
+}
+
+impl Draft {
+    /// The reply.
+    pub(crate) fn reply(&self) -> ReplyRef<'_>
+        ensures seen { reply_seen result ≡ given_of self.now.answer }
+        ensures few { HasFewWords (reply_seen result) }
+    {
+        match &self.answer {
+            Ok(Accepted::Done { words, .. }) => ReplyRef::Ok(words.as_slice()),
+            Ok(Accepted::Reaches(_)) => ReplyRef::Misplaced,
+            Err(refusal) => ReplyRef::of(refusal),
+        }
+    }
+
+    /// Ends a draft that doesn't stand in the journal.
+    pub fn discard(self)
+        requires { self.is_entered ≡ false }
+    {
+        let Draft {
+            answer: _,
+            room: _,
+            is_entered: _,
+        } = self;
+    }
+}
+
+/// What an answer changes, if it changes anything.
+pub(crate) fn change_of(answer: &Result<Accepted, Reply>) -> Option<&Change>
+    ensures { unwrap_or (option_copied result) Unchanged ≡ spec.change_of answer.now }
+{
+    match answer {
+        Ok(Accepted::Done { change, .. }) => Some(change),
+        Ok(Accepted::Reaches(_)) | Err(_) => None,
+    }
+}
+
+/// The memory for what an answer changes.
+pub(crate) fn room_of(alloc: Global, answer: &Result<Accepted, Reply>) -> Result<Room, AllocError>
+    ensures ok { IfOk result (IsRoomFor (spec.change_of answer.now)) }
+    ensures only { OnErr result (IsTrue (makes_table (spec.change_of answer.now))) }
+{
+    match change_of(answer) {
+        Some(change) => room_for(alloc, change),
+        None => room_for(alloc, &Change::Unchanged),
+    }
+}
+
+/// Drafts the commit of a command that what is held settles, by the token of its CPU and without the journal: what a side table that
+/// lists nothing answers. It takes the memory for that, and for the token's list, if there is any.
+pub fn first_draft<S: Site>(
+    alloc: Global,
+    config: &Config,
+    token: &mut CpuToken<S>,
+    hold: &Hold,
+    command: &Command,
+) -> Draft
+    requires site { config.now ≡ S.config }
+    requires settled { IsTrue (is_settled S.config (call_of command.now) (place_of token.old.place) (hold_cells hold.now)) }
+    ensures draft { IsDraft S.config command.now token.old (hold_cells hold.now) result }
+    ensures token { token.new ≡ record token.old { room = token.new.room } }
+    ensures room { token.old.room ≤ token.new.room }
+{
+    let answer = foresee(config, command, token.cpu, &token.place, hold);
+    let _refused = token.mine.reserve(1).is_err();
+    let room = room_of(alloc, &answer).ok();
+    Draft {
+        answer,
+        room,
+        is_entered: false,
+    }
+}

@@ -1,0 +1,151 @@
+//! A draft comes to stand in the journal.
+
+ghost use Rattle.std.specs.Prelude.{◌≡◌, ◌+◌, ◌<◌, ◌≤◌, [], ◌∷◌, ◌++◌, length, false, None, Err, IsTrue, IfOk, IfErr, OnOk, OnErr};
+ghost use Rattle.rmm_spec.specs.Call.{call_of};
+ghost use Rattle.shape_laws.specs.Whole.{side_changed};
+ghost use Rattle.command_core.specs.Changed.{can_count, given_of};
+ghost use Rattle.command_core.specs.Foreseen as spec;
+ghost use Rattle.command_core.specs.Seen.{place_of, known_cell};
+ghost use Rattle.command_core.specs.Settled.{is_settled};
+ghost use Rattle.command_core.specs.Sides.{side_of};
+ghost use Rattle.granule_lock.specs.HeldCells.{hold_cells};
+ghost use Rattle.commit_tickets.specs.declared.fault.CommitFault.TheVariants.{Disagrees};
+ghost use Rattle.commit_tickets.specs.Drafts.{IsDecided, IsDraft, IsOwed};
+ghost use Rattle.commit_tickets.specs.Faults.{DecidesTable, HasCause};
+ghost use Rattle.commit_tickets.specs.View.{entry, hold_with};
+
+use crate::draft::{Draft, change_of, room_of};
+use crate::fault::CommitFault;
+use crate::journal::{Journal, JournalEntry};
+use crate::site::Site;
+use crate::token::{Committed, CpuToken};
+use command_core::{Side, answer, apply_aside, bears_out};
+use granule_lock::Hold;
+use rmi_view::CommandRef;
+use rmm_spec::{Accepted, Change, Command, Reply};
+use std::alloc::{AllocError, Global};
+
+/// Enters a draft into the journal, and returns its ticket. Where the side table doesn't bear the draft out, or memory was refused
+/// to it, it is decided anew. Its reply is offered to the journal's books. Where they give it, the side table makes its part of the
+/// change, journal and token list the commit, and the rest of the change is owed: `settle` makes it. Where they don't, or memory
+/// is refused, or the journal has fewer entries than the token was told of, nothing changes but that the token keeps the fault,
+/// and the draft is to be discarded. It waits for nobody.
+pub fn enter<S: Site>(
+    alloc: Global,
+    journal: &mut Journal<S>,
+    token: &mut CpuToken<S>,
+    hold: &Hold,
+    command: &Command,
+    draft: &mut Draft,
+) -> Result<usize, CommitFault>
+    requires settled { IsTrue (is_settled S.config (call_of command.now) (place_of token.old.place) (hold_cells hold.now)) }
+    requires draft { IsDraft S.config command.now token.old (hold_cells hold.now) draft.old }
+    ensures ticket { IfOk result (λ ticket. ticket ≡ length journal.old.entries) }
+    ensures journal { OnOk result (journal.new ≡ record journal.old {
+      entries = journal.old.entries ++ entry token.old.cpu command.now (given_of draft.new.answer) ∷ [];
+      side = journal.new.side;
+      room = journal.new.room;
+    }) }
+    ensures side { OnOk result (side_of journal.new.side ≡ side_changed (known_cell (hold_cells hold.now)) (side_of journal.old.side) (spec.change_of draft.new.answer)) }
+    ensures token { IfOk result (λ ticket. token.new ≡ record token.old {
+      mine = token.old.mine ++ record { ticket = ticket; command = command.now; reply = given_of draft.new.answer } ∷ [];
+      room = token.new.room;
+      fault = None;
+      seen = ticket + 1;
+    }) }
+    ensures owed { OnOk result (IsOwed S.config token.old.cpu command.now (hold_with journal.old token.old (hold_cells hold.now)) draft.new) }
+    ensures told { IfOk result (λ ticket. token.old.seen ≤ ticket) }
+    ensures short { length journal.old.entries < token.old.seen → result ≡ Err Disagrees }
+    ensures cause { IfErr result (λ fault. HasCause fault S.config command.now journal.old token.old (hold_cells hold.now)) }
+    ensures kept_journal { OnErr result (journal.new ≡ record journal.old { room = journal.new.room }) }
+    ensures kept_token { IfErr result (λ fault. token.new ≡ record token.old { room = token.new.room; fault = Some fault }) }
+    ensures kept_draft { OnErr result (draft.new.is_entered ≡ false) }
+{
+    if (journal.len() as u64) < token.seen {
+        token.fault = Some(CommitFault::Disagrees);
+        return Err(CommitFault::Disagrees);
+    }
+    // what each `?` answers
+    token.fault = Some(CommitFault::NoMemory);
+    decide_draft(alloc, journal, token, hold, command, draft)?;
+    journal.entries.reserve(1)?;
+    token.mine.reserve(1)?;
+    let (view, reply) = (CommandRef::of(command), draft.reply());
+    if !journal.books.offer_seen(token.cpu, view, reply)? {
+        token.fault = Some(CommitFault::Disagrees);
+        return Err(CommitFault::Disagrees);
+    }
+    token.fault = None;
+    change_aside(hold, &mut journal.side, &draft.answer);
+    journal.commits.add(&mut token.share, 1);
+    let ticket = journal.entries.len();
+    let entry = JournalEntry::of(token.cpu, command, reply.to_reply());
+    journal.entries.push_reserved(entry);
+    let mine = Committed::of(ticket, command, reply.to_reply());
+    token.mine.push_reserved(mine);
+    token.seen = journal.entries.len() as u64;
+    draft.is_entered = true;
+    Ok(ticket)
+}
+
+// The side table's part of what an answer changes.
+fn change_aside(hold: &Hold, side: &mut Side, answer: &Result<Accepted, Reply>)
+    requires { IsTrue (can_count 4096 (side_of side.old) (spec.change_of answer.now)) }
+    ensures { side_of side.new ≡ side_changed (known_cell (hold_cells hold.now)) (side_of side.old) (spec.change_of answer.now) }
+{
+    match change_of(answer) {
+        Some(change) => apply_aside(hold, side, change),
+        None => apply_aside(hold, side, &Change::Unchanged),
+    }
+}
+
+// Leaves a draft that the side table bears out as it is, and decides any other anew.
+fn decide_draft<S: Site>(
+    alloc: Global,
+    journal: &Journal<S>,
+    token: &CpuToken<S>,
+    hold: &Hold,
+    command: &Command,
+    draft: &mut Draft,
+) -> Result<(), AllocError>
+    requires settled { IsTrue (is_settled S.config (call_of command.now) (place_of token.now.place) (hold_cells hold.now)) }
+    requires draft { IsDraft S.config command.now token.now (hold_cells hold.now) draft.old }
+    ensures decided { OnOk result (IsDecided S.config token.now.cpu command.now (hold_with journal.now token.now (hold_cells hold.now)) draft.new) }
+    ensures table { OnErr result (DecidesTable S.config token.now.cpu command.now (hold_with journal.now token.now (hold_cells hold.now))) }
+    ensures kept { OnErr result (draft.new ≡ draft.old) }
+{
+    if draft.room.is_some() && bears_out(&journal.config, &journal.side, command, &draft.answer) {
+        return Ok(());
+    }
+    decide_anew(alloc, journal, token, hold, command, draft)
+}
+
+// Decides with the side table what stands in the draft.
+#[inline(never)]
+fn decide_anew<S: Site>(
+    alloc: Global,
+    journal: &Journal<S>,
+    token: &CpuToken<S>,
+    hold: &Hold,
+    command: &Command,
+    draft: &mut Draft,
+) -> Result<(), AllocError>
+    requires settled { IsTrue (is_settled S.config (call_of command.now) (place_of token.now.place) (hold_cells hold.now)) }
+    requires fresh { draft.old.is_entered ≡ false }
+    ensures decided { OnOk result (IsDecided S.config token.now.cpu command.now (hold_with journal.now token.now (hold_cells hold.now)) draft.new) }
+    ensures table { OnErr result (DecidesTable S.config token.now.cpu command.now (hold_with journal.now token.now (hold_cells hold.now))) }
+    ensures kept { OnErr result (draft.new ≡ draft.old) }
+{
+    let answer = answer(
+        &journal.config,
+        command,
+        token.cpu,
+        &token.place,
+        hold,
+        &journal.side,
+    );
+    let room = room_of(alloc, &answer)?;
+    draft.answer = answer;
+    draft.room = Some(room);
+    Ok(())
+}
