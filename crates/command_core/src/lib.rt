@@ -1,7 +1,7 @@
 //! The monitor's core: what a CPU does with the granules that it holds. Nothing here waits; addresses are in bytes.
-//! It promises that cells held under locks are read and replaced by address; what a CPU does next for a command,
-//! whatever it holds: it takes a lock at a rising take, frees one, or is ready to commit; and that the reply and the change that
-//! it is then given are a step of the machine, whatever the other cells are, made with the memory that was taken before it.
+//! It promises that held cells are read and replaced by address; what a CPU does next for a command, whatever it holds: it takes a
+//! lock at a rising take, frees one, or is ready to commit; and that the reply and the change that it is then given, also where that was
+//! done without the side table and this bears it out, are a step of the machine, whatever the other cells are, made with memory taken before.
 //! The world of turns and the monitor's threads depend on it.
 #![tactic(auto)]
 

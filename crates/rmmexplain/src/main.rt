@@ -10,9 +10,9 @@ use checking::ends_with;
 use explain::{explain, explain_run, report};
 use explain_page::append_page;
 use file_programs::{Fault, bytes_of, end, print};
-use std::fs;
 use std::process::ExitCode;
 use std::rt::{Env, Files};
+use std::{fs, io};
 
 fn main(rt: HostRuntime) -> ExitCode {
     ExitCode::from(end(&rt, "rmmexplain", told(&rt)))
@@ -30,7 +30,7 @@ fn print_scenario<R: Files + Print + AllocGlobal>(rt: &R, file: String) -> Resul
     let bytes = bytes_of(rt, file)?;
     let mut text = Vec::new(rt.alloc());
     let fault = scenario_report::report(rt.alloc(), bytes.as_slice(), &mut text)?;
-    print(rt, text.as_slice())?;
+    print(&mut io::writer(rt), text.as_slice())?;
     Ok(if fault.is_some() { 2 } else { 0 })
 }
 
@@ -56,7 +56,7 @@ fn print_report<R: Print + AllocGlobal>(
     let explanation = explain(rt.alloc(), history, certificate)?;
     let mut text = Vec::new(rt.alloc());
     report(rt.alloc(), &explanation, &mut text)?;
-    print(rt, text.as_slice())?;
+    print(&mut io::writer(rt), text.as_slice())?;
     Ok(ends_with(Ok(explanation.verdict())).status)
 }
 

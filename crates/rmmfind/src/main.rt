@@ -13,6 +13,7 @@ use file_programs::{Fault, bytes_of, end, print};
 use finding::{Found, find};
 use history::HistoryFault;
 use std::alloc::{AllocError, Global};
+use std::io;
 use std::process::ExitCode;
 use std::rt::{Env, Files};
 
@@ -25,7 +26,7 @@ fn found<R: Env + Files + Print + AllocGlobal>(rt: &R) -> Result<u8, Fault> {
     let bytes = bytes_of(rt, words.history)?;
     let mut text = Vec::new(rt.alloc());
     let status = append_answer(rt.alloc(), bytes.as_slice(), words.asked, &mut text)?;
-    print(rt, text.as_slice())?;
+    print(&mut io::writer(rt), text.as_slice())?;
     Ok(status)
 }
 
