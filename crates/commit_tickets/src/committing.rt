@@ -11,7 +11,7 @@ ghost use Rattle.commit_tickets.specs.declared.fault.CommitFault.TheVariants.{Di
 ghost use Rattle.commit_tickets.specs.Faults.{HasCause};
 ghost use Rattle.commit_tickets.specs.View.{entry, hold_with};
 
-use crate::draft::first_draft;
+use crate::draft::Draft;
 use crate::entering::enter;
 use crate::fault::CommitFault;
 use crate::journal::Journal;
@@ -68,10 +68,12 @@ pub fn commit<S: Site>(
 {
     applied_decisions_are_local();
     let config = journal.config();
-    let mut draft = first_draft(alloc, &config, token, hold, command);
+    let mut draft = Draft::new();
+    draft.foresee(alloc, &config, token, hold, command);
     match enter(alloc, journal, token, hold, command, &mut draft) {
         Ok(ticket) => {
-            let reply = settle(draft, token, hold);
+            let reply = settle(&mut draft, token, hold);
+            draft.discard();
             Ok(Done { ticket, reply })
         }
         Err(fault) => {

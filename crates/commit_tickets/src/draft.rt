@@ -30,6 +30,39 @@ pub struct Draft {
 }
 
 impl Draft {
+    /// A draft of nothing.
+    pub fn new() -> Draft
+        ensures { result.is_entered ≡ false }
+    {
+        Draft {
+            answer: Err(Reply::Misplaced),
+            room: None,
+            is_entered: false,
+        }
+    }
+
+    /// Drafts the commit of a command that what is held settles, by the token of its CPU and without the journal: what a side table that
+    /// lists nothing answers. It takes the memory for that, and for the token's list, if there is any.
+    pub fn foresee<S: Site>(
+        &mut self,
+        alloc: Global,
+        config: &Config,
+        token: &mut CpuToken<S>,
+        hold: &Hold,
+        command: &Command,
+    )
+        requires fresh { self.old.is_entered ≡ false }
+        requires site { config.now ≡ S.config }
+        requires settled { IsTrue (is_settled S.config (call_of command.now) (place_of token.old.place) (hold_cells hold.now)) }
+        ensures draft { IsDraft S.config command.now token.old (hold_cells hold.now) self.new }
+        ensures token { token.new ≡ record token.old { room = token.new.room } }
+        ensures room { token.old.room ≤ token.new.room }
+    {
+        self.answer = foresee(config, command, token.cpu, &token.place, hold);
+        self.room = room_of(alloc, &self.answer).ok();
+        let _refused = token.mine.reserve(1).is_err();
+    }
+
     /// The reply.
     pub(crate) fn reply(&self) -> ReplyRef<'_>
         ensures seen { reply_seen result ≡ given_of self.now.answer }
@@ -72,30 +105,5 @@ pub(crate) fn room_of(alloc: Global, answer: &Result<Accepted, Reply>) -> Result
     match change_of(answer) {
         Some(change) => room_for(alloc, change),
         None => room_for(alloc, &Change::Unchanged),
-    }
-}
-
-/// Drafts the commit of a command that what is held settles, by the token of its CPU and without the journal: what a side table that
-/// lists nothing answers. It takes the memory for that, and for the token's list, if there is any.
-pub fn first_draft<S: Site>(
-    alloc: Global,
-    config: &Config,
-    token: &mut CpuToken<S>,
-    hold: &Hold,
-    command: &Command,
-) -> Draft
-    requires site { config.now ≡ S.config }
-    requires settled { IsTrue (is_settled S.config (call_of command.now) (place_of token.old.place) (hold_cells hold.now)) }
-    ensures draft { IsDraft S.config command.now token.old (hold_cells hold.now) result }
-    ensures token { token.new ≡ record token.old { room = token.new.room } }
-    ensures room { token.old.room ≤ token.new.room }
-{
-    let answer = foresee(config, command, token.cpu, &token.place, hold);
-    let _refused = token.mine.reserve(1).is_err();
-    let room = room_of(alloc, &answer).ok();
-    Draft {
-        answer,
-        room,
-        is_entered: false,
     }
 }

@@ -22,7 +22,7 @@ mod site;
 mod token;
 
 pub use committing::{Done, commit};
-pub use draft::{Draft, first_draft};
+pub use draft::Draft;
 pub use entering::enter;
 pub use fault::CommitFault;
 pub use journal::{Journal, JournalEntry};

@@ -1,6 +1,6 @@
 //! A CPU makes the change that it committed.
 
-ghost use Rattle.std.specs.Prelude.{◌≡◌, true, IsTrue, IsSomeAnd};
+ghost use Rattle.std.specs.Prelude.{◌≡◌, true, false, IsTrue, IsSomeAnd};
 ghost use Rattle.world_laws.specs.Replaced.{replaced_all};
 ghost use Rattle.command_core.specs.Changed.{AreHeld, fits_cells, given_of, new_cells, new_place};
 ghost use Rattle.command_core.specs.Foreseen as spec;
@@ -13,40 +13,28 @@ use crate::site::Site;
 use crate::token::CpuToken;
 use command_core::apply_held;
 use granule_lock::Hold;
-use rmm_spec::{Accepted, Change, Reply};
+use rmm_spec::{Change, Reply};
 
 /// Makes the change of a draft that `enter` put into the journal, of what is held and of the token's place, and returns its reply.
-/// The journal isn't needed. It takes no memory.
-pub fn settle<S: Site>(draft: Draft, token: &mut CpuToken<S>, hold: &mut Hold) -> Reply
-    requires entered { draft.is_entered ≡ true }
-    requires held { AreHeld (hold_cells hold.old) (spec.change_of draft.answer) }
-    requires fits { IsTrue (fits_cells (hold_cells hold.old) (spec.change_of draft.answer)) }
-    requires room { IsSomeAnd draft.room (IsRoomFor (spec.change_of draft.answer)) }
-    ensures reply { result ≡ given_of draft.answer }
-    ensures cells { hold_cells hold.new ≡ replaced_all (hold_cells hold.old) (new_cells (hold_cells hold.old) (spec.change_of draft.answer)) }
-    ensures place { place_of token.new.place ≡ new_place (hold_cells hold.old) (place_of token.old.place) (spec.change_of draft.answer) }
+/// The journal isn't needed. It takes no memory. The draft owes nothing then, and can be discarded or drafted anew.
+pub fn settle<S: Site>(draft: &mut Draft, token: &mut CpuToken<S>, hold: &mut Hold) -> Reply
+    requires entered { draft.old.is_entered ≡ true }
+    requires held { AreHeld (hold_cells hold.old) (spec.change_of draft.old.answer) }
+    requires fits { IsTrue (fits_cells (hold_cells hold.old) (spec.change_of draft.old.answer)) }
+    requires room { IsSomeAnd draft.old.room (IsRoomFor (spec.change_of draft.old.answer)) }
+    ensures reply { result ≡ given_of draft.old.answer }
+    ensures cells { hold_cells hold.new ≡ replaced_all (hold_cells hold.old) (new_cells (hold_cells hold.old) (spec.change_of draft.old.answer)) }
+    ensures place { place_of token.new.place ≡ new_place (hold_cells hold.old) (place_of token.old.place) (spec.change_of draft.old.answer) }
     ensures token { token.new ≡ record token.old { place = token.new.place } }
+    ensures settled { draft.new.is_entered ≡ false }
 {
-    let Draft {
-        answer,
-        room,
-        is_entered: _,
-    } = draft;
-    let Some(room) = room else { unreachable!() };
-    match change_of(&answer) {
+    let Some(room) = draft.room.take() else {
+        unreachable!()
+    };
+    match change_of(&draft.answer) {
         Some(change) => apply_held(hold, &mut token.place, change, room),
         None => apply_held(hold, &mut token.place, &Change::Unchanged, room),
     }
-    reply_of(answer)
-}
-
-// The reply of an answer.
-fn reply_of(answer: Result<Accepted, Reply>) -> Reply
-    ensures { result ≡ given_of answer }
-{
-    match answer {
-        Ok(Accepted::Done { words, .. }) => Reply::Ok(words),
-        Ok(Accepted::Reaches(_)) => Reply::Misplaced,
-        Err(refusal) => refusal,
-    }
+    draft.is_entered = false;
+    draft.reply().to_reply()
 }

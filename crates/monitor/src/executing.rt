@@ -17,7 +17,7 @@ ghost use Rattle.monitor.specs.declared.refused.Refused.TheVariants as refused;
 use crate::gate::Gate;
 use crate::monitor::Monitor;
 use crate::refused::Refused;
-use commit_tickets::{CommitFault, CpuToken, Done, Draft, Site, enter, first_draft, settle};
+use commit_tickets::{CommitFault, CpuToken, Done, Draft, Site, enter, settle};
 use event_queue::CpuPass;
 use granule_lock::{Hold, free_all, lock_for};
 use rmi_view::{copied_command, copied_reply};
@@ -114,10 +114,12 @@ impl<S: Site> Monitor<S> {
         ensures fault { IfErr result (λ fault. HasFailed token.old fault token.new) }
         ensures cause { IfErr result (λ fault. HadCause self.now.config fault command.now token.old) }
     {
-        let mut draft = first_draft(alloc, &self.config, token, hold, command);
+        let mut draft = Draft::new();
+        draft.foresee(alloc, &self.config, token, hold, command);
         match self.enter_locked(rt, alloc, token, pass, hold, command, &mut draft) {
             Ok(ticket) => {
-                let reply = settle(draft, token, hold);
+                let reply = settle(&mut draft, token, hold);
+                draft.discard();
                 Ok(Done { ticket, reply })
             }
             Err(fault) => {
