@@ -25,7 +25,7 @@ use Rattle.command_rows.specs.Answers.{outside_answer}
 use Rattle.walk_laws.specs.SeenState.{seen_state}
 use Rattle.command_core.specs.Changed.{hold_of, new_cells, fits_cells, can_count, can_make, CanMakeAnswer, IsAnswer, given_of}
 use Rattle.command_core.specs.Decided.{rows_answer, made_answer, settled_answer}
-use Rattle.command_core.specs.Foreseen.{unlisted, side_or_unlisted, change_of, IsDecision, lists_none, has_count, bears_out}
+use Rattle.command_core.specs.Foreseen.{unlisted, change_of, IsDecision, lists_none, has_count, bears_out}
 use Rattle.command_core.specs.Furthest.{furthest}
 use Rattle.command_core.specs.Settled.{is_settled}
 use Rattle.command_core.specs.Sides.{is_vmid_listed, are_recs_counted}
@@ -45,13 +45,6 @@ and_right true b is = is
 and_right false b is = absurd (false≢true is)
 
 -- ---- the answer
-
--- rows without the side table are those over one that lists nothing
-pub rows_answer-unlisted : (config : Config) (cpu : ℕ) (c : Call) (held : List HeldCell) (side : Option Side) (place : CpuPlace)
-    → rows_answer config cpu c held side place ≡ rows_answer config cpu c held (Some (side_or_unlisted side)) place
-rows_answer-unlisted config cpu c held (Some side) place = refl
-rows_answer-unlisted config cpu c held None Outside = refl
-rows_answer-unlisted config cpu c held None (Inside rec rd) = refl
 
 settled_answer-makes : (config : Config) (cpu : ℕ) (c : Call) (hold : Hold) → config.granules ≤ 4096
     → CanMakeAnswer hold (settled_answer config cpu c hold.cells hold.side hold.place)

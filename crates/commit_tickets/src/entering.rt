@@ -5,6 +5,8 @@ ghost use Rattle.rmm_spec.specs.Call.{call_of};
 ghost use Rattle.shape_laws.specs.Whole.{side_changed};
 ghost use Rattle.command_core.specs.Changed.{can_count, given_of};
 ghost use Rattle.command_core.specs.Foreseen as spec;
+ghost use Rattle.command_core.specs.Foreseen.{IsDecision};
+ghost use Rattle.command_core.specs.Rooms.{IsRoomFor};
 ghost use Rattle.command_core.specs.Seen.{place_of, known_cell};
 ghost use Rattle.command_core.specs.Settled.{is_settled};
 ghost use Rattle.command_core.specs.Sides.{side_of};
@@ -19,7 +21,7 @@ use crate::fault::CommitFault;
 use crate::journal::{Journal, JournalEntry};
 use crate::site::Site;
 use crate::token::{Committed, CpuToken};
-use command_core::{Side, answer, apply_aside, bears_out};
+use command_core::{Room, Side, answer, apply_aside, bears_out};
 use granule_lock::Hold;
 use rmi_view::CommandRef;
 use rmm_spec::{Accepted, Change, Command, Reply};
@@ -117,24 +119,26 @@ fn decide_draft<S: Site>(
     if draft.room.is_some() && bears_out(&journal.config, &journal.side, command, &draft.answer) {
         return Ok(());
     }
-    decide_anew(alloc, journal, token, hold, command, draft)
+    let (answer, room) = decided(alloc, journal, token, hold, command)?;
+    draft.answer = answer;
+    draft.room = Some(room);
+    Ok(())
 }
 
-// Decides with the side table what stands in the draft.
+// What is answered with the side table, and the memory for its change.
 #[inline(never)]
-fn decide_anew<S: Site>(
+fn decided<S: Site>(
     alloc: Global,
     journal: &Journal<S>,
     token: &CpuToken<S>,
     hold: &Hold,
     command: &Command,
-    draft: &mut Draft,
-) -> Result<(), AllocError>
+) -> Result<(Result<Accepted, Reply>, Room), AllocError>
     requires settled { IsTrue (is_settled S.config (call_of command.now) (place_of token.now.place) (hold_cells hold.now)) }
-    requires fresh { draft.old.is_entered ≡ false }
-    ensures decided { OnOk result (IsDecided S.config token.now.cpu command.now (hold_with journal.now token.now (hold_cells hold.now)) draft.new) }
+    ensures decision { IfOk result (λ made. IsDecision S.config token.now.cpu command.now
+        (hold_with journal.now token.now (hold_cells hold.now)) (given_of made.0) (spec.change_of made.0)) }
+    ensures room { IfOk result (λ made. IsRoomFor (spec.change_of made.0) made.1) }
     ensures table { OnErr result (DecidesTable S.config token.now.cpu command.now (hold_with journal.now token.now (hold_cells hold.now))) }
-    ensures kept { OnErr result (draft.new ≡ draft.old) }
 {
     let answer = answer(
         &journal.config,
@@ -145,7 +149,5 @@ fn decide_anew<S: Site>(
         &journal.side,
     );
     let room = room_of(alloc, &answer)?;
-    draft.answer = answer;
-    draft.room = Some(room);
-    Ok(())
+    Ok((answer, room))
 }
