@@ -56,6 +56,13 @@ STOPPED = {
         ),
     ],
     "drained_tickets": [
+        # the drain takes one event and is refused memory, and takes the other when it is made once more
+        (
+            "0 ok/drained 1/1 err 1 0/2 ok",
+            "rmh1 4 2/c 0 0 c4000151 1000/r 0 0 ok/c 1 0 c4000151 1000/r 1 0 err 1 0/c 0 1 c4000152 1000/r 0 1 ok",
+            "k 0 0/k 1 0/k 0 1",
+            "yes 3",
+        ),
         (
             "no memory/stopped/drained 1/0 ok/stopped",
             "rmh1 4 2/c 0 0 c4000151 1000/c 1 0 c4000151 1000/r 1 0 ok",
