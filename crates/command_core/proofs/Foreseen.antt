@@ -1,7 +1,7 @@
 -- What is decided without the side table, and borne out by it, is decided with it.
 use Rattle.std.proofs.Common.{◌≡◌, ℕ, ◌≤◌, Bool, true, false, not, ◌&&◌, nat_le, is_none, if◌then◌else◌, List, [], ◌∷◌, Option, Some, None, Result, Ok, Err, refl, sym, ap, ◌∙◌, subst}
 use Rattle.std.specs.Prelude.{is_some}
-use Rattle.std.proofs.lemmas.Bool.{false≢true}
+use Rattle.std.proofs.lemmas.Bool.{false≢true, and_parts}
 use Rattle.std.proofs.Math.Dec.{leb-zero}
 use Rattle.rmm_spec.specs.HistoryText.{Config}
 use Rattle.rmm_spec.specs.declared.accepted.Accepted.{Accepted}
@@ -31,18 +31,6 @@ use Rattle.command_core.specs.Settled.{is_settled}
 use Rattle.command_core.specs.Sides.{is_vmid_listed, are_recs_counted}
 use Rattle.command_core.specs.Unshaped.{is_unshaped}
 use Rattle.command_core.proofs.Ready.{decision, answer-makes}
-
-and_left : (a b : Bool) → (a && b) ≡ true → a ≡ true
-and_left true b is = refl
-and_left false b is = absurd (false≢true is)
-
-pub both_true : (a b : Bool) → a ≡ true → b ≡ true → (a && b) ≡ true
-both_true true b left right = right
-both_true false b left right = absurd (false≢true left)
-
-and_right : (a b : Bool) → (a && b) ≡ true → b ≡ true
-and_right true b is = is
-and_right false b is = absurd (false≢true is)
 
 -- ---- the answer
 
@@ -154,9 +142,9 @@ settled-borne_out config cpu c held side place told = by (is_unshaped config c p
         ≡ (if b then Err Misplaced else made_answer config held unlisted (rows unlisted))
     by true borne_out = refl
     by false borne_out =
-        let counts = has_count config.granules side (change_of (made_answer config held unlisted (rows unlisted))) in
-        ap (made_answer config held side) (rows-borne_out config cpu c held side place (and_left (lists_none side c) counts borne_out))
-        ∙ made_answer-borne_out config held side (rows unlisted) (and_right (lists_none side c) counts borne_out)
+        let both = and_parts _ _ borne_out in
+        ap (made_answer config held side) (rows-borne_out config cpu c held side place both.0)
+        ∙ made_answer-borne_out config held side (rows unlisted) both.1
 
 pub foreseen-decision : (config : Config) (cpu : ℕ) (command : Command) (held : List HeldCell) (side : Side) (place : CpuPlace) (answer : Result Accepted Reply)
     → config.granules ≤ 4096 → is_settled config (call_of command) place held ≡ true

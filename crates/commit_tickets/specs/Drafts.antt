@@ -1,5 +1,5 @@
 -- What a CPU is about to commit.
-use Rattle.std.specs.Prelude.{◌≡◌, ℕ, true, false, IfSome, IsSomeAnd, List}
+use Rattle.std.specs.Prelude.{◌≡◌, ℕ, false, IfSome, IsSomeAnd, List}
 use Rattle.rmm_spec.specs.declared.command.Command.{Command}
 use Rattle.rmm_spec.specs.Call.{call_of}
 use Rattle.rmm_spec.specs.HistoryText.{Config}
@@ -18,14 +18,7 @@ pub record IsDraft (config : Config) (command : Command) (token : TokenView) (ce
   pub room : IfSome draft.room (IsRoomFor (change_of draft.answer))
   pub fresh : draft.is_entered ≡ false
 
--- The draft is a decision on what is held, with the room for its change, and isn't in the journal.
+-- The draft is a decision on what is held, with the room for its change.
 pub record IsDecided (config : Config) (cpu : ℕ) (command : Command) (hold : Hold) (draft : Draft) : Type 0 where
   pub decision : IsDecision config cpu command hold (given_of draft.answer) (change_of draft.answer)
   pub room : IsSomeAnd draft.room (IsRoomFor (change_of draft.answer))
-  pub fresh : draft.is_entered ≡ false
-
--- The draft is in the journal with its reply, and its change, for which it has the room, isn't made yet of what is held.
-pub record IsOwed (config : Config) (cpu : ℕ) (command : Command) (hold : Hold) (draft : Draft) : Type 0 where
-  pub decision : IsDecision config cpu command hold (given_of draft.answer) (change_of draft.answer)
-  pub room : IsSomeAnd draft.room (IsRoomFor (change_of draft.answer))
-  pub entered : draft.is_entered ≡ true

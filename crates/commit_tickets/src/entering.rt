@@ -1,6 +1,6 @@
 //! A draft comes to stand in the journal.
 
-ghost use Rattle.std.specs.Prelude.{◌≡◌, ◌+◌, ◌<◌, ◌≤◌, [], ◌∷◌, ◌++◌, length, false, None, Err, IsTrue, IfOk, IfErr, OnOk, OnErr};
+ghost use Rattle.std.specs.Prelude.{◌≡◌, ◌+◌, ◌<◌, ◌≤◌, [], ◌∷◌, ◌++◌, length, true, false, None, Err, IsTrue, IfOk, IfErr, OnOk, OnErr};
 ghost use Rattle.rmm_spec.specs.Call.{call_of};
 ghost use Rattle.shape_laws.specs.Whole.{side_changed};
 ghost use Rattle.command_core.specs.Changed.{can_count, given_of};
@@ -12,7 +12,7 @@ ghost use Rattle.command_core.specs.Settled.{is_settled};
 ghost use Rattle.command_core.specs.Sides.{side_of};
 ghost use Rattle.granule_lock.specs.HeldCells.{hold_cells};
 ghost use Rattle.commit_tickets.specs.declared.fault.CommitFault.TheVariants.{Disagrees};
-ghost use Rattle.commit_tickets.specs.Drafts.{IsDecided, IsDraft, IsOwed};
+ghost use Rattle.commit_tickets.specs.Drafts.{IsDecided, IsDraft};
 ghost use Rattle.commit_tickets.specs.Faults.{DecidesTable, HasCause};
 ghost use Rattle.commit_tickets.specs.View.{entry, hold_with};
 
@@ -55,7 +55,8 @@ pub fn enter<S: Site>(
       fault = None;
       seen = ticket + 1;
     }) }
-    ensures owed { OnOk result (IsOwed S.config token.old.cpu command.now (hold_with journal.old token.old (hold_cells hold.now)) draft.new) }
+    ensures owed { OnOk result (IsDecided S.config token.old.cpu command.now (hold_with journal.old token.old (hold_cells hold.now)) draft.new) }
+    ensures entered { OnOk result (draft.new.is_entered ≡ true) }
     ensures told { IfOk result (λ ticket. token.old.seen ≤ ticket) }
     ensures short { length journal.old.entries < token.old.seen → result ≡ Err Disagrees }
     ensures cause { IfErr result (λ fault. HasCause fault S.config command.now journal.old token.old (hold_cells hold.now)) }
@@ -113,6 +114,7 @@ fn decide_draft<S: Site>(
     requires settled { IsTrue (is_settled S.config (call_of command.now) (place_of token.now.place) (hold_cells hold.now)) }
     requires draft { IsDraft S.config command.now token.now (hold_cells hold.now) draft.old }
     ensures decided { OnOk result (IsDecided S.config token.now.cpu command.now (hold_with journal.now token.now (hold_cells hold.now)) draft.new) }
+    ensures fresh { OnOk result (draft.new.is_entered ≡ false) }
     ensures table { OnErr result (DecidesTable S.config token.now.cpu command.now (hold_with journal.now token.now (hold_cells hold.now))) }
     ensures kept { OnErr result (draft.new ≡ draft.old) }
 {

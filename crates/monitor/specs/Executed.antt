@@ -1,11 +1,18 @@
 -- What an execution leaves of its CPU's token and pass.
-use Rattle.std.specs.Prelude.{◌≡◌, ℕ, ◌+◌, ◌-◌, ◌≤◌, true, false, [], ◌∷◌, ◌++◌, length, Some, None, Result, Ok, Err}
+use Rattle.std.specs.Prelude.{◌≡◌, ℕ, ◌+◌, ◌-◌, ◌≤◌, true, false, List, [], ◌∷◌, ◌++◌, length, Some, None, Result, Ok, Err}
 use Rattle.rmm_spec.specs.declared.command.Command.{Command}
 use Rattle.rmm_spec.specs.declared.event.Event.TheVariants.{Called, Returned}
 use Rattle.rmm_spec.specs.declared.reply.Reply.{Reply}
+use Rattle.rmm_spec.specs.HistoryText.{Config}
+use Rattle.rmm_spec.specs.Local.{HeldCell}
+use Rattle.rmm_spec.specs.Shape.{Side}
+use Rattle.command_core.specs.Changed.{hold_of}
+use Rattle.command_core.specs.Seen.{place_of}
 use Rattle.commit_tickets.specs.declared.committing.Done.{Done}
+use Rattle.commit_tickets.specs.declared.draft.Draft.{Draft}
 use Rattle.commit_tickets.specs.declared.fault.CommitFault.{CommitFault}
 use Rattle.commit_tickets.specs.declared.fault.CommitFault.TheVariants as commit
+use Rattle.commit_tickets.specs.Drafts.{IsDecided}
 use Rattle.commit_tickets.specs.View.{TokenView}
 use Rattle.event_queue.specs.Records.{WasFull}
 use Rattle.event_queue.specs.View.{CpuView}
@@ -60,6 +67,11 @@ HasCommitted old command done new = new ≡ record old {
   fault = None;
   seen = done.ticket + 1;
 }
+
+-- what the draft owes was decided with some side table, that of the journal then
+pub record IsOwed (config : Config) (command : Command) (token : TokenView) (cells : List HeldCell) (draft : Draft) : Type 0 where
+  pub side : Side
+  pub decided : IsDecided config token.cpu command (hold_of cells side (place_of token.place)) draft
 
 -- nothing was committed, for which the token keeps the fault
 abbrev pub HasFailed : TokenView → CommitFault → TokenView → Type 0

@@ -1,6 +1,5 @@
 pub mod View
 pub mod Executed
-pub mod Entered
 pub mod Causes
 pub mod Cpus
 pub mod Closed

@@ -8,9 +8,8 @@ ghost use Rattle.command_core.specs.Seen.{place_of};
 ghost use Rattle.command_core.specs.Settled.{is_settled};
 ghost use Rattle.granule_lock.specs.HeldCells.{hold_cells};
 ghost use Rattle.commit_tickets.specs.Drafts.{IsDraft};
-ghost use Rattle.monitor.specs.Entered.{IsOwedBy, entered};
 ghost use Rattle.monitor.specs.Causes.{HadCause, FaultHadCause};
-ghost use Rattle.monitor.specs.Executed.{ArePaired, Leaves, FullAtSomeMoment, HasCalled, HasCommitted, HasFailed, IsPastSeen, returned, unreturned};
+ghost use Rattle.monitor.specs.Executed.{ArePaired, Leaves, FullAtSomeMoment, HasCalled, HasCommitted, HasFailed, IsOwed, IsPastSeen, returned, unreturned};
 ghost use Rattle.granule_lock.specs.Locked.{AreGranules};
 ghost use Rattle.monitor.specs.declared.refused.Refused.TheVariants as refused;
 
@@ -27,7 +26,7 @@ use std::sync::Wait;
 
 impl<S: Site> Monitor<S> {
     /// Executes a command by the token and the pass of its CPU: records the call, locks the command's granules, passes
-    /// the gate, commits under the journal's lock, frees the granules and records the return. What refused the commit is what
+    /// the gate, drafts the commit, enters it under the journal's lock and settles it, frees the granules and records the return. What refused the commit is what
     /// the token keeps. Whatever is answered, no granule stays locked. The pass tells whether its next number is still one of a history.
     pub fn execute<R: Wait, G: Gate>(
         &self,
@@ -144,8 +143,10 @@ impl<S: Site> Monitor<S> {
         requires granules { AreGranules self.now.config.granules (hold_cells hold.now) }
         requires settled { IsTrue (is_settled self.now.config (call_of command.now) (place_of token.old.place) (hold_cells hold.now)) }
         requires draft { IsDraft self.now.config command.now token.old (hold_cells hold.now) draft.old }
-        ensures token { IfOk result (λ ticket. token.new ≡ entered token.old command.now ticket (given_of draft.new.answer) token.new.room) }
-        ensures owed { OnOk result (IsOwedBy self.now.config command.now token.old (hold_cells hold.now) draft.new) }
+        ensures done { IfOk result (λ ticket. HasCommitted token.old command.now (record { ticket = ticket; reply = given_of draft.new.answer }) token.new) }
+        ensures place { OnOk result (token.new.place ≡ token.old.place) }
+        ensures owed { OnOk result (IsOwed self.now.config command.now token.old (hold_cells hold.now) draft.new) }
+        ensures entered { OnOk result (draft.new.is_entered ≡ true) }
         ensures told { IfOk result (λ ticket. token.old.seen ≤ ticket) }
         ensures fault { IfErr result (λ fault. HasFailed token.old fault token.new) }
         ensures cause { IfErr result (λ fault. HadCause self.now.config fault command.now token.old) }
