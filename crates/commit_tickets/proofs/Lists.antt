@@ -7,13 +7,13 @@ use Rattle.std.proofs.lemmas.List.{length-drop, drop_all}
 use Rattle.std.proofs.lemmas.Option.{none-some, same_Some, slice_get_past, slice_get_read}
 use Rattle.rmm_spec.specs.Cell.{put}
 use Rattle.rmm_spec.specs.Run.{JournalEntry}
-use Rattle.commit_tickets.specs.declared.token.Committed.{Committed}
+use Rattle.commit_tickets.specs.Entries.{Committed}
 use Rattle.commit_tickets.specs.Listed.{commit_at, listed_from, mine_of, AreListed}
 use Rattle.commit_tickets.specs.View.{TokenView}
 
 -- ---- lists
 
-drop-at : {X : Type 0} (xs : List X) (place : ℕ) (x : X) → slice_get xs place ≡ Some x → drop place xs ≡ x ∷ drop (suc place) xs
+pub drop-at : {X : Type 0} (xs : List X) (place : ℕ) (x : X) → slice_get xs place ≡ Some x → drop place xs ≡ x ∷ drop (suc place) xs
 drop-at [] place x at = absurd (none-some x at)
 drop-at (first ∷ xs) zero x at = ap (λ y. y ∷ xs) (same_Some first x at)
 drop-at (first ∷ xs) (suc place) x at = drop-at xs place x at
@@ -28,12 +28,6 @@ drop-empty : {X : Type 0} (xs : List X) (place : ℕ) → drop place xs ≡ [] �
 drop-empty xs place none = omega (arith, length-drop place xs, ap length none)
 
 -- ---- a CPU's entries
-
--- a commit is what its parts are
-pub commit_is : (commit : Committed) (ticket : ℕ) (entry : JournalEntry) → commit.ticket ≡ ticket → commit.command ≡ entry.command
-    → commit.reply ≡ entry.given → commit ≡ commit_at ticket entry
-commit_is commit ticket entry same_ticket same_command same_reply =
-    λ i. record { ticket = same_ticket i; command = same_command i; reply = same_reply i }
 
 -- an entry of the CPU is listed first
 pub listed-own : (ticket cpu : ℕ) (entry : JournalEntry) (entries : List JournalEntry) → entry.cpu ≡ cpu

@@ -7,9 +7,8 @@ use Rattle.rmm_spec.specs.State.{State}
 use Rattle.rmm_spec.specs.Step.{Step}
 use Rattle.rmm_spec.specs.Run.{JournalEntry, IsRun}
 use Rattle.rmm_laws.proofs.Replays.{run-replay}
-use Rattle.commit_tickets.specs.declared.journal.JournalEntry as code
+use Rattle.command_log.specs.Log.{Entry}
 use Rattle.commit_tickets.specs.Entries.{entry_of}
-use Rattle.commit_tickets.specs.View.{entry}
 
 -- a run goes on by one step from its last state
 IsRun-push : (old : State) (entries : List JournalEntry) (entry : JournalEntry) (last next : State) → IsRun old entries last
@@ -18,14 +17,13 @@ IsRun-push old [] entry last next run step = (next, subst (λ (s : State). Step 
 IsRun-push old (first ∷ entries) entry last next run step = (run.0, run.1, IsRun-push run.0 entries entry last next run.2 step)
 
 -- the journal goes on by the step of its books, for which its new entry stands
-pub IsRun-append : (old : State) (entries new : List code.JournalEntry) (added : code.JournalEntry) (cpu : ℕ) (command : Command) (given : Reply) (last next : State)
-    → IsRun old (map entry_of entries) last → Step last cpu command given next → entry_of added ≡ entry cpu command given → new ≡ entries ++ added ∷ []
+pub IsRun-append : (old : State) (entries new : List (Entry ℕ)) (added : Entry ℕ) (last next : State)
+    → IsRun old (map entry_of entries) last → Step last added.mark added.command added.given next → new ≡ entries ++ added ∷ []
     → IsRun old (map entry_of new) next
-IsRun-append old entries new added cpu command given last next run step is_added is_new =
+IsRun-append old entries new added last next run step is_new =
     let is_longer : map entry_of new ≡ map entry_of entries ++ entry_of added ∷ [] = ap (map entry_of) is_new ∙ map-append entry_of entries (added ∷ []) in
     subst (λ (es : List JournalEntry). IsRun old es next) (sym is_longer)
-    (IsRun-push old (map entry_of entries) (entry_of added) last next run
-    (subst (λ (e : JournalEntry). Step last e.cpu e.command e.given next) (sym is_added) step))
+    (IsRun-push old (map entry_of entries) (entry_of added) last next run step)
 
 -- a run has one end: what isn't given there is given at none
 pub refused-at_end : (old : State) (entries : List JournalEntry) (end : State) (cpu : ℕ) (command : Command) (given : Reply) → IsRun old entries end

@@ -4,7 +4,7 @@ use Rattle.rmm_spec.specs.Cell.{put}
 use Rattle.rmm_spec.specs.Run.{JournalEntry}
 use Rattle.rmm_spec.specs.World.{Commitment}
 use Rattle.commit_tickets.specs.declared.numbers.Numbers.{Numbers}
-use Rattle.commit_tickets.specs.declared.token.Committed.{Committed}
+use Rattle.commit_tickets.specs.Entries.{Committed}
 use Rattle.commit_tickets.specs.View.{TokenView}
 
 -- an entry as the token of its CPU lists it

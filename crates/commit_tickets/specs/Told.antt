@@ -1,6 +1,6 @@
 -- What a token was told of.
 use Rattle.std.specs.Prelude.{ℕ, suc, ◌<◌, ◌≤◌, List, [], ◌∷◌}
-use Rattle.commit_tickets.specs.declared.token.Committed.{Committed}
+use Rattle.commit_tickets.specs.Entries.{Committed}
 use Rattle.commit_tickets.specs.View.{TokenView}
 
 -- the token was told of the journal's entry of this ticket

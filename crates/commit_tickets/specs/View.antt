@@ -1,5 +1,5 @@
 -- What contracts see of a journal and of a token.
-use Rattle.std.specs.Prelude.{ℕ, zero, suc, ◌-◌, Bool, false, List, [], ◌∷◌, ◌++◌, Option, None, Vec, vec_len, vec_capacity}
+use Rattle.std.specs.Prelude.{ℕ, zero, suc, Bool, false, List, [], ◌∷◌, ◌++◌, Option, None}
 use Rattle.rmm_spec.specs.declared.command.Command.{Command}
 use Rattle.rmm_spec.specs.declared.reply.Reply.{Reply}
 use Rattle.rmm_spec.specs.HistoryText.{Config}
@@ -12,11 +12,7 @@ use Rattle.command_core.specs.Changed.{hold_of}
 use Rattle.command_core.specs.Seen.{place_of}
 use Rattle.command_core.specs.Sides.{side_of}
 use Rattle.commit_tickets.specs.declared.fault.CommitFault.{CommitFault}
-use Rattle.commit_tickets.specs.declared.token.Committed.{Committed}
-
--- how many more elements a vector has room for
-abbrev pub spare : {X Z : Type 0} → Vec X Z → ℕ
-spare v = vec_capacity v - vec_len v
+use Rattle.commit_tickets.specs.Entries.{Committed}
 
 -- A machine's size, all commits in their order, the side table to which they have led, and for how many more there is room.
 pub record JournalView : Type 0 where

@@ -60,7 +60,7 @@ impl Draft {
     {
         self.answer = foresee(config, command, token.cpu, &token.place, hold);
         self.room = room_of(alloc, &self.answer).ok();
-        let _refused = token.mine.reserve(1).is_err();
+        let _refused = token.mine.reserve().is_err();
     }
 
     /// The reply.

@@ -18,9 +18,9 @@ ghost use Rattle.commit_tickets.specs.View.{entry, hold_with};
 
 use crate::draft::{Draft, change_of, room_of};
 use crate::fault::CommitFault;
-use crate::journal::{Journal, JournalEntry};
+use crate::journal::Journal;
 use crate::site::Site;
-use crate::token::{Committed, CpuToken};
+use crate::token::CpuToken;
 use command_core::{Room, Side, answer, apply_aside, bears_out};
 use granule_lock::Hold;
 use rmi_view::CommandRef;
@@ -71,8 +71,8 @@ pub fn enter<S: Site>(
     // what each `?` answers
     token.fault = Some(CommitFault::NoMemory);
     decide_draft(alloc, journal, token, hold, command, draft)?;
-    journal.entries.reserve(1)?;
-    token.mine.reserve(1)?;
+    journal.entries.reserve()?;
+    token.mine.reserve()?;
     let (view, reply) = (CommandRef::of(command), draft.reply());
     if !journal.books.offer_seen(token.cpu, view, reply)? {
         token.fault = Some(CommitFault::Disagrees);
@@ -82,10 +82,8 @@ pub fn enter<S: Site>(
     change_aside(hold, &mut journal.side, &draft.answer);
     journal.commits.add(&mut token.share, 1);
     let ticket = journal.entries.len();
-    let entry = JournalEntry::of(token.cpu, command, reply.to_reply());
-    journal.entries.push_reserved(entry);
-    let mine = Committed::of(ticket, command, reply.to_reply());
-    token.mine.push_reserved(mine);
+    journal.entries.push_reserved(token.cpu, view, reply);
+    token.mine.push_reserved(ticket, view, reply);
     token.seen = journal.entries.len() as u64;
     draft.is_entered = true;
     Ok(ticket)

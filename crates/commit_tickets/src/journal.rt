@@ -4,45 +4,24 @@ ghost use Rattle.std.specs.Prelude.{◌≡◌, [], ◌<◌, ◌↔◌, length, m
 ghost use Rattle.rmm_spec.specs.Run.{IsRun};
 ghost use Rattle.rmm_spec.specs.State.{opening};
 ghost use Rattle.spec_machine.specs.View.{state_of};
+ghost use Rattle.rmi_view.specs.Seen.{HasFewWords, reply_seen};
+ghost use Rattle.command_log.specs.Log.{logged_seen};
 ghost use Rattle.commit_tickets.specs.Entries.{entry_of};
 
 use crate::site::Site;
 use command_core::Side;
+use command_log::{CommandLog, Logged};
 use granule_state::Config;
-use rmi_view::copied_command;
-use rmm_spec::{Command, Reply};
 use spec_machine::Machine;
 use std::marker::Model;
 use std::sync::ledger::Book;
-
-/// A commit: a CPU's command, and what it was answered.
-#[derive(Drop)]
-pub struct JournalEntry {
-    pub cpu: u8,
-    pub command: Command,
-    pub reply: Reply,
-}
-
-impl JournalEntry {
-    ghost use Rattle.commit_tickets.specs.View.{entry};
-
-    pub(crate) fn of(cpu: u8, command: &Command, reply: Reply) -> JournalEntry
-        ensures { entry_of result ≡ entry cpu command.now reply }
-    {
-        JournalEntry {
-            cpu,
-            command: copied_command(command),
-            reply,
-        }
-    }
-}
 
 /// The commits of all CPUs in their one order, with the books, which are the specification machine that they have led to,
 /// and the side table. What counts them takes no bytes.
 #[derive(Drop)]
 pub struct Journal<S: Site> {
     pub(crate) config: Config,
-    pub(crate) entries: Vec<JournalEntry>,
+    pub(crate) entries: CommandLog<u8>,
     pub(crate) books: Machine,
     pub(crate) side: Side,
     pub(crate) commits: Book<S>,
@@ -53,17 +32,16 @@ impl<S: Site> Model for Journal<S> {
 
     ghost Value = { JournalView };
 
-    ghost use Rattle.std.specs.Prelude.{◌≡◌, map, vec_len};
+    ghost use Rattle.std.specs.Prelude.{◌≡◌, length, map};
     ghost use Rattle.rmm_spec.specs.Run.{IsRun};
     ghost use Rattle.rmm_spec.specs.State.{opening};
     ghost use Rattle.spec_machine.specs.View.{state_of};
     ghost use Rattle.commit_tickets.specs.Entries.{entry_of};
-    ghost use Rattle.commit_tickets.specs.View.{spare};
 
-    ghost view = { λ j. record { config = j.config; entries = map entry_of j.entries.items; side = j.side; room = spare j.entries } };
+    ghost view = { λ j. record { config = j.config; entries = map entry_of j.entries.logged; side = j.side; room = j.entries.room } };
 
-    ghost invariant = { λ j. IsRun (opening j.config) (map entry_of j.entries.items) (state_of j.books)
-        × (j.config ≡ S.config) × (vec_len j.entries ≡ j.commits.total) };
+    ghost invariant = { λ j. IsRun (opening j.config) (map entry_of j.entries.logged) (state_of j.books)
+        × (j.config ≡ S.config) × (length j.entries.logged ≡ j.commits.total) };
 }
 
 impl<S: Site> Journal<S> {
@@ -88,20 +66,16 @@ impl<S: Site> Journal<S> {
         self.entries.is_empty()
     }
 
-    /// The commit of a ticket.
-    pub fn entry(&self, ticket: usize) -> &JournalEntry
+    /// The commit of a ticket, whose mark is its CPU.
+    pub fn entry(&self, ticket: usize) -> Logged<'_, u8>
         requires { ticket < length self.now.entries }
-        ensures { slice_get self.now.entries ticket ≡ Some (entry_of result.now) }
+        ensures entry { slice_get self.now.entries ticket ≡ Some (entry_of (logged_seen result)) }
+        ensures few { HasFewWords (reply_seen result.reply) }
     {
-        &self.entries[ticket]
-    }
-
-    /// The commits in their order.
-    pub fn into_entries(self) -> Vec<JournalEntry>
-        ensures { map entry_of result.items ≡ self.entries }
-    {
-        let Journal { entries, .. } = self;
-        entries
+        let Some(entry) = self.entries.get(ticket) else {
+            unreachable!()
+        };
+        entry
     }
 
     /// The machine in the state to which the commits have led.

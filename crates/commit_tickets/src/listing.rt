@@ -1,14 +1,16 @@
 //! The journal compared with what its CPUs' tokens list.
 
 ghost use Rattle.std.specs.Prelude.{◌≡◌, ℕ, ◌≤◌, ◌↔◌, IsTrue, Some, length, slice_get};
-ghost use Rattle.commit_tickets.specs.Entries.{entry_of};
+ghost use Rattle.command_log.specs.Log.{logged_seen};
+ghost use Rattle.commit_tickets.specs.Entries.{committed_of, entry_of};
 ghost use Rattle.commit_tickets.specs.Listed.{AreListed, commit_at, mine_of, numbers_of};
 
-use crate::journal::{Journal, JournalEntry};
+use crate::journal::Journal;
 use crate::numbers::Numbers;
 use crate::same::{is_same_command, is_same_reply};
 use crate::site::Site;
-use crate::token::{Committed, CpuToken};
+use crate::token::CpuToken;
+use command_log::Logged;
 
 impl<S: Site> Journal<S> {
     /// Whether each CPU's token lists what the journal has of that CPU: each commit once, at its ticket and in order. The
@@ -20,10 +22,10 @@ impl<S: Site> Journal<S> {
         let mut numbers = Numbers::new();
         for ticket in 0..self.len() {
             let entry = self.entry(ticket);
-            let Some(token) = tokens.get(usize::from(entry.cpu)) else {
+            let Some(token) = tokens.get(usize::from(entry.mark)) else {
                 return false;
             };
-            if !token.lists(numbers.count(entry.cpu), ticket, entry) {
+            if !token.lists(numbers.count(entry.mark), ticket, entry) {
                 return false;
             }
         }
@@ -33,25 +35,23 @@ impl<S: Site> Journal<S> {
 
 impl<S: Site> CpuToken<S> {
     // Whether the commit of a number is the entry of a ticket.
-    fn lists(&self, number: usize, ticket: usize, entry: &JournalEntry) -> bool
-        ensures { IsTrue result ↔ (slice_get self.now.mine number ≡ Some (commit_at ticket (entry_of entry.now))) }
+    fn lists(&self, number: usize, ticket: usize, entry: Logged<'_, u8>) -> bool
+        ensures { IsTrue result ↔ (slice_get self.now.mine number ≡ Some (commit_at ticket (entry_of (logged_seen entry.entry)))) }
     {
         match self.mine.get(number) {
-            Some(mine) => mine.is_entry(ticket, entry),
+            Some(mine) => is_entry(mine, ticket, entry),
             None => false,
         }
     }
 }
 
-impl Committed {
-    // Whether it is the entry of a ticket.
-    fn is_entry(&self, ticket: usize, entry: &JournalEntry) -> bool
-        ensures { IsTrue result ↔ (self.now ≡ commit_at ticket (entry_of entry.now)) }
-    {
-        self.ticket == ticket
-            && is_same_command(&self.command, &entry.command)
-            && is_same_reply(&self.reply, &entry.reply)
-    }
+// Whether a commit is the entry of a ticket.
+fn is_entry(mine: Logged<'_, usize>, ticket: usize, entry: Logged<'_, u8>) -> bool
+    ensures { IsTrue result ↔ (committed_of (logged_seen mine.entry) ≡ commit_at ticket (entry_of (logged_seen entry.entry))) }
+{
+    mine.mark == ticket
+        && is_same_command(mine.command, entry.command)
+        && is_same_reply(mine.reply, entry.reply)
 }
 
 // Whether no token lists more than its CPU's number of commits.

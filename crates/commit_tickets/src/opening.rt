@@ -8,6 +8,7 @@ use crate::journal::Journal;
 use crate::site::Site;
 use crate::token::CpuToken;
 use command_core::{CpuPlace, Side};
+use command_log::CommandLog;
 use granule_state::Config;
 use spec_machine::Machine;
 use std::alloc::{AllocError, Global};
@@ -36,7 +37,7 @@ impl<S: Site> Journal<S> {
                 cpu,
                 place: CpuPlace::Outside,
                 is_stopped: false,
-                mine: Vec::new(alloc),
+                mine: CommandLog::new(alloc),
                 fault: None,
                 seen: 0,
                 share: rest.split_off(1, 0),
@@ -44,7 +45,7 @@ impl<S: Site> Journal<S> {
         }
         let journal = Journal {
             config,
-            entries: Vec::new(alloc),
+            entries: CommandLog::new(alloc),
             books: Machine::new(alloc, config)?,
             side: Side::new(alloc)?,
             commits,

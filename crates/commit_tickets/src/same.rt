@@ -1,32 +1,32 @@
 //! Commands and replies compared.
 
 ghost use Rattle.std.specs.Prelude.{◌≡◌, ◌↔◌, IsTrue};
+ghost use Rattle.rmi_view.specs.Seen.{command_seen, reply_seen};
 
-use arrayvec::ArrayVec;
-use rmm_spec::{Command, Reply};
+use rmi_view::{CommandRef, ReplyRef};
 
-pub fn is_same_command(command: &Command, other: &Command) -> bool
-    ensures { IsTrue result ↔ (command.now ≡ other.now) }
+pub(crate) fn is_same_command(command: CommandRef<'_>, other: CommandRef<'_>) -> bool
+    ensures { IsTrue result ↔ (command_seen command.entry ≡ command_seen other.entry) }
 {
     command.function.number() == other.function.number()
-        && are_same_words(&command.words, &other.words)
+        && are_same_words(command.words, other.words)
 }
 
-pub fn is_same_reply(reply: &Reply, other: &Reply) -> bool
-    ensures { IsTrue result ↔ (reply.now ≡ other.now) }
+pub(crate) fn is_same_reply(reply: ReplyRef<'_>, other: ReplyRef<'_>) -> bool
+    ensures { IsTrue result ↔ (reply_seen reply.entry ≡ reply_seen other.entry) }
 {
     match (reply, other) {
-        (Reply::Ok(words), Reply::Ok(others)) => are_same_words(words, others),
-        (Reply::Err(status, index), Reply::Err(other_status, other_index)) => {
+        (ReplyRef::Ok(words), ReplyRef::Ok(others)) => are_same_words(words, others),
+        (ReplyRef::Err(status, index), ReplyRef::Err(other_status, other_index)) => {
             status == other_status && index == other_index
         }
-        (Reply::Misplaced, Reply::Misplaced) => true,
+        (ReplyRef::Misplaced, ReplyRef::Misplaced) => true,
         _ => false,
     }
 }
 
-fn are_same_words(words: &ArrayVec<u64, 10>, others: &ArrayVec<u64, 10>) -> bool
+fn are_same_words(words: &[u64], others: &[u64]) -> bool
     ensures { IsTrue result ↔ (words.now ≡ others.now) }
 {
-    words.as_slice() == others.as_slice()
+    words == others
 }

@@ -1,36 +1,16 @@
 //! The token of a CPU.
 
-ghost use Rattle.std.specs.Prelude.{◌≡◌, true};
+ghost use Rattle.std.specs.Prelude.{◌≡◌, map, true};
+ghost use Rattle.commit_tickets.specs.Entries.{committed_of};
 ghost use Rattle.commit_tickets.specs.Told.{RiseWithin};
 ghost use Rattle.commit_tickets.specs.View.{TokenView};
 
 use crate::fault::CommitFault;
 use crate::site::Site;
 use command_core::CpuPlace;
-use rmi_view::copied_command;
-use rmm_spec::{Command, Reply};
+use command_log::CommandLog;
 use std::marker::Model;
 use std::sync::ledger::Share;
-
-/// A commit of one CPU, and its place in the journal.
-#[derive(Drop)]
-pub struct Committed {
-    pub ticket: usize,
-    pub command: Command,
-    pub reply: Reply,
-}
-
-impl Committed {
-    pub(crate) fn of(ticket: usize, command: &Command, reply: Reply) -> Committed
-        ensures { result ≡ record { ticket = ticket; command = command.now; reply = reply } }
-    {
-        Committed {
-            ticket,
-            command: copied_command(command),
-            reply,
-        }
-    }
-}
 
 /// What a CPU commits by: where it is, its own commits in their order, why its last try was refused, if it was, and how much
 /// of the journal it was told of. Its share of the ledger takes no bytes.
@@ -39,7 +19,7 @@ pub struct CpuToken<S: Site> {
     pub(crate) cpu: u8,
     pub(crate) place: CpuPlace,
     pub(crate) is_stopped: bool,
-    pub(crate) mine: Vec<Committed>,
+    pub(crate) mine: CommandLog<usize>,
     // set by `commit` alone
     pub(crate) fault: Option<CommitFault>,
     // how many entries of the journal it was told of
@@ -52,13 +32,13 @@ impl<S: Site> Model for CpuToken<S> {
 
     ghost Value = { TokenView };
 
-    ghost use Rattle.std.specs.Prelude.{◌≡◌, vec_len};
+    ghost use Rattle.std.specs.Prelude.{◌≡◌, length, map};
+    ghost use Rattle.commit_tickets.specs.Entries.{committed_of};
     ghost use Rattle.commit_tickets.specs.Told.{RiseWithin};
-    ghost use Rattle.commit_tickets.specs.View.{spare};
 
-    ghost view = { λ t. record { cpu = t.cpu; place = t.place; is_stopped = t.is_stopped; mine = t.mine.items; room = spare t.mine; fault = t.fault; seen = t.seen } };
+    ghost view = { λ t. record { cpu = t.cpu; place = t.place; is_stopped = t.is_stopped; mine = map committed_of t.mine.logged; room = t.mine.room; fault = t.fault; seen = t.seen } };
 
-    ghost invariant = { λ t. (t.share.parts ≡ 1) × (t.share.amount ≡ vec_len t.mine) × RiseWithin 0 t.seen t.mine.items };
+    ghost invariant = { λ t. (t.share.parts ≡ 1) × (t.share.amount ≡ length t.mine.logged) × RiseWithin 0 t.seen (map committed_of t.mine.logged) };
 }
 
 impl<S: Site> CpuToken<S> {
@@ -75,12 +55,12 @@ impl<S: Site> CpuToken<S> {
         self.place
     }
 
-    /// The CPU's own commits, in their order. Their tickets rise.
-    pub fn mine(&self) -> &[Committed]
-        ensures mine { result.now ≡ self.now.mine }
+    /// The CPU's own commits, in their order. The mark of each is its ticket, and these rise.
+    pub fn mine(&self) -> &CommandLog<usize>
+        ensures mine { map committed_of result.now.logged ≡ self.now.mine }
         ensures rising { RiseWithin 0 self.now.seen self.now.mine }
     {
-        self.mine.as_slice()
+        &self.mine
     }
 
     /// Why its last commit was refused, if it was.

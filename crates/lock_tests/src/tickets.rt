@@ -7,7 +7,8 @@ ghost use Rattle.granule_lock.specs.Locked.{AreGranules};
 
 use arrayvec::ArrayVec;
 use command_core::{CpuPlace, Held, Next, next_lock};
-use commit_tickets::{CommitFault, Committed, CpuToken, Done, Journal, Site, commit};
+use command_log::CommandLog;
+use commit_tickets::{CommitFault, CpuToken, Done, Journal, Site, commit};
 use granule_lock::{Granules, Hold, free_all, lock_for};
 use granule_state::{Config, Pa};
 use rmm_spec::{Command, FunctionId, Reply, Tag};
@@ -42,12 +43,15 @@ fn ok() -> Reply {
 }
 
 /// Whether a granule was delegated, and nothing else committed.
-fn is_one_delegate(mine: &[Committed], ticket: usize, address: u64, reply: &Reply) -> bool {
-    match mine {
-        [only] => {
-            only.ticket == ticket && only.command == delegate(address) && only.reply == *reply
+fn is_one_delegate(mine: &CommandLog<usize>, ticket: usize, address: u64, reply: &Reply) -> bool {
+    match mine.get(0) {
+        Some(only) => {
+            mine.len() == 1
+                && only.mark == ticket
+                && only.command.to_command() == delegate(address)
+                && only.reply.is(reply)
         }
-        _ => false,
+        None => false,
     }
 }
 

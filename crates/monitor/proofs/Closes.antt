@@ -1,12 +1,12 @@
 -- A run that is closed, or whose tokens and journal disagree.
-use Rattle.std.proofs.Common.{◌≡◌, Bool, true, false, List, length, ap, ◌∙◌, subst}
+use Rattle.std.proofs.Common.{◌≡◌, Bool, true, false, List, length, subst}
 use Rattle.std.specs.Prelude.{◌↔◌}
 use Rattle.std.specs.List.{sum_by}
 use Rattle.std.proofs.lemmas.Bool.{iff_false}
 use Rattle.rmm_spec.specs.declared.event.Event.{Event}
 use Rattle.rmm_spec.specs.declared.line.Line.{Line}
 use Rattle.rmm_spec.specs.HistoryText.{Config}
-use Rattle.rmm_spec.specs.Run.{JournalEntry, IsRun}
+use Rattle.rmm_spec.specs.Run.{IsRun}
 use Rattle.rmm_spec.specs.State.{State, opening}
 use Rattle.commit_tickets.specs.Listed.{AreListed}
 use Rattle.commit_tickets.specs.View.{JournalView, TokenView}
@@ -28,12 +28,12 @@ module _ (config : Config) (journal : JournalView) (last : State) (same : journa
   pub listed : answer ≡ true → AreListed tokens journal.entries
   listed granted = subst (λ ts. AreListed ts journal.entries) are (tells.0 granted)
 
-  pub closed : (events : List Event) (entries : List JournalEntry) (lines : List Line) → answer ≡ true → entries ≡ journal.entries
-      → lines ≡ lines_for events entries → IsJournal config tokens events lines
-  closed events entries lines granted same_entries written = record {
+  pub closed : (events : List Event) (lines : List Line) → answer ≡ true → lines ≡ lines_for events journal.entries
+      → IsJournal config tokens events lines
+  closed events lines granted written = record {
     entries = journal.entries;
     last = last;
     run = same-run config journal.config journal.entries last same run;
     listed = listed granted;
-    written = written ∙ ap (lines_for events) same_entries;
+    written = written;
   }

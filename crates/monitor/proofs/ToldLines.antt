@@ -11,7 +11,7 @@ use Rattle.rmm_spec.specs.Cell.{put}
 use Rattle.rmm_spec.specs.HistoryText.{Config}
 use Rattle.rmm_spec.specs.Run.{JournalEntry}
 use Rattle.rmm_spec.specs.World.{Commitment, line_for}
-use Rattle.commit_tickets.specs.declared.token.Committed.{Committed}
+use Rattle.commit_tickets.specs.Entries.{Committed}
 use Rattle.commit_tickets.specs.Listed.{commit_at, listed_from, numbered, numbered_from}
 use Rattle.commit_tickets.specs.View.{TokenView}
 use Rattle.commit_tickets.proofs.Lists.{listed-own, listed-other}

@@ -57,7 +57,7 @@ impl<S: Site> Monitor<S> {
         if !journal.is_listed_by(tokens) {
             return Err(CloseFault::Disagrees);
         }
-        let certificate = certificate_of(alloc, journal.into_entries(), &history)?;
+        let certificate = certificate_of(alloc, &journal, &history)?;
         Ok((history, certificate))
     }
 }

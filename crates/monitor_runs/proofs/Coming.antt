@@ -8,7 +8,7 @@ use Rattle.rmm_spec.specs.declared.event.Event.{Event}
 use Rattle.rmm_spec.specs.declared.event.Event.TheVariants.{Called, Returned}
 use Rattle.rmm_spec.specs.CommandText.{IsCommand}
 use Rattle.commit_tickets.specs.declared.committing.Done.{Done}
-use Rattle.commit_tickets.specs.declared.token.Committed.{Committed}
+use Rattle.commit_tickets.specs.Entries.{Committed}
 use Rattle.commit_tickets.specs.View.{TokenView}
 use Rattle.event_queue.specs.View.{CpuView}
 use Rattle.monitor.specs.Executed.{ArePaired, Leaves, HasCommitted, called, returned}

@@ -7,7 +7,7 @@ use Rattle.rmm_spec.specs.declared.event.Event.{Event}
 use Rattle.rmm_spec.specs.declared.event.Event.TheVariants.{Called, Returned}
 use Rattle.rmm_spec.specs.CommandText.{IsCommand}
 use Rattle.rmm_spec.specs.HistoryText.{Config, History}
-use Rattle.commit_tickets.specs.declared.token.Committed.{Committed}
+use Rattle.commit_tickets.specs.Entries.{Committed}
 use Rattle.commit_tickets.specs.View.{TokenView}
 use Rattle.event_queue.specs.View.{CpuView, ScribeView, CanDrain, before_calls}
 use Rattle.monitor.specs.Cpus.{ArePairs}

@@ -1,17 +1,16 @@
-use Rattle.std.proofs.Common.{◌≤◌, List, length, [], ◌∷◌, ◌++◌, sym, ap, ◌∙◌, subst, arith, inl}
-use Rattle.std.proofs.lemmas.List.{length-map}
+use Rattle.std.proofs.Common.{◌≡◌, ◌+◌, ◌≤◌, length, map, [], ◌∷◌, ◌++◌, ℕ, sym, ap, ◌∙◌, subst, arith, inl}
+use Rattle.std.proofs.lemmas.List.{length-map, length_push, map-append}
 use Rattle.rmm_spec.specs.declared.command.Command.{Command}
 use Rattle.rmm_spec.specs.declared.reply.Reply.{Reply}
 use Rattle.rmm_spec.specs.Step.{Step}
-use Rattle.rmi_view.specs.Seen.{reply_seen}
+use Rattle.rmi_view.specs.Seen.{command_seen, reply_seen}
 use Rattle.command_core.specs.Changed.{given_of}
 use Rattle.command_core.specs.Foreseen.{change_of}
+use Rattle.command_log.specs.Log.{Entry}
 use Rattle.granule_lock.specs.HeldCells.{hold_cells}
 use Rattle.spec_machine.specs.View.{state_of}
-use Rattle.commit_tickets.specs.declared.journal.JournalEntry.{JournalEntry}
-use Rattle.commit_tickets.specs.declared.token.Committed.{Committed}
-use Rattle.commit_tickets.specs.Entries.{entry_of}
-use Rattle.commit_tickets.specs.View.{JournalView, entry}
+use Rattle.commit_tickets.specs.Entries.{entry_of, committed_of}
+use Rattle.commit_tickets.specs.View.{JournalView}
 use Rattle.commit_tickets.proofs.Disagreements.{refused-disagree}
 use Rattle.commit_tickets.proofs.Rising.{RiseWithin-append}
 use Rattle.commit_tickets.proofs.Runs.{IsRun-append}
@@ -30,31 +29,40 @@ returns-then-not-branch-clause-cause g c =
 
 pub invariant_of-journal-2 : goal.invariant_of-journal-2
 invariant_of-journal-2 g c =
-    let is_added = c.of-entry.ensures ∙ ap (entry c.token.inside.cpu c.args.command.now) c.to_reply.ensures in
-    let step = subst (λ (x : Command). Step (state_of c.journal.inside.books) c.token.inside.cpu x (reply_seen c.reply-reply.result) (state_of c.offer_seen.new.self))
-    c.of-view.ensures.seen (c.in_ok-offer_seen.ensures.step c.if-not-branch.false) in
-    let run = IsRun-append _ _ _ c.of-entry.result _ _ _ _ _ c.journal.invariant.0 step is_added
-    (c.push_reserved.ensures.items ∙ ap (λ (es : List JournalEntry). es ++ c.of-entry.result ∷ []) c.reserve.ensures.items) in
-    (run, c.journal.invariant.1, omega (arith, c.push_reserved.ensures.len, c.reserve.ensures.len, c.add.ensures.total, c.journal.invariant.2))
+    let added : Entry ℕ =
+    record { mark = c.token.inside.cpu; command = command_seen c.of-view.result; given = reply_seen c.reply-reply.result } in
+    let logged = c.journal.inside.entries.logged in
+    let is_new : c.push_reserved.new.self.logged ≡ logged ++ added ∷ [] =
+    c.push_reserved.ensures ∙ ap (λ log. log.logged ++ added ∷ []) c.reserve.ensures.kept in (
+      IsRun-append _ logged c.push_reserved.new.self.logged added _ _ c.journal.invariant.0 (c.in_ok-offer_seen.ensures.step c.if-not-branch.false) is_new,
+      c.journal.invariant.1,
+      omega (arith, ap length is_new, length_push logged added, c.add.ensures.total, c.journal.invariant.2),
+    )
 
 pub invariant_of-token-3 : goal.invariant_of-token-3
 invariant_of-token-3 g c =
-    let ticket = ap (λ (commit : Committed). commit.ticket) c.of-mine.ensures in
-    let entries = c.journal.inside.entries in
-    let past : c.token.inside.seen ≤ c.of-mine.result.ticket = omega (
+    let added : Entry ℕ = record { mark = c.len-ticket.result; command = command_seen c.of-view.result; given = reply_seen c.reply-reply.result } in
+    let mine = c.token.inside.mine.logged in
+    let entries = c.journal.inside.entries.logged in
+    let is_new : c.push_reserved-2.new.self.logged ≡ mine ++ added ∷ [] =
+    c.push_reserved-2.ensures ∙ ap (λ log. log.logged ++ added ∷ []) c.reserve-2.ensures.kept in
+    let ticket : c.len-ticket.result ≡ length entries = omega (arith, c.len-ticket.ensures, ap (λ log. length log.logged) c.reserve.ensures.kept) in
+    let past : c.token.inside.seen ≤ c.len-ticket.result = omega (
       arith,
       ticket,
-      c.len-ticket.ensures,
-      c.reserve.ensures.len,
-      entries.ok.0,
-      length-map entries.items entry_of,
+      length-map entries entry_of,
       ap (λ (j : JournalView). length j.entries) c.journal.view_is,
       c.len.ensures,
       c.if-len-token.false,
     ) in
-    let is_new = c.push_reserved-2.ensures.items ∙ ap (λ (cs : List Committed). cs ++ c.of-mine.result ∷ []) c.reserve-2.ensures.items in (
+    let next : c.len-2.result ≡ c.len-ticket.result + 1 = omega (
+      arith,
+      c.len-2.ensures,
+      c.len-ticket.ensures,
+      ap length c.push_reserved.ensures,
+      length_push c.reserve.new.self.logged (record { mark = c.token.inside.cpu; command = added.command; given = added.given }),
+    ) in (
       c.add.ensures.parts ∙ c.token.invariant.0,
-      omega (arith, c.add.ensures.amount, c.push_reserved-2.ensures.len, c.reserve-2.ensures.len, c.token.invariant.1),
-      RiseWithin-append _ _ _ _ c.of-mine.result past (omega (arith, ticket, c.len-2.ensures, c.push_reserved.ensures.len, c.len-ticket.ensures)) is_new
-          c.token.invariant.2,
+      omega (arith, c.add.ensures.amount, ap length is_new, length_push mine added, c.token.invariant.1),
+      RiseWithin-append _ _ _ _ (committed_of added) past next (ap (map committed_of) is_new ∙ map-append committed_of mine (added ∷ [])) c.token.invariant.2,
     )

@@ -5,7 +5,7 @@ use Rattle.commit_tickets.proofs.same.is_same_command.Goals as goal
 
 pub returns-then-number : goal.returns-then-number
 returns-then-number c =
-    let function = number_of-injective c.args.command.now.function c.args.other.now.function
+    let function = number_of-injective c.args.command.function c.args.other.function
     (omega (arith, c.if-number.true, c.number.ensures, c.number-2.ensures)) in
     let words = c.are_same_words.ensures in
-    (λ same. λ i. record { function = function i; words = words.0 same i }, λ is. words.1 (ap (λ (x : Command). x.words) is))
+    (λ same. λ i. record { function = function i; words = record { items = words.0 same i } }, λ is. words.1 (ap (λ (x : Command). x.words.items) is))

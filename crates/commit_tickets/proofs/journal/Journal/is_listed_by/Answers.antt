@@ -1,5 +1,6 @@
 use Rattle.std.proofs.Common.{arith}
 use Rattle.std.proofs.lemmas.Bool.{false≢true, iff_false}
+use Rattle.command_log.specs.Log.{logged_seen}
 use Rattle.commit_tickets.specs.Entries.{entry_of}
 use Rattle.commit_tickets.specs.Listed.{numbers_of}
 use Rattle.commit_tickets.proofs.Lists.{unlisted-cpu, listed-by_token, Remain-by_token, listed-end}
@@ -9,8 +10,8 @@ pub returns-in_default : goal.returns-in_default
 returns-in_default g c = (
   λ no. absurd (false≢true no),
   λ listed.
-      absurd (unlisted-cpu c.args.tokens.now c.args.self.now.entries c.loop-ticket.ticket (numbers_of c.loop-ticket.numbers) (entry_of c.entry-entry.result.now)
-      c.loop-ticket.invariant c.entry-entry.ensures (omega (arith, c.in_default.ensures.lookup.3, c.from.ensures)) listed),
+      absurd (unlisted-cpu c.args.tokens.now c.args.self.now.entries c.loop-ticket.ticket (numbers_of c.loop-ticket.numbers) (entry_of (logged_seen c.entry-entry.result))
+      c.loop-ticket.invariant c.entry-entry.ensures.entry (omega (arith, c.in_default.ensures.lookup.3, c.from.ensures)) listed),
 )
 
 pub returns-then-not-lists : goal.returns-then-not-lists
@@ -18,15 +19,15 @@ returns-then-not-lists g c = (
   λ no. absurd (false≢true no),
   λ listed.
       absurd (iff_false c.lists.ensures c.if-not-lists.true
-      (listed-by_token c.args.tokens.now c.args.self.now.entries c.loop-ticket.ticket (numbers_of c.loop-ticket.numbers) (entry_of c.entry-entry.result.now)
-      c.loop-ticket.invariant c.entry-entry.ensures c.in-Some.token.now c.from.result c.count.result c.from.ensures c.in-Some.ensures.lookup.3.0
+      (listed-by_token c.args.tokens.now c.args.self.now.entries c.loop-ticket.ticket (numbers_of c.loop-ticket.numbers) (entry_of (logged_seen c.entry-entry.result))
+      c.loop-ticket.invariant c.entry-entry.ensures.entry c.in-Some.token.now c.from.result c.count.result c.from.ensures c.in-Some.ensures.lookup.3.0
       c.in-Some.ensures.lookup.1 c.count.ensures.number listed)),
 )
 
 pub loop-ticket-preserved : goal.loop-ticket-preserved
 loop-ticket-preserved g c =
-    Remain-by_token c.args.tokens.now c.args.self.now.entries c.loop-ticket.ticket (numbers_of c.loop-ticket.numbers) (entry_of c.entry-entry.result.now)
-    c.loop-ticket.invariant c.entry-entry.ensures c.in-Some.token.now c.from.result c.count.result c.from.ensures c.in-Some.ensures.lookup.3.0
+    Remain-by_token c.args.tokens.now c.args.self.now.entries c.loop-ticket.ticket (numbers_of c.loop-ticket.numbers) (entry_of (logged_seen c.entry-entry.result))
+    c.loop-ticket.invariant c.entry-entry.ensures.entry c.in-Some.token.now c.from.result c.count.result c.from.ensures c.in-Some.ensures.lookup.3.0
     c.in-Some.ensures.lookup.1 c.count.ensures.number (numbers_of c.count.new.self) c.count.ensures.counted (c.lists.ensures.0 c.if-not-lists.false)
 
 pub returns : goal.returns

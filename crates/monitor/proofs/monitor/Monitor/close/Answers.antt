@@ -1,9 +1,6 @@
-use Rattle.std.proofs.Common.{◌≡◌, ◌<◌, ◌≤◌, length, map, slice_get, sym, ap, ◌∙◌, subst, arith, inr}
+use Rattle.std.proofs.Common.{◌≡◌, ◌<◌, ◌≤◌, length, slice_get, sym, ap, ◌∙◌, arith, inr}
 use Rattle.std.specs.Prelude.{Result, Ok, Err, IfErr}
-use Rattle.std.specs.List.{AllByRecursion, sum_by}
-use Rattle.std.proofs.lemmas.List.{length-map}
-use Rattle.rmm_spec.specs.Run.{JournalEntry}
-use Rattle.commit_tickets.specs.Entries.{entry_of}
+use Rattle.std.specs.List.{sum_by}
 use Rattle.commit_tickets.specs.View.{JournalView, TokenView}
 use Rattle.commit_tickets.proofs.Lists.{listed-below}
 use Rattle.monitor.specs.Closed.{IsShort, count_committed}
@@ -32,8 +29,6 @@ pub certificate_of-requires-clause-few : goal.certificate_of-requires-clause-few
 certificate_of-requires-clause-few g c =
     omega (
       arith,
-      length-map c.into_entries.result.items entry_of,
-      ap length c.into_entries.ensures,
       ap (λ (j : JournalView). length j.entries) c.audit.ensures.journal,
       c.audit.ensures.counted,
       ap (sum_by (λ (token : TokenView). length token.mine)) c.as_mut_slice-tokens.ensures.value,
@@ -47,7 +42,6 @@ certificate_of-requires-clause-cpus g c =
     let same = sym c.config-size.ensures.config ∙ c.config-size.ensures.site
     ∙ sym c.self.invariant.1 ∙ ap (λ (m : MonitorView). m.config) c.self.view_is in
     let most : length c.args.tokens.items ≤ 8 = omega (arith, c.requires.cpus.count, c.cpus-cpus.ensures.limits.most_cpus, ap (λ (m : MonitorView). m.config.cpus) c.self.view_is) in
-    subst (AllByRecursion (λ (entry : JournalEntry). entry.cpu < 8)) (sym c.into_entries.ensures)
     (listed-below c.args.tokens.items c.audit.new.self.entries 8 most
     (listed c.args.self.config c.audit.new.self _ same c.books-books.ensures c.args.tokens.items c.audit.new.tokens
     (c.audit.ensures.tokens ∙ c.as_mut_slice-tokens.ensures.value) c.is_listed_by.result c.is_listed_by.ensures c.if-not-is_listed_by.false))
@@ -62,7 +56,7 @@ returns-clause-certificate g c =
     ∙ sym c.self.invariant.1 ∙ ap (λ (m : MonitorView). m.config) c.self.view_is in
     closed c.args.self.config c.audit.new.self _ same c.books-books.ensures c.args.tokens.items c.audit.new.tokens
     (c.audit.ensures.tokens ∙ c.as_mut_slice-tokens.ensures.value) c.is_listed_by.result c.is_listed_by.ensures c.drain_rest.new.history.recorded.events
-    (map entry_of c.into_entries.result.items) _ c.if-not-is_listed_by.false c.into_entries.ensures c.in_ok-certificate.ensures.written
+    _ c.if-not-is_listed_by.false c.in_ok-certificate.ensures.written
 
 any_err : {T E : Type 0} (P : E → Type 0) (r : Result T E) → ((fault : E) → P fault) → IfErr r P
 any_err P (Ok x) each = tt
@@ -73,8 +67,6 @@ returns-in_err-certificate-clause-short g c =
     let some : 0 < count_committed c.args.tokens.items = omega (
       arith,
       c.in_err-certificate.ensures.short,
-      length-map c.into_entries.result.items entry_of,
-      ap length c.into_entries.ensures,
       ap (λ (j : JournalView). length j.entries) c.audit.ensures.journal,
       c.audit.ensures.counted,
       ap (sum_by (λ (token : TokenView). length token.mine)) c.as_mut_slice-tokens.ensures.value,
