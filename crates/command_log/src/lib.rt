@@ -2,7 +2,7 @@
 //! A command of its own and a reply of its own have room for ten words each, of which most have two or three: here the words of all stand
 //! in one vector, and an entry tells where its own are.
 //! It promises that entries stay as they were put in, and that one more takes no memory where there is room for it.
-//! The journal and the tokens of its CPUs stand on it.
+//! The journals of worlds and of threads stand on it, and the tokens of CPUs.
 #![tactic(auto)]
 
 mod line;

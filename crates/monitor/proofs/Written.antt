@@ -1,7 +1,5 @@
 -- The journal, written as a certificate entry by entry.
-use Rattle.std.proofs.Common.{◌≡◌, ℕ, zero, suc, ◌+◌, ◌≤◌, List, [], ◌∷◌, ◌++◌, length, map, slice_get, Some, sym, ap, ◌∙◌, subst, arith, append_assoc, ⊎_elim}
-use Rattle.std.specs.List.{AllByRecursion}
-use Rattle.std.proofs.lemmas.Option.{none-some, same_Some}
+use Rattle.std.proofs.Common.{◌≡◌, ℕ, ◌+◌, ◌≤◌, List, [], ◌∷◌, ◌++◌, length, map, sym, ap, ◌∙◌, arith, append_assoc, ⊎_elim}
 use Rattle.std.proofs.lemmas.Bool.{eq-eqb, ne_eqb, cases_eq}
 use Rattle.std.proofs.lemmas.List.{length_push}
 use Rattle.rmm_spec.specs.declared.event.Event.{Event}
@@ -20,12 +18,6 @@ lines_from events number entries = map (line_for events) (numbered_from number e
 -- an entry as its CPU's commit of this number
 abbrev pub commitment : JournalEntry → ℕ → Commitment
 commitment entry number = record { cpu = entry.cpu; number = number; command = entry.command; given = entry.given }
-
--- what holds of all entries holds of each
-pub each-at : {X : Type 0} (P : X → Type 0) (xs : List X) (place : ℕ) (x : X) → AllByRecursion P xs → slice_get xs place ≡ Some x → P x
-each-at P [] place x each at = absurd (none-some x at)
-each-at P (first ∷ xs) zero x each at = subst P (same_Some first x at) each.0
-each-at P (first ∷ xs) (suc place) x each at = each-at P xs place x each.1 at
 
 -- one line more is written, and one entry less is left
 pub written-next : (events : List Event) (entries rest : List JournalEntry) (entry : JournalEntry) (number next : ℕ → ℕ) (lines new all : List Line)

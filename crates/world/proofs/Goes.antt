@@ -1,5 +1,5 @@
 -- What a CPU's go reports, by how far it has come.
-use Rattle.std.proofs.Common.{◌≡◌, ℕ, zero, suc, ◌+◌, ◌<◌, Bool, true, false, ◌==◌, if◌then◌else◌, List, [], ◌∷◌, length, vec_len, Option, Some, None, slice_get, refl, sym, ap, ◌∙◌, subst, arith, eq-eqb}
+use Rattle.std.proofs.Common.{◌≡◌, ℕ, zero, suc, ◌<◌, Bool, true, false, ◌==◌, if◌then◌else◌, List, [], ◌∷◌, length, vec_len, Some, None, slice_get, refl, sym, ap, ◌∙◌, subst, arith, eq-eqb}
 use Rattle.std.specs.Prelude.{Contains, nat_lt}
 use Rattle.std.specs.List.{list_any}
 use Rattle.std.proofs.lemmas.Bool.{false≢true, ltb-true, ltb-false}
@@ -21,7 +21,6 @@ use Rattle.world.specs.declared.cpus.Cpus.{Cpus}
 use Rattle.world.specs.declared.world.World as own
 use Rattle.world.specs.Cpus.{views_of, is_decided, told}
 use Rattle.world.specs.Granules.{holder_of}
-use Rattle.world.specs.Kept.{AreLocks, has_taken}
 use Rattle.world.specs.Next.{IsNext, next_in, next_for, is_taken, next_report, call_report, return_report, report_in, go_report}
 use Rattle.world.specs.Whole.{world_from}
 use Rattle.world.specs.World.{world_of}

@@ -1,10 +1,10 @@
 -- The journal as a certificate: the line of each commit, and that a certificate has room for it.
-use Rattle.std.proofs.Common.{◌≡◌, ℕ, zero, suc, ◌<◌, List, [], ◌∷◌, length, Option, Some, slice_get, get_or, map, take, sym, ap, ◌∙◌, subst, arith}
+use Rattle.std.proofs.Common.{◌≡◌, ℕ, zero, suc, ◌<◌, List, [], ◌∷◌, length, Option, Some, slice_get, map, take, ap, subst, arith}
 use Rattle.std.specs.List.{AllByRecursion}
 use Rattle.std.proofs.Math.Logic.{∥∥₁_elim}
 use Rattle.std.proofs.Props.{props}
 use Rattle.std.proofs.lemmas.List.{length-map, length-take-le}
-use Rattle.std.proofs.lemmas.Option.{none-some, same_Some, slice_get-get_or}
+use Rattle.std.proofs.lemmas.Option.{none-some, same_Some}
 use Rattle.rmm_spec.specs.declared.line.Line.{Line}
 use Rattle.rmm_spec.specs.declared.line.Line.TheVariants.{Keep, Unfinished}
 use Rattle.rmm_spec.specs.declared.reply.Reply.{Reply}
@@ -35,17 +35,13 @@ IsLine-single : (line : Line) → IsProp (IsLine line)
 IsLine-single (Keep cpu number) = hlevel props
 IsLine-single (Unfinished cpu number given) = hlevel (props, IsReply-single)
 
--- what is read at a place of the journal stands there
-read-place : {X : Type 0} (xs : List X) (place : ℕ) (x : X) → place < length xs → x ≡ get_or xs place x → slice_get xs place ≡ Some x
-read-place xs place x within read = slice_get-get_or xs place x within ∙ ap Some (sym read)
-
 module _ (config : Config) (w : World) (waits : ℕ → Option ℕ) (reached : ∥ IsReached config w waits ∥₁) where
   -- a commit is of a known call
-  pub known-reached : (place : ℕ) (c : Commitment) → place < length w.journal → c ≡ get_or w.journal place c → ¬ ¬ IsKnown w.events c.cpu c.number
-  known-reached place c within read unknown = ∥∥₁_elim reached (λ x y. absurd x) (λ (r : IsReached config w waits).
+  pub known-reached : (place : ℕ) (c : Commitment) → slice_get w.journal place ≡ Some c → ¬ ¬ IsKnown w.events c.cpu c.number
+  known-reached place c at unknown = ∥∥₁_elim reached (λ x y. absurd x) (λ (r : IsReached config w waits).
       let moves = moves_of_turns (opening_world config r.programs) r.turns w r.run in
       let accounted = IsAccounted-HappenAll (opening_world config r.programs) moves.0 w (IsAccounted-opening config r.programs) moves.1 in
-      let called = accounted.recorded.called place c (read-place w.journal place c within read) in unknown (called.0, c.command, called.1))
+      let called = accounted.recorded.called place c at in unknown (called.0, c.command, called.1))
 
   -- its certificate is in the grammar
   certificate-reached : IsConfig config → IsCertificate (certificate_of w)
@@ -53,10 +49,10 @@ module _ (config : Config) (w : World) (waits : ℕ → Option ℕ) (reached : �
       ∥∥₁_elim reached (hlevel (props, IsLine-single)) (λ (r : IsReached config w waits). (written-reached config w waits is_config r).1)
 
   -- so each commit's line may stand there
-  pub line-reached : (place : ℕ) (c : Commitment) → IsConfig config → place < length w.journal → c ≡ get_or w.journal place c → IsLine (line_for w.events c)
-  line-reached place c is_config within read =
+  pub line-reached : (place : ℕ) (c : Commitment) → IsConfig config → slice_get w.journal place ≡ Some c → IsLine (line_for w.events c)
+  line-reached place c is_config at =
       at_place IsLine (certificate_of w) place (line_for w.events c) (certificate-reached is_config).each
-      (slice_get-map_to (line_for w.events) w.journal place c (read-place w.journal place c within read))
+      (slice_get-map_to (line_for w.events) w.journal place c at)
 
   -- and the lines of the commits before it leave room for it
   pub room-reached : (place : ℕ) (lines : List Line) → IsConfig config → place < length w.journal → lines ≡ map (line_for w.events) (take place w.journal)

@@ -1,5 +1,5 @@
 -- Each move is a turn, after which the world keeps what it kept.
-use Rattle.std.proofs.Common.{◌≡◌, ℕ, ◌+◌, ◌<◌, Bool, true, false, ◌==◌, if◌then◌else◌, List, [], ◌∷◌, ◌++◌, drop, slice_get, Option, Some, None, IsTrue, refl, sym, ap, ◌∙◌, subst, arith, eq-eqb}
+use Rattle.std.proofs.Common.{◌≡◌, ℕ, ◌+◌, ◌<◌, Bool, true, false, ◌==◌, if◌then◌else◌, List, [], ◌∷◌, ◌++◌, drop, slice_get, Option, Some, None, refl, sym, ap, ◌∙◌, subst, arith, eq-eqb}
 use Rattle.std.specs.Prelude.{Contains}
 use Rattle.std.proofs.lemmas.Option.{none-some, same_Some}
 use Rattle.rmm_spec.specs.declared.command.Command.{Command}
@@ -295,14 +295,13 @@ module _ (s : own.World) (cpu : ℕ) (within : cpu < s.history.recorded.config.c
       s.kept.locked (AreFit-phase old.phase old.program cpu (Between (number + 1))
       (record { numbered = was.numbered }) s.kept.fit)
 
-  -- its open call is committed, with the command and the reply as they were copied
+  -- its open call is committed
   pub committed : (cells : Cells) (side : own_side.Side) (mid cpus : Cpus) (reserved entries : List Commitment) (config : Config) (number : ℕ)
-      (opened command again : Command) (learnt : Option ℕ) (given told : Reply) → config ≡ s.history.recorded.config
+      (opened command : Command) (learnt : Option ℕ) (given : Reply) → config ≡ s.history.recorded.config
       → (views_of s.cpus).phase cpu ≡ Deciding number opened learnt → command ≡ opened
       → MakesStep config cpu command given (cells_of s.cells) (cells_of cells) (side_of s.side) (side_of side) (views_of s.cpus) (views_of mid)
       → views_of cpus ≡ record (views_of mid) { waits = put (views_of mid).waits cpu None; phase = put (views_of mid).phase cpu (Decided number command given) }
-      → reserved ≡ s.journal.items → again ≡ command → told ≡ given
-      → entries ≡ reserved ++ record { cpu = cpu; number = number; command = again; given = told } ∷ []
+      → reserved ≡ s.journal.items → entries ≡ reserved ++ record { cpu = cpu; number = number; command = command; given = given } ∷ []
       → IsTurnTo s cpu wills.Go (Did turn.Commit) (record {
         cells = cells_of cells;
         side = side_of side;
@@ -312,12 +311,12 @@ module _ (s : own.World) (cpu : ℕ) (within : cpu < s.history.recorded.config.c
         holder = holder_of s.locks;
       })
   unfolding world_of world_from
-  committed cells side mid cpus reserved entries config number opened command again learnt given told same_config was_open same made_step is kept_journal same_again same_told pushed =
+  committed cells side mid cpus reserved entries config number opened command learnt given same_config was_open same made_step is kept_journal pushed =
       let old = views_of s.cpus in
       let is_open = was_open ∙ (λ i. Deciding number (sym same i) learnt) in
       let step = subst (λ (c : Config). MakesStep c cpu command given (cells_of s.cells) (cells_of cells) (side_of s.side) (side_of side) old (views_of mid))
       same_config made_step in
-      let more = pushed ∙ (λ i. kept_journal i ++ record { cpu = cpu; number = number; command = same_again i; given = same_told i } ∷ []) in
+      let more = pushed ∙ ap (λ commits. commits ++ record { cpu = cpu; number = number; command = command; given = given } ∷ []) kept_journal in
       let f : Fields = record {
         cells = put_all (cells_of s.cells) step.held.cells;
         side = step.held.side;

@@ -1,10 +1,9 @@
 -- Where no CPU's go would make a move, each waits at a rising take, or has nothing to do.
-use Rattle.std.proofs.Common.{◌≡◌, ℕ, ◌<◌, Bool, true, false, if◌then◌else◌, List, [], ◌∷◌, Option, Some, None, IsTrue, ◌⊎◌, inl, inr, refl, sym, ap, ◌∙◌, subst}
+use Rattle.std.proofs.Common.{◌≡◌, ℕ, Bool, true, false, if◌then◌else◌, List, [], ◌∷◌, Option, Some, IsTrue, ◌⊎◌, inl, inr, refl, sym, ap, subst}
 use Rattle.std.specs.Prelude.{Contains}
 use Rattle.std.proofs.lemmas.Option.{none-some, same_Some}
 use Rattle.rmm_spec.specs.declared.command.Command.{Command}
 use Rattle.rmm_spec.specs.Call.{call_of}
-use Rattle.rmm_spec.specs.Local.{granules_held}
 use Rattle.rmm_spec.specs.World.{World, Phase, Between, Deciding, Decided, GivenUp, Stopped, IsGoing, held_cells}
 use Rattle.rmm_spec.specs.declared.turn.Will.TheVariants.{Go}
 use Rattle.rmm_spec.specs.Waits.{Did, Blocked, Idle, IsRising, IsIdle, AreRising, Wants, WaitsBy, IsStuck, awaited}

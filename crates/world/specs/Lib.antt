@@ -2,6 +2,7 @@ pub mod Granules
 pub mod Cpus
 pub mod Lent
 pub mod Told
+pub mod Journal
 pub mod Whole
 pub mod Next
 pub mod Kept

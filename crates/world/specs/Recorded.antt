@@ -1,5 +1,5 @@
 -- Where a turn may be refused memory: where its step records something, and there is no room left for that.
-use Rattle.std.specs.Prelude.{◌≡◌, ℕ, ◌-◌, ◌<◌, ◌⊎◌, true, IsTrue, IsOk, [], length, vec_len, vec_capacity}
+use Rattle.std.specs.Prelude.{◌≡◌, ℕ, ◌<◌, ◌⊎◌, true, IsTrue, IsOk, [], length}
 use Rattle.rmm_spec.specs.HistoryText.{Config}
 use Rattle.rmm_spec.specs.declared.change.Change.{Change}
 use Rattle.rmm_spec.specs.declared.command.Command.{Command}
@@ -37,7 +37,7 @@ unfoldable pub event_room : own.World → ℕ
 event_room w = w.history.room
 
 unfoldable pub commit_room : own.World → ℕ
-commit_room w = vec_capacity w.journal - vec_len w.journal
+commit_room w = w.journal.room
 
 -- What is decided on that hold is accepted, and puts a table into a granule that is held.
 pub record MakesTable (config : Config) (cpu : ℕ) (command : Command) (hold : Hold) : Type 0 where

@@ -3,11 +3,11 @@
 ghost use Rattle.std.specs.Prelude.{◌≡◌};
 ghost use Rattle.world.specs.Whole.{world_from};
 
-use crate::committed::Committed;
+use crate::journal::Caller;
 use crate::phase::Phase;
 use crate::turned::{Kind, Turned};
 use crate::world::World;
-use rmi_view::{copied_command, copied_reply};
+use rmi_view::copied_command;
 use std::alloc::{AllocError, Global};
 
 #[tactic(auto, unfolding(crate::specs::World::world_of, crate::specs::World::waits_of, crate::specs::Whole::world_from))]
@@ -44,7 +44,7 @@ impl World {
             unreachable!()
         };
         let (number, command) = (*number, copied_command(command));
-        let Ok(()) = self.journal.reserve(1) else {
+        let Ok(()) = self.journal.reserve() else {
             return Err(AllocError);
         };
         let config = self.history.config();
@@ -52,12 +52,8 @@ impl World {
         let Ok(reply) = self.cpus.step(alloc, &config, cpu, &command, cells, side) else {
             return Err(AllocError);
         };
-        self.journal.push_reserved(Committed {
-            cpu,
-            number,
-            command: copied_command(&command),
-            reply: copied_reply(&reply),
-        });
+        let caller = Caller { cpu, number };
+        self.journal.push_reserved(caller, &command, &reply);
         let phase = Phase::Decided {
             number,
             command,

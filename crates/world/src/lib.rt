@@ -7,9 +7,9 @@
 
 mod calling;
 mod cells;
-mod committed;
 mod committing;
 mod cpus;
+mod journal;
 mod lent;
 mod locking;
 mod locks;

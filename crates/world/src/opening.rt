@@ -8,6 +8,7 @@ ghost use Rattle.world.specs.World.{world_of, waits_of};
 
 use crate::cells::Cells;
 use crate::cpus::{Cpu, Cpus};
+use crate::journal::Journal;
 use crate::locks::Locks;
 use crate::phase::Phase;
 use crate::world::World;
@@ -39,7 +40,7 @@ impl World {
             locks,
             side,
             cpus,
-            journal: Vec::new(alloc),
+            journal: Journal::new(alloc),
             history: History::new(alloc, *config),
         })
     }

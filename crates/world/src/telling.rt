@@ -4,14 +4,17 @@ ghost use Rattle.std.specs.Prelude.{◌≡◌, ℕ, ◌<◌, length, IfOk, OnErr
 ghost use Rattle.rmm_spec.specs.Linearization.{IsKnown};
 ghost use Rattle.rmm_spec.specs.World.{HasOneHolder, IsCertified, history_of, certificate_of, line_for};
 ghost use Rattle.rmm_spec.specs.Waits.{HasNoCircle, WaitsAt, Blocked, AreRising, Wants, WaitsBehindStopped};
+ghost use Rattle.rmi_view.specs.Seen.{HasFewWords, reply_seen};
+ghost use Rattle.command_log.specs.Log.{logged_seen};
+ghost use Rattle.world.specs.Journal.{commitment_of};
 ghost use Rattle.world.specs.Next.{go_report, blocking, StandsStill};
 ghost use Rattle.world.specs.World.{world_of, waits_of};
 
-use crate::committed::Committed;
+use crate::journal::Caller;
 use crate::world::World;
 use certificate::Certificate;
+use command_log::Logged;
 use history::History;
-use rmi_view::copied_reply;
 use rmm_spec::Line;
 use std::alloc::{AllocError, Global};
 use world_laws::{every_run_is_certified, no_wait_cycle, stuck_behind_stopped};
@@ -38,7 +41,8 @@ impl World {
     {
         self.history.well_formed();
         let mut lines = Certificate::new(alloc);
-        for commit in &self.journal {
+        for place in 0..self.journal.len() {
+            let commit = self.journal.commit(place);
             lines.push(line_for(&self.history, commit))?;
         }
         Ok(lines)
@@ -68,12 +72,12 @@ impl World {
 }
 
 // The line of a commit. Its call and its return are looked up by their index.
-fn line_for(history: &History, commit: &Committed) -> Line
-    requires { ¬ ¬ IsKnown history.now.recorded.events commit.now.cpu commit.now.number }
-    ensures { result ≡ line_for history.now.recorded.events commit.now }
+fn line_for(history: &History, commit: Logged<'_, Caller>) -> Line
+    requires known { ¬ ¬ IsKnown history.now.recorded.events commit.mark.cpu commit.mark.number }
+    requires few { HasFewWords (reply_seen commit.reply) }
+    ensures { result ≡ line_for history.now.recorded.events (commitment_of (logged_seen commit.entry)) }
 {
-    let cpu = commit.cpu;
-    let number = commit.number;
+    let Caller { cpu, number } = commit.mark;
     let Some(places) = history.places_of(cpu, number) else {
         unreachable!()
     };
@@ -82,7 +86,7 @@ fn line_for(history: &History, commit: &Committed) -> Line
         None => Line::Unfinished {
             cpu,
             number,
-            reply: copied_reply(&commit.reply),
+            reply: commit.reply.to_reply(),
         },
     }
 }

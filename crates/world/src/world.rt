@@ -10,8 +10,8 @@ ghost use Rattle.world.specs.Kept.{IsKept};
 ghost use Rattle.world.specs.Whole.{world_from};
 
 use crate::cells::Cells;
-use crate::committed::Committed;
 use crate::cpus::Cpus;
+use crate::journal::Journal;
 use crate::locks::Locks;
 use crate::phase::Phase;
 use crate::turned::{Kind, Turned};
@@ -26,7 +26,7 @@ pub struct World {
     pub(crate) locks: Locks,
     pub(crate) side: Side,
     pub(crate) cpus: Cpus,
-    pub(crate) journal: Vec<Committed>,
+    pub(crate) journal: Journal,
     pub(crate) history: History,
     ghost has_cells: { vec_len cells.list ≡ history.recorded.config.granules },
     ghost has_locks: { vec_len locks.holders ≡ history.recorded.config.granules },

@@ -1,4 +1,4 @@
-use Rattle.std.proofs.Common.{None, IsTrue, inl, inr, refl, sym, ap, ◌∙◌, subst, arith, vec_len}
+use Rattle.std.proofs.Common.{None, inl, inr, refl, sym, ap, ◌∙◌, subst, vec_len}
 use Rattle.rmm_spec.specs.Call.{call_of}
 use Rattle.rmm_spec.specs.HistoryText.{Config}
 use Rattle.rmm_spec.specs.Cell.{put}
@@ -67,7 +67,7 @@ unfolding commit_room
 returns-in_default-reserve-clause-only_short c =
     let s = c.args.self.now in
     subst (IsShortIn (event_room s) (commit_room s) (world_of s) c.args.cpu) (sym c.requires.ready.deciding.is_deciding)
-    (inl (omega (arith, c.in_default-reserve.ensures.full)))
+    (inl c.in_default-reserve.ensures.full)
 
 pub returns-in_default-step-clause-only_short : goal.returns-in_default-step-clause-only_short
 unfolding world_of world_from
@@ -91,18 +91,18 @@ unfolding world_of world_from
 invariant_of-self-2-clause-kept c =
     let s = c.args.self.now in
     (committed s c.args.cpu c.requires.cpu c.step.new.cells c.step.new.side c.step.new.self c.come_to.new.self c.reserve.new.self.items
-    c.push_reserved.new.self.items c.config-config.result _ _ c.copied_command-command.result c.copied_command.result _ c.in-Ok-step.reply c.copied_reply.result
+    c.push_reserved.new.self.items c.config-config.result _ _ c.copied_command-command.result _ c.in-Ok-step.reply
     c.config-config.ensures (sym c.phase.ensures ∙ ap phase_in c.in-Deciding.is) c.copied_command-command.ensures c.in-Ok-step.ensures.ok c.come_to.ensures.views
-    c.reserve.ensures.items c.copied_command.ensures c.copied_reply.ensures c.push_reserved.ensures.items).kept
+    c.reserve.ensures.items c.push_reserved.ensures.items).kept
 
 pub returns-clause-turned : goal.returns-clause-turned
 unfolding world_of world_from
 returns-clause-turned c =
     let s = c.args.self.now in
     (committed s c.args.cpu c.requires.cpu c.step.new.cells c.step.new.side c.step.new.self c.come_to.new.self c.reserve.new.self.items
-    c.push_reserved.new.self.items c.config-config.result _ _ c.copied_command-command.result c.copied_command.result _ c.in-Ok-step.reply c.copied_reply.result
+    c.push_reserved.new.self.items c.config-config.result _ _ c.copied_command-command.result _ c.in-Ok-step.reply
     c.config-config.ensures (sym c.phase.ensures ∙ ap phase_in c.in-Deciding.is) c.copied_command-command.ensures c.in-Ok-step.ensures.ok c.come_to.ensures.views
-    c.reserve.ensures.items c.copied_command.ensures c.copied_reply.ensures c.push_reserved.ensures.items).turned
+    c.reserve.ensures.items c.push_reserved.ensures.items).turned
 
 pub returns-clause-waits : goal.returns-clause-waits
 unfolding waits_of

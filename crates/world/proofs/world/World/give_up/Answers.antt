@@ -1,6 +1,5 @@
 use Rattle.std.proofs.Common.{sym, ap, ◌∙◌, vec_len}
 use Rattle.rmm_spec.specs.declared.turn.Will.TheVariants as wills
-use Rattle.rmm_spec.specs.Waits as turn
 use Rattle.world.specs.Cpus.{views_of}
 use Rattle.world.specs.Granules.{holder_of}
 use Rattle.world.specs.Kept.{freed_all}

@@ -18,7 +18,7 @@ invariant_of-result-clause-kept c =
     let history = c.new-6.result.recorded in
     let programs = programs_of c.args.programs.items in
     let is = opened-world (cells_of cells) (side_of side) (views_of cpus) c.new-5.result.items history c.args.config.now programs
-    c.in_ok-cells.ensures.cells c.in_ok-side.ensures.unused c.in_ok-side.ensures.none c.in_ok-cpus.ensures.views c.new-5.ensures.items c.new-6.ensures in
+    c.in_ok-cells.ensures.cells c.in_ok-side.ensures.unused c.in_ok-side.ensures.none c.in_ok-cpus.ensures.views c.new-5.ensures c.new-6.ensures in
     opened-kept c.args.config.now c.args.programs.items (world_from cells side cpus c.new-5.result.items history) (holder_of c.in_ok-locks.locks)
     (views_of cpus).waits c.requires is c.in_ok-locks.ensures.free (ap (λ (v : Views). v.waits) c.in_ok-cpus.ensures.views)
 
@@ -37,7 +37,7 @@ unfolding world_of world_from
 returns-clause-world c =
     opened-world (cells_of c.in_ok-cells.cells) (side_of c.in_ok-side.side) (views_of c.in_ok-cpus.cpus) c.new-5.result.items c.new-6.result.recorded
     c.args.config.now (programs_of c.args.programs.items)
-    c.in_ok-cells.ensures.cells c.in_ok-side.ensures.unused c.in_ok-side.ensures.none c.in_ok-cpus.ensures.views c.new-5.ensures.items c.new-6.ensures
+    c.in_ok-cells.ensures.cells c.in_ok-side.ensures.unused c.in_ok-side.ensures.none c.in_ok-cpus.ensures.views c.new-5.ensures c.new-6.ensures
 
 pub returns-clause-waits : goal.returns-clause-waits
 unfolding waits_of

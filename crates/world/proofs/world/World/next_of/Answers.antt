@@ -1,6 +1,5 @@
 use Rattle.std.proofs.Common.{refl, sym, ap, ◌∙◌, subst, vec_len}
 use Rattle.std.specs.Prelude.{IsTrue}
-use Rattle.rmm_spec.specs.HistoryText.{Config}
 use Rattle.rmm_spec.specs.Local.{put_all}
 use Rattle.command_core.specs.Seen.{are_distinct, place_of}
 use Rattle.command_core.specs.Sides.{side_of}

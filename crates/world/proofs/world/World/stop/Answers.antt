@@ -1,6 +1,5 @@
 use Rattle.std.proofs.Common.{sym, ◌∙◌}
 use Rattle.rmm_spec.specs.declared.turn.Will.TheVariants as wills
-use Rattle.rmm_spec.specs.Waits as turn
 use Rattle.world.specs.World.{world_of}
 use Rattle.world.specs.Whole.{world_from}
 use Rattle.world.proofs.Phases.{going-false}
