@@ -22,4 +22,3 @@ pub mod Foreseen
 pub mod Steps
 pub mod Puts
 pub mod PlainCells
-pub mod NewRoots

@@ -16,9 +16,6 @@ use rmm_spec::{Change, Entry, Place, Ripas};
 use rtt_table::Table;
 use std::alloc::{AllocError, Global};
 
-/// How many entries of a root are of the protected half.
-const PROTECTED: usize = 256;
-
 /// Takes all memory that the change needs. It is refused only where the change makes a table and memory was refused; on
 /// both ways the side table holds what it held.
 pub fn room(alloc: Global, _side: &mut Side, change: &Change) -> Result<Room, AllocError>
@@ -105,9 +102,10 @@ fn root_table(alloc: Global, rd: u64, width: u8, level: u8) -> Result<Table, All
         base: 0,
         width,
     };
-    let mut table = Table::new(alloc, place, Entry::UnassignedNs)?;
-    for at in 0..PROTECTED {
-        table.set_entry(at, Entry::Unassigned(Ripas::Empty));
-    }
-    Ok(table)
+    Table::halves(
+        alloc,
+        place,
+        Entry::Unassigned(Ripas::Empty),
+        Entry::UnassignedNs,
+    )
 }

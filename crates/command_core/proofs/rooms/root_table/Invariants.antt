@@ -1,6 +1,0 @@
-use Rattle.std.proofs.Common.{◌≡◌}
-use Rattle.command_core.proofs.NewRoots.{root_so_far}
-use Rattle.command_core.proofs.rooms.root_table.Given as goal
-
-abbrev pub invariant-loop-at : goal.invariant-loop-at
-invariant-loop-at l = l.table ≡ root_so_far l.rd l.width l.level l.at
