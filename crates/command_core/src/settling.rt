@@ -31,11 +31,11 @@ fn are_granules(config: &Config, names: &[Name]) -> bool
 
 // Whether the words allow it, and each granule that is named is one.
 #[tactic(auto, unfolding(crate::specs::Named::words_fit))]
-fn words_fit(config: &Config, call: &Call) -> bool
+fn words_fit(config: &Config, call: &Call, names: &[Name]) -> bool
+    requires { names.now ≡ step_named.named call.now }
     ensures { result ≡ named.words_fit config.now call.now }
 {
-    let names = named(call);
-    words_allow(call) && are_granules(config, names.as_slice())
+    words_allow(call) && are_granules(config, names)
 }
 
 #[tactic(auto, unfolding(realm_desc::specs::View::realm_record))]
@@ -79,47 +79,50 @@ fn is_owner_held<H: Held>(rec: Pa, held: &H) -> bool
 
 // Whether all is held that the rows behind the command's words and tags read.
 #[tactic(auto, unfolding(crate::specs::Settled::is_complete))]
-fn is_complete<H: Held>(call: &Call, held: &H) -> bool
+fn is_complete<H: Held>(call: &Call, names: &[Name], held: &H) -> bool
+    requires { names.now ≡ step_named.named call.now }
     ensures { result ≡ spec.is_complete call.now (H.cells held.now) }
 {
     match *call {
         Call::RealmDestroy { rd } => is_root_held(Pa::new(rd), held),
         Call::RecDestroy { rec } => are_auxes_held(Pa::new(rec), held),
         Call::RecEnter { rec } => is_owner_held(Pa::new(rec), held),
-        _ => {
-            let names = named(call);
-            holds_all(names.as_slice(), held)
-        }
+        _ => holds_all(names, held),
     }
 }
 
 // Whether all is held that the rows read, and its walk is over where it walks.
-fn is_all_held<H: Held>(sight: &HeldSight<'_, H>, call: &Call) -> bool
+fn is_all_held<H: Held>(sight: &HeldSight<'_, H>, call: &Call, names: &[Name]) -> bool
+    requires { names.now ≡ step_named.named call.now }
     ensures { result ≡ spec.is_all_held sight.now.config.now call.now (H.cells sight.now.held.now) (way_taken call.now) }
 {
     match way_taken(call) {
-        None => is_complete(call, sight.held),
+        None => is_complete(call, names, sight.held),
         Some(way) => sight.is_walk_over(call, &way),
     }
 }
 
 // What settles a host's command but its words.
-fn is_met<H: Held>(sight: &HeldSight<'_, H>, call: &Call) -> bool
+fn is_met<H: Held>(sight: &HeldSight<'_, H>, call: &Call, names: &[Name]) -> bool
+    requires { names.now ≡ step_named.named call.now }
     ensures { result ≡ (named.has_wrong (step_named.named call.now) (H.cells sight.now.held.now)
         || is_unshaped_outside sight.now.config.now call.now (H.cells sight.now.held.now)
         || spec.is_all_held sight.now.config.now call.now (H.cells sight.now.held.now) (way_taken call.now)) }
 {
-    let names = named(call);
-    has_wrong(names.as_slice(), sight.held)
+    has_wrong(names, sight.held)
         || unshaped::is_unshaped_outside(sight, call)
-        || is_all_held(sight, call)
+        || is_all_held(sight, call, names)
 }
 
 fn is_settled_outside<H: Held>(sight: &HeldSight<'_, H>, call: &Call) -> bool
     ensures { result ≡ spec.is_settled_outside (class_of call.now) sight.now.config.now call.now (H.cells sight.now.held.now) }
 {
     match caller_of(call) {
-        Caller::Host => !words_fit(sight.config, call) || is_met(sight, call),
+        Caller::Host => {
+            let names = named(call);
+            let names = names.as_slice();
+            !words_fit(sight.config, call, names) || is_met(sight, call, names)
+        }
         Caller::Realm | Caller::Rec => true,
     }
 }
