@@ -1,6 +1,7 @@
 //! What is answered to a command where what is held settles it.
 
-ghost use Rattle.std.specs.Prelude.{◌≡◌, false, IsTrue, Some, option_map, option_copied};
+ghost use Rattle.std.specs.Prelude.{◌≡◌, false, IsTrue, Ok, Some, option_map, option_copied};
+ghost use Rattle.rmm_spec.specs.declared.accepted.Accepted.TheVariants.{Reaches};
 ghost use Rattle.rmm_spec.specs.Call.{call_of};
 ghost use Rattle.command_core.specs.Changed.{hold_of, CanChange, CanMake, CanMakeAnswer, Decides, IsFurthest, given_of};
 ghost use Rattle.command_core.specs.Decided as spec;
@@ -18,7 +19,7 @@ use arrayvec::ArrayVec;
 use command_rows::{answer_inside, answer_outside, reached_change};
 use granule_cells::{CpuPlace, Side};
 use granule_state::Config;
-use rmm_spec::{Accepted, Call, Change, Command, Reply};
+use rmm_spec::{Accepted, Call, Change, Command, Reply, Stretch};
 
 /// The reply and the change of a command that what is held settles. Together they are a step of the machine, whatever
 /// the cells are that aren't held; a refusal changes nothing, and a stretch is set as far as it may be. The change is made by `apply`, with the room that `room` takes.
@@ -117,7 +118,8 @@ fn rows_answer<H: Held>(
     }
 }
 
-// The answer, where its change can be made of what is held. A stretch is set as far as its rows allow.
+// The answer, where its change can be made of what is held. A stretch is set as far as its rows allow. An answer is large, so it is
+// handed on as it came.
 fn made_answer<H: Held>(
     sight: &HeldSight<'_, H>,
     granules: u64,
@@ -127,19 +129,35 @@ fn made_answer<H: Held>(
     ensures { result ≡ spec.made_answer sight.now.config.now (H.cells sight.now.held.now)
         (side_or_unlisted (option_map side_of (option_copied sight.now.side))) answer }
 {
-    let (words, change) = match answer {
-        Ok(Accepted::Done { words, change }) => (words, change),
-        Ok(Accepted::Reaches(stretch)) => {
-            let top = sight.furthest(&stretch);
-            let mut words = ArrayVec::new();
-            words.push(top);
-            (words, reached_change(&stretch, top))
+    match &answer {
+        Ok(Accepted::Done { change, .. }) => {
+            if !can_make(sight.config, granules, sight.held, sight.side, change) {
+                return Err(Reply::Misplaced);
+            }
         }
-        Err(refusal) => return Err(refusal),
-    };
-    if can_make(sight.config, granules, sight.held, sight.side, &change) {
-        Ok(Accepted::Done { words, change })
-    } else {
-        Err(Reply::Misplaced)
+        Ok(Accepted::Reaches(stretch)) => return reached_answer(sight, granules, stretch),
+        Err(_) => {}
     }
+    answer
+}
+
+// The answer that sets a stretch as far as its rows allow, where that can be made of what is held.
+#[inline(never)]
+fn reached_answer<H: Held>(
+    sight: &HeldSight<'_, H>,
+    granules: u64,
+    stretch: &Stretch,
+) -> Result<Accepted, Reply>
+    requires { granules ≡ sight.now.config.now.granules }
+    ensures { result ≡ spec.made_answer sight.now.config.now (H.cells sight.now.held.now)
+        (side_or_unlisted (option_map side_of (option_copied sight.now.side))) (Ok (Reaches stretch.now)) }
+{
+    let top = sight.furthest(stretch);
+    let change = reached_change(stretch, top);
+    if !can_make(sight.config, granules, sight.held, sight.side, &change) {
+        return Err(Reply::Misplaced);
+    }
+    let mut words = ArrayVec::new();
+    words.push(top);
+    Ok(Accepted::Done { words, change })
 }

@@ -91,6 +91,7 @@ impl<'a, H: Held> Sight for HeldSight<'a, H> {
         is_granule(self.config, address) && is_tag(self.tag(address), tag)
     }
 
+    #[inline(always)]
     fn realm(&self, rd: u64) -> Option<Realm> {
         if is_granule(self.config, rd) {
             self.realm_in(rd)
