@@ -13,7 +13,7 @@ ghost use Rattle.command_core.specs.Sides.{side_of};
 
 use granule_cells::Side;
 use granule_state::{Config, Pa};
-use rmm_spec::{Accepted, Call, Change, Command, Reply};
+use rmm_spec::{Accepted, Call, Change, Command, FunctionId, Reply};
 
 /// Whether the side table lists nothing of what the command's rows ask it for, and can count the REC that the answer makes, if
 /// any. Then what was foreseen of the command is a decision with this side table.
@@ -29,10 +29,20 @@ pub fn bears_out(
         → answer.now ≡ settled_answer config.now cpu (call_of command.now) held unlisted place
         → IsDecision config.now cpu command.now (hold_of held (side_of side.now) place) (given_of answer.now) (change_of answer.now) }
 {
-    lists_none(side, &command.call()) && has_count(config.granules(), side, answer)
+    lists_none(side, command) && has_count(config.granules(), side, answer)
 }
 
-fn lists_none(side: &Side, call: &Call) -> bool
+// Only two commands ask for what it lists.
+fn lists_none(side: &Side, command: &Command) -> bool
+    ensures { result ≡ spec.lists_none (side_of side.now) (call_of command.now) }
+{
+    match command.function {
+        FunctionId::RealmCreate | FunctionId::RealmDestroy => has_none(side, &command.call()),
+        _ => true,
+    }
+}
+
+fn has_none(side: &Side, call: &Call) -> bool
     ensures { result ≡ spec.lists_none (side_of side.now) call.now }
 {
     match *call {

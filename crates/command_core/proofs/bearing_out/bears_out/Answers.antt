@@ -12,5 +12,5 @@ returns-then-lists_none-clause-decides c = λ counts cpu held place settled fore
     let change = change_of c.args.answer.now in
     foreseen-decision c.args.config.now cpu c.args.command.now held side place c.args.answer.now c.granules.ensures.limits.most_granules settled foreseen
     (both_true {s = lists_none side (call_of c.args.command.now)} {t = has_count c.args.config.now.granules side change}
-    (sym (c.lists_none.ensures ∙ ap (lists_none side) c.call.ensures) ∙ c.if-lists_none.true)
+    (sym c.lists_none.ensures ∙ c.if-lists_none.true)
     (sym (c.has_count.ensures ∙ ap (λ n. has_count n side change) c.granules.ensures.count) ∙ counts))
