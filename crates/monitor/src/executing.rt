@@ -25,9 +25,10 @@ use std::alloc::Global;
 use std::sync::Wait;
 
 impl<S: Site> Monitor<S> {
-    /// Executes a command by the token and the pass of its CPU: records the call, locks the command's granules, passes
-    /// the gate, drafts the commit, enters it under the journal's lock and settles it, frees the granules and records the return. What refused the commit is what
-    /// the token keeps. Whatever is answered, no granule stays locked. The pass tells whether its next number is still one of a history.
+    /// Executes a command by the token and the pass of its CPU: records the call, locks the command's granules, passes the gate, drafts the
+    /// commit, enters it under the journal's lock and settles it, frees the granules and records the return. What refused the commit is
+    /// what the token keeps. Whatever is answered, no granule stays locked. The pass tells whether its next number is still one of a
+    /// history.
     pub fn execute<R: Wait, G: Gate>(
         &self,
         rt: &R,
