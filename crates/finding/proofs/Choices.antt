@@ -57,21 +57,6 @@ rank_small history is_history choice are few = at choice.places.returned are.ret
         let lines = is_history.lines in
         omega (arith, within, lines)
 
--- no CPU yet
-pub IsLeast-none : (events : List Event) (counts : List ℕ) (from least : ℕ) → IsLeast events counts from 0 least
-IsLeast-none events counts from least = record {
-  returned = λ cpu place given within. absurd (omega (arith, within));
-  pending = λ cpu within. absurd (omega (arith, within));
-}
-
--- what is said of more CPUs is said of fewer
-pub IsLeast-fewer : (events : List Event) (counts : List ℕ) (from bound fewer least : ℕ) → fewer ≤ bound → IsLeast events counts from bound least
-    → IsLeast events counts from fewer least
-IsLeast-fewer events counts from bound fewer least few all = record {
-  returned = λ cpu place given within. all.returned cpu place given (omega (arith, within, few));
-  pending = λ cpu within. all.pending cpu (omega (arith, within, few));
-}
-
 -- a CPU that has no next call
 pub IsLeast-past : (events : List Event) → HasOnePlaces events → (counts : List ℕ) (from bound least : ℕ) → IsLeast events counts from bound least
     → ¬ IsKnown events bound (get_or counts bound 0) → IsLeast events counts from (bound + 1) least

@@ -1,13 +1,9 @@
 -- The greatest end of a stretch by whole entries.
-use Rattle.std.proofs.Common.{◌≡◌, ℕ, ◌+◌, ◌-◌, ◌*◌, ◌/◌, ◌^◌, ◌<◌, ◌≤◌, min, sym, ap, ◌∙◌, arith}
-use Rattle.std.proofs.Math.Nat.{div-mul-le_self, le-div_iff_mul-le, mul-le-mul_right}
+use Rattle.std.proofs.Common.{◌≡◌, ℕ, ◌+◌, ◌-◌, ◌*◌, ◌/◌, ◌<◌, ◌≤◌, sym, ap, ◌∙◌, arith}
+use Rattle.std.proofs.Math.Nat.{le-div_iff_mul-le, mul-le-mul_right}
 use Rattle.rmm_spec.specs.declared.accepted.Stretch.{Stretch}
 use Rattle.rmm_spec.specs.Walk.{entry_size}
 use Rattle.finding.specs.Ends.{IsEnd}
-
--- so many whole entries end by the last address
-pub whole_entries : (beyond size : ℕ) → beyond / size * size ≤ beyond
-whole_entries beyond size = div-mul-le_self beyond size
 
 -- an end by the last address has no more entries
 fewer_entries : (stretch : Stretch) (end last size : ℕ) (is_end : IsEnd stretch end) → end ≤ last → size ≡ entry_size stretch.level → 0 < size
@@ -33,7 +29,3 @@ no_end stretch end last size is_end by sized some none =
     let few = fewer_entries stretch end last size is_end by sized some in
     let one = is_end.some in
     omega (arith, few, one, none)
-
--- an end lies in the stretch and in its table
-pub end_within : (end top table_end : ℕ) → end ≤ top → end ≤ table_end → top < 2 ^ 64 → end ≤ min top (min table_end (2 ^ 64 - 1))
-end_within end top table_end within in_table small = omega (arith, within, in_table, small)

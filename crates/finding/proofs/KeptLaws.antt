@@ -62,10 +62,6 @@ nowhere_kept history kept counts state are (i, configuration, is, one) lines rea
 
 -- ---- what keeping leaves
 
--- there was no room
-pub Adds-none : (old : List Configuration) (counts : List ℕ) (state : State) → Adds old old counts state
-Adds-none old counts state = λ i configuration is. inl (i, is)
-
 -- one stands behind the rest
 pub Adds-one : (old new : List Configuration) (one : Configuration) (counts : List ℕ) (state : State) → new ≡ old ++ one ∷ [] → one.counts ≡ counts
     → kept_state one.state ≡ state → Adds old new counts state

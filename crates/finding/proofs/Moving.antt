@@ -1,5 +1,5 @@
 -- How each way of a step comes further: by an offer, or by less that is left to be done before one.
-use Rattle.std.proofs.Common.{◌≡◌, ℕ, ◌+◌, ◌-◌, ◌*◌, ◌^◌, ◌<◌, ◌≤◌, inl, inr, Bool, true, false, IsTrue, List, [], ◌∷◌, ◌++◌, length, Option, refl, sym, ◌∙◌, ap, subst, arith}
+use Rattle.std.proofs.Common.{◌≡◌, ℕ, ◌+◌, ◌-◌, ◌*◌, ◌^◌, ◌<◌, ◌≤◌, inl, inr, Bool, true, false, IsTrue, [], ◌∷◌, ◌++◌, length, Option, refl, sym, ◌∙◌, ap, subst, arith}
 use Rattle.std.proofs.lemmas.List.{length-append, length-map}
 use Rattle.rmm_spec.specs.HistoryText.{History, IsHistory}
 use Rattle.spec_machine.specs.Offers.{one_more}
@@ -144,9 +144,3 @@ Moves-standing history old standing new is moves = record { further = (subst (λ
 pub Continues-standing : (history : History) (old standing new : Search) → IsStanding history old standing → (progress : Progress)
     → Continues progress history standing new → Continues progress history old new
 Continues-standing history old standing new is = Continues-from history old standing new (Moves-standing history old standing new is)
-
--- it was looked before where a call may come earlier
-pub Continues-looked : (history : History) (old looked new : Search) → looked ≡ record old { checkpoint = looked.checkpoint; earlier = looked.earlier; moved = looked.moved } → (progress : Progress)
-    → Continues progress history looked new → Continues progress history old new
-Continues-looked history old looked new same =
-    Continues-from history old looked new (λ moves. record { further = (subst (λ (s : Search). Moves s new) same moves).further })

@@ -1,7 +1,6 @@
 -- The call stands in the order.
-use Rattle.std.proofs.Common.{ap, sym, ◌∙◌}
+use Rattle.std.proofs.Common.{sym}
 use Rattle.std.proofs.lemmas.Result.{on_ok_weaker}
-use Rattle.finding.specs.declared.frame.Frame.{Frame}
 use Rattle.finding.proofs.Moving.{Moves-settled, few_frames}
 use Rattle.finding.proofs.Searches.{IsSearch-settled, number_of_next}
 use Rattle.finding.proofs.search.Search.settle.Goals as goal
