@@ -15,6 +15,6 @@ pub use laws::{
 };
 pub use profile_laws::{
     a_page_is_given_once, commands_keep_other_maps, fresh_root_covers_space,
-    longer_stretches_are_no_runs, no_default_is_read, reach_is_the_walk, walks_begin_at_root,
-    walks_end_unlinked, worked_scripts_are_runs,
+    longer_stretches_are_no_runs, no_default_is_read, reach_is_the_walk, version_one_has_no_sha512,
+    walks_begin_at_root, walks_end_unlinked, worked_scripts_are_runs,
 };

@@ -4,6 +4,7 @@ ghost use Rattle.std.specs.Prelude.{◌≡◌, ℕ, ◌^◌, ◌<◌, ◌≤◌,
 ghost use Rattle.rmm_spec.specs.declared.command.Command.{Command};
 ghost use Rattle.rmm_spec.specs.declared.function_id.FunctionId.TheVariants.{RealmCreate, DataCreateUnknown, RttInitRipas, RttSetRipas};
 ghost use Rattle.rmm_spec.specs.declared.reply.Reply.{Reply};
+ghost use Rattle.rmm_spec.specs.declared.reply.Reply.TheVariants as reply;
 ghost use Rattle.rmm_spec.specs.HistoryText.{Config};
 ghost use Rattle.rmm_spec.specs.State.{State, RealmRecord, opening};
 ghost use Rattle.rmm_spec.specs.Walk.{table_number, is_table, entry_for, reach, IsWalk};
@@ -11,7 +12,7 @@ ghost use Rattle.rmm_spec.specs.Rows.{ok};
 ghost use Rattle.rmm_spec.specs.Step.{Step};
 ghost use Rattle.rmm_spec.specs.Run.{JournalEntry, IsRun};
 ghost use Rattle.rmm_spec.specs.Script as script;
-ghost use Rattle.rmm_spec.specs.Script.{script_config};
+ghost use Rattle.rmm_spec.specs.Script.{script_config, version_two_config};
 ghost use Rattle.rmm_spec.specs.Footprint.{KeepsOthers, changed_parts};
 ghost use Rattle.rmm_laws.specs.Commands as commands;
 ghost use Rattle.rmm_laws.specs.Presence.{HasWhatRowsRead};
@@ -68,6 +69,16 @@ pub fn worked_scripts_are_runs()
     ensures realms_and_recs_come_and_go { (last : State) × IsRun (opening script_config) script.realms_and_recs_come_and_go last }
     ensures words_out_of_range { (last : State) × IsRun (opening script_config) script.words_out_of_range last }
     ensures table_folds { (last : State) × IsRun (opening script_config) script.table_folds last }
+    ensures page_of_the_host { (last : State) × IsRun (opening script_config) script.page_of_the_host last }
+    ensures realm_of_algo_1 { (last : State) × IsRun (opening version_two_config) script.realm_of_algo_1 last }
+{}
+
+/// The script of a realm measured by SHA-512, a run of version 2, is none of version 1: there its 6th step, which makes the realm,
+/// is refused.
+pub fn version_one_has_no_sha512()
+    ensures refused { (last : State) × IsRun (opening script_config)
+        (take 5 script.realm_of_algo_1 ++ script.answered RealmCreate (0x1000 ∷ 0x2000 ∷ 39 ∷ 1 ∷ 1 ∷ 1 ∷ []) (reply.Err 1 0) ∷ []) last }
+    ensures not_accepted { (last : State) → IsRun (opening script_config) (take 6 script.realm_of_algo_1) last → ⊥ }
 {}
 
 /// After the script that gives a page of one realm to another, the machine doesn't accept that.
@@ -76,7 +87,7 @@ pub fn a_page_is_given_once()
         → Step last 0 (commands.command DataCreateUnknown (0x6000 ∷ 0x5000 ∷ 0 ∷ [])) (ok []) next → ⊥ }
 {}
 
-/// A reply that says more was done than the definitions allow makes no run.
+/// Behind two worked scripts, a reply that says that more of a stretch was set than the definitions allow makes no run.
 pub fn longer_stretches_are_no_runs()
     ensures past_the_table { (last : State) → IsRun (opening script_config)
         (take 15 script.ripas_change_past_table ++ script.answered RttSetRipas (0x1000 ∷ 0x5000 ∷ 0x1ff000 ∷ 0x201000 ∷ []) (ok (0x201000 ∷ [])) ∷ []) last → ⊥ }

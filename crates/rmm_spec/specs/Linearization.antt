@@ -1,5 +1,5 @@
--- Linearizations: "some pending calls may be completed and the others dropped, and then a legal sequential order exists
--- that keeps real time" (Herlihy and Wing 1990), for the one order that a certificate claims.
+-- Linearizations after Herlihy and Wing (1990), of the one order that a certificate claims: its lines tell which pending calls
+-- count, and the order is legal and keeps real time.
 -- A place is an index into the events of a history: the event's line in the text is two lines further, counted from 1.
 use Rattle.std.specs.Prelude.{◌≡◌, ℕ, ◌<◌, List, [], ◌∷◌, slice_get, Some}
 use Rattle.rmm_spec.specs.declared.command.Command.{Command}

@@ -1,11 +1,11 @@
 -- Worked scripts: runs of CPU 0 on a machine of 16 granules, written out with their replies, and how one is replayed.
 use Rattle.std.specs.Prelude.{ℕ, Bool, true, false, ◌&&◌, ◌==◌, if◌then◌else◌, List, [], ◌∷◌, Option, Some, None, Result, Ok, Err, option_map}
 use Rattle.std.specs.Option.{option_and_then}
-use Rattle.rmm_spec.specs.declared.version.Version.TheVariants.{One}
+use Rattle.rmm_spec.specs.declared.version.Version.TheVariants.{One, Two}
 use Rattle.rmm_spec.specs.declared.accepted.Accepted.{Accepted}
 use Rattle.rmm_spec.specs.declared.accepted.Accepted.TheVariants.{Done, Reaches}
 use Rattle.rmm_spec.specs.declared.function_id.FunctionId.{FunctionId}
-use Rattle.rmm_spec.specs.declared.function_id.FunctionId.TheVariants.{GranuleDelegate, GranuleUndelegate, DataCreate, DataCreateUnknown, DataDestroy, RealmActivate, RealmCreate, RealmDestroy, RecCreate, RecDestroy, RecEnter, RttCreate, RttDestroy, RttFold, RttMapUnprotected, RttReadEntry, RttInitRipas, RttSetRipas, MeasurementRead, MeasurementExtend, IpaStateSet, IpaStateGet, HostCall, CpuOff, SystemOff, Exit}
+use Rattle.rmm_spec.specs.declared.function_id.FunctionId.TheVariants.{GranuleDelegate, GranuleUndelegate, DataCreate, DataCreateUnknown, DataDestroy, RealmActivate, RealmCreate, RealmDestroy, RecCreate, RecDestroy, RecEnter, RttCreate, RttDestroy, RttFold, RttMapUnprotected, RttReadEntry, RttUnmapUnprotected, RttInitRipas, RttSetRipas, MeasurementRead, MeasurementExtend, RealmConfig, IpaStateSet, IpaStateGet, HostCall, CpuOff, SystemOff, Exit}
 use Rattle.rmm_spec.specs.declared.reply.Reply.{Reply}
 use Rattle.rmm_spec.specs.declared.reply.Reply.TheVariants as reply
 use Rattle.rmm_spec.specs.HistoryText.{Config}
@@ -60,6 +60,10 @@ replay s (entry ∷ entries) =
 -- the machine of the scripts
 abbrev pub script_config : Config
 script_config = record { granules = 16; cpus = 1; version = One }
+
+-- the same machine in version 2
+abbrev pub version_two_config : Config
+version_two_config = record script_config { version = Two }
 
 abbrev pub answered : FunctionId → List ℕ → Reply → JournalEntry
 answered function words given = record { cpu = 0; command = record { function = function; words = record { items = words } }; given = given }
@@ -282,4 +286,47 @@ words_out_of_range =
     ∷ answered RttInitRipas (0x1000 ∷ 0 ∷ 0x4000001000 ∷ []) (reply.Err 1 0)
     ∷ answered RttMapUnprotected (0x1000 ∷ 0x4000000000 ∷ 0x1000000000000 ∷ []) (reply.Err 1 0)
     ∷ answered RecCreate (0x1000 ∷ 0x3000 ∷ 0 ∷ 1 ∷ 0x3000 ∷ 0x3000 ∷ []) (reply.Err 1 0)
+    ∷ [])
+
+-- a page of the host is mapped once, read, unmapped and read again; a REC extends a measurement and leaves by an interrupt
+unfoldable pub page_of_the_host : List JournalEntry
+page_of_the_host =
+    (answered GranuleDelegate (0x1000 ∷ []) (ok ([]))
+    ∷ answered GranuleDelegate (0x2000 ∷ []) (ok ([]))
+    ∷ answered GranuleDelegate (0x3000 ∷ []) (ok ([]))
+    ∷ answered GranuleDelegate (0x4000 ∷ []) (ok ([]))
+    ∷ answered GranuleDelegate (0x5000 ∷ []) (ok ([]))
+    ∷ answered GranuleDelegate (0x6000 ∷ []) (ok ([]))
+    ∷ answered GranuleDelegate (0x7000 ∷ []) (ok ([]))
+    ∷ answered RealmCreate (0x1000 ∷ 0x2000 ∷ 39 ∷ 1 ∷ 1 ∷ 0 ∷ []) (ok ([]))
+    ∷ answered RttCreate (0x1000 ∷ 0x3000 ∷ 0x4000000000 ∷ 2 ∷ []) (ok ([]))
+    ∷ answered RttCreate (0x1000 ∷ 0x4000 ∷ 0x4000000000 ∷ 3 ∷ []) (ok ([]))
+    ∷ answered RttMapUnprotected (0x1000 ∷ 0x4000000000 ∷ 0x8000 ∷ []) (ok ([]))
+    ∷ answered RttMapUnprotected (0x1000 ∷ 0x4000000000 ∷ 0x9000 ∷ []) (reply.Err 4 3)
+    ∷ answered RttReadEntry (0x1000 ∷ 0x4000000000 ∷ 3 ∷ []) (ok (3 ∷ 1 ∷ 0x8000 ∷ 0 ∷ []))
+    ∷ answered RttUnmapUnprotected (0x1000 ∷ 0x4000000000 ∷ []) (ok ([]))
+    ∷ answered RttReadEntry (0x1000 ∷ 0x4000000000 ∷ 3 ∷ []) (ok (3 ∷ 0 ∷ 0 ∷ 0 ∷ []))
+    ∷ answered RttUnmapUnprotected (0x1000 ∷ 0x4000000000 ∷ []) (reply.Err 4 3)
+    ∷ answered RecCreate (0x1000 ∷ 0x5000 ∷ 0 ∷ 1 ∷ 0x6000 ∷ 0x7000 ∷ []) (ok ([]))
+    ∷ answered RealmActivate (0x1000 ∷ []) (ok ([]))
+    ∷ answered RecEnter (0x5000 ∷ []) (ok (0 ∷ []))
+    ∷ answered MeasurementExtend (4 ∷ 64 ∷ 1 ∷ 2 ∷ 3 ∷ 4 ∷ 5 ∷ 6 ∷ 7 ∷ 8 ∷ []) (ok ([]))
+    ∷ answered Exit ([]) (ok (1 ∷ 0 ∷ 0 ∷ 0 ∷ []))
+    ∷ [])
+
+-- in version 2 a realm is measured by SHA-512: it is told so, and reads eight words
+unfoldable pub realm_of_algo_1 : List JournalEntry
+realm_of_algo_1 =
+    (answered GranuleDelegate (0x1000 ∷ []) (ok ([]))
+    ∷ answered GranuleDelegate (0x2000 ∷ []) (ok ([]))
+    ∷ answered GranuleDelegate (0x3000 ∷ []) (ok ([]))
+    ∷ answered GranuleDelegate (0x4000 ∷ []) (ok ([]))
+    ∷ answered GranuleDelegate (0x5000 ∷ []) (ok ([]))
+    ∷ answered RealmCreate (0x1000 ∷ 0x2000 ∷ 39 ∷ 1 ∷ 1 ∷ 1 ∷ []) (ok ([]))
+    ∷ answered RecCreate (0x1000 ∷ 0x3000 ∷ 0 ∷ 1 ∷ 0x4000 ∷ 0x5000 ∷ []) (ok ([]))
+    ∷ answered RealmActivate (0x1000 ∷ []) (ok ([]))
+    ∷ answered RecEnter (0x3000 ∷ []) (ok (0 ∷ []))
+    ∷ answered RealmConfig ([]) (ok (39 ∷ 1 ∷ []))
+    ∷ answered MeasurementRead (1 ∷ []) (ok (0 ∷ 0 ∷ 0 ∷ 0 ∷ 0 ∷ 0 ∷ 0 ∷ 0 ∷ []))
+    ∷ answered MeasurementRead (5 ∷ []) (reply.Err 1 0)
     ∷ [])

@@ -1,5 +1,6 @@
 -- What every state that a run reaches keeps: each record, table and leaf stands where the others say, so no default of the
--- rows is ever read. After DEN0137 (attributes of realms, RECs and RTTs); that it is kept is this project's own law.
+-- rows is read but the base 0 of a REC that asked for nothing. After DEN0137 (attributes of realms, RECs and RTTs); that it
+-- is kept is this project's own law.
 use Rattle.std.specs.Prelude.{◌≡◌, ℕ, suc, ◌*◌, ◌/◌, ◌<◌, ◌≤◌, Bool, false, ◌&&◌, ◌||◌, ◌==◌, IsTrue, length, Option, Some, None, is_some}
 use Rattle.rmm_spec.specs.declared.entry.Entry.{Entry}
 use Rattle.rmm_spec.specs.declared.entry.Entry.TheVariants.{Unassigned, Assigned, Table, UnassignedNs, AssignedNs}

@@ -9,6 +9,6 @@ pub enum Reply {
     Ok(ArrayVec<u64, 10>),
     /// A condition didn't hold, and nothing changed: a status and its index.
     Err(u8, u8),
-    /// The CPU isn't where such a command is given, inside a REC or outside of one, and nothing changed.
+    /// Such a command isn't given where the CPU is: inside of a REC, outside of one, or in one that waits to leave. Nothing changed.
     Misplaced,
 }

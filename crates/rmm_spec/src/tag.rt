@@ -13,7 +13,7 @@ pub enum Tag {
 }
 
 /// How far a realm has come in its life (DEN0137, realm state).
-#[derive(Clone, Copy)]
+#[derive(Clone, Copy, PartialEq)]
 pub enum RealmState {
     New,
     Active,

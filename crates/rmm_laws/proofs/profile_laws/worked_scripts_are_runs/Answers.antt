@@ -1,7 +1,7 @@
-use Rattle.rmm_spec.specs.Script.{script_config, table_with_data_stays, data_granule_mapped_twice, ripas_change_in_two_parts, ripas_change_past_table, life_of_a_rec, off_and_out_of_range, ripas_before_a_realm_runs, realms_and_recs_come_and_go, words_out_of_range, table_folds}
+use Rattle.rmm_spec.specs.Script.{script_config, version_two_config, table_with_data_stays, data_granule_mapped_twice, ripas_change_in_two_parts, ripas_change_past_table, life_of_a_rec, off_and_out_of_range, ripas_before_a_realm_runs, realms_and_recs_come_and_go, words_out_of_range, table_folds, page_of_the_host, realm_of_algo_1}
 use Rattle.rmm_spec.specs.State.{opening}
 use Rattle.rmm_laws.proofs.Replays.{replayed-run}
-use Rattle.rmm_laws.proofs.Scripts.{all_runs}
+use Rattle.rmm_laws.proofs.Scripts.{all_runs, version_two_runs}
 use Rattle.rmm_laws.proofs.profile_laws.worked_scripts_are_runs.Goals as goal
 
 pub returns-clause-table_with_data_stays : goal.returns-clause-table_with_data_stays
@@ -33,3 +33,9 @@ returns-clause-words_out_of_range c = replayed-run (opening script_config) words
 
 pub returns-clause-table_folds : goal.returns-clause-table_folds
 returns-clause-table_folds c = replayed-run (opening script_config) table_folds all_runs.1.1.1.1.1.1.1.1.1.0
+
+pub returns-clause-page_of_the_host : goal.returns-clause-page_of_the_host
+returns-clause-page_of_the_host c = replayed-run (opening script_config) page_of_the_host all_runs.1.1.1.1.1.1.1.1.1.1.0
+
+pub returns-clause-realm_of_algo_1 : goal.returns-clause-realm_of_algo_1
+returns-clause-realm_of_algo_1 c = replayed-run (opening version_two_config) realm_of_algo_1 version_two_runs.0
