@@ -1,7 +1,7 @@
 //! What each command is answered: its rows, in their order, over whatever can look up what they read.
-//! It promises the definitions' answer in the state that a `Sight` stands for, at every call, of a CPU outside of RECs and inside of one.
-//! A row stands once in code, for every program that decides commands; what a command changes is a value, and is made elsewhere.
-//! Nothing here changes a state, takes memory or waits.
+//! It promises the definitions' answer in the state that a `Sight` stands for, with what the sight tells of VMIDs and RECs.
+//! A row stands once in code, but that the machine lends granules and steps a REC's own calls in place, by the same definitions.
+//! What a command changes is a value, and is made elsewhere. Nothing here changes a state, takes memory or waits.
 //! The specification machine and the core of the monitor decide by it.
 #![tactic(auto)]
 

@@ -1,8 +1,7 @@
 //! All granules of a machine, a cell each, with what is kept beside them: what rows look up, and what changes make.
 //! It promises that each look-up is the definitions' over the flat state that the cells stand for, where they are well shaped, and
 //! that each change is the one of the whole that the laws speak of. Tables are found by links, as a monitor finds them.
-//! Only a new machine, one that is copied or kept, and a change that makes a table take memory; refused, all stays as it was.
-//! Addresses are in bytes.
+//! Only a new machine, one that is copied or kept, and a change that makes a table take memory; refused, all stays. Addresses are in bytes.
 //! The specification machine depends on it.
 #![tactic(auto)]
 

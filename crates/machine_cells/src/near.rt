@@ -7,7 +7,7 @@ use granule_state::GRANULE_BYTES;
 /// How many granules are kept.
 const SLOTS: usize = 256;
 
-/// As many granules are told apart.
+/// The numbers of granules are below this.
 const NUMBERS: u64 = 1 << 32;
 
 /// Granules in which tables were found, each by what was looked for. What lies in one may have changed since, so who takes a granule

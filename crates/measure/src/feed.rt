@@ -9,7 +9,7 @@ use sha2::Digest;
 /// How many words are taken in one piece with what they extend.
 pub(crate) const AT_ONCE: usize = 8;
 
-/// The digest of some bytes and the words behind them, in one piece: by way of so many bytes of any value.
+/// The digest of some bytes and the words behind them, laid side by side into the first of these, which has just room for both.
 #[tactic(auto, unfolding(rmm_spec::specs::Measure::words_bytes))]
 pub(crate) fn digest_at_once<D: Digest>(bytes: &mut [u8], old: &[u8], words: &[u64]) -> D::Output
     requires { length bytes.old ≡ length old.now + 8 * length words.now }
@@ -42,7 +42,7 @@ fn feed_each<D: Digest>(hasher: &mut D, words: &[u64])
     }
 }
 
-/// The digest of some bytes and those behind them, in one piece: by way of so many bytes of any value.
+/// The same of some bytes and those behind them.
 pub(crate) fn digest_of_two<D: Digest>(buffer: &mut [u8], old: &[u8], bytes: &[u8]) -> D::Output
     requires { length buffer.old ≡ length old.now + length bytes.now }
     ensures { D.digest_of (old.now ++ bytes.now) result }

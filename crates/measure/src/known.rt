@@ -4,7 +4,7 @@ ghost use Rattle.std.specs.Prelude.{◌≡◌, [], ◌∷◌, ◌++◌, IsTrue, 
 ghost use Rattle.sha2.specs.Sha256.{sha256};
 ghost use Rattle.rmm_spec.specs.Measure.{words_bytes};
 
-// The RIM of each of the two address spaces that a realm has, where it is made now and asked for hash 0.
+// The RIM of each of the two address spaces that a realm can have, where it is made now and asked for hash 0.
 pub(crate) const RIM_OF_39_BITS: [u8; 32] = [
     0x39, 0xf3, 0xce, 0x61, 0xf3, 0xcc, 0x5d, 0x6d, 0x72, 0x08, 0xf6, 0xb0, 0xfe, 0xcb, 0xf6, 0xb3,
     0x92, 0x74, 0xb4, 0x60, 0x5f, 0xe9, 0x0e, 0x6a, 0xe6, 0x86, 0xb0, 0x56, 0x16, 0x8c, 0x22, 0x41,

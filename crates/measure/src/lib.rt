@@ -1,6 +1,6 @@
 //! Measurements of a realm: what it was made of (RIM), and what it says of itself (REM).
 //! Each call is the function of its arguments that `rmm_spec` defines in `specs/Measure.antt`, over SHA-256 or SHA-512.
-//! No call takes memory, waits or fails: what is measured goes to the hasher piece by piece.
+//! No call takes memory, waits or fails.
 //! After DEN0137 (realm measurement) and FIPS 180-4; the layout of what is hashed is this project's own.
 //! Realms and their RECs depend on it.
 #![tactic(auto)]

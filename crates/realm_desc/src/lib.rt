@@ -2,7 +2,7 @@
 //! It promises that a value is the record of the definitions, and that each method is its row's test or its row's change.
 //! Fields are public, since no fact ties them; a change that not every record allows requires its row's test.
 //! Nothing here takes memory, waits or fails. Addresses are in bytes.
-//! The specification machine and the steps of RECs depend on it.
+//! The cells of granules, the machine, the steps of RECs and the monitor's core stand on it.
 #![tactic(auto)]
 
 mod hash_algorithm;

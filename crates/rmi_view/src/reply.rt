@@ -10,7 +10,7 @@ pub enum ReplyRef<'a> {
     Ok(&'a [u64]),
     /// A status and its index.
     Err(u8, u8),
-    /// The CPU isn't where such a command is given.
+    /// Such a command isn't given where the CPU is.
     Misplaced,
 }
 

@@ -2,7 +2,7 @@
 //! It promises that each method acts on the list of entries as its contract says, and on nothing else.
 //! Only making a table takes memory, and nothing here waits.
 //! Addresses are in bytes; level 0 is the highest and level 3 has pages.
-//! Walks depend on it, and it is made for the cells of the monitor.
+//! Walks, the cells of granules, the machine and the monitor's core stand on it.
 #![tactic(auto)]
 
 mod columns;

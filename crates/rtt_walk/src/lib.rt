@@ -2,7 +2,7 @@
 //! It promises that following links ends at the table and entry of a realm's flat tables and leaves, wherever a walk may start.
 //! It holds of every set of tables that meets `Cells`; `PlainCells` is a plain one.
 //! Walks take no memory, and nothing here waits; addresses are in bytes.
-//! It is made for the monitor's commands on realm memory.
+//! The machine's look-ups of entries and tables stand on it.
 #![tactic(auto)]
 
 mod cells;

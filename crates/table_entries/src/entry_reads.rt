@@ -17,7 +17,7 @@ pub fn entry_address(entry: Entry) -> u64
     }
 }
 
-/// Its RIPAS, and EMPTY where it has none.
+/// An entry's RIPAS, and EMPTY where it has none.
 pub fn entry_ripas(entry: Entry) -> Ripas
     ensures { result ≡ spec.entry_ripas entry }
 {
@@ -27,7 +27,7 @@ pub fn entry_ripas(entry: Entry) -> Ripas
     }
 }
 
-/// What it is: 0 unassigned, 1 assigned, 2 a table.
+/// What an entry is: 0 unassigned, 1 assigned, 2 a table.
 pub fn entry_state(entry: Entry) -> u64
     ensures { result ≡ spec.entry_state entry }
 {
