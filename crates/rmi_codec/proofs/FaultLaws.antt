@@ -6,7 +6,7 @@ use Rattle.std.proofs.lemmas.List.{get_or_at, length-append}
 use Rattle.rmm_spec.specs.declared.function_id.FunctionId.{FunctionId}
 use Rattle.rmm_spec.specs.Function.{number_of, word_count}
 use Rattle.rmm_spec.specs.Text.{decimal, word, fixed_hex}
-use Rattle.rmm_spec.proofs.Texts.{bytes_apart, fixed_hex-injective, number_of-injective, number_of-lt}
+use Rattle.rmm_spec.proofs.Texts.{bytes_apart}
 use Rattle.rmi_codec.specs.declared.fault.CodecFault.{CodecFault}
 use Rattle.rmi_codec.specs.declared.fault.CodecFault.TheVariants.{UnknownNumber, WordCount, BadWord, BadSpacing, BadForm}
 use Rattle.rmi_codec.specs.Faults.{IsNoWord, IsNoByte, IsCommandFault, IsReplyFault, IsPartFault, IsWordsFault, IsSmallFault, IsEndFault}
@@ -62,15 +62,9 @@ Any-cons P x xs h = (h.0 + 1, h.1, omega (arith, h.2), rw (add-one h.0) h.3, h.4
 Contains-cons : {X : Type 0} (x y : X) (xs : List X) → Contains xs y → Contains (x ∷ xs) y
 Contains-cons x y xs h = (h.0 + 1, omega (arith, h.1), rw (add-one h.0) h.2)
 
-same_function : (f g : FunctionId) (p : List ℕ) (rest others parts : List (List ℕ)) → parts ≡ p ∷ rest → p ≡ fixed_hex 8 (number_of f) → parts ≡ fixed_hex 8 (number_of g) ∷ others → (f ≡ g) × (rest ≡ others)
-same_function f g p rest others parts next is e =
-    let numbers : fixed_hex 8 (number_of f) ≡ fixed_hex 8 (number_of g) = cc in
-    (number_of-injective f g (fixed_hex-injective 8 (number_of f) (number_of g) (number_of-lt f) (number_of-lt g) numbers), cc)
-
 -- a command's function takes another count of words
 pub WordCount-from : (f : FunctionId) (p : List ℕ) (rest parts : List (List ℕ)) → parts ≡ p ∷ rest → p ≡ fixed_hex 8 (number_of f) → length rest ≢ word_count f → IsCommandFault WordCount parts
-WordCount-from f p rest parts next is count = λ g others e.
-    λ counted. let same = same_function f g p rest others parts next is e in count (ap length same.1 ∙ counted ∙ ap word_count (sym same.0))
+WordCount-from f p rest parts next is count = (f, rest, next ∙ ap (λ q. q ∷ rest) is, count)
 
 -- a fault of a command's words is one of the command
 pub IsCommandFault-from_words : (f : FunctionId) (p : List ℕ) (rest parts : List (List ℕ)) (told : CodecFault) → parts ≡ p ∷ rest → p ≡ fixed_hex 8 (number_of f) → IsWordsFault WordCount told rest → IsCommandFault told parts

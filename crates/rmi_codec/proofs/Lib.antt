@@ -1,6 +1,8 @@
 mod DigitTable
 pub mod FaultLaws
 mod HeadLaws
+mod HexLanes
+mod HexNumbers
 pub mod NumberLaws
 pub mod PartLaws
 pub mod PrefixLaws

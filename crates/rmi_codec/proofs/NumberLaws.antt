@@ -6,8 +6,7 @@ use Rattle.std.proofs.lemmas.Int.Digits.{all_below_base_digits_of, digits_of_ste
 use Rattle.std.proofs.lemmas.List.{map-append, take_more, take-map, take-append-drop}
 use Rattle.std.proofs.lemmas.List.Elements.{All-from_recursion}
 use Rattle.std.proofs.lemmas.Nat.{div-mul-add, mod-mul-add}
-use Rattle.std.proofs.lemmas.Grind.{pow_more}
-use Rattle.std.proofs.Math.Nat.{le-mul_of_pos_right, mul-le-mul_right, pow-le-pow_right, pow-zero, suc-mul}
+use Rattle.std.proofs.Math.Nat.{le-mul_of_pos_right, pow-le-pow_right}
 use Rattle.rmm_spec.specs.Text.{glyph, numeral, fixed_hex}
 use Rattle.rmm_spec.proofs.Texts.{glyph-injective, map-glyph-injective, numeral_some, numeral-zero, fixed_hex-suc}
 
@@ -47,24 +46,11 @@ SpellsSoFar-more base part count number d big inside so_far small is =
       first = so_far.first;
     }
 
--- so many digits and one more make a number below the next power
-pub digits_below : (base count number d : ℕ) → number < base ^ count → d < base → number * base + d < base ^ (count + 1)
-digits_below base count number d below small =
-    let most : suc number * base ≤ base ^ count * base = mul-le-mul_right base below in
-    omega (arith, pow_more base count, suc-mul number base, most, small)
-
--- and so does the first alone
-pub first_below : (base d : ℕ) → d < base → d < base ^ 1
-first_below base d small =
-    let start : 0 < base ^ 0 = omega (arith, pow-zero base) in
-    let sum : 0 * base + d ≡ d = omega arith in
-    subst (λ n. n < base ^ 1) sum (digits_below base 0 0 d start small)
-
--- and up to the width they fit into 64 bits
-pub digits_fit : (base count width number d : ℕ) → 2 ≤ base → count < width → base ^ width ≤ 2 ^ 64 → number < base ^ count → d < base → number * base + d < 2 ^ 64
-digits_fit base count width number d big here fits below small =
-    let le : base ^ (count + 1) ≤ base ^ width = pow-le-pow_right {n = base} (omega arith) (omega arith) in
-    omega (arith, digits_below base count number d below small, le, fits)
+-- a decimal that isn't at its last digit yet
+pub decimal_below : (count number : ℕ) → count < 6 → number < 10 ^ count → number < 100000
+decimal_below count number here below =
+    let most : 10 ^ count ≤ 10 ^ 5 = pow-le-pow_right {n = 10} (omega arith) {i = count} {j = 5} (omega arith) in
+    omega (arith, below, most)
 
 -- before a first digit that isn't 0
 pub SpellsSoFar-none : (base : ℕ) (part : List ℕ) (d : ℕ) → 0 < d → glyph d ≡ get_or part 0 0 → SpellsSoFar base part 0 0

@@ -17,7 +17,7 @@ abbrev pub IsCommandFault : CodecFault → List (List ℕ) → Type 0
 IsCommandFault UnknownNumber parts =
     (f : FunctionId) (rest : List (List ℕ)) → parts ≢ fixed_hex 8 (number_of f) ∷ rest
 IsCommandFault WordCount parts =
-    (f : FunctionId) (rest : List (List ℕ)) → parts ≡ fixed_hex 8 (number_of f) ∷ rest → length rest ≢ word_count f
+    (f : FunctionId) × (rest : List (List ℕ)) × (parts ≡ fixed_hex 8 (number_of f) ∷ rest) × (length rest ≢ word_count f)
 IsCommandFault BadWord parts = Any IsNoWord (drop 1 parts)
 IsCommandFault BadSpacing parts = Contains parts []
 IsCommandFault BadForm parts = ⊥

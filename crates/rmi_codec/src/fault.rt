@@ -11,7 +11,7 @@ pub enum CodecFault {
     /// The number is that of no function.
     #[error("no such function")]
     UnknownNumber,
-    /// The function takes another count of words, or a reply has more than ten.
+    /// The function takes another count of words.
     #[error("another count of words")]
     WordCount,
     /// A part isn't the one spelling of a number.

@@ -10,29 +10,24 @@ ghost use Rattle.rmi_codec.specs.Head.{head_text};
 ghost use Rattle.rmi_codec.specs.Spaced.{spaced};
 
 use crate::function::{function_front, words_of};
+use crate::hex_front::hex_front;
 use crate::numeral::digit_of;
 use rmi_view::CommandRef;
 use rmm_spec::FunctionId;
 
-// How many digits the numbers of a line have at most: those of a call, and a word in hex.
-const DECIMAL: usize = 6;
+// How many digits the decimals of a line have at most: the number of a call.
+const MOST_DIGITS: usize = 6;
 
-const HEX: usize = 16;
-
-// The number that the digits at a text's front spell, up to so many of them, and how many they are. None of them needs a test for
-// the text's end or for the number's size.
+// The number that the decimal digits at a text's front spell, up to so many of them, and how many they are. None of them needs a test
+// for the text's end or for the number's size.
 #[inline(always)]
-fn digits_front(text: &[u8], base: u64, width: usize) -> Option<(u64, usize)>
-    requires least { 2 ≤ base }
-    requires most { base ≤ 16 }
-    requires some { 1 ≤ width }
-    requires width { base ^ width ≤ 2 ^ 64 }
-    requires long { width < length text.now }
-    ensures found { IfSome result (λ p. take p.1 text.now ≡ numeral base p.0) }
+fn digits_front(text: &[u8]) -> Option<(u64, usize)>
+    requires long { 6 < length text.now }
+    ensures found { IfSome result (λ p. take p.1 text.now ≡ numeral 10 p.0) }
     ensures inside { IfSome result (λ p. p.1 < length text.now) }
 {
-    let first = digit_of(text[0], base);
-    if first >= base {
+    let first = digit_of(text[0], 10);
+    if first >= 10 {
         return None;
     }
     if first == 0 {
@@ -40,33 +35,29 @@ fn digits_front(text: &[u8], base: u64, width: usize) -> Option<(u64, usize)>
     }
     let mut number = first;
     let mut count: usize = 1;
-    while count < width {
-        let digit = digit_of(text[count], base);
-        if digit >= base {
+    while count < MOST_DIGITS {
+        let digit = digit_of(text[count], 10);
+        if digit >= 10 {
             return Some((number, count));
         }
-        number = number * base + digit;
+        number = number * 10 + digit;
         count += 1;
     }
     Some((number, count))
 }
 
-// The number within the limit whose digits, up to so many, a text begins with, and how many they are. Another byte follows them. It is
-// read where the text is longer than that.
+// The number within the limit whose decimal digits a text begins with, and how many they are. Another byte follows them. It is read
+// where the text is longer than all that a decimal may have.
 #[inline(always)]
-fn limited_front(text: &[u8], base: u64, width: usize, most: u64) -> Option<(u64, usize)>
-    requires least { 2 ≤ base }
-    requires most { base ≤ 16 }
-    requires some { 1 ≤ width }
-    requires width { base ^ width ≤ 2 ^ 64 }
-    ensures found { IfSome result (λ p. take p.1 text.now ≡ numeral base p.0) }
+fn decimal_front(text: &[u8], most: u64) -> Option<(u64, usize)>
+    ensures found { IfSome result (λ p. take p.1 text.now ≡ numeral 10 p.0) }
     ensures within { IfSome result (λ p. p.0 ≤ most) }
     ensures inside { IfSome result (λ p. p.1 < length text.now) }
 {
-    if text.len() <= width {
+    if text.len() <= MOST_DIGITS {
         return None;
     }
-    let (number, count) = digits_front(text, base, width)?;
+    let (number, count) = digits_front(text)?;
     if number > most {
         return None;
     }
@@ -75,19 +66,32 @@ fn limited_front(text: &[u8], base: u64, width: usize, most: u64) -> Option<(u64
 
 // The same at a place, and the place behind it.
 #[inline(always)]
-fn numeral_at(text: &[u8], at: usize, base: u64, width: usize, most: u64) -> Option<(u64, usize)>
-    requires place { at ≤ length text.now }
-    requires least { 2 ≤ base }
-    requires most { base ≤ 16 }
-    requires some { 1 ≤ width }
-    requires width { base ^ width ≤ 2 ^ 64 }
-    ensures found { IfSome result (λ p. take p.1 text.now ≡ take at text.now ++ numeral base p.0) }
+fn decimal_at(text: &[u8], at: usize, most: u64) -> Option<(u64, usize)>
+    requires { at ≤ length text.now }
+    ensures found { IfSome result (λ p. take p.1 text.now ≡ take at text.now ++ numeral 10 p.0) }
     ensures within { IfSome result (λ p. p.0 ≤ most) }
     ensures inside { IfSome result (λ p. p.1 < length text.now) }
     ensures on { IfSome result (λ p. at ≤ p.1) }
 {
-    let (number, count) = limited_front(text.split_at(at).1, base, width, most)?;
+    let (number, count) = decimal_front(text.split_at(at).1, most)?;
     Some((number, at + count))
+}
+
+// The word at a place, and the place behind it, before another byte. It is read where more than sixteen bytes are left.
+#[inline(always)]
+fn word_at(text: &[u8], at: usize) -> Option<(u64, usize)>
+    requires { at ≤ length text.now }
+    ensures found { IfSome result (λ p. take p.1 text.now ≡ take at text.now ++ numeral 16 p.0) }
+    ensures within { IfSome result (λ p. p.0 < 2 ^ 64) }
+    ensures inside { IfSome result (λ p. p.1 < length text.now) }
+    ensures on { IfSome result (λ p. at ≤ p.1) }
+{
+    let rest = text.split_at(at).1;
+    if rest.len() <= 16 {
+        return None;
+    }
+    let (word, count) = hex_front(rest)?;
+    Some((word, at + count))
 }
 
 /// The CPU and the number in the head that a text begins with, where the CPU is one digit and both are below these limits, and the
@@ -116,7 +120,7 @@ pub fn head_at(text: &[u8], cpus: u8, calls: u32) -> Option<(u8, u32, usize)>
         return None;
     }
     let most = calls.checked_sub(1)?;
-    let (number, end) = numeral_at(text, 4, 10, DECIMAL, u64::from(most))?;
+    let (number, end) = decimal_at(text, 4, u64::from(most))?;
     Some((cpu as u8, number as u32, end))
 }
 
@@ -151,7 +155,7 @@ fn words_at<'w>(words: &'w mut [u64; 10], text: &[u8], at: usize) -> Option<(&'w
         if count == words.len() {
             return None;
         }
-        let (word, next) = numeral_at(text, end + 1, 16, HEX, u64::MAX)?;
+        let (word, next) = word_at(text, end + 1)?;
         words[count] = word;
         count += 1;
         end = next;
@@ -231,11 +235,11 @@ pub fn err_at(text: &[u8], at: usize) -> Option<(u8, u8, usize)>
     if rest.split_at(5).0 != b" err ".as_slice() {
         return None;
     }
-    let (status, middle) = numeral_at(text, at + 5, 10, DECIMAL, 255)?;
+    let (status, middle) = decimal_at(text, at + 5, 255)?;
     if text[middle] != b' ' {
         return None;
     }
-    let (index, end) = numeral_at(text, middle + 1, 10, DECIMAL, 255)?;
+    let (index, end) = decimal_at(text, middle + 1, 255)?;
     if text[end] != b'\n' {
         return None;
     }

@@ -13,6 +13,7 @@ mod fixed_hex;
 mod front;
 mod function;
 mod head;
+mod hex_front;
 mod limited;
 mod lines;
 mod numeral;

@@ -1,5 +1,5 @@
 use Rattle.rmi_codec.proofs.FrontLaws.{take-behind}
-use Rattle.rmi_codec.proofs.front.numeral_at.Goals as goal
+use Rattle.rmi_codec.proofs.front.decimal_at.Goals as goal
 
 pub returns-clause-found : goal.returns-clause-found
 returns-clause-found c =
