@@ -91,7 +91,7 @@ HavePlaces-commits events (c ∷ commits) called apart =
 -- there are no more commits than events
 length-journal : (journal : List Commitment) (events : List Event) → AreRecorded journal events → length journal ≤ length events
 length-journal journal events recorded =
-    let have = HavePlaces-commits events journal recorded.called recorded.once in
+    let have = HavePlaces-commits events journal recorded.commits.called recorded.commits.once in
     let below = length-le_from_distinct_below have.places (length events) have.distinct (λ place any.
     let found = have.called place any in slice_get_within events place (Called found.1.cpu found.1.number found.1.command) found.3) in
     omega (arith, below, have.counted)
@@ -133,7 +133,7 @@ IsHistory-written w is_config written room = record {
 pub IsCertificate-written : (w : World) → IsAccounted w → IsWritten w → IsHistory (history_of w) → IsCertificate (certificate_of w)
 IsCertificate-written w accounted written is_history = record {
   each = each_mapped IsLine (line_for w.events) w.journal (each_from_places (λ c. IsLine (line_for w.events c)) w.journal (λ i c is.
-      let call = accounted.recorded.called i c is in
+      let call = accounted.recorded.commits.called i c is in
       let is_event = call_is_event (history_of w) call.0 c.cpu c.number c.command is_history call.1 in
       let number = below-IsKnown c.cpu c.number w.events (is_history.records c.cpu) (call.0, c.command, call.1) in
       let of_cpu = length-subhistory_of c.cpu w.events in

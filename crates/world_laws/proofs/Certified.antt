@@ -8,11 +8,11 @@ use Rattle.rmm_spec.specs.declared.event.Event.TheVariants.{Called, Returned}
 use Rattle.rmm_spec.specs.declared.line.Line.{Line}
 use Rattle.rmm_spec.specs.declared.line.Line.TheVariants.{Keep, Unfinished}
 use Rattle.rmm_spec.specs.declared.reply.Reply.{Reply}
-use Rattle.rmm_spec.specs.Linearization.{IsReturned, IsFinished, IsOfItsKind, IsReplyOf, IsEntryOf, AreEntriesOf, cpu_named, number_named, IsNamed}
+use Rattle.rmm_spec.specs.Linearization.{IsReturned, IsFinished, IsOfItsKind, IsReplyOf, IsEntryOf, AreEntriesOf, IsOrderOf, cpu_named, number_named, IsNamed}
 use Rattle.rmm_spec.specs.Flat.{flat_state}
 use Rattle.rmm_spec.specs.World.{World, Commitment, is_return_of, line_for, IsCertified}
 use Rattle.world_laws.proofs.Lists.{slice_get-map_from, slice_get-map_to}
-use Rattle.world_laws.proofs.Recorded.{AreRecorded, entry_of, IsAccounted}
+use Rattle.world_laws.proofs.Recorded.{AreCommitsOf, entry_of, IsAccounted}
 
 -- ---- whether a return is recorded
 
@@ -99,26 +99,26 @@ commit_of journal events i line is =
     }
 
 -- two commits of one call are one
-same_commit : (journal : List Commitment) (events : List Event) → AreRecorded journal events → (i j : ℕ) (c d : Commitment)
+same_commit : (journal : List Commitment) (events : List Event) → AreCommitsOf journal events → (i j : ℕ) (c d : Commitment)
     → slice_get journal i ≡ Some c → slice_get journal j ≡ Some d → c.cpu ≡ d.cpu → c.number ≡ d.number → c ≡ d
-same_commit journal events recorded i j c d is_c is_d same_cpu same_number =
+same_commit journal events commits i j c d is_c is_d same_cpu same_number =
     ⊎_elim (λ (same : i ≡ j). same_Some c d (sym is_c ∙ (ap (slice_get journal) same ∙ is_d)))
     (⊎_elim
-    (λ (before : i < j). absurd (recorded.once i j c d before is_c is_d same_cpu same_number))
-    (λ (before : j < i). absurd (recorded.once j i d c before is_d is_c (sym same_cpu) (sym same_number))))
+    (λ (before : i < j). absurd (commits.once i j c d before is_c is_d same_cpu same_number))
+    (λ (before : j < i). absurd (commits.once j i d c before is_d is_c (sym same_cpu) (sym same_number))))
     (cases_order i j)
 
 -- a commit's reply is that of its line
-IsReplyOf-line_for : (journal : List Commitment) (events : List Event) → AreRecorded journal events → (i : ℕ) (c : Commitment)
+IsReplyOf-line_for : (journal : List Commitment) (events : List Event) → AreCommitsOf journal events → (i : ℕ) (c : Commitment)
     → slice_get journal i ≡ Some c → IsReplyOf events (line_for events c) c.given
-IsReplyOf-line_for journal events recorded i c is = by (list_any (is_return_of c.cpu c.number) events) refl
+IsReplyOf-line_for journal events commits i c is = by (list_any (is_return_of c.cpu c.number) events) refl
   where
     by : (b : Bool) → list_any (is_return_of c.cpu c.number) events ≡ b
         → IsReplyOf events (if b then Keep c.cpu c.number else Unfinished c.cpu c.number c.given) c.given
     by true any =
         let finished = IsFinished-from_any events c.cpu c.number any in
-        let of_return = recorded.returned finished.0 c.cpu c.number finished.1 finished.2 in
-        let same : c ≡ of_return.1 = same_commit journal events recorded i of_return.0 c of_return.1 is of_return.2 (sym of_return.3) (sym of_return.4) in
+        let of_return = commits.returned finished.0 c.cpu c.number finished.1 finished.2 in
+        let same : c ≡ of_return.1 = same_commit journal events commits i of_return.0 c of_return.1 is of_return.2 (sym of_return.3) (sym of_return.4) in
         let given : c.given ≡ finished.1 = ap (λ (e : Commitment). e.given) same ∙ of_return.5 in
         (finished.0, subst (λ r. IsReturned events finished.0 c.cpu c.number r) (sym given) finished.2)
     by false any = refl
@@ -130,17 +130,15 @@ AreEntriesOf-line_for : (events : List Event) (commits : List Commitment)
 AreEntriesOf-line_for events [] each = tt
 AreEntriesOf-line_for events (c ∷ commits) each = (each 0 c refl, AreEntriesOf-line_for events commits (λ i d is. each (suc i) d is))
 
--- ---- worlds
-
-IsEntryOf-line_for : (journal : List Commitment) (events : List Event) → AreRecorded journal events → (i : ℕ) (c : Commitment)
+IsEntryOf-line_for : (journal : List Commitment) (events : List Event) → AreCommitsOf journal events → (i : ℕ) (c : Commitment)
     → slice_get journal i ≡ Some c → IsEntryOf events (line_for events c) (entry_of c)
-IsEntryOf-line_for journal events recorded i c is =
-    let call = recorded.called i c is in
+IsEntryOf-line_for journal events commits i c is =
+    let call = commits.called i c is in
     record {
       cpu = sym (cpu_named-line_for events c);
       called = call.0;
       is_called = rw (cpu_named-line_for events c, number_named-line_for events c) call.1;
-      given = IsReplyOf-line_for journal events recorded i c is;
+      given = IsReplyOf-line_for journal events commits i c is;
     }
 
 -- a commit of a call is a line that names it
@@ -154,27 +152,38 @@ IsNamed-commit journal events i c cpu number is same_cpu same_number = (
   number_named-line_for events c ∙ same_number,
 )
 
+-- commits of the events, written as lines, are an order of them
+pub IsOrderOf-line_for : (journal : List Commitment) (events : List Event) → AreCommitsOf journal events → IsOrderOf events (map (line_for events) journal)
+IsOrderOf-line_for journal events commits = record {
+  names = record {
+    known = λ i line is.
+        let of = commit_of journal events i line is in
+        let call = commits.called i of.it of.is_it in
+        (call.0, of.it.command, rw (of.is_cpu, of.is_number) call.1);
+    kinds = λ i line is.
+        let of = commit_of journal events i line is in subst (IsOfItsKind events) of.is_line (IsOfItsKind-line_for events of.it);
+    once = λ i j line other before is is_other same.
+        let of = commit_of journal events i line is in
+        let of_other = commit_of journal events j other is_other in
+        commits.once i j of.it of_other.it before of.is_it of_other.is_it
+        (sym of.is_cpu ∙ (same.0 ∙ of_other.is_cpu)) (sym of.is_number ∙ (same.1 ∙ of_other.is_number));
+  };
+  complete = λ cpu number finished.
+      let of = commits.returned finished.0 cpu number finished.1 finished.2 in
+      IsNamed-commit journal events of.0 of.1 cpu number of.2 of.3 of.4;
+}
+
+-- and they are what those lines claim
+pub AreEntriesOf-commits : (journal : List Commitment) (events : List Event) → AreCommitsOf journal events
+    → AreEntriesOf events (map (line_for events) journal) (map entry_of journal)
+AreEntriesOf-commits journal events commits = AreEntriesOf-line_for events journal (IsEntryOf-line_for journal events commits)
+
+-- ---- worlds
+
 pub IsCertified-accounted : (w : World) → IsAccounted w → IsCertified w
 IsCertified-accounted w accounted = record {
   linearization = record {
-    order = record {
-      names = record {
-        known = λ i line is.
-            let of = commit_of w.journal w.events i line is in
-            let call = accounted.recorded.called i of.it of.is_it in
-            (call.0, of.it.command, rw (of.is_cpu, of.is_number) call.1);
-        kinds = λ i line is.
-            let of = commit_of w.journal w.events i line is in subst (IsOfItsKind w.events) of.is_line (IsOfItsKind-line_for w.events of.it);
-        once = λ i j line other before is is_other same.
-            let of = commit_of w.journal w.events i line is in
-            let of_other = commit_of w.journal w.events j other is_other in
-            accounted.recorded.once i j of.it of_other.it before of.is_it of_other.is_it
-            (sym of.is_cpu ∙ (same.0 ∙ of_other.is_cpu)) (sym of.is_number ∙ (same.1 ∙ of_other.is_number));
-      };
-      complete = λ cpu number finished.
-          let of = accounted.recorded.returned finished.0 cpu number finished.1 finished.2 in
-          IsNamed-commit w.journal w.events of.0 of.1 cpu number of.2 of.3 of.4;
-    };
+    order = IsOrderOf-line_for w.journal w.events accounted.recorded.commits;
     real_time = λ i j line later before is is_later returns.
         let of = commit_of w.journal w.events i line is in
         let of_later = commit_of w.journal w.events j later is_later in
@@ -183,7 +192,7 @@ IsCertified-accounted w accounted = record {
     entries = map entry_of w.journal;
     last = flat_state w.config w.cells;
     run = record {
-      claimed = AreEntriesOf-line_for w.events w.journal (IsEntryOf-line_for w.journal w.events accounted.recorded);
+      claimed = AreEntriesOf-commits w.journal w.events accounted.recorded.commits;
       run = accounted.run;
     };
   };

@@ -21,14 +21,17 @@ use Rattle.world_laws.proofs.Opening.{flat_state-opening, IsShapedWorld-opening}
 
 -- ---- journal and events
 
--- Each commit's call was made, no call commits twice, each return gives the reply of a commit, and no commit's call returned
--- before the call of an earlier commit was made.
-pub record AreRecorded (journal : List Commitment) (events : List Event) : Type 0 where
+-- Each commit's call was made, no call commits twice, and each return gives the reply of a commit.
+pub record AreCommitsOf (journal : List Commitment) (events : List Event) : Type 0 where
   pub called : (i : ℕ) (c : Commitment) → slice_get journal i ≡ Some c → (place : ℕ) × IsCalled events place c.cpu c.number c.command
   pub once : (i j : ℕ) (c d : Commitment) → i < j → slice_get journal i ≡ Some c → slice_get journal j ≡ Some d
       → c.cpu ≡ d.cpu → c.number ≡ d.number → ⊥
   pub returned : (place cpu number : ℕ) (given : Reply) → IsReturned events place cpu number given
       → (i : ℕ) × (c : Commitment) × (slice_get journal i ≡ Some c) × (c.cpu ≡ cpu) × (c.number ≡ number) × (c.given ≡ given)
+
+-- They are commits of these events, and no commit's call returned before the call of an earlier commit was made.
+pub record AreRecorded (journal : List Commitment) (events : List Event) : Type 0 where
+  pub commits : AreCommitsOf journal events
   pub in_time : (i j : ℕ) (c d : Commitment) → i < j → slice_get journal i ≡ Some c → slice_get journal j ≡ Some d
       → ReturnsBefore events d.cpu d.number c.cpu c.number → ⊥
 
@@ -60,7 +63,7 @@ AtPhase Stopped cpu journal events = Unit {0}
 called-more : (journal : List Commitment) (events : List Event) (event : Event) → AreRecorded journal events
     → (i : ℕ) (c : Commitment) → slice_get journal i ≡ Some c → (place : ℕ) × IsCalled (events ++ event ∷ []) place c.cpu c.number c.command
 called-more journal events event recorded i c is =
-    let was = recorded.called i c is in (was.0, slice_get-append events (event ∷ []) was.0 (Called c.cpu c.number c.command) was.1)
+    let was = recorded.commits.called i c is in (was.0, slice_get-append events (event ∷ []) was.0 (Called c.cpu c.number c.command) was.1)
 
 AtPhase-more : (p : Phase) (cpu : ℕ) (journal : List Commitment) (events : List Event) (event : Event)
     → AtPhase p cpu journal events → AtPhase p cpu journal (events ++ event ∷ [])
@@ -105,10 +108,12 @@ return_before_call events cpu number command place other count given is =
 pub AreRecorded-called : (journal : List Commitment) (events : List Event) (cpu number : ℕ) (command : Command)
     → AreRecorded journal events → AreBelow journal cpu number → AreRecorded journal (events ++ Called cpu number command ∷ [])
 AreRecorded-called journal events cpu number command recorded fresh = record {
-  called = called-more journal events (Called cpu number command) recorded;
-  once = recorded.once;
-  returned = λ place other count given is. recorded.returned place other count given
-      (return_before_call events cpu number command place other count given is);
+  commits = record {
+    called = called-more journal events (Called cpu number command) recorded;
+    once = recorded.commits.once;
+    returned = λ place other count given is. recorded.commits.returned place other count given
+        (return_before_call events cpu number command place other count given is);
+  };
   in_time = λ i j c d before is_c is_d returns.
       timely i j c d before is_c is_d returns
       (slice_get-push_cases events (Called cpu number command) returns.called (Called c.cpu c.number returns.command) returns.is_called);
@@ -137,10 +142,12 @@ AreRecorded-called journal events cpu number command recorded fresh = record {
 pub AreRecorded-returned : (journal : List Commitment) (events : List Event) (cpu number : ℕ) (given : Reply)
     → AreRecorded journal events → HasCommitted journal cpu number given → AreRecorded journal (events ++ Returned cpu number given ∷ [])
 AreRecorded-returned journal events cpu number given recorded has = record {
-  called = called-more journal events (Returned cpu number given) recorded;
-  once = recorded.once;
-  returned = λ place other count reply is. known place other count reply
-      (slice_get-push_cases events (Returned cpu number given) place (Returned other count reply) is);
+  commits = record {
+    called = called-more journal events (Returned cpu number given) recorded;
+    once = recorded.commits.once;
+    returned = λ place other count reply is. known place other count reply
+        (slice_get-push_cases events (Returned cpu number given) place (Returned other count reply) is);
+  };
   in_time = λ i j c d before is_c is_d returns.
       timely i j c d before is_c is_d returns
       (slice_get-push_cases events (Returned cpu number given) returns.called (Called c.cpu c.number returns.command) returns.is_called)
@@ -150,7 +157,7 @@ AreRecorded-returned journal events cpu number given recorded has = record {
     known : (place other count : ℕ) (reply : Reply)
         → (slice_get events place ≡ Some (Returned other count reply)) ⊎ ((place ≡ length events) × (Returned cpu number given ≡ Returned other count reply))
         → (i : ℕ) × (c : Commitment) × (slice_get journal i ≡ Some c) × (c.cpu ≡ other) × (c.number ≡ count) × (c.given ≡ reply)
-    known place other count reply (inl was) = recorded.returned place other count reply was
+    known place other count reply (inl was) = recorded.commits.returned place other count reply was
     known place other count reply (inr last) = (
       has.index,
       has.it,
@@ -188,24 +195,26 @@ pub AreRecorded-committed : (journal : List Commitment) (events : List Event) (e
     → AreRecorded journal events → AreBelow journal entry.cpu entry.number → IsCalled events place entry.cpu entry.number entry.command
     → AreRecorded (journal ++ entry ∷ []) events
 AreRecorded-committed journal events entry place recorded fresh is_called = record {
-  called = λ i c is. made i c (slice_get-push_cases journal entry i c is);
-  once = λ i j c d before is_c is_d.
-      apart i j c d before (slice_get-push_cases journal entry i c is_c) (slice_get-push_cases journal entry j d is_d);
-  returned = λ at other count given is.
-      let was = recorded.returned at other count given is in
-      (was.0, was.1, slice_get-append journal (entry ∷ []) was.0 was.1 was.2, was.3, was.4, was.5);
+  commits = record {
+    called = λ i c is. made i c (slice_get-push_cases journal entry i c is);
+    once = λ i j c d before is_c is_d.
+        apart i j c d before (slice_get-push_cases journal entry i c is_c) (slice_get-push_cases journal entry j d is_d);
+    returned = λ at other count given is.
+        let was = recorded.commits.returned at other count given is in
+        (was.0, was.1, slice_get-append journal (entry ∷ []) was.0 was.1 was.2, was.3, was.4, was.5);
+  };
   in_time = λ i j c d before is_c is_d returns.
       timely i j c d before (slice_get-push_cases journal entry i c is_c) (slice_get-push_cases journal entry j d is_d) returns;
 }
   where
     made : (i : ℕ) (c : Commitment) → (slice_get journal i ≡ Some c) ⊎ ((i ≡ length journal) × (entry ≡ c))
         → (at : ℕ) × IsCalled events at c.cpu c.number c.command
-    made i c (inl was) = recorded.called i c was
+    made i c (inl was) = recorded.commits.called i c was
     made i c (inr last) = (place, subst (λ (e : Commitment). IsCalled events place e.cpu e.number e.command) last.1 is_called)
 
     apart : (i j : ℕ) (c d : Commitment) → i < j → (slice_get journal i ≡ Some c) ⊎ ((i ≡ length journal) × (entry ≡ c))
         → (slice_get journal j ≡ Some d) ⊎ ((j ≡ length journal) × (entry ≡ d)) → c.cpu ≡ d.cpu → c.number ≡ d.number → ⊥
-    apart i j c d before (inl first) (inl second) same_cpu same_number = recorded.once i j c d before first second same_cpu same_number
+    apart i j c d before (inl first) (inl second) same_cpu same_number = recorded.commits.once i j c d before first second same_cpu same_number
     apart i j c d before (inl first) (inr last) same_cpu same_number =
         let of_cpu : entry.cpu ≡ d.cpu = ap (λ (e : Commitment). e.cpu) last.1 in
         let of_number : entry.number ≡ d.number = ap (λ (e : Commitment). e.number) last.1 in
@@ -221,7 +230,7 @@ AreRecorded-committed journal events entry place recorded fresh is_called = reco
     timely i j c d before (inl first) (inr last) returns =
         let of_cpu : entry.cpu ≡ d.cpu = ap (λ (e : Commitment). e.cpu) last.1 in
         let of_number : entry.number ≡ d.number = ap (λ (e : Commitment). e.number) last.1 in
-        let was = recorded.returned returns.returned d.cpu d.number returns.given returns.is_returned in
+        let was = recorded.commits.returned returns.returned d.cpu d.number returns.given returns.is_returned in
         let same_number : was.1.number ≡ d.number = was.4 in
         let below : was.1.number < entry.number = fresh.below was.0 was.1 was.2 (was.3 ∙ sym of_cpu) in
         omega arith
@@ -302,9 +311,11 @@ pub IsAccounted-opening : (config : Config) (programs : ℕ → List Command) �
 unfolding opening_world
 IsAccounted-opening config programs = record {
   recorded = record {
-    called = λ i c is. absurd (none-some c is);
-    once = λ i j c d before is. absurd (none-some c is);
-    returned = λ place cpu number given is. absurd (none-some (Returned cpu number given) is);
+    commits = record {
+      called = λ i c is. absurd (none-some c is);
+      once = λ i j c d before is. absurd (none-some c is);
+      returned = λ place cpu number given is. absurd (none-some (Returned cpu number given) is);
+    };
     in_time = λ i j c d before is. absurd (none-some c is);
   };
   phases = λ cpu. record { below = λ i c is. absurd (none-some c is) };
