@@ -1,5 +1,6 @@
 -- What one more entry leaves of the list.
-use Rattle.std.proofs.Common.{◌≡◌, ℕ, ◌+◌, ◌≤◌, List, [], ◌∷◌, ◌++◌, length, take, drop, refl, sym, ap, ◌∙◌, subst, arith, length-append, append_assoc}
+use Rattle.std.proofs.Common.{◌≡◌, ℕ, ◌+◌, ◌-◌, ◌/◌, ◌≤◌, List, [], ◌∷◌, ◌++◌, length, take, drop, refl, sym, ap, ◌∙◌, subst, arith, length-append, append_assoc}
+use Rattle.std.proofs.Math.Nat.{min-le_left, min-le_right, le-min}
 use Rattle.std.proofs.Math.Seq.{drop-append_seam, take-append_seam, take-length}
 use Rattle.std.proofs.lemmas.List.{take-append-le, drop-append-le, length-drop, map-append}
 use Rattle.std.specs.List.{AllByRecursion}
@@ -9,7 +10,7 @@ use Rattle.rmm_spec.specs.declared.reply.Reply.TheVariants as reply
 use Rattle.rmm_spec.proofs.Lines.{each-weaker}
 use Rattle.rmm_spec.proofs.Texts.{AllByRecursion-append}
 use Rattle.rmi_view.specs.Seen.{HasFewWords}
-use Rattle.command_log.specs.Log.{words_at, count_of, given_at, given_of, words_of, logged_in, HasWords}
+use Rattle.command_log.specs.Log.{words_at, count_of, given_at, given_of, words_of, logged_in, room_of, HasWords}
 use Rattle.command_log.specs.declared.line.Given.{Given}
 use Rattle.command_log.specs.declared.line.Given.TheVariants as given
 use Rattle.command_log.specs.declared.line.Line.{Line}
@@ -60,12 +61,20 @@ count_of-given_of (reply.Ok ws) = refl
 count_of-given_of (reply.Err status index) = refl
 count_of-given_of reply.Misplaced = refl
 
-words_of-few : (r : Reply) → HasFewWords r → length (words_of r) ≤ 10
+pub words_of-few : (r : Reply) → HasFewWords r → length (words_of r) ≤ 10
 words_of-few (reply.Ok ws) few = few
 words_of-few (reply.Err status index) few = omega arith
 words_of-few reply.Misplaced few = omega arith
 
 -- ---- one more entry
+
+-- an entry takes room for one at most
+pub room_of-pushed : (lines words new_lines new_words : ℕ) → lines ≤ new_lines + 1 → words ≤ new_words + 20
+    → room_of lines words ≤ room_of new_lines new_words + 1
+room_of-pushed lines words new_lines new_words left left_words =
+    let by_lines : room_of lines words - 1 ≤ new_lines = omega (arith, left, min-le_left lines (words / 20)) in
+    let by_words : room_of lines words - 1 ≤ new_words / 20 = omega (arith, left_words, min-le_right lines (words / 20)) in
+    omega (arith, le-min by_lines by_words)
 
 -- An entry was pushed: its words stand behind all others, the command's before the reply's, and its line tells where.
 pub record IsPushed {T : Type 0} (mark : T) (function : FunctionId) (own : List ℕ) (r : Reply) (words new_words : List ℕ) (lines new_lines : List (Line T)) : Type 0 where
@@ -81,8 +90,12 @@ module _ {T : Type 0} (mark : T) (function : FunctionId) (own : List ℕ) (r : R
   last : Line T
   last = record { mark = mark; function = function; count = length own; given = pushed.kept; first = pushed.first }
 
-  longer : length new_words ≡ length words + (length own + length (words_of r))
-  longer = omega (arith, ap length pushed.is_words, length-append (words ++ own) (words_of r), length-append words own)
+  pub length-lines : length new_lines ≡ length lines + 1
+  unfolding last
+  length-lines = ap length pushed.is_lines ∙ length-append lines (last ∷ [])
+
+  pub length-words : length new_words ≡ length words + (length own + length (words_of r))
+  length-words = omega (arith, ap length pushed.is_words, length-append (words ++ own) (words_of r), length-append words own)
 
   pub HasWords-pushed : length own ≤ 10 → HasFewWords r → AllByRecursion (HasWords (length new_words)) new_lines
   unfolding last
@@ -91,10 +104,10 @@ module _ {T : Type 0} (mark : T) (function : FunctionId) (own : List ℕ) (r : R
       let count = ap count_of pushed.is_kept ∙ count_of-given_of r in
       subst (AllByRecursion (HasWords (length new_words))) (sym pushed.is_lines)
       (AllByRecursion-append (HasWords (length new_words)) lines (last ∷ [])
-      (subst (λ size. AllByRecursion (HasWords size) lines) (sym longer)
+      (subst (λ size. AllByRecursion (HasWords size) lines) (sym length-words)
       (each-weaker (HasWords (length words)) (HasWords (length words + more)) (HasWords-more (length words) more) lines each)) (
         record {
-          within = omega (arith, longer, count, pushed.is_first);
+          within = omega (arith, length-words, count, pushed.is_first);
           few = few;
           few_given = omega (arith, count, words_of-few r few_given);
         },

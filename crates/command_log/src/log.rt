@@ -70,7 +70,7 @@ impl<T> CommandLog<T> {
 }
 
 impl<T: Copy> CommandLog<T> {
-    ghost use Rattle.std.specs.Prelude.{◌≡◌, ◌≤◌, ◌++◌, [], ◌∷◌, length, slice_get, option_map};
+    ghost use Rattle.std.specs.Prelude.{◌≡◌, ◌+◌, ◌≤◌, ◌++◌, [], ◌∷◌, length, slice_get, option_map};
     ghost use Rattle.rmi_view.specs.Seen.{HasFewWords, command_seen, reply_seen};
     ghost use Rattle.command_log.specs.Log.{AreFew, logged_seen};
 
@@ -79,8 +79,9 @@ impl<T: Copy> CommandLog<T> {
         requires room { 1 ≤ self.old.room }
         requires command { length command.words.now ≤ 10 }
         requires reply { HasFewWords (reply_seen reply) }
-        ensures { self.new.logged ≡ self.old.logged
+        ensures pushed { self.new.logged ≡ self.old.logged
             ++ record { mark = mark; command = command_seen command.entry; given = reply_seen reply.entry } ∷ [] }
+        ensures left { self.old.room ≤ self.new.room + 1 }
     {
         let first = self.words.len();
         append(&mut self.words, command.words);
@@ -127,6 +128,7 @@ fn append_given(words: &mut Vec<u64>, reply: ReplyRef<'_>) -> Given
     requires room { vec_len words.old + 10 ≤ vec_capacity words.old }
     requires few { HasFewWords (reply_seen reply) }
     ensures items { words.new.items ≡ words.old.items ++ words_of (reply_seen reply.entry) }
+    ensures capacity { vec_capacity words.new ≡ vec_capacity words.old }
     ensures given { result ≡ given_of (reply_seen reply.entry) }
 {
     match reply {
