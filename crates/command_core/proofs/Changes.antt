@@ -33,15 +33,15 @@ use Rattle.world_laws.proofs.Lists.{put-other}
 use Rattle.world_laws.proofs.Refusals.{Step-refused}
 use Rattle.shape_laws.specs.Whole.{cells_changed, side_changed, side_without_vmid, side_without_rec, places_changed, places_of_rec, places_with_rec_change, table_changed, cell_with_tag, cell_with_realm, cell_with_rec}
 use Rattle.shape_laws.proofs.Accepted.{done-keeps_shape}
+use Rattle.shape_laws.proofs.Cells.{cell-rec}
 use Rattle.shape_laws.proofs.Ties.{well_shaped-is_sound}
 use Rattle.command_core.specs.Seen.{is_held, known_cell}
 use Rattle.command_core.specs.Changed.{new_cells, place_with_rec, place_with_rec_change, new_place, IsOnCpu, CanChange, CanAnswer, Answers, IsFurthest, given_of, IsAnswer}
 use Rattle.walk_laws.specs.SeenState.{table_placed}
 use Rattle.walk_laws.specs.TableCells.{is_moved, holds_page, holds_realm, holds_rec, holds_change}
-use Rattle.walk_laws.proofs.Wholes as walks
+use Rattle.walk_laws.proofs.Wholes.{held-contains}
 use Rattle.walk_laws.proofs.Steps.{cells-changed as tables-changed}
-use Rattle.command_core.proofs.SeenCells.{held-contains}
-use Rattle.command_core.proofs.Wholes.{Whole, state, same_at, rec_cell}
+use Rattle.command_core.proofs.Wholes.{Whole, state, walk_whole, same_at}
 
 -- ---- granules with two tags are two
 
@@ -57,9 +57,6 @@ tags_apart config cells g h t u first second apart same =
     false≢true (sym apart ∙ eq-eqb (tag_number t) (tag_number u) (sym one ∙ (ap (λ x. tag_number (tag_of (cells x))) same ∙ two)))
 
 -- ---- cells
-
-abbrev pub walk_whole : (config : Config) (cpu : ℕ) (hold : Hold) → Whole config cpu hold → walks.Whole config hold.side hold.cells
-walk_whole config cpu hold w = record { cells = w.cells; places = w.places; shaped = w.shaped; agrees = w.agrees }
 
 cells-changed : (config : Config) (cpu : ℕ) (hold : Hold) (w : Whole config cpu hold) (change : Change) → CanApply (state config cpu hold w) change
     → CanChange cpu hold change → cells_changed config w.cells change ≡ put_all w.cells (new_cells hold.cells change)
@@ -119,7 +116,7 @@ place-rec config cpu hold w address (update.Entered on) (Rec rec) is here = ap (
 place-rec config cpu hold w address (update.Entered on) _ is here = same_place config cpu hold w
 place-rec config cpu hold w address update.Exited c is here =
     let runs = (w.shaped.recs.inside cpu address here.0).0 (w.placed ∙ here.1) in
-    let cell : c ≡ Rec runs.it = sym is ∙ rec_cell (w.cells address) runs.it runs.is_rec in
+    let cell : c ≡ Rec runs.it = sym is ∙ cell-rec (w.cells address) runs.it runs.is_rec in
     subst (λ x. places_of_rec w.places address update.Exited x ≡ put w.places cpu Outside) (sym cell)
     (rw (runs.is_on) refl)
 place-rec config cpu hold w address _ c is here = same_place config cpu hold w

@@ -23,10 +23,9 @@ use Rattle.rmm_sound.proofs.Cases.{spot_hit}
 use Rattle.world_laws.proofs.Placed.{passing_below, any_below-from}
 use Rattle.rtt_table.proofs.Searches.{search-places}
 use Rattle.walk_laws.specs.SeenState.{found_or, table_held, table_placed, entry_in, entry_held, table_seen, leaf_seen, seen_state}
-use Rattle.walk_laws.proofs.Found.{placed-holds}
+use Rattle.walk_laws.proofs.Found.{placed-holds, any_below-same}
+use Rattle.walk_laws.proofs.Tables.{entry-seen}
 use Rattle.command_core.specs.Standing.{StandsIn, IsHeldTable, is_under, is_above_held}
-use Rattle.command_core.proofs.Searches.{any_below-same}
-use Rattle.command_core.proofs.SeenTables.{entry-seen}
 
 -- ---- where the table is held
 

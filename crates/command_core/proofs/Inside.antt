@@ -25,6 +25,7 @@ use Rattle.world_laws.proofs.Members.{Contains-head, Contains-tail}
 use Rattle.rec_steps.specs.Answers.{call_row}
 use Rattle.command_rows.specs.Answers.{IsInsideBy, class_answer, inside_answer}
 use Rattle.walk_laws.specs.Walking.{way, is_walk_held, is_refused_early}
+use Rattle.walk_laws.proofs.Seen.{realm-same, rec-same}
 use Rattle.walk_laws.proofs.Settled.{get-told}
 use Rattle.rmm_spec.specs.Walk.{half, is_protected}
 use Rattle.rmm_spec.specs.declared.accepted.Accepted.{Accepted}
@@ -36,10 +37,10 @@ use Rattle.command_core.specs.Walks.{way_inside, way_to_read, spare}
 use Rattle.command_core.specs.Unshaped.{has_other_owner, is_misplaced, is_misfit_way, is_misfit}
 use Rattle.command_core.specs.Settled.{is_read_over, is_settled_inside}
 use Rattle.command_core.proofs.Agreeing.{call_row-same, asked}
-use Rattle.command_core.proofs.Changes.{can-done, walk_whole}
+use Rattle.command_core.proofs.Changes.{can-done}
 use Rattle.command_core.proofs.Fronts.{named-cell}
-use Rattle.command_core.proofs.SeenStates.{realm-same, rec-same, tag-seen, rec-seen, realm-seen}
-use Rattle.command_core.proofs.Wholes.{Whole, state}
+use Rattle.command_core.proofs.SeenStates.{tag-seen, rec-seen, realm-seen}
+use Rattle.command_core.proofs.Wholes.{Whole, state, walk_whole}
 
 -- ---- what is held at the place's granules
 
@@ -285,8 +286,8 @@ fitting-told config cpu hold rec rd c place fits settled = record { can = can (c
     same w ByRealm is =
         let s = state config cpu hold w in
         let both = both-held is in
-        let recs = rec-same config cpu hold w rec both.0 in
-        let realms = ap (λ (r : RecRecord). realm_at s r.owner) recs ∙ realm-same config cpu hold w (rec_at t rec).owner (owner-held both) in
+        let recs = rec-same (walk_whole config cpu hold w) rec both.0 in
+        let realms = ap (λ (r : RecRecord). realm_at s r.owner) recs ∙ realm-same (walk_whole config cpu hold w) (rec_at t rec).owner (owner-held both) in
         (λ i. if is_none (recs i).pending then call_row s rec c else Err reply.Misplaced)
         ∙ waits (is_none (rec_at t rec).pending) refl (λ ready. row-told config cpu hold rec rd c w fits is recs realms ready)
       where
@@ -294,4 +295,4 @@ fitting-told config cpu hold rec rd c place fits settled = record { can = can (c
             → (if b then call_row (state config cpu hold w) rec c else Err reply.Misplaced) ≡ (if b then call_row t rec c else Err reply.Misplaced)
         waits true ready rows = rows ready
         waits false pending rows = refl
-    same w ByExit is = rec_exit-same (state config cpu hold w) t rec (rec-same config cpu hold w rec (rec-held is))
+    same w ByExit is = rec_exit-same (state config cpu hold w) t rec (rec-same (walk_whole config cpu hold w) rec (rec-held is))

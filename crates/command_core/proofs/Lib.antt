@@ -1,9 +1,8 @@
 pub mod SeenCells
 pub mod Searches
 pub mod Wholes
-pub mod Tables
 pub mod SeenStates
-pub mod SeenTables
+pub mod WalkEnds
 pub mod EntrySearch
 pub mod Changes
 pub mod Rising

@@ -9,6 +9,7 @@ use Rattle.rmm_spec.specs.declared.call.Call.{Call}
 use Rattle.rmm_spec.specs.declared.call.Call.TheVariants as call
 use Rattle.rmm_spec.specs.declared.change.Change.TheVariants.{RealmDestroyed, RecDestroyed}
 use Rattle.rmm_spec.specs.declared.change.RecUpdate.TheVariants.{Entered}
+use Rattle.rmm_spec.specs.declared.entry.EntryTest.TheVariants.{Link}
 use Rattle.rmm_spec.specs.declared.reply.Reply.{Reply}
 use Rattle.rmm_spec.specs.declared.tag.Tag.TheVariants as tag
 use Rattle.rmm_spec.specs.Call.{ByHost, class_of}
@@ -25,22 +26,21 @@ use Rattle.rmm_spec.specs.Step.Granule.{granule_delegate, granule_undelegate}
 use Rattle.rmm_spec.specs.Step.Realm.{realm_activate}
 use Rattle.rmm_spec.specs.Step.Rec.{rec_create, rec_destroy, rec_enter}
 use Rattle.rmm_spec.specs.Step.RealmCall.{rec_change}
-use Rattle.rmm_spec.specs.Cell.{Cell, Rd, Rec, Rtt, table_in, tables_of, realm_in}
-use Rattle.rmm_spec.specs.Shape.{HoldsTable}
+use Rattle.rmm_spec.specs.Cell.{Cell, Rd, Rec, realm_in}
 use Rattle.rmm_spec.specs.Local.{HeldCell, Hold}
 use Rattle.command_rows.specs.Answers.{outside_answer}
 use Rattle.command_core.specs.Seen.{cell_in, is_held}
 use Rattle.walk_laws.specs.SeenState.{seen_state}
 use Rattle.command_core.specs.Sides.{is_vmid_listed, are_recs_counted}
 use Rattle.walk_laws.specs.Walking.{way_of}
+use Rattle.walk_laws.proofs.Seen.{tag-same, realm-same, rec-same, held-placed, has_entry-same}
 use Rattle.command_core.specs.Changed.{new_cells, CanAnswer}
 use Rattle.command_core.specs.Named.{words_fit, holds_all}
 use Rattle.command_core.specs.Settled.{is_root_held, are_auxes_held, is_realm_in, is_owner_held, is_complete}
 use Rattle.command_core.proofs.Agreeing.{entered, rooted, SameOwner, SameRoot, SameLookUps, outside_answer-same}
 use Rattle.command_core.proofs.Changes.{can-done}
-use Rattle.command_core.proofs.SeenStates.{tag-same, realm-same, rec-same, tag-seen, rec-seen, realm-seen}
-use Rattle.command_core.proofs.SeenTables.{table_cell, links-same}
-use Rattle.command_core.proofs.Wholes.{Whole, state, whole_cell, realm_at-cell, has_rec-counted, is_vmid_used-listed}
+use Rattle.command_core.proofs.SeenStates.{tag-seen, rec-seen, realm-seen}
+use Rattle.command_core.proofs.Wholes.{Whole, state, walk_whole, whole_cell, realm_at-cell, has_rec-counted, is_vmid_used-listed}
 
 abbrev pub told_outside : Config → ℕ → Hold → Call → Result Accepted Reply
 told_outside config cpu hold c = outside_answer (is_vmid_listed hold.side) (are_recs_counted hold.side) (seen_state config hold.cells) cpu c
@@ -84,9 +84,9 @@ agreeing config cpu hold w c all owner root =
     let s : State = state config cpu hold w in
     let t : State = seen_state config hold.cells in record {
       version = same_version config cpu hold w;
-      tags = each-named hold.cells (λ n. has_tag s n.granule n.tag ≡ has_tag t n.granule n.tag) (λ n. tag-same config cpu hold w n.granule n.tag) (named c) all;
-      realms = each-named hold.cells (λ n. realm_at s n.granule ≡ realm_at t n.granule) (λ n. realm-same config cpu hold w n.granule) (named c) all;
-      recs = each-named hold.cells (λ n. rec_at s n.granule ≡ rec_at t n.granule) (λ n. rec-same config cpu hold w n.granule) (named c) all;
+      tags = each-named hold.cells (λ n. has_tag s n.granule n.tag ≡ has_tag t n.granule n.tag) (λ n. tag-same (walk_whole config cpu hold w) n.granule n.tag) (named c) all;
+      realms = each-named hold.cells (λ n. realm_at s n.granule ≡ realm_at t n.granule) (λ n. realm-same (walk_whole config cpu hold w) n.granule) (named c) all;
+      recs = each-named hold.cells (λ n. rec_at s n.granule ≡ rec_at t n.granule) (λ n. rec-same (walk_whole config cpu hold w) n.granule) (named c) all;
       owner = owner;
       root = root;
     }
@@ -118,22 +118,14 @@ rec_enter-granule config rec fits = only-granule config.granules (record { granu
 
 -- ---- a realm and its root
 
--- what is held at a realm's root is the table of its place
+-- whether a realm's root that is held links to a table is told as the whole has it
 root-linked : (config : Config) (cpu : ℕ) (hold : Hold) (w : Whole config cpu hold) (rd : ℕ) (realm : RealmRecord) → cell_in rd hold.cells ≡ Some (Rd realm)
     → is_held realm.root hold.cells ≡ true → has_link (state config cpu hold w) rd realm.start_level 0 ≡ has_link (seen_state config hold.cells) rd realm.start_level 0
-root-linked config cpu hold w rd realm found held = by (cell_in realm.root hold.cells) refl held
-  where
-    root : HoldsTable (tables_of w.cells) realm.root rd realm.start_level 0
-    root = w.shaped.tables.roots rd realm (ap realm_in (whole_cell config cpu hold w rd (Rd realm) found))
-
-    by : (o : Option Cell) → cell_in realm.root hold.cells ≡ o → is_some o ≡ true
-        → has_link (state config cpu hold w) rd realm.start_level 0 ≡ has_link (seen_state config hold.cells) rd realm.start_level 0
-    by None none is = absurd (false≢true is)
-    by (Some c) there is =
-        let table : c ≡ Rtt root.table = table_cell c root.table (ap table_in (sym (whole_cell config cpu hold w realm.root c there)) ∙ root.is_held) in
-        let same = links-same config cpu hold w realm.root root.table (there ∙ ap (λ (x : Cell). Some x) table) root.is_number in
-        subst (λ x. has_link (state config cpu hold w) x realm.start_level 0 ≡ has_link (seen_state config hold.cells) x realm.start_level 0) root.is_realm
-        (subst (λ l. has_link (state config cpu hold w) root.table.place.rd l 0 ≡ has_link (seen_state config hold.cells) root.table.place.rd l 0) root.is_level same)
+root-linked config cpu hold w rd realm found held =
+    let whole = walk_whole config cpu hold w in
+    let root = w.shaped.tables.roots rd realm (ap realm_in (whole_cell config cpu hold w rd (Rd realm) found)) in
+    let placed = held-placed whole realm.root rd realm.start_level 0 held root in
+    has_entry-same whole placed.0 rd realm.start_level 0 Link placed.1
 
 realm_destroy-told : (config : Config) (cpu : ℕ) (hold : Hold) (rd : ℕ) → is_granule config.granules rd ≡ true → (o : Option Cell) → cell_in rd hold.cells ≡ o
     → is_root_held o hold.cells ≡ true → IsToldOutside config cpu hold (call.RealmDestroy rd)
@@ -213,8 +205,8 @@ rec_enter-told config cpu hold rec granule (Some (Rec it)) found owner = record 
       let t = seen_state config hold.cells in
       told-same config cpu hold w (call.RecEnter rec) refl
       (agreeing config cpu hold w (call.RecEnter rec) (ap (λ b. b && true) held)
-      (ap (λ (r : RecRecord). realm_at s r.owner) (rec-same config cpu hold w rec held ∙ seen)
-      ∙ (realm-same config cpu hold w it.owner (realm-held (cell_in it.owner hold.cells) owner) ∙ sym (ap (λ (r : RecRecord). realm_at t r.owner) seen))) tt);
+      (ap (λ (r : RecRecord). realm_at s r.owner) (rec-same (walk_whole config cpu hold w) rec held ∙ seen)
+      ∙ (realm-same (walk_whole config cpu hold w) it.owner (realm-held (cell_in it.owner hold.cells) owner) ∙ sym (ap (λ (r : RecRecord). realm_at t r.owner) seen))) tt);
 }
   where
     held : is_held rec hold.cells ≡ true

@@ -21,7 +21,7 @@ use Rattle.walk_laws.specs.SeenState.{table_held, table_placed}
 use Rattle.walk_laws.specs.TableCells.{entry_cells, holds_page, holds_realm, holds_rec, holds_change}
 use Rattle.walk_laws.proofs.Found.{placed-holds}
 use Rattle.command_core.specs.Changed.{fits_realm_change, fits_rec_change, fits_page, fits_entries, fits_cells}
-use Rattle.command_core.proofs.SeenTables.{table_cell}
+use Rattle.shape_laws.proofs.Cells.{cell-table}
 
 -- ---- lists
 
@@ -125,7 +125,7 @@ changed_cell : (held : List HeldCell) (g : ℕ) (t new : TableRecord) (change : 
 changed_cell held g t new change is made = ap Rtt made ∙ ap (cell_with_entries change) (sym (by (cell_in g held) is))
   where
     by : (o : Option Cell) → option_and_then table_in o ≡ Some t → unwrap_or o Undelegated ≡ Rtt t
-    by (Some c) found = table_cell c t found
+    by (Some c) found = cell-table c t found
     by None found = absurd (none-some t found)
 
 -- taken out, changed and put back at once

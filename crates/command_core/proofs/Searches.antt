@@ -1,31 +1,10 @@
 -- Searches below a number, of what is there once.
-use Rattle.std.proofs.Common.{◌≡◌, ℕ, zero, suc, ◌<◌, Bool, true, false, not, ◌||◌, ◌==◌, if◌then◌else◌, Some, refl, sym, ap, ◌∙◌, arith, eqb-true}
+use Rattle.std.proofs.Common.{◌≡◌, ℕ, zero, suc, ◌<◌, Bool, true, false, not, ◌||◌, ◌==◌, if◌then◌else◌, refl, sym, ap, ◌∙◌, arith, eqb-true}
 use Rattle.std.proofs.lemmas.Bool.{false≢true}
-use Rattle.std.proofs.lemmas.Option.{none-some, same_Some}
 use Rattle.rmm_spec.specs.Lookup.{any_below, greatest_below}
-use Rattle.rmm_spec.specs.Flat.{found_below}
 use Rattle.rmm_spec.specs.Shape.{count_below}
 
--- the one number that passes is found
-pub found_below-one : (n : ℕ) (p : ℕ → Bool) (k : ℕ) → k < n → p k ≡ true → ((j : ℕ) → p j ≡ true → j ≡ k) → found_below n p ≡ Some k
-found_below-one zero p k within is one = absurd (omega arith)
-found_below-one (suc n) p k within is one = by (p n) refl (λ below. found_below-one n p k below is one)
-  where
-    by : (b : Bool) → p n ≡ b → (k < n → found_below n p ≡ Some k) → (if b then Some n else found_below n p) ≡ Some k
-    by true passes rest = ap Some (one n passes)
-    by false fails rest =
-        let differ : n ≡ k → ⊥ = λ same. false≢true (sym fails ∙ (ap p same ∙ is)) in
-        rest (omega (arith, differ, within))
-
--- what is found passes
-pub found_below-passes : (n : ℕ) (p : ℕ → Bool) (k : ℕ) → found_below n p ≡ Some k → p k ≡ true
-found_below-passes zero p k is = absurd (none-some k is)
-found_below-passes (suc n) p k is = by (p n) refl (found_below-passes n p k) is
-  where
-    by : (b : Bool) → p n ≡ b → (found_below n p ≡ Some k → p k ≡ true) → (if b then Some n else found_below n p) ≡ Some k → p k ≡ true
-    by true passes rest found = ap p (sym (same_Some n k found)) ∙ passes
-    by false fails rest found = rest found
-
+-- the one number that passes is the greatest that does
 pub greatest_below-one : (n : ℕ) (p : ℕ → Bool) (k : ℕ) → k < n → p k ≡ true → ((j : ℕ) → p j ≡ true → j ≡ k) → greatest_below n p ≡ k
 greatest_below-one zero p k within is one = absurd (omega arith)
 greatest_below-one (suc n) p k within is one = by (p n) refl (λ below. greatest_below-one n p k below is one)
@@ -35,14 +14,6 @@ greatest_below-one (suc n) p k within is one = by (p n) refl (λ below. greatest
     by false fails rest =
         let differ : n ≡ k → ⊥ = λ same. false≢true (sym fails ∙ (ap p same ∙ is)) in
         rest (omega (arith, differ, within))
-
--- tests that say the same of each number find the same
-pub any_below-same : (n : ℕ) (p q : ℕ → Bool) → ((k : ℕ) → k < n → p k ≡ q k) → any_below n p ≡ any_below n q
-any_below-same zero p q each = refl
-any_below-same (suc n) p q each =
-    let here : p n ≡ q n = each n (omega arith) in
-    let rest : any_below n p ≡ any_below n q = any_below-same n p q (λ k within. each k (omega (arith, within))) in
-    λ i. here i || rest i
 
 -- what is counted is there
 pub any_below-counted : (n : ℕ) (p : ℕ → Bool) → any_below n p ≡ not (count_below n p == 0)

@@ -35,7 +35,7 @@ use Rattle.command_core.specs.Plan.{IsStep, IsPlanned, is_ready}
 use Rattle.command_core.specs.Next.{last_taken, taken, take_named, take_least, take_part, take_root, take_auxes, next_aux, learn_realm, take_realm, next_to_enter, first_named, free_or_take, next_with_parts, next_to_walk, next_on_way, place_names, next_to_read, next_outside, next_inside, next_unsettled, next}
 use Rattle.command_core.proofs.Inside.{fitting-granule, fitting-place}
 use Rattle.command_core.proofs.Ready.{settled-ready}
-use Rattle.command_core.proofs.SeenCells.{held-contains}
+use Rattle.walk_laws.proofs.Wholes.{held-contains}
 use Rattle.command_core.proofs.Rising.{upward-rises, downward-rises}
 
 -- ---- the last taken

@@ -48,12 +48,12 @@ use Rattle.command_core.specs.Changed.{new_cells, new_place, hold_changed, CanCh
 use Rattle.command_core.specs.Decided.{made_answer}
 use Rattle.command_core.specs.Furthest.{furthest}
 use Rattle.command_core.specs.Walks.{spare, is_walk_over, way_taken}
-use Rattle.command_core.proofs.Changes.{is_answer, walk_whole}
+use Rattle.command_core.proofs.Changes.{is_answer}
 use Rattle.command_core.proofs.Fits.{applied-fits}
 use Rattle.command_core.proofs.Made.{no_whole, made-answered}
 use Rattle.command_core.proofs.Outside.{told_outside}
 use Rattle.command_core.proofs.Stretches.{furthest-reached, reached-furthest}
-use Rattle.command_core.proofs.Wholes.{Whole, state}
+use Rattle.command_core.proofs.Wholes.{Whole, state, walk_whole}
 
 -- ---- where a command walks
 

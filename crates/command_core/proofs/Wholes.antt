@@ -3,7 +3,7 @@ use Rattle.std.proofs.Common.{◌≡◌, ℕ, zero, suc, ◌*◌, ◌≤◌, Boo
 use Rattle.std.specs.Prelude.{IsTrue, is_some, nat_le, unwrap_or}
 use Rattle.std.proofs.lemmas.Bool.{false≢true, false_from_ne_true}
 use Rattle.std.proofs.lemmas.Bool.Decides.{nat_tests}
-use Rattle.std.proofs.lemmas.Option.{none-some, same_Some}
+use Rattle.std.proofs.lemmas.Option.{none-some}
 use Rattle.rmm_spec.specs.HistoryText.{Config}
 use Rattle.rmm_spec.specs.State.{State, RealmRecord, RecRecord}
 use Rattle.rmm_spec.specs.Lookup.{tag_number, is_granule, any_below, has_vmid, is_vmid_used, is_owned_by, has_rec, rec_inside, runs_on, no_realm, realm_at, no_rec, rec_at}
@@ -12,10 +12,11 @@ use Rattle.rmm_spec.specs.Flat.{flat_state}
 use Rattle.rmm_spec.specs.Shape.{CpuPlace, Inside, IsWellShaped, count_below}
 use Rattle.rmm_spec.specs.Local.{Hold, Agrees}
 use Rattle.world_laws.proofs.Placed.{passing_below, any_below-from, running, runs_on-running, cell_is_granule, cell_granule, rec_granule}
+use Rattle.shape_laws.proofs.Cells.{cell-rec}
+use Rattle.walk_laws.proofs.Wholes as walks
 use Rattle.command_core.specs.Seen.{cell_in, is_held, known_cell}
 use Rattle.command_core.specs.Sides.{is_vmid_listed, are_recs_counted}
 use Rattle.command_core.proofs.Searches.{greatest_below-one, any_below-counted}
-use Rattle.command_core.proofs.SeenCells.{known-same, known}
 
 pub record Whole (config : Config) (cpu : ℕ) (hold : Hold) : Type 0 where
   pub cells : ℕ → Cell
@@ -27,14 +28,18 @@ pub record Whole (config : Config) (cpu : ℕ) (hold : Hold) : Type 0 where
 abbrev pub state : (config : Config) (cpu : ℕ) (hold : Hold) → Whole config cpu hold → State
 state config cpu hold w = flat_state config w.cells
 
+-- it is one for walks, which look at no CPU
+abbrev pub walk_whole : (config : Config) (cpu : ℕ) (hold : Hold) → Whole config cpu hold → walks.Whole config hold.side hold.cells
+walk_whole config cpu hold w = record { cells = w.cells; places = w.places; shaped = w.shaped; agrees = w.agrees }
+
 -- ---- cells
 
 -- the whole's cell at a granule that is held
 pub same_at : (config : Config) (cpu : ℕ) (hold : Hold) (w : Whole config cpu hold) (g : ℕ) → IsTrue (is_held g hold.cells) → w.cells g ≡ known_cell hold.cells g
-same_at config cpu hold w g held = known-same hold.cells w.cells g w.agrees held
+same_at config cpu hold w g held = walks.same_at (walk_whole config cpu hold w) g held
 
 pub whole_cell : (config : Config) (cpu : ℕ) (hold : Hold) (w : Whole config cpu hold) (g : ℕ) (c : Cell) → cell_in g hold.cells ≡ Some c → w.cells g ≡ c
-whole_cell config cpu hold w g c found = same_at config cpu hold w g (ap (λ (o : Option Cell). is_some o) found) ∙ known hold.cells g c found
+whole_cell config cpu hold w g c found = walks.whole_cell (walk_whole config cpu hold w) g c found
 
 -- a granule that holds something is one of the machine's
 pub tagged_granule : (config : Config) (cpu : ℕ) (hold : Hold) (w : Whole config cpu hold) (g : ℕ) → (tag_number (tag_of (w.cells g)) == 0) ≡ false → is_granule config.granules g ≡ true
@@ -44,10 +49,6 @@ tagged_granule config cpu hold w g other =
 pub realm_cell : (c : Cell) → is_some (realm_in c) ≡ true → (realm : RealmRecord) × (c ≡ Rd realm)
 realm_cell (Rd realm) is = (realm, refl)
 realm_cell _ is = absurd (false≢true is)
-
-pub rec_cell : (c : Cell) (rec : RecRecord) → rec_in c ≡ Some rec → c ≡ Rec rec
-rec_cell (Rec other) rec is = ap Rec (same_Some other rec is)
-rec_cell _ rec is = absurd (none-some rec is)
 
 pub realm_at-cell : (config : Config) (cells : ℕ → Cell) (rd : ℕ) (realm : RealmRecord) → cells rd ≡ Rd realm → realm_at (flat_state config cells) rd ≡ realm
 unfolding realm_at flat_state
@@ -142,7 +143,7 @@ inside-cells config cpu hold w rec rd place =
     let realm = realm_cell (w.cells rd) owned in
     record {
       it = runs.it;
-      is_rec = rec_cell (w.cells rec) runs.it runs.is_rec;
+      is_rec = cell-rec (w.cells rec) runs.it runs.is_rec;
       is_owner = runs.is_owner;
       realm = realm.0;
       is_realm = realm.1;

@@ -1,5 +1,5 @@
 -- The memory that a change needs.
-use Rattle.std.specs.Prelude.{◌≡◌, ℕ, ◌&&◌, IsTrue, Bool, true, false, Some, IsSomeAnd, replicate}
+use Rattle.std.specs.Prelude.{◌≡◌, ℕ, ◌&&◌, IsTrue, Bool, true, false, Some, None, IsSomeAnd, replicate}
 use Rattle.rmm_spec.specs.Table.{TableRecord}
 use Rattle.rmm_spec.specs.declared.change.Change.{Change}
 use Rattle.rmm_spec.specs.declared.change.Change.TheVariants.{RealmMade, TableMade}
@@ -25,3 +25,9 @@ abbrev pub IsRoomFor : Change → Room → Type 0
 IsRoomFor (RealmMade rd root width level vmid algo) room = IsRealmRoom rd root width level vmid algo room
 IsRoomFor (TableMade rd level number rtt entry) room = IsSomeAnd room.table (λ (t : TableRecord). t.entries ≡ replicate 512 entry)
 IsRoomFor _ room = Unit {0}
+
+-- the room has nothing that a change of its kind doesn't put in
+abbrev pub HasNoMore : Change → Room → Type 0
+HasNoMore (RealmMade rd root width level vmid algo) room = Unit {0}
+HasNoMore (TableMade rd level number rtt entry) room = room.descriptor ≡ None
+HasNoMore _ room = (room.descriptor ≡ None) × (room.table ≡ None)

@@ -58,6 +58,7 @@ pub fn answer<H: Held>(
     side: &Side,
 ) -> Result<Accepted, Reply>
     requires settled { IsTrue (is_settled config.now (call_of command.now) (place_of place.now) (H.cells held.now)) }
+    ensures exact { result ≡ spec.settled_answer config.now cpu (call_of command.now) (H.cells held.now) (side_of side.now) (place_of place.now) }
     ensures decides { IsDecision config.now cpu command.now
         (hold_of (H.cells held.now) (side_of side.now) (place_of place.now)) (given_of result) (change_of result) }
 {

@@ -251,7 +251,7 @@ impl<'a, H: Held> HeldSight<'a, H> {
         }
     }
 
-    // The granule of the table of that place: what the entry above links to, or where that isn't held, that of a held one.
+    /// The granule of the table of that place: what the entry above links to, or where that isn't held, that of a held one.
     #[tactic(auto, unfolding(walk_laws::specs::SeenState::table_seen))]
     pub(crate) fn table(&self, rd: u64, level: u8, number: u64) -> Option<u64>
         ensures { result ≡ spec.table_seen (H.cells self.now.held.now) rd level number }

@@ -2,6 +2,7 @@
 
 ghost use Rattle.std.specs.Prelude.{◌≡◌, ◌-◌, ◌*◌, ◌/◌, ◌^◌, is_some, ◌&&◌, ◌==◌, nat_lt, nat_le, length, option_map, option_copied, unwrap_or};
 ghost use Rattle.rmm_spec.specs.Cell as whole;
+ghost use Rattle.rmm_spec.specs.Lookup as lookup;
 ghost use Rattle.rmm_spec.specs.Walk.{table_size};
 ghost use Rattle.walk_laws.specs.SeenState.{table_placed};
 ghost use Rattle.walk_laws.specs.TableCells as tables;
@@ -18,7 +19,7 @@ use crate::taking::{is_granule, is_held};
 use command_words::is_space;
 use granule_cells::{Cell, Side};
 use granule_state::{Config, Pa};
-use realm_desc::Rec;
+use realm_desc::{HashAlgorithm, Rec};
 use rmm_spec::{
     Change, EntryChange, RealmChange, RealmUpdate, RecChange, RecUpdate, Tag, TagChange,
 };
@@ -31,6 +32,13 @@ fn is_plain(tag: Tag) -> bool
         Tag::Undelegated | Tag::Delegated | Tag::RecAux | Tag::Data => true,
         Tag::Rd | Tag::Rec | Tag::Rtt => false,
     }
+}
+
+// Whether a hash algorithm has that number.
+fn is_hash(algo: u8) -> bool
+    ensures { result ≡ lookup.is_hash algo }
+{
+    HashAlgorithm::of(u64::from(algo)).is_some()
 }
 
 // Whether it is a realm whose next REC has that index.
@@ -191,7 +199,7 @@ fn fits_cells<H: Held>(held: &H, change: &Change) -> bool
             level,
             algo,
             ..
-        } => is_space(u64::from(*width), u64::from(*level)) && (*algo == 0 || *algo == 1),
+        } => is_space(u64::from(*width), u64::from(*level)) && is_hash(*algo),
         Change::RecMade { rd, mpidr, .. } => counts_in(*mpidr, held.cell(Pa::new(*rd))),
         Change::RecordsChanged { realm, rec } => fits_realm(held, realm) && fits_rec(held, rec),
         Change::TableMade {

@@ -1,17 +1,17 @@
 //! The memory that a change needs, taken before it.
 
-ghost use Rattle.std.specs.Prelude.{◌≡◌, IfOk, OnErr, IsSomeAnd, IsTrue, Some, ◌&&◌, replicate};
+ghost use Rattle.std.specs.Prelude.{◌≡◌, IfOk, OnErr, IsSomeAnd, IsTrue, Some, None, ◌&&◌, replicate};
 ghost use Rattle.rmm_spec.specs.Change.{new_realm};
 ghost use Rattle.rmm_spec.specs.Lookup.{is_hash};
 ghost use Rattle.rmm_spec.specs.Step.Words as spec;
 ghost use Rattle.shape_laws.specs.Whole as whole;
-ghost use Rattle.command_core.specs.Rooms.{IsRoomFor, makes_table};
+ghost use Rattle.command_core.specs.Rooms.{IsRoomFor, HasNoMore, makes_table};
 ghost use Rattle.command_core.specs.Sides.{side_of};
 
 use crate::change_room::Room;
-use command_words::is_space;
 use granule_cells::{Descriptor, Side};
-use realm_desc::Realm;
+use granule_state::Pa;
+use realm_desc::{HashAlgorithm, Realm, Space};
 use rmm_spec::{Change, Entry, Place, Ripas};
 use rtt_table::Table;
 use std::alloc::{AllocError, Global};
@@ -21,6 +21,7 @@ use std::alloc::{AllocError, Global};
 pub fn room(alloc: Global, _side: &mut Side, change: &Change) -> Result<Room, AllocError>
     ensures kept { side_of _side.new ≡ side_of _side.old }
     ensures ok { IfOk result (IsRoomFor change.now) }
+    ensures no_more { IfOk result (HasNoMore change.now) }
     ensures only { OnErr result (IsTrue (makes_table change.now)) }
 {
     room_for(alloc, change)
@@ -29,6 +30,7 @@ pub fn room(alloc: Global, _side: &mut Side, change: &Change) -> Result<Room, Al
 /// The same while the side table isn't at hand, which needs no memory.
 pub fn room_for(alloc: Global, change: &Change) -> Result<Room, AllocError>
     ensures ok { IfOk result (IsRoomFor change.now) }
+    ensures no_more { IfOk result (HasNoMore change.now) }
     ensures only { OnErr result (IsTrue (makes_table change.now)) }
 {
     match *change {
@@ -59,7 +61,8 @@ pub fn room_for(alloc: Global, change: &Change) -> Result<Room, AllocError>
 
 // The room of a table of copies of an entry. Where it stands is known once the table above is held.
 fn table_room(alloc: Global, rd: u64, level: u8, entry: Entry) -> Result<Room, AllocError>
-    ensures { IfOk result (λ room. IsSomeAnd room.table (λ t. t.entries ≡ replicate 512 entry)) }
+    ensures table { IfOk result (λ room. IsSomeAnd room.table (λ t. t.entries ≡ replicate 512 entry)) }
+    ensures no_more { IfOk result (λ room. room.descriptor ≡ None) }
 {
     let place = Place {
         rd,
@@ -85,11 +88,14 @@ fn descriptor(
 ) -> Result<Option<Descriptor>, AllocError>
     ensures { IfOk result (λ made. IsTrue (spec.is_space width level && is_hash algo) → made ≡ Some (new_realm root width level vmid algo)) }
 {
-    if is_space(u64::from(width), u64::from(level)) && (algo == 0 || algo == 1) {
-        let realm = Realm::from_words(root, width, level, vmid, algo);
-        return Ok(Some(Descriptor::new(alloc, realm)?));
-    }
-    Ok(None)
+    let (Some(space), Some(algorithm)) = (
+        Space::of(u64::from(width), u64::from(level)),
+        HashAlgorithm::of(u64::from(algo)),
+    ) else {
+        return Ok(None);
+    };
+    let realm = Realm::new(Pa::new(root), space, vmid, algorithm);
+    Ok(Some(Descriptor::new(alloc, realm)?))
 }
 
 // The root of a realm that was just made: nothing was said of its lower half, and its upper half is the host's.

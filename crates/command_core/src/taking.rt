@@ -29,7 +29,7 @@ pub(crate) fn is_held<H: Held>(held: &H, pa: Pa) -> bool
     held.cell(pa).is_some()
 }
 
-/// Whether a granule is named.
+// Whether a granule is named.
 fn is_named(names: &[Name], granule: u64) -> bool
     ensures { result ≡ locks.is_named names.now granule }
 {

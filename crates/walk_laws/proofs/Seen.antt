@@ -206,7 +206,7 @@ held-placed {config} {side} {held} w g rd level number has holds =
     by (Some c) found there = ap table_in (sym (whole_cell w g c found))
 
 -- an entry that is looked for is found in a table that is held where the whole has it
-has_entry-same : {config : Config} {side : Side} {held : List HeldCell} (w : Whole config side held) (g rd level number : ℕ) (test : EntryTest)
+pub has_entry-same : {config : Config} {side : Side} {held : List HeldCell} (w : Whole config side held) (g rd level number : ℕ) (test : EntryTest)
     → table_placed held rd level number ≡ Some g → has_entry (state w) rd level number test ≡ has_entry (seen_state config held) rd level number test
 unfolding has_entry
 has_entry-same {config} {side} {held} w g rd level number test is =

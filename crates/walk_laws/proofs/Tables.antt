@@ -94,7 +94,7 @@ table-below held rd level number e is =
     rw (below, above, is) refl
 
 -- an entry of a held table is that of the state that the cells tell of
-entry-seen : (config : Config) (held : List HeldCell) (rd level number : ℕ) (e : Entry) → entry_held held rd level number ≡ Some e
+pub entry-seen : (config : Config) (held : List HeldCell) (rd level number : ℕ) (e : Entry) → entry_held held rd level number ≡ Some e
     → (nat_lt level 3 ≡ false → is_table e ≡ false) → entry_at (seen_state config held) rd level number ≡ e
 unfolding entry_at seen_state leaf_seen
 entry-seen config held rd level number e is last = by (nat_lt level 3) refl

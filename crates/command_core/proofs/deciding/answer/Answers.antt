@@ -4,9 +4,8 @@ use Rattle.command_core.specs.Sides.{side_of}
 use Rattle.command_core.proofs.Foreseen.{settled-decision}
 use Rattle.command_core.proofs.deciding.answer.Goals as goal
 
-pub returns : goal.returns
-returns g c = record {
-  decides = settled-decision c.args.config.now c.args.cpu c.args.command.now
-      (hold_of (g.H.Held.cells c.args.held.now) (side_of c.args.side.now) (place_of c.args.place.now)) c.call.result c.settled_answer.result
-      c.call.ensures c.requires.settled c.settled_answer.ensures.answer c.settled_answer.ensures.makes;
-}
+pub returns-clause-decides : goal.returns-clause-decides
+returns-clause-decides g c =
+    settled-decision c.args.config.now c.args.cpu c.args.command.now
+    (hold_of (g.H.Held.cells c.args.held.now) (side_of c.args.side.now) (place_of c.args.place.now)) c.call.result c.settled_answer.result
+    c.call.ensures c.requires.settled c.settled_answer.ensures.answer c.settled_answer.ensures.makes

@@ -1,6 +1,6 @@
 use Rattle.std.proofs.Common.{sym, ◌∙◌, arith}
 use Rattle.walk_laws.specs.SeenState.{seen_state}
-use Rattle.command_core.proofs.SeenTables.{reach-top, reach-here, reach-above}
+use Rattle.command_core.proofs.WalkEnds.{reach-top, reach-here, reach-above}
 use Rattle.command_core.proofs.held_sight.HeldSight.+reach.Goals as goal
 
 pub returns-then-max-eq0-clause-level : goal.returns-then-max-eq0-clause-level

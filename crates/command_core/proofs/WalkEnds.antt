@@ -1,0 +1,24 @@
+-- Where a walk ends, level by level.
+use Rattle.std.proofs.Common.{◌≡◌, ℕ, zero, suc, ◌-◌, ◌<◌, true, false, refl, arith}
+use Rattle.std.specs.Prelude.{is_some}
+use Rattle.rmm_spec.specs.State.{State}
+use Rattle.rmm_spec.specs.Walk.{reach, table_number}
+
+-- no walk ends above level 0
+pub reach-top : (s : State) (rd ipa level : ℕ) → level ≡ 0 → 0 ≡ reach s rd ipa level
+unfolding reach
+reach-top s rd ipa zero top = refl
+reach-top s rd ipa (suc level) top = absurd (omega arith)
+
+-- the walk up to a level ends there, where that has a table
+pub reach-here : (s : State) (rd ipa level : ℕ) → 0 < level → is_some (s.table rd level (table_number level ipa)) ≡ true → level ≡ reach s rd ipa level
+unfolding reach
+reach-here s rd ipa zero some there = absurd (omega arith)
+reach-here s rd ipa (suc level) some there = rw there refl
+
+-- and at the level above, where that has none
+pub reach-above : (s : State) (rd ipa level : ℕ) → 0 < level → is_some (s.table rd level (table_number level ipa)) ≡ false
+    → reach s rd ipa (level - 1) ≡ reach s rd ipa level
+unfolding reach
+reach-above s rd ipa zero some none = absurd (omega arith)
+reach-above s rd ipa (suc level) some none = let above : suc level - 1 ≡ level = omega arith in rw (none, above) refl
