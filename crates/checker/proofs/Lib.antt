@@ -9,5 +9,6 @@ pub mod Excludes
 pub mod Verdicts
 pub mod Beginnings
 pub mod SessionLaws
+pub mod Refusals
 pub mod Offers
 pub mod Cuts

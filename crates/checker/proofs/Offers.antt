@@ -1,5 +1,5 @@
 -- How many offers the lines of a piece take.
-use Rattle.std.proofs.Common.{◌≡◌, ℕ, ◌+◌, ◌≤◌, List, [], ◌∷◌, ◌++◌, length, take, Option, Some, None, sym, ap, ◌∙◌, arith}
+use Rattle.std.proofs.Common.{◌≡◌, ℕ, ◌+◌, ◌≤◌, List, [], ◌∷◌, ◌++◌, length, take, Option, Some, None, ap, ◌∙◌, arith}
 use Rattle.certificate.proofs.PieceLemmas.{take_line}
 use Rattle.certificate.specs.Pieces.{Takes, with_told}
 use Rattle.line_pieces.specs.Newlines.{newlines}

@@ -1,9 +1,9 @@
 -- What is judged of some lines.
-use Rattle.std.specs.Prelude.{◌≤◌, List, length, Option, MatchOption}
+use Rattle.std.specs.Prelude.{◌≤◌, List, length, Option, MatchOption, IsNone}
 use Rattle.rmm_spec.specs.declared.line.Line.{Line}
 use Rattle.rmm_spec.specs.FirstFault.{FailsAt}
 use Rattle.rmm_spec.specs.HistoryText.{History}
-use Rattle.checker.specs.Replay.{IsReplayOf}
+use Rattle.checker.specs.Replay.{IsReplayOf, IsRefusedMemory}
 use Rattle.checker.specs.declared.failure.Failure.{Failure}
 use Rattle.checker.specs.declared.replay.Replay.{Replay}
 
@@ -12,3 +12,7 @@ abbrev pub AreJudged : Replay → Option Failure → History → List Line → T
 AreJudged replay failed history lines =
     MatchOption failed (IsReplayOf replay history lines × (replay.machine.offers ≤ length lines))
     (λ failure. FailsAt history lines failure.step failure.reason × (replay.machine.offers ≤ failure.step))
+
+-- no line so far fails, and the next one is refused memory
+abbrev pub IsRefusedNext : Replay → Option Failure → History → Line → Type 0
+IsRefusedNext replay failed history line = IsNone failed × IsRefusedMemory replay history line

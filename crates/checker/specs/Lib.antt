@@ -3,3 +3,4 @@ pub mod Replay
 pub mod Judged
 pub mod Failure
 pub mod Session
+pub mod Judgement

@@ -1,11 +1,11 @@
 //! The first line that fails.
 
-ghost use Rattle.std.specs.Prelude.{◌≡◌, ◌≤◌, ◌+◌, List, [], ◌∷◌, ◌++◌, length, OnOk};
+ghost use Rattle.std.specs.Prelude.{◌≡◌, ◌≤◌, ◌+◌, List, [], ◌∷◌, ◌++◌, length, OnOk, OnErr, IsSomeAnd};
 ghost use Rattle.rmm_spec.specs.declared.line.Line.{Line};
 ghost use Rattle.certificate.specs.LineRef.{line_seen};
 ghost use Rattle.certificate.specs.Pieces.{with_told};
 ghost use Rattle.rmm_spec.specs.Judgement.{JudgesOrder};
-ghost use Rattle.checker.specs.Failure.{AreJudged};
+ghost use Rattle.checker.specs.Failure.{AreJudged, IsRefusedNext};
 ghost use Rattle.checker.specs.Session.{AreOffersFor};
 
 use crate::order::verdict_at_end;
@@ -34,6 +34,7 @@ pub(crate) fn judge_line(
     requires { length replay.old.named.items ≡ length history.now.recorded.events }
     ensures judged { OnOk result ((lines : List Line) → step ≡ length lines + 1 → AreJudged replay.old failed.old history.now.recorded lines
         → AreJudged replay.new failed.new history.now.recorded (lines ++ line_seen line.entry ∷ [])) }
+    ensures refused { OnErr result (IsRefusedNext replay.old failed.old history.now.recorded (line_seen line.entry)) }
     ensures counted { length replay.new.named.items ≡ length replay.old.named.items }
     ensures offers { replay.new.machine.offers ≤ replay.old.machine.offers + 1 }
 {
@@ -60,6 +61,7 @@ pub(crate) fn judge_told(
     ensures judged { OnOk result ((lines : List Line) → step ≡ length (with_told lines told)
         → AreJudged replay.old failed.old history.now.recorded lines
         → AreJudged replay.new failed.new history.now.recorded (with_told lines told)) }
+    ensures refused { OnErr result (IsSomeAnd told (IsRefusedNext replay.old failed.old history.now.recorded)) }
     ensures counted { length replay.new.named.items ≡ length replay.old.named.items }
     ensures offers { replay.new.machine.offers ≤ replay.old.machine.offers + length (with_told [] told) }
 {

@@ -2,9 +2,8 @@
 
 ghost use Rattle.std.specs.Prelude.{IfOk, OnErr};
 ghost use Rattle.std.specs.List.{flat_map};
-ghost use Rattle.history.specs.Faults.{BeginsWith};
-ghost use Rattle.rmm_spec.specs.HistoryText.{History};
 ghost use Rattle.rmm_spec.specs.Judgement.{Judges};
+ghost use Rattle.checker.specs.Judgement.{TakesMemory};
 
 use crate::session::Session;
 use history::HistoryFault;
@@ -18,7 +17,7 @@ pub fn check_pieces(
     certificate: &[&[u8]],
 ) -> Result<Verdict, AllocError>
     ensures judged { IfOk result (λ v. Judges v (flat_map (λ piece. piece.now) history.now) (flat_map (λ piece. piece.now) certificate.now)) }
-    ensures refused { OnErr result ((h : History) × BeginsWith (flat_map (λ piece. piece.now) history.now) h) }
+    ensures refused { OnErr result (TakesMemory (flat_map (λ piece. piece.now) history.now)) }
 {
     let recorded = match history::read_pieces(alloc, history) {
         Ok(recorded) => recorded,

@@ -1,6 +1,6 @@
 //! A certificate, judged as its text comes.
 
-ghost use Rattle.std.specs.Prelude.{◌≡◌, ◌↔◌, ◌≤◌, ◌+◌, ℕ, List, [], ◌++◌, length, false, IsTrue, IsErr, IfOk, OnOk};
+ghost use Rattle.std.specs.Prelude.{◌≡◌, ◌↔◌, ◌≤◌, ◌+◌, ℕ, List, [], ◌++◌, length, false, IsTrue, IsErr, IfOk, OnOk, OnErr};
 ghost use Rattle.line_pieces.specs.Newlines.{newlines};
 ghost use Rattle.rmm_spec.specs.HistoryText.{IsHistoryText};
 ghost use Rattle.rmm_spec.specs.Judgement.{Judges};
@@ -26,7 +26,7 @@ pub struct Session {
 }
 
 impl Session {
-    ghost use Rattle.checker.specs.Session.{HasJudged, AreOffersFor, offers_of};
+    ghost use Rattle.checker.specs.Session.{HasJudged, IsRefusedIn, AreOffersFor, offers_of};
 
     /// No byte yet.
     pub fn new(alloc: Global, history: History) -> Result<Session, AllocError>
@@ -46,11 +46,13 @@ impl Session {
     }
 
     /// Judges the lines that end in the piece. A session that was refused memory has failed, and is refused it from then on.
+    /// Memory is first refused for a line behind lines that pass, whose command makes a table and is accepted by the machine.
     pub fn feed(&mut self, piece: &[u8]) -> Result<(), AllocError>
         ensures judged { OnOk result ((text : List ℕ) → HasJudged self.old text → HasJudged self.new (text ++ piece.now)) }
         ensures history { self.new.history.recorded ≡ self.old.history.recorded }
         ensures answered { IsErr result ↔ IsTrue self.new.refused }
         ensures failed { IsTrue self.old.refused → IsTrue self.new.refused }
+        ensures refused { OnErr result (self.old.refused ≡ false → IsRefusedIn self.old piece.now) }
         ensures offers { offers_of self.new ≤ offers_of self.old + newlines piece.now }
     {
         if self.refused {

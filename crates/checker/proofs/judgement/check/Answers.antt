@@ -1,9 +1,8 @@
 -- The history's bad line, and the session's verdict on the certificate.
-use Rattle.std.proofs.Common.{◌≡◌, [], sym, ◌∙◌, subst}
+use Rattle.std.proofs.Common.{[], inl, inr, sym, ◌∙◌, subst}
 use Rattle.std.proofs.lemmas.Result.{IfOk-weaker}
 use Rattle.rmm_spec.specs.HistoryText.{IsHistoryText}
 use Rattle.rmm_spec.specs.declared.verdict.Verdict.TheVariants as verdict
-use Rattle.history.proofs.GrammarLaws.{BeginsWith-whole}
 use Rattle.checker.proofs.Verdicts.{Judges-valid, OnErr-always}
 use Rattle.checker.proofs.judgement.check.Goals as goal
 
@@ -32,17 +31,15 @@ returns-clause-valid c =
     c.finish.ensures.judged
 
 pub returns-in-Err-NoMemory-clause-refused : goal.returns-in-Err-NoMemory-clause-refused
-returns-in-Err-NoMemory-clause-refused c =
-    let fault = rw c.in-Err-NoMemory.field-0-is at c.in-Err-NoMemory.ensures.fault in
-    (fault.0, fault.2)
+returns-in-Err-NoMemory-clause-refused c = inl (rw c.in-Err-NoMemory.field-0-is at c.in-Err-NoMemory.ensures.fault)
 
 pub returns-in_err-session-clause-refused : goal.returns-in_err-session-clause-refused
 returns-in_err-session-clause-refused c =
-    OnErr-always c.from_residual.result (c.in-Ok.history.recorded, BeginsWith-whole c.args.history.now _ c.in-Ok.ensures.found)
+    OnErr-always c.from_residual.result (inr (c.in-Ok.history.recorded, c.in-Ok.ensures.found))
 
 pub returns-in_err-feed-clause-refused : goal.returns-in_err-feed-clause-refused
 returns-in_err-feed-clause-refused c =
-    OnErr-always c.from_residual-in_err-feed.result (c.in-Ok.history.recorded, BeginsWith-whole c.args.history.now _ c.in-Ok.ensures.found)
+    OnErr-always c.from_residual-in_err-feed.result (inr (c.in-Ok.history.recorded, c.in-Ok.ensures.found))
 
 pub returns-clause-refused : goal.returns-clause-refused
-returns-clause-refused c = OnErr-always c.finish.result (c.in-Ok.history.recorded, BeginsWith-whole c.args.history.now _ c.in-Ok.ensures.found)
+returns-clause-refused c = OnErr-always c.finish.result (inr (c.in-Ok.history.recorded, c.in-Ok.ensures.found))

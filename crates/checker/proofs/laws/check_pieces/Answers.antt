@@ -1,8 +1,7 @@
-use Rattle.std.proofs.Common.{arith, ℕ, List, Bor, ap, sym, subst}
+use Rattle.std.proofs.Common.{arith, ℕ, List, Bor, inl, inr, sym, subst}
 use Rattle.std.proofs.lemmas.List.{take_all}
 use Rattle.std.proofs.lemmas.Result.{IfOk-weaker}
 use Rattle.std.specs.List.{flat_map}
-use Rattle.history.proofs.GrammarLaws.{BeginsWith-whole}
 use Rattle.rmm_spec.specs.HistoryText.{IsHistoryText}
 use Rattle.checker.specs.Session.{HasJudged}
 use Rattle.checker.proofs.Cuts.{flat_map-next}
@@ -10,13 +9,15 @@ use Rattle.checker.proofs.Verdicts.{OnErr-always}
 use Rattle.checker.proofs.laws.check_pieces.Goals as goal
 
 pub returns-in-Err-NoMemory-clause-refused : goal.returns-in-Err-NoMemory-clause-refused
-returns-in-Err-NoMemory-clause-refused c =
-    let fault = rw c.in-Err-NoMemory.field-0-is at c.in-Err-NoMemory.ensures.fault in
-    (fault.0, fault.2)
+returns-in-Err-NoMemory-clause-refused c = inl (rw c.in-Err-NoMemory.field-0-is at c.in-Err-NoMemory.ensures.fault)
 
 pub returns-in_err-session-clause-refused : goal.returns-in_err-session-clause-refused
 returns-in_err-session-clause-refused c =
-    OnErr-always c.from_residual.result (c.in-Ok.recorded.recorded, BeginsWith-whole (flat_map (λ piece. piece.now) c.args.history.now) _ c.in-Ok.ensures.found)
+    OnErr-always c.from_residual.result (inr (c.in-Ok.recorded.recorded, c.in-Ok.ensures.found))
+
+pub returns-in_err-feed-clause-refused : goal.returns-in_err-feed-clause-refused
+returns-in_err-feed-clause-refused c =
+    OnErr-always c.from_residual-in_err-feed.result (inr (c.in-Ok.recorded.recorded, c.in-Ok.ensures.found))
 
 pub loop-piece-preserved : goal.loop-piece-preserved
 loop-piece-preserved c =

@@ -5,6 +5,7 @@ use Rattle.certificate.specs.Pieces.{Begun}
 use Rattle.rmm_spec.specs.declared.line.Line.TheVariants.{Keep}
 use Rattle.checker.specs.Session.{HasJudgedBy, offers_of}
 use Rattle.checker.proofs.Offers.{offers_further, offers_within}
+use Rattle.checker.proofs.Refusals.{IsOk-kept, IsRefusedIn-line, IsRefusedIn-told}
 use Rattle.checker.proofs.SessionLaws.{IsFedUpTo-none, HasJudged-next, HasJudged-kept, HasJudged-bad, cut_further}
 use Rattle.checker.proofs.session.Session.feed.Goals as goal
 
@@ -67,6 +68,20 @@ loop-rest-preserved c =
           offers_further (offers_of c.args.self.now) (offers_of session) c.judge_told.new.replay.machine.offers so_far.front c.loop-rest.rest.now c.in-Ok-next.count
           c.in-Ok-next.told so_far.offers c.judge_told.ensures.offers c.in-Ok-next.ensures.taken;
     }
+
+pub returns-in_default-judge_line-clause-refused : goal.returns-in_default-judge_line-clause-refused
+returns-in_default-judge_line-clause-refused c = λ going.
+    let session = c.loop-rest.self in
+    let is_ok = IsOk-kept session.certificate c.next_kept.result _ c.in-Some.is c.next_kept.ensures.failed in
+    IsRefusedIn-line c.args.self.now session c.args.piece.now c.loop-rest.rest.now session.certificate c.next_kept.new.self c.in-Some.kept
+    (Keep c.in-Some.cpu c.in-Some.number) c.loop-rest.invariant refl is_ok c.in-Some.ensures.answered c.in-Some.ensures.taken c.in-Some.ensures.read
+    c.in_default-judge_line.ensures.refused
+
+pub returns-in_default-judge_told-clause-refused : goal.returns-in_default-judge_told-clause-refused
+returns-in_default-judge_told-clause-refused c = λ going.
+    IsRefusedIn-told c.args.self.now c.loop-rest.self c.args.piece.now c.loop-rest.rest.now c.next_kept.new.self c.next.new.self c.in-Ok-next.count
+    c.in-Ok-next.told c.loop-rest.invariant c.in_default.ensures.none c.in-Ok-next.ensures.failed c.in-Ok-next.ensures.answered c.in-Ok-next.ensures.taken
+    c.in-Ok-next.ensures.read c.in_default-judge_told.ensures.refused
 
 pub returns-in_default-next-clause-judged : goal.returns-in_default-next-clause-judged
 returns-in_default-next-clause-judged c = λ text given.
