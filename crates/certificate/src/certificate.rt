@@ -56,7 +56,7 @@ pub enum LineRef<'a> {
         cpu: u8,
         number: u32,
     },
-    /// A pending call that took effect all the same, with the reply that it would have given.
+    /// An unfinished call that took effect all the same, with the reply that it would have given.
     Unfinished {
         cpu: u8,
         number: u32,
@@ -132,7 +132,7 @@ impl Certificate {
         }
     }
 
-    /// Whether there is room for another line.
+    /// Whether another line may follow: there are fewer than a million.
     pub fn has_room(&self) -> bool
         ensures { IsTrue result ↔ (length self.now.lines < MOST_LINES) }
     {

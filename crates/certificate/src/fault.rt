@@ -13,7 +13,7 @@ pub enum CertFault {
     #[error("line {0} is bad")]
     BadLine(u64),
     /// Memory was refused for a line of the text.
-    #[error("out of memory")]
+    #[error("no memory")]
     NoMemory,
 }
 

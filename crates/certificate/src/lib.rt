@@ -2,7 +2,7 @@
 //! A text is read in one pass, whole or in pieces, to the lines that it stands for, or to its first bad line.
 //! It promises that reader and writer are inverse on the grammar, `specs/CertificateText.antt` of `rmm_spec`: see `laws.rt`.
 //! A line takes 8 bytes and no allocation of its own; the rare unfinished line keeps its number and its reply beside.
-//! The checker depends on it.
+//! The checker, the world and the monitor depend on it.
 #![tactic(auto)]
 
 mod beginning;

@@ -44,7 +44,7 @@ impl Reader {
         }
     }
 
-    /// How many lines were told.
+    /// How many lines were told. Of a reader that has failed it tells nothing.
     pub fn count(&self) -> usize
         ensures count { IfOk self.now (λ kept. result ≡ kept.count) }
         ensures most { result ≤ MOST_LINES }
@@ -53,7 +53,7 @@ impl Reader {
     }
 
     /// Takes the piece's bytes up to the next newline and with it, and tells how many and the line that it ends; or all, where
-    /// there is no newline. A line is told to be bad as soon as it is whatever follows, and at the latest with its newline.
+    /// there is no newline. A bad line is told only once it is bad whatever follows, and at the latest with its newline.
     /// A reader that has failed tells the same line from then on.
     pub fn next(&mut self, piece: &[u8]) -> Result<(usize, Option<Line>), CertFault>
         ensures answered { MatchResult self.new (λ _. IsOk result) (λ line. result ≡ Err (BadLine line)) }

@@ -4,7 +4,7 @@ use Rattle.std.proofs.lemmas.Bool.{cases_eq, eq-eqb, ne_eqb}
 use Rattle.std.proofs.lemmas.Option.{none-some, same_Some, slice_get_read}
 use Rattle.std.proofs.lemmas.List.{take-append-le, drop-append-le, length-drop}
 use Rattle.std.specs.List.{AllByRecursion}
-use Rattle.std.specs.Prelude.{IfNone}
+use Rattle.std.specs.Prelude.{IfNone, Vec, vec_len}
 use Rattle.arrayvec.specs.ArrayVec.{ArrayVec}
 use Rattle.rmm_spec.specs.declared.command.Command.{Command}
 use Rattle.rmm_spec.specs.declared.event.Event.{Event}
@@ -167,6 +167,12 @@ pub record IsEntryAt (words : List ℕ) (events : List Event) (place : ℕ) (fou
   pub has_words : HasWords (length words) found
   pub number : ℕ
   pub is_event : slice_get events place ≡ Some (event_of words number found)
+
+-- there is an entry at each place of an event
+pub within_entries : {Z : Type 0} (words : List ℕ) (entries : Vec Entry Z) (events : List Event) (place : ℕ) → events_in words entries.items ≡ events
+    → place < length events → place < vec_len entries
+within_entries words entries events place events_are within =
+    omega (arith, within, ap length events_are, length-events_in words entries.items, entries.ok.0)
 
 pub IsEntryAt-read : (words : List ℕ) (entries : List Entry) (events : List Event) (place : ℕ) (found : Entry) → IsHeld words entries
     → events_in words entries ≡ events → place < length events → found ≡ get_or entries place found → IsEntryAt words events place found

@@ -17,7 +17,7 @@ use Rattle.rmm_spec.proofs.Lines.{AreOneLineEach, IsLineGrammar, IsBadLine-line,
 use Rattle.rmm_spec.proofs.Texts.{config_parts-are_parts, config_parts-injective, event_parts-are_parts, event_parts-some, event_parts-injective}
 use Rattle.rmm_spec.proofs.Records.{CanFollow-from_push, IsHistory-push}
 use Rattle.rmm_spec.proofs.HistoryGrammar.{IsHistory-take, not-IsBadLine-history}
-use Rattle.history.specs.Faults.{BeginsWith, IsFaultOf, IsFaultOfRewriting}
+use Rattle.history.specs.Faults.{BeginsWith, EndsWithEvent, IsFaultOf, IsFaultOfRewriting}
 use Rattle.history.specs.declared.fault.HistoryFault.{HistoryFault}
 use Rattle.history.specs.declared.fault.HistoryFault.TheVariants.{BadLine, NoMemory}
 use Rattle.history.specs.Next.{Continues, HasNext}
@@ -276,18 +276,33 @@ pub history_text-line : (history : History) (event : Event) (front : List ℕ) �
 history_text-line history event front is_event =
     sym (history_text-push history event (front ++ 10 ∷ []) front [] refl is_event ∙ append-nil (history_text (record history { events = history.events ++ event ∷ [] })))
 
--- memory can be refused for the next line's event, where it may follow
-pub IsFaultOf-next : (history : History) (front more : List ℕ) → IsHistory history → HasNext history (parts_of front)
-    → IsFaultOf (history_text history ++ (front ++ 10 ∷ more)) NoMemory
-IsFaultOf-next history front more is_history next = (
+-- the next line is that of an event which may follow
+pub EndsWithEvent-next : (history : History) (front : List ℕ) → IsHistory history → HasNext history (parts_of front)
+    → EndsWithEvent (history_text history ++ (front ++ 10 ∷ []))
+EndsWithEvent-next history front is_history next = (
   record history { events = history.events ++ next.event ∷ [] },
   omega (arith, length_push history.events next.event),
   record {
-    more = more;
     is_history = IsHistory-push history next.event is_history next.can_follow next.room;
-    is_text = history_text-push history next.event (front ++ 10 ∷ more) front more refl (record { is_event = next.can_follow.is_event; spelled = sym next.spelled });
+    is_text = sym (history_text-line history next.event front (record { is_event = next.can_follow.is_event; spelled = sym next.spelled }));
   },
 )
+
+-- memory can be refused for that event
+pub IsFaultOf-next : (history : History) (front more : List ℕ) → IsHistory history → HasNext history (parts_of front)
+    → IsFaultOf (history_text history ++ (front ++ 10 ∷ more)) NoMemory
+IsFaultOf-next history front more is_history next =
+    let ended = EndsWithEvent-next history front is_history next in (
+      ended.0,
+      ended.1,
+      record {
+        more = more;
+        is_history = ended.2.is_history;
+        is_text =
+            ap (λ r. history_text history ++ r) (sym (append_assoc front (10 ∷ []) more)) ∙ sym (append_assoc (history_text history) (front ++ 10 ∷ []) more)
+            ∙ ap (λ t. t ++ more) ended.2.is_text;
+      },
+    )
 
 pub IsFaultOfRewriting-read : (text : List ℕ) (fault : HistoryFault) → IsFaultOf text fault → IsFaultOfRewriting text fault
 IsFaultOfRewriting-read text (BadLine line) bad = bad

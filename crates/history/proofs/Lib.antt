@@ -4,5 +4,6 @@ mod FrontLaws
 pub mod GrammarLaws
 pub mod SpellingLaws
 mod EntryLaws
+mod CountLaws
 pub mod WriteLaws
 mod PieceLaws

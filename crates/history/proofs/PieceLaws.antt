@@ -1,9 +1,11 @@
 -- What the first bytes of a text say of its bad line, before the header and behind it.
-use Rattle.std.proofs.Common.{◌≡◌, ℕ, ◌<◌, List, [], ◌∷◌, ◌++◌, length, Option, Some, None, sym, ap, ◌∙◌, subst, arith, append_assoc}
+use Rattle.std.proofs.Common.{◌≡◌, ℕ, ◌+◌, ◌-◌, ◌<◌, ◌≤◌, List, [], ◌∷◌, ◌++◌, length, take, Option, Some, None, sym, ap, ◌∙◌, subst, arith, append_assoc, length-append}
+use Rattle.std.proofs.Math.Seq.{take-append-add, take-append_seam}
 use Rattle.line_pieces.proofs.Pieces.{newlines-lines}
 use Rattle.line_pieces.specs.Newlines.{newlines}
 use Rattle.rmm_spec.specs.HistoryText.{InHistories}
 use Rattle.rmm_spec.specs.Text.{HasNoNewline, IsBadLine}
+use Rattle.history.specs.Faults.{EndsWithEvent, EventEndsIn}
 use Rattle.history.specs.Pieces.{lines_read, next_number, IsReadWell}
 use Rattle.history.specs.View.{Recording}
 use Rattle.history.proofs.GrammarLaws.{header_too_long, line_too_long, bad_behind}
@@ -37,6 +39,25 @@ pub of_line : (P : List ℕ → Type 0) (old piece now rest last later : List �
 of_line P old piece now rest last later same is_rest each =
     of_piece P old piece now rest same
     (λ more. subst P (sym (ap (λ r. now ++ (r ++ more)) is_rest ∙ ap (λ r. now ++ r) (append_assoc last (10 ∷ later) more))) (each (later ++ more)))
+
+-- and the event of that line ends in the piece
+pub EventEndsIn-line : (old piece now rest last later : List ℕ) → old ++ piece ≡ now ++ rest → rest ≡ last ++ 10 ∷ later → length old ≤ length now
+    → EndsWithEvent (now ++ (last ++ 10 ∷ [])) → EventEndsIn old piece
+EventEndsIn-line old piece now rest last later same is_rest longer ended =
+    let read = now ++ (last ++ 10 ∷ []) in
+    let count = length read - length old in
+    let lengths : length read ≡ length now + (length last + 1) = length-append now (last ++ 10 ∷ []) ∙ ap (λ n. length now + n) (length-append last (10 ∷ [])) in
+    let whole : old ++ piece ≡ read ++ later =
+    same ∙ ap (λ r. now ++ r) (is_rest ∙ sym (append_assoc last (10 ∷ []) later)) ∙ sym (append_assoc now (last ++ 10 ∷ []) later) in
+    let counted : length old + count ≡ length read = omega (arith, longer, lengths) in
+    let front : old ++ take count piece ≡ read =
+    sym (take-append-add old piece count) ∙ ap (λ n. take n (old ++ piece)) counted ∙ ap (take (length read)) whole ∙ take-append_seam read later in
+    record {
+      count = count;
+      some = omega (arith, longer, lengths);
+      within = omega (arith, counted, ap length whole, length-append old piece, length-append read later);
+      ends = subst EndsWithEvent (sym front) ended;
+    }
 
 -- a line that was begun and is too long with more of its bytes
 pub too_long_held : (read : Option Recording) (begun last more : List ℕ) → IsReadWell read → HasNoNewline (begun ++ last) → 256 < length (begun ++ last)

@@ -1,7 +1,7 @@
 -- What a fault says of the text.
-use Rattle.std.specs.Prelude.{◌≡◌, ℕ, ◌<◌, List, ◌++◌, length}
+use Rattle.std.specs.Prelude.{◌≡◌, ℕ, ◌<◌, ◌≤◌, List, ◌++◌, length, take}
 use Rattle.rmm_spec.specs.Text.{IsBadLine}
-use Rattle.rmm_spec.specs.HistoryText.{History, IsHistory, InHistories, history_text}
+use Rattle.rmm_spec.specs.HistoryText.{History, IsHistory, IsHistoryText, InHistories, history_text}
 use Rattle.history.specs.declared.fault.HistoryFault.{HistoryFault}
 use Rattle.history.specs.declared.fault.HistoryFault.TheVariants.{BadLine, NoMemory}
 
@@ -20,3 +20,14 @@ IsFaultOf text NoMemory = (history : History) × (0 < length history.events) × 
 abbrev pub IsFaultOfRewriting : List ℕ → HistoryFault → Type 0
 IsFaultOfRewriting text (BadLine line) = IsBadLine InHistories text line
 IsFaultOfRewriting text NoMemory = (history : History) × BeginsWith text history
+
+-- the text ends with the line of an event
+abbrev pub EndsWithEvent : List ℕ → Type 0
+EndsWithEvent text = (history : History) × (0 < length history.events) × IsHistoryText text history
+
+-- of a reader in pieces, where memory was refused: the line of that event ends in the piece
+pub record EventEndsIn (given piece : List ℕ) : Type 0 where
+  pub count : ℕ
+  pub some : 0 < count
+  pub within : count ≤ length piece
+  pub ends : EndsWithEvent (given ++ take count piece)

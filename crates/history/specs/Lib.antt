@@ -2,6 +2,7 @@ pub mod View
 pub mod EventRef
 pub mod Entry
 pub mod Index
+pub mod Counts
 pub mod Room
 pub mod Next
 pub mod Calls

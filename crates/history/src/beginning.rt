@@ -1,10 +1,11 @@
 //! The beginning of a history's text.
 
-ghost use Rattle.std.specs.Prelude.{◌≡◌, ◌<◌, ℕ, List, [], ◌∷◌, ◌++◌, ◌≤◌, length, take, IfOk, IfErr, OnOk, IfSome, IfNone};
+ghost use Rattle.std.specs.Prelude.{◌≡◌, ◌≢◌, ◌<◌, ℕ, List, [], ◌∷◌, ◌++◌, ◌≤◌, length, take, Err, IfOk, IfErr, OnOk, IfSome, IfNone};
 ghost use Rattle.line_pieces.specs.Newlines.{newlines};
 ghost use Rattle.rmm_spec.specs.HistoryText.{InHistories, IsHistoryText};
 ghost use Rattle.rmm_spec.specs.Text.{HasNoNewline, IsBadLine};
-ghost use Rattle.history.specs.Faults.{IsFaultOf};
+ghost use Rattle.history.specs.Faults.{IsFaultOf, EndsWithEvent, EventEndsIn};
+ghost use Rattle.history.specs.declared.fault.HistoryFault.TheVariants.{NoMemory};
 ghost use Rattle.history.specs.Pieces.{IsReadWell, next_number};
 
 use crate::fault::HistoryFault;
@@ -52,6 +53,7 @@ impl Beginning {
     pub(crate) fn take(&mut self, piece: &[u8]) -> Result<(), HistoryFault>
         ensures taken { OnOk result (self.new ≡ self.old ++ piece.now) }
         ensures fault { IfErr result (λ fault. (more : List ℕ) → IsFaultOf (self.old ++ (piece.now ++ more)) fault) }
+        ensures memory { result ≡ Err NoMemory → EventEndsIn self.old piece.now }
     {
         let mut rest = piece;
         while !rest.is_empty() {
@@ -92,6 +94,7 @@ impl Beginning {
         requires { HasNoNewline last.now }
         ensures read { OnOk result (self.new ≡ self.old ++ (last.now ++ 10 ∷ [])) }
         ensures fault { IfErr result (λ fault. (more : List ℕ) → IsFaultOf (self.old ++ (last.now ++ 10 ∷ more)) fault) }
+        ensures memory { result ≡ Err NoMemory → EndsWithEvent (self.old ++ (last.now ++ 10 ∷ [])) }
     {
         let Some(line) = whole_line(&mut self.line, last) else {
             return Err(HistoryFault::BadLine(next_number(&self.history)));
@@ -106,6 +109,7 @@ impl Beginning {
         requires { HasNoNewline rest.now }
         ensures held { OnOk result (self.new ≡ self.old ++ rest.now) }
         ensures fault { IfErr result (λ fault. (more : List ℕ) → IsFaultOf (self.old ++ (rest.now ++ more)) fault) }
+        ensures no_memory { result ≢ Err NoMemory }
     {
         if !self.line.extend(rest) {
             return Err(HistoryFault::BadLine(next_number(&self.history)));
@@ -125,6 +129,7 @@ impl Beginning {
     pub(crate) fn finish(self) -> Result<History, HistoryFault>
         ensures found { IfOk result (λ history. IsHistoryText self history.recorded) }
         ensures fault { IfErr result (IsFaultOf self) }
+        ensures no_memory { result ≢ Err NoMemory }
     {
         let _no_newline = self.line.bytes();
         let Beginning { history, line, .. } = self;

@@ -1,6 +1,6 @@
 //! The events of a history, in less memory than a vector of them.
 
-ghost use Rattle.std.specs.Prelude.{◌≡◌, ℕ, ◌+◌, ◌-◌, ◌^◌, ◌<◌, ◌≤◌, ◌++◌, ◌∷◌, [], length, vec_len, vec_capacity, IsOk, IfOk, OnOk, OnErr, IfSome, IfNone, ◌≢◌};
+ghost use Rattle.std.specs.Prelude.{◌≡◌, ℕ, ◌+◌, ◌-◌, ◌/◌, ◌^◌, ◌<◌, ◌≤◌, ◌++◌, length, slice_index_or, slice_set, vec_len, vec_capacity, IsOk, IfOk, OnOk, OnErr, IfSome, IfNone, ◌≢◌};
 ghost use Rattle.rmm_spec.specs.declared.command.Command.{Command};
 ghost use Rattle.rmm_spec.specs.declared.event.Event.TheVariants as event;
 ghost use Rattle.rmm_spec.specs.declared.reply.Reply.{Reply};
@@ -12,7 +12,7 @@ ghost use Rattle.history.specs.Room.{spare};
 
 use crate::event_ref::EventRef;
 use rmi_view::{CommandRef, ReplyRef};
-use rmm_spec::{Event, FunctionId, Reply};
+use rmm_spec::FunctionId;
 use std::alloc::AllocError;
 
 /// Where the words of an event stand.
@@ -150,9 +150,10 @@ fn make_room(words: &mut Vec<u64>, more: usize) -> Result<(), AllocError>
 }
 
 /// The event of an entry, of the call with that number.
-pub fn event_of(words: &[u64], number: u32, entry: Entry) -> Event
+pub fn event_of(words: &[u64], number: u32, entry: Entry) -> EventRef<'_>
     requires { HasWords (length words.now) entry }
-    ensures { result ≡ event_of words.now number entry }
+    ensures event { event_seen result ≡ event_of words.now number entry }
+    ensures few { HasFewWords (event_seen result) }
 {
     match entry {
         Entry::Called {
@@ -162,26 +163,41 @@ pub fn event_of(words: &[u64], number: u32, entry: Entry) -> Event
             first,
         } => {
             let words = words_at(words, Stretch { first, count });
-            Event::Called {
+            let command = CommandRef { function, words };
+            EventRef::Called {
                 cpu,
                 number,
-                command: CommandRef { function, words }.to_command(),
+                command,
             }
         }
         Entry::Answered { cpu, count, first } => {
-            let words = words_at(words, Stretch { first, count });
-            let reply = ReplyRef::Ok(words).to_reply();
-            Event::Returned { cpu, number, reply }
+            let reply = ReplyRef::Ok(words_at(words, Stretch { first, count }));
+            EventRef::Returned { cpu, number, reply }
         }
         Entry::Refused { cpu, status, index } => {
-            let reply = Reply::Err(status, index);
-            Event::Returned { cpu, number, reply }
+            let reply = ReplyRef::Err(status, index);
+            EventRef::Returned { cpu, number, reply }
         }
         Entry::Misplaced { cpu } => {
-            let reply = Reply::Misplaced;
-            Event::Returned { cpu, number, reply }
+            let reply = ReplyRef::Misplaced;
+            EventRef::Returned { cpu, number, reply }
         }
     }
+}
+
+/// The event of an entry whose CPU had so many before it, and with it one more.
+pub fn counted_event<'w>(words: &'w [u64], entry: Entry, counts: &mut [u32; 8]) -> EventRef<'w>
+    requires words { HasWords (length words.now) entry }
+    requires cpu { entry_cpu entry < 8 }
+    requires few { slice_index_or counts.old (entry_cpu entry) 0 + 1 < 2 ^ 32 }
+    ensures event { event_seen result ≡ event_of words.now (slice_index_or counts.old (entry_cpu entry) 0 / 2) entry }
+    ensures few { HasFewWords (event_seen result) }
+    ensures counts { counts.new ≡ slice_set counts.old (entry_cpu entry) (slice_index_or counts.old (entry_cpu entry) 0 + 1) }
+{
+    let cpu = entry_cpu(entry) as usize;
+    let rank = counts[cpu];
+    counts[cpu] = rank + 1;
+    event_of(words, rank / 2, entry)
 }
 
 /// The command of an entry, where it is a call's.

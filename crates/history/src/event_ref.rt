@@ -1,6 +1,7 @@
 //! Events, seen where their parts lie.
 
 ghost use Rattle.std.specs.Prelude.{◌≡◌};
+ghost use Rattle.history.specs.Entry.{HasFewWords};
 ghost use Rattle.history.specs.EventRef.{event_seen};
 
 use rmi_view::{CommandRef, ReplyRef};
@@ -39,6 +40,29 @@ impl<'a> EventRef<'a> {
                 cpu: *cpu,
                 number: *number,
                 reply: ReplyRef::of(reply),
+            },
+        }
+    }
+
+    /// An event of its own.
+    pub fn to_event(self) -> Event
+        requires { HasFewWords (event_seen self) }
+        ensures { result ≡ event_seen self.entry }
+    {
+        match self {
+            EventRef::Called {
+                cpu,
+                number,
+                command,
+            } => Event::Called {
+                cpu,
+                number,
+                command: command.to_command(),
+            },
+            EventRef::Returned { cpu, number, reply } => Event::Returned {
+                cpu,
+                number,
+                reply: reply.to_reply(),
             },
         }
     }

@@ -3,7 +3,7 @@
 ghost use Rattle.std.specs.Prelude.{◌≡◌};
 ghost use Rattle.history.specs.declared.fault.HistoryFault.TheVariants.{NoMemory};
 
-use std::alloc::{AllocError, AllocFailed};
+use std::alloc::AllocError;
 use thiserror::Error;
 
 /// Why no history was read.
@@ -13,7 +13,7 @@ pub enum HistoryFault {
     #[error("line {0} is bad")]
     BadLine(u64),
     /// Memory was refused for an event of the text.
-    #[error("out of memory")]
+    #[error("no memory")]
     NoMemory,
 }
 

@@ -1,19 +1,23 @@
 //! Histories.
 
-ghost use Rattle.std.specs.Prelude.{◌≡◌, ℕ, ◌+◌, ◌<◌, ◌≤◌, ◌↔◌, [], ◌∷◌, ◌++◌, length, slice_get, Some, IsTrue, IsOk, IfOk, IfSome, IfNone, OnOk, OnErr};
+ghost use Rattle.std.specs.Prelude.{◌≡◌, ℕ, ◌+◌, ◌<◌, ◌≤◌, ◌↔◌, [], ◌∷◌, ◌++◌, length, take, slice_get, Some, IsTrue, IsOk, IfOk, IfSome, IfNone, OnOk, OnErr};
 ghost use Rattle.rmm_spec.specs.declared.command.Command.{Command};
 ghost use Rattle.rmm_spec.specs.declared.event.Event.{Event};
 ghost use Rattle.rmm_spec.specs.declared.reply.Reply.{Reply};
 ghost use Rattle.rmm_spec.specs.HistoryText.{IsHistory, CanFollow, cpu_of};
 ghost use Rattle.rmm_spec.specs.Linearization.{IsCalled, IsReturned, IsKnown, IsFinished};
 ghost use Rattle.history.specs.Calls.{line_at, ArePlacesOf, IsCallOf};
+ghost use Rattle.history.specs.Counts.{AreCounts};
+ghost use Rattle.history.specs.Entry as entry;
 ghost use Rattle.history.specs.EventRef.{event_seen};
 ghost use Rattle.history.specs.Spelling.{call_number};
 ghost use Rattle.rmi_view.specs.Seen.{command_seen, reply_seen, HasFewWords};
 ghost use Rattle.history.specs.Index.{IsSubhistory};
 ghost use Rattle.history.specs.Next.{HasText, Continues};
 
-use crate::entry::{Entry, command_of, entry_cpu, event_of, reply_of, reserve_event, store};
+use crate::entry::{
+    Entry, command_of, counted_event, entry_cpu, event_of, reply_of, reserve_event, store,
+};
 use crate::event_ref::EventRef;
 use crate::subhistory::{Subhistory, copies, make_room_at};
 use granule_state::Config;
@@ -129,7 +133,19 @@ impl History {
         requires { place < length self.now.recorded.events }
         ensures { slice_get self.now.recorded.events place ≡ Some result }
     {
-        event_of(&self.words, self.number_at(place), self.entries[place])
+        event_of(&self.words, self.number_at(place), self.entries[place]).to_event()
+    }
+
+    /// The event at a place, whose number the counts of the events before it tell without a search. They then count it too.
+    pub(crate) fn next_event(&self, place: usize, counts: &mut [u32; 8]) -> EventRef<'_>
+        requires place { place < length self.now.recorded.events }
+        requires counts { AreCounts counts.old (take place self.now.recorded.events) }
+        ensures event { slice_get self.now.recorded.events place ≡ Some (event_seen result) }
+        ensures few { entry.HasFewWords (event_seen result) }
+        ensures counts { AreCounts counts.new (take (place + 1) self.now.recorded.events) }
+    {
+        self.well_formed();
+        counted_event(&self.words, self.entries[place], counts)
     }
 
     /// The number of the call of the event at a place.

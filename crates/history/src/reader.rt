@@ -1,10 +1,11 @@
 //! Texts, read to histories.
 
-ghost use Rattle.std.specs.Prelude.{◌≡◌, ◌<◌, ℕ, List, [], ◌++◌, Ok, Err, IfOk, IfErr, OnOk};
+ghost use Rattle.std.specs.Prelude.{◌≡◌, ◌≢◌, ◌<◌, ℕ, List, [], ◌++◌, Ok, Err, IfOk, IfErr, OnOk};
 ghost use Rattle.line_pieces.specs.Newlines.{newlines};
 ghost use Rattle.rmm_spec.specs.HistoryText.{InHistories, IsHistoryText};
 ghost use Rattle.rmm_spec.specs.Text.{IsBadLine};
-ghost use Rattle.history.specs.Faults.{IsFaultOf};
+ghost use Rattle.history.specs.Faults.{IsFaultOf, EventEndsIn};
+ghost use Rattle.history.specs.declared.fault.HistoryFault.TheVariants.{NoMemory};
 
 use crate::beginning::Beginning;
 use crate::fault::HistoryFault;
@@ -41,11 +42,12 @@ impl Reader {
         }
     }
 
-    /// Reads the next bytes. A fault is told as soon as it is one whatever follows, and a bad line at the latest with its
-    /// newline. A reader that has failed tells the same fault from then on.
+    /// Reads the next bytes. A bad line is told only once it is bad whatever follows, and at the latest with its newline.
+    /// A reader that has failed tells the same fault from then on.
     pub fn feed(&mut self, piece: &[u8]) -> Result<(), HistoryFault>
         ensures given { IfOk self.old (λ given. OnOk result (self.new ≡ Ok (given ++ piece.now))) }
         ensures fault { IfOk self.old (λ given. IfErr result (λ fault. (more : List ℕ) → IsFaultOf (given ++ (piece.now ++ more)) fault)) }
+        ensures memory { IfOk self.old (λ given. result ≡ Err NoMemory → EventEndsIn given piece.now) }
         ensures timely { IfOk self.new (λ given. (line : ℕ) → IsBadLine InHistories given line → newlines given < line) }
         ensures fails { IfErr result (λ fault. self.new ≡ Err fault) }
         ensures failed { IfErr self.old (λ fault. result ≡ Err fault) }
@@ -69,6 +71,7 @@ impl Reader {
     pub fn finish(self) -> Result<History, HistoryFault>
         ensures found { IfOk self (λ given. IfOk result (λ history. IsHistoryText given history.recorded)) }
         ensures fault { IfOk self (λ given. IfErr result (IsFaultOf given)) }
+        ensures no_memory { IfOk self (λ given. result ≢ Err NoMemory) }
         ensures failed { IfErr self (λ fault. result ≡ Err fault) }
     {
         let Reader { beginning, failed } = self;

@@ -1,11 +1,12 @@
 //! Lines, read to a history.
 
-ghost use Rattle.std.specs.Prelude.{◌≡◌, ◌+◌, ◌<◌, ℕ, List, [], ◌∷◌, ◌++◌, ◌≤◌, length, take, false, IsTrue, IfOk, IfErr, IfSome, IfNone, OnOk, OnErr};
+ghost use Rattle.std.specs.Prelude.{◌≡◌, ◌≢◌, ◌+◌, ◌<◌, ℕ, List, [], ◌∷◌, ◌++◌, ◌≤◌, length, take, false, Err, IsTrue, IfOk, IfErr, IfSome, IfNone, OnOk, OnErr};
 ghost use Rattle.rmi_codec.specs.Head.{head_text};
 ghost use Rattle.rmm_spec.specs.HistoryText.{IsEvent, history_text};
 ghost use Rattle.rmm_spec.specs.Text.{HasNoNewline, parts_of};
 ghost use Rattle.history.specs.EventRef.{event_seen};
-ghost use Rattle.history.specs.Faults.{IsFaultOf};
+ghost use Rattle.history.specs.Faults.{IsFaultOf, EndsWithEvent};
+ghost use Rattle.history.specs.declared.fault.HistoryFault.TheVariants.{NoMemory};
 ghost use Rattle.history.specs.Next.{Continues, HasNext, HasRecorded};
 ghost use Rattle.history.specs.Pieces.{lines_read};
 
@@ -30,6 +31,7 @@ pub(crate) fn read_line(
     requires { HasNoNewline line.now }
     ensures read { OnOk result (lines_read history.new ≡ lines_read history.old ++ (line.now ++ 10 ∷ [])) }
     ensures fault { IfErr result (λ fault. (more : List ℕ) → IsFaultOf (lines_read history.old ++ (line.now ++ 10 ∷ more)) fault) }
+    ensures memory { result ≡ Err NoMemory → EndsWithEvent (lines_read history.old ++ (line.now ++ 10 ∷ [])) }
 {
     match history {
         None => begin(alloc, history, line),
@@ -43,6 +45,7 @@ fn begin(alloc: Global, history: &mut Option<History>, line: &[u8]) -> Result<()
     requires { HasNoNewline line.now }
     ensures read { OnOk result (lines_read history.new ≡ line.now ++ 10 ∷ []) }
     ensures fault { IfErr result (λ fault. (more : List ℕ) → IsFaultOf (line.now ++ 10 ∷ more) fault) }
+    ensures no_memory { result ≢ Err NoMemory }
 {
     *history = Some(read_header(alloc, line)?);
     Ok(())
@@ -53,6 +56,7 @@ fn read_header(alloc: Global, line: &[u8]) -> Result<History, HistoryFault>
     requires { HasNoNewline line.now }
     ensures read { IfOk result (λ history. history_text history.recorded ≡ line.now ++ 10 ∷ []) }
     ensures fault { IfErr result (λ fault. (more : List ℕ) → IsFaultOf (line.now ++ 10 ∷ more) fault) }
+    ensures no_memory { result ≢ Err NoMemory }
 {
     match header_from(line) {
         Some(config) => Ok(History::new(alloc, config)),
@@ -66,6 +70,7 @@ fn read_event(history: &mut History, words: &mut [u64; 10], line: &[u8]) -> Resu
     requires { HasNoNewline line.now }
     ensures read { OnOk result (history_text history.new.recorded ≡ history_text history.old.recorded ++ (line.now ++ 10 ∷ [])) }
     ensures fault { IfErr result (λ fault. (more : List ℕ) → IsFaultOf (history_text history.old.recorded ++ (line.now ++ 10 ∷ more)) fault) }
+    ensures memory { result ≡ Err NoMemory → EndsWithEvent (history_text history.old.recorded ++ (line.now ++ 10 ∷ [])) }
 {
     history.well_formed();
     let bad_line = HistoryFault::BadLine(history.len() as u64 + 2);

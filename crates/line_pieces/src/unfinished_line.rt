@@ -50,7 +50,7 @@ impl UnfinishedLine {
         self.bytes.as_slice()
     }
 
-    /// Keeps more bytes of the line, where it isn't too long with them. Else none is kept.
+    /// Keeps more bytes of the line and returns true, where it isn't too long with them. Else nothing changes.
     pub fn extend(&mut self, more: &[u8]) -> bool
         requires { HasNoNewline more.now }
         ensures kept { IsTrue result → self.new ≡ self.old ++ more.now }

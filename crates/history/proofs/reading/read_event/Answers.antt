@@ -1,5 +1,5 @@
 use Rattle.std.proofs.lemmas.Result.{err_from_is_err_and}
-use Rattle.history.proofs.GrammarLaws.{IsFaultOf-next, bad_line, full_lines, line_too_many, history_text-line}
+use Rattle.history.proofs.GrammarLaws.{EndsWithEvent-next, IsFaultOf-next, bad_line, full_lines, line_too_many, history_text-line}
 use Rattle.history.proofs.reading.read_event.Goals as goal
 
 pub returns-then-not-has_room-clause-fault : goal.returns-then-not-has_room-clause-fault
@@ -23,3 +23,7 @@ pub returns-in_err-record_line-clause-fault : goal.returns-in_err-record_line-cl
 returns-in_err-record_line-clause-fault c =
     let p = err_from_is_err_and c.from_residual.result c.from_residual.ensures.1 in
     rw (p.1, p.2) (λ more. IsFaultOf-next c.args.history.now.recorded c.args.line.now more c.well_formed-2.ensures c.in_err-record_line.ensures.no_memory)
+
+pub returns-in_err-record_line-clause-memory : goal.returns-in_err-record_line-clause-memory
+returns-in_err-record_line-clause-memory c = λ _.
+    EndsWithEvent-next c.args.history.now.recorded c.args.line.now c.well_formed-2.ensures c.in_err-record_line.ensures.no_memory

@@ -1,6 +1,7 @@
 use Rattle.std.proofs.Common.{◌≡◌, ◌≤◌, ◌+◌, ◌++◌, map, drop, length, take, vec_capacity}
 use Rattle.rmm_spec.specs.HistoryText.{event_parts}
 use Rattle.rmm_spec.specs.Text.{lines_text}
+use Rattle.history.specs.Counts.{AreCounts}
 use Rattle.history.proofs.writing.push_events.Given as goal
 
 -- what is written and what is left to write are the whole text
@@ -11,4 +12,5 @@ invariant-loop-place l = record {
       ≡ length l.fn.out.items + length (lines_text (map event_parts l.history.recorded.events));
   kept : take (length l.fn.out.items) l.out.items ≡ l.fn.out.items;
   capacity : vec_capacity l.fn.out ≤ vec_capacity l.out;
+  counted : AreCounts l.counts (take l.place l.history.recorded.events);
 }

@@ -1,18 +1,13 @@
-use Rattle.std.proofs.Common.{length, Some, ap, sym, ◌∙◌, arith}
+use Rattle.std.proofs.Common.{Some, ap, sym, ◌∙◌}
 use Rattle.std.proofs.lemmas.Option.{same_Some}
-use Rattle.history.proofs.EntryLaws.{IsEntryAt-read, event_of-numbered, event_of-no_call, length-events_in}
+use Rattle.history.proofs.EntryLaws.{IsEntryAt-read, event_of-numbered, event_of-no_call, within_entries}
 use Rattle.history.specs.Entry.{event_of, stretch, words_at}
 use Rattle.history.proofs.history.History.called_at.Goals as goal
 
 pub index-requires : goal.index-requires
 index-requires c =
-    let inside = c.self.inside in
-    omega (
-      arith,
-      c.requires,
-      ap (λ recording. length recording.recorded.events) c.self.view_is,
-      length-events_in inside.words.items inside.entries.items,
-    )
+    within_entries c.self.inside.words.items c.self.inside.entries c.args.self.now.recorded.events c.args.place
+    (ap (λ recording. recording.recorded.events) c.self.view_is) c.requires
 
 pub returns-clause-some : goal.returns-clause-some
 returns-clause-some c =

@@ -1,20 +1,15 @@
 -- The entry at the place has its words, and stands for the event there.
-use Rattle.std.proofs.Common.{length, Some, ap, sym, ◌∙◌, subst, arith}
+use Rattle.std.proofs.Common.{Some, ap, sym, ◌∙◌, subst}
 use Rattle.std.proofs.lemmas.Option.{IfSome_then, same_Some}
 use Rattle.rmm_spec.specs.declared.event.Event.{Event}
 use Rattle.history.specs.Entry.{entry_cpu}
-use Rattle.history.proofs.EntryLaws.{IsEntryAt, IsEntryAt-read, IfNone_then, length-events_in}
+use Rattle.history.proofs.EntryLaws.{IsEntryAt, IsEntryAt-read, IfNone_then, within_entries}
 use Rattle.history.proofs.history.History.command_at.Goals as goal
 
 pub index-requires : goal.index-requires
 index-requires c =
-    let inside = c.self.inside in
-    omega (
-      arith,
-      c.requires,
-      ap (λ recording. length recording.recorded.events) c.self.view_is,
-      length-events_in inside.words.items inside.entries.items,
-    )
+    within_entries c.self.inside.words.items c.self.inside.entries c.args.self.now.recorded.events c.args.place
+    (ap (λ recording. recording.recorded.events) c.self.view_is) c.requires
 
 pub command_of-requires : goal.command_of-requires
 command_of-requires c =

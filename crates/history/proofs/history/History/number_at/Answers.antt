@@ -1,23 +1,18 @@
 -- The event at the place is of the CPU that the entry names, and half its rank is its number.
-use Rattle.std.proofs.Common.{◌==◌, length, ap, sym, ◌∙◌, arith, subst}
+use Rattle.std.proofs.Common.{◌==◌, ap, sym, ◌∙◌, arith, subst}
 use Rattle.std.proofs.lemmas.List.Sums.{length-filter, count_by-le-length}
 use Rattle.rmm_spec.specs.HistoryText.{cpu_of}
 use Rattle.rmm_spec.proofs.Places.{IsEvent-slice_get}
 use Rattle.history.specs.Entry.{event_of}
 use Rattle.history.specs.Index.{HasRank}
-use Rattle.history.proofs.EntryLaws.{IsEntryAt-read, cpu_of-event_of, length-events_in}
+use Rattle.history.proofs.EntryLaws.{IsEntryAt-read, cpu_of-event_of, within_entries}
 use Rattle.history.proofs.SubhistoryLaws.{cpu_below, places-rise, place_of_event, call_number-ranked}
 use Rattle.history.proofs.history.History.number_at.Goals as goal
 
 pub index-requires : goal.index-requires
 index-requires c =
-    let inside = c.self.inside in
-    omega (
-      arith,
-      c.requires,
-      ap (λ recording. length recording.recorded.events) c.self.view_is,
-      length-events_in inside.words.items inside.entries.items,
-    )
+    within_entries c.self.inside.words.items c.self.inside.entries c.args.self.now.recorded.events c.args.place
+    (ap (λ recording. recording.recorded.events) c.self.view_is) c.requires
 
 pub unreachable-requires : goal.unreachable-requires
 unreachable-requires c =
