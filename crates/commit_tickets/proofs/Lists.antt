@@ -39,7 +39,7 @@ pub listed-other : (ticket cpu : ℕ) (entry : JournalEntry) (entries : List Jou
     → listed_from ticket cpu (entry ∷ entries) ≡ listed_from (suc ticket) cpu entries
 listed-other ticket cpu entry entries other = rw (ne_eqb entry.cpu cpu other) refl
 
-mine_of-some : (tokens : List TokenView) (cpu : ℕ) (token : TokenView) → slice_get tokens cpu ≡ Some token → mine_of tokens cpu ≡ token.mine
+pub mine_of-some : (tokens : List TokenView) (cpu : ℕ) (token : TokenView) → slice_get tokens cpu ≡ Some token → mine_of tokens cpu ≡ token.mine
 mine_of-some [] cpu token at = absurd (none-some token at)
 mine_of-some (first ∷ tokens) zero token at = ap (λ (t : TokenView). t.mine) (same_Some first token at)
 mine_of-some (first ∷ tokens) (suc cpu) token at = mine_of-some tokens cpu token at
@@ -49,7 +49,7 @@ mine_of-unknown [] cpu none = refl
 mine_of-unknown (first ∷ tokens) zero none = absurd (none-some first (sym none))
 mine_of-unknown (first ∷ tokens) (suc cpu) none = mine_of-unknown tokens cpu none
 
-mine_of-none : (tokens : List TokenView) (cpu : ℕ) → length tokens ≤ cpu → mine_of tokens cpu ≡ []
+pub mine_of-none : (tokens : List TokenView) (cpu : ℕ) → length tokens ≤ cpu → mine_of tokens cpu ≡ []
 mine_of-none tokens cpu past = mine_of-unknown tokens cpu (slice_get_past tokens cpu past)
 
 -- ---- from a ticket on

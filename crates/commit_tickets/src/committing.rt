@@ -5,7 +5,6 @@ ghost use Rattle.rmm_spec.specs.Call.{call_of};
 ghost use Rattle.rmm_spec.specs.Local.{LocalStep};
 ghost use Rattle.command_core.specs.Seen.{place_of};
 ghost use Rattle.command_core.specs.Settled.{is_settled};
-ghost use Rattle.command_core.specs.Sides.{side_of};
 ghost use Rattle.granule_lock.specs.HeldCells.{hold_cells};
 ghost use Rattle.commit_tickets.specs.declared.fault.CommitFault.TheVariants.{Disagrees};
 ghost use Rattle.commit_tickets.specs.Faults.{HasCause};
@@ -61,8 +60,7 @@ pub fn commit<S: Site>(
     ensures step { IfOk result (λ done. LocalStep S.config token.old.cpu command.now done.reply
         (hold_with journal.old token.old (hold_cells hold.old)) (hold_with journal.new token.new (hold_cells hold.new))) }
     ensures cause { IfErr result (λ fault. HasCause fault S.config command.now journal.old token.old (hold_cells hold.old)) }
-    ensures kept_journal { OnErr result (journal.new ≡ record journal.old { side = journal.new.side; room = journal.new.room }) }
-    ensures kept_side { OnErr result (side_of journal.new.side ≡ side_of journal.old.side) }
+    ensures kept_journal { OnErr result (journal.new ≡ record journal.old { room = journal.new.room }) }
     ensures kept_token { IfErr result (λ fault. token.new ≡ record token.old { room = token.new.room; fault = Some fault }) }
     ensures kept_hold { OnErr result (hold.new ≡ hold.old) }
 {

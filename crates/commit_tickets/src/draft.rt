@@ -1,8 +1,7 @@
 //! What a CPU is about to commit.
 
-ghost use Rattle.std.specs.Prelude.{◌≡◌, ◌≤◌, false, IfOk, OnErr, IsTrue, option_copied, unwrap_or};
+ghost use Rattle.std.specs.Prelude.{◌≡◌, ◌≤◌, false, IfOk, OnErr, IsTrue};
 ghost use Rattle.rmm_spec.specs.Call.{call_of};
-ghost use Rattle.rmm_spec.specs.declared.change.Change.TheVariants.{Unchanged};
 ghost use Rattle.rmi_view.specs.Seen.{HasFewWords, reply_seen};
 ghost use Rattle.command_core.specs.Changed.{given_of};
 ghost use Rattle.command_core.specs.Foreseen as spec;
@@ -42,7 +41,8 @@ impl Draft {
     }
 
     /// Drafts the commit of a command that what is held settles, by the token of its CPU and without the journal: what a side table that
-    /// lists nothing answers. It takes the memory for that, and for the token's list, if there is any.
+    /// lists nothing answers. It takes the memory for the change and for the token's list. Where that is refused, `enter` asks for it
+    /// once more. The change's is refused only where it makes a table.
     pub fn foresee<S: Site>(
         &mut self,
         alloc: Global,
@@ -70,6 +70,7 @@ impl Draft {
     {
         match &self.answer {
             Ok(Accepted::Done { words, .. }) => ReplyRef::Ok(words.as_slice()),
+            // not an answer: a stretch's end is chosen first
             Ok(Accepted::Reaches(_)) => ReplyRef::Misplaced,
             Err(refusal) => ReplyRef::of(refusal),
         }
@@ -87,13 +88,13 @@ impl Draft {
     }
 }
 
-/// What an answer changes, if it changes anything.
-pub(crate) fn change_of(answer: &Result<Accepted, Reply>) -> Option<&Change>
-    ensures { unwrap_or (option_copied result) Unchanged ≡ spec.change_of answer.now }
+/// What an answer changes.
+pub(crate) fn change_of(answer: &Result<Accepted, Reply>) -> &Change
+    ensures { result.now ≡ spec.change_of answer.now }
 {
     match answer {
-        Ok(Accepted::Done { change, .. }) => Some(change),
-        Ok(Accepted::Reaches(_)) | Err(_) => None,
+        Ok(Accepted::Done { change, .. }) => change,
+        Ok(Accepted::Reaches(_)) | Err(_) => &Change::Unchanged,
     }
 }
 
@@ -102,8 +103,5 @@ pub(crate) fn room_of(alloc: Global, answer: &Result<Accepted, Reply>) -> Result
     ensures ok { IfOk result (IsRoomFor (spec.change_of answer.now)) }
     ensures only { OnErr result (IsTrue (makes_table (spec.change_of answer.now))) }
 {
-    match change_of(answer) {
-        Some(change) => room_for(alloc, change),
-        None => room_for(alloc, &Change::Unchanged),
-    }
+    room_for(alloc, change_of(answer))
 }

@@ -24,7 +24,7 @@ use crate::token::CpuToken;
 use command_core::{Room, Side, answer, apply_aside, bears_out};
 use granule_lock::Hold;
 use rmi_view::CommandRef;
-use rmm_spec::{Accepted, Change, Command, Reply};
+use rmm_spec::{Accepted, Command, Reply};
 use std::alloc::{AllocError, Global};
 
 /// Enters a draft into the journal, and returns its ticket. Where the side table doesn't bear the draft out, or memory was refused
@@ -94,10 +94,7 @@ fn change_aside(hold: &Hold, side: &mut Side, answer: &Result<Accepted, Reply>)
     requires { IsTrue (can_count 4096 (side_of side.old) (spec.change_of answer.now)) }
     ensures { side_of side.new ≡ side_changed (known_cell (hold_cells hold.now)) (side_of side.old) (spec.change_of answer.now) }
 {
-    match change_of(answer) {
-        Some(change) => apply_aside(hold, side, change),
-        None => apply_aside(hold, side, &Change::Unchanged),
-    }
+    apply_aside(hold, side, change_of(answer));
 }
 
 // Leaves a draft that the side table bears out as it is, and decides any other anew.

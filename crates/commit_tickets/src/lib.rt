@@ -1,9 +1,8 @@
 //! The journal of all commits, and the tokens by which CPUs commit on the cells that they hold, at once or in three parts of which one
-//! needs the journal; nothing here waits. It promises that the journal is always a run of the specification machine, and its books
-//! that run's last state; that a commit is a local step of what is held with the reply that its one entry has, or changes nothing and
-//! has its cause; that it comes after all entries that its token was told of; that the journal has as many entries as all tokens
-//! list; and that `is_listed_by` tells whether they are the same, CPU by CPU.
-//! The monitor and the runs of threads keep one such journal behind a lock.
+//! needs the journal; nothing here waits. It promises that the journal is a run of the specification machine and its books that run's
+//! last state, that a commit is a local step of what is held with its one entry's reply, or changes nothing and has its cause, that it
+//! comes after all entries that its token was told of, that the journal has as many entries as all tokens list, and that `is_listed_by`
+//! tells whether they are the same, CPU by CPU. `monitor` keeps one such journal behind a lock.
 #![tactic(auto)]
 
 mod audit;

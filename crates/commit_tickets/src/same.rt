@@ -8,8 +8,7 @@ use rmi_view::{CommandRef, ReplyRef};
 pub(crate) fn is_same_command(command: CommandRef<'_>, other: CommandRef<'_>) -> bool
     ensures { IsTrue result ↔ (command_seen command.entry ≡ command_seen other.entry) }
 {
-    command.function.number() == other.function.number()
-        && are_same_words(command.words, other.words)
+    command.function == other.function && are_same_words(command.words, other.words)
 }
 
 pub(crate) fn is_same_reply(reply: ReplyRef<'_>, other: ReplyRef<'_>) -> bool

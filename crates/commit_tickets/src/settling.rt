@@ -13,7 +13,7 @@ use crate::site::Site;
 use crate::token::CpuToken;
 use command_core::apply_held;
 use granule_lock::Hold;
-use rmm_spec::{Change, Reply};
+use rmm_spec::Reply;
 
 /// Makes the change of a draft that `enter` put into the journal, of what is held and of the token's place, and returns its reply.
 /// The journal isn't needed. It takes no memory. The draft owes nothing then, and can be discarded or drafted anew.
@@ -31,10 +31,7 @@ pub fn settle<S: Site>(draft: &mut Draft, token: &mut CpuToken<S>, hold: &mut Ho
     let Some(room) = draft.room.take() else {
         unreachable!()
     };
-    match change_of(&draft.answer) {
-        Some(change) => apply_held(hold, &mut token.place, change, room),
-        None => apply_held(hold, &mut token.place, &Change::Unchanged, room),
-    }
+    apply_held(hold, &mut token.place, change_of(&draft.answer), room);
     draft.is_entered = false;
     draft.reply().to_reply()
 }

@@ -20,7 +20,7 @@ pub struct CpuToken<S: Site> {
     pub(crate) place: CpuPlace,
     pub(crate) is_stopped: bool,
     pub(crate) mine: CommandLog<usize>,
-    // set by `commit` alone
+    // set by `enter` alone
     pub(crate) fault: Option<CommitFault>,
     // how many entries of the journal it was told of
     pub(crate) seen: u64,

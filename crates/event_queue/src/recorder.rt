@@ -37,8 +37,6 @@ impl Model for Recorder {
     ghost use Rattle.crossbeam_queue.specs.Passes.{ruled_capacity};
 
     ghost view = { λ r. record { queue = r.queue.table.shared.table_id; capacity = ruled_capacity r.queue } };
-
-    ghost invariant = { λ r. Unit {0} };
 }
 
 impl Recorder {

@@ -10,14 +10,14 @@ const LOOKS: u32 = 1000;
 
 /// A granule's cell while it is home. Who holds the granule has taken the cell away.
 #[derive(Drop)]
-pub struct Granule {
+pub(crate) struct Granule {
     home: Mutex<Option<Cell>>,
     came_home: Condvar,
 }
 
 impl Granule {
     /// An undelegated granule that nobody holds.
-    pub fn new() -> Granule {
+    pub(crate) fn new() -> Granule {
         Granule {
             home: Mutex::new(Some(Cell::Undelegated)),
             came_home: Condvar::new(),
@@ -26,7 +26,7 @@ impl Granule {
 
     /// Takes the cell away, once it is home. It looks for a while whether one came home before it sleeps, since to be woken takes longer
     /// than most commands.
-    pub fn take<R: Wait>(&self, rt: &R) -> Away {
+    pub(crate) fn take<R: Wait>(&self, rt: &R) -> Away {
         let mut seen = self.came_home.notifications();
         if let Some(cell) = self.taken() {
             return Away::of(cell);
@@ -54,7 +54,7 @@ impl Granule {
     }
 
     /// Brings the cell home, and wakes one that waits for it.
-    pub fn give<R: Wait>(&self, rt: &R, cell: Away) {
+    pub(crate) fn give<R: Wait>(&self, rt: &R, cell: Away) {
         cell.go_home(&mut *self.home.lock(rt));
         self.came_home.notify_one();
     }

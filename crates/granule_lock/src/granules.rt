@@ -28,8 +28,6 @@ impl Model for Granules {
     ghost Value = { GranulesView };
 
     ghost view = { λ g. record { granules = vec_len g.granules } };
-
-    ghost invariant = { λ g. Unit {0} };
 }
 
 impl Granules {
@@ -38,7 +36,7 @@ impl Granules {
         ensures { IfOk result (λ made. made.granules ≡ config.now.granules) }
     {
         let mut granules = Vec::new(alloc);
-        granules.resize_with(config.granules() as usize, || Granule::new())?;
+        granules.resize_with(config.granules() as usize, Granule::new)?;
         Ok(Granules { granules })
     }
 

@@ -9,19 +9,19 @@ use granule_state::Pa;
 use std::mem::replace;
 
 /// A cell that was taken from its granule. It has no `Drop`: it is put among those that are held, or it goes home.
-pub struct Away {
+pub(crate) struct Away {
     cell: Cell,
 }
 
 impl Away {
-    pub fn of(cell: Cell) -> Away
+    pub(crate) fn of(cell: Cell) -> Away
         ensures { result.cell ≡ cell }
     {
         Away { cell }
     }
 
     /// Puts the cell into its home.
-    pub fn go_home(self, home: &mut Option<Cell>)
+    pub(crate) fn go_home(self, home: &mut Option<Cell>)
         ensures { home.new ≡ Some self.cell }
     {
         let Away { cell } = self;
@@ -123,10 +123,8 @@ impl Held for Hold {
     }
 
     fn cell(&self, pa: Pa) -> Option<&Cell> {
-        match self.find(pa) {
-            Some(place) => Some(&self.cells[place]),
-            None => None,
-        }
+        let place = self.find(pa)?;
+        Some(&self.cells[place])
     }
 
     fn swap(&mut self, pa: Pa, cell: Cell) -> Cell {

@@ -33,7 +33,7 @@ invariant_of-journal-2 g c =
     record { mark = c.token.inside.cpu; command = command_seen c.of-view.result; given = reply_seen c.reply-reply.result } in
     let logged = c.journal.inside.entries.logged in
     let is_new : c.push_reserved.new.self.logged ≡ logged ++ added ∷ [] =
-    c.push_reserved.ensures ∙ ap (λ log. log.logged ++ added ∷ []) c.reserve.ensures.kept in (
+    c.push_reserved.ensures.pushed ∙ ap (λ log. log.logged ++ added ∷ []) c.reserve.ensures.kept in (
       IsRun-append _ logged c.push_reserved.new.self.logged added _ _ c.journal.invariant.0 (c.in_ok-offer_seen.ensures.step c.if-not-branch.false) is_new,
       c.journal.invariant.1,
       omega (arith, ap length is_new, length_push logged added, c.add.ensures.total, c.journal.invariant.2),
@@ -45,7 +45,7 @@ invariant_of-token-3 g c =
     let mine = c.token.inside.mine.logged in
     let entries = c.journal.inside.entries.logged in
     let is_new : c.push_reserved-2.new.self.logged ≡ mine ++ added ∷ [] =
-    c.push_reserved-2.ensures ∙ ap (λ log. log.logged ++ added ∷ []) c.reserve-2.ensures.kept in
+    c.push_reserved-2.ensures.pushed ∙ ap (λ log. log.logged ++ added ∷ []) c.reserve-2.ensures.kept in
     let ticket : c.len-ticket.result ≡ length entries = omega (arith, c.len-ticket.ensures, ap (λ log. length log.logged) c.reserve.ensures.kept) in
     let past : c.token.inside.seen ≤ c.len-ticket.result = omega (
       arith,
@@ -59,7 +59,7 @@ invariant_of-token-3 g c =
       arith,
       c.len-2.ensures,
       c.len-ticket.ensures,
-      ap length c.push_reserved.ensures,
+      ap length c.push_reserved.ensures.pushed,
       length_push c.reserve.new.self.logged (record { mark = c.token.inside.cpu; command = added.command; given = added.given }),
     ) in (
       c.add.ensures.parts ∙ c.token.invariant.0,

@@ -1,6 +1,4 @@
 use Rattle.std.proofs.Common.{rules}
-use Rattle.rmm_spec.specs.Call.{call_of}
-use Rattle.command_core.specs.Seen.{place_of}
 use Rattle.granule_lock.specs.HeldCells.{hold_cells}
 use Rattle.granule_lock.specs.Locked.{locking}
 use Rattle.granule_lock.proofs.PlannedSteps.{reached-none, reached-push}

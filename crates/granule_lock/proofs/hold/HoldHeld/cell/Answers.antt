@@ -5,15 +5,16 @@ use Rattle.granule_cells.specs.declared.cell.Cell.{Cell}
 use Rattle.granule_lock.proofs.Pairs.{position-first, cell_in-place, cell_in-no_place}
 use Rattle.granule_lock.proofs.hold.HoldHeld.cell.Goals as goal
 
-pub returns-in-Some : goal.returns-in-Some
-returns-in-Some c =
+pub returns-in_err-place : goal.returns-in_err-place
+returns-in_err-place c =
     let s = c.args.self.now in
-    let found = c.index-deref-place.result in
-    let at = c.index-deref-place.is ∙ ap (λ (cells : List Cell). get_or cells c.in-Some.place found) c.deref.ensures.0 in
-    let first = position-first s.granules.items c.args.pa c.in-Some.place (sym c.find.ensures ∙ c.in-Some.is) in
-    sym (cell_in-place s.granules.items s.cells.items c.args.pa c.in-Some.place found s.same_count first at)
+    rw c.from_residual.ensures (sym (cell_in-no_place s.granules.items s.cells.items c.args.pa s.same_count (sym c.find.ensures ∙ c.in_err-place.was)))
 
-pub returns-in-None : goal.returns-in-None
-returns-in-None c =
+pub returns : goal.returns
+returns c =
     let s = c.args.self.now in
-    sym (cell_in-no_place s.granules.items s.cells.items c.args.pa s.same_count (sym c.find.ensures ∙ c.in-None.is))
+    let place = c.in_ok-place.place in
+    let found = c.index-deref-place.result in
+    let at = c.index-deref-place.is ∙ ap (λ (cells : List Cell). get_or cells place found) c.deref.ensures.0 in
+    let first = position-first s.granules.items c.args.pa place (sym c.find.ensures ∙ c.in_ok-place.was) in
+    sym (cell_in-place s.granules.items s.cells.items c.args.pa place found s.same_count first at)
