@@ -1,5 +1,5 @@
 -- What an explanation says of two texts.
-use Rattle.std.specs.Prelude.{◌≡◌, ◌≢◌, ◌⊎◌, ℕ, ◌+◌, ◌-◌, ◌<◌, List, [], ◌∷◌, ◌++◌, length, take, slice_get, Some, IfSome}
+use Rattle.std.specs.Prelude.{◌≡◌, ◌≢◌, ◌⊎◌, ℕ, ◌+◌, ◌-◌, ◌<◌, ◌≤◌, List, [], ◌∷◌, ◌++◌, length, take, slice_get, Some, IfSome}
 use Rattle.std.specs.List.{filter}
 use Rattle.rmm_spec.specs.declared.line.Line.{Line}
 use Rattle.rmm_spec.specs.Call.{call_of}
@@ -23,7 +23,7 @@ use Rattle.told.specs.declared.flaw.Misplaced.TheVariants as misplaced
 use Rattle.bad_lines.specs.Wrong.{IsCertificateLine, IsEventLine, IsHeader, IsHeaderOf, IsWrong}
 use Rattle.told.specs.declared.explanation.Refusal.{Refusal}
 use Rattle.told.specs.declared.explanation.Summary.{Summary}
-use Rattle.explain.specs.Failing.{IsFailing, IsStatusFor}
+use Rattle.explain.specs.Failing.{IsConditionOf, IsFailing}
 use Rattle.explain.specs.Told.{IsTold, NamesAt, is_call}
 pub use Rattle.told.specs.Verdict.{reason_of, verdict_of}
 
@@ -45,7 +45,7 @@ pub record IsRefusal (history : History) (lines : List Line) (step : ℕ) (refus
   pub before : Passes history (take index lines) old
   pub specifies : refusal.specified ≡ outcome old refusal.call.cpu (call_of refusal.call.call.command)
   pub fails : IsFailing old (call_of refusal.call.call.command) refusal.condition
-  pub status : IsStatusFor refusal.condition refusal.specified
+  pub status : IsConditionOf old refusal.call.cpu (call_of refusal.call.call.command) refusal.specified refusal.condition
   pub changed : IfSome refusal.changed (IsEarlier history lines step)
 
 -- of the line that fails, and of the calls that it is about
@@ -95,9 +95,9 @@ pub record IsLineIn (text : List ℕ) (line : ℕ) (bytes : List ℕ) : Type 0 w
 
 -- why a line of its kind can't stand in its place
 abbrev pub IsMisplaced : Misplaced → List ℕ → ℕ → Type 0
-IsMisplaced misplaced.Unended text line = (rest : List ℕ) × (text ≡ first_lines (line - 1) text ++ rest) × HasNoNewline rest
+IsMisplaced misplaced.Unended text line = (line ≤ 1000000) × (rest : List ℕ) × (text ≡ first_lines (line - 1) text ++ rest) × HasNoNewline rest
 IsMisplaced misplaced.Full text line = 1000000 < line
-IsMisplaced misplaced.OutOfTurn text line = (cut more : List ℕ) × (text ≡ first_lines (line - 1) text ++ (cut ++ 10 ∷ more))
+IsMisplaced misplaced.OutOfTurn text line = (line ≤ 1000000) × (cut more : List ℕ) × (text ≡ first_lines (line - 1) text ++ (cut ++ 10 ∷ more))
 
 -- of a line with these parts, which is to be of a kind: the part that is wrong in it, or that it is of the kind and misplaced
 abbrev pub IsFlawOf : (List (List ℕ) → Type 0) → Flaw → List ℕ → ℕ → List (List ℕ) → Type 0
@@ -114,8 +114,9 @@ IsHistoryFlaw told text line parts =
     (line ≡ 1 → IsFlawOf IsHeader told text line parts)
     × (line ≢ 1 → IsOnFirstLine text (λ header. (config : Config) → IsHeaderOf (parts_of header) config → IsFlawOf (IsEventLine config.cpus) told text line parts))
 
+-- of a certificate's line, which is never out of turn
 abbrev pub IsCertificateFlaw : Flaw → List ℕ → ℕ → List (List ℕ) → Type 0
-IsCertificateFlaw told text line parts = IsFlawOf IsCertificateLine told text line parts
+IsCertificateFlaw told text line parts = IsFlawOf IsCertificateLine told text line parts × (told ≢ flaw.Place misplaced.OutOfTurn)
 
 -- ---- both texts
 

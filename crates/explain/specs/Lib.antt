@@ -1,3 +1,4 @@
+pub mod OwnRows
 pub mod Told
 pub mod Failing
 pub mod Explained

@@ -24,7 +24,7 @@ use std::alloc::{AllocError, Global};
 use told::{Explanation, Summary};
 
 /// Explains the verdict on a history's text and a certificate's, and keeps what was read of them. Memory is refused only
-/// behind a header, as `checker::check` refuses it.
+/// behind a header.
 pub fn explain_run<'a>(
     alloc: Global,
     history: &'a [u8],

@@ -1,21 +1,25 @@
 //! The condition that fails, found in the state before a step. A command's rows are looked at in their order: where it may be
 //! given, its words, the tags of the granules that it names, and then records and tables, of which the status says which kind.
 
-ghost use Rattle.std.specs.Prelude.{IfOk};
-ghost use Rattle.explain.specs.Failing.{IsFailing, IsStatusFor};
+ghost use Rattle.std.specs.Prelude.{◌≡◌, ℕ, Err, IfOk};
+ghost use Rattle.explain.specs.Failing.{IsConditionOf, IsFailing, IsStatusOf};
+ghost use Rattle.rmm_spec.specs.declared.call.Call.TheVariants as given;
+ghost use Rattle.rmm_spec.specs.declared.reply.Reply.TheVariants as reply;
 ghost use Rattle.rmm_spec.specs.Call.{call_of};
+ghost use Rattle.rmm_spec.specs.State.{State};
+ghost use Rattle.rmm_spec.specs.Step.{outcome};
 ghost use Rattle.spec_machine.specs.View.{state_of};
 
 use crate::word_fault::word_fault;
 use arrayvec::ArrayVec;
 use command_rows::Sight;
-use command_words::{Name, algorithm_in, named};
+use command_words::{Caller, Name, algorithm_in, caller_of, named};
 use granule_state::GRANULE_BYTES;
 use rmi_view::CommandRef;
-use rmm_spec::{Accepted, Call, Command, FunctionId, Reply, Stretch, StretchUse, Tag};
+use rmm_spec::{Accepted, Call, Command, FunctionId, Removal, Reply, Stretch, StretchUse, Tag};
 use spec_machine::{Machine, OwnerRow};
 use std::alloc::{AllocError, Global};
-use told::{Condition, EntryKind, EntryRead, entry_size, is_by_realm};
+use told::{Condition, EntryKind, EntryRead, entry_size};
 
 /// How many entries a table has.
 const ENTRIES: u64 = 512;
@@ -36,8 +40,39 @@ pub(crate) fn failing_condition(
     command: &Command,
     specified: &Result<Accepted, Reply>,
 ) -> Result<Condition, AllocError>
+    requires answered { specified.now ≡ outcome (state_of machine.now) cpu (call_of command.now) }
     ensures fails { IfOk result (IsFailing (state_of machine.now) (call_of command.now)) }
-    ensures status { IfOk result (λ condition. IsStatusFor condition specified.now) }
+    ensures status { IfOk result (IsConditionOf (state_of machine.now) cpu (call_of command.now) specified.now) }
+{
+    let Err(refusal) = specified else {
+        return Ok(Condition::None);
+    };
+    let call = command.call();
+    match refusal {
+        Reply::Err(status, index) => refused_row(alloc, machine, cpu, &call, *status, *index),
+        Reply::Ok(_) | Reply::Misplaced => {
+            let place = Place {
+                machine,
+                owners: &[],
+                cpu,
+            };
+            Ok(place.misplacement(&call))
+        }
+    }
+}
+
+// The row for which the specification refuses a command with a status.
+fn refused_row(
+    alloc: Global,
+    machine: &Machine,
+    cpu: u8,
+    call: &Call,
+    status: u8,
+    index: u8,
+) -> Result<Condition, AllocError>
+    requires answered { outcome (state_of machine.now) cpu call.now ≡ Err (reply.Err status index) }
+    ensures fails { IfOk result (IsFailing (state_of machine.now) call.now) }
+    ensures status { IfOk result (λ condition. IsStatusOf condition status index) }
 {
     let mut owners = Vec::new(alloc);
     machine.owner_report(&mut owners)?;
@@ -46,14 +81,7 @@ pub(crate) fn failing_condition(
         owners: owners.as_slice(),
         cpu,
     };
-    let call = command.call();
-    let Err(refusal) = specified else {
-        return Ok(Condition::None);
-    };
-    let Reply::Err(status, index) = refusal else {
-        return Ok(place.misplacement(command.function));
-    };
-    Ok(place.failing_row(&call, *status, *index))
+    Ok(place.failing_row(call, status, index))
 }
 
 /// The greatest end that a command may reach, where its end is left to the monitor: as far as entries of one table can be set.
@@ -74,29 +102,49 @@ pub(crate) fn farthest_end(
 }
 
 impl Place<'_> {
-    ghost use Rattle.std.specs.Prelude.{◌≡◌, ℕ, ◌≤◌, ◌/◌, ◌%◌, [], length, slice_get, Some, None, IfSome, IfNone};
-    ghost use Rattle.explain.specs.Failing.{IsFailing, IsFound, IsStatusOf};
+    ghost use Rattle.std.specs.Prelude.{◌≡◌, ℕ, ◌≤◌, ◌/◌, ◌%◌, [], length, slice_get, Some, None, Err, IfSome, IfNone};
+    ghost use Rattle.explain.specs.Failing.{IsFailing, IsFound, IsMisplacement, IsStatusOf};
+    ghost use Rattle.explain.specs.OwnRows.{HasStatus, HaveTags, algo_of, needed_entry, table_address, table_level, vmid_of, walked_address, walked_level};
     ghost use Rattle.rmm_spec.specs.declared.call.Call.{Call as Given};
+    ghost use Rattle.rmm_spec.specs.declared.reply.Reply.TheVariants as reply;
+    ghost use Rattle.rmm_spec.specs.Lookup.{is_inside};
     ghost use Rattle.rmm_spec.specs.State.{State};
+    ghost use Rattle.rmm_spec.specs.Step.{outcome};
+    ghost use Rattle.rmm_spec.specs.Step.Named as spec;
     ghost use Rattle.spec_machine.specs.Report.{AddsOwners};
     ghost use Rattle.spec_machine.specs.View.{state_of};
 
     // Why a command isn't given here.
-    fn misplacement(self, function: FunctionId) -> Condition
-        ensures fails { (s : State) (given : Given) → IsFailing s given result }
-        ensures status { (status index : ℕ) → IsStatusOf result status index }
+    fn misplacement(self, call: &Call) -> Condition
+        ensures { IsMisplacement (state_of self.entry.machine.now) self.entry.cpu call.now result }
     {
-        if !is_by_realm(function) && function != FunctionId::Exit {
-            Condition::Inside
-        } else if self.answer(FunctionId::Exit, &[]).is_none() {
-            Condition::Outside
-        } else {
-            Condition::ExitPending
+        match caller_of(call) {
+            Caller::Host => Condition::Inside,
+            Caller::Realm | Caller::Rec => {
+                if self.is_inside() {
+                    Condition::ExitPending
+                } else {
+                    Condition::Outside
+                }
+            }
         }
     }
 
+    // Whether the CPU is inside a REC, which may leave it then.
+    fn is_inside(self) -> bool
+        ensures { result ≡ is_inside (state_of self.entry.machine.now) self.entry.cpu }
+    {
+        let exit = CommandRef {
+            function: FunctionId::Exit,
+            words: &[],
+        }
+        .to_command();
+        self.machine.outcome(self.cpu, &exit).is_ok()
+    }
+
     fn failing_row(self, call: &Call, status: u8, index: u8) -> Condition
-        requires { AddsOwners (state_of self.machine.now) [] self.owners.now }
+        requires report { AddsOwners (state_of self.machine.now) [] self.owners.now }
+        requires answered { outcome (state_of self.machine.now) self.cpu call.now ≡ Err (reply.Err status index) }
         ensures fails { IsFailing (state_of self.entry.machine.now) call.now result }
         ensures status { IsStatusOf result status index }
     {
@@ -118,19 +166,20 @@ impl Place<'_> {
     fn wrong_tag(self, call: &Call) -> Option<Condition>
         requires { AddsOwners (state_of self.machine.now) [] self.owners.now }
         ensures fails { IfSome result (IsFailing (state_of self.entry.machine.now) call.now) }
-        ensures status { IfSome result (λ condition. (status index : ℕ) → IsStatusOf condition status index) }
+        ensures status { IfSome result (λ condition. IsStatusOf condition 1 0) }
+        ensures wrong { IfSome result (λ condition. ¬ HaveTags (state_of self.entry.machine.now) (spec.named call.now)) }
+        ensures none { IfNone result (HaveTags (state_of self.entry.machine.now) (spec.named call.now)) }
     {
         let named = named(call);
         let names = named.as_slice();
         for i in 0..names.len() {
             let name = names[i];
             let Name { granule, tag } = name;
-            let found = self.tag(granule);
-            if found != Some(tag) {
+            if !self.machine.has_tag(granule, tag) {
                 return Some(Condition::Tag {
                     granule,
                     needed: tag,
-                    found,
+                    found: self.tag(granule),
                 });
             }
         }
@@ -161,6 +210,7 @@ impl Place<'_> {
 
     // ERROR_INPUT behind the words and tags.
     fn input_row(self, call: &Call) -> Condition
+        requires { HasStatus call.now 1 }
         ensures fails { IsFailing (state_of self.entry.machine.now) call.now result }
         ensures status { (index : ℕ) → IsStatusOf result 1 index }
     {
@@ -182,13 +232,13 @@ impl Place<'_> {
                 Condition::TopNotProtected { top }
             }
             Call::RttSetRipas { base, top, .. } => Condition::NotRequested { base, top },
-            _ => Condition::None,
+            _ => unreachable!(),
         }
     }
 
     // The version has no such hash, or a realm has the VMID.
     fn new_realm_row(self, vmid: u64, algo: u64) -> Condition
-        ensures fails { (given : Given) → IsFailing (state_of self.entry.machine.now) given result }
+        ensures fails { (given : Given) → (vmid_of given ≡ Some vmid) × (algo_of given ≡ Some algo) → IsFailing (state_of self.entry.machine.now) given result }
         ensures status { (index : ℕ) → IsStatusOf result 1 index }
     {
         let version = self.machine.version();
@@ -200,7 +250,7 @@ impl Place<'_> {
 
     // The walk has to get to a level, and the realm's walks begin below it, or the address is past the realm's space.
     fn space_row(self, rd: u64, ipa: u64, level: u64, reached: Option<u64>) -> Condition
-        ensures fails { (s : State) (given : Given) → IsFailing s given result }
+        ensures fails { (s : State) (given : Given) → (table_address given ≡ Some ipa) × (table_level given ≡ Some level) → IsFailing s given result }
         ensures status { (index : ℕ) → IsStatusOf result 1 index }
     {
         match reached.and_then(|reached| self.entry(rd, 0, reached)) {
@@ -211,7 +261,8 @@ impl Place<'_> {
 
     // ERROR_REALM.
     fn realm_row(self, call: &Call, index: u8) -> Condition
-        ensures fails { (s : State) (given : Given) → IsFailing s given result }
+        requires { HasStatus call.now 2 }
+        ensures fails { (s : State) → IsFailing s call.now result }
         ensures status { IsStatusOf result 2 index }
     {
         match *call {
@@ -225,7 +276,7 @@ impl Place<'_> {
             | Call::RecCreate { rd, .. }
             | Call::DataCreate { rd, .. }
             | Call::RttInitRipas { rd, .. } => Condition::RealmNotNew { rd },
-            _ => Condition::None,
+            _ => unreachable!(),
         }
     }
 
@@ -239,7 +290,8 @@ impl Place<'_> {
 
     // ERROR_REC.
     fn rec_row(self, call: &Call) -> Condition
-        ensures fails { (s : State) (given : Given) → IsFailing s given result }
+        requires { HasStatus call.now 3 }
+        ensures fails { (s : State) → IsFailing s call.now result }
         ensures status { (index : ℕ) → IsStatusOf result 3 index }
     {
         match *call {
@@ -253,51 +305,28 @@ impl Place<'_> {
                 }
             }
             Call::RecDestroy { rec } => Condition::RecRuns { rec },
-            _ => Condition::None,
+            _ => unreachable!(),
         }
     }
 
     // ERROR_RTT at a level.
     fn table_row(self, call: &Call, level: u8) -> Condition
-        ensures fails { (s : State) (given : Given) → IsFailing s given result }
-        ensures status { (status : ℕ) → IsStatusOf result status level }
+        requires { HasStatus call.now 4 }
+        ensures fails { (s : State) → IsFailing s call.now result }
+        ensures status { IsStatusOf result 4 level }
     {
-        let at = u64::from(level);
         match *call {
             Call::RttCreate {
                 ipa,
                 level: below,
                 ..
-            } if at.saturating_add(1) == below => Condition::EntryIsTable { ipa, level },
+            } => created_row(ipa, below, level),
             Call::RttRemove {
                 removal,
                 ipa,
                 level: below,
                 ..
-            } if at == below => Condition::TableStays {
-                removal,
-                ipa,
-                level,
-            },
-            Call::RttRemove {
-                ipa,
-                level: below,
-                ..
-            } if at.saturating_add(1) == below => Condition::EntryIsNoTable { ipa, level },
-            Call::RttCreate {
-                ipa,
-                level: below,
-                ..
-            }
-            | Call::RttRemove {
-                ipa,
-                level: below,
-                ..
-            } => Condition::WalkEnds {
-                ipa,
-                level,
-                needed: below.saturating_sub(1),
-            },
+            } => removed_row(removal, ipa, below, level),
             Call::RttInitRipas { base, top, .. } | Call::RttSetRipas { base, top, .. } => {
                 Condition::NoRoom { base, top, level }
             }
@@ -314,14 +343,15 @@ impl Place<'_> {
             Call::RttUnmapUnprotected { rd, ipa } => {
                 self.page_row(rd, ipa, level, EntryKind::AssignedNs)
             }
-            _ => Condition::None,
+            _ => unreachable!(),
         }
     }
 
     // The walk ends above level 3, or on an entry of another kind.
     fn page_row(self, rd: u64, ipa: u64, level: u8, needed: EntryKind) -> Condition
-        ensures fails { (s : State) (given : Given) → IsFailing s given result }
-        ensures status { (status : ℕ) → IsStatusOf result status level }
+        ensures fails { (s : State) (given : Given) → (walked_address given ≡ Some ipa) × (needed_entry given ≡ Some needed) × (walked_level given ≡ 3)
+            → IsFailing s given result }
+        ensures status { IsStatusOf result 4 level }
     {
         if level < 3 {
             return Condition::WalkEnds {
@@ -388,5 +418,43 @@ impl Place<'_> {
             StretchUse::Init => entry.state == 0,
             StretchUse::Requested { .. } => entry.state <= 1,
         }
+    }
+}
+
+// The walk for a table that is put in ends on a table, or too early.
+fn created_row(ipa: u64, below: u64, level: u8) -> Condition
+    ensures fails { (s : State) (rd rtt : ℕ) → IsFailing s (given.RttCreate rd rtt ipa below) result }
+    ensures status { IsStatusOf result 4 level }
+{
+    if u64::from(level).saturating_add(1) == below {
+        return Condition::EntryIsTable { ipa, level };
+    }
+    Condition::WalkEnds {
+        ipa,
+        level,
+        needed: below.saturating_sub(1),
+    }
+}
+
+// A table that is to be taken out stays, isn't there, or the walk for it ends too early.
+fn removed_row(removal: Removal, ipa: u64, below: u64, level: u8) -> Condition
+    ensures fails { (s : State) (rd : ℕ) → IsFailing s (given.RttRemove removal rd ipa below) result }
+    ensures status { IsStatusOf result 4 level }
+{
+    let at = u64::from(level);
+    if at == below {
+        return Condition::TableStays {
+            removal,
+            ipa,
+            level,
+        };
+    }
+    if at.saturating_add(1) == below {
+        return Condition::EntryIsNoTable { ipa, level };
+    }
+    Condition::WalkEnds {
+        ipa,
+        level,
+        needed: below.saturating_sub(1),
     }
 }

@@ -2,9 +2,11 @@
 
 ghost use Rattle.std.specs.Prelude.{◌≡◌, ◌≢◌};
 ghost use Rattle.explain.specs.Explained.{IsCertificateFlaw, IsFlawOf, IsHistoryFlaw, IsLineIn, IsMisplaced, IsOnFirstLine};
-ghost use Rattle.bad_lines.specs.Wrong.{IsEventLine, IsHeader, IsHeaderOf};
+ghost use Rattle.bad_lines.specs.Wrong.{IsCertificateLine, IsEventLine, IsHeader, IsHeaderOf};
+ghost use Rattle.rmm_spec.specs.CertificateText.{InCertificates};
 ghost use Rattle.rmm_spec.specs.HistoryText.{Config};
-ghost use Rattle.rmm_spec.specs.Text.{parts_of};
+ghost use Rattle.rmm_spec.specs.Text.{IsBadLine, parts_of};
+ghost use Rattle.told.specs.declared.flaw.Misplaced.TheVariants as misplaced;
 
 use crate::explaining::{behind_lines, first_line, line_of};
 use bad_lines::{wrong_in_certificate_line, wrong_in_event, wrong_in_header};
@@ -31,6 +33,7 @@ pub(crate) fn bad_history_line(text: &[u8], line: u64) -> BadLine<'_>
 
 /// A certificate's bad line, counted from 1.
 pub(crate) fn bad_certificate_line(text: &[u8], line: u64) -> BadLine<'_>
+    requires { IsBadLine InCertificates text.now line }
     ensures line { result.line ≡ line }
     ensures bytes { IsLineIn text.now line result.bytes.now }
     ensures flaw { IsCertificateFlaw result.flaw text.now line (parts_of result.bytes.now) }
@@ -38,9 +41,24 @@ pub(crate) fn bad_certificate_line(text: &[u8], line: u64) -> BadLine<'_>
     let bytes = line_of(text, line);
     let flaw = match wrong_in_certificate_line(bytes) {
         Some(wrong) => Flaw::Part(wrong),
-        None => Flaw::Place(why_misplaced(text, line)),
+        None => Flaw::Place(why_left_over(text, line, bytes)),
     };
     BadLine { line, bytes, flaw }
+}
+
+// Why a certificate's line of its kind is bad: each with room and a newline can stand there.
+fn why_left_over(text: &[u8], line: u64, bytes: &[u8]) -> Misplaced
+    requires bad { IsBadLine InCertificates text.now line }
+    requires here { IsLineIn text.now line bytes.now }
+    requires kind { IsCertificateLine (parts_of bytes.now) }
+    ensures place { IsMisplaced result text.now line }
+    ensures turn { result ≢ misplaced.OutOfTurn }
+{
+    match why_misplaced(text, line) {
+        Misplaced::Unended => Misplaced::Unended,
+        Misplaced::Full => Misplaced::Full,
+        Misplaced::OutOfTurn => unreachable!(),
+    }
 }
 
 // Why the first line of a history is bad.

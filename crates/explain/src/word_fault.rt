@@ -88,7 +88,7 @@ fn first_fault(call: &Call) -> WordFault
             if (1..=4).contains(&index) {
                 WordFault::Size(size)
             } else {
-                WordFault::Index(index)
+                WordFault::Rem(index)
             }
         }
         Call::HostCall { imm } => WordFault::Imm(imm),

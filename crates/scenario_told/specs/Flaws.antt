@@ -1,6 +1,7 @@
 -- What is at fault in a scenario.
 use Rattle.std.specs.Prelude.{◌≡◌, ℕ, ℤ, true, false, List, slice_get, Some, None, Vec}
 use Rattle.std.specs.Borrow.{Bor}
+use Rattle.std.specs.List.{AllByRecursion}
 use Rattle.std.specs.declared.alloc.Global.{Global}
 use Rattle.rmm_spec.specs.Scenario.{IsBetween, IsCommandText, IsTurnText}
 use Rattle.rmm_spec.specs.ScenarioKeys.{Document, Kinds}
@@ -45,3 +46,25 @@ IsCommandFlaw programs flaw =
 abbrev pub IsTurnFlaw : ℕ → List (Bor (List ℕ)) → Flaw → Type 0
 IsTurnFlaw cpus turns (flaw.Turn index text count) = (slice_get turns index ≡ Some text) × (count ≡ cpus) × ¬ IsTurnText cpus text.now
 IsTurnFlaw cpus turns _ = ⊥
+
+-- ---- where nothing is at fault
+
+-- a number is in its range
+abbrev pub IsInRange : Numbers → Number → Type 0
+IsInRange numbers number = IsBetween 1 (most number) (stated_number numbers number)
+
+-- each of them is
+abbrev pub AreInRange : Numbers → Type 0
+AreInRange numbers = (number : Number) → IsInRange numbers number
+
+-- each text of a program is a command
+abbrev pub AreCommands : List (Bor (List ℕ)) → Type 0
+AreCommands texts = AllByRecursion (λ (text : Bor (List ℕ)). IsCommandText text.now) texts
+
+-- each program is one of commands
+abbrev pub AreOfCommands : List (Vec (Bor (List ℕ)) Global) → Type 0
+AreOfCommands programs = AllByRecursion (λ (program : Vec (Bor (List ℕ)) Global). AreCommands program.items) programs
+
+-- each text is a turn of one of so many CPUs
+abbrev pub AreTurns : ℕ → List (Bor (List ℕ)) → Type 0
+AreTurns cpus turns = AllByRecursion (λ (text : Bor (List ℕ)). IsTurnText cpus text.now) turns

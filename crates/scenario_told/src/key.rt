@@ -22,6 +22,15 @@ pub enum Key {
 }
 
 impl Number {
+    /// All of them.
+    pub const ALL: [Number; 5] = [
+        Number::Granules,
+        Number::Cpus,
+        Number::Queue,
+        Number::Limit,
+        Number::Version,
+    ];
+
     /// What its key is called.
     pub fn name(self) -> &'static str
         ensures { result.now ≡ number_name self }

@@ -1,8 +1,8 @@
 //! The first number of a scenario that is out of its range.
 
-ghost use Rattle.std.specs.Prelude.{◌≡◌, ◌≤◌, ◌↔◌, pos, IsTrue, IfSome};
+ghost use Rattle.std.specs.Prelude.{◌≡◌, ◌≤◌, ◌↔◌, pos, IsTrue, IfNone, IfSome};
 ghost use Rattle.rmm_spec.specs.Scenario.{IsBetween};
-ghost use Rattle.scenario_told.specs.Flaws.{IsRangeFlaw, stated_number};
+ghost use Rattle.scenario_told.specs.Flaws.{AreInRange, IsInRange, IsRangeFlaw, stated_number};
 
 use crate::flaw::Flaw;
 use crate::key::Number;
@@ -33,21 +33,28 @@ impl Numbers {
 
 /// The first of the numbers that is out of its range.
 pub fn wrong_number<'t>(numbers: &Numbers) -> Option<Flaw<'t>>
-    ensures { IfSome result (IsRangeFlaw numbers.now) }
+    ensures some { IfSome result (IsRangeFlaw numbers.now) }
+    ensures none { IfNone result (AreInRange numbers.now) }
 {
-    for number in [
-        Number::Granules,
-        Number::Cpus,
-        Number::Queue,
-        Number::Limit,
-        Number::Version,
-    ] {
-        let stated = numbers.stated(number);
-        if !is_up_to(stated, number.most()) {
-            return Some(Flaw::Range { number, stated });
+    for number in Number::ALL {
+        if let Some(flaw) = flaw_at(numbers, number) {
+            return Some(flaw);
         }
     }
     None
+}
+
+// That a number is out of its range.
+fn flaw_at<'t>(numbers: &Numbers, number: Number) -> Option<Flaw<'t>>
+    ensures some { IfSome result (IsRangeFlaw numbers.now) }
+    ensures none { IfNone result (IsInRange numbers.now number) }
+{
+    let stated = numbers.stated(number);
+    if is_up_to(stated, number.most()) {
+        None
+    } else {
+        Some(Flaw::Range { number, stated })
+    }
 }
 
 // Whether a number is one from 1 to the most.

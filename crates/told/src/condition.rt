@@ -2,7 +2,7 @@
 
 use rmm_spec::{Removal, Tag, Version};
 
-/// What RTT_READ_ENTRY reports of an entry.
+/// What RTT_READ_ENTRY reports of an entry, as the words of its reply.
 #[derive(Clone, Copy)]
 pub struct EntryRead {
     pub level: u64,
@@ -11,7 +11,7 @@ pub struct EntryRead {
     pub ripas: u64,
 }
 
-/// A condition that fails, with what it reads.
+/// A condition that fails, with what it reads. Addresses are in bytes, and levels are those of tables.
 #[derive(Clone, Copy)]
 pub enum Condition {
     /// Every condition holds.
@@ -125,7 +125,7 @@ pub enum EntryKind {
     AssignedNs,
 }
 
-/// What is wrong with a word.
+/// What is wrong with a word. Addresses and sizes are in bytes.
 #[derive(Clone, Copy)]
 pub enum WordFault {
     SameGranule,
@@ -136,7 +136,10 @@ pub enum WordFault {
     Unaligned { address: u64, size: u64 },
     PageTooHigh(u64),
     EmptyStretch { base: u64, top: u64 },
+    /// No measurement has the index.
     Index(u64),
+    /// No measurement that can be extended has the index.
+    Rem(u64),
     Size(u64),
     Ripas(u64),
     Imm(u64),

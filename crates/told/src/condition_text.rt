@@ -48,7 +48,7 @@ impl fmt::Display for Condition {
             Condition::RecOfOtherRealm { rec, rd } => {
                 write!(f, "the REC at {rec:x} isn't of the realm at {rd:x}")
             }
-            row => write_table_row(f, row),
+            row => write_word_row(f, row),
         }
     }
 }
@@ -70,8 +70,8 @@ fn isnt_hash(version: Version) -> &'static str {
     }
 }
 
-// The conditions over requests, addresses and tables.
-fn write_table_row<W: fmt::Write>(f: &mut fmt::Formatter<W>, row: Condition) -> fmt::Result {
+// The conditions over requests, levels and addresses.
+fn write_word_row<W: fmt::Write>(f: &mut fmt::Formatter<W>, row: Condition) -> fmt::Result {
     match row {
         Condition::NotRequested { base, top } => write!(
             f,
@@ -110,6 +110,13 @@ fn write_table_row<W: fmt::Write>(f: &mut fmt::Formatter<W>, row: Condition) -> 
                 " isn't in the unprotected half of the realm's address space",
             )
         }
+        row => write_table_row(f, row),
+    }
+}
+
+// The conditions over walks, tables and entries.
+fn write_table_row<W: fmt::Write>(f: &mut fmt::Formatter<W>, row: Condition) -> fmt::Result {
+    match row {
         Condition::WalkEnds { ipa, level, needed } => {
             write!(
                 f,
@@ -175,7 +182,11 @@ fn write_entry<W: fmt::Write>(
 ) -> fmt::Result {
     write!(f, "the entry for {ipa:x}")?;
     if let Some(found) = found {
-        write!(f, " is {found}, and")?;
+        write!(f, " is {found}")?;
+        f.write_str(match (needed, found.ripas) {
+            (EntryKind::UnassignedRam, 0) => " with RIPAS EMPTY, and",
+            _ => ", and",
+        })?;
     }
     f.write_str(match needed {
         EntryKind::Unassigned => " has to be UNASSIGNED",
@@ -237,6 +248,9 @@ impl fmt::Display for WordFault {
             WordFault::PageTooHigh(page) => write_about(f, "", page, " isn't below 1000000000000"),
             WordFault::EmptyStretch { base, top } => write!(f, "{base:x} isn't below {top:x}"),
             WordFault::Index(index) => write_about(f, "there is no such measurement ", index, ""),
+            WordFault::Rem(index) => {
+                write_about(f, "measurement ", index, " can't be extended: 1 to 4 can")
+            }
             WordFault::Size(size) => write_about(f, "size ", size, " isn't from 1 to 40"),
             WordFault::Ripas(ripas) => write_about(f, "RIPAS ", ripas, " is neither 0 nor 1"),
             WordFault::Imm(imm) => write_about(f, "imm ", imm, " isn't below 10000"),

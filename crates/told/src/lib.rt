@@ -20,4 +20,3 @@ pub use explanation::{BadLine, Cause, Explanation, Refusal, Summary};
 pub use flaw::{Flaw, Misplaced};
 pub use levels::entry_size;
 pub use named_call::{EarlierStep, NamedCall};
-pub use reply_text::is_by_realm;

@@ -1,5 +1,8 @@
 //! Replies, as the texts have them, with Arm's names of statuses.
 
+ghost use Rattle.std.specs.Prelude.{◌≡◌, ℕ, List, IsTrue};
+ghost use Rattle.rmm_spec.specs.Call.{ByRealm, call_from, class_of};
+
 use crate::levels::entry_size;
 use rmm_spec::{Accepted, FunctionId, Reply, Stretch};
 use std::fmt;
@@ -24,8 +27,8 @@ impl fmt::Display for ReplyText<'_> {
     }
 }
 
-/// `ok` with its words.
-pub(crate) fn write_ok<W: fmt::Write>(f: &mut fmt::Formatter<W>, words: &[u64]) -> fmt::Result {
+// `ok` with its words.
+fn write_ok<W: fmt::Write>(f: &mut fmt::Formatter<W>, words: &[u64]) -> fmt::Result {
     f.write_str("ok")?;
     for word in words {
         write!(f, " {word:x}")?;
@@ -85,7 +88,11 @@ fn write_reached<W: fmt::Write>(
 }
 
 /// Whether a realm gives the command, from inside a REC.
-pub fn is_by_realm(function: FunctionId) -> bool {
+#[tactic(auto, unfolding(rmm_spec::specs::Call::class_of, rmm_spec::specs::Call::call_from))]
+pub(crate) fn is_by_realm(function: FunctionId) -> bool
+    ensures realm { (words : List ℕ) → IsTrue result → class_of (call_from function words) ≡ ByRealm }
+    ensures other { (words : List ℕ) → class_of (call_from function words) ≡ ByRealm → IsTrue result }
+{
     matches!(
         function,
         FunctionId::MeasurementRead
