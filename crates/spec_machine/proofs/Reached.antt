@@ -1,7 +1,10 @@
--- An end that the test refuses is none that the definitions allow.
-use Rattle.spec_machine.proofs.Common.{◌≡◌, ℕ, true, false, [], ◌∷◌, Ok, CarriesOut, Reaches, State, Stretch, both_ways, is_reached, ok, reached-is_reached, sym, ◌∙◌}
+-- A reply that isn't taken: an end that the test refuses is none that the definitions allow.
+use Rattle.spec_machine.proofs.Common.{◌≡◌, ℕ, true, false, [], ◌∷◌, Ok, CarriesOut, Reaches, State, Stretch, both_ways, is_reached, ok, reached-is_reached, refl, sym, ◌∙◌}
+use Rattle.std.specs.Prelude.{Result}
+use Rattle.rmm_spec.specs.declared.accepted.Accepted.{Accepted}
 use Rattle.rmm_spec.specs.declared.reply.Reply.{Reply}
 use Rattle.rmm_laws.proofs.StepLaws.{word_of}
+use Rattle.spec_machine.specs.Offers.{TakesReply}
 
 -- no reply reaches it
 pub no_reach : (s : State) (stretch : Stretch) (top : ℕ) (given : Reply) → given ≡ ok (top ∷ []) → is_reached s stretch top ≡ false
@@ -9,3 +12,8 @@ pub no_reach : (s : State) (stretch : Stretch) (top : ℕ) (given : Reply) → g
 no_reach s stretch top given is refused next (other, (reached, told, changed)) =
     let passes : is_reached s stretch top ≡ true = rw (word_of top other (sym is ∙ told)) (reached-is_reached s stretch other reached) in
     both_ways passes refused
+
+-- a reply with which nothing is carried out isn't taken, and the state stays
+pub not_taken : (answer : Result Accepted Reply) (s : State) (given : Reply) → ((next : State) → CarriesOut answer s given next → ⊥)
+    → TakesReply answer s given false s
+not_taken answer s given never = record { step = λ bad. both_ways bad refl; only = λ _. never; kept = λ _. refl }

@@ -13,7 +13,8 @@ impl Machine {
 
     /// A machine in the same state, to which no offer was made yet.
     pub fn copy(&self, alloc: Global) -> Result<Machine, AllocError>
-        ensures { IfOk result (λ machine. state_of machine ≡ state_of self.now) }
+        ensures state { IfOk result (λ machine. state_of machine ≡ state_of self.now) }
+        ensures offers { IfOk result (λ machine. machine.offers ≡ 0) }
     {
         let granules = self.granules.copy()?;
         let owners = self.owners.copy(alloc)?;
@@ -31,7 +32,7 @@ impl Machine {
         self.granules.keep(near)
     }
 
-    /// Whether the state is the one that was kept.
+    /// Where it answers true, the state is the one that was kept.
     pub fn is_at(&self, kept: &KeptState) -> bool
         ensures { IsTrue result → kept_state kept.now ≡ state_of self.now }
     {

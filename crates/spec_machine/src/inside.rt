@@ -13,15 +13,16 @@ use rmm_spec::{Call, RealmChange, RealmUpdate, RecChange, Reply, Ripas};
 use table_entries::entry_ripas;
 
 impl Machine {
-    ghost use Rattle.std.specs.Prelude.{◌≡◌, Some, IfSome, IsTrue, is_some, false};
+    ghost use Rattle.std.specs.Prelude.{◌≡◌, Some, IfSome, IsTrue, is_some};
     ghost use Rattle.rmm_spec.specs.Applicable.{CanApply};
     ghost use Rattle.rmm_spec.specs.Call.{call_of};
     ghost use Rattle.rmm_spec.specs.Change.{changed};
     ghost use Rattle.rmm_spec.specs.Lookup.{is_inside, rec_inside};
     ghost use Rattle.rmm_spec.specs.State.{State, RealmRecord, RecRecord};
-    ghost use Rattle.rmm_spec.specs.Step.{CarriesOut, outcome};
+    ghost use Rattle.rmm_spec.specs.Step.{outcome};
     ghost use Rattle.rec_steps.specs.Answers.{answer_at, change_at, is_walk, IsRipasRead};
     ghost use Rattle.rmi_view.specs.Seen.{command_seen, reply_seen};
+    ghost use Rattle.spec_machine.specs.Offers.{TakesReply};
     ghost use Rattle.spec_machine.specs.View.{state_of};
 
     /// Takes one step of the CPU, which is inside the REC. An extension of a measurement is made as it is decided, since the
@@ -38,11 +39,7 @@ impl Machine {
         requires inside { IsTrue (is_inside (state_of self.old) cpu) }
         requires at { address ≡ rec_inside (state_of self.old) cpu }
         requires call { call.now ≡ call_of (command_seen command) }
-        ensures step { IsTrue result
-            → CarriesOut (outcome (state_of self.old) cpu (call_of (command_seen command.entry))) (state_of self.old) (reply_seen reply.entry) (state_of self.new) }
-        ensures only { result ≡ false → (next : State)
-            → ¬ CarriesOut (outcome (state_of self.old) cpu (call_of (command_seen command.entry))) (state_of self.old) (reply_seen reply.entry) next }
-        ensures kept { result ≡ false → state_of self.new ≡ state_of self.old }
+        ensures { TakesReply (outcome (state_of self.old) cpu (call_of (command_seen command.entry))) (state_of self.old) (reply_seen reply.entry) result (state_of self.new) }
     {
         let Call::MeasurementExtend {
             index,
@@ -82,11 +79,7 @@ impl Machine {
         requires inside { IsTrue (is_inside (state_of self.old) cpu) }
         requires at { address ≡ rec_inside (state_of self.old) cpu }
         requires call { call.now ≡ call_of (command_seen command) }
-        ensures step { IsTrue result
-            → CarriesOut (outcome (state_of self.old) cpu (call_of (command_seen command.entry))) (state_of self.old) (reply_seen reply.entry) (state_of self.new) }
-        ensures only { result ≡ false → (next : State)
-            → ¬ CarriesOut (outcome (state_of self.old) cpu (call_of (command_seen command.entry))) (state_of self.old) (reply_seen reply.entry) next }
-        ensures kept { result ≡ false → state_of self.new ≡ state_of self.old }
+        ensures { TakesReply (outcome (state_of self.old) cpu (call_of (command_seen command.entry))) (state_of self.old) (reply_seen reply.entry) result (state_of self.new) }
     {
         let rec = self.rec_here(cpu, address);
         let rd = owner(rec);

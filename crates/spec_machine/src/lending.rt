@@ -47,24 +47,19 @@ pub(crate) fn lending_of(command: CommandRef<'_>) -> Option<Lending>
 }
 
 impl Machine {
-    ghost use Rattle.std.specs.Prelude.{◌≡◌, IsTrue, false};
+    ghost use Rattle.std.specs.Prelude.{IsTrue};
     ghost use Rattle.rmm_spec.specs.Applicable.{CanRetag};
     ghost use Rattle.rmm_spec.specs.Lookup.{has_tag};
-    ghost use Rattle.rmm_spec.specs.State.{State};
-    ghost use Rattle.rmm_spec.specs.Step.{CarriesOut};
     ghost use Rattle.rmi_view.specs.Seen.{reply_seen};
     ghost use Rattle.spec_machine.specs.Lending.{lending_outcome};
+    ghost use Rattle.spec_machine.specs.Offers.{TakesReply};
     ghost use Rattle.spec_machine.specs.View.{state_of};
 
     /// Takes the step, as `offer` does.
     pub(crate) fn lend(&mut self, cpu: u8, lending: Lending, reply: ReplyRef<'_>) -> bool
         requires { IsTrue (has_tag (state_of self.old) lending.granule lending.from)
             → CanRetag (state_of self.old) (record { granule = lending.granule; tag = lending.to }) }
-        ensures step { IsTrue result
-            → CarriesOut (lending_outcome (state_of self.old) cpu lending) (state_of self.old) (reply_seen reply.entry) (state_of self.new) }
-        ensures only { result ≡ false → (next : State)
-            → ¬ CarriesOut (lending_outcome (state_of self.old) cpu lending) (state_of self.old) (reply_seen reply.entry) next }
-        ensures kept { result ≡ false → state_of self.new ≡ state_of self.old }
+        ensures { TakesReply (lending_outcome (state_of self.old) cpu lending) (state_of self.old) (reply_seen reply.entry) result (state_of self.new) }
     {
         if self.rec_inside(cpu).is_some() {
             return matches!(reply, ReplyRef::Misplaced);

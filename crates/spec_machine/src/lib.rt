@@ -1,9 +1,8 @@
 //! The specification machine as a program: it holds one state, decides by the rows of commands what is answered, and applies it.
-//! It promises that an offer is accepted exactly where the definitions have a step, and then holds the next state.
+//! It promises to accept an offer exactly where the definitions have a step, unless memory is refused, and then to hold the next state.
+//! An offer that isn't accepted leaves the state as it was. Only `new`, made tables, copies, kept states and reports take memory.
 //! What a clause sees of it is `state_of`, a flat state; how the parts are kept can change under every clause.
-//! An offer that isn't accepted leaves the state as it was; memory is taken only by `new`, where a table is made, for a copy, a state
-//! that is kept and a report.
-//! The checker of histories depends on it.
+//! The checker, the journal of commits and the search of orders depend on it.
 #![tactic(auto)]
 
 mod change;

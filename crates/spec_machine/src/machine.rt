@@ -33,7 +33,7 @@ impl Machine {
     ghost use Rattle.rmm_spec.specs.State.{State, opening};
     ghost use Rattle.rmm_spec.specs.Step.{Step, outcome};
     ghost use Rattle.spec_machine.specs.Memory.{makes_table};
-    ghost use Rattle.spec_machine.specs.Offers.{one_more};
+    ghost use Rattle.spec_machine.specs.Offers.{one_more, TakesStep};
     ghost use Rattle.rmi_view.specs.Seen.{command_seen, reply_seen};
     ghost use Rattle.spec_machine.specs.View.{state_of};
 
@@ -69,7 +69,8 @@ impl Machine {
     }
 
     /// Takes one step: whether the machine may give this reply to the command of this CPU. Where it may, the state is
-    /// the step's next one, and else it stays. Memory is taken only where a command that makes a table is accepted.
+    /// the step's next one, and else it stays. Memory is taken only where a command that makes a table is accepted with this
+    /// reply. Refused memory, the state stays and the offer counts.
     pub fn offer(&mut self, cpu: u8, command: &Command, reply: &Reply) -> Result<bool, AllocError>
         ensures step { IfOk result (λ given. IsTrue given
             → Step (state_of self.old) cpu command.now reply.now (state_of self.new)) }
@@ -79,6 +80,7 @@ impl Machine {
         ensures err { OnErr result (state_of self.new ≡ state_of self.old) }
         ensures only_tables { OnErr result (IsTrue (makes_table command.now.function)) }
         ensures only_accepted { OnErr result (IsOk (outcome (state_of self.old) cpu (call_of command.now))) }
+        ensures only_given { OnErr result ((next : State) × Step (state_of self.old) cpu command.now reply.now next) }
         ensures offers { self.new.offers ≡ one_more self.old.offers }
     {
         self.offer_seen(cpu, CommandRef::of(command), ReplyRef::of(reply))
@@ -101,35 +103,16 @@ impl Machine {
         ensures err { OnErr result (state_of self.new ≡ state_of self.old) }
         ensures only_tables { OnErr result (IsTrue (makes_table command.entry.function)) }
         ensures only_accepted { OnErr result (IsOk (outcome (state_of self.old) cpu (call_of (command_seen command.entry)))) }
+        ensures only_given { OnErr result ((next : State) × Step (state_of self.old) cpu (command_seen command.entry) (reply_seen reply.entry) next) }
         ensures offers { self.new.offers ≡ one_more self.old.offers }
     {
         let offers = self.offers.saturating_add(1);
-        let given = self.take_step(cpu, command, reply);
-        self.offers = offers;
-        given
-    }
-
-    // Takes one step, and may lose count of the offers.
-    #[inline(always)]
-    fn take_step(
-        &mut self,
-        cpu: u8,
-        command: CommandRef<'_>,
-        reply: ReplyRef<'_>,
-    ) -> Result<bool, AllocError>
-        ensures step { IfOk result (λ given. IsTrue given
-            → Step (state_of self.old) cpu (command_seen command.entry) (reply_seen reply.entry) (state_of self.new)) }
-        ensures only { IfOk result (λ given. given ≡ false
-            → (next : State) → ¬ Step (state_of self.old) cpu (command_seen command.entry) (reply_seen reply.entry) next) }
-        ensures kept { IfOk result (λ given. given ≡ false → state_of self.new ≡ state_of self.old) }
-        ensures err { OnErr result (state_of self.new ≡ state_of self.old) }
-        ensures only_tables { OnErr result (IsTrue (makes_table command.entry.function)) }
-        ensures only_accepted { OnErr result (IsOk (outcome (state_of self.old) cpu (call_of (command_seen command.entry)))) }
-    {
-        match lending_of(command) {
+        let given = match lending_of(command) {
             Some(lending) => Ok(self.lend(cpu, lending, reply)),
             None => self.offer_any(cpu, command, reply),
-        }
+        };
+        self.offers = offers;
+        given
     }
 
     // Takes one step, whatever the command is.
@@ -140,14 +123,7 @@ impl Machine {
         command: CommandRef<'_>,
         reply: ReplyRef<'_>,
     ) -> Result<bool, AllocError>
-        ensures step { IfOk result (λ given. IsTrue given
-            → Step (state_of self.old) cpu (command_seen command.entry) (reply_seen reply.entry) (state_of self.new)) }
-        ensures only { IfOk result (λ given. given ≡ false
-            → (next : State) → ¬ Step (state_of self.old) cpu (command_seen command.entry) (reply_seen reply.entry) next) }
-        ensures kept { IfOk result (λ given. given ≡ false → state_of self.new ≡ state_of self.old) }
-        ensures err { OnErr result (state_of self.new ≡ state_of self.old) }
-        ensures only_tables { OnErr result (IsTrue (makes_table command.entry.function)) }
-        ensures only_accepted { OnErr result (IsOk (outcome (state_of self.old) cpu (call_of (command_seen command.entry)))) }
+        ensures { TakesStep (state_of self.old) cpu (command_seen command.entry) (reply_seen reply.entry) result (state_of self.new) }
     {
         let call = command.call();
         match self.rec_inside(cpu) {
@@ -167,14 +143,7 @@ impl Machine {
     ) -> Result<bool, AllocError>
         requires outside { is_inside (state_of self.old) cpu ≡ false }
         requires call { call.now ≡ call_of (command_seen command) }
-        ensures step { IfOk result (λ given. IsTrue given
-            → Step (state_of self.old) cpu (command_seen command.entry) (reply_seen reply.entry) (state_of self.new)) }
-        ensures only { IfOk result (λ given. given ≡ false
-            → (next : State) → ¬ Step (state_of self.old) cpu (command_seen command.entry) (reply_seen reply.entry) next) }
-        ensures kept { IfOk result (λ given. given ≡ false → state_of self.new ≡ state_of self.old) }
-        ensures err { OnErr result (state_of self.new ≡ state_of self.old) }
-        ensures only_tables { OnErr result (IsTrue (makes_table command.entry.function)) }
-        ensures only_accepted { OnErr result (IsOk (outcome (state_of self.old) cpu (call_of (command_seen command.entry)))) }
+        ensures { TakesStep (state_of self.old) cpu (command_seen command.entry) (reply_seen reply.entry) result (state_of self.new) }
     {
         match answer_outside(self, cpu, call) {
             Err(ref refusal) => Ok(reply.is(refusal)),
@@ -192,14 +161,7 @@ impl Machine {
         reply: ReplyRef<'_>,
     ) -> Result<bool, AllocError>
         requires { Ok accepted.now ≡ outcome (state_of self.old) cpu (call_of (command_seen command)) }
-        ensures step { IfOk result (λ given. IsTrue given
-            → Step (state_of self.old) cpu (command_seen command.entry) (reply_seen reply.entry) (state_of self.new)) }
-        ensures only { IfOk result (λ given. given ≡ false
-            → (next : State) → ¬ Step (state_of self.old) cpu (command_seen command.entry) (reply_seen reply.entry) next) }
-        ensures kept { IfOk result (λ given. given ≡ false → state_of self.new ≡ state_of self.old) }
-        ensures err { OnErr result (state_of self.new ≡ state_of self.old) }
-        ensures only_tables { OnErr result (IsTrue (makes_table command.entry.function)) }
-        ensures only_accepted { OnErr result (IsOk (outcome (state_of self.old) cpu (call_of (command_seen command.entry)))) }
+        ensures { TakesStep (state_of self.old) cpu (command_seen command.entry) (reply_seen reply.entry) result (state_of self.new) }
     {
         match accepted {
             Accepted::Done { words, change } => {

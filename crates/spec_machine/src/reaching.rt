@@ -7,13 +7,12 @@ use rmi_view::ReplyRef;
 use rmm_spec::Stretch;
 
 impl Machine {
-    ghost use Rattle.std.specs.Prelude.{◌≡◌, ◌≤◌, ℕ, IsTrue, false, Ok};
+    ghost use Rattle.std.specs.Prelude.{◌≤◌, ℕ, Ok};
     ghost use Rattle.rmm_spec.specs.declared.accepted.Accepted.TheVariants.{Reaches};
     ghost use Rattle.rmm_spec.specs.Applicable.{CanApply};
-    ghost use Rattle.rmm_spec.specs.State.{State};
-    ghost use Rattle.rmm_spec.specs.Step.{CarriesOut};
     ghost use Rattle.rmm_spec.specs.Step.Ripas.{IsReached, reached_change};
     ghost use Rattle.rmi_view.specs.Seen.{reply_seen};
+    ghost use Rattle.spec_machine.specs.Offers.{TakesReply};
     ghost use Rattle.spec_machine.specs.View.{state_of};
 
     /// Sets the stretch up to the end that the reply tells, where that is allowed. Else it changes nothing.
@@ -22,9 +21,7 @@ impl Machine {
         requires level { stretch.now.level ≤ 3 }
         requires can { (top : ℕ) → IsReached (state_of self.old) stretch.now top
             → CanApply (state_of self.old) (reached_change stretch.now top) }
-        ensures step { IsTrue result → CarriesOut (Ok (Reaches stretch.now)) (state_of self.old) (reply_seen reply.entry) (state_of self.new) }
-        ensures only { result ≡ false → (next : State) → ¬ CarriesOut (Ok (Reaches stretch.now)) (state_of self.old) (reply_seen reply.entry) next }
-        ensures kept { result ≡ false → state_of self.new ≡ state_of self.old }
+        ensures { TakesReply (Ok (Reaches stretch.now)) (state_of self.old) (reply_seen reply.entry) result (state_of self.new) }
     {
         let Some(top) = only_word(reply) else {
             return false;

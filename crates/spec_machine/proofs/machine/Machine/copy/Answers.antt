@@ -18,8 +18,8 @@ invariant_of-result-clause-owned c =
     let granules = c.in_ok-granules.ensures in
     subst₂ AreOwners (λ i. flat_state (sym granules.config i) (sym granules.whole i).cells) (sym c.in_ok-owners.ensures) c.args.self.now.owned
 
-pub returns : goal.returns
+pub returns-clause-state : goal.returns-clause-state
 unfolding state_in state_of
-returns c =
+returns-clause-state c =
     let granules = c.in_ok-granules.ensures in
     λ i. flat_state (granules.config i) (granules.whole i).cells

@@ -15,16 +15,16 @@ take_accepted-requires c =
     let s = state_of c.args.self.now in
     sym c.in-Ok.is ∙ c.answer_outside.ensures ∙ outcome-outside s c.args.cpu c.args.call.now c.requires.outside ∙ ap (outcome s c.args.cpu) c.requires.call
 
-pub returns-in-Err-clause-step : goal.returns-in-Err-clause-step
-returns-in-Err-clause-step c =
+pub returns-in-Err : goal.returns-in-Err
+returns-in-Err c =
     let s = state_of c.args.self.now in
     let is = sym c.in-Err.is ∙ c.answer_outside.ensures ∙ outcome-outside s c.args.cpu c.args.call.now c.requires.outside ∙ ap (outcome s c.args.cpu) c.requires.call in
-    λ holds. subst (λ answer. CarriesOut answer s (reply_seen c.args.reply) s) is (c.is.ensures.0 holds, refl)
-
-pub returns-in-Err-clause-only : goal.returns-in-Err-clause-only
-returns-in-Err-clause-only c =
-    let s = state_of c.args.self.now in
-    let is = sym c.in-Err.is ∙ c.answer_outside.ensures ∙ outcome-outside s c.args.cpu c.args.call.now c.requires.outside ∙ ap (outcome s c.args.cpu) c.requires.call in
-    λ fails next carries.
-    let given = subst (λ answer. CarriesOut answer s (reply_seen c.args.reply) next) (sym is) carries in
-    false≢true (sym fails ∙ c.is.ensures.1 given.0)
+    record {
+      step = λ holds. subst (λ answer. CarriesOut answer s (reply_seen c.args.reply) s) is (c.is.ensures.0 holds, refl);
+      only = λ fails next carries. false≢true (sym fails ∙ c.is.ensures.1 (subst (λ answer. CarriesOut answer s (reply_seen c.args.reply) next) (sym is) carries).0);
+      kept = λ _. refl;
+      err = tt;
+      only_tables = tt;
+      only_accepted = tt;
+      only_given = tt;
+    }

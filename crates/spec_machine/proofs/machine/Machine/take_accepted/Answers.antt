@@ -1,4 +1,4 @@
-use Rattle.spec_machine.proofs.Common.{Ok, ap, command_seen, done_applies, reached_applies, sound_in, state_of, sym, ◌∙◌}
+use Rattle.spec_machine.proofs.Common.{Ok, ap, changed, command_seen, done_applies, reached_applies, refl, sound_in, state_of, sym, ◌∙◌}
 use Rattle.spec_machine.proofs.Memory.{done_makes, stretch_level}
 use Rattle.spec_machine.proofs.machine.Machine.take_accepted.Goals as goal
 
@@ -8,10 +8,19 @@ apply-requires c =
     let is = sym c.requires ∙ ap Ok c.in-Done.is in
     done_applies (state_of c.args.self.now) c.args.cpu (command_seen c.args.command) _ _ (sound_in c.args.self.now.granules c.args.self.now.shaped) is
 
-pub returns-in_default-clause-only_tables : goal.returns-in_default-clause-only_tables
-returns-in_default-clause-only_tables c =
+pub returns-in_default : goal.returns-in_default
+returns-in_default c =
+    let s = state_of c.args.self.now in
     let is = sym c.requires ∙ ap Ok c.in-Done.is in
-    done_makes (state_of c.args.self.now) c.args.cpu (command_seen c.args.command) _ _ is c.in_default.ensures.only
+    record {
+      step = tt;
+      only = tt;
+      kept = tt;
+      err = c.in_default.ensures.err;
+      only_tables = done_makes s c.args.cpu (command_seen c.args.command) _ _ is c.in_default.ensures.only;
+      only_accepted = rw is refl;
+      only_given = (changed s c.in-Done.change, rw is (c.is_ok.ensures.0 c.if-not-is_ok.false, refl));
+    }
 
 pub reach-requires : goal.reach-requires
 unfolding state_of
@@ -23,7 +32,15 @@ reach-requires c =
       can = λ top. reached_applies s c.args.cpu (command_seen c.args.command) _ top (sound_in c.args.self.now.granules c.args.self.now.shaped) is;
     }
 
-pub returns-in-Reaches-clause-only : goal.returns-in-Reaches-clause-only
-returns-in-Reaches-clause-only c =
+pub returns-in-Reaches : goal.returns-in-Reaches
+returns-in-Reaches c =
     let is = sym c.requires ∙ ap Ok c.in-Reaches.is in
-    λ refused next. rw is (c.reach.ensures.only refused next)
+    record {
+      step = rw is c.reach.ensures.step;
+      only = rw is c.reach.ensures.only;
+      kept = c.reach.ensures.kept;
+      err = tt;
+      only_tables = tt;
+      only_accepted = tt;
+      only_given = tt;
+    }
