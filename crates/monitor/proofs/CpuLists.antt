@@ -15,6 +15,7 @@ use Rattle.monitor.specs.declared.refused.Refused.{Refused}
 use Rattle.monitor.specs.declared.refused.Refused.TheVariants.{Full, NoMemory, Unrecorded, Stopped, Disagrees}
 use Rattle.monitor.specs.Executed.{ArePaired, Leaves}
 use Rattle.monitor.specs.Cpus.{ArePairs, AreCpus}
+use Rattle.monitor.proofs.Calls.{AreOfCalls-nil}
 
 -- ---- as they are made
 
@@ -35,8 +36,10 @@ paired-first monitor cpu = record {
   same_queue = refl;
   same_cpus = refl;
   same_cpu = refl;
+  calls = AreOfCalls-nil cpu;
   closed = λ _. refl;
   running = λ _. refl;
+  counted = λ _. refl;
   few = omega arith;
 }
 
@@ -62,7 +65,8 @@ cpus-first monitor tokens passes are count each =
 
 -- ---- at the close
 
-is_there : {X : Type 0} (xs : List X) (place : ℕ) → place < length xs → (x : X) × (slice_get xs place ≡ Some x)
+-- a place within a list has an element
+pub is_there : {X : Type 0} (xs : List X) (place : ℕ) → place < length xs → (x : X) × (slice_get xs place ≡ Some x)
 is_there [] place within = absurd (omega (arith, within))
 is_there (x ∷ xs) zero within = (x, refl)
 is_there (x ∷ xs) (suc place) within = is_there xs place (omega (arith, within))

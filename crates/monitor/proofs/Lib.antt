@@ -1,5 +1,7 @@
+pub mod Calls
 pub mod CpuLists
 pub mod Causes
 pub mod Closes
+pub mod Orders
 pub mod ToldLines
 pub mod Written

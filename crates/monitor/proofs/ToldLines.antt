@@ -21,11 +21,13 @@ use Rattle.monitor.specs.ToldOrder.{ComesBefore, HasTicket, NamesAt}
 -- ---- an entry, by its number and by its ticket
 
 -- The entry at a place has the number so many after its CPU's next one, and its CPU lists it behind so many others.
-record IsOneEntry (number : ℕ → ℕ) (ticket : ℕ) (entries : List JournalEntry) (place : ℕ) (c : Commitment) (behind : ℕ) (commit : Committed) : Type 0 where
+pub record IsOneEntry (number : ℕ → ℕ) (ticket : ℕ) (entries : List JournalEntry) (place : ℕ) (c : Commitment) (behind : ℕ) (commit : Committed) : Type 0 where
   pub numbered_at : slice_get (numbered_from number entries) place ≡ Some c
   pub listed_at : slice_get (listed_from ticket c.cpu entries) behind ≡ Some commit
   pub is_number : c.number ≡ number c.cpu + behind
   pub is_ticket : commit.ticket ≡ ticket + place
+  pub is_command : commit.command ≡ c.command
+  pub is_reply : commit.reply ≡ c.given
 
 module _ (number : ℕ → ℕ) (ticket : ℕ) (entry : JournalEntry) (entries : List JournalEntry) where
   abbrev next : ℕ → ℕ
@@ -40,6 +42,8 @@ module _ (number : ℕ → ℕ) (ticket : ℕ) (entry : JournalEntry) (entries :
         listed_at = ap (λ cs. slice_get cs 0) (listed-own ticket c.cpu entry entries own);
         is_number = omega (arith, ap (λ (x : Commitment). x.number) is, ap number own);
         is_ticket = omega arith;
+        is_command = ap (λ (x : Commitment). x.command) is;
+        is_reply = ap (λ (x : Commitment). x.given) is;
       }
 
   -- an entry behind one of the same CPU, and behind one of another
@@ -52,6 +56,8 @@ module _ (number : ℕ → ℕ) (ticket : ℕ) (entry : JournalEntry) (entries :
         listed_at = ap (λ cs. slice_get cs (suc behind)) (listed-own ticket c.cpu entry entries own) ∙ one.listed_at;
         is_number = omega (arith, one.is_number, counted, ap number own);
         is_ticket = omega (arith, one.is_ticket);
+        is_command = one.is_command;
+        is_reply = one.is_reply;
       }
 
   other-entry : (place behind : ℕ) (c : Commitment) (commit : Committed) → (entry.cpu ≡ c.cpu → ⊥)
@@ -63,10 +69,12 @@ module _ (number : ℕ → ℕ) (ticket : ℕ) (entry : JournalEntry) (entries :
         listed_at = ap (λ cs. slice_get cs behind) (listed-other ticket c.cpu entry entries other) ∙ one.listed_at;
         is_number = omega (arith, one.is_number, counted);
         is_ticket = omega (arith, one.is_ticket);
+        is_command = one.is_command;
+        is_reply = one.is_reply;
       }
 
 -- an entry with its number is one that its CPU lists
-entry-numbered : (number : ℕ → ℕ) (ticket : ℕ) (entries : List JournalEntry) (place : ℕ) (c : Commitment)
+pub entry-numbered : (number : ℕ → ℕ) (ticket : ℕ) (entries : List JournalEntry) (place : ℕ) (c : Commitment)
     → slice_get (numbered_from number entries) place ≡ Some c
     → (behind : ℕ) × (commit : Committed) × IsOneEntry number ticket entries place c behind commit
 entry-numbered number ticket [] place c at = absurd (none-some c at)
@@ -79,7 +87,7 @@ entry-numbered number ticket (entry ∷ entries) (suc place) c at =
     (cases_eq entry.cpu c.cpu)
 
 -- the entry that a CPU lists behind so many others
-record IsListedEntry (number : ℕ → ℕ) (ticket : ℕ) (entries : List JournalEntry) (cpu behind : ℕ) (commit : Committed) : Type 0 where
+pub record IsListedEntry (number : ℕ → ℕ) (ticket : ℕ) (entries : List JournalEntry) (cpu behind : ℕ) (commit : Committed) : Type 0 where
   pub place : ℕ
   pub it : Commitment
   pub same_cpu : it.cpu ≡ cpu
@@ -108,7 +116,7 @@ own-listed number ticket entry entries cpu (suc others) commit own rest at =
     }
 
 -- an entry that a CPU lists is one with its number
-entry-listed : (number : ℕ → ℕ) (ticket : ℕ) (entries : List JournalEntry) (cpu behind : ℕ) (commit : Committed)
+pub entry-listed : (number : ℕ → ℕ) (ticket : ℕ) (entries : List JournalEntry) (cpu behind : ℕ) (commit : Committed)
     → slice_get (listed_from ticket cpu entries) behind ≡ Some commit → IsListedEntry number ticket entries cpu behind commit
 entry-listed number ticket [] cpu behind commit at = absurd (none-some commit at)
 entry-listed number ticket (entry ∷ entries) cpu behind commit at =

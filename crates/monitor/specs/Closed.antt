@@ -4,6 +4,7 @@ use Rattle.std.specs.List.{sum_by}
 use Rattle.rmm_spec.specs.declared.event.Event.{Event}
 use Rattle.rmm_spec.specs.declared.line.Line.{Line}
 use Rattle.rmm_spec.specs.HistoryText.{Config}
+use Rattle.rmm_spec.specs.Linearization.{IsOrderOf, IsRunOf}
 use Rattle.rmm_spec.specs.Run.{JournalEntry, IsRun}
 use Rattle.rmm_spec.specs.State.{State, opening}
 use Rattle.rmm_spec.specs.World.{line_for}
@@ -16,11 +17,13 @@ use Rattle.history.specs.View.{Recording}
 abbrev pub lines_for : List Event → List JournalEntry → List Line
 lines_for events entries = map (line_for events) (numbered entries)
 
--- The lines are a journal, written as a certificate, that is a run of this machine and that the tokens list.
+-- The lines are a journal that the tokens list, written as a certificate of these events. They are an order of the calls, and the
+-- replies that they claim make a run of this machine. So of a linearization only real time is left.
 pub record IsJournal (config : Config) (tokens : List TokenView) (events : List Event) (lines : List Line) : Type 0 where
   pub entries : List JournalEntry
   pub last : State
-  pub run : IsRun (opening config) entries last
+  pub order : IsOrderOf events lines
+  pub run : IsRunOf (record { config = config; events = events }) lines entries last
   pub listed : AreListed tokens entries
   pub written : lines ≡ lines_for events entries
 

@@ -1,9 +1,11 @@
 -- What an execution leaves of its CPU's token and pass.
-use Rattle.std.specs.Prelude.{◌≡◌, ℕ, ◌+◌, ◌-◌, ◌≤◌, true, false, List, [], ◌∷◌, ◌++◌, length, Some, None, Result, Ok, Err}
+use Rattle.std.specs.Prelude.{◌≡◌, ℕ, ◌+◌, ◌-◌, ◌≤◌, true, false, List, [], ◌∷◌, ◌++◌, length, slice_get, Some, None, Result, Ok, Err}
 use Rattle.rmm_spec.specs.declared.command.Command.{Command}
+use Rattle.rmm_spec.specs.declared.event.Event.{Event}
 use Rattle.rmm_spec.specs.declared.event.Event.TheVariants.{Called, Returned}
 use Rattle.rmm_spec.specs.declared.reply.Reply.{Reply}
 use Rattle.rmm_spec.specs.HistoryText.{Config}
+use Rattle.rmm_spec.specs.Linearization.{IsCalled, IsReturned}
 use Rattle.rmm_spec.specs.Local.{HeldCell}
 use Rattle.rmm_spec.specs.Shape.{Side}
 use Rattle.command_core.specs.Changed.{hold_of}
@@ -13,6 +15,7 @@ use Rattle.commit_tickets.specs.declared.draft.Draft.{Draft}
 use Rattle.commit_tickets.specs.declared.fault.CommitFault.{CommitFault}
 use Rattle.commit_tickets.specs.declared.fault.CommitFault.TheVariants as commit
 use Rattle.commit_tickets.specs.Drafts.{IsDecided}
+use Rattle.commit_tickets.specs.Entries.{Committed}
 use Rattle.commit_tickets.specs.View.{TokenView}
 use Rattle.event_queue.specs.Records.{WasFull}
 use Rattle.event_queue.specs.View.{CpuView}
@@ -20,14 +23,24 @@ use Rattle.monitor.specs.View.{MonitorView}
 use Rattle.monitor.specs.declared.refused.Refused.{Refused}
 use Rattle.monitor.specs.declared.refused.Refused.TheVariants.{Full, NoMemory, Unrecorded, Stopped, Disagrees}
 
--- Token and pass are of one CPU of this monitor. While the token isn't stopped, the CPU has returned from all its calls. It has
--- no more commits than events.
+-- The commits are those of a CPU's calls with these events: each is of the call of its number, counted from 0, and each return
+-- gives the reply of the commit of its number.
+pub record AreOfCalls (cpu : ℕ) (mine : List Committed) (events : List Event) : Type 0 where
+  pub called : (number : ℕ) (commit : Committed) → slice_get mine number ≡ Some commit
+      → (place : ℕ) × IsCalled events place cpu number commit.command
+  pub returned : (place number : ℕ) (given : Reply) → IsReturned events place cpu number given
+      → (commit : Committed) × (slice_get mine number ≡ Some commit) × (commit.reply ≡ given)
+
+-- Token and pass are of one CPU of this monitor, and its commits are those of its calls. While the token isn't stopped, the CPU has
+-- returned from all its calls and has committed each. It has no more commits than events.
 pub record ArePaired (monitor : MonitorView) (token : TokenView) (pass : CpuView) : Type 0 where
   pub same_queue : pass.queue ≡ monitor.queue
   pub same_cpus : pass.cpus ≡ monitor.config.cpus
   pub same_cpu : pass.cpu ≡ token.cpu
+  pub calls : AreOfCalls token.cpu token.mine pass.events
   pub closed : token.is_stopped ≡ false → pass.stand.is_open ≡ false
   pub running : token.is_stopped ≡ false → pass.is_stopped ≡ false
+  pub counted : token.is_stopped ≡ false → pass.stand.next ≡ length token.mine
   pub few : length token.mine ≤ length pass.events
 
 -- ---- the pass

@@ -9,6 +9,7 @@ use thiserror::Error;
 /// Why a run gives neither history nor certificate. Nothing of it is left.
 #[derive(Clone, Copy, Debug, Error)]
 pub enum CloseFault {
+    /// Memory was refused to the history or to the certificate.
     #[error("no memory")]
     NoMemory,
     /// The journal's commits of some CPU aren't what its token lists.

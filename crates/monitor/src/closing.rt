@@ -57,6 +57,7 @@ impl<S: Site> Monitor<S> {
         if !journal.is_listed_by(tokens) {
             return Err(CloseFault::Disagrees);
         }
+        history.well_formed();
         let certificate = certificate_of(alloc, &journal, &history)?;
         Ok((history, certificate))
     }

@@ -25,10 +25,9 @@ use std::alloc::Global;
 use std::sync::Wait;
 
 impl<S: Site> Monitor<S> {
-    /// Executes a command by the token and the pass of its CPU: records the call, locks the command's granules, passes the gate, drafts the
-    /// commit, enters it under the journal's lock and settles it, frees the granules and records the return. What refused the commit is
-    /// what the token keeps. Whatever is answered, no granule stays locked. The pass tells whether its next number is still one of a
-    /// history.
+    /// Executes a command by the token and the pass of its CPU, whose `next_number` is at most 999,999: records the call, locks the
+    /// command's granules, passes the gate, drafts the commit, enters it under the journal's lock and settles it, frees the granules and
+    /// records the return. What refused the commit is what the token keeps. Whatever is answered, no granule stays locked.
     pub fn execute<R: Wait, G: Gate>(
         &self,
         rt: &R,

@@ -80,10 +80,7 @@ impl<S: Site> Monitor<S> {
         self.config
     }
 
-    /// Moves events from the queue to the end of the history, and returns how many. It takes at most as many as the queue
-    /// may hold, and stops where the queue is empty or the history's text has no room for another line; where that has room,
-    /// an event more is sure to take no memory then. Where memory is refused, what was taken stands in the history, and was all
-    /// that it had room for in memory. No more of that room is used up than what was taken.
+    /// Moves events from the queue to the end of the history, and returns how many, as `event_queue::Recorder::drain` does.
     pub fn drain<R: Wait>(
         &self,
         rt: &R,

@@ -1,6 +1,6 @@
 //! Told order: in a certificate that `close` gives, a call's line comes after those of the calls that its CPU was told of.
 
-ghost use Rattle.std.specs.Prelude.{◌≡◌, ℕ, ◌≤◌, ◌↔◌, List};
+ghost use Rattle.std.specs.Prelude.{ℕ, ◌≤◌, ◌↔◌, List};
 ghost use Rattle.rmm_spec.specs.declared.event.Event.{Event};
 ghost use Rattle.rmm_spec.specs.declared.line.Line.{Line};
 ghost use Rattle.rmm_spec.specs.HistoryText.{Config};

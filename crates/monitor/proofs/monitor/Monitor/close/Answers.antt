@@ -1,12 +1,13 @@
-use Rattle.std.proofs.Common.{◌≡◌, ◌<◌, ◌≤◌, length, slice_get, sym, ap, ◌∙◌, arith, inr}
+use Rattle.std.proofs.Common.{◌≡◌, ◌<◌, ◌≤◌, length, slice_get, refl, sym, ap, ◌∙◌, arith, inr}
 use Rattle.std.specs.Prelude.{Result, Ok, Err, IfErr}
 use Rattle.std.specs.List.{sum_by}
+use Rattle.rmm_spec.specs.HistoryText.{History}
 use Rattle.commit_tickets.specs.View.{JournalView, TokenView}
 use Rattle.commit_tickets.proofs.Lists.{listed-below}
 use Rattle.monitor.specs.Closed.{IsShort, count_committed}
 use Rattle.monitor.specs.View.{MonitorView}
 use Rattle.monitor.specs.declared.close_fault.CloseFault.TheVariants.{NoMemory}
-use Rattle.monitor.proofs.Closes.{disagree, listed, closed}
+use Rattle.monitor.proofs.Closes.{cpus-within, disagree, listed, closed}
 use Rattle.monitor.proofs.CpuLists.{cpus-seats, commits-le}
 use Rattle.monitor.proofs.monitor.Monitor.close.Goals as goal
 
@@ -55,8 +56,10 @@ returns-clause-certificate g c =
     let same = sym c.config-size.ensures.config ∙ c.config-size.ensures.site
     ∙ sym c.self.invariant.1 ∙ ap (λ (m : MonitorView). m.config) c.self.view_is in
     closed c.args.self.config c.audit.new.self _ same c.books-books.ensures c.args.tokens.items c.audit.new.tokens
-    (c.audit.ensures.tokens ∙ c.as_mut_slice-tokens.ensures.value) c.is_listed_by.result c.is_listed_by.ensures c.drain_rest.new.history.recorded.events
-    _ c.if-not-is_listed_by.false c.in_ok-certificate.ensures.written
+    (c.audit.ensures.tokens ∙ c.as_mut_slice-tokens.ensures.value) c.is_listed_by.result c.is_listed_by.ensures
+    c.args.self c.args.passes.items c.drain_rest.new.history.recorded.events _ refl c.requires.cpus (returns-clause-whole g c) (cpus-within c.drain_rest.new.history.recorded c.args.self.config c.well_formed-2.ensures
+    (ap (λ (h : History). h.config) c.in_ok-drain_rest.ensures.history ∙ c.requires.config))
+    c.if-not-is_listed_by.false c.in_ok-certificate.ensures.written
 
 any_err : {T E : Type 0} (P : E → Type 0) (r : Result T E) → ((fault : E) → P fault) → IfErr r P
 any_err P (Ok x) each = tt
