@@ -1,5 +1,5 @@
--- How a judgement ends: its exit status, and its line on standard error where it has one. This project's own.
-use Rattle.std.specs.Prelude.{ℕ, List, ◌++◌, Option, None, Some, Result, Ok, Err, codes}
+-- How a judgement ends: its exit status, and a fault's line on standard error. This project's own.
+use Rattle.std.specs.Prelude.{ℕ, List, ◌++◌, Result, Ok, Err, codes}
 use Rattle.rmm_spec.specs.declared.verdict.Verdict.{Verdict}
 use Rattle.rmm_spec.specs.declared.verdict.Verdict.TheVariants as verdict
 use Rattle.checking.specs.declared.fault.Fault.{Fault}
@@ -22,11 +22,6 @@ abbrev pub fault_line : Fault → List ℕ
 fault_line (fault.CannotRead path) = codes "rmmcheck: cannot read " ++ path.now
 fault_line fault.CannotWrite = codes "rmmcheck: cannot write"
 fault_line fault.NoMemory = codes "rmmcheck: no memory"
-
--- a verdict has no line there, and a fault has its own
-abbrev pub error_line : Result Verdict Fault → Option (List ℕ)
-error_line (Ok judged) = None
-error_line (Err failed) = Some (fault_line failed)
 
 -- what a fault of the judgement is, for the files at two paths
 abbrev pub fault_at : Paths → JudgeFault → Fault

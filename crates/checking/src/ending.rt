@@ -1,34 +1,27 @@
 //! How a judgement ends the program.
 
-ghost use Rattle.std.specs.Prelude.{◌≡◌, ◌≤◌, option_map, Ok, Err};
-ghost use Rattle.checking.specs.Ending.{error_line, fault_line, status_of};
+ghost use Rattle.std.specs.Prelude.{◌≡◌, ◌≤◌, Ok, Err};
+ghost use Rattle.checking.specs.Ending.{status_of};
 
 use crate::fault::Fault;
 use checker::Verdict;
 
-/// The exit status, and the fault whose line stands on standard error, where there is one.
+/// The program's exit status.
 #[derive(Clone, Copy)]
-pub struct Ending<'a> {
+pub struct Ending {
     pub status: u8,
-    pub fault: Option<Fault<'a>>,
 }
 
 /// The ending after a verdict whose line was printed, or after a fault.
-pub fn ends_with<'a>(outcome: Result<Verdict, Fault<'a>>) -> Ending<'a>
+pub fn ends_with(outcome: Result<Verdict, Fault<'_>>) -> Ending
     ensures status { result.status ≡ status_of outcome.entry }
     ensures most { result.status ≤ 3 }
-    ensures line { option_map (λ fault. fault_line fault) result.fault ≡ error_line outcome.entry }
 {
-    match outcome {
-        Ok(verdict) => Ending {
-            status: verdict_status(&verdict),
-            fault: None,
-        },
-        Err(fault) => Ending {
-            status: fault_status(&fault),
-            fault: Some(fault),
-        },
-    }
+    let status = match outcome {
+        Ok(verdict) => verdict_status(&verdict),
+        Err(fault) => fault_status(&fault),
+    };
+    Ending { status }
 }
 
 fn verdict_status(verdict: &Verdict) -> u8

@@ -5,11 +5,10 @@ ghost use Rattle.checking.specs.Ending.{fault_at, fault_line};
 ghost use Rattle.checking.specs.Faults.{check_line};
 
 use crate::judgement::JudgeFault;
-use std::error::Error;
 use std::fmt;
 
 /// What ended the judgement of two files. Its `Display` is the line for standard error.
-#[derive(Clone, Copy, Debug)]
+#[derive(Clone, Copy)]
 pub enum Fault<'a> {
     /// The file at this path can't be opened, or not be read to its end.
     CannotRead(&'a str),
@@ -51,8 +50,6 @@ impl fmt::Display for Fault<'_> {
         }
     }
 }
-
-impl Error for Fault<'_> {}
 
 /// What ended the check, its words among it. Its `Display` is its line on standard error.
 #[derive(Clone, Copy)]

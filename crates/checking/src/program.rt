@@ -103,12 +103,14 @@ pub fn end_check<R: Eprint>(rt: &R, outcome: Result<Verdict, CheckFault<'_>>) ->
     ensures err { IfErr outcome.entry (λ fault. result ≡ check_status fault) }
     ensures most { result ≤ 3 }
 {
-    if let Err(fault) = outcome {
-        let _ = rt.eprintln(fault);
-    }
     match outcome {
         Ok(verdict) => ends_with(Ok(verdict)).status,
-        Err(CheckFault::Device(fault)) => ends_with(Err(fault)).status,
-        Err(CheckFault::Arguments) => 2,
+        Err(fault) => {
+            let _ = rt.eprintln(fault);
+            match fault {
+                CheckFault::Device(fault) => ends_with(Err(fault)).status,
+                CheckFault::Arguments => 2,
+            }
+        }
     }
 }

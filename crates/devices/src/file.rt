@@ -22,6 +22,7 @@ impl<R: Read> FileSource<R> {
     /// Nothing is read yet.
     pub fn new(reader: R) -> FileSource<R>
         ensures given { ⟦<FileSource<R> as Source>⟧.given result ≡ 0 }
+        ensures going { ¬ ⟦<FileSource<R> as Source>⟧.is_ended result }
         ensures left { ⟦<FileSource<R> as Source>⟧.left result ≡ R.remaining reader }
         ensures failures { ⟦<FileSource<R> as Source>⟧.failures result ≡ 0 }
     {

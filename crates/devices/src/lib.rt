@@ -15,6 +15,6 @@ mod text;
 pub use file::FileSource;
 pub use output::OutputSink;
 pub use sink::{Sink, WriteError, write_whole};
-pub use source::{MOST_BYTES, MOST_PIECE, ReadError, Source};
+pub use source::{ReadError, Source};
 pub use taker::{Taker, read_whole};
 pub use text::read_text;

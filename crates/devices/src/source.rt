@@ -16,12 +16,12 @@ pub enum ReadError {
 }
 
 /// The length that no source passes.
-pub const MOST_BYTES: usize = 1 << 40;
+pub(crate) const MOST_BYTES: usize = 1 << 40;
 
 /// The most bytes that are asked for at once.
-pub const MOST_PIECE: usize = 4096;
+pub(crate) const MOST_PIECE: usize = 4096;
 
-/// A device that gives one text of up to `MOST_BYTES` in pieces, from its beginning on, and keeps none of it.
+/// A device that gives one text of up to 2^40 bytes in pieces, from its beginning on, and keeps none of it.
 pub trait Source {
     /// It goes from one state to another and gives these bytes.
     ghost gives: { Self → List ℕ → Self → Type 0 };
@@ -48,6 +48,7 @@ pub trait Source {
         ensures given { IfOk result (λ count. given self.new ≡ given self.old + count) }
         ensures most { IfOk result (λ count. given self.new ≤ 2 ^ 40) }
         ensures end { result ≡ Ok 0 → is_ended self.new }
+        ensures going { IfOk result (λ count. 0 < count → ¬ is_ended self.new) }
         ensures left { IfOk result (λ count. Consumes (left self.old) (left self.new) (take count piece.new)) }
         ensures whole { result ≡ Ok 0 → IsAtEnd (left self.new) }
         ensures failures { failures self.new ≡ failures self.old + read_failures result };

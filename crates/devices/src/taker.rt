@@ -20,6 +20,7 @@ pub trait Taker {
     /// Behind the first text it has taken the second.
     ghost has_taken: { Self → List ℕ → List ℕ → Type 0 };
 
+    /// Takes a piece. Where memory is refused, what it has taken is left open.
     fn take(&mut self, piece: &[u8]) -> Result<(), AllocError>
         ensures { OnOk result ((before text : List ℕ) → has_taken self.old before text → has_taken self.new before (text ++ piece.now)) };
 }

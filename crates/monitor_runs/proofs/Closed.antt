@@ -1,23 +1,32 @@
 -- What is left of a run on threads that was closed.
-use Rattle.std.proofs.Common.{◌≡◌, List, [], ap, ◌∙◌, subst, arith}
+use Rattle.std.proofs.Common.{◌≡◌, ℕ, List, [], sym, ap, ◌∙◌, subst, arith}
 use Rattle.std.specs.Prelude.{get_or}
+use Rattle.rmm_spec.specs.declared.event.Event.{Event}
 use Rattle.rmm_spec.specs.declared.line.Line.{Line}
-use Rattle.rmm_spec.specs.HistoryText.{Config, History}
+use Rattle.rmm_spec.specs.HistoryText.{Config, History, subhistory_of}
 use Rattle.rmm_spec.specs.Scenario.{Scenario}
 use Rattle.commit_tickets.specs.View.{TokenView}
 use Rattle.event_queue.specs.View.{CpuView, AreWhole}
-use Rattle.monitor.specs.Closed.{IsJournal}
+use Rattle.monitor.specs.Closed.{Disagree, IsJournal}
 use Rattle.monitor.specs.View.{MonitorView}
 use Rattle.std.proofs.lemmas.Option.{slice_get_within}
-use Rattle.monitor_runs.specs.ThreadRun.{HasBegun, IsThreadRun}
-use Rattle.monitor_runs.specs.Worked.{HaveWorked, commands_called}
+use Rattle.monitor_runs.specs.ThreadRun.{IsThreadRun, MayDisagree}
+use Rattle.monitor_runs.specs.Worked.{HasBegun, HaveWorked}
 use Rattle.monitor_runs.proofs.Waiting.{is_there}
 
+-- what a CPU has begun is said of the scenario's machine
+begun-of : (monitor : MonitorView) (scenario : Scenario) (cpu : ℕ) (own : List Event) (token : TokenView) → monitor.config ≡ scenario.config
+    → monitor.capacity ≡ scenario.queue → HasBegun (get_or scenario.programs cpu []) monitor.capacity monitor.config.cpus cpu own token
+    → HasBegun (get_or scenario.programs cpu []) scenario.queue scenario.config.cpus cpu own token
+begun-of monitor scenario cpu own token is_config is_queue begun =
+    subst (λ (c : Config). HasBegun (get_or scenario.programs cpu []) scenario.queue c.cpus cpu own token) is_config
+    (subst (λ n. HasBegun (get_or scenario.programs cpu []) n monitor.config.cpus cpu own token) is_queue begun)
+
 pub IsThreadRun-from : (monitor : MonitorView) (scenario : Scenario) (tokens : List TokenView) (passes : List CpuView)
-    (history : History) (lines : List Line) → monitor.config ≡ scenario.config → history.config ≡ scenario.config
+    (history : History) (lines : List Line) → monitor.config ≡ scenario.config → monitor.capacity ≡ scenario.queue → history.config ≡ scenario.config
     → HaveWorked monitor scenario.programs monitor.config.cpus tokens passes → AreWhole passes history.events
     → IsJournal monitor.config tokens history.events lines → IsThreadRun scenario history lines
-IsThreadRun-from monitor scenario tokens passes history lines is_config same worked whole journal = record {
+IsThreadRun-from monitor scenario tokens passes history lines is_config is_queue same worked whole journal = record {
   same_config = same;
   tokens = tokens;
   count = worked.token_count ∙ ap (λ (c : Config). c.cpus) is_config;
@@ -25,11 +34,20 @@ IsThreadRun-from monitor scenario tokens passes history lines is_config same wor
   each = λ cpu token at.
       let pass = is_there passes cpu (omega (arith, slice_get_within tokens cpu token at, worked.token_count, worked.pass_count)) in
       let has = worked.each cpu token pass.0 at pass.1 in
-      let begun : HasBegun (get_or scenario.programs cpu []) cpu history token = record {
-        calls = has.calls;
-        commits = has.commits;
-        within = has.within;
-        called = ap commands_called (whole cpu pass.0 pass.1) ∙ has.called;
-        committed = has.committed;
-      } in begun;
+      begun-of monitor scenario cpu (subhistory_of cpu history.events) token is_config is_queue
+      (subst (λ own. HasBegun (get_or scenario.programs cpu []) monitor.capacity monitor.config.cpus cpu own token) (sym (whole cpu pass.0 pass.1))
+      has.begun);
+}
+
+-- what is left of one that is told to disagree
+pub MayDisagree-from : (monitor : MonitorView) (scenario : Scenario) (tokens : List TokenView) (passes : List CpuView)
+    → monitor.config ≡ scenario.config → monitor.capacity ≡ scenario.queue → HaveWorked monitor scenario.programs monitor.config.cpus tokens passes
+    → Disagree monitor.config tokens → MayDisagree scenario
+MayDisagree-from monitor scenario tokens passes is_config is_queue worked disagree = record {
+  tokens = tokens;
+  count = worked.token_count ∙ ap (λ (c : Config). c.cpus) is_config;
+  each = λ cpu token at.
+      let pass = is_there passes cpu (omega (arith, slice_get_within tokens cpu token at, worked.token_count, worked.pass_count)) in
+      (pass.0.events, begun-of monitor scenario cpu pass.0.events token is_config is_queue (worked.each cpu token pass.0 at pass.1).begun);
+  disagree = subst (λ (c : Config). Disagree c tokens) is_config disagree;
 }

@@ -1,8 +1,8 @@
 -- How a CPU comes through its program: what it has called and committed after each of its commands.
-use Rattle.std.proofs.Common.{◌≡◌, ℕ, zero, suc, ◌+◌, ◌-◌, ◌<◌, ◌≤◌, true, List, [], ◌∷◌, ◌++◌, length, map, take, get_or, refl, sym, ap, ◌∙◌, subst, arith}
-use Rattle.std.specs.Prelude.{Ok, Err}
+use Rattle.std.proofs.Common.{◌≡◌, ℕ, zero, suc, ◌+◌, ◌-◌, ◌<◌, ◌≤◌, inl, inr, true, false, List, [], ◌∷◌, ◌++◌, length, map, take, get_or, refl, sym, ap, ◌∙◌, subst, arith}
+use Rattle.std.specs.Prelude.{Ok, Err, IsTrue}
 use Rattle.std.specs.List.{AllByRecursion}
-use Rattle.std.proofs.lemmas.List.{append-nil, length_push, map_push, nil_from_length, take_more}
+use Rattle.std.proofs.lemmas.List.{append-nil, length_push, map_push, take_more}
 use Rattle.rmm_spec.specs.declared.command.Command.{Command}
 use Rattle.rmm_spec.specs.declared.event.Event.{Event}
 use Rattle.rmm_spec.specs.declared.event.Event.TheVariants.{Called, Returned}
@@ -10,8 +10,9 @@ use Rattle.rmm_spec.specs.CommandText.{IsCommand}
 use Rattle.commit_tickets.specs.declared.committing.Done.{Done}
 use Rattle.commit_tickets.specs.Entries.{Committed}
 use Rattle.commit_tickets.specs.View.{TokenView}
+use Rattle.event_queue.specs.Records.{WasFull}
 use Rattle.event_queue.specs.View.{CpuView}
-use Rattle.monitor.specs.Executed.{ArePaired, Leaves, HasCommitted, called, returned}
+use Rattle.monitor.specs.Executed.{ArePaired, FullAtSomeMoment, Leaves, HasCommitted, called, returned}
 use Rattle.monitor.specs.View.{MonitorView}
 use Rattle.monitor.specs.declared.refused.Refused.{Refused}
 use Rattle.monitor.specs.declared.refused.Refused.TheVariants.{Full, NoMemory, Unrecorded, Stopped, Disagrees}
@@ -34,10 +35,11 @@ IsCommand-at [] place command have within = absurd (omega (arith, within))
 IsCommand-at (first ∷ program) zero command have within = have.0
 IsCommand-at (first ∷ program) (suc place) command have within = IsCommand-at program place command have.1 (omega (arith, within))
 
--- The CPU has called so many commands of its program, the first, and has committed them and returned from them.
+-- The CPU has called so many commands of its program, the first, and has committed them and returned from them. It isn't stopped.
 pub record HasCome (monitor : MonitorView) (cpu : ℕ) (program : List Command) (count : ℕ) (token : TokenView) (pass : CpuView) : Type 0 where
   pub paired : ArePaired monitor token pass
   pub same_cpu : token.cpu ≡ cpu
+  pub running : token.is_stopped ≡ false
   pub called : commands_called pass.events ≡ take count program
   pub committed : commands_committed token ≡ take count program
   pub few : length pass.events ≤ count + count
@@ -49,24 +51,28 @@ pub come-first : (monitor : MonitorView) (program : List Command) (token : Token
 come-first monitor program token pass can = record {
   paired = can.paired;
   same_cpu = refl;
+  running = ap (λ (t : TokenView). t.is_stopped) can.fresh;
   called = ap (λ (p : CpuView). commands_called p.events) can.before;
-  committed = ap (λ mine. map (λ (commit : Committed). commit.command) mine)
-      (nil_from_length token.mine (omega (arith, can.paired.few, ap (λ (p : CpuView). length p.events) can.before)));
+  committed = ap commands_committed can.fresh;
   few = omega (arith, ap (λ (p : CpuView). length p.events) can.before);
   next = ap (λ (p : CpuView). p.stand.next) can.before;
 }
 
--- after some commands
-pub come-worked : (monitor : MonitorView) (cpu : ℕ) (program : List Command) (count : ℕ) (token : TokenView) (pass : CpuView) → count ≤ length program
+-- after all commands
+pub come-worked : (monitor : MonitorView) (cpu : ℕ) (program : List Command) (count : ℕ) (token : TokenView) (pass : CpuView) → count ≡ length program
     → HasCome monitor cpu program count token pass → HasWorked monitor cpu program token pass
-come-worked monitor cpu program count token pass within come = record {
+come-worked monitor cpu program count token pass all come = record {
   paired = come.paired;
   same_cpu = come.same_cpu;
-  calls = count;
-  commits = count;
-  within = (omega arith, within);
-  called = come.called;
-  committed = come.committed;
+  begun = record {
+    calls = count;
+    commits = count;
+    within = (omega arith, omega arith, omega (arith, all));
+    called = come.called;
+    committed = come.committed;
+    heard = pass.heard;
+    ends = inl all;
+  };
   few = come.few;
 }
 
@@ -96,6 +102,7 @@ module _ (monitor : MonitorView) (cpu : ℕ) (program : List Command) (count : �
       let event = Returned pass.cpu ((called pass command).stand.next - 1) done.reply in record {
         paired = paired;
         same_cpu = cpu-left command token new_token pass new_pass (Ok done) left ∙ come.same_cpu;
+        running = ap (λ (t : TokenView). t.is_stopped) left.0 ∙ come.running;
         called = ap (λ (p : CpuView). commands_called p.events) left.1 ∙ commands_called-append (called pass command).events (event ∷ [])
             ∙ append-nil (commands_called (called pass command).events) ∙ called_more;
         committed = committed_more token done refl left.0;
@@ -104,38 +111,66 @@ module _ (monitor : MonitorView) (cpu : ℕ) (program : List Command) (count : �
         next = ap (λ (p : CpuView). p.stand.next) left.1 ∙ ap (λ n. n + 1) come.next;
       }
 
+  -- the queue was full for this CPU, whose number is known
+  full-for : new_token.cpu ≡ cpu → WasFull monitor.capacity new_pass.cpus new_pass.cpu new_pass.events new_pass.heard
+      → WasFull monitor.capacity monitor.config.cpus cpu new_pass.events new_pass.heard
+  full-for same_cpu full =
+      subst (λ n. WasFull monitor.capacity n cpu new_pass.events new_pass.heard) paired.same_cpus
+      (subst (λ n. WasFull monitor.capacity new_pass.cpus n new_pass.events new_pass.heard) (paired.same_cpu ∙ same_cpu) full)
+
   -- the call stands, and was not committed
   called-only : new_token.cpu ≡ token.cpu → new_token.mine ≡ token.mine → new_pass ≡ called pass command → HasWorked monitor cpu program new_token new_pass
   called-only same_cpu same_mine is = record {
     paired = paired;
     same_cpu = same_cpu ∙ come.same_cpu;
-    calls = count + 1;
-    commits = count;
-    within = (omega arith, omega (arith, within));
-    called = ap (λ (p : CpuView). commands_called p.events) is ∙ called_more;
-    committed = ap (λ mine. map (λ (c : Committed). c.command) mine) same_mine ∙ come.committed;
+    begun = record {
+      calls = count + 1;
+      commits = count;
+      within = (omega arith, omega arith, omega (arith, within));
+      called = ap (λ (p : CpuView). commands_called p.events) is ∙ called_more;
+      committed = ap (λ mine. map (λ (c : Committed). c.command) mine) same_mine ∙ come.committed;
+      heard = new_pass.heard;
+      ends = inr (inl (omega arith));
+    };
     few = subst (λ (p : CpuView). length p.events ≤ (count + 1) + (count + 1)) (sym is) (omega (arith, few_more));
   }
 
-  -- nothing changed
-  left-alone : new_token ≡ token → new_pass ≡ pass → HasWorked monitor cpu program new_token new_pass
-  left-alone same_token same_pass =
-      subst (λ t. HasWorked monitor cpu program t new_pass) (sym same_token)
-      (subst (HasWorked monitor cpu program token) (sym same_pass) (come-worked monitor cpu program count token pass (omega (arith, within)) come))
-
   -- it was refused
-  pub come-refused : (refused : Refused) → Leaves command token pass (Err refused) new_token new_pass → HasWorked monitor cpu program new_token new_pass
-  come-refused (Unrecorded done) left = record {
-    paired = paired;
-    same_cpu = cpu-left command token new_token pass new_pass (Err (Unrecorded done)) left ∙ come.same_cpu;
-    calls = count + 1;
-    commits = count + 1;
-    within = (omega arith, omega (arith, within));
-    called = ap (λ (p : CpuView). commands_called p.events) left.1 ∙ called_more;
-    committed = committed_more (record token { is_stopped = true }) done refl left.0;
-    few = subst (λ (p : CpuView). length p.events ≤ (count + 1) + (count + 1)) (sym left.1) (omega (arith, few_more));
-  }
-  come-refused NoMemory left = called-only (ap (λ (t : TokenView). t.cpu) left.0) (ap (λ (t : TokenView). t.mine) left.0) left.1
-  come-refused Disagrees left = called-only (ap (λ (t : TokenView). t.cpu) left.0) (ap (λ (t : TokenView). t.mine) left.0) left.1
-  come-refused Full left = left-alone left.0 left.1
-  come-refused Stopped left = left-alone left.0 left.1
+  pub come-refused : (refused : Refused) → Leaves command token pass (Err refused) new_token new_pass
+      → (refused ≡ Stopped → IsTrue token.is_stopped) → FullAtSomeMoment monitor.capacity new_pass (Err refused)
+      → HasWorked monitor cpu program new_token new_pass
+  come-refused (Unrecorded done) left stopped full =
+      let same = cpu-left command token new_token pass new_pass (Err (Unrecorded done)) left ∙ come.same_cpu in record {
+        paired = paired;
+        same_cpu = same;
+        begun = record {
+          calls = count + 1;
+          commits = count + 1;
+          within = (omega arith, omega arith, omega (arith, within));
+          called = ap (λ (p : CpuView). commands_called p.events) left.1 ∙ called_more;
+          committed = committed_more (record token { is_stopped = true }) done refl left.0;
+          heard = new_pass.heard;
+          ends = inr (inr (full-for same full));
+        };
+        few = subst (λ (p : CpuView). length p.events ≤ (count + 1) + (count + 1)) (sym left.1) (omega (arith, few_more));
+      }
+  come-refused NoMemory left stopped full =
+      called-only (ap (λ (t : TokenView). t.cpu) left.0) (ap (λ (t : TokenView). t.mine) left.0) left.1
+  come-refused Disagrees left stopped full =
+      called-only (ap (λ (t : TokenView). t.cpu) left.0) (ap (λ (t : TokenView). t.mine) left.0) left.1
+  come-refused Full left stopped full =
+      let same = ap (λ (t : TokenView). t.cpu) left.0 ∙ come.same_cpu in record {
+        paired = paired;
+        same_cpu = same;
+        begun = record {
+          calls = count;
+          commits = count;
+          within = (omega arith, omega arith, omega (arith, within));
+          called = ap (λ (p : CpuView). commands_called p.events) left.1 ∙ come.called;
+          committed = ap commands_committed left.0 ∙ come.committed;
+          heard = new_pass.heard;
+          ends = inr (inr (full-for same full));
+        };
+        few = subst (λ (p : CpuView). length p.events ≤ count + count) (sym left.1) come.few;
+      }
+  come-refused Stopped left stopped full = absurd (let bad : true ≡ false = sym (stopped refl) ∙ come.running in cc)

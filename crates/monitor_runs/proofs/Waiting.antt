@@ -13,7 +13,7 @@ use Rattle.rmm_spec.specs.HistoryText.{Config}
 use Rattle.rmm_spec.specs.Scenario.{Scenario, IsScenario}
 use Rattle.scenario.specs.Seen.{seen_programs}
 use Rattle.world_laws.proofs.Lists.{slice_get-append, slice_get-push, slice_get-push_cases, map-push}
-use Rattle.commit_tickets.specs.View.{TokenView}
+use Rattle.commit_tickets.specs.View.{TokenView, before_commits, first_tokens}
 use Rattle.event_queue.specs.View.{CpuView, before_calls, count_recorded}
 use Rattle.monitor.specs.Cpus.{AreCpus}
 use Rattle.monitor.specs.View.{MonitorView}
@@ -45,13 +45,15 @@ fewer (program ∷ programs) (suc cpu) = omega (arith, count_all-cons program pr
 
 -- all CPUs, as they are made
 pub waiting-all : (monitor : MonitorView) (scenario : Scenario) (given : List (Vec Command Global)) (tokens : List TokenView) (passes : List CpuView)
-    → IsScenario scenario → monitor.config ≡ scenario.config → seen_programs given ≡ scenario.programs → AreCpus monitor tokens passes → length passes ≡ monitor.config.cpus
+    → IsScenario scenario → monitor.config ≡ scenario.config → seen_programs given ≡ scenario.programs → AreCpus monitor tokens passes
+    → tokens ≡ first_tokens monitor.config.cpus → length passes ≡ monitor.config.cpus
     → ((cpu : ℕ) → cpu < monitor.config.cpus → slice_get passes cpu ≡ Some (before_calls monitor.queue monitor.config.cpus cpu))
     → AreWaiting monitor scenario.programs tokens passes given
-waiting-all monitor scenario given tokens passes limits same_config same cpus pass_count before = record {
+waiting-all monitor scenario given tokens passes limits same_config same cpus fresh pass_count before = record {
   pairs = cpus.pairs;
   program_count = sym (length-map given (λ (program : Vec Command Global). program.items)) ∙ ap length same ∙ limits.programs
       ∙ ap (λ (c : Config). c.cpus) (sym same_config) ∙ sym cpus.count;
+  fresh = fresh ∙ ap first_tokens (sym cpus.count);
   numbered = cpus.numbered;
   before = λ cpu pass at.
       same_Some pass _ (sym at ∙ before cpu (omega (arith, slice_get_within passes cpu pass at, pass_count)));
@@ -76,9 +78,12 @@ waiting-last monitor scenario tokens passes given token pass program limits wait
     let same_program =
     waiting.each count program (subst (λ k. slice_get (given ++ program ∷ []) k ≡ Some program) program_count (slice_get-push given program)) in
     let before = waiting.before count pass (subst (λ k. slice_get (passes ++ pass ∷ []) k ≡ Some pass) pass_count (slice_get-push passes pass)) in
-    let pairs = pairs-popped monitor tokens passes token pass waiting.pairs in record {
+    let pairs = pairs-popped monitor tokens passes token pass waiting.pairs in
+    let more : length tokens + 1 ≡ suc count = omega arith in
+    let fresh = same_from_push tokens (first_tokens count) token (before_commits count) (waiting.fresh ∙ ap first_tokens (length_push tokens token ∙ more)) in record {
       can = record {
         paired = pairs.0;
+        fresh = fresh.1 ∙ ap before_commits (sym same_cpu);
         before = before ∙ ap (λ k. before_calls monitor.queue monitor.config.cpus k) (sym same_cpu);
         have_texts = subst (AllByRecursion IsCommand) (sym same_program) (have_texts scenario.programs count limits.commands);
         few = omega (arith, ap length same_program, fewer scenario.programs count, limits.few);
@@ -88,6 +93,7 @@ waiting-last monitor scenario tokens passes given token pass program limits wait
       others = record {
         pairs = pairs.1;
         program_count = program_count;
+        fresh = fresh.0;
         numbered = λ cpu t at. waiting.numbered cpu t (slice_get-append tokens (token ∷ []) cpu t at);
         before = λ cpu p at. waiting.before cpu p (slice_get-append passes (pass ∷ []) cpu p at);
         each = λ cpu p at. waiting.each cpu p (slice_get-append given (program ∷ []) cpu p at);
@@ -225,4 +231,4 @@ worked-room monitor scenario tokens passes limits worked =
     by cpu pass at =
         let token = is_there tokens cpu (omega (arith, slice_get_within passes cpu pass at, worked.token_count, worked.pass_count)) in
         let has = worked.each cpu token.0 pass token.1 at in
-        omega (arith, has.few, has.within.1)
+        omega (arith, has.few, has.begun.within.2)

@@ -1,6 +1,6 @@
 -- What is left of a run on threads, and what is printed of it.
-use Rattle.std.specs.Prelude.{◌≡◌, ℕ, ◌≤◌, List, [], length, slice_get, get_or, Some, take}
-use Rattle.rmm_spec.specs.declared.command.Command.{Command}
+use Rattle.std.specs.Prelude.{◌≡◌, ℕ, List, [], length, slice_get, get_or, Some}
+use Rattle.rmm_spec.specs.declared.event.Event.{Event}
 use Rattle.rmm_spec.specs.declared.line.Line.{Line}
 use Rattle.rmm_spec.specs.declared.verdict.Verdict.{Verdict}
 use Rattle.rmm_spec.specs.CertificateText.{certificate_text}
@@ -8,26 +8,29 @@ use Rattle.rmm_spec.specs.HistoryText.{History, subhistory_of, history_text}
 use Rattle.rmm_spec.specs.Judgement.{Judges}
 use Rattle.rmm_spec.specs.Scenario.{Scenario}
 use Rattle.commit_tickets.specs.View.{TokenView}
-use Rattle.monitor.specs.Closed.{IsJournal}
+use Rattle.monitor.specs.Closed.{Disagree, IsJournal}
 use Rattle.run_texts.specs.RunText.{run_text}
-use Rattle.monitor_runs.specs.Worked.{commands_called, commands_committed}
+use Rattle.monitor_runs.specs.Worked.{HasBegun}
 
--- The history has the first calls of this program, and the token the first commits of those.
-pub record HasBegun (program : List Command) (cpu : ℕ) (history : History) (token : TokenView) : Type 0 where
-  pub calls : ℕ
-  pub commits : ℕ
-  pub within : (commits ≤ calls) × (calls ≤ length program)
-  pub called : commands_called (subhistory_of cpu history.events) ≡ take calls program
-  pub committed : commands_committed token ≡ take commits program
-
--- The history is of the scenario's machine, and has of each CPU the first calls of its program. The lines are a journal that is a run of the
--- machine, and in which each CPU's commits are the first of its calls.
+-- The history is of the scenario's machine, and has of each CPU the first calls of its program, up to the end, to a commit that was
+-- refused or to a full queue. The lines are a journal that is a run of the machine, and in which each CPU's commits are its calls, but
+-- perhaps for the last.
 pub record IsThreadRun (scenario : Scenario) (history : History) (lines : List Line) : Type 0 where
   pub same_config : history.config ≡ scenario.config
   pub tokens : List TokenView
   pub count : length tokens ≡ scenario.config.cpus
   pub journal : IsJournal scenario.config tokens history.events lines
-  pub each : (cpu : ℕ) (token : TokenView) → slice_get tokens cpu ≡ Some token → HasBegun (get_or scenario.programs cpu []) cpu history token
+  pub each : (cpu : ℕ) (token : TokenView) → slice_get tokens cpu ≡ Some token
+      → HasBegun (get_or scenario.programs cpu []) scenario.queue scenario.config.cpus cpu (subhistory_of cpu history.events) token
+
+-- What may be left of a run on threads that is told to disagree: each CPU's token lists the first commands of its program, and some
+-- journal that is a run of the machine isn't what they list.
+pub record MayDisagree (scenario : Scenario) : Type 0 where
+  pub tokens : List TokenView
+  pub count : length tokens ≡ scenario.config.cpus
+  pub each : (cpu : ℕ) (token : TokenView) → slice_get tokens cpu ≡ Some token
+      → (own : List Event) × HasBegun (get_or scenario.programs cpu []) scenario.queue scenario.config.cpus cpu own token
+  pub disagree : Disagree scenario.config tokens
 
 -- What is printed of such a run: its texts, with a verdict that is right of them.
 pub record IsPrinted (scenario : Scenario) (judged : Verdict) (text : List ℕ) : Type 0 where

@@ -1,5 +1,5 @@
 -- What CPUs with a program have called and committed.
-use Rattle.std.specs.Prelude.{◌≡◌, ℕ, zero, suc, ◌+◌, ◌-◌, ◌≤◌, List, [], ◌∷◌, ◌++◌, length, map, take, slice_get, get_or, Some, Vec}
+use Rattle.std.specs.Prelude.{◌≡◌, ℕ, zero, suc, ◌+◌, ◌-◌, ◌<◌, ◌≤◌, ◌⊎◌, List, [], ◌∷◌, ◌++◌, length, map, take, slice_get, get_or, Some, Vec}
 use Rattle.std.specs.List.{AllByRecursion}
 use Rattle.std.specs.declared.alloc.Global.{Global}
 use Rattle.rmm_spec.specs.declared.command.Command.{Command}
@@ -8,7 +8,8 @@ use Rattle.rmm_spec.specs.declared.event.Event.TheVariants.{Called, Returned}
 use Rattle.rmm_spec.specs.CommandText.{IsCommand}
 use Rattle.rmm_spec.specs.HistoryText.{Config, History}
 use Rattle.commit_tickets.specs.Entries.{Committed}
-use Rattle.commit_tickets.specs.View.{TokenView}
+use Rattle.commit_tickets.specs.View.{TokenView, before_commits, first_tokens}
+use Rattle.event_queue.specs.Records.{WasFull}
 use Rattle.event_queue.specs.View.{CpuView, ScribeView, CanDrain, before_calls}
 use Rattle.monitor.specs.Cpus.{ArePairs}
 use Rattle.monitor.specs.Executed.{ArePaired}
@@ -24,29 +25,39 @@ commands_called (Returned cpu number given ∷ events) = commands_called events
 abbrev pub commands_committed : TokenView → List Command
 commands_committed token = map (λ (commit : Committed). commit.command) token.mine
 
--- A CPU that has called nothing, with a program of commands that have texts, and no more of them than calls have numbers.
+-- Of these events a CPU's calls are the first commands of its program, so many, and its token has committed those, but perhaps the
+-- last. It leaves out commands of its program only where it was refused the commit of that call, or where the queue, which holds so many
+-- events, was full at some moment, while the CPU had these events.
+pub record HasBegun (program : List Command) (capacity cpus cpu : ℕ) (own : List Event) (token : TokenView) : Type 0 where
+  pub calls : ℕ
+  pub commits : ℕ
+  pub within : (commits ≤ calls) × (calls ≤ commits + 1) × (calls ≤ length program)
+  pub called : commands_called own ≡ take calls program
+  pub committed : commands_committed token ≡ take commits program
+  pub heard : List Event
+  pub ends : (commits ≡ length program) ⊎ ((commits < calls) ⊎ WasFull capacity cpus cpu own heard)
+
+-- A CPU that has called and committed nothing, with a program of commands that have texts, and no more of them than calls have numbers.
 pub record CanWork (monitor : MonitorView) (program : List Command) (token : TokenView) (pass : CpuView) : Type 0 where
   pub paired : ArePaired monitor token pass
+  pub fresh : token ≡ before_commits token.cpu
   pub before : pass ≡ before_calls monitor.queue monitor.config.cpus token.cpu
   pub have_texts : AllByRecursion IsCommand program
   pub few : length program ≤ 499999
 
--- The CPU of this number has called the first commands of its program, so many, and committed the first of those.
+-- The CPU of this number has worked at its program, with no more than two events for each call.
 pub record HasWorked (monitor : MonitorView) (cpu : ℕ) (program : List Command) (token : TokenView) (pass : CpuView) : Type 0 where
   pub paired : ArePaired monitor token pass
   pub same_cpu : token.cpu ≡ cpu
-  pub calls : ℕ
-  pub commits : ℕ
-  pub within : (commits ≤ calls) × (calls ≤ length program)
-  pub called : commands_called pass.events ≡ take calls program
-  pub committed : commands_committed token ≡ take commits program
-  pub few : length pass.events ≤ calls + calls
+  pub begun : HasBegun program monitor.capacity monitor.config.cpus cpu pass.events token
+  pub few : length pass.events ≤ begun.calls + begun.calls
 
--- Some first CPUs, which have called nothing: their tokens, their passes and what is to be their programs.
+-- Some first CPUs, which have called and committed nothing: their tokens, their passes and what is to be their programs.
 pub record AreWaiting (monitor : MonitorView) (programs : List (List Command)) (tokens : List TokenView) (passes : List CpuView)
     (given : List (Vec Command Global)) : Type 0 where
   pub pairs : ArePairs monitor tokens passes
   pub program_count : length given ≡ length tokens
+  pub fresh : tokens ≡ first_tokens (length tokens)
   pub numbered : (cpu : ℕ) (token : TokenView) → slice_get tokens cpu ≡ Some token → token.cpu ≡ cpu
   pub before : (cpu : ℕ) (pass : CpuView) → slice_get passes cpu ≡ Some pass → pass ≡ before_calls monitor.queue monitor.config.cpus cpu
   pub each : (cpu : ℕ) (program : Vec Command Global) → slice_get given cpu ≡ Some program → program.items ≡ get_or programs cpu []

@@ -1,8 +1,8 @@
 //! A CPU with its program, and what its thread does.
 
-ghost use Rattle.std.specs.Prelude.{◌≤◌};
+ghost use Rattle.std.specs.Prelude.{◌≡◌, ◌≤◌, IfErr, IsTrue};
 ghost use Rattle.rmm_spec.specs.CommandText.{IsCommand};
-ghost use Rattle.monitor.specs.Executed.{ArePaired, Leaves};
+ghost use Rattle.monitor.specs.Executed.{ArePaired, FullAtSomeMoment, Leaves};
 ghost use Rattle.monitor_runs.specs.Worked.{CanWork, HasWorked};
 
 use monitor::{CpuPass, CpuToken, Done, Monitor, Open, Refused, Site};
@@ -24,7 +24,7 @@ pub(crate) struct Cpu<S: Site> {
 }
 
 impl<S: Site> Cpu<S> {
-    /// Executes the program, up to its end or a refusal.
+    /// Executes the program, up to its end, a commit that is refused, or a queue that stays full.
     pub(crate) fn work<R: Wait>(
         self,
         rt: &R,
@@ -62,12 +62,14 @@ fn execute<S: Site, R: Wait>(
     requires number { pass.old.stand.next ≤ 999999 }
     ensures leaves { Leaves command.now token.old pass.old result token.new pass.new }
     ensures pair { ArePaired monitor.now token.new pass.new }
+    ensures stopped { IfErr result (λ refused. refused ≡ Refused.Stopped → IsTrue token.old.is_stopped) }
+    ensures full { FullAtSomeMoment monitor.now.capacity pass.new result }
 {
-    for _try in 0..TRIES {
+    for _try in 1..TRIES {
         match monitor.execute(rt, alloc, token, pass, &Open, copied_command(command)) {
             Err(Refused::Full) => thread::yield_now(),
             answer => return answer,
         }
     }
-    Err(Refused::Full)
+    monitor.execute(rt, alloc, token, pass, &Open, copied_command(command))
 }

@@ -2,10 +2,8 @@
 
 ghost use Rattle.std.specs.Prelude.{◌≡◌, ◌++◌, ℕ, List, IfOk, IfErr, OnErr};
 ghost use Rattle.rmm_spec.specs.Scenario.{IsScenario};
-ghost use Rattle.commit_tickets.specs.View.{TokenView};
-ghost use Rattle.monitor.specs.Closed.{Disagree};
 ghost use Rattle.run_texts.specs.declared.fault.RunFault.TheVariants.{Disagrees};
-ghost use Rattle.monitor_runs.specs.ThreadRun.{IsThreadRun, IsPrinted};
+ghost use Rattle.monitor_runs.specs.ThreadRun.{IsThreadRun, IsPrinted, MayDisagree};
 
 use crate::working::{Ended, work_all};
 use certificate::Certificate;
@@ -31,7 +29,7 @@ pub fn threads_text<R: Threads + Wait + Sync>(
 ) -> Result<Verdict, RunFault>
     ensures printed { IfOk result (λ judged. (text : List ℕ) × (out.new.items ≡ out.old.items ++ text)
         × IsPrinted scenario.now judged text) }
-    ensures disagrees { IfErr result (λ fault. fault ≡ Disagrees → (tokens : List TokenView) × Disagree scenario.now.config tokens) }
+    ensures disagrees { IfErr result (λ fault. fault ≡ Disagrees → MayDisagree scenario.now) }
     ensures err { OnErr result (out.new.items ≡ out.old.items) }
 {
     let config = *scenario.config();
@@ -55,7 +53,7 @@ fn recorded<S: Site + Send + Sync, R: Threads + Wait + Sync>(
     requires config { config ≡ scenario.now.config }
     requires limits { IsScenario scenario.now }
     ensures ran { IfOk result (λ ran. IsThreadRun scenario.now ran.0.recorded ran.1.lines) }
-    ensures disagrees { IfErr result (λ fault. fault ≡ Disagrees → (tokens : List TokenView) × Disagree config tokens) }
+    ensures disagrees { IfErr result (λ fault. fault ≡ Disagrees → MayDisagree scenario.now) }
 {
     let programs = copied_programs(alloc, scenario.programs())?;
     let (monitor, tokens, passes, scribe) = Monitor::<S>::new(

@@ -71,7 +71,7 @@ pub(crate) fn work_all<S: Site + Send + Sync, R: Threads + Wait + Sync>(
         {
             let (mut tokens, mut passes, mut programs) = (tokens, passes, programs);
             let cpus = monitor.config().cpus();
-            let mut workers = Vec::new(alloc);
+            let mut workers = Vec::with_capacity(alloc, usize::from(cpus))?;
             for _cpu in 0..cpus {
                 let cpu = last_cpu(monitor, scenario, &mut tokens, &mut passes, &mut programs);
                 let promise = Works {
@@ -83,9 +83,7 @@ pub(crate) fn work_all<S: Site + Send + Sync, R: Threads + Wait + Sync>(
                     promise,
                     move || work_counted(rt, alloc, monitor, cpu, ended),
                 )?;
-                let Ok(()) = workers.push(worker) else {
-                    return Err(RunFault::NoMemory);
-                };
+                workers.push_reserved(worker);
             }
             let (scribe, history) = drain_beside(rt, monitor, scribe, history, ended)?;
             let (tokens, passes) = join_all(rt, alloc, monitor, scenario, workers)?;

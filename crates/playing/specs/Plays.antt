@@ -9,6 +9,7 @@ use Rattle.run_texts.specs.declared.fault.RunFault.TheVariants as of_run
 use Rattle.scenario_text.specs.declared.fault.ScenarioFault.{ScenarioFault}
 use Rattle.scenario_text.specs.declared.fault.ScenarioFault.TheVariants as of_scenario
 use Rattle.scenario_text.specs.ScenarioText.{IsScenarioText, IsFirstFault}
+use Rattle.monitor_runs.specs.ThreadRun.{MayDisagree}
 use Rattle.playing.specs.declared.fault.PlayFault.{PlayFault}
 use Rattle.playing.specs.declared.fault.PlayFault.TheVariants as fault
 
@@ -48,16 +49,27 @@ pub record IsRefused (IsBytes : List ℕ → Type 0) (refused : ScenarioFault) :
   pub first : IsFirstFault refused bytes
   pub told : refused ≢ of_scenario.NoMemory
 
--- a fault of the scenario is one of the bytes
+-- A fault of the scenario is one of the bytes. No thread and no disagreement is told but of bytes that state a scenario, and a
+-- disagreement only of one whose run may disagree. Of `Write` it is said with what was written.
 abbrev pub IsCaused : (List ℕ → Type 0) → PlayFault → Type 0
 IsCaused IsBytes (fault.Scenario refused) = IsRefused IsBytes refused
 IsCaused IsBytes fault.Read = ⊤
 IsCaused IsBytes fault.Write = ⊤
 IsCaused IsBytes fault.NoMemory = ⊤
-IsCaused IsBytes fault.Thread = ⊤
-IsCaused IsBytes fault.Disagrees = ⊤
+IsCaused IsBytes fault.Thread = (scenario : Scenario) × IsStated IsBytes scenario
+IsCaused IsBytes fault.Disagrees = (scenario : Scenario) × IsStated IsBytes scenario × MayDisagree scenario
 
 -- ---- devices
+
+-- this holds where the source was read to its end: after each answer but that it can't be read, or that memory is refused
+abbrev pub OnRead : {T : Type 0} → Result T PlayFault → Type 0 → Type 0
+OnRead (Ok value) P = P
+OnRead (Err fault.Read) P = ⊤
+OnRead (Err fault.Write) P = P
+OnRead (Err (fault.Scenario refused)) P = P
+OnRead (Err fault.NoMemory) P = ⊤
+OnRead (Err fault.Thread) P = P
+OnRead (Err fault.Disagrees) P = P
 
 -- how many failures of each device
 pub record Failures : Type 0 where

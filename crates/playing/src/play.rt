@@ -4,7 +4,7 @@ ghost use Rattle.std.specs.Prelude.{◌≡◌, ◌≢◌, ◌+◌, ℕ, List, �
 ghost use Rattle.std.specs.Io.KnownBytes.{Appends};
 ghost use Rattle.devices.specs.Sink.{HoldsBeginning};
 ghost use Rattle.devices.specs.Source.{Gives, GivesWhole};
-ghost use Rattle.playing.specs.Plays.{IsCaused, Plays, failures_of};
+ghost use Rattle.playing.specs.Plays.{IsCaused, OnRead, Plays, failures_of};
 ghost use Rattle.world_runs.specs.Played as turns;
 ghost use Rattle.monitor_runs.specs.ThreadRun as threads;
 
@@ -26,6 +26,7 @@ pub fn play_turns<S: Source, K: Sink>(
     sink: &mut K,
 ) -> Result<Verdict, PlayFault>
     ensures read { (text : List ℕ) × Gives S.gives source.old text source.new }
+    ensures ends { OnRead result (S.is_ended source.new) }
     ensures played { IfOk result (λ verdict. (text : List ℕ) × (K.taken sink.new ≡ K.taken sink.old ++ text)
         × Appends (K.contents sink.old) (K.contents sink.new) text
         × Plays turns.IsPrinted (GivesWhole S.gives (S.left source.old) source.old source.new) verdict text) }
@@ -55,6 +56,7 @@ pub fn play_threads<R: Threads + Wait + Sync, S: Source, K: Sink>(
     sink: &mut K,
 ) -> Result<Verdict, PlayFault>
     ensures read { (text : List ℕ) × Gives S.gives source.old text source.new }
+    ensures ends { OnRead result (S.is_ended source.new) }
     ensures played { IfOk result (λ verdict. (text : List ℕ) × (K.taken sink.new ≡ K.taken sink.old ++ text)
         × Appends (K.contents sink.old) (K.contents sink.new) text
         × Plays threads.IsPrinted (GivesWhole S.gives (S.left source.old) source.old source.new) verdict text) }

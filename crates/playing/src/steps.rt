@@ -4,7 +4,7 @@ ghost use Rattle.std.specs.Prelude.{◌≡◌, ◌≢◌, ◌⊎◌, ◌+◌, �
 ghost use Rattle.std.specs.Io.KnownBytes.{Appends};
 ghost use Rattle.devices.specs.Sink.{HoldsBeginning};
 ghost use Rattle.devices.specs.Source.{Gives, GivesWhole};
-ghost use Rattle.playing.specs.Plays.{IsCaused, IsStated, failures_of};
+ghost use Rattle.playing.specs.Plays.{IsCaused, IsStated, OnRead, failures_of};
 
 use crate::fault::PlayFault;
 use devices::{Sink, Source, read_text, write_whole};
@@ -15,6 +15,7 @@ use std::alloc::Global;
 /// Reads a source to its end, and then the scenario that its bytes state.
 pub(crate) fn scenario_from<S: Source>(alloc: Global, source: &mut S) -> Result<Scenario, PlayFault>
     ensures read { (text : List ℕ) × Gives S.gives source.old text source.new }
+    ensures ends { OnRead result (S.is_ended source.new) }
     ensures stated { IfOk result (λ scenario. IsStated (GivesWhole S.gives (S.left source.old) source.old source.new) scenario) }
     ensures caused { IfErr result (IsCaused (GivesWhole S.gives (S.left source.old) source.old source.new)) }
     ensures failures { S.failures source.new ≡ S.failures source.old + (failures_of result).source }

@@ -2,8 +2,7 @@
 //! It promises that a file is read exactly: what is answered is the scenario that the bytes state, or the first fault that they
 //! have, and memory may be refused where they are text that isn't blank.
 //! What a file has to be is in `specs/ScenarioText.antt` here, and in `specs/Scenario.antt` and `specs/ScenarioKeys.antt` of `rmm_spec`.
-//! Nothing here waits, and nothing is read but the bytes that are given.
-//! What plays a scenario depends on it, and what reports one, which asks for its parts.
+//! Nothing here waits. What plays a scenario depends on it, and what reports one, which asks for its parts.
 #![tactic(auto)]
 
 mod fault;

@@ -2,7 +2,7 @@
 //! It promises that the texts are those of a world to which the listed turns lead, and after them turns of all CPUs in a ring,
 //! up to the limit or until all stand still; and that the verdict on them is yes.
 //! A run that is refused memory appends nothing. Nothing here waits.
-//! The program is to depend on it.
+//! `playing` depends on it.
 #![tactic(auto)]
 
 mod playing;

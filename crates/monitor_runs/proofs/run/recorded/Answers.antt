@@ -2,8 +2,9 @@ use Rattle.std.proofs.Common.{◌≡◌, ℕ, ◌<◌, Some, ap, sym, ◌∙◌,
 use Rattle.std.specs.Prelude.{slice_get}
 use Rattle.std.proofs.lemmas.Result.{err_from_is_err_and}
 use Rattle.rmm_spec.specs.HistoryText.{Config, History}
+use Rattle.commit_tickets.specs.View.{first_tokens}
 use Rattle.event_queue.specs.View.{before_calls}
-use Rattle.monitor_runs.proofs.Closed.{IsThreadRun-from}
+use Rattle.monitor_runs.proofs.Closed.{IsThreadRun-from, MayDisagree-from}
 use Rattle.monitor_runs.proofs.Waiting.{waiting-all, worked-cpus, worked-room}
 use Rattle.monitor_runs.proofs.run.recorded.Goals as goal
 
@@ -17,7 +18,7 @@ work_all-requires-clause-waiting g c κs within =
     c.in_ok-monitor.ensures.passes in (
       waiting-all monitor scenario c.in_ok-programs.programs.items c.in_ok-monitor.tokens.items c.in_ok-monitor.passes.items c.requires.limits
           (c.in_ok-monitor.ensures.config ∙ c.requires.config) (c.in_ok-programs.ensures ∙ c.programs.ensures.programs) c.in_ok-monitor.ensures.cpus
-          (c.in_ok-monitor.ensures.count ∙ sym size) before,
+          (c.in_ok-monitor.ensures.tokens ∙ ap first_tokens (sym size)) (c.in_ok-monitor.ensures.count ∙ sym size) before,
       c.in_ok-monitor.ensures.cpus.count,
     )
 
@@ -44,6 +45,12 @@ pub returns-in-Ok-clause-ran : goal.returns-in-Ok-clause-ran
 returns-in-Ok-clause-ran g c =
     let same = ap (λ (h : History). h.config) c.in-Ok.ensures.history.1 ∙ c.in_ok-ended.ensures.same_config
     ∙ ap (λ (h : History). h.config) c.new-history.ensures ∙ c.requires.config in
-    IsThreadRun-from c.in_ok-monitor.monitor c.args.scenario.now c.in_ok-ended.ended.tokens.items
-    c.in_ok-ended.ended.passes.items c.in-Ok.closed.0.recorded c.in-Ok.closed.1.lines (c.in_ok-monitor.ensures.config ∙ c.requires.config) same c.in_ok-ended.ensures.worked
-    c.in-Ok.ensures.whole c.in-Ok.ensures.certificate
+    IsThreadRun-from c.in_ok-monitor.monitor c.args.scenario.now c.in_ok-ended.ended.tokens.items c.in_ok-ended.ended.passes.items
+    c.in-Ok.closed.0.recorded c.in-Ok.closed.1.lines (c.in_ok-monitor.ensures.config ∙ c.requires.config)
+    (c.in_ok-monitor.ensures.capacity ∙ c.queue.ensures.room) same c.in_ok-ended.ensures.worked c.in-Ok.ensures.whole c.in-Ok.ensures.certificate
+
+pub returns-in-Err-Disagrees-clause-disagrees : goal.returns-in-Err-Disagrees-clause-disagrees
+returns-in-Err-Disagrees-clause-disagrees g c = λ _.
+    MayDisagree-from c.in_ok-monitor.monitor c.args.scenario.now c.in_ok-ended.ended.tokens.items c.in_ok-ended.ended.passes.items
+    (c.in_ok-monitor.ensures.config ∙ c.requires.config) (c.in_ok-monitor.ensures.capacity ∙ c.queue.ensures.room) c.in_ok-ended.ensures.worked
+    (c.in-Err-Disagrees.ensures.cause c.in-Err-Disagrees.field-0-is)

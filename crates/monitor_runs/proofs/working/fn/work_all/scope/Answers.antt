@@ -27,8 +27,10 @@ loop-cpu-preserved g c =
     let is_program = ap (λ (p : Works g.row.S.Denot). p.program.value.items) promise ∙ ap (λ (v : Vec Command Global). v.items) c.of.ensures ∙ last.same_program in (
       last.others,
       is_left,
-      All-same Holds _ _ c.in-Ok.ensures.items
+      All-same Holds _ _ c.push_reserved.ensures.items
           (All-push Holds c.loop-cpu.workers.items worker c.loop-cpu.invariant.2 (ap (λ (p : Works g.row.S.Denot). p.monitor.now) promise)),
-      ap (map view) c.in-Ok.ensures.items
+      ap (map view) c.push_reserved.ensures.items
           ∙ promised-push view programs cpus count left c.loop-cpu.workers.items worker c.loop-cpu.invariant.3 is_left is_cpu is_program,
+      omega (arith, c.push_reserved.ensures.len, c.loop-cpu.invariant.4),
+      omega (arith, c.push_reserved.ensures.capacity, c.loop-cpu.invariant.5),
     )

@@ -1,4 +1,4 @@
-use Rattle.std.proofs.Common.{◌≡◌, ◌-◌, length, map}
+use Rattle.std.proofs.Common.{◌≡◌, ◌≤◌, ◌-◌, length, map, vec_len, vec_capacity}
 use Rattle.std.specs.Prelude.{All}
 use Rattle.monitor_runs.specs.Worked.{AreWaiting, promised}
 use Rattle.monitor_runs.proofs.working.fn.work_all.scope.Given as goal
@@ -10,3 +10,4 @@ invariant-loop-cpu g l =
     × All (λ worker. worker.promise.monitor.now ≡ l.monitor.now) l.workers.items
     × (map (λ worker. (worker.promise.cpu, worker.promise.program.value.items)) l.workers.items
     ≡ promised l.scenario.programs l.monitor.now.config.cpus l._cpu)
+    × (vec_len l.workers ≡ l._cpu) × (l.monitor.now.config.cpus ≤ vec_capacity l.workers)
