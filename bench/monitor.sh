@@ -1,7 +1,7 @@
 #!/usr/bin/env bash
 # Commands a second that a monitor executes for 1, 2 and 4 CPUs on threads of their own, over granules of their own and over
-# granules that they share, and with pages in realms of their own and in one for all; and the same commands with one lock around each. Each is the best of three runs of so many rounds
-# (30 unless told), by the clock.
+# granules that they share, and with pages in realms of their own and in one for all; and the same commands with one lock around
+# each. Each is the best of three runs of so many rounds (30 unless told), by the clock.
 set -euo pipefail
 cd "$(dirname "$0")/../crates/monitor_bench"
 rounds=${1:-30}

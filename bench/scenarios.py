@@ -40,7 +40,7 @@ def main():
     parser = argparse.ArgumentParser(usage=__doc__)
     parser.add_argument("--crates", default=os.path.join(os.path.dirname(HERE), "crates"))
     program = os.path.join(parser.parse_args().crates, "rmmcheck", "out", "rmmcheck")
-    print("| | CPUs | Granules | File | Time | Processors | Peak memory | Verdict |\n|---|---|---|---|---|---|---|---|")
+    print("| | CPUs | Granules | File | By the clock | Processor time | Peak memory | Verdict |\n|---|---|---|---|---|---|---|---|")
     with tempfile.TemporaryDirectory() as folder:
         file, printed = os.path.join(folder, "scenario.toml"), os.path.join(folder, "printed")
         for subcommand, counts, is_shared, is_listed in ROWS:

@@ -1,5 +1,5 @@
 #!/usr/bin/env python3
-"""Times `rmmcheck check` beside `wc -l` of the same two files in the same run, and prints the tables of docs/SPEED.md.
+"""Times `rmmcheck check` beside `wc -l` of the same two files in the same run, and prints the first table of docs/SPEED.md.
 
 usage: speed.py [--load LOAD] [LINES ..]
 
