@@ -16,7 +16,12 @@ use std::thread::Threads;
 use std::time::Clock;
 
 /// What `gate` runs, in turn.
-const GATE: [&str; 3] = ["measure words 1000", "walk 2", "queue queue 2 0"];
+const GATE: [&str; 4] = [
+    "measure words 1000",
+    "walk 2",
+    "queue queue 2",
+    "queue mutex 2",
+];
 
 fn main(rt: HostRuntime) -> Result<()> {
     let given: Vec<String> = env::args(&rt)?.collect(rt.alloc())?;
@@ -34,8 +39,15 @@ fn run<R: Print + Threads + Wait + Clock + Sync>(
     match words {
         ["measure", kind, count] => measures::extend(rt, kind, number(count)?),
         ["walk", rounds] => walks::walk_all(rt, alloc, number(rounds)?),
+        ["queue", kind, producers] => {
+            let timing = queues::timed(rt, alloc, kind, number(producers)?, 1)?;
+            println!(rt; "{}", timing.count)?;
+            Ok(())
+        }
         ["queue", kind, producers, rounds] => {
-            queues::time_rounds(rt, alloc, kind, number(producers)?, number(rounds)?)
+            let timing = queues::timed(rt, alloc, kind, number(producers)?, number(rounds)?)?;
+            timing.print(rt)?;
+            Ok(())
         }
         _ => bail!("measure, walk, queue or gate, and its words?"),
     }

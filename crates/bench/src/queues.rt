@@ -22,14 +22,14 @@ const REPLY: &str = "ok";
 /// How often a producer calls and returns in a round.
 const CALLS: u32 = 8000;
 
-/// Prints how many events came through in so many rounds, and in how many nanoseconds. Nothing is timed but the threads.
-pub(crate) fn time_rounds<R: Print + Threads + Wait + Clock + Sync>(
+/// How many events came through in so many rounds, and in what time. Nothing is timed but the threads.
+pub(crate) fn timed<R: Threads + Wait + Clock + Sync>(
     rt: &R,
     alloc: Global,
     kind: &str,
     producers: u64,
     rounds: u64,
-) -> Result<()> {
+) -> Result<Timing> {
     let is_locked = match kind {
         "queue" => false,
         "mutex" => true,
@@ -45,6 +45,5 @@ pub(crate) fn time_rounds<R: Print + Threads + Wait + Clock + Sync>(
         };
         timing = timing.and(taken);
     }
-    timing.print(rt)?;
-    Ok(())
+    Ok(timing)
 }

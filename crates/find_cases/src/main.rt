@@ -8,8 +8,8 @@
 use anyhow::{Context, Result, bail};
 use checker::{judged_order, verdict_text};
 use finding::{Found, find};
-use history::HistoryFault;
-use std::alloc::Global;
+use history::{History, HistoryFault};
+use std::alloc::{AllocError, Global};
 use std::fs;
 use std::rt::Files;
 
@@ -37,6 +37,11 @@ fn files<R: Files + AllocGlobal + Clone + Drop>(rt: &R) -> Result<Vec<String>> {
     Ok(names)
 }
 
+// Whether a search that may make no offer gives up, as it has to.
+fn gives_up(alloc: Global, history: &History) -> Result<bool, AllocError> {
+    Ok(matches!(find(alloc, history, 0)?, Found::GaveUp(_)))
+}
+
 // The verdict on the order that is found, or that there is none.
 fn outcome(alloc: Global, bytes: &[u8]) -> Result<String> {
     let history = match history::read(alloc, bytes) {
@@ -44,6 +49,9 @@ fn outcome(alloc: Global, bytes: &[u8]) -> Result<String> {
         Err(HistoryFault::BadLine(line)) => return Ok(format!(in alloc; "fault history {line}")?),
         Err(HistoryFault::NoMemory) => bail!("no memory"),
     };
+    if !gives_up(alloc, &history)? {
+        bail!("an answer without an offer");
+    }
     match find(alloc, &history, OFFERS)? {
         Found::Order(order) => {
             let mut line = Vec::new(alloc);

@@ -62,7 +62,7 @@ pub fn outcome<T: Threads + Wait + Sync>(
     Ok(format!(in alloc; "{status}|{printed}|{told}")?)
 }
 
-// Each line is words that the program refuses; the first has none.
+// Each line is words that the program refuses; the first has none, and no name of the program either.
 const REFUSED: &str = "
 rmmcheck
 rmmcheck check

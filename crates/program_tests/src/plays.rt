@@ -2,6 +2,7 @@
 
 use crate::outcomes::{file, file_too_large, outcome, runtime};
 use crate::runtime::TestFile;
+use std::alloc::Global;
 use std::process::Abort;
 use std::sync::Wait;
 use std::test::Fail;
@@ -48,6 +49,17 @@ const NO_WORD: &[u8] = b"granules = 4\ncpus = 1\nprograms = [[\"c4000151\"]]\n";
 
 const NO_SUCH_CPU: &[u8] = b"granules = 4\ncpus = 2\nprograms = [[], []]\nturns = [\"2\"]\n";
 
+// A scenario of so many commands on CPU 0 and one on CPU 1, of which one turn is played.
+fn long_scenario(alloc: Global, count: u32) -> Result<&'static [u8], Fail> {
+    let mut text = Vec::new(alloc);
+    text.extend_from_slice(b"granules = 4\ncpus = 2\nlimit = 1\nprograms = [[")?;
+    for _command in 0..count {
+        text.extend_from_slice(b"\"c4000151 1000\",")?;
+    }
+    text.extend_from_slice(b"], [\"c4000151 1000\"]]\n")?;
+    Ok(text.leak())
+}
+
 // What the program ends with where it is asked to play this file.
 fn played<R: Abort + AllocGlobal + Threads + Wait + Sync>(
     rt: &R,
@@ -82,6 +94,19 @@ fn run_in_turns_is_printed(rt: HostRuntime) -> Result<(), Fail> {
     let text = played(&rt, "rmmcheck run s", file(STOPPED, 100), false)?;
     assert!(rt; text.as_str() == RUN_OF_STOPPED, "{text}");
     Ok(())
+}
+
+// All programs together have at most 499,999 commands.
+#[test]
+fn most_commands_of_a_scenario(rt: HostRuntime) -> Result<(), Fail> {
+    let most = file(long_scenario(rt.alloc(), 499_998)?, 2_000_000);
+    let text = played(&rt, "rmmcheck run s", most, false)?;
+    assert!(rt;
+        text.as_str() == "0|rmh1 4 2\nc 0 0 c4000151 1000\n\n\nyes 0\n|",
+        "{text}"
+    );
+    let too_many = file(long_scenario(rt.alloc(), 499_999)?, 2_000_000);
+    expect_fault(&rt, too_many, false, "2||rmmcheck: scenario 3\n")
 }
 
 // The turns of a scenario aren't used on threads, so that no CPU stops.

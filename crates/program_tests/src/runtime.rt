@@ -79,7 +79,7 @@ impl OpenFile for TestFile {
 #[derive(Drop)]
 pub struct TestRuntime {
     pub alloc: Global,
-    /// The program's name and its words, with a space between each two.
+    /// The program's name and its words, with a space between each two. Where this is empty there isn't even a name.
     pub words: &'static str,
     pub history: Option<TestFile>,
     pub certificate: Option<TestFile>,
@@ -142,6 +142,9 @@ impl Eprint for TestRuntime {
 
 impl Env for TestRuntime {
     fn arg(&self, i: usize, buf: &mut [u8]) -> Result<usize, FillError> {
+        if self.words.is_empty() {
+            return Err(FillError::NotPresent);
+        }
         let word = self
             .words
             .split(' ')

@@ -1,5 +1,6 @@
 //! Plays each scenario of the folder where it runs, and prints its name with what comes of it: the last line of its run, or
-//! the report of its fault. What should come of it stands in the file `stdout` beside this crate, and was worked out by hand.
+//! the report of its fault. What should come of it stands in the file `stdout` beside this crate, and was worked out by hand;
+//! but what is said of a file that is no TOML are the words of the crate `toml`.
 //! It reads every `.toml` there in the order of their names; no clause says more than that it is safe.
 //! It depends on the crates that read, play and report scenarios, and nothing depends on it.
 #![tactic(auto)]

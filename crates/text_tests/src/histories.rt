@@ -84,16 +84,24 @@ fn push_in_room(history: &mut History, event: Event) -> Result<bool, Fail> {
     }
 }
 
-// An allocation may be refused in `make_room`, and never in the push after it.
+// Whether each of four events is pushed, where an allocation may be refused once.
+fn push_round(history: &mut History, number: u32) -> Result<bool, Fail> {
+    for nth in 0..4 {
+        let is_pushed = push_in_room(history, nth_event(nth, number)?)?
+            || push_in_room(history, nth_event(nth, number)?)?;
+        if !is_pushed {
+            return Ok(false);
+        }
+    }
+    Ok(true)
+}
+
+// One allocation may be refused in `make_room`, and none in the push after it.
 #[test]
 fn push_after_make_room_is_never_refused(rt: HostRuntime) -> Result<(), Fail> {
     let mut history = empty(rt.alloc(), 4, 2)?;
     for number in 0..9 {
-        for nth in 0..4 {
-            if !push_in_room(&mut history, nth_event(nth, number)?)? {
-                return Ok(());
-            }
-        }
+        assert!(rt; push_round(&mut history, number)?);
     }
     assert!(rt; history.len() == 36);
     Ok(())

@@ -10,10 +10,11 @@ use std::test::Fail;
 const HISTORIES: &[u8] =
     b"0rmh1 4096 8\nc 7 0 c4000151 fff000\nc 0 0 c4000152 ffffffffffffffff\nr 7 0 ok 0 a\nr 0 0 err 255 10\n\
       |0rmh1 4 1\n|1|1\n|1rmh1 4 1|1rmh1 4 1\r\n|1\0rmh1 4 1\n|2rmh1 4 1\n\n|2rmh1 4 1\n\0|2rmh1 4 1\nc 0 0 c4000151 1000\
+      |2rmh1 4 1\n\xff\n|1\xef\xbb\xbfrmh1 4 1\n\
       |2rmh1 4 1\nc 0 0 c4000151 1000\0\n|4rmh1 4 1\nc 0 0 c4000151 1000\nr 0 0 ok\nr 0 1 ok\nc 0 1 c4000151 1000\n";
 
 const CERTIFICATES: &[u8] = b"0k 7 999999\nu 0 10 ok ffffffffffffffff\nk 1 0\nu 3 1 misplaced\n\
-      |0|1\n|1k 0 0|1k 8 0\n|1k 0 0\r\n|1\0|2k 0 0\n\0\n|2k 0 0\nk 0 00\nk 0 1\n|3k 1 0\nk 1 1\nu 0 0 ok 1|2k 1 0\nu 0 0 ok 1 \n";
+      |0|1\n|1k 0 0|1k 8 0\n|1k 0 0\r\n|1\0|2k 0 0\n\0\n|2k 0 0\n\xff\n|2k 0 0\nk 0 00\nk 0 1\n|3k 1 0\nk 1 1\nu 0 0 ok 1|2k 1 0\nu 0 0 ok 1 \n";
 
 fn bad_line_of_history(read: Result<History, HistoryFault>) -> Result<u64, Fail> {
     match read {

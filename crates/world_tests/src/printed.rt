@@ -91,6 +91,15 @@ fn stopped_with_a_lock(rt: HostRuntime) -> Result<(), Fail> {
     Ok(())
 }
 
+// Who gives up calls no more and changes nothing.
+#[test]
+fn given_up_with_a_lock(rt: HostRuntime) -> Result<(), Fail> {
+    let out = printed(rt.alloc(), 4, BOTH, "0 0 0g", LIMIT)?;
+    let text = b">rmh1 4 2\nc 0 0 c4000151 1000\nc 1 0 c4000151 1000\nr 1 0 ok\n\nk 1 0\n\nyes 1\n";
+    assert!(rt; out.as_slice() == text.as_slice());
+    Ok(())
+}
+
 // The limit cuts the listed turns and the ring alike.
 #[test]
 fn limit_ends_a_run(rt: HostRuntime) -> Result<(), Fail> {

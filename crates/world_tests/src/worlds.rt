@@ -1,11 +1,12 @@
 //! Worlds that turn, with the texts of their runs.
 //! A step of a script is a CPU and what its next turn reports: `c` that it called, `t` took, `k` committed, `f` freed, `r`
-//! returned, `s` stopped, as it was told, `i` that it idled, or the number of the granule by which it was blocked. With a
-//! number behind it, the CPU goes on until it has reported that so often.
+//! returned, `g` gave up or `s` stopped, as it was told, `i` that it idled, or the number of the granule by which it was
+//! blocked. With a number behind it, the CPU goes on until it has reported that so often.
 
 use granule_state::Config;
 use rmi_codec::read_command;
 use rmm_spec::Command;
+use scenario::is_scenario;
 use std::alloc::Global;
 use std::process::Abort;
 use std::test::Fail;
@@ -77,7 +78,11 @@ fn go_until(
     times: u8,
     turns: u8,
 ) -> Result<(), Fail> {
-    let will = if report == b's' { Will::Stop } else { Will::Go };
+    let will = match report {
+        b'g' => Will::GiveUp,
+        b's' => Will::Stop,
+        _ => Will::Go,
+    };
     let mut left = times;
     for _turn in 0..turns {
         if turn(world, alloc, cpu, will)? == report {
@@ -164,6 +169,38 @@ fn stopped_with_a_lock(rt: HostRuntime) -> Result<(), Fail> {
 }
 
 #[test]
+fn given_up_with_a_lock(rt: HostRuntime) -> Result<(), Fail> {
+    let world = two_cpus(rt.alloc(), 4, "c4000151 1000\n", "c4000151 1000\n")?;
+    expect_run(
+        &rt,
+        world,
+        "0c 0t 1c 11 0g 0i 1t 1k 1f 1r 0i 1i",
+        "rmh1 4 2\nc 0 0 c4000151 1000\nc 1 0 c4000151 1000\nr 1 0 ok\n",
+        "k 1 0\n",
+    )
+}
+
+// Whether CPU 1 alone waits, and for the granule 1000.
+fn waits_for_a_granule(world: &World) -> bool {
+    if world.config().cpus() < 2 || world.waits(0).is_some() {
+        return false;
+    }
+    matches!(world.waits(1), Some(granule) if granule.address() == 0x1000)
+}
+
+#[test]
+fn waits_until_the_lock_is_free(rt: HostRuntime) -> Result<(), Fail> {
+    let mut world = two_cpus(rt.alloc(), 4, "c4000151 1000\n", "c4000151 1000\n")?;
+    play(&mut world, rt.alloc(), "0c 0t 1c")?;
+    assert!(rt; !waits_for_a_granule(&world));
+    play(&mut world, rt.alloc(), "11 0g")?;
+    assert!(rt; waits_for_a_granule(&world));
+    play(&mut world, rt.alloc(), "1t")?;
+    assert!(rt; !waits_for_a_granule(&world));
+    Ok(())
+}
+
+#[test]
 fn destroyed_between_an_enters_takes(rt: HostRuntime) -> Result<(), Fail> {
     let first = "c4000151 1000\nc4000151 2000\nc4000151 5000\nc4000151 6000\nc4000151 7000\n\
         c4000158 1000 2000 27 1 1 0\nc400015a 1000 5000 0 1 6000 7000\nc4000157 1000\nc400015c 5000\n";
@@ -218,5 +255,34 @@ fn opens_a_program_a_cpu(rt: HostRuntime) -> Result<(), Fail> {
     let world = opened(rt.alloc(), &config, programs)?;
     assert!(rt; world.history(rt.alloc())?.is_empty() && world.certificate(rt.alloc())?.is_empty());
     assert!(rt; world.config().cpus() > 0 && world.waits(0).is_none());
+    Ok(())
+}
+
+fn long_program(alloc: Global, count: u32) -> Result<Vec<Command>, Fail> {
+    let mut commands = Vec::new(alloc);
+    for _command in 0..count {
+        commands.push(read_command("c4000151 1000")?)?;
+    }
+    Ok(commands)
+}
+
+// Whether a world can be opened with two programs of so many commands, of which there can be a scenario too.
+fn are_taken(alloc: Global, first: u32, second: u32) -> Result<bool, Fail> {
+    let config = Config::new(4, 2).ok_or("no such machine")?;
+    let mut programs = Vec::new(alloc);
+    programs.push(long_program(alloc, first)?)?;
+    programs.push(long_program(alloc, second)?)?;
+    let is_taken = can_open(&config, &programs);
+    if is_scenario(&config, &programs, 1, &[], 1) != is_taken {
+        return Err(Fail::from("a world and a scenario that differ"));
+    }
+    Ok(is_taken)
+}
+
+// Of all programs together there are at most 499,999 commands, each of which has two lines behind a history's first.
+#[test]
+fn takes_as_many_commands_as_a_history_has_lines_for(rt: HostRuntime) -> Result<(), Fail> {
+    assert!(rt; are_taken(rt.alloc(), 249_999, 250_000)?);
+    assert!(rt; !are_taken(rt.alloc(), 250_000, 250_000)?);
     Ok(())
 }
