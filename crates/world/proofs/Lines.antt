@@ -41,7 +41,7 @@ module _ (config : Config) (w : World) (waits : ℕ → Option ℕ) (reached : �
   known-reached place c at unknown = ∥∥₁_elim reached (λ x y. absurd x) (λ (r : IsReached config w waits).
       let moves = moves_of_turns (opening_world config r.programs) r.turns w r.run in
       let accounted = IsAccounted-HappenAll (opening_world config r.programs) moves.0 w (IsAccounted-opening config r.programs) moves.1 in
-      let called = accounted.recorded.called place c at in unknown (called.0, c.command, called.1))
+      let called = accounted.recorded.commits.called place c at in unknown (called.0, c.command, called.1))
 
   -- its certificate is in the grammar
   certificate-reached : IsConfig config → IsCertificate (certificate_of w)
