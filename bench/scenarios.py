@@ -1,5 +1,5 @@
 #!/usr/bin/env python3
-"""Times `rmmcheck run` over a million turns and `rmmcheck threads` with 100,000 commands a CPU, and prints a table of bench/README.md.
+"""Times `rmmcheck run` over a million turns and `rmmcheck threads` with 100,000 commands a CPU, and prints a table of docs/SPEED.md.
 
 usage: scenarios.py [--crates FOLDER]
 

@@ -1,9 +1,9 @@
-//! Which part of a line is the first wrong one, and what could stand there, for the lines of histories and certificates and for
+//! Which field of a line is the first wrong one, and what was expected there, for the lines of histories and certificates and for
 //! the texts of commands.
-//! It promises that what is told as possible at a place is exactly what some line of the grammar has there behind the same
-//! parts, and that the line has none of it: see `specs/Wrong.antt`.
-//! A line is read part by part, and nothing is allocated.
-//! What explains a bad line, or a scenario's bad command, depends on it.
+//! It promises that what is reported as expected at a place is exactly what some line of the grammar has there after the same
+//! fields, and that the line has none of it: see `specs/Wrong.antt`.
+//! A line is read field by field, and nothing is allocated.
+//! What explains a malformed line, or a scenario's bad command, depends on it.
 #![tactic(auto)]
 
 mod lines;

@@ -42,10 +42,10 @@ impl fmt::Display for WrongPart<'_> {
         match self.part {
             Some(part) => {
                 let part = Shown(part);
-                write!(f, "wrong: part {number}, \"{part}\"\n")?;
+                write!(f, "wrong: field {number}, \"{part}\"\n")?;
             }
-            None => write!(f, "wrong: the line ends before part {number}\n")?,
+            None => write!(f, "wrong: the line ends before field {number}\n")?,
         }
-        write!(f, "there could stand: {wanted}\n")
+        write!(f, "expected: {wanted}\n")
     }
 }

@@ -1,4 +1,4 @@
-//! Times measurements, walks in a realm's tables, and events on their way through a queue. `bench/README.md` has its words.
+//! Times measurements, walks in a realm's tables, and events on their way through a queue. `docs/SPEED.md` has its arguments.
 //! It prints counts and times, which no proof speaks of. `bench gate` runs some of each, of which the lines that it prints are known.
 //! It depends on `measure`, `rtt_walk` and `event_queue`. Nothing depends on it: the scripts in `bench` run it.
 #![tactic(auto)]

@@ -9,8 +9,9 @@ ghost use Rattle.rtt_walk.specs.Plain.{cells_from};
 use anyhow::{Context, Result, bail};
 use granule_state::{Config, GRANULE_BYTES, Ipa, Pa};
 use rtt_table::{Entry, Place, Ripas, Table};
-use rtt_walk::{PlainCells, is_walkable, walk};
+use rtt_walk::walk;
 use std::alloc::{AllocError, Global};
+use walk_tests::{PlainCells, is_walkable};
 
 const ROOT: u64 = 1;
 

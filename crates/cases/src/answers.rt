@@ -77,7 +77,7 @@ pub(crate) fn page_has(
 ) -> Result<String> {
     let told = explain_run(alloc, history.as_bytes(), certificate.as_bytes())?;
     let mut page = Vec::new(alloc);
-    append_page(alloc, &told, &mut page)?;
+    append_page(alloc, &told, b"", &mut page)?;
     let page = String::from_utf8(page)?;
     let answer = if page.as_str().contains(piece) {
         "shown\n"

@@ -7,9 +7,14 @@ ghost use Rattle.certificate.specs.Spelling.{IsLineOf, IsNoLine};
 ghost use Rattle.rmm_spec.specs.CertificateText.{IsLine, line_parts};
 ghost use Rattle.rmm_spec.specs.Text.{line_text, parts_of};
 
-use crate::line::{CALLS, CPUS};
 use rmi_codec::{Head, Parts, head_at, head_from, reply_from};
 use rmm_spec::Line;
+
+// How many CPUs a line can name.
+const CPUS: u8 = 8;
+
+// How many calls of a CPU a line can name.
+const CALLS: u32 = 1_000_000;
 
 /// The line that the bytes spell, where they spell one. The words of a reply are read to the buffer.
 pub(crate) fn line_from(words: &mut [u64; 10], bytes: &[u8]) -> Option<Line>

@@ -126,14 +126,14 @@ IsReady-from_due replay history line cpu called given due before progress comman
 -- a line that is due is refused memory where its call's command needs it
 pub IsRefusedMemory-due : (replay : Replay) (history : History) (line : Line) (cpu called : ℕ) (given : Reply) → IsDue replay history line cpu called given
     → (command : Command) → (c : ℕ) × (n : ℕ) × IsCalled history.events called c n command
-    → NeedsMemory replay cpu command → IsRefusedMemory replay history line
+    → NeedsMemory replay cpu command given → IsRefusedMemory replay history line
 IsRefusedMemory-due replay history line cpu called given due command made needs = record {
   place = called;
   command = command;
   given = given;
   is_called = told_at_call history.events called (cpu_named line) (number_named line) command due.is_called made;
   due = subst (λ (x : ℕ). IsDue replay history line x called given) (sym due.of_cpu) due;
-  needs = subst (λ (x : ℕ). NeedsMemory replay x command) (sym due.of_cpu) needs;
+  needs = subst (λ (x : ℕ). NeedsMemory replay x command given) (sym due.of_cpu) needs;
 }
 
 -- what is said of None

@@ -7,8 +7,8 @@ pub mod Judging
 pub mod Scan
 pub mod Excludes
 pub mod Verdicts
-pub mod Beginnings
 pub mod SessionLaws
 pub mod Refusals
 pub mod Offers
 pub mod Cuts
+pub mod Decimals

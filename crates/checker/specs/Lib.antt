@@ -1,4 +1,5 @@
 pub mod Progress
+pub mod Offers
 pub mod Replay
 pub mod Judged
 pub mod Failure

@@ -6,6 +6,7 @@ use Rattle.rmm_spec.specs.declared.reply.Reply.{Reply}
 use Rattle.rmm_spec.specs.declared.verdict.Reason.{Reason}
 use Rattle.rmm_spec.specs.Call.{call_of}
 use Rattle.rmm_spec.specs.HistoryText.{History}
+use Rattle.rmm_spec.specs.State.{State}
 use Rattle.rmm_spec.specs.Step.{Step, outcome}
 use Rattle.rmm_spec.specs.Linearization.{IsCalled, IsOfItsKind, IsReplyOf, IsTooLate, cpu_named, number_named}
 use Rattle.rmm_spec.specs.FirstFault.{FailsBy}
@@ -24,10 +25,11 @@ pub record Commits (old new : Replay) (cpu called : ℕ) (command : Command) (gi
   pub named : new.named.items ≡ slice_set old.named.items called true
   pub latest : new.latest ≡ max old.latest called
 
--- the CPU's command makes a table, and the machine accepts it: what alone takes memory
-pub record NeedsMemory (replay : Replay) (cpu : ℕ) (command : Command) : Type 0 where
+-- the CPU's command makes a table, and the machine accepts it and gives the reply: what alone takes memory
+pub record NeedsMemory (replay : Replay) (cpu : ℕ) (command : Command) (given : Reply) : Type 0 where
   pub makes : IsTrue (makes_table command.function)
   pub accepted : IsOk (outcome (state_of replay.machine) cpu (call_of command))
+  pub is_given : (next : State) × Step (state_of replay.machine) cpu command given next
 
 -- after lines that pass, the line passes too, or fails by the reason
 abbrev pub JudgesLine : Option Reason → Replay → Replay → History → Line → Type 0
@@ -43,14 +45,14 @@ pub record IsDue (replay : Replay) (history : History) (line : Line) (cpu called
   pub in_time : (before : List Line) → IsReplayOf replay history before → ¬ IsTooLate history.events before line
   pub is_given : IsReplyOf history.events line given
 
--- the line is due, and its call's command needs memory
+-- the line is due, and to take the reply that it claims needs memory
 pub record IsRefusedMemory (replay : Replay) (history : History) (line : Line) : Type 0 where
   pub place : ℕ
   pub command : Command
   pub given : Reply
   pub is_called : IsCalled history.events place (cpu_named line) (number_named line) command
   pub due : IsDue replay history line (cpu_named line) place given
-  pub needs : NeedsMemory replay (cpu_named line) command
+  pub needs : NeedsMemory replay (cpu_named line) command given
 
 -- after lines that pass, a line is refused memory
 pub record RefusesMemory (history : History) (lines : List Line) : Type 0 where

@@ -1,9 +1,7 @@
 -- What a session has judged of the bytes that it was given.
-use Rattle.std.specs.Prelude.{◌≡◌, ℕ, ◌≤◌, ⊤, List, [], ◌∷◌, ◌++◌, Option, Result, MatchResult}
+use Rattle.std.specs.Prelude.{◌≡◌, ℕ, List, [], ◌∷◌, ◌++◌, Option, Result, MatchResult}
 use Rattle.certificate.specs.Pieces.{Begun, IsReadTo}
 use Rattle.rmm_spec.specs.declared.line.Line.{Line}
-use Rattle.rmm_spec.specs.declared.verdict.Verdict.{Verdict}
-use Rattle.rmm_spec.specs.declared.verdict.Verdict.TheVariants as verdict
 use Rattle.rmm_spec.specs.CertificateText.{InCertificates, certificate_text}
 use Rattle.rmm_spec.specs.Text.{IsBadLine}
 use Rattle.checker.specs.Failure.{AreJudged}
@@ -43,10 +41,3 @@ pub record IsRefusedIn (session : Session) (piece : List ℕ) : Type 0 where
 -- how many offers a session has made to its machine
 abbrev pub offers_of : Session → ℕ
 offers_of session = session.replay.machine.offers
-
--- so many offers are at most one for each line up to the first that fails, or for each
-abbrev pub AreOffersFor : Verdict → ℕ → Type 0
-AreOffersFor (verdict.HistoryFault line) offers = ⊤
-AreOffersFor (verdict.CertificateFault line) offers = ⊤
-AreOffersFor (verdict.Yes count) offers = offers ≤ count
-AreOffersFor (verdict.No step why) offers = offers ≤ step

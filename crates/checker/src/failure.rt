@@ -6,7 +6,7 @@ ghost use Rattle.certificate.specs.LineRef.{line_seen};
 ghost use Rattle.certificate.specs.Pieces.{with_told};
 ghost use Rattle.rmm_spec.specs.Judgement.{JudgesOrder};
 ghost use Rattle.checker.specs.Failure.{AreJudged, IsRefusedNext};
-ghost use Rattle.checker.specs.Session.{AreOffersFor};
+ghost use Rattle.checker.specs.Offers.{AreOffersFor};
 
 use crate::order::verdict_at_end;
 use crate::replay::Replay;
@@ -24,6 +24,7 @@ pub(crate) struct Failure {
 
 /// Judges the next line, unless one before it fails.
 #[inline(always)]
+#[tactic(auto, using(std::proofs::lemmas::Grind::common_steps, crate::proofs::Offers::few_offers, crate::proofs::Offers::next_offers))]
 pub(crate) fn judge_line(
     replay: &mut Replay,
     failed: &mut Option<Failure>,

@@ -17,6 +17,6 @@ mod session;
 pub use judged::{JudgedOrder, judged_order};
 pub use judgement::check;
 pub use laws::check_pieces;
-pub use report::verdict_text;
+pub use report::{VerdictLine, verdict_text};
 pub use rmm_spec::{Reason, Verdict};
 pub use session::Session;

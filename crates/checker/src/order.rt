@@ -7,7 +7,7 @@ ghost use Rattle.rmm_spec.specs.Judgement.{JudgesOrder};
 ghost use Rattle.spec_machine.specs.View.{state_of};
 ghost use Rattle.checker.specs.Judged.{IsLeftBy};
 ghost use Rattle.checker.specs.Replay.{IsReplayOf, RefusesMemory};
-ghost use Rattle.checker.specs.Session.{AreOffersFor};
+ghost use Rattle.checker.specs.Offers.{AreOffersFor};
 
 use crate::replay::Replay;
 use certificate::{Certificate, MOST_LINES};
@@ -49,7 +49,7 @@ pub(crate) fn verdict_at_end(replay: &Replay, history: &History, lines: usize) -
         → JudgesOrder result history.now.recorded order }
     ensures left { (order : List Line) → lines ≡ length order → IsReplayOf replay.now history.now.recorded order
         → IsLeftBy result history.now.recorded order (state_of replay.now.machine) }
-    ensures offers { replay.now.machine.offers ≤ lines → AreOffersFor result replay.now.machine.offers }
+    ensures offers { replay.now.machine.offers ≡ lines → AreOffersFor result replay.now.machine.offers }
 {
     let lines = lines as u64;
     match replay.first_missing(history) {

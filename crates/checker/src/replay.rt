@@ -31,7 +31,9 @@ pub(crate) struct Replay {
 }
 
 impl Replay {
+    ghost use Rattle.checker.specs.Offers.{offers_after};
     ghost use Rattle.checker.specs.Replay.{IsReplayOf, Commits, IsDue, JudgesLine, NeedsMemory, IsRefusedMemory};
+    ghost use Rattle.spec_machine.specs.Offers.{one_more};
     ghost use Rattle.spec_machine.specs.View.{state_of};
 
     /// Before the first line.
@@ -49,7 +51,7 @@ impl Replay {
     }
 
     /// Replays the next line: nothing where it passes, else why it fails. Memory is refused only where the line's call makes a
-    /// table.
+    /// table and is given the line's reply.
     #[inline(always)]
     pub(crate) fn take_line(
         &mut self,
@@ -62,7 +64,7 @@ impl Replay {
         ensures kept { IfOk result (λ why. IfSome why (λ reason. state_of self.new.machine ≡ state_of self.old.machine)) }
         ensures refused { OnErr result (IsRefusedMemory self.old history.now.recorded (line_seen line.entry)) }
         ensures same_events { length self.new.named.items ≡ length self.old.named.items }
-        ensures offers { self.new.machine.offers ≤ self.old.machine.offers + 1 }
+        ensures offers { self.new.machine.offers ≡ offers_after result self.old.machine.offers }
     {
         let Some(places) = places_named(history, &line) else {
             return Ok(Some(Reason::Unknown));
@@ -110,7 +112,7 @@ impl Replay {
         ensures refused { OnErr result ((line : Line) → IsDue self.old history.now.recorded line cpu called (reply_seen reply.entry)
             → IsRefusedMemory self.old history.now.recorded line) }
         ensures same_events { length self.new.named.items ≡ length self.old.named.items }
-        ensures offers { self.new.machine.offers ≤ self.old.machine.offers + 1 }
+        ensures offers { self.new.machine.offers ≡ offers_after result self.old.machine.offers }
     {
         let Some(command) = history.command_at(called as usize) else {
             unreachable!()
@@ -132,9 +134,9 @@ impl Replay {
         ensures given { IfOk result (λ given. MatchBool given (Commits self.old self.new cpu called (command_seen command.entry) (reply_seen reply.entry))
             ((next : State) → ¬ Step (state_of self.old.machine) cpu (command_seen command.entry) (reply_seen reply.entry) next)) }
         ensures kept { IfOk result (λ given. given ≡ false → state_of self.new.machine ≡ state_of self.old.machine) }
-        ensures refused { OnErr result (NeedsMemory self.old cpu (command_seen command.entry)) }
+        ensures refused { OnErr result (NeedsMemory self.old cpu (command_seen command.entry) (reply_seen reply.entry)) }
         ensures same_events { length self.new.named.items ≡ length self.old.named.items }
-        ensures offers { self.new.machine.offers ≤ self.old.machine.offers + 1 }
+        ensures offers { self.new.machine.offers ≡ one_more self.old.machine.offers }
     {
         let given = self.machine.offer_seen(cpu, command, reply)?;
         if given {

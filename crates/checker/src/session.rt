@@ -26,7 +26,8 @@ pub struct Session {
 }
 
 impl Session {
-    ghost use Rattle.checker.specs.Session.{HasJudged, IsRefusedIn, AreOffersFor, offers_of};
+    ghost use Rattle.checker.specs.Offers.{AreOffersFor};
+    ghost use Rattle.checker.specs.Session.{HasJudged, IsRefusedIn, offers_of};
 
     /// No byte yet.
     pub fn new(alloc: Global, history: History) -> Result<Session, AllocError>
@@ -46,7 +47,8 @@ impl Session {
     }
 
     /// Judges the lines that end in the piece. A session that was refused memory has failed, and is refused it from then on.
-    /// Memory is first refused for a line behind lines that pass, whose command makes a table and is accepted by the machine.
+    /// Memory is first refused for a line behind lines that pass, whose command makes a table and is given the line's reply by
+    /// the machine.
     pub fn feed(&mut self, piece: &[u8]) -> Result<(), AllocError>
         ensures judged { OnOk result ((text : List ℕ) → HasJudged self.old text → HasJudged self.new (text ++ piece.now)) }
         ensures history { self.new.history.recorded ≡ self.old.history.recorded }
@@ -94,8 +96,8 @@ impl Session {
         Ok(())
     }
 
-    /// How many offers were made to the machine, up to the greatest number: at most one for each whole line, and none behind
-    /// the first line that fails.
+    /// How many offers were made to the machine: one for each line up to the first that fails, and for that line only where
+    /// the machine refuses its reply.
     pub fn offers(&self) -> u64
         ensures { result ≡ offers_of self.now }
     {

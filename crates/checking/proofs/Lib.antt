@@ -1,1 +1,3 @@
 mod HistoryTexts
+mod CertificateTexts
+mod Judged

@@ -1,8 +1,12 @@
 -- What a check ends with where one of its parts reports a fault, and what each fault says of the words.
-use Rattle.std.specs.Prelude.{◌≡◌, ◌≢◌, ◌⊎◌, ⊤, ℕ, List, [], ◌∷◌, length, Err, codes}
+use Rattle.std.specs.Prelude.{◌≡◌, ◌≢◌, ◌⊎◌, ⊤, ℕ, List, [], ◌∷◌, length, Result, Ok, Err, codes}
 use Rattle.std.specs.declared.io.ErrorKind.{ErrorKind}
 use Rattle.std.specs.declared.io.ErrorKind.TheVariants.{OutOfMemory}
+use Rattle.devices.specs.Sink.{Writing}
+use Rattle.devices.specs.Source.{Reading}
+use Rattle.rmm_spec.specs.declared.verdict.Verdict.{Verdict}
 use Rattle.checking.specs.Ending.{status_of, fault_line, fault_at}
+use Rattle.checking.specs.Judgement.{IsJudgement}
 use Rattle.checking.specs.declared.fault.Fault.TheVariants as of_device
 use Rattle.checking.specs.declared.fault.Paths.{Paths}
 use Rattle.checking.specs.declared.judgement.JudgeFault.{JudgeFault}
@@ -31,6 +35,17 @@ unread_fault _ = fault.Arguments
 -- a check of the files at these paths ends so: the judgement has a fault, an open one being a read of its file
 abbrev pub EndsCheck : Paths → CheckFault → Type 0
 EndsCheck paths ended = (failed : JudgeFault) × (ended ≡ fault.Device (fault_at paths failed))
+
+-- how a check of the files at these paths ends after a judgement's answer
+abbrev pub checked : Paths → Result Verdict JudgeFault → Result Verdict CheckFault
+checked paths (Ok verdict) = Ok verdict
+checked paths (Err failed) = Err (fault.Device (fault_at paths failed))
+
+-- the two sources were judged, the line of the verdict was for the sink, and the check ends so for the files at these paths
+pub record EndsJudgement (paths : Paths) (history certificate : Reading) (sink : Writing) (ended : Result Verdict CheckFault) : Type 0 where
+  pub answer : Result Verdict JudgeFault
+  pub is_judgement : IsJudgement history certificate sink answer
+  pub is_end : ended ≡ checked paths answer
 
 -- ---- causes in the words
 

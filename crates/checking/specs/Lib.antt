@@ -1,4 +1,5 @@
 pub mod Ending
 pub mod Faults
+pub mod Memory
 pub mod Judgement
 pub mod Taken

@@ -3,13 +3,16 @@
 ghost use Rattle.std.specs.Prelude.{◌≡◌, ◌⊎◌, ◌≤◌, Ok, IfOk, IfErr, map, string_bytes};
 ghost use Rattle.std.specs.IoError.{error_kind};
 ghost use Rattle.checking.specs.Ending.{status_of};
-ghost use Rattle.checking.specs.Faults.{check_status, unread_fault, EndsCheck, HasCause};
+ghost use Rattle.checking.specs.Faults.{check_status, unread_fault, EndsCheck, EndsJudgement, HasCause};
+ghost use Rattle.devices.specs.Sink.{writing};
+ghost use Rattle.devices.specs.Source.{reading};
 
 use crate::ending::ends_with;
 use crate::fault::{CheckFault, Fault, Paths};
 use crate::judgement::judge;
 use checker::Verdict;
-use devices::{FileSource, OutputSink};
+use devices::{FileSource, LineSink, Sink, Source};
+use std::alloc::Global;
 use std::io::ErrorKind;
 use std::rt::{Env, Files};
 use std::{env, fs, io};
@@ -56,8 +59,25 @@ pub fn check_files<'a, R: Files + Print + AllocGlobal>(
 {
     let mut history = FileSource::new(opened(rt, paths.history)?);
     let mut certificate = FileSource::new(opened(rt, paths.certificate)?);
-    let mut sink = OutputSink::new(rt.alloc(), io::writer(rt));
-    match judge(rt.alloc(), &mut history, &mut certificate, &mut sink) {
+    let mut sink = LineSink::new(io::writer(rt));
+    check_sources(rt.alloc(), paths, &mut history, &mut certificate, &mut sink)
+}
+
+/// Judges what two sources give of the files at these paths. The verdict's line goes to the sink.
+pub fn check_sources<'a, H: Source, C: Source, K: Sink>(
+    alloc: Global,
+    paths: Paths<'a>,
+    history: &mut H,
+    certificate: &mut C,
+    sink: &mut K,
+) -> Result<Verdict, CheckFault<'a>>
+    ensures { EndsJudgement paths.entry
+        (reading H.gives H.is_ended H.left H.refuses H.failures history.old history.new)
+        (reading C.gives C.is_ended C.left C.refuses C.failures certificate.old certificate.new)
+        (writing K.taken K.contents K.room K.failures sink.old sink.new)
+        result }
+{
+    match judge(alloc, history, certificate, sink) {
         Ok(verdict) => Ok(verdict),
         Err(fault) => Err(CheckFault::Device(paths.fault(fault))),
     }

@@ -10,14 +10,17 @@ use std::alloc::AllocError;
 pub(crate) struct Recording(pub(crate) Reader);
 
 impl Taker for Recording {
-    ghost use Rattle.checking.specs.Taken.{HasTaken};
+    ghost use Rattle.checking.specs.Taken.{HasTaken, RefusesEvent};
 
     ghost has_taken = { λ recording _ text. HasTaken recording.0 text };
+
+    ghost refuses = { λ recording piece. RefusesEvent recording.0 piece };
 
     fn take(&mut self, piece: &[u8]) -> Result<(), AllocError> {
         match self.0.feed(piece) {
             Err(HistoryFault::NoMemory) => Err(AllocError),
-            Ok(()) | Err(HistoryFault::BadLine(_)) => Ok(()),
+            Err(HistoryFault::BadLine(_)) => Ok(()),
+            Ok(()) => Ok(()),
         }
     }
 }
@@ -28,9 +31,13 @@ pub(crate) struct Judging(pub(crate) Session);
 
 impl Taker for Judging {
     ghost use Rattle.rmm_spec.specs.HistoryText.{IsHistoryText};
-    ghost use Rattle.checker.specs.Session.{HasJudged};
+    ghost use Rattle.std.specs.Prelude.{◌≡◌, false};
+    ghost use Rattle.checker.specs.Session.{HasJudged, IsRefusedIn};
 
-    ghost has_taken = { λ judging history text. IsHistoryText history judging.0.history.recorded × HasJudged judging.0 text };
+    ghost has_taken = { λ judging history text. IsHistoryText history judging.0.history.recorded × HasJudged judging.0 text
+        × (judging.0.refused ≡ false) };
+
+    ghost refuses = { λ judging piece. judging.0.refused ≡ false → IsRefusedIn judging.0 piece };
 
     fn take(&mut self, piece: &[u8]) -> Result<(), AllocError> {
         self.0.feed(piece)
@@ -45,6 +52,8 @@ impl Taker for Unread {
     ghost use Rattle.std.specs.Prelude.{⊤};
 
     ghost has_taken = { λ _ _ _. ⊤ };
+
+    ghost refuses = { λ _ _. ⊥ };
 
     fn take(&mut self, _piece: &[u8]) -> Result<(), AllocError> {
         Ok(())

@@ -20,4 +20,4 @@ pub mod Ready
 pub mod Foreseen
 pub mod Steps
 pub mod Puts
-pub mod PlainCells
+pub mod Distinct

@@ -1,7 +1,5 @@
 pub mod Seen
 pub mod Standing
-pub mod Plain
-pub mod PlainLaws
 pub mod Changed
 pub mod Named
 pub mod Walks

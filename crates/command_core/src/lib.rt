@@ -18,12 +18,10 @@ mod making;
 mod misfits;
 mod new_cells;
 mod next;
-mod plain_held;
 mod planning;
 mod put_cells;
 mod put_tables;
 mod rooms;
-mod serving;
 mod settling;
 mod taking;
 mod unshaped;
@@ -41,8 +39,6 @@ pub use laws::{
     unshaped_cells_have_no_whole,
 };
 pub use next::Next;
-pub use plain_held::PlainHeld;
 pub use planning::next_lock;
 pub use rmm_spec::Change;
 pub use rooms::{room, room_for};
-pub use serving::served;

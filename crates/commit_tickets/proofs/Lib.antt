@@ -1,4 +1,6 @@
 pub mod Disagreements
+pub mod Entered
 pub mod Lists
+pub mod Moves
 pub mod Rising
 pub mod Runs

@@ -1,7 +1,10 @@
+pub mod Commits
 pub mod Drafts
 pub mod Entries
 pub mod Faults
+pub mod Left
 pub mod Listed
 pub mod Opening
 pub mod Told
 pub mod View
+pub mod Worlds

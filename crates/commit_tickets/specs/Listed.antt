@@ -1,10 +1,9 @@
 -- The journal, and what its CPUs' tokens list.
-use Rattle.std.specs.Prelude.{◌≡◌, ℕ, zero, suc, ◌+◌, ◌==◌, if◌then◌else◌, List, [], ◌∷◌, get_or}
-use Rattle.rmm_spec.specs.Cell.{put}
+use Rattle.std.specs.Prelude.{◌≡◌, ℕ, zero, suc, ◌+◌, ◌==◌, if◌then◌else◌, List, [], ◌∷◌, get_or, map}
 use Rattle.rmm_spec.specs.Run.{JournalEntry}
-use Rattle.rmm_spec.specs.World.{Commitment}
 use Rattle.commit_tickets.specs.declared.numbers.Numbers.{Numbers}
-use Rattle.commit_tickets.specs.Entries.{Committed}
+use Rattle.commit_tickets.specs.declared.unlisted.Unlisted.{Unlisted}
+use Rattle.commit_tickets.specs.Entries.{Committed, entry_of}
 use Rattle.commit_tickets.specs.View.{TokenView}
 
 -- an entry as the token of its CPU lists it
@@ -27,19 +26,12 @@ mine_of (token ∷ tokens) (suc cpu) = mine_of tokens cpu
 abbrev pub AreListed : List TokenView → List JournalEntry → Type 0
 AreListed tokens entries = (cpu : ℕ) → listed_from 0 cpu entries ≡ mine_of tokens cpu
 
+-- the journal's entries that were compared, and that aren't listed
+abbrev pub unlisted_entries : Unlisted → List JournalEntry
+unlisted_entries unlisted = map entry_of unlisted.entries.value.logged
+
 -- ---- numbers
 
 -- the number of each CPU's next commit
 abbrev pub numbers_of : Numbers → ℕ → ℕ
 numbers_of numbers cpu = get_or numbers.next cpu 0
-
--- the entries with their numbers, where each CPU's next one has this number
-abbrev pub numbered_from : (ℕ → ℕ) → List JournalEntry → List Commitment
-numbered_from number [] = []
-numbered_from number (entry ∷ entries) =
-    record { cpu = entry.cpu; number = number entry.cpu; command = entry.command; given = entry.given }
-    ∷ numbered_from (put number entry.cpu (number entry.cpu + 1)) entries
-
--- each entry with its number among those of its CPU, counted from 0
-abbrev pub numbered : List JournalEntry → List Commitment
-numbered entries = numbered_from (λ _. 0) entries

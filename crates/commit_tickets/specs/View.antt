@@ -1,5 +1,6 @@
 -- What contracts see of a journal and of a token.
 use Rattle.std.specs.Prelude.{ℕ, zero, suc, Bool, false, List, [], ◌∷◌, ◌++◌, Option, None}
+use Rattle.atomic_table.specs.Seated.{TableId}
 use Rattle.rmm_spec.specs.declared.command.Command.{Command}
 use Rattle.rmm_spec.specs.declared.reply.Reply.{Reply}
 use Rattle.rmm_spec.specs.HistoryText.{Config}
@@ -13,6 +14,10 @@ use Rattle.command_core.specs.Seen.{place_of}
 use Rattle.command_core.specs.Sides.{side_of}
 use Rattle.commit_tickets.specs.declared.fault.CommitFault.{CommitFault}
 use Rattle.commit_tickets.specs.Entries.{Committed}
+
+-- the name of no queue
+abbrev pub no_queue : TableId
+no_queue = record { words = 0; slots = 0; views_name = 0; atom = 0; block = 0; offset = 0; slot_names = [] }
 
 -- A machine's size, all commits in their order, the side table to which they have led, and for how many more there is room.
 pub record JournalView : Type 0 where

@@ -1,6 +1,6 @@
 //! What a CPU is about to commit.
 
-ghost use Rattle.std.specs.Prelude.{◌≡◌, ◌≤◌, false, IfOk, OnErr, IsTrue};
+ghost use Rattle.std.specs.Prelude.{◌≡◌, ◌≤◌, None, IfOk, OnErr, IsTrue};
 ghost use Rattle.rmm_spec.specs.Call.{call_of};
 ghost use Rattle.rmi_view.specs.Seen.{HasFewWords, reply_seen};
 ghost use Rattle.command_core.specs.Changed.{given_of};
@@ -19,31 +19,51 @@ use granule_state::Config;
 use rmi_view::ReplyRef;
 use rmm_spec::{Accepted, Change, Command, Reply};
 use std::alloc::{AllocError, Global};
+use std::snapshot::Snapshot;
+
+/// That a draft stands in the journal: by which CPU, and on what is held, it was entered. It has no bytes, and `enter` alone makes one.
+#[derive(Drop)]
+pub(crate) struct Entered {
+    pub(crate) cpu: Snapshot<u8>,
+    pub(crate) hold: Snapshot<Hold>,
+}
+
+impl Entered {
+    pub(crate) fn on(cpu: &u8, hold: &Hold) -> Entered
+        ensures cpu { result.cpu.value ≡ cpu.now }
+        ensures hold { result.hold.value ≡ hold.now }
+    {
+        Entered {
+            cpu: Snapshot::of(cpu),
+            hold: Snapshot::of(hold),
+        }
+    }
+}
 
 /// What is answered to a command, the memory for its change, and whether it stands in the journal. It has no `Drop`, so that once it
 /// does, it is settled.
 pub struct Draft {
     pub(crate) answer: Result<Accepted, Reply>,
     pub(crate) room: Option<Room>,
-    pub(crate) is_entered: bool,
+    pub(crate) entered: Option<Entered>,
 }
 
 impl Draft {
     /// A draft of nothing.
-    pub fn new() -> Draft
-        ensures { result.is_entered ≡ false }
+    pub(crate) fn new() -> Draft
+        ensures { result.entered ≡ None }
     {
         Draft {
             answer: Err(Reply::Misplaced),
             room: None,
-            is_entered: false,
+            entered: None,
         }
     }
 
     /// Drafts the commit of a command that what is held settles, by the token of its CPU and without the journal: what a side table that
     /// lists nothing answers. It takes the memory for the change and for the token's list. Where that is refused, `enter` asks for it
     /// once more. The change's is refused only where it makes a table.
-    pub fn foresee<S: Site>(
+    pub(crate) fn foresee<S: Site>(
         &mut self,
         alloc: Global,
         config: &Config,
@@ -51,7 +71,7 @@ impl Draft {
         hold: &Hold,
         command: &Command,
     )
-        requires fresh { self.old.is_entered ≡ false }
+        requires fresh { self.old.entered ≡ None }
         requires site { config.now ≡ S.config }
         requires settled { IsTrue (is_settled S.config (call_of command.now) (place_of token.old.place) (hold_cells hold.now)) }
         ensures draft { IsDraft S.config command.now token.old (hold_cells hold.now) self.new }
@@ -64,7 +84,7 @@ impl Draft {
     }
 
     /// The reply.
-    pub(crate) fn reply(&self) -> ReplyRef<'_>
+    pub fn reply(&self) -> ReplyRef<'_>
         ensures seen { reply_seen result ≡ given_of self.now.answer }
         ensures few { HasFewWords (reply_seen result) }
     {
@@ -77,13 +97,13 @@ impl Draft {
     }
 
     /// Ends a draft that doesn't stand in the journal.
-    pub fn discard(self)
-        requires { self.is_entered ≡ false }
+    pub(crate) fn discard(self)
+        requires { self.entered ≡ None }
     {
         let Draft {
             answer: _,
             room: _,
-            is_entered: _,
+            entered: _,
         } = self;
     }
 }

@@ -1,6 +1,6 @@
 //! A draft comes to stand in the journal.
 
-ghost use Rattle.std.specs.Prelude.{◌≡◌, ◌+◌, ◌<◌, ◌≤◌, [], ◌∷◌, ◌++◌, length, true, false, None, Err, IsTrue, IfOk, IfErr, OnOk, OnErr};
+ghost use Rattle.std.specs.Prelude.{◌≡◌, ◌+◌, ◌<◌, ◌≤◌, [], ◌∷◌, ◌++◌, length, None, Err, IsTrue, IfOk, IfErr, OnOk, OnErr};
 ghost use Rattle.rmm_spec.specs.Call.{call_of};
 ghost use Rattle.shape_laws.specs.Whole.{side_changed};
 ghost use Rattle.command_core.specs.Changed.{can_count, given_of};
@@ -12,11 +12,12 @@ ghost use Rattle.command_core.specs.Settled.{is_settled};
 ghost use Rattle.command_core.specs.Sides.{side_of};
 ghost use Rattle.granule_lock.specs.HeldCells.{hold_cells};
 ghost use Rattle.commit_tickets.specs.declared.fault.CommitFault.TheVariants.{Disagrees};
-ghost use Rattle.commit_tickets.specs.Drafts.{IsDecided, IsDraft};
+ghost use Rattle.commit_tickets.specs.Drafts.{IsDecided, IsDraft, IsEnteredOn};
 ghost use Rattle.commit_tickets.specs.Faults.{DecidesTable, HasCause};
-ghost use Rattle.commit_tickets.specs.View.{entry, hold_with};
+ghost use Rattle.commit_tickets.specs.Left.{HasGained, HasGainedNone, HasListed, HasFailed};
+ghost use Rattle.commit_tickets.specs.View.{hold_with};
 
-use crate::draft::{Draft, change_of, room_of};
+use crate::draft::{Draft, Entered, change_of, room_of};
 use crate::fault::CommitFault;
 use crate::journal::Journal;
 use crate::site::Site;
@@ -32,7 +33,7 @@ use std::alloc::{AllocError, Global};
 /// change, journal and token list the commit, and the rest of the change is owed: `settle` makes it. Where they don't, or memory
 /// is refused, or the journal has fewer entries than the token was told of, nothing changes but that the token keeps the fault,
 /// and the draft is to be discarded. It waits for nobody.
-pub fn enter<S: Site>(
+pub(crate) fn enter<S: Site>(
     alloc: Global,
     journal: &mut Journal<S>,
     token: &mut CpuToken<S>,
@@ -43,26 +44,17 @@ pub fn enter<S: Site>(
     requires settled { IsTrue (is_settled S.config (call_of command.now) (place_of token.old.place) (hold_cells hold.now)) }
     requires draft { IsDraft S.config command.now token.old (hold_cells hold.now) draft.old }
     ensures ticket { IfOk result (λ ticket. ticket ≡ length journal.old.entries) }
-    ensures journal { OnOk result (journal.new ≡ record journal.old {
-      entries = journal.old.entries ++ entry token.old.cpu command.now (given_of draft.new.answer) ∷ [];
-      side = journal.new.side;
-      room = journal.new.room;
-    }) }
+    ensures journal { OnOk result (HasGained token.old.cpu command.now (given_of draft.new.answer) journal.old journal.new) }
     ensures side { OnOk result (side_of journal.new.side ≡ side_changed (known_cell (hold_cells hold.now)) (side_of journal.old.side) (spec.change_of draft.new.answer)) }
-    ensures token { IfOk result (λ ticket. token.new ≡ record token.old {
-      mine = token.old.mine ++ record { ticket = ticket; command = command.now; reply = given_of draft.new.answer } ∷ [];
-      room = token.new.room;
-      fault = None;
-      seen = ticket + 1;
-    }) }
+    ensures token { IfOk result (λ ticket. HasListed token.old command.now (record { ticket = ticket; reply = given_of draft.new.answer }) token.new) }
     ensures owed { OnOk result (IsDecided S.config token.old.cpu command.now (hold_with journal.old token.old (hold_cells hold.now)) draft.new) }
-    ensures entered { OnOk result (draft.new.is_entered ≡ true) }
+    ensures entered { OnOk result (IsEnteredOn draft.new token.old.cpu (hold_cells hold.now)) }
     ensures told { IfOk result (λ ticket. token.old.seen ≤ ticket) }
     ensures short { length journal.old.entries < token.old.seen → result ≡ Err Disagrees }
     ensures cause { IfErr result (λ fault. HasCause fault S.config command.now journal.old token.old (hold_cells hold.now)) }
-    ensures kept_journal { OnErr result (journal.new ≡ record journal.old { room = journal.new.room }) }
-    ensures kept_token { IfErr result (λ fault. token.new ≡ record token.old { room = token.new.room; fault = Some fault }) }
-    ensures kept_draft { OnErr result (draft.new.is_entered ≡ false) }
+    ensures kept_journal { OnErr result (HasGainedNone journal.old journal.new) }
+    ensures kept_token { IfErr result (λ fault. HasFailed token.old fault token.new) }
+    ensures kept_draft { OnErr result (draft.new.entered ≡ None) }
 {
     if (journal.len() as u64) < token.seen {
         token.fault = Some(CommitFault::Disagrees);
@@ -85,7 +77,7 @@ pub fn enter<S: Site>(
     journal.entries.push_reserved(token.cpu, view, reply);
     token.mine.push_reserved(ticket, view, reply);
     token.seen = journal.entries.len() as u64;
-    draft.is_entered = true;
+    draft.entered = Some(Entered::on(&token.cpu, hold));
     Ok(ticket)
 }
 
@@ -109,7 +101,7 @@ fn decide_draft<S: Site>(
     requires settled { IsTrue (is_settled S.config (call_of command.now) (place_of token.now.place) (hold_cells hold.now)) }
     requires draft { IsDraft S.config command.now token.now (hold_cells hold.now) draft.old }
     ensures decided { OnOk result (IsDecided S.config token.now.cpu command.now (hold_with journal.now token.now (hold_cells hold.now)) draft.new) }
-    ensures fresh { OnOk result (draft.new.is_entered ≡ false) }
+    ensures fresh { OnOk result (draft.new.entered ≡ None) }
     ensures table { OnErr result (DecidesTable S.config token.now.cpu command.now (hold_with journal.now token.now (hold_cells hold.now))) }
     ensures kept { OnErr result (draft.new ≡ draft.old) }
 {

@@ -1,21 +1,35 @@
 //! The journal compared with what its CPUs' tokens list.
 
-ghost use Rattle.std.specs.Prelude.{◌≡◌, ℕ, ◌≤◌, ◌↔◌, IsTrue, Some, length, slice_get};
+ghost use Rattle.std.specs.Prelude.{◌≡◌, ℕ, ◌≤◌, ◌↔◌, IsTrue, IfErr, OnOk, OnErr, Some, length, slice_get};
 ghost use Rattle.command_log.specs.Log.{logged_seen};
 ghost use Rattle.commit_tickets.specs.Entries.{committed_of, entry_of};
-ghost use Rattle.commit_tickets.specs.Listed.{AreListed, commit_at, mine_of, numbers_of};
+ghost use Rattle.commit_tickets.specs.Listed.{AreListed, commit_at, mine_of, numbers_of, unlisted_entries};
 
 use crate::journal::Journal;
 use crate::numbers::Numbers;
 use crate::same::{is_same_command, is_same_reply};
 use crate::site::Site;
 use crate::token::CpuToken;
+use crate::unlisted::Unlisted;
 use command_log::Logged;
 
 impl<S: Site> Journal<S> {
-    /// Whether each CPU's token lists what the journal has of that CPU: each commit once, at its ticket and in order. The
-    /// token at place k is taken for CPU k's.
-    pub fn is_listed_by(&self, tokens: &[CpuToken<S>]) -> bool
+    /// Compares the journal with its CPUs' tokens: whether each lists what the journal has of its CPU, each commit once, at its ticket
+    /// and in order. The token at place k is taken for CPU k's.
+    pub fn compare(&self, tokens: &[CpuToken<S>]) -> Result<(), Unlisted>
+        requires { length tokens.now ≤ 8 }
+        ensures listed { OnOk result (AreListed tokens.now self.now.entries) }
+        ensures unlisted { OnErr result (AreListed tokens.now self.now.entries → ⊥) }
+        ensures compared { IfErr result (λ unlisted. unlisted_entries unlisted ≡ self.now.entries) }
+    {
+        if !self.is_listed_by(tokens) {
+            return Err(Unlisted::of(&self.entries));
+        }
+        Ok(())
+    }
+
+    // Whether the tokens list the entries.
+    fn is_listed_by(&self, tokens: &[CpuToken<S>]) -> bool
         requires { length tokens.now ≤ 8 }
         ensures { IsTrue result ↔ AreListed tokens.now self.now.entries }
     {

@@ -5,7 +5,8 @@ ghost use Rattle.command_core.specs.Changed.{hold_of, AreHeld, CanMake};
 ghost use Rattle.command_core.specs.Seen.{place_of};
 ghost use Rattle.command_core.specs.Sides.{side_of};
 
-use command_core::{Cell, CpuPlace, Held, Next, PlainHeld, Side, apply, decide, next_lock, room};
+use crate::plain_held::PlainHeld;
+use command_core::{Cell, CpuPlace, Held, Next, Side, apply, decide, next_lock, room};
 use granule_state::{Config, Pa};
 use rmi_codec::{read_command, read_reply};
 use rmm_spec::{Change, Command, Reply, Tag};

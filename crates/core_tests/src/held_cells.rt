@@ -1,6 +1,7 @@
 //! Held cells in a list of their own.
 
-use command_core::{Cell, Held, PlainHeld};
+use crate::plain_held::PlainHeld;
+use command_core::{Cell, Held};
 use granule_state::Pa;
 use rmm_spec::Tag;
 use std::test::Fail;

@@ -1,8 +1,9 @@
 //! Cells that no shaped whole has, on a machine of 16 granules: the CPU takes and frees no more, and its command is misplaced.
 //! Each line is a command and the cells that are held for it, by their names in `named_cell`.
 
+use crate::plain_held::PlainHeld;
 use crate::plans::{inside, realm, rec};
-use command_core::{Cell, CpuPlace, Held, Next, PlainHeld, Side, decide, next_lock};
+use command_core::{Cell, CpuPlace, Held, Next, Side, decide, next_lock};
 use granule_state::{Config, Pa};
 use rmi_codec::read_command;
 use rmm_spec::{Change, Command, Entry, Place, Reply};

@@ -1,2 +1,3 @@
 pub mod Sink
 pub mod Source
+pub mod Taker

@@ -19,6 +19,28 @@ pub record HoldsBeginning (whole before after : List ℕ) (held_before held_afte
   pub taken : after ≡ before ++ take count whole
   pub contents : Appends held_before held_after (take count whole)
 
+-- what a call did to a sink: the bytes that its device took until then and now, what it held where that is known, its failures,
+-- and the room that it had
+pub record Writing : Type 0 where
+  pub taken_before : List ℕ
+  pub taken_after : List ℕ
+  pub held_before : Option (List ℕ)
+  pub held_after : Option (List ℕ)
+  pub room : ℕ
+  pub failures_before : ℕ
+  pub failures_after : ℕ
+
+abbrev pub writing : {K : Type 0} → (K → List ℕ) → (K → Option (List ℕ)) → (K → ℕ) → (K → ℕ) → K → K → Writing
+writing taken contents room failures old new = record {
+  taken_before = taken old;
+  taken_after = taken new;
+  held_before = contents old;
+  held_after = contents new;
+  room = room old;
+  failures_before = failures old;
+  failures_after = failures new;
+}
+
 -- the bytes that fit behind so many without new memory, where one more failure can still be counted
 abbrev pub prepared_room : ℕ → ℕ → ℕ → ℕ
 prepared_room len capacity failures = if nat_lt failures (2 ^ 64 - 1) then capacity - len else 0

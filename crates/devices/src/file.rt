@@ -3,6 +3,7 @@
 ghost use Rattle.std.specs.Prelude.{◌≡◌, ◌≤◌, ◌^◌, IsTrue};
 ghost use Rattle.std.specs.Io.{ReadsAtMost};
 ghost use Rattle.std.specs.Io.KnownBytes.{Consumes, ReadConsumes};
+ghost use Rattle.devices.specs.Source.{one_more};
 
 use crate::source::{MOST_BYTES, ReadError, Source};
 use std::io;
@@ -15,6 +16,8 @@ pub struct FileSource<R> {
     given: usize,
     is_ended: bool,
     failures: u64,
+    // how often memory was refused, up to the greatest number
+    refusals: u64,
     ghost few: { given ≤ 2 ^ 40 },
 }
 
@@ -31,6 +34,7 @@ impl<R: Read> FileSource<R> {
             given: 0,
             is_ended: false,
             failures: 0,
+            refusals: 0,
         }
     }
 }
@@ -46,9 +50,13 @@ impl<R: Read> Source for FileSource<R> {
 
     ghost failures = { λ source. source.failures };
 
+    ghost refuses = { λ old new. new.refusals ≡ one_more old.refusals };
+
     // A count of failures that can't rise has no memory left.
     fn read_more(&mut self, piece: &mut [u8]) -> Result<usize, ReadError> {
+        let refusals = self.refusals.saturating_add(1);
         let Some(failures) = self.failures.checked_add(1) else {
+            self.refusals = refusals;
             return Err(ReadError::NoMemory);
         };
         match read_some(&mut self.reader, piece) {
@@ -57,7 +65,10 @@ impl<R: Read> Source for FileSource<R> {
                 self.is_ended = count == 0;
                 Ok(count)
             }
-            Err(error) if error.kind() == ErrorKind::OutOfMemory => Err(ReadError::NoMemory),
+            Err(error) if error.kind() == ErrorKind::OutOfMemory => {
+                self.refusals = refusals;
+                Err(ReadError::NoMemory)
+            }
             _ => {
                 self.failures = failures;
                 Err(ReadError::Device)

@@ -1,11 +1,12 @@
 //! Where texts come from and go to: sources and sinks, as traits, so that a test can make each of them fail.
-//! `FileSource` and `OutputSink` are those over std's readers and writers; `read_whole` reads any source to its end, and `write_whole` a text out.
-//! A source gives its text in pieces of at most 4,096 bytes and keeps none. A device is blamed only for a failure of its own, which is counted.
-//! After a failed write the device has taken a beginning of the text, and where room is refused nothing.
+//! `FileSource`, `OutputSink` and, for one line and without memory, `LineSink` are those over std's readers and writers.
+//! `read_whole` reads any source to its end in pieces of at most 4,096 bytes, and `write_whole` writes a text out, or a beginning of it and fails.
+//! A device is blamed only for a failure of its own, which is counted, and refused memory is that of the device, of the piece or of the room.
 //! `checking` and `playing` depend on it, and so the program `rmmcheck`.
 #![tactic(auto)]
 
 mod file;
+mod line_sink;
 mod output;
 mod sink;
 mod source;
@@ -13,6 +14,7 @@ mod taker;
 mod text;
 
 pub use file::FileSource;
+pub use line_sink::LineSink;
 pub use output::OutputSink;
 pub use sink::{Sink, WriteError, write_whole};
 pub use source::{ReadError, Source};

@@ -64,7 +64,7 @@ impl<W: Write> Sink for OutputSink<W> {
 }
 
 // One write, made again where a signal interrupts it.
-fn write_some<W: Write>(writer: &mut W, bytes: &[u8]) -> Result<usize, WriteError>
+pub(crate) fn write_some<W: Write>(writer: &mut W, bytes: &[u8]) -> Result<usize, WriteError>
     ensures count { IfOk result (λ count. (0 < count) × (count ≤ length bytes.now)) }
     ensures device { WriteAppends (W.contents writer.old) (W.contents writer.new) result bytes.now }
 {

@@ -1,8 +1,9 @@
 //! A device that gives a text.
 
-ghost use Rattle.std.specs.Prelude.{◌≡◌, ℕ, ◌+◌, ◌<◌, ◌≤◌, ◌^◌, List, Option, None, Ok, length, take, IfOk};
+ghost use Rattle.std.specs.Prelude.{◌≡◌, ℕ, ◌+◌, ◌<◌, ◌≤◌, ◌^◌, List, Option, None, Ok, Err, length, take, IfOk};
 ghost use Rattle.std.specs.Io.KnownBytes.{Consumes, IsAtEnd};
 ghost use Rattle.devices.specs.Source.{read_failures};
+ghost use Rattle.devices.specs.declared.source.ReadError.TheVariants as ReadError;
 
 use thiserror::Error;
 
@@ -38,6 +39,9 @@ pub trait Source {
     /// How often the device has failed.
     ghost failures: { Self → ℕ };
 
+    /// It goes from one state to another and is refused memory.
+    ghost refuses: { Self → Self → Type 0 };
+
     /// Asks the device for the next bytes, and returns how many of the buffer's first they are. `Ok(0)` reports the end.
     /// After an `Err` the device may have given bytes that are lost.
     fn read_more(&mut self, piece: &mut [u8]) -> Result<usize, ReadError>
@@ -51,5 +55,6 @@ pub trait Source {
         ensures going { IfOk result (λ count. 0 < count → ¬ is_ended self.new) }
         ensures left { IfOk result (λ count. Consumes (left self.old) (left self.new) (take count piece.new)) }
         ensures whole { result ≡ Ok 0 → IsAtEnd (left self.new) }
-        ensures failures { failures self.new ≡ failures self.old + read_failures result };
+        ensures failures { failures self.new ≡ failures self.old + read_failures result }
+        ensures refused { result ≡ Err ReadError.NoMemory → refuses self.old self.new };
 }

@@ -9,9 +9,11 @@ use std::alloc::{AllocError, Global};
 
 /// Keeps all that it takes.
 impl Taker for Vec<u8> {
-    ghost use Rattle.std.specs.Prelude.{◌≡◌};
+    ghost use Rattle.std.specs.Prelude.{◌≡◌, ◌+◌, ◌<◌, length, vec_capacity, vec_len};
 
     ghost has_taken = { λ kept _ text. kept.items ≡ text };
+
+    ghost refuses = { λ kept piece. vec_capacity kept < vec_len kept + length piece };
 
     fn take(&mut self, piece: &[u8]) -> Result<(), AllocError> {
         self.extend_from_slice(piece)

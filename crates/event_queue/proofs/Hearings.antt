@@ -1,7 +1,11 @@
 -- Passes that hear of what was drained, one after the other.
-use Rattle.std.proofs.Common.{◌≡◌, ℕ, zero, suc, List, [], ◌∷◌, ◌++◌, map, take, drop, Some, refl, sym, ap}
+use Rattle.std.proofs.Common.{◌≡◌, ℕ, zero, suc, List, [], ◌∷◌, ◌++◌, map, take, drop, Some, refl, sym, ap, subst}
 use Rattle.std.specs.Prelude.{slice_get, slice_set}
 use Rattle.std.proofs.lemmas.Option.{none-some, same_Some}
+use Rattle.rmm_spec.specs.declared.event.Event.{Event}
+use Rattle.rmm_spec.specs.HistoryText.{subhistory_of}
+use Rattle.world_laws.proofs.Lists.{slice_get-map_from}
+use Rattle.event_queue.specs.View.{CpuView, hearing}
 
 -- a list of which the first so many elements were replaced
 abbrev pub replaced_before : {X : Type 0} → (X → X) → ℕ → List X → List X
@@ -20,3 +24,11 @@ pub replaced-more : {X : Type 0} (f : X → X) (count : ℕ) (xs : List X) (x : 
 replaced-more f count [] x at = absurd (none-some x at)
 replaced-more f zero (first ∷ xs) x at = ap (λ y. f y ∷ xs) (sym (same_Some first x at))
 replaced-more f (suc count) (first ∷ xs) x at = ap (λ rest. f first ∷ rest) (replaced-more f count xs x at)
+
+-- what is said of each pass, and not of what it has heard, stays so
+pub each_hearing : (P : ℕ → CpuView → Type 0) (drained : List Event) (passes : List CpuView) → ((cpu : ℕ) (pass : CpuView) → P cpu pass → P cpu (hearing drained pass))
+    → ((cpu : ℕ) (pass : CpuView) → slice_get passes cpu ≡ Some pass → P cpu pass)
+    → (cpu : ℕ) (pass : CpuView) → slice_get (map (hearing drained) passes) cpu ≡ Some pass → P cpu pass
+each_hearing P drained passes stays each cpu pass at =
+    let from = slice_get-map_from (hearing drained) passes cpu pass at in
+    subst (P cpu) from.2 (stays cpu from.0 (each cpu from.0 from.1))

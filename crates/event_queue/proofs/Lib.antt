@@ -1,4 +1,5 @@
 pub mod Hearings
+pub mod Orders
 pub mod Steps
 pub mod Stands
 pub mod Passes

@@ -1,23 +1,27 @@
 -- Each step of a pass keeps the rule of the queue.
 use Rattle.std.proofs.Common.{◌≡◌, ◌≢◌, ℕ, zero, suc, ◌+◌, ◌==◌, true, false, eqb, if◌then◌else◌, List, [], ◌∷◌, ◌++◌, length, set, refl, arith, sym, ap, ◌∙◌, ◌⊎◌, inl, inr, subst, ⊎_elim, append_assoc, append-nil, eq-eqb, ne_eqb}
 use Rattle.std.specs.List.{AllByRecursion}
-use Rattle.std.proofs.lemmas.Bool.{eqb-true, cases_Bool}
+use Rattle.std.proofs.lemmas.Bool.{eqb-true, cases_Bool, false≢true}
 use Rattle.std.proofs.lemmas.List.Elements.{filter-append}
 use mathlib.Core.List.{IsPrefix}
 use mathlib.Core.Option.{some, some-injective, some-ne-none}
 use lib.ListN.{get_elem?}
 use Rattle.crossbeam_queue.specs.Fifo.{Pushes, Pops, Forks, Merges, Learns}
 use Rattle.crossbeam_queue.proofs.Lists.{at_set}
+use Rattle.rmm_spec.specs.declared.command.Command.{Command}
 use Rattle.rmm_spec.specs.declared.event.Event.{Event}
 use Rattle.rmm_spec.specs.declared.event.Event.TheVariants.{Called, Returned}
+use Rattle.rmm_spec.specs.declared.reply.Reply.{Reply}
 use Rattle.rmm_spec.specs.HistoryText.{IsEvent, IsRecord, cpu_of, subhistory_of}
+use Rattle.rmm_spec.specs.Run.{JournalEntry}
 use Rattle.rmm_spec.proofs.Records.{subhistory_of-push_same, subhistory_of-push_other, IsRecord-front, AllByRecursion-push}
-use Rattle.event_queue.specs.declared.book.Holder.{Holder}
-use Rattle.event_queue.specs.declared.book.Holder.TheVariants.{Cpu, Scribe, Nobody}
-use Rattle.event_queue.specs.declared.book.Page.{Page}
+use Rattle.world_laws.proofs.Recorded.{AreRecorded}
+use Rattle.event_queue.specs.Numbered.{count_of, numbered}
 use Rattle.event_queue.specs.Records.{AreRecords}
-use Rattle.event_queue.specs.Pages.{opening_page, nobody_page, cpu_page, note_of, MayFindQueued, BeginsWithDrained, IsDrained}
-use Rattle.event_queue.specs.Book.{Ledger, IsCpuPage, IsScribePage, IsPageOf, IsRecorded}
+use Rattle.event_queue.specs.Stages.{Stage, Open, Committed, entry_at}
+use Rattle.event_queue.specs.Pages.{Page, Holder, Cpu, Scribe, Nobody, opening_page, nobody_page, cpu_page, journal_page, note_of, recorded, committed, entered, with_journal, without_journal, MayFindQueued, BeginsWithDrained, IsDrained}
+use Rattle.event_queue.specs.Book.{Ledger, Shelf, IsAt, IsCpuPage, IsPage, IsKept, IsRecorded}
+use Rattle.event_queue.proofs.Orders.{IsNextEvent, ordered-none, ordered-recorded, ordered-committed, IsAt-recorded, IsAt-committed, IsAt-own, count-push_own, count-push_other}
 
 -- ---- records
 
@@ -100,119 +104,122 @@ each_push F pages new last before place page is = ⊎_elim
     (λ (at_end : (place ≡ length pages) × (new ≡ page)). subst (λ (y : ℕ × Page). F y.0 y.1) (λ i. (sym at_end.0 i, at_end.1 i)) last)
     (at_push pages new page place is)
 
--- the page of a CPU, and the scribe's
-cpu_page_of : (ledger : Ledger) (all : List Event) (place : ℕ) (page : Page) (cpu : ℕ) → page.holder ≡ Cpu cpu → IsPageOf page.holder ledger all place page
-    → IsCpuPage ledger all cpu place page
-cpu_page_of ledger all place page cpu holder is = subst (λ h. IsPageOf h ledger all place page) holder is
+scribe_no_cpu : (page : Page) (cpu : ℕ) → page.holder ≡ Scribe → page.holder ≡ Cpu cpu → ⊥
+scribe_no_cpu page cpu scribe is_cpu = let same : Scribe ≡ Cpu cpu = sym scribe ∙ is_cpu in absurd (cc)
 
-scribe_page_of : (ledger : Ledger) (all : List Event) (place : ℕ) (page : Page) → page.holder ≡ Scribe → IsPageOf page.holder ledger all place page
-    → IsScribePage ledger place page
-scribe_page_of ledger all place page holder is = subst (λ h. IsPageOf h ledger all place page) holder is
+same_cpu : (page : Page) (cpu other : ℕ) → page.holder ≡ Cpu cpu → page.holder ≡ Cpu other → cpu ≡ other
+same_cpu page cpu other is is_other = let same : Cpu cpu ≡ Cpu other = sym is ∙ is_other in cc
 
--- ---- the steps
+-- what nobody holds may keep the journal
+nobody : (ledger : Ledger) (shelf : Shelf) (all : List Event) (place : ℕ) (page : Page) → page.holder ≡ Nobody
+    → (page.keeps ≡ true → (shelf.place ≡ place) × (page.entries ≡ shelf.entries)) → IsPrefix page.seen ledger.drained → IsPage ledger shelf all place page
+nobody ledger shelf all place page holder shelved seen = (
+  λ cpu is_cpu. let same : Nobody ≡ Cpu cpu = sym holder ∙ is_cpu in absurd (cc),
+  λ scribe. let same : Nobody ≡ Scribe = sym holder ∙ scribe in absurd (cc),
+  shelved,
+  seen,
+)
+
+spent : (ledger : Ledger) (shelf : Shelf) (all : List Event) (place : ℕ) → IsPage ledger shelf all place nobody_page
+spent ledger shelf all place = nobody ledger shelf all place nobody_page refl (λ keeps. absurd (false≢true keeps)) (begins_with_none ledger.drained)
+
+-- ---- the steps of the queue
 
 pub begins : IsRecorded [] (opening_page ∷ [])
 begins = (
-  record { cpus = 0; seated = 0; seat = λ cpu. 0; desk = 0; drained = [] },
+  ledger,
+  shelf,
   record {
     are_records = record { each = tt; records = λ cpu. refl };
     unseated = λ cpu none. refl;
+    ordered = ordered-none;
     each = first;
-    seen = first_seen;
   },
 )
   where
-    first : (place : ℕ) (page : Page) → get_elem? (opening_page ∷ []) place ≡ some page
-        → IsPageOf page.holder (record { cpus = 0; seated = 0; seat = λ cpu. 0; desk = 0; drained = [] }) [] place page
-    first zero page is = subst (λ (p : Page). IsPageOf p.holder (record { cpus = 0; seated = 0; seat = λ cpu. 0; desk = 0; drained = [] }) [] 0 p)
-        (some-injective opening_page page is) (record { is_there = refl; same_cpus = refl; same_seated = refl; all_drained = refl })
+    ledger : Ledger
+    ledger = record { cpus = 0; seated = 0; seat = λ cpu. 0; desk = 0; drained = [] }
+
+    shelf : Shelf
+    shelf = record { place = 0; entries = [] }
+
+    first : (place : ℕ) (page : Page) → get_elem? (opening_page ∷ []) place ≡ some page → IsPage ledger shelf [] place page
+    first zero page is = subst (IsPage ledger shelf [] 0) (some-injective opening_page page is)
+        (λ cpu is_cpu. absurd (scribe_no_cpu opening_page cpu refl is_cpu), λ _. (refl, refl, refl, refl), λ _. (refl, refl), begins_with_none [])
     first (suc place) page is = absurd (some-ne-none page (sym is))
-
-    first_seen : (place : ℕ) (page : Page) → get_elem? (opening_page ∷ []) place ≡ some page → IsPrefix page.seen []
-    first_seen zero page is = subst (λ (p : Page). IsPrefix p.seen []) (some-injective opening_page page is) (begins_with_none [])
-    first_seen (suc place) page is = absurd (some-ne-none page (sym is))
-
--- another's page, after a CPU has recorded an event
-page-recorded : (ledger : Ledger) (all : List Event) (event : Event) (place other : ℕ) (page : Page) (holder : Holder)
-    → ledger.seat (cpu_of event) ≡ place → other ≢ place → IsPageOf holder ledger all other page → IsPageOf holder ledger (all ++ event ∷ []) other page
-page-recorded ledger all event place other page (Cpu cpu) mine apart is = record {
-  is_seated = is.is_seated;
-  is_there = is.is_there;
-  same_cpus = is.same_cpus;
-  own = is.own ∙ sym (subhistory_of-push_other cpu all event
-      (ne_eqb (cpu_of event) cpu (λ same. apart (sym is.is_there ∙ ap ledger.seat (sym same) ∙ mine))));
-}
-page-recorded ledger all event place other page Scribe mine apart is = is
-page-recorded ledger all event place other page Nobody mine apart is = tt
 
 -- a CPU records an event
 pub records : (n place : ℕ) (page : Page) (event : Event) → page.holder ≡ Cpu (cpu_of event) → IsEvent page.cpus event → IsRecord (page.events ++ event ∷ [])
-    → Pushes IsRecorded n place page event (λ new. new ≡ record page { events = page.events ++ event ∷ [] })
-records n place page event holder is_event goes_on queued pages room book at =
-    let ledger : Ledger = book.0 in
-    let kept = book.1 in
+    → IsNextEvent page.stage page.commits event → Pushes IsRecorded n place page event (λ new. new ≡ recorded page event)
+records n place page event holder is_event goes_on is_next queued pages room (ledger, shelf, kept) at =
     let all : List Event = ledger.drained ++ queued in
-    let mine = cpu_page_of ledger all place page (cpu_of event) holder (kept.each place page at) in
-    let new : Page = record page { events = page.events ++ event ∷ [] } in
-    let own : page.events ++ event ∷ [] ≡ subhistory_of (cpu_of event) (all ++ event ∷ []) =
-    ap (λ (es : List Event). es ++ event ∷ []) mine.own ∙ sym (subhistory_of-push_same (cpu_of event) all event refl) in
-    let more : all ++ event ∷ [] ≡ ledger.drained ++ (queued ++ event ∷ []) = append_assoc ledger.drained queued (event ∷ []) in
-    let is_new : IsCpuPage ledger (all ++ event ∷ []) (cpu_of event) place new =
-    record { is_seated = mine.is_seated; is_there = mine.is_there; same_cpus = mine.same_cpus; own = own } in (
+    let after : List Event = all ++ event ∷ [] in
+    let old = kept.each place page at in
+    let mine = old.0 (cpu_of event) holder in
+    let new : Page = recorded page event in
+    let own : page.events ++ event ∷ [] ≡ subhistory_of (cpu_of event) after =
+    ap (λ (es : List Event). es ++ event ∷ []) mine.3 ∙ sym (subhistory_of-push_same (cpu_of event) all event refl) in
+    let apart : (cpu : ℕ) → (cpu ≡ cpu_of event → ⊥) → subhistory_of cpu after ≡ subhistory_of cpu all =
+    λ cpu other. subhistory_of-push_other cpu all event (ne_eqb (cpu_of event) cpu (λ same. other (sym same))) in
+    let goes = ordered-recorded shelf.entries all event page.stage page.commits kept.ordered mine.4 mine.5 is_next in
+    let more : after ≡ ledger.drained ++ (queued ++ event ∷ []) = append_assoc ledger.drained queued (event ∷ []) in (
       new,
       (
         ledger,
-        record {
-          are_records = subst (AreRecords ledger.cpus) more (are_records-push ledger.cpus all event kept.are_records
-              (subst (λ cpus. IsEvent cpus event) mine.same_cpus is_event) (subst IsRecord own goes_on));
-          unseated = λ cpu none. subst (λ (es : List Event). subhistory_of cpu es ≡ []) more
-              (subhistory_of-push_other cpu all event (ne_eqb (cpu_of event) cpu (λ same. let is_seated = mine.is_seated in absurd (omega arith))) ∙ kept.unseated cpu none);
-          each = subst (λ (es : List Event). (other : ℕ) (p : Page) → get_elem? (set pages place new) other ≡ some p → IsPageOf p.holder ledger es other p) more
-              (each_set (λ other p. IsPageOf p.holder ledger (all ++ event ∷ []) other p) pages place new
-              (subst (λ h. IsPageOf h ledger (all ++ event ∷ []) place new) (sym holder) is_new)
-              (λ other p apart is. page-recorded ledger all event place other p p.holder mine.is_there apart (kept.each other p is)));
-          seen = each_set (λ other p. IsPrefix p.seen ledger.drained) pages place new (kept.seen place page at) (λ other p apart is. kept.seen other p is);
-        },
+        shelf,
+        subst (λ es. IsKept ledger shelf es (set pages place new)) more (record {
+          are_records = are_records-push ledger.cpus all event kept.are_records
+              (subst (λ cpus. IsEvent cpus event) mine.2 is_event) (subst IsRecord own goes_on);
+          unseated = λ cpu none. apart cpu (λ same. let is_seated = mine.0 in omega (arith, same)) ∙ kept.unseated cpu none;
+          ordered = goes.0;
+          each = each_set (IsPage ledger shelf after) pages place new (
+            λ cpu is_cpu. subst (λ c. IsCpuPage ledger shelf.entries after c place new) (same_cpu page (cpu_of event) cpu holder is_cpu)
+                (mine.0, mine.1, mine.2, own, mine.4, goes.1),
+            λ scribe. absurd (scribe_no_cpu page (cpu_of event) scribe holder),
+            old.2,
+            old.3,
+          )
+              (λ other p off is. let was = kept.each other p is in (
+                λ cpu is_cpu.
+                    let its = was.0 cpu is_cpu in (
+                      its.0,
+                      its.1,
+                      its.2,
+                      its.3 ∙ sym (apart cpu (λ same. off (sym its.1 ∙ ap ledger.seat same ∙ mine.1))),
+                      its.4,
+                      IsAt-recorded p.stage cpu p.commits shelf.entries all event its.5,
+                    ),
+                was.1,
+                was.2,
+                was.3,
+              ));
+        }),
       ),
       refl,
     )
 
 -- what a CPU finds
 pub finds : (place : ℕ) (page : Page) → Learns IsRecorded place page (MayFindQueued page)
-finds place page queued pages book at cpu holder =
-    let mine = cpu_page_of book.0 (book.0.drained ++ queued) place page cpu holder (book.1.each place page at) in
+finds place page queued pages (ledger, shelf, kept) at cpu holder =
+    let old = kept.each place page at in
+    let mine = old.0 cpu holder in
     record {
-      drained = book.0.drained;
-      is_heard = book.1.seen place page at;
-      are_records = subst (λ cpus. AreRecords cpus (book.0.drained ++ queued)) (sym mine.same_cpus) book.1.are_records;
-      is_own = sym mine.own;
+      drained = ledger.drained;
+      is_heard = old.3;
+      are_records = subst (λ cpus. AreRecords cpus (ledger.drained ++ queued)) (sym mine.2) kept.are_records;
+      is_own = sym mine.3;
     }
-
--- another's page, after the scribe has changed what it keeps alone
-page-drained : (ledger : Ledger) (all drained : List Event) (place other : ℕ) (page : Page) (holder : Holder)
-    → ledger.desk ≡ place → other ≢ place → IsPageOf holder ledger all other page → IsPageOf holder (record ledger { drained = drained }) all other page
-page-drained ledger all drained place other page (Cpu cpu) mine apart is =
-    record { is_seated = is.is_seated; is_there = is.is_there; same_cpus = is.same_cpus; own = is.own }
-page-drained ledger all drained place other page Scribe mine apart is = absurd (apart (sym is.is_there ∙ mine))
-page-drained ledger all drained place other page Nobody mine apart is = tt
 
 -- the scribe takes the oldest event
 pub drains : (place : ℕ) (page : Page) → page.holder ≡ Scribe → Pops IsRecorded place page (IsDrained page)
-drains place page holder event queued pages book at =
-    let ledger : Ledger = book.0 in
-    let kept = book.1 in
+drains place page holder event queued pages (ledger, shelf, kept) at =
     let all : List Event = ledger.drained ++ event ∷ queued in
-    let mine = scribe_page_of ledger all place page holder (kept.each place page at) in
+    let old = kept.each place page at in
+    let mine = old.1 holder in
     let drained : List Event = ledger.drained ++ event ∷ [] in
     let after : Ledger = record ledger { drained = drained } in
     let new : Page = record page { events = page.events ++ event ∷ [] } in
     let same : all ≡ drained ++ queued = sym (append_assoc ledger.drained (event ∷ []) queued) in
-    let is_new : IsScribePage after place new = record {
-      is_there = mine.is_there;
-      same_cpus = mine.same_cpus;
-      same_seated = mine.same_seated;
-      all_drained = ap (λ (es : List Event). es ++ event ∷ []) mine.all_drained;
-    } in
     let cpu = cpu_of event in
     let beginning : IsRecord (subhistory_of cpu drained) =
     IsRecord-beginning (subhistory_of cpu drained) (subhistory_of cpu queued)
@@ -220,57 +227,60 @@ drains place page holder event queued pages book at =
       new,
       (
         after,
-        record {
-          are_records = subst (AreRecords ledger.cpus) same kept.are_records;
-          unseated = λ other none. subst (λ (es : List Event). subhistory_of other es ≡ []) same (kept.unseated other none);
-          each = subst (λ (es : List Event). (other : ℕ) (p : Page) → get_elem? (set pages place new) other ≡ some p → IsPageOf p.holder after es other p) same
-              (each_set (λ other p. IsPageOf p.holder after all other p) pages place new
-              (subst (λ h. IsPageOf h after all place new) (sym holder) is_new)
-              (λ other p apart is. page-drained ledger all drained place other p p.holder mine.is_there apart (kept.each other p is)));
-          seen = each_set (λ other p. IsPrefix p.seen drained) pages place new (begins_more page.seen ledger.drained (event ∷ []) (kept.seen place page at))
-              (λ other p apart is. begins_more p.seen ledger.drained (event ∷ []) (kept.seen other p is));
-        },
+        shelf,
+        subst (λ es. IsKept after shelf es (set pages place new)) same (record {
+          are_records = kept.are_records;
+          unseated = kept.unseated;
+          ordered = kept.ordered;
+          each = each_set (IsPage after shelf all) pages place new (
+            λ own is_cpu. absurd (scribe_no_cpu page own holder is_cpu),
+            λ _. (mine.0, mine.1, mine.2, ap (λ (es : List Event). es ++ event ∷ []) mine.3),
+            old.2,
+            begins_more page.seen ledger.drained (event ∷ []) old.3,
+          )
+              (λ other p off is. let was = kept.each other p is in (
+                was.0,
+                λ scribe. absurd (off (sym (was.1 scribe).0 ∙ mine.0)),
+                was.2,
+                begins_more p.seen ledger.drained (event ∷ []) was.3,
+              ));
+        }),
       ),
       record {
         drained = refl;
-        is_event = subst (λ cpus. IsEvent cpus event) (sym mine.same_cpus) (all-middle (IsEvent ledger.cpus) ledger.drained event queued kept.are_records.each);
-        record_goes_on = subst (λ (es : List Event). IsRecord (subhistory_of cpu (es ++ event ∷ []))) (sym mine.all_drained) beginning;
+        is_event = subst (λ cpus. IsEvent cpus event) (sym mine.1) (all-middle (IsEvent ledger.cpus) ledger.drained event queued kept.are_records.each);
+        record_goes_on = subst (λ (es : List Event). IsRecord (subhistory_of cpu (es ++ event ∷ []))) (sym mine.3) beginning;
       },
     )
-
--- another's page, after one more CPU was counted, where none has a page
-page-counted : (ledger : Ledger) (all : List Event) (place other : ℕ) (page : Page) (holder : Holder)
-    → ledger.seated ≡ 0 → ledger.desk ≡ place → other ≢ place → IsPageOf holder ledger all other page → IsPageOf holder (record ledger { cpus = ledger.cpus + 1 }) all other page
-page-counted ledger all place other page (Cpu cpu) none mine apart is = let is_seated = is.is_seated in absurd (omega arith)
-page-counted ledger all place other page Scribe none mine apart is = absurd (apart (sym is.is_there ∙ mine))
-page-counted ledger all place other page Nobody none mine apart is = tt
 
 -- one more CPU is counted
 pub counts : (place : ℕ) (page : Page) → page.holder ≡ Scribe → page.seated ≡ 0
     → Forks IsRecorded place page (record page { cpus = page.cpus + 1 }) nobody_page
-counts place page holder none queued pages book at =
-    let ledger : Ledger = book.0 in
-    let kept = book.1 in
+counts place page holder none queued pages (ledger, shelf, kept) at =
     let all : List Event = ledger.drained ++ queued in
-    let mine = scribe_page_of ledger all place page holder (kept.each place page at) in
+    let old = kept.each place page at in
+    let mine = old.1 holder in
     let after : Ledger = record ledger { cpus = ledger.cpus + 1 } in
-    let new : Page = record page { cpus = page.cpus + 1 } in
-    let is_new : IsScribePage after place new = record {
-      is_there = mine.is_there;
-      same_cpus = ap (λ n. n + 1) mine.same_cpus;
-      same_seated = mine.same_seated;
-      all_drained = mine.all_drained;
-    } in (
+    let new : Page = record page { cpus = page.cpus + 1 } in (
       after,
+      shelf,
       record {
         are_records = are_records-more ledger.cpus all kept.are_records;
         unseated = kept.unseated;
-        each = each_push (λ other p. IsPageOf p.holder after all other p) (set pages place new) nobody_page tt
-            (each_set (λ other p. IsPageOf p.holder after all other p) pages place new
-            (subst (λ h. IsPageOf h after all place new) (sym holder) is_new)
-            (λ other p apart is. page-counted ledger all place other p p.holder (sym mine.same_seated ∙ none) mine.is_there apart (kept.each other p is)));
-        seen = each_push (λ other p. IsPrefix p.seen ledger.drained) (set pages place new) nobody_page (begins_with_none ledger.drained)
-            (each_set (λ other p. IsPrefix p.seen ledger.drained) pages place new (kept.seen place page at) (λ other p apart is. kept.seen other p is));
+        ordered = kept.ordered;
+        each = each_push (IsPage after shelf all) (set pages place new) nobody_page (spent after shelf all (length (set pages place new)))
+            (each_set (IsPage after shelf all) pages place new (
+              λ cpu is_cpu. absurd (scribe_no_cpu page cpu holder is_cpu),
+              λ _. (mine.0, ap (λ n. n + 1) mine.1, mine.2, mine.3),
+              old.2,
+              old.3,
+            )
+            (λ other p off is. let was = kept.each other p is in (
+              λ cpu is_cpu. let is_seated = (was.0 cpu is_cpu).0 in absurd (omega (arith, is_seated, sym mine.2 ∙ none)),
+              λ scribe. absurd (off (sym (was.1 scribe).0 ∙ mine.0)),
+              was.2,
+              was.3,
+            )));
       },
     )
 
@@ -286,113 +296,212 @@ seats_with-other : (seat : ℕ → ℕ) (cpu place other : ℕ) → other ≢ cp
 unfolding seats_with
 seats_with-other seat cpu place other apart = rw (ne_eqb other cpu apart) refl
 
-abbrev seated_after : Ledger → ℕ → Ledger
-seated_after ledger place = record ledger { seated = ledger.seated + 1; seat = seats_with ledger.seat ledger.seated place }
-
--- another's page, after one more CPU got its page
-page-seated : (ledger : Ledger) (all : List Event) (place last other : ℕ) (page : Page) (holder : Holder)
-    → ledger.desk ≡ place → other ≢ place → IsPageOf holder ledger all other page → IsPageOf holder (seated_after ledger last) all other page
-page-seated ledger all place last other page (Cpu cpu) mine apart is =
-    let is_seated = is.is_seated in
-    record {
-      is_seated = omega arith;
-      is_there = seats_with-other ledger.seat ledger.seated last cpu (λ same. omega arith) ∙ is.is_there;
-      same_cpus = is.same_cpus;
-      own = is.own;
-    }
-page-seated ledger all place last other page Scribe mine apart is = absurd (apart (sym is.is_there ∙ mine))
-page-seated ledger all place last other page Nobody mine apart is = tt
-
--- the next CPU gets its page
-pub seats : (place : ℕ) (page : Page) → page.holder ≡ Scribe
+-- the next CPU gets its page, before anything is committed
+pub seats : (place : ℕ) (page : Page) → page.holder ≡ Scribe → page.keeps ≡ true → page.entries ≡ []
     → Forks IsRecorded place page (record page { seated = page.seated + 1 }) (cpu_page page.cpus page.seated)
-seats place page holder queued pages book at =
-    let ledger : Ledger = book.0 in
-    let kept = book.1 in
+seats place page holder keeps none queued pages (ledger, shelf, kept) at =
     let all : List Event = ledger.drained ++ queued in
-    let mine = scribe_page_of ledger all place page holder (kept.each place page at) in
+    let old = kept.each place page at in
+    let mine = old.1 holder in
     let new : Page = record page { seated = page.seated + 1 } in
     let last : ℕ = length (set pages place new) in
-    let after : Ledger = seated_after ledger last in
-    let is_new : IsScribePage after place new = record {
-      is_there = mine.is_there;
-      same_cpus = mine.same_cpus;
-      same_seated = ap (λ n. n + 1) mine.same_seated;
-      all_drained = mine.all_drained;
-    } in
-    let is_last : IsCpuPage after all page.seated last (cpu_page page.cpus page.seated) =
-    subst (λ cpu. IsCpuPage after all cpu last (cpu_page page.cpus page.seated)) (sym mine.same_seated) (record {
-      is_seated = omega arith;
-      is_there = seats_with-same ledger.seat ledger.seated last;
-      same_cpus = mine.same_cpus;
-      own = sym (kept.unseated ledger.seated (omega arith));
-    }) in (
+    let seat : ℕ → ℕ = seats_with ledger.seat ledger.seated last in
+    let after : Ledger = record ledger { seated = ledger.seated + 1; seat = seat } in
+    let right : Page = cpu_page page.cpus page.seated in (
       after,
+      shelf,
       record {
         are_records = kept.are_records;
-        unseated = λ cpu none. kept.unseated cpu (omega arith);
-        each = each_push (λ other p. IsPageOf p.holder after all other p) (set pages place new) (cpu_page page.cpus page.seated) is_last
-            (each_set (λ other p. IsPageOf p.holder after all other p) pages place new
-            (subst (λ h. IsPageOf h after all place new) (sym holder) is_new)
-            (λ other p apart is. page-seated ledger all place last other p p.holder mine.is_there apart (kept.each other p is)));
-        seen = each_push (λ other p. IsPrefix p.seen ledger.drained) (set pages place new) (cpu_page page.cpus page.seated) (begins_with_none ledger.drained)
-            (each_set (λ other p. IsPrefix p.seen ledger.drained) pages place new (kept.seen place page at) (λ other p apart is. kept.seen other p is));
+        unseated = λ cpu past. kept.unseated cpu (omega (arith, past));
+        ordered = kept.ordered;
+        each = each_push (IsPage after shelf all) (set pages place new) right (
+          λ cpu is_cpu. subst (λ c. IsCpuPage after shelf.entries all c last right) (sym mine.2 ∙ same_cpu right page.seated cpu refl is_cpu) (
+            omega arith,
+            seats_with-same ledger.seat ledger.seated last,
+            mine.1,
+            sym (kept.unseated ledger.seated (omega arith)),
+            ap (λ (es : List JournalEntry). count_of ledger.seated es) (sym (old.2 keeps).1 ∙ none),
+            tt,
+          ),
+          λ scribe. absurd (scribe_no_cpu right page.seated scribe refl),
+          λ kept_there. absurd (false≢true kept_there),
+          begins_with_none ledger.drained,
+        )
+            (each_set (IsPage after shelf all) pages place new (
+              λ cpu is_cpu. absurd (scribe_no_cpu page cpu holder is_cpu),
+              λ _. (mine.0, mine.1, ap (λ n. n + 1) mine.2, mine.3),
+              old.2,
+              old.3,
+            )
+            (λ other p off is. let was = kept.each other p is in (
+              λ cpu is_cpu.
+                  let its = was.0 cpu is_cpu in
+                  let is_seated = its.0 in
+                  (omega (arith, is_seated), seats_with-other ledger.seat ledger.seated last cpu (λ same. omega (arith, same, is_seated)) ∙ its.1, its.2, its.3, its.4, its.5),
+              λ scribe. absurd (off (sym (was.1 scribe).0 ∙ mine.0)),
+              was.2,
+              was.3,
+            )));
       },
     )
 
 -- the scribe writes down what was drained
 pub tells : (place : ℕ) (page : Page) → page.holder ≡ Scribe → Forks IsRecorded place page page (note_of page)
-tells place page holder queued pages book at =
-    let ledger : Ledger = book.0 in
-    let kept = book.1 in
+tells place page holder queued pages (ledger, shelf, kept) at =
     let all : List Event = ledger.drained ++ queued in
-    let mine = scribe_page_of ledger all place page holder (kept.each place page at) in (
+    let old = kept.each place page at in
+    let told : IsPrefix page.events ledger.drained = subst (λ (es : List Event). IsPrefix es ledger.drained) (sym (old.1 holder).3) (begins_with_all ledger.drained) in (
       ledger,
+      shelf,
       record {
         are_records = kept.are_records;
         unseated = kept.unseated;
-        each = each_push (λ other p. IsPageOf p.holder ledger all other p) (set pages place page) (note_of page) tt
-            (each_set (λ other p. IsPageOf p.holder ledger all other p) pages place page (kept.each place page at) (λ other p apart is. kept.each other p is));
-        seen = each_push (λ other p. IsPrefix p.seen ledger.drained) (set pages place page) (note_of page)
-            (subst (λ (es : List Event). IsPrefix es ledger.drained) (sym mine.all_drained) (begins_with_all ledger.drained))
-            (each_set (λ other p. IsPrefix p.seen ledger.drained) pages place page (kept.seen place page at) (λ other p apart is. kept.seen other p is));
+        ordered = kept.ordered;
+        each = each_push (IsPage ledger shelf all) (set pages place page) (note_of page)
+            (nobody ledger shelf all (length (set pages place page)) (note_of page) refl (λ keeps. absurd (false≢true keeps)) told)
+            (each_set (IsPage ledger shelf all) pages place page old (λ other p off is. kept.each other p is));
       },
     )
 
--- a page is what it was, whatever is written on it of what was drained
-page-heard : (ledger : Ledger) (all seen : List Event) (place : ℕ) (page : Page) (holder : Holder) → IsPageOf holder ledger all place page
-    → IsPageOf holder ledger all place (record page { seen = seen })
-page-heard ledger all seen place page (Cpu cpu) is = record { is_seated = is.is_seated; is_there = is.is_there; same_cpus = is.same_cpus; own = is.own }
-page-heard ledger all seen place page Scribe is =
-    record { is_there = is.is_there; same_cpus = is.same_cpus; same_seated = is.same_seated; all_drained = is.all_drained }
-page-heard ledger all seen place page Nobody is = tt
+-- what two passes know comes to one of them
+joined : (ledger : Ledger) (shelf after : Shelf) (all : List Event) (pages : List Page) (place : ℕ) (new : Page) (other : ℕ) (told : Page) → IsKept ledger shelf all pages
+    → AreRecorded (numbered after.entries) all → get_elem? (set pages place new) other ≡ some told → other ≢ place
+    → (IsPage ledger shelf all other told → IsPage ledger after all place new)
+    → ((k : ℕ) (p : Page) → k ≢ other → get_elem? pages k ≡ some p → IsPage ledger shelf all other told → IsPage ledger after all k p)
+    → IsKept ledger after all (set (set pages place new) other nobody_page)
+joined ledger shelf after all pages place new other told kept ordered there apart mine others =
+    let was : get_elem? pages other ≡ some told =
+    ⊎_elim (λ (here : (other ≡ place) × (new ≡ told)). absurd (apart here.0))
+    (λ (elsewhere : (other ≢ place) × (get_elem? pages other ≡ some told)). elsewhere.1) (at_set pages place other new told there) in
+    let its = kept.each other told was in
+    record {
+      are_records = kept.are_records;
+      unseated = kept.unseated;
+      ordered = ordered;
+      each = each_set (IsPage ledger after all) (set pages place new) other nobody_page (spent ledger after all other)
+          (λ k q away at_k. each_set (λ n p. n ≢ other → IsPage ledger after all n p) pages place new (λ _. mine its)
+          (λ n p off is other_than. others n p other_than is its) k q at_k away);
+    }
 
 -- a CPU takes in what the scribe wrote down
-pub hears : (place : ℕ) (page : Page) (spent : ℕ) (note : Page) → Merges IsRecorded place page spent note (record page { seen = note.seen }) nobody_page
-hears place page spent note queued pages book at apart there =
-    let ledger : Ledger = book.0 in
-    let kept = book.1 in
-    let all : List Event = ledger.drained ++ queued in
-    let new : Page = record page { seen = note.seen } in
-    let was : get_elem? pages spent ≡ some note =
-    ⊎_elim (λ (here : (spent ≡ place) × (new ≡ note)). absurd (apart here.0)) (λ (elsewhere : (spent ≢ place) × (get_elem? pages spent ≡ some note)). elsewhere.1) (at_set pages place spent new note there) in (
+pub hears : (place : ℕ) (page : Page) (other : ℕ) (note : Page) → Merges IsRecorded place page other note (record page { seen = note.seen }) nobody_page
+hears place page other note queued pages (ledger, shelf, kept) at apart there =
+    let old = kept.each place page at in (
       ledger,
-      record {
-        are_records = kept.are_records;
-        unseated = kept.unseated;
-        each = each_set (λ other p. IsPageOf p.holder ledger all other p) (set pages place new) spent nobody_page tt
-            (λ k q away at_k. each_set (λ other p. IsPageOf p.holder ledger all other p) pages place new
-            (page-heard ledger all note.seen place page page.holder (kept.each place page at)) (λ other p off is. kept.each other p is) k q at_k);
-        seen = each_set (λ other p. IsPrefix p.seen ledger.drained) (set pages place new) spent nobody_page (begins_with_none ledger.drained)
-            (λ k q away at_k. each_set (λ other p. IsPrefix p.seen ledger.drained) pages place new (kept.seen spent note was)
-            (λ other p off is. kept.seen other p is) k q at_k);
-      },
+      shelf,
+      joined ledger shelf shelf (ledger.drained ++ queued) pages place (record page { seen = note.seen }) other note kept kept.ordered there apart
+          (λ its. (old.0, old.1, old.2, its.3)) (λ k p away is its. kept.each k p is),
     )
 
 -- and compares it with its own list
 pub compares : (place : ℕ) (page : Page) → Learns IsRecorded place page (BeginsWithDrained page)
-compares place page queued pages book at cpu holder =
-    let ledger : Ledger = book.0 in
+compares place page queued pages (ledger, shelf, kept) at cpu holder =
+    let old = kept.each place page at in
+    subst (IsPrefix (subhistory_of cpu page.seen)) (sym (old.0 cpu holder).3)
+    (begins_part cpu page.seen (ledger.drained ++ queued) (begins_more page.seen ledger.drained queued old.3))
+
+-- ---- the steps of the journal's commits
+
+-- they leave a page
+pub lends : (place : ℕ) (page : Page) → page.keeps ≡ true → Forks IsRecorded place page (without_journal page) (journal_page page.entries)
+lends place page keeps queued pages (ledger, shelf, kept) at =
     let all : List Event = ledger.drained ++ queued in
-    let mine = cpu_page_of ledger all place page cpu holder (book.1.each place page at) in
-    subst (IsPrefix (subhistory_of cpu page.seen)) (sym mine.own) (begins_part cpu page.seen all (begins_more page.seen ledger.drained queued (book.1.seen place page at)))
+    let old = kept.each place page at in
+    let left : Page = without_journal page in
+    let last : ℕ = length (set pages place left) in
+    let after : Shelf = record shelf { place = last } in (
+      ledger,
+      after,
+      record {
+        are_records = kept.are_records;
+        unseated = kept.unseated;
+        ordered = kept.ordered;
+        each = each_push (IsPage ledger after all) (set pages place left) (journal_page page.entries)
+            (nobody ledger after all last (journal_page page.entries) refl (λ _. (refl, (old.2 keeps).1)) (begins_with_none ledger.drained))
+            (each_set (IsPage ledger after all) pages place left (old.0, old.1, λ no. absurd (false≢true no), old.3)
+            (λ other p off is. let was = kept.each other p is in
+            (was.0, was.1, λ too. absurd (off (sym (was.2 too).0 ∙ (old.2 keeps).0)), was.3)));
+      },
+    )
+
+-- they come to one
+pub takes : (place : ℕ) (page : Page) (other : ℕ) (journal : Page) → journal.keeps ≡ true
+    → Merges IsRecorded place page other journal (with_journal page journal) nobody_page
+takes place page other journal keeps queued pages (ledger, shelf, kept) at apart there =
+    let old = kept.each place page at in
+    let after : Shelf = record shelf { place = place } in (
+      ledger,
+      after,
+      joined ledger shelf after (ledger.drained ++ queued) pages place (with_journal page journal) other journal kept kept.ordered there apart
+          (λ its. (old.0, old.1, λ _. (refl, (its.2 keeps).1), old.3))
+          (λ k p away is its. let was = kept.each k p is in
+          (was.0, was.1, λ too. absurd (away (sym (was.2 too).0 ∙ (its.2 keeps).0)), was.3)),
+    )
+
+-- a CPU that has them commits its open call, and gives them away
+commits-entry : (place : ℕ) (page : Page) (entry : JournalEntry) → page.holder ≡ Cpu entry.cpu → page.keeps ≡ true → page.stage ≡ Open entry.command
+    → Forks IsRecorded place page (committed entry.given page) (journal_page (page.entries ++ entry ∷ []))
+commits-entry place page entry holder keeps deciding queued pages (ledger, shelf, kept) at =
+    let all : List Event = ledger.drained ++ queued in
+    let old = kept.each place page at in
+    let mine = old.0 entry.cpu holder in
+    let left : Page = committed entry.given page in
+    let right : Page = journal_page (page.entries ++ entry ∷ []) in
+    let last : ℕ = length (set pages place left) in
+    let entries : List JournalEntry = shelf.entries ++ entry ∷ [] in
+    let after : Shelf = record { place = last; entries = entries } in
+    let called : IsAt (Open entry.command) entry.cpu (count_of entry.cpu shelf.entries) shelf.entries all =
+    subst (λ (y : Stage × ℕ). IsAt y.0 entry.cpu y.1 shelf.entries all) (λ i. (deciding i, sym mine.4 i)) mine.5 in
+    let count : count_of entry.cpu shelf.entries + 1 ≡ page.commits + 1 = ap (λ n. n + 1) mine.4 in (
+      ledger,
+      after,
+      record {
+        are_records = kept.are_records;
+        unseated = kept.unseated;
+        ordered = ordered-committed shelf.entries all entry kept.ordered called;
+        each = each_push (IsPage ledger after all) (set pages place left) right
+            (nobody ledger after all last right refl (λ _. (refl, ap (λ (es : List JournalEntry). es ++ entry ∷ []) (old.2 keeps).1)) (begins_with_none ledger.drained))
+            (each_set (IsPage ledger after all) pages place left (
+              λ cpu is_cpu. subst (λ c. IsCpuPage ledger entries all c place left) (same_cpu page entry.cpu cpu holder is_cpu) (
+                mine.0,
+                mine.1,
+                mine.2,
+                mine.3,
+                count-push_own shelf.entries entry ∙ count,
+                subst (λ n. IsAt (Committed entry.given) entry.cpu n entries all) count (IsAt-own shelf.entries all entry),
+              ),
+              λ scribe. absurd (scribe_no_cpu page entry.cpu scribe holder),
+              λ no. absurd (false≢true no),
+              old.3,
+            )
+            (λ other p off is. let was = kept.each other p is in (
+              λ cpu is_cpu.
+                  let its = was.0 cpu is_cpu in (
+                    its.0,
+                    its.1,
+                    its.2,
+                    its.3,
+                    count-push_other cpu shelf.entries entry (λ same. off (sym its.1 ∙ ap ledger.seat (sym same) ∙ mine.1)) ∙ its.4,
+                    IsAt-committed shelf.entries all entry p.stage cpu p.commits its.5,
+                  ),
+              was.1,
+              λ too. absurd (off (sym (was.2 too).0 ∙ (old.2 keeps).0)),
+              was.3,
+            )));
+      },
+    )
+
+pub commits : (place : ℕ) (page : Page) (said_cpu cpu : ℕ) (said given : Reply) (command : Command) → said_cpu ≡ cpu → said ≡ given → page.holder ≡ Cpu cpu
+    → page.keeps ≡ true → page.stage ≡ Open command → Forks IsRecorded place page (committed said page) (entered said_cpu said page)
+commits place page said_cpu cpu said given command same_holder same_reply holder keeps deciding =
+    subst (λ (es : List JournalEntry). Forks IsRecorded place page (committed said page) (journal_page (page.entries ++ es)))
+    (ap (λ (s : Stage). entry_at s said_cpu said) (sym deciding))
+    (commits-entry place page (record { cpu = said_cpu; command = command; given = said }) (holder ∙ ap Cpu (sym same_holder)) keeps deciding)
+
+-- the scribe, who has them, finds the queue empty
+pub closes : (place : ℕ) (page : Page) → page.holder ≡ Scribe → page.keeps ≡ true
+    → Learns IsRecorded place page (λ queued. AreRecorded (numbered page.entries) (page.events ++ queued))
+closes place page holder keeps queued pages (ledger, shelf, kept) at =
+    let old = kept.each place page at in
+    subst (λ (y : List JournalEntry × List Event). AreRecorded (numbered y.0) (y.1 ++ queued))
+    (λ i. (sym (old.2 keeps).1 i, sym (old.1 holder).3 i)) kept.ordered

@@ -1,15 +1,16 @@
 -- Where all CPUs' parts together are as long as their lists, each part is the whole list.
-use Rattle.std.proofs.Common.{◌≡◌, ◌≢◌, ℕ, zero, suc, ◌+◌, ◌<◌, ◌≤◌, List, [], ◌∷◌, ◌++◌, length, Bool, true, false, eqb, if◌then◌else◌, Some, refl, arith, sym, ap, ◌∙◌, append-nil, subst, ⊎_elim}
+use Rattle.std.proofs.Common.{◌≡◌, ◌≢◌, ℕ, zero, suc, ◌+◌, ◌<◌, ◌≤◌, List, [], ◌∷◌, ◌++◌, length, Bool, true, false, eqb, if◌then◌else◌, get_or, Some, None, refl, arith, sym, ap, ◌∙◌, append-nil, subst, ⊎_elim}
 use Rattle.std.specs.List.{AllByRecursion}
 use Rattle.std.specs.Prelude.{slice_get}
-use Rattle.std.proofs.lemmas.List.{length-append, nil_from_length}
+use Rattle.std.proofs.lemmas.List.{length-append, length_push, nil_from_length}
 use Rattle.std.proofs.lemmas.List.Sums.{sum_by-cons}
 use Rattle.std.proofs.lemmas.Bool.{cases_eq}
-use Rattle.std.proofs.lemmas.Option.{none-some, same_Some}
+use Rattle.std.proofs.lemmas.Option.{none-some, same_Some, slice_get_cases}
 use mathlib.Core.List.{IsPrefix}
 use Rattle.rmm_spec.specs.declared.event.Event.{Event}
 use Rattle.rmm_spec.specs.HistoryText.{IsEvent, cpu_of, subhistory_of}
 use Rattle.rmm_spec.proofs.Places.{subhistory_of-same}
+use Rattle.rmm_spec.proofs.Records.{subhistory_of-push_same}
 use Rattle.history.proofs.SubhistoryLaws.{cpu_below}
 use Rattle.event_queue.specs.View.{CpuView, AreBegun, AreWhole, count_recorded}
 
@@ -107,3 +108,18 @@ pub are_whole : (passes : List CpuView) (events : List Event) → AllByRecursion
     → count_recorded passes ≤ length events → AreWhole passes events
 are_whole passes events each begun all =
     parts_are_whole passes (λ cpu. subhistory_of cpu events) begun (omega (arith, all, all_in_parts (length passes) events each))
+
+-- no event comes behind those that have each CPU's whole list
+pub no_event_more : (passes : List CpuView) (events : List Event) (event : Event) → cpu_of event < length passes → AreWhole passes events
+    → AreBegun passes (events ++ event ∷ []) → ⊥
+no_event_more passes events event below whole begun = ⊎_elim
+    (λ (some : (pass : CpuView) × (cpu_of event < length passes) × (slice_get passes (cpu_of event) ≡ Some pass) × (get_or passes (cpu_of event) pass ≡ pass)).
+    omega (
+      arith,
+      beginning-le (subhistory_of (cpu_of event) (events ++ event ∷ [])) some.0.events (begun (cpu_of event) some.0 some.2),
+      ap (λ (es : List Event). length es) (subhistory_of-push_same (cpu_of event) events event refl),
+      length_push (subhistory_of (cpu_of event) events) event,
+      ap (λ (es : List Event). length es) (whole (cpu_of event) some.0 some.2),
+    ))
+    (λ (none : (length passes ≤ cpu_of event) × (slice_get passes (cpu_of event) ≡ None)). omega (arith, none.0, below))
+    (slice_get_cases passes (cpu_of event)).1

@@ -1,3 +1,5 @@
+pub mod Numbered
+pub mod Stages
 pub mod Records
 pub mod Pages
 pub mod Book

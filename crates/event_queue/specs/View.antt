@@ -5,19 +5,23 @@ use mathlib.Core.List.{IsPrefix}
 use Rattle.atomic_table.specs.Seated.{TableId}
 use Rattle.rmm_spec.specs.declared.event.Event.{Event}
 use Rattle.rmm_spec.specs.HistoryText.{History, Stand, start, subhistory_of}
+use Rattle.rmm_spec.specs.Run.{JournalEntry}
+use Rattle.event_queue.specs.Stages.{Stage, Idle}
 
 -- which queue it is, and how many events it holds at most
 pub record RecorderView : Type 0 where
   pub queue : TableId
   pub capacity : ℕ
 
--- a CPU's own list of events, where it leads, what it has heard of the events that were drained, and whether a return was refused
+-- a CPU's own list of events, where it leads, how far the last call is, what it has heard of the events that were drained, and
+-- whether a return was refused
 pub record CpuView : Type 0 where
   pub queue : TableId
   pub cpus : ℕ
   pub cpu : ℕ
   pub events : List Event
   pub stand : Stand
+  pub stage : Stage
   pub heard : List Event
   pub is_stopped : Bool
 
@@ -31,9 +35,14 @@ pub record ScribeView : Type 0 where
   pub cpus : ℕ
   pub events : List Event
 
+-- the journal's commits
+pub record OrderView : Type 0 where
+  pub queue : TableId
+  pub entries : List JournalEntry
+
 -- a CPU's before its first call
 abbrev pub before_calls : TableId → ℕ → ℕ → CpuView
-before_calls queue cpus cpu = record { queue = queue; cpus = cpus; cpu = cpu; events = []; stand = start; heard = []; is_stopped = false }
+before_calls queue cpus cpu = record { queue = queue; cpus = cpus; cpu = cpu; events = []; stand = start; stage = Idle; heard = []; is_stopped = false }
 
 -- the history is the one that the scribe drains this queue into
 pub record CanDrain (queue : TableId) (scribe : ScribeView) (history : History) : Type 0 where

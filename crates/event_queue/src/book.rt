@@ -1,30 +1,25 @@
 //! The rule of the queue: what each pass knows, and what each step adds to it.
 
-ghost use Rattle.std.specs.Prelude.{◌≡◌, ◌+◌, [], ◌∷◌, ◌++◌};
-ghost use Rattle.event_queue.specs.Pages.{opening_page, cpu_page, nobody_page, note_of, MayFindQueued, BeginsWithDrained, IsDrained};
+ghost use Rattle.std.specs.Prelude.{◌≡◌, ◌+◌, ◌++◌};
+ghost use Rattle.world_laws.proofs.Recorded.{AreRecorded};
+ghost use Rattle.event_queue.specs.Numbered.{numbered};
+ghost use Rattle.event_queue.specs.Pages.{opening_page, cpu_page, journal_page, nobody_page, note_of, recorded, committed, entered, with_journal, without_journal, MayFindQueued, BeginsWithDrained, IsDrained};
 ghost use Rattle.event_queue.specs.Book.{IsRecorded};
 
 use crossbeam_queue::protocol::{Join, Lesson, Outcome, Protocol, Split};
 use crossbeam_queue::{Pass, RuledArrayQueue};
 use rmm_spec::Event;
-use std::collections::LinkedList;
+use std::marker::{Brand, Model, PhantomData};
 
-/// Who has a page.
-pub enum Holder {
-    Cpu(u8),
-    Scribe,
-    Nobody,
-}
+/// What a pass knows. No value of it is made.
+pub struct Page;
 
-/// What a pass knows: its CPU's events, or all that were drained. No value of it is made.
-pub struct Page {
-    pub holder: Holder,
-    pub cpus: u8,
-    // how many CPUs have a page, on the scribe's alone
-    pub seated: u8,
-    pub events: LinkedList<Event>,
-    // a beginning of what was drained, as the scribe has told
-    pub seen: LinkedList<Event>,
+impl Model for Page {
+    ghost use Rattle.event_queue.specs.Pages.{Page as Known, nobody_page};
+
+    ghost Value = { Known };
+
+    ghost view = { λ _. nobody_page };
 }
 
 pub struct Book;
@@ -61,7 +56,7 @@ impl Split<Page> for Seats {
 pub struct Records;
 
 impl Outcome<Event, Page> for Records {
-    ghost then = { λ page event new. new ≡ record page { events = page.events ++ event ∷ [] } };
+    ghost then = { λ page event new. new ≡ recorded page event };
 }
 
 impl Lesson<Event, Page> for Records {
@@ -99,4 +94,62 @@ impl Join<Page> for Hears {
 
 impl Lesson<Event, Page> for Hears {
     ghost fact = { BeginsWithDrained };
+}
+
+/// The journal's commits leave a pass.
+pub struct Lends;
+
+impl Split<Page> for Lends {
+    ghost left = { without_journal };
+
+    ghost right = { λ page. journal_page page.entries };
+}
+
+/// A pass takes them over.
+pub struct Takes;
+
+impl Join<Page> for Takes {
+    ghost both = { with_journal };
+
+    ghost spent = { nobody_page };
+}
+
+/// What is committed: whose call, and the reply to it.
+pub trait Commitment {
+    ghost use Rattle.std.specs.Prelude.{ℕ};
+    ghost use Rattle.rmm_spec.specs.declared.reply.Reply.{Reply};
+
+    ghost cpu: { ℕ };
+
+    ghost reply: { Reply };
+}
+
+impl Commitment for Brand {
+    ghost use Rattle.rmm_spec.specs.declared.reply.Reply.TheVariants.{Misplaced};
+
+    ghost cpu = { 0 };
+
+    ghost reply = { Misplaced };
+}
+
+/// A CPU that has the journal's commits adds that of its open call, and gives them away.
+pub struct Commits<C> {
+    what: PhantomData<C>,
+}
+
+impl<C: Commitment> Split<Page> for Commits<C> {
+    ghost left = { committed C.reply };
+
+    ghost right = { entered C.cpu C.reply };
+}
+
+/// The scribe, with the journal's commits, finds the queue empty: all that the CPUs recorded was drained then.
+pub struct Closes;
+
+impl Outcome<Event, Page> for Closes {
+    ghost then = { IsDrained };
+}
+
+impl Lesson<Event, Page> for Closes {
+    ghost fact = { λ page queued. AreRecorded (numbered page.entries) (page.events ++ queued) };
 }

@@ -1,19 +1,24 @@
 //! The pass by which a CPU records its calls and returns.
 
 ghost use Rattle.std.specs.Prelude.{◌≡◌, ◌+◌, ◌-◌, ◌<◌, ◌≤◌, IsTrue, IfOk, OnOk, OnErr, Some, true, false, [], ◌∷◌, ◌++◌};
-ghost use Rattle.crossbeam_queue.specs.Passes.{IsPassOf, ruled_capacity, view as page_of};
+ghost use Rattle.crossbeam_queue.specs.Passes.{IsPassOf, IsSamePass, ruled_capacity, view as page_of};
+ghost use Rattle.rmm_spec.specs.declared.command.Command.{Command};
 ghost use Rattle.rmm_spec.specs.CommandText.{IsCommand};
+ghost use Rattle.rmi_view.specs.Seen.{reply_seen};
 ghost use mathlib.Core.List.{IsPrefix};
 ghost use Rattle.rmm_spec.specs.HistoryText.{subhistory_of, start, stand_from};
-ghost use Rattle.event_queue.specs.Pages.{cpu_page};
+ghost use Rattle.event_queue.specs.Pages.{Cpu, cpu_page, committed, entered};
 ghost use Rattle.event_queue.specs.Records.{WasFull};
+ghost use Rattle.event_queue.specs.Stages.{Idle, Open, Committed, entry_at};
 ghost use Rattle.event_queue.specs.View.{before_calls, hearing};
 
-use crate::book::{Hears, PagePass, Queue, Records};
+use crate::book::{Commitment, Commits, Hears, Lends, PagePass, Queue, Records, Takes};
 use crate::full::Full;
+use crate::order_pass::OrderPass;
 use rmi_codec::reply_has_text;
+use rmi_view::ReplyRef;
 use rmm_spec::{Command, Event, Reply};
-use std::marker::Model;
+use std::marker::{Brand, Model};
 use std::sync::Wait;
 
 /// What a CPU records by: its own list of calls and returns, which takes no memory.
@@ -41,6 +46,7 @@ impl Model for CpuPass {
       cpu = p.cpu;
       events = (page_of p.pass).events;
       stand = record { next = p.next; is_open = p.is_open };
+      stage = (page_of p.pass).stage;
       heard = (page_of p.pass).seen;
       is_stopped = p.is_stopped;
     } };
@@ -109,6 +115,7 @@ impl CpuPass {
         ensures called { OnOk result (self.new ≡ record self.old {
           events = self.old.events ++ Event.Called self.old.cpu self.old.stand.next command ∷ [];
           stand = record { next = self.old.stand.next + 1; is_open = true };
+          stage = Open command;
         }) }
         ensures full { OnErr result (self.new ≡ self.old) }
         ensures cause { OnErr result (WasFull (ruled_capacity queue.now) self.old.cpus self.old.cpu self.old.events self.old.heard) }
@@ -138,9 +145,11 @@ impl CpuPass {
     ) -> Result<(), Full>
         requires queue { queue.now.table.shared.table_id ≡ self.old.queue }
         requires open { IsTrue self.old.stand.is_open }
+        requires committed { self.old.stage ≡ Committed reply }
         ensures returned { OnOk result (self.new ≡ record self.old {
           events = self.old.events ++ Event.Returned self.old.cpu (self.old.stand.next - 1) reply ∷ [];
           stand = record { next = self.old.stand.next; is_open = false };
+          stage = Idle;
         }) }
         ensures full { OnErr result (self.new ≡ record self.old { is_stopped = true }) }
         ensures cause { OnErr result (WasFull (ruled_capacity queue.now) self.old.cpus self.old.cpu self.old.events self.old.heard) }
@@ -160,6 +169,19 @@ impl CpuPass {
         }
     }
 
+    /// Commits the open call with this reply: the journal's page has its entry then.
+    pub(crate) fn commit(&mut self, queue: &Queue, order: &mut OrderPass, reply: ReplyRef<'_>)
+        requires queue { queue.now.table.shared.table_id ≡ self.old.queue }
+        requires order { order.old.queue ≡ self.old.queue }
+        requires open { (command : Command) × (self.old.stage ≡ Open command) }
+        ensures order { order.new ≡ record order.old { entries = order.old.entries ++ entry_at self.old.stage self.old.cpu (reply_seen reply.entry) } }
+        ensures committed { self.new ≡ record self.old { stage = Committed (reply_seen reply.entry) } }
+    {
+        let page = queue.another::<Lends>(&mut order.pass);
+        queue.absorb::<Takes>(&mut self.pass, page);
+        order.pass = commit_on::<Brand>(queue, &mut self.pass, self.cpu, reply);
+    }
+
     /// Compares what was drained with the CPU's own list, and has heard of it then.
     pub(crate) fn compare(&mut self, queue: &Queue, note: PagePass)
         requires queue { queue.now.table.shared.table_id ≡ self.old.queue }
@@ -170,4 +192,24 @@ impl CpuPass {
         queue.absorb::<Hears>(&mut self.pass, note);
         queue.learn_as::<Hears>(&mut self.pass);
     }
+}
+
+// The step of the page of a CPU that has the journal's commits.
+fn commit_on<C: Commitment>(
+    queue: &Queue,
+    pass: &mut PagePass,
+    _cpu: u8,
+    _reply: ReplyRef<'_>,
+) -> PagePass
+    requires cpu { C.cpu ≡ _cpu }
+    requires reply { C.reply ≡ reply_seen _reply }
+    requires queue { IsPassOf queue.now pass.old }
+    requires holder { (page_of pass.old).holder ≡ Cpu _cpu }
+    requires journal { (page_of pass.old).keeps ≡ true }
+    requires open { (command : Command) × ((page_of pass.old).stage ≡ Open command) }
+    ensures queue { IsSamePass pass.old pass.new × IsPassOf queue.now result }
+    ensures own { page_of pass.new ≡ committed (reply_seen _reply.entry) (page_of pass.old) }
+    ensures journal { page_of result ≡ entered _cpu (reply_seen _reply.entry) (page_of pass.old) }
+{
+    queue.another::<Commits<C>>(pass)
 }

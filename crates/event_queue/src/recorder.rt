@@ -2,19 +2,24 @@
 
 ghost use Rattle.std.specs.Prelude.{◌≡◌, ℕ, ◌+◌, ◌-◌, ◌<◌, ◌≤◌, IsTrue, IsOk, IfOk, OnOk, OnErr, List, Some, true, false, [], ◌∷◌, ◌++◌, length, slice_get};
 ghost use Rattle.rmm_spec.specs.declared.event.Event.{Event};
+ghost use Rattle.rmm_spec.specs.declared.command.Command.{Command};
 ghost use Rattle.rmm_spec.specs.CommandText.{IsCommand};
+ghost use Rattle.rmi_view.specs.Seen.{reply_seen};
 ghost use mathlib.Core.List.{IsPrefix};
 ghost use Rattle.rmm_spec.specs.HistoryText.{subhistory_of};
 ghost use Rattle.crossbeam_queue.specs.Passes.{IsPassOf, view as page_of};
 ghost use Rattle.event_queue.specs.Pages.{opening_page, scribe_page};
 ghost use Rattle.event_queue.specs.Records.{WasFull};
+ghost use Rattle.event_queue.specs.Stages.{Idle, Open, Committed, entry_at};
 ghost use Rattle.event_queue.specs.View.{CanDrain, before_calls, hearing};
 
-use crate::book::{Counts, PagePass, Queue, Seats};
+use crate::book::{Counts, Lends, PagePass, Queue, Seats};
 use crate::cpu_pass::CpuPass;
 use crate::full::Full;
+use crate::order_pass::OrderPass;
 use crate::scribe_pass::ScribePass;
 use history::{History, MOST_LINES};
+use rmi_view::ReplyRef;
 use rmm_spec::{Command, Reply};
 use std::alloc::{AllocError, Global};
 use std::marker::Model;
@@ -26,7 +31,7 @@ pub const MOST_QUEUED: usize = 65536;
 /// A bounded queue of events, which all CPUs and the scribe share.
 #[derive(Drop)]
 pub struct Recorder {
-    queue: Queue,
+    pub(crate) queue: Queue,
 }
 
 impl Model for Recorder {
@@ -40,23 +45,30 @@ impl Model for Recorder {
 }
 
 impl Recorder {
-    /// A queue for so many events, with a pass for each CPU and one for the scribe.
+    /// A queue for so many events, with a pass for each CPU, one for the scribe, and one that lies with the journal.
     pub fn new(
         alloc: Global,
         capacity: usize,
         cpus: u8,
-    ) -> Result<(Recorder, Vec<CpuPass>, ScribePass), AllocError>
+    ) -> Result<(Recorder, Vec<CpuPass>, ScribePass, OrderPass), AllocError>
         requires capacity { (1 ≤ capacity) × (capacity ≤ MOST_QUEUED) }
         requires cpus { (1 ≤ cpus) × (cpus ≤ 8) }
         ensures capacity { IfOk result (λ made. made.0.capacity ≡ capacity) }
         ensures count { IfOk result (λ made. length made.1.items ≡ cpus) }
         ensures passes { IfOk result (λ made. (cpu : ℕ) → cpu < cpus → slice_get made.1.items cpu ≡ Some (before_calls made.0.queue cpus cpu)) }
         ensures scribe { IfOk result (λ made. made.2 ≡ record { queue = made.0.queue; cpus = cpus; events = [] }) }
+        ensures order { IfOk result (λ made. made.3 ≡ record { queue = made.0.queue; entries = [] }) }
     {
         let (queue, mut scribe) = Queue::ruled(alloc, capacity)?;
         count_cpus(&queue, &mut scribe, cpus);
         let passes = seat_cpus(alloc, &queue, &mut scribe, cpus)?;
-        Ok((Recorder { queue }, passes, ScribePass::seated(scribe)))
+        let order = OrderPass::kept(queue.another::<Lends>(&mut scribe));
+        Ok((
+            Recorder { queue },
+            passes,
+            ScribePass::seated(scribe),
+            order,
+        ))
     }
 
     /// Records a call, and returns its number. Where the queue is full nothing is recorded.
@@ -70,6 +82,7 @@ impl Recorder {
         ensures called { OnOk result (pass.new ≡ record pass.old {
           events = pass.old.events ++ Event.Called pass.old.cpu pass.old.stand.next command ∷ [];
           stand = record { next = pass.old.stand.next + 1; is_open = true };
+          stage = Open command;
         }) }
         ensures full { OnErr result (pass.new ≡ pass.old) }
         ensures cause { OnErr result (WasFull self.now.capacity pass.old.cpus pass.old.cpu pass.old.events pass.old.heard) }
@@ -77,14 +90,28 @@ impl Recorder {
         pass.call(rt, &self.queue, command)
     }
 
-    /// Records the return of the open call. Where the queue is full the call stays open for good, and the pass is stopped.
+    /// Commits the open call with this reply, behind the commits that the journal has. Its return can be recorded then.
+    pub fn commit(&self, order: &mut OrderPass, pass: &mut CpuPass, reply: ReplyRef<'_>)
+        requires order { order.old.queue ≡ self.now.queue }
+        requires queue { pass.old.queue ≡ self.now.queue }
+        requires open { (command : Command) × (pass.old.stage ≡ Open command) }
+        ensures order { order.new ≡ record order.old { entries = order.old.entries ++ entry_at pass.old.stage pass.old.cpu (reply_seen reply.entry) } }
+        ensures committed { pass.new ≡ record pass.old { stage = Committed (reply_seen reply.entry) } }
+    {
+        pass.commit(&self.queue, order, reply);
+    }
+
+    /// Records the return of the open call, which is committed with this reply. Where the queue is full the call stays open for good,
+    /// and the pass is stopped.
     pub fn returned<R: Wait>(&self, rt: &R, pass: &mut CpuPass, reply: Reply) -> Result<(), Full>
         requires queue { pass.old.queue ≡ self.now.queue }
         requires open { IsTrue pass.old.stand.is_open }
+        requires committed { pass.old.stage ≡ Committed reply }
         requires running { pass.old.is_stopped ≡ false }
         ensures returned { OnOk result (pass.new ≡ record pass.old {
           events = pass.old.events ++ Event.Returned pass.old.cpu (pass.old.stand.next - 1) reply ∷ [];
           stand = record { next = pass.old.stand.next; is_open = false };
+          stage = Idle;
         }) }
         ensures full { OnErr result (pass.new ≡ record pass.old { is_stopped = true }) }
         ensures cause { OnErr result (WasFull self.now.capacity pass.old.cpus pass.old.cpu pass.old.events pass.old.heard) }

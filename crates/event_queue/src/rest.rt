@@ -2,9 +2,11 @@
 
 ghost use Rattle.std.specs.Prelude.{◌≡◌, ◌+◌, ◌<◌, ◌≤◌, ◌^◌, ◌↔◌, IsTrue, IfSome, IfNone, OnOk, OnErr, List, ◌++◌, length, map};
 ghost use Rattle.rmm_spec.specs.declared.event.Event.{Event};
+ghost use Rattle.event_queue.specs.Numbered.{AreInOrder};
 ghost use Rattle.event_queue.specs.View.{CanDrain, AreSeats, AreBegun, AreWhole, count_recorded, hearing};
 
 use crate::cpu_pass::CpuPass;
+use crate::order_pass::OrderPass;
 use crate::recorder::Recorder;
 use crate::scribe_pass::ScribePass;
 use history::{History, MOST_LINES};
@@ -32,6 +34,8 @@ impl Recorder {
         ensures short { OnErr result (history.old.room + length history.old.recorded.events ≤ count_recorded passes.old) }
         ensures history { history.new.recorded ≡ record history.old.recorded { events = scribe.new.events } }
         ensures passes { passes.new ≡ map (hearing scribe.new.events) passes.old }
+        ensures seats { AreSeats self.now.queue passes.new }
+        ensures all { OnOk result (AreWhole passes.new scribe.new.events) }
     {
         let Some(count) = count_recorded(passes) else {
             unreachable!()
@@ -40,6 +44,30 @@ impl Recorder {
         history.well_formed();
         self.compare_all(scribe, passes);
         drained
+    }
+
+    /// The law on a history that has each CPU's whole list: the journal's commits, written as its certificate, are an order of its
+    /// calls that keeps real time. Nothing can be committed from then on.
+    pub fn keeps_real_time<R: Wait>(
+        &self,
+        rt: &R,
+        scribe: &mut ScribePass,
+        order: OrderPass,
+        passes: &mut [CpuPass],
+    )
+        requires scribe { scribe.old.queue ≡ self.now.queue }
+        requires order { order.queue ≡ self.now.queue }
+        requires count { length passes.old ≡ scribe.old.cpus }
+        requires passes { AreSeats self.now.queue passes.old }
+        requires whole { AreWhole passes.old scribe.old.events }
+        ensures ordered { AreInOrder scribe.old.events order.entries }
+        ensures kept { (scribe.new ≡ scribe.old) × (passes.new ≡ passes.old) }
+    {
+        if let Some(_event) = scribe.take_last(rt, &self.queue, order) {
+            // an event that no CPU's list has
+            self.compare_all(scribe, passes);
+            unreachable!()
+        }
     }
 
     /// Drains again and again until the history has so many events.

@@ -1,10 +1,13 @@
 //! The pass by which the scribe takes events out of the queue.
 
-ghost use Rattle.std.specs.Prelude.{◌≡◌, [], ◌∷◌, ◌++◌, IfSome, MatchOption};
+ghost use Rattle.std.specs.Prelude.{◌≡◌, [], ◌∷◌, ◌++◌, IfNone, IfSome, MatchOption};
 ghost use Rattle.crossbeam_queue.specs.Passes.{IsPassOf, view as page_of};
 ghost use Rattle.rmm_spec.specs.HistoryText.{IsEvent, IsRecord, cpu_of, subhistory_of};
+ghost use Rattle.event_queue.specs.Numbered.{AreInOrder};
+ghost use Rattle.event_queue.specs.Pages.{Scribe};
 
-use crate::book::{Drains, Holder, PagePass, Queue, Tells};
+use crate::book::{Closes, Drains, PagePass, Queue, Takes, Tells};
+use crate::order_pass::OrderPass;
 use rmm_spec::Event;
 use std::marker::Model;
 use std::sync::Wait;
@@ -22,7 +25,7 @@ impl Model for ScribePass {
 
     ghost use Rattle.std.specs.Prelude.{◌≡◌, []};
     ghost use Rattle.crossbeam_queue.specs.Passes.{view as page_of};
-    ghost use Rattle.event_queue.specs.declared.book.Holder.TheVariants.{Scribe};
+    ghost use Rattle.event_queue.specs.Pages.{Scribe};
 
     ghost view = { λ p. record {
       queue = p.pass.table_id;
@@ -37,7 +40,7 @@ impl ScribePass {
     /// The scribe's pass before anything was drained.
     pub(crate) fn seated(pass: PagePass) -> ScribePass
         requires clear { pass.me.1 ≡ [] }
-        requires page { (page_of pass).holder ≡ Holder.Scribe }
+        requires page { (page_of pass).holder ≡ Scribe }
         ensures { result ≡ record { queue = pass.table_id; cpus = (page_of pass).cpus; events = (page_of pass).events } }
     {
         ScribePass { pass }
@@ -51,6 +54,23 @@ impl ScribePass {
         ensures record { IfSome result (λ event. IsRecord (subhistory_of (cpu_of event) (self.old.events ++ event ∷ []))) }
     {
         queue.pop_as::<Drains, R>(rt, &mut self.pass)
+    }
+
+    /// Takes over the journal's page, and takes the oldest event. Where there is none, the journal is an order of all that was drained.
+    pub(crate) fn take_last<R: Wait>(
+        &mut self,
+        rt: &R,
+        queue: &Queue,
+        order: OrderPass,
+    ) -> Option<Event>
+        requires queue { queue.now.table.shared.table_id ≡ self.old.queue }
+        requires order { order.queue ≡ self.old.queue }
+        ensures taken { MatchOption result (self.new ≡ self.old) (λ event. self.new ≡ record self.old { events = self.old.events ++ event ∷ [] }) }
+        ensures event { IfSome result (λ event. IsEvent self.old.cpus event) }
+        ensures ordered { IfNone result (AreInOrder self.old.events order.entries) }
+    {
+        queue.absorb::<Takes>(&mut self.pass, order.into_page());
+        queue.pop_as::<Closes, R>(rt, &mut self.pass)
     }
 
     /// What was drained so far, to be told to a CPU.

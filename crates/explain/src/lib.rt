@@ -1,7 +1,7 @@
-//! Why a certificate is a linearization of a history or isn't: the verdict with what stands behind it, and a report of that.
-//! It promises that the verdict which is explained is the one that `Judges` names of the two texts.
-//! The reply that is called specified is the machine's outcome in the state that the lines before the step lead to.
-//! A report is text for people; its first line is the verdict's, and it is appended whole or not at all.
+//! Why a certificate is a linearization of a history or isn't: the verdict with the reason for it, and a report of that.
+//! It promises that the verdict explained is the one that `Judges` names of the two texts, that the reply called specified is the
+//! machine's outcome in the state after the lines before the step, and that a report begins with the verdict's line and is appended
+//! whole or not at all. A report is text for people.
 //! The program `rmmexplain` depends on it.
 #![tactic(auto)]
 

@@ -8,8 +8,8 @@ use Rattle.explain_page.specs.Own.{own_text}
 use Rattle.explain_page.specs.Page.{AppendsPage, report_pieces}
 
 -- the pieces of the front, and behind them those of the report
-pub AppendsPage-written : {verdict : Verdict} {old new front text : List ℕ} (lines page : List ℕ) → IsWritten own_text front
-    → text ≡ verdict_line verdict ++ lines → page ≡ front ++ texts own_text (report_pieces text) → new ≡ old ++ page → AppendsPage verdict old new
+pub AppendsPage-written : {verdict : Verdict} {end old new front text : List ℕ} (lines page : List ℕ) → IsWritten own_text front
+    → text ≡ verdict_line verdict ++ lines ++ end → page ≡ front ++ texts own_text (report_pieces text) → new ≡ old ++ page → AppendsPage verdict end old new
 unfolding texts
 AppendsPage-written {old = old} {text = text} lines page written told whole appended = record {
   front = written.pieces;

@@ -15,8 +15,8 @@ unfoldable pub report_pieces : List ℕ → List (Piece own.Own)
 report_pieces text = Own (Frame Report) ∷ text_pieces text
 
 -- A page is appended. All of it are pieces: the program's own markup, numbers in decimals, and escaped texts. It ends with the
--- report, which is the verdict's line, and lines for people.
-pub record AppendsPage (verdict : Verdict) (old new : List ℕ) : Type 0 where
+-- report: the verdict's line, lines for people, and the end that was given.
+pub record AppendsPage (verdict : Verdict) (end old new : List ℕ) : Type 0 where
   pub front : List (Piece own.Own)
   pub lines : List ℕ
-  pub appended : new ≡ old ++ texts own_text (front ++ report_pieces (verdict_line verdict ++ lines))
+  pub appended : new ≡ old ++ texts own_text (front ++ report_pieces (verdict_line verdict ++ lines ++ end))

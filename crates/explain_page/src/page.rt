@@ -13,17 +13,20 @@ use crate::picture::write_picture;
 use explain::{ExplainedRun, report};
 use std::alloc::{AllocError, Global};
 
-/// Appends the page of an explained run, or nothing where memory is refused. Where a text has a bad line there is no picture.
+/// Appends the page of an explained run, or nothing where memory is refused. `end` stands at the end of its report. Where a text has
+/// a malformed line there is no diagram.
 pub fn append_page(
     alloc: Global,
     told: &ExplainedRun<'_>,
+    end: &[u8],
     out: &mut Vec<u8>,
 ) -> Result<(), AllocError>
-    ensures ok { OnOk result (AppendsPage (verdict_of told.now.explanation) out.old.items out.new.items) }
+    ensures ok { OnOk result (AppendsPage (verdict_of told.now.explanation) end.now out.old.items out.new.items) }
     ensures err { OnErr result (out.new.items ≡ out.old.items) }
 {
     let mut text = Vec::new(alloc);
     report(alloc, &told.explanation, &mut text)?;
+    text.extend_from_slice(end)?;
     let mut page = Page::new(alloc);
     write_front(alloc, &mut page, told)?;
     write_report(&mut page, text.as_slice())?;

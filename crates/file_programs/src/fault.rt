@@ -1,7 +1,7 @@
 //! Why a program printed nothing, or not all, and how it ends then.
 
-ghost use Rattle.std.specs.Prelude.{◌≡◌, ◌≤◌, ◌++◌, Some, IfOk, IfErr};
-ghost use Rattle.file_programs.specs.Ends.{status_of, words_of};
+ghost use Rattle.std.specs.Prelude.{◌≡◌, ◌≤◌, Some, IfOk, IfErr};
+ghost use Rattle.file_programs.specs.Ends.{line_of, status_of};
 ghost use Rattle.file_programs.specs.declared.fault.Fault.TheVariants.{NoMemory};
 
 use std::alloc::AllocError;
@@ -10,8 +10,10 @@ use std::fmt;
 /// What ended the program.
 #[derive(Drop)]
 pub enum Fault {
-    /// The words ask for nothing that it does.
+    /// The arguments aren't UTF-8.
     Arguments,
+    /// The arguments ask for nothing that the program does: a text on that for standard error.
+    Usage(String),
     /// The file at this path can't be opened, or not be read to its end.
     CannotRead(String),
     /// Standard output, or a file that is written, didn't take the whole text.
@@ -33,13 +35,13 @@ impl Fault {
         ensures { result ≡ status_of self.now }
     {
         match self {
-            Fault::Arguments => 2,
+            Fault::Arguments | Fault::Usage(_) => 2,
             Fault::CannotRead(_) | Fault::CannotWrite | Fault::NoMemory => 3,
         }
     }
 }
 
-// A program's line for a fault.
+// What a program writes to standard error of a fault.
 #[derive(Drop)]
 struct Line<'a> {
     program: &'a str,
@@ -47,15 +49,16 @@ struct Line<'a> {
 }
 
 impl fmt::Display for Line<'_> {
-    ghost output = { λ line. Some (line.program.now ++ words_of line.fault.now) };
+    ghost output = { λ line. Some (line_of line.program.now line.fault.now) };
 
     fn fmt<W: fmt::Write>(&self, f: &mut fmt::Formatter<W>) -> fmt::Result {
         let program = self.program;
         match self.fault {
-            Fault::Arguments => write!(f, "{program}: arguments"),
-            Fault::CannotRead(path) => write!(f, "{program}: cannot read {path}"),
-            Fault::CannotWrite => write!(f, "{program}: cannot write"),
-            Fault::NoMemory => write!(f, "{program}: no memory"),
+            Fault::Arguments => write!(f, "{program}: arguments\n"),
+            Fault::Usage(text) => f.write_str(text.as_str()),
+            Fault::CannotRead(path) => write!(f, "{program}: cannot read {path}\n"),
+            Fault::CannotWrite => write!(f, "{program}: cannot write\n"),
+            Fault::NoMemory => write!(f, "{program}: no memory\n"),
         }
     }
 }
@@ -68,7 +71,7 @@ pub fn end<R: Eprint>(rt: &R, program: &str, outcome: Result<u8, Fault>) -> u8
     match outcome {
         Ok(status) => status,
         Err(fault) => {
-            let _ = rt.eprintln(Line {
+            let _ = rt.eprint(Line {
                 program,
                 fault: &fault,
             });

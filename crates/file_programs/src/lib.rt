@@ -1,12 +1,14 @@
-//! What programs have in common that read whole files and print a text: their faults, with a line and an exit status for each.
+//! What programs that read whole files and print a text have in common: their arguments, their faults, a line and an exit status for each.
 //! It promises that a fault ends a program by one table, that reading and printing report no fault but their own, and that what is
-//! printed is what the writer took. What a file's bytes are is beyond its clauses.
+//! printed is what the writer took. What the arguments are and which bytes a file has is beyond its clauses.
 //! Where the line of a fault can't be written to standard error, the status alone reports it.
 //! The programs `rmmexplain` and `rmmfind` depend on it.
 #![tactic(auto)]
 
+mod arguments;
 mod fault;
 mod files;
 
+pub use arguments::{arguments_of, shown};
 pub use fault::{Fault, end};
 pub use files::{bytes_of, print};

@@ -1,5 +1,8 @@
 //! Tables and their leaves as a change leaves them.
 
+ghost use Rattle.std.specs.Prelude.{◌≡◌};
+ghost use Rattle.rmm_spec.specs.Update.{entry_with_ripas};
+
 use crate::fault::FlatFault;
 use crate::kept::{Kept, Spot};
 use crate::machine::FlatMachine;
@@ -8,7 +11,6 @@ use command_rows::Sight;
 use granule_state::Pa;
 use realm_desc::{HashAlgorithm, Realm, Space};
 use rmm_spec::{Entry, EntryChange, Ripas, Tag};
-use table_entries::with_ripas;
 
 impl FlatMachine {
     pub(crate) fn make_realm(
@@ -140,4 +142,15 @@ fn new_realm(root: u64, width: u8, level: u8, vmid: u8, algo: u8) -> Option<Real
     let space = Space::of(u64::from(width), u64::from(level))?;
     let algorithm = HashAlgorithm::of(u64::from(algo))?;
     Some(Realm::new(Pa::new(root), space, vmid, algorithm))
+}
+
+// The entry with another RIPAS, where it has one.
+fn with_ripas(entry: Entry, ripas: Ripas) -> Entry
+    ensures { result ≡ entry_with_ripas ripas entry }
+{
+    match entry {
+        Entry::Unassigned(_) => Entry::Unassigned(ripas),
+        Entry::Assigned(_, granule) => Entry::Assigned(ripas, granule),
+        Entry::Table(_) | Entry::UnassignedNs | Entry::AssignedNs(_) => entry,
+    }
 }

@@ -1,10 +1,11 @@
 -- What contracts see of the granules of a machine and of what a CPU holds. This project's own.
-use Rattle.std.specs.Prelude.{ℕ, ◌==◌, not, List, [], ◌∷◌}
+use Rattle.std.specs.Prelude.{ℕ, ◌==◌, not, List, [], ◌∷◌, Option, Some, None}
 use Rattle.std.specs.List.{filter}
 use Rattle.rmm_spec.specs.Local.{HeldCell}
 use Rattle.world_laws.specs.Replaced.{held_at}
 use Rattle.command_core.specs.Seen.{cell_of}
 use Rattle.granule_cells.specs.declared.cell.Cell.{Cell}
+use Rattle.granule_lock.specs.declared.hold.Freed.{Freed}
 use Rattle.granule_lock.specs.declared.hold.Hold.{Hold}
 
 -- how many granules there are
@@ -19,6 +20,17 @@ paired (g ∷ granules) (c ∷ cells) = held_at g (cell_of c) ∷ paired granule
 
 abbrev pub hold_cells : Hold → List HeldCell
 hold_cells hold = paired hold.granules.items hold.cells.items
+
+abbrev pub cells_of : Freed → List HeldCell
+cells_of freed = paired freed.granules.value.items freed.cells.value.items
+
+abbrev pub cells_freed : Option Freed → List HeldCell
+cells_freed None = []
+cells_freed (Some freed) = cells_of freed
+
+-- what was freed together, as it was held then
+abbrev pub freed_cells : Hold → List HeldCell
+freed_cells hold = cells_freed hold.freed
 
 -- what is held but at one granule, in the same order
 abbrev pub without_cell : ℕ → List HeldCell → List HeldCell

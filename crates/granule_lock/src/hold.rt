@@ -7,8 +7,9 @@ use arrayvec::ArrayVec;
 use command_core::{Cell, Held};
 use granule_state::Pa;
 use std::mem::replace;
+use std::snapshot::Snapshot;
 
-/// A cell that was taken from its granule. It has no `Drop`: it is put among those that are held, or it goes home.
+/// A cell on its way between its granule and a hold. It has no `Drop`: it is put among those that are held, or it goes home.
 pub(crate) struct Away {
     cell: Cell,
 }
@@ -29,11 +30,35 @@ impl Away {
     }
 }
 
+/// What was held as `free_all` began. It has no bytes.
+#[derive(Drop)]
+pub(crate) struct Freed {
+    granules: Snapshot<ArrayVec<Pa, 6>>,
+    cells: Snapshot<ArrayVec<Cell, 6>>,
+}
+
+impl Freed {
+    ghost use Rattle.std.specs.Prelude.{◌≡◌};
+    ghost use Rattle.granule_lock.specs.HeldCells.{cells_of, hold_cells};
+
+    pub(crate) fn of(hold: &Hold) -> Freed
+        ensures { cells_of result ≡ hold_cells hold.now }
+    {
+        Freed {
+            granules: Snapshot::of(&hold.granules),
+            cells: Snapshot::of(&hold.cells),
+        }
+    }
+}
+
 /// Up to six cells with their granules, in the order in which they were taken. Only a take adds one. It has no `Drop`, so that
-/// each cell goes home before it ends.
+/// each granule gets a cell home before it ends: the one that was taken, or the one that was last put in its place, for which
+/// `swap` gives the earlier one out.
 pub struct Hold {
     granules: ArrayVec<Pa, 6>,
     cells: ArrayVec<Cell, 6>,
+    // set by `free_all` alone
+    freed: Option<Freed>,
     ghost same_count: { length cells.items ≡ length granules.items },
     ghost few: { length granules.items ≤ 6 },
     ghost distinct: { IsTrue (are_distinct granules.items) },
@@ -43,7 +68,7 @@ impl Hold {
     ghost use Rattle.std.specs.Prelude.{◌≡◌, ◌++◌, ◌∷◌, [], ◌<◌, ◌==◌, false, Some, length, position};
     ghost use Rattle.world_laws.specs.Replaced.{held_at};
     ghost use Rattle.command_core.specs.Seen.{cell_of, cell_in, is_held};
-    ghost use Rattle.granule_lock.specs.HeldCells.{hold_cells, without_cell};
+    ghost use Rattle.granule_lock.specs.HeldCells.{cells_of, freed_cells, hold_cells, without_cell};
 
     /// No cells.
     pub fn new() -> Hold
@@ -52,6 +77,7 @@ impl Hold {
         Hold {
             granules: ArrayVec::new(),
             cells: ArrayVec::new(),
+            freed: None,
         }
     }
 
@@ -62,7 +88,16 @@ impl Hold {
         let Hold {
             granules: _,
             cells: _,
+            freed: _,
         } = self;
+    }
+
+    /// Keeps what was freed.
+    pub(crate) fn keep_freed(&mut self, freed: Freed)
+        ensures cells { hold_cells self.new ≡ hold_cells self.old }
+        ensures freed { freed_cells self.new ≡ cells_of freed }
+    {
+        self.freed = Some(freed);
     }
 
     /// One cell more, of a granule that isn't held yet.

@@ -4,11 +4,11 @@ ghost use Rattle.std.specs.Prelude.{◌≡◌, ℕ, [], false, Option, IsTrue, I
 ghost use Rattle.rmm_spec.specs.Call.{call_of};
 ghost use Rattle.command_core.specs.Seen.{place_of, is_held};
 ghost use Rattle.command_core.specs.Settled.{is_settled};
-ghost use Rattle.granule_lock.specs.HeldCells.{hold_cells};
+ghost use Rattle.granule_lock.specs.HeldCells.{freed_cells, hold_cells};
 ghost use Rattle.granule_lock.specs.Locked.{AreGranules, IsPlannedStep, IsReached, locking};
 
 use crate::granules::Granules;
-use crate::hold::Hold;
+use crate::hold::{Freed, Hold};
 use command_core::{CpuPlace, Held, Next, next_lock};
 use granule_state::{Config, Pa};
 use rmm_spec::Command;
@@ -68,14 +68,17 @@ fn goes_on<R: Wait>(
     true
 }
 
-/// Frees all that is held, what was taken last first.
+/// Frees all that is held, of which the hold keeps, for contracts alone, what it was.
 pub fn free_all<R: Wait>(rt: &R, granules: &Granules, hold: &mut Hold)
     requires { AreGranules granules.now.granules (hold_cells hold.old) }
-    ensures { hold_cells hold.new ≡ [] }
+    ensures none { hold_cells hold.new ≡ [] }
+    ensures freed { freed_cells hold.new ≡ hold_cells hold.old }
 {
+    let freed = Freed::of(hold);
     while let Some(last) = last_held(hold) {
         granules.give(rt, hold, last);
     }
+    hold.keep_freed(freed);
 }
 
 // The granule that was taken last, if any is held.

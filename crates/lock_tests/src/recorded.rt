@@ -1,17 +1,22 @@
 //! Runs of the recorder on one thread and on five.
 
-ghost use Rattle.std.specs.Prelude.{◌≡◌, [], length, IfOk};
+ghost use Rattle.std.specs.Prelude.{◌≡◌, [], false, length, IfOk, IsTrue};
 ghost use Rattle.std.specs.List.{AllWithin};
+ghost use Rattle.atomic_table.specs.Seated.{TableId};
+ghost use Rattle.event_queue.specs.Stages.{Committed};
 ghost use Rattle.event_queue.specs.View.{CanDrain, before_calls};
+ghost use Rattle.lock_tests.specs.Called.{HasCalled};
 
 use arrayvec::ArrayVec;
-use event_queue::{CpuPass, Recorder, ScribePass, fit_a_history};
+use event_queue::{CpuPass, OrderPass, Recorder, ScribePass, fit_a_history};
 use granule_state::Config;
 use history::{History, Reply, write};
 use rmi_codec::read_command;
+use rmi_view::ReplyRef;
 use std::alloc::{AllocError, Global};
-use std::sync::Wait;
+use std::marker::{Brand, Model, PhantomData};
 use std::sync::atomic::{AtomicU64, Ordering};
+use std::sync::{Mutex, Wait};
 use std::test::Fail;
 use std::thread;
 use std::thread::Threads;
@@ -31,21 +36,23 @@ fn has_text(alloc: Global, history: &History, text: &str) -> Result<bool, AllocE
 }
 
 /// A queue of two events, for two CPUs.
-fn of_two_cpus(alloc: Global) -> Result<(Recorder, CpuPass, CpuPass, ScribePass), Fail>
+fn of_two_cpus(alloc: Global) -> Result<(Recorder, CpuPass, CpuPass, ScribePass, OrderPass), Fail>
     ensures first { IfOk result (λ made. made.1 ≡ before_calls made.0.queue 2 0) }
     ensures second { IfOk result (λ made. made.2 ≡ before_calls made.0.queue 2 1) }
     ensures scribe { IfOk result (λ made. made.3 ≡ record { queue = made.0.queue; cpus = 2; events = [] }) }
+    ensures order { IfOk result (λ made. made.4.queue ≡ made.0.queue) }
 {
-    let (recorder, mut passes, scribe) = Recorder::new(alloc, 2, 2)?;
+    let (recorder, mut passes, scribe, order) = Recorder::new(alloc, 2, 2)?;
     let second = passes.pop().ok_or("a pass for CPU 1")?;
     let first = passes.pop().ok_or("a pass for CPU 0")?;
-    Ok((recorder, first, second, scribe))
+    Ok((recorder, first, second, scribe, order))
 }
 
 /// Whether a call of the text's command is recorded, with this number.
 fn calls<R: Wait>(rt: &R, recorder: &Recorder, pass: &mut CpuPass, number: u32, text: &str) -> bool
     requires { pass.old.queue ≡ recorder.now.queue }
-    ensures { (pass.new.queue ≡ pass.old.queue) × (pass.new.cpu ≡ pass.old.cpu) }
+    ensures same { (pass.new.queue ≡ pass.old.queue) × (pass.new.cpu ≡ pass.old.cpu) }
+    ensures called { IsTrue result → HasCalled pass.new }
 {
     let Ok(command) = read_command(text) else {
         return false;
@@ -56,17 +63,16 @@ fn calls<R: Wait>(rt: &R, recorder: &Recorder, pass: &mut CpuPass, number: u32, 
     matches!(recorder.call(rt, pass, command), Ok(given) if given == number)
 }
 
-/// Whether a return with nothing is recorded.
-fn returns<R: Wait>(rt: &R, recorder: &Recorder, pass: &mut CpuPass) -> bool
-    requires { pass.old.queue ≡ recorder.now.queue }
-    ensures { (pass.new.queue ≡ pass.old.queue) × (pass.new.cpu ≡ pass.old.cpu) }
+/// Commits the open call, and returns whether its return with nothing is recorded.
+fn returns<R: Wait>(rt: &R, recorder: &Recorder, order: &mut OrderPass, pass: &mut CpuPass) -> bool
+    requires queue { (pass.old.queue ≡ recorder.now.queue) × (order.old.queue ≡ recorder.now.queue) }
+    requires called { HasCalled pass.old }
+    ensures same { (pass.new.queue ≡ pass.old.queue) × (pass.new.cpu ≡ pass.old.cpu) }
+    ensures order { order.new.queue ≡ order.old.queue }
 {
-    if !pass.is_open() || pass.is_stopped() {
-        return false;
-    }
-    recorder
-        .returned(rt, pass, Reply::Ok(ArrayVec::new()))
-        .is_ok()
+    let reply = Reply::Ok(ArrayVec::new());
+    recorder.commit(order, pass, ReplyRef::of(&reply));
+    recorder.returned(rt, pass, reply).is_ok()
 }
 
 /// Whether a drain takes so many events.
@@ -89,33 +95,39 @@ fn drains<R: Wait>(
 fn refuses_first_return<R: Wait>(
     rt: &R,
     recorder: &Recorder,
+    mut order: OrderPass,
     first: &mut CpuPass,
     second: &mut CpuPass,
     scribe: &mut ScribePass,
     history: &mut History,
 ) -> bool
+    requires order { order.queue ≡ recorder.now.queue }
     requires first { first.old.queue ≡ recorder.now.queue }
     requires second { second.old.queue ≡ recorder.now.queue }
     requires scribe { CanDrain recorder.now.queue scribe.old history.old.recorded }
 {
-    let first_calls = calls(rt, recorder, first, 0, "c4000151 1000");
-    let second_calls = calls(rt, recorder, second, 0, "c4000151 2000");
-    let first_returns = returns(rt, recorder, first);
+    if !calls(rt, recorder, first, 0, "c4000151 1000")
+        || !calls(rt, recorder, second, 0, "c4000151 2000")
+    {
+        return false;
+    }
+    let first_returns = returns(rt, recorder, &mut order, first);
     let two_drained = drains(rt, recorder, scribe, history, 2);
-    let second_returns = returns(rt, recorder, second);
+    let second_returns = returns(rt, recorder, &mut order, second);
     let one_drained = drains(rt, recorder, scribe, history, 1);
     let is_stopped = !first_returns && first.is_stopped() && first.is_open();
     let goes_on = second_returns && !second.is_stopped() && !second.is_open();
-    first_calls && second_calls && two_drained && one_drained && is_stopped && goes_on
+    two_drained && one_drained && is_stopped && goes_on
 }
 
 #[test]
 fn refused_return_stops_its_pass(rt: HostRuntime) -> Result<(), Fail> {
     let mut history = empty(rt.alloc(), 4, 2)?;
-    let (recorder, mut first, mut second, mut scribe) = of_two_cpus(rt.alloc())?;
+    let (recorder, mut first, mut second, mut scribe, order) = of_two_cpus(rt.alloc())?;
     let is_so = refuses_first_return(
         &rt,
         &recorder,
+        order,
         &mut first,
         &mut second,
         &mut scribe,
@@ -131,34 +143,41 @@ fn refused_return_stops_its_pass(rt: HostRuntime) -> Result<(), Fail> {
 fn return_both<R: Wait>(
     rt: &R,
     recorder: &Recorder,
+    order: &mut OrderPass,
     first: &mut CpuPass,
     second: &mut CpuPass,
     scribe: &mut ScribePass,
     history: &mut History,
 ) -> bool
+    requires order { order.old.queue ≡ recorder.now.queue }
     requires first { first.old.queue ≡ recorder.now.queue }
     requires second { second.old.queue ≡ recorder.now.queue }
     requires scribe { CanDrain recorder.now.queue scribe.old history.old.recorded }
+    ensures order { order.new.queue ≡ order.old.queue }
     ensures first { (first.new.queue ≡ first.old.queue) × (first.new.cpu ≡ first.old.cpu) }
     ensures second { (second.new.queue ≡ second.old.queue) × (second.new.cpu ≡ second.old.cpu) }
     ensures scribe { CanDrain recorder.now.queue scribe.new history.new.recorded }
     ensures cpus { scribe.new.cpus ≡ scribe.old.cpus }
 {
-    let first_calls = calls(rt, recorder, first, 0, "c4000151 1000");
-    let second_calls = calls(rt, recorder, second, 0, "c4000151 2000");
+    if !calls(rt, recorder, first, 0, "c4000151 1000")
+        || !calls(rt, recorder, second, 0, "c4000151 2000")
+    {
+        return false;
+    }
     let two_drained = drains(rt, recorder, scribe, history, 2);
-    let second_returns = returns(rt, recorder, second);
-    let first_returns = returns(rt, recorder, first);
-    first_calls && second_calls && two_drained && second_returns && first_returns
+    let second_returns = returns(rt, recorder, order, second);
+    let first_returns = returns(rt, recorder, order, first);
+    two_drained && second_returns && first_returns
 }
 
 #[test]
 fn rest_makes_each_list_whole(rt: HostRuntime) -> Result<(), Fail> {
     let mut history = empty(rt.alloc(), 4, 2)?;
-    let (recorder, mut first, mut second, mut scribe) = of_two_cpus(rt.alloc())?;
+    let (recorder, mut first, mut second, mut scribe, mut order) = of_two_cpus(rt.alloc())?;
     let is_so = return_both(
         &rt,
         &recorder,
+        &mut order,
         &mut first,
         &mut second,
         &mut scribe,
@@ -172,28 +191,25 @@ fn rest_makes_each_list_whole(rt: HostRuntime) -> Result<(), Fail> {
     Ok(())
 }
 
-/// Records a call and its return, and returns whether neither was refused.
-fn record_one<R: Wait>(rt: &R, recorder: &Recorder, pass: &mut CpuPass) -> bool
-    requires { pass.old.queue ≡ recorder.now.queue }
-    ensures { pass.new.queue ≡ pass.old.queue }
-{
-    let number = pass.next_number();
-    calls(rt, recorder, pass, number, "c4000151 1000") && returns(rt, recorder, pass)
-}
-
 /// Records 500 calls and returns, or as many as aren't refused, and drains after each of them.
 fn record_drained<R: Wait>(
     rt: &R,
     recorder: &Recorder,
+    mut order: OrderPass,
     pass: &mut CpuPass,
     scribe: &mut ScribePass,
     history: &mut History,
 )
+    requires order { order.queue ≡ recorder.now.queue }
     requires pass { pass.old.queue ≡ recorder.now.queue }
     requires scribe { CanDrain recorder.now.queue scribe.old history.old.recorded }
 {
     for _round in 0..500 {
-        if !record_one(rt, recorder, pass) || !drains(rt, recorder, scribe, history, 2) {
+        let number = pass.next_number();
+        if !calls(rt, recorder, pass, number, "c4000151 1000")
+            || !returns(rt, recorder, &mut order, pass)
+            || !drains(rt, recorder, scribe, history, 2)
+        {
             break;
         }
     }
@@ -202,18 +218,81 @@ fn record_drained<R: Wait>(
 #[test]
 fn drained_queue_takes_more(rt: HostRuntime) -> Result<(), Fail> {
     let mut history = empty(rt.alloc(), 4, 2)?;
-    let (recorder, mut pass, _other, mut scribe) = of_two_cpus(rt.alloc())?;
-    record_drained(&rt, &recorder, &mut pass, &mut scribe, &mut history);
+    let (recorder, mut pass, _other, mut scribe, order) = of_two_cpus(rt.alloc())?;
+    record_drained(&rt, &recorder, order, &mut pass, &mut scribe, &mut history);
     assert!(rt; history.len() == 1000 && !pass.is_open() && !pass.is_stopped());
     Ok(())
 }
 
+/// Names the queue whose commits lie behind a lock.
+trait Named {
+    ghost queue: { TableId };
+}
+
+impl Named for Brand {
+    ghost queue = { record { words = 0; slots = 0; views_name = 0; atom = 0; block = 0; offset = 0; slot_names = [] } };
+}
+
+/// The commits of the queue that is named.
+#[derive(Drop)]
+struct Kept<N: Named> {
+    order: OrderPass,
+    named: PhantomData<N>,
+}
+
+impl<N: Named> Model for Kept<N> {
+    ghost use Rattle.event_queue.specs.View.{OrderView};
+
+    ghost Value = { OrderView };
+
+    ghost use Rattle.std.specs.Prelude.{◌≡◌};
+
+    ghost view = { λ k. k.order };
+
+    ghost invariant = { λ k. k.order.queue ≡ N.queue };
+}
+
+impl<N: Named> Kept<N> {
+    fn commit(&mut self, recorder: &Recorder, pass: &mut CpuPass, reply: &Reply)
+        requires queue { (recorder.now.queue ≡ N.queue) × (pass.old.queue ≡ recorder.now.queue) }
+        requires called { HasCalled pass.old }
+        ensures { pass.new ≡ record pass.old { stage = Committed reply.now } }
+    {
+        recorder.commit(&mut self.order, pass, ReplyRef::of(reply));
+    }
+}
+
+/// Records a call, its commit behind the lock and its return, and returns whether none was refused.
+fn record_one<N: Named, R: Wait>(
+    rt: &R,
+    recorder: &Recorder,
+    kept: &Mutex<Kept<N>>,
+    pass: &mut CpuPass,
+) -> bool
+    requires { (recorder.now.queue ≡ N.queue) × (pass.old.queue ≡ recorder.now.queue) }
+    ensures { pass.new.queue ≡ pass.old.queue }
+{
+    let number = pass.next_number();
+    if !calls(rt, recorder, pass, number, "c4000151 1000") {
+        return false;
+    }
+    let reply = Reply::Ok(ArrayVec::new());
+    kept.lock(rt).commit(recorder, pass, &reply);
+    recorder.returned(rt, pass, reply).is_ok()
+}
+
 /// Records 1,000 calls and returns, or as many as aren't refused, and adds one to those that have ended.
-fn record_thousand<R: Wait>(rt: &R, recorder: &Recorder, pass: &mut CpuPass, ended: &AtomicU64)
-    requires { pass.old.queue ≡ recorder.now.queue }
+fn record_thousand<N: Named, R: Wait>(
+    rt: &R,
+    recorder: &Recorder,
+    kept: &Mutex<Kept<N>>,
+    pass: &mut CpuPass,
+    ended: &AtomicU64,
+)
+    requires { (recorder.now.queue ≡ N.queue) × (pass.old.queue ≡ recorder.now.queue) }
 {
     for _round in 0..1000 {
-        if !record_one(rt, recorder, pass) {
+        if !record_one(rt, recorder, kept, pass) {
             break;
         }
     }
@@ -243,28 +322,35 @@ fn drain_beside<R: Wait>(
 }
 
 /// Four threads record beside one that drains.
-fn record_beside<R: Threads + Wait + Sync>(
+fn record_beside<N: Named + Send + Sync, R: Threads + Wait + Sync>(
     rt: &R,
     recorder: &Recorder,
+    order: OrderPass,
     passes: &mut [CpuPass],
     scribe: ScribePass,
     history: History,
 ) -> (ScribePass, History)
+    requires named { recorder.now.queue ≡ N.queue }
+    requires order { order.queue ≡ recorder.now.queue }
     requires passes { AllWithin (λ pass. pass.queue ≡ recorder.now.queue) passes.old 0 (length passes.old) }
     requires scribe { CanDrain recorder.now.queue scribe history.recorded }
     ensures { CanDrain recorder.now.queue result.0 result.1.recorded }
 {
     let ended = AtomicU64::new(0);
+    let kept = Mutex::new(Kept::<N> {
+        order,
+        named: PhantomData,
+    });
     let ((), drained) = thread::join(
         rt,
         ||
-            requires { AllWithin (λ pass. pass.queue ≡ recorder.now.queue) passes.now 0 (length passes.now) }
+            requires { (recorder.now.queue ≡ N.queue) × AllWithin (λ pass. pass.queue ≡ recorder.now.queue) passes.now 0 (length passes.now) }
         {
             thread::for_each_mut(
                 rt,
                 passes,
                 4,
-                &|_, pass| record_thousand(rt, recorder, pass, &ended),
+                &|_, pass| record_thousand(rt, recorder, &kept, pass, &ended),
             )
         },
         || -> (ScribePass, History)
@@ -278,10 +364,11 @@ fn record_beside<R: Threads + Wait + Sync>(
 #[test]
 fn four_threads_record_while_one_drains(rt: HostRuntime) -> Result<(), Fail> {
     let history = empty(rt.alloc(), 4, 4)?;
-    let (recorder, mut passes, scribe) = Recorder::new(rt.alloc(), 65536, 4)?;
-    let (mut scribe, mut history) = record_beside(
+    let (recorder, mut passes, scribe, order) = Recorder::new(rt.alloc(), 65536, 4)?;
+    let (mut scribe, mut history) = record_beside::<Brand, HostRuntime>(
         &rt,
         &recorder,
+        order,
         passes.as_mut_slice(),
         scribe,
         history,

@@ -15,7 +15,6 @@ use Rattle.monitor.specs.declared.refused.Refused.{Refused}
 use Rattle.monitor.specs.declared.refused.Refused.TheVariants.{Full, NoMemory, Unrecorded, Stopped, Disagrees}
 use Rattle.monitor.specs.Executed.{ArePaired, Leaves}
 use Rattle.monitor.specs.Cpus.{ArePairs, AreCpus}
-use Rattle.monitor.proofs.Calls.{AreOfCalls-nil}
 
 -- ---- as they are made
 
@@ -36,10 +35,10 @@ paired-first monitor cpu = record {
   same_queue = refl;
   same_cpus = refl;
   same_cpu = refl;
-  calls = AreOfCalls-nil cpu;
   closed = λ _. refl;
   running = λ _. refl;
   counted = λ _. refl;
+  faultless = λ _. refl;
   few = omega arith;
 }
 

@@ -2,6 +2,6 @@ pub mod Calls
 pub mod CpuLists
 pub mod Causes
 pub mod Closes
-pub mod Orders
+pub mod Passes
 pub mod ToldLines
 pub mod Written

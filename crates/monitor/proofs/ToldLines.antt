@@ -12,7 +12,8 @@ use Rattle.rmm_spec.specs.HistoryText.{Config}
 use Rattle.rmm_spec.specs.Run.{JournalEntry}
 use Rattle.rmm_spec.specs.World.{Commitment, line_for}
 use Rattle.commit_tickets.specs.Entries.{Committed}
-use Rattle.commit_tickets.specs.Listed.{commit_at, listed_from, numbered, numbered_from}
+use Rattle.commit_tickets.specs.Listed.{commit_at, listed_from}
+use Rattle.event_queue.specs.Numbered.{numbered, numbered_from}
 use Rattle.commit_tickets.specs.View.{TokenView}
 use Rattle.commit_tickets.proofs.Lists.{listed-own, listed-other}
 use Rattle.monitor.specs.Closed.{IsJournal}

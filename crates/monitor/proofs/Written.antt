@@ -7,17 +7,14 @@ use Rattle.rmm_spec.specs.declared.line.Line.{Line}
 use Rattle.rmm_spec.specs.Cell.{put}
 use Rattle.rmm_spec.specs.Run.{JournalEntry}
 use Rattle.rmm_spec.specs.World.{Commitment, line_for}
-use Rattle.commit_tickets.specs.Listed.{numbered_from}
+use Rattle.event_queue.specs.Numbered.{numbered_from}
+pub use Rattle.event_queue.proofs.Orders.{commitment}
 
 -- ---- all lines
 
 -- the lines of the entries, where each CPU's next has this number
 abbrev pub lines_from : List Event → (ℕ → ℕ) → List JournalEntry → List Line
 lines_from events number entries = map (line_for events) (numbered_from number entries)
-
--- an entry as its CPU's commit of this number
-abbrev pub commitment : JournalEntry → ℕ → Commitment
-commitment entry number = record { cpu = entry.cpu; number = number; command = entry.command; given = entry.given }
 
 -- one line more is written, and one entry less is left
 pub written-next : (events : List Event) (entries rest : List JournalEntry) (entry : JournalEntry) (number next : ℕ → ℕ) (lines new all : List Line)

@@ -1,32 +1,24 @@
 -- Why an execution ends with a fault.
-use Rattle.std.specs.Prelude.{◌≡◌, List, Result, Ok, Err, IsTrue}
+use Rattle.std.specs.Prelude.{List, Result, Ok, Err}
 use Rattle.rmm_spec.specs.declared.command.Command.{Command}
-use Rattle.rmm_spec.specs.Call.{call_of}
 use Rattle.rmm_spec.specs.HistoryText.{Config}
 use Rattle.rmm_spec.specs.Local.{HeldCell}
-use Rattle.rmm_spec.specs.Run.{IsRun}
-use Rattle.rmm_spec.specs.State.{State, opening}
-use Rattle.command_core.specs.Seen.{place_of}
-use Rattle.command_core.specs.Settled.{is_settled}
 use Rattle.commit_tickets.specs.declared.committing.Done.{Done}
 use Rattle.commit_tickets.specs.declared.fault.CommitFault.{CommitFault}
 use Rattle.commit_tickets.specs.declared.fault.CommitFault.TheVariants as commit
+use Rattle.commit_tickets.specs.Commits.{IsOfRun}
 use Rattle.commit_tickets.specs.Faults.{HasCause}
 use Rattle.commit_tickets.specs.View.{JournalView, TokenView}
-use Rattle.granule_lock.specs.Locked.{AreGranules}
 use Rattle.monitor.specs.declared.refused.Refused.{Refused}
 use Rattle.monitor.specs.declared.refused.Refused.TheVariants.{Full, NoMemory, Unrecorded, Stopped, Disagrees}
+use Rattle.monitor.specs.Held.{WereTaken}
 
--- The fault had its cause in a journal whose entries are a run of this machine, and in cells of its granules that settle the
--- command.
+-- The fault had its cause in a journal whose entries are a run of this machine, and in cells that were taken for the command.
 pub record HadCause (config : Config) (fault : CommitFault) (command : Command) (token : TokenView) : Type 0 where
   pub journal : JournalView
-  pub last : State
   pub cells : List HeldCell
-  pub same : journal.config ≡ config
-  pub run : IsRun (opening config) journal.entries last
-  pub granules : AreGranules config.granules cells
-  pub settled : IsTrue (is_settled config (call_of command) (place_of token.place) cells)
+  pub of_run : IsOfRun config journal
+  pub taken : WereTaken config command token cells
   pub cause : HasCause fault config command journal token cells
 
 -- an answer for a fault is given only where the fault had its cause

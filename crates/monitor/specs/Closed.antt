@@ -4,26 +4,19 @@ use Rattle.std.specs.List.{sum_by}
 use Rattle.rmm_spec.specs.declared.event.Event.{Event}
 use Rattle.rmm_spec.specs.declared.line.Line.{Line}
 use Rattle.rmm_spec.specs.HistoryText.{Config}
-use Rattle.rmm_spec.specs.Linearization.{IsOrderOf, IsRunOf}
+use Rattle.rmm_spec.specs.Linearization.{IsLinearization}
 use Rattle.rmm_spec.specs.Run.{JournalEntry, IsRun}
 use Rattle.rmm_spec.specs.State.{State, opening}
-use Rattle.rmm_spec.specs.World.{line_for}
-use Rattle.commit_tickets.specs.Listed.{AreListed, numbered}
+use Rattle.commit_tickets.specs.Listed.{AreListed}
 use Rattle.commit_tickets.specs.View.{TokenView}
+use Rattle.event_queue.specs.Numbered.{lines_for}
 use Rattle.event_queue.specs.View.{CpuView, count_recorded}
 use Rattle.history.specs.View.{Recording}
 
--- the journal written as a certificate of these events
-abbrev pub lines_for : List Event → List JournalEntry → List Line
-lines_for events entries = map (line_for events) (numbered entries)
-
--- The lines are a journal that the tokens list, written as a certificate of these events. They are an order of the calls, and the
--- replies that they claim make a run of this machine. So of a linearization only real time is left.
+-- The lines are a journal that the tokens list, written as a certificate of these events, and a linearization of them.
 pub record IsJournal (config : Config) (tokens : List TokenView) (events : List Event) (lines : List Line) : Type 0 where
   pub entries : List JournalEntry
-  pub last : State
-  pub order : IsOrderOf events lines
-  pub run : IsRunOf (record { config = config; events = events }) lines entries last
+  pub linearization : IsLinearization (record { config = config; events = events }) lines
   pub listed : AreListed tokens entries
   pub written : lines ≡ lines_for events entries
 
@@ -36,9 +29,8 @@ abbrev pub IsShort : Recording → List TokenView → List CpuView → Type 0
 IsShort history tokens passes =
     (history.room + length history.recorded.events ≤ count_recorded passes) ⊎ (0 < count_committed tokens)
 
--- Some journal that is a run of this machine, with as many entries as the tokens list together, isn't what they list.
-pub record Disagree (config : Config) (tokens : List TokenView) : Type 0 where
-  pub entries : List JournalEntry
+-- The entries, a run of this machine and as many as the tokens list together, aren't what they list.
+pub record Disagree (config : Config) (tokens : List TokenView) (entries : List JournalEntry) : Type 0 where
   pub last : State
   pub run : IsRun (opening config) entries last
   pub counted : length entries ≡ count_committed tokens

@@ -6,41 +6,29 @@ use Rattle.rmm_spec.specs.declared.event.Event.TheVariants.{Called, Returned}
 use Rattle.rmm_spec.specs.declared.reply.Reply.{Reply}
 use Rattle.rmm_spec.specs.HistoryText.{Config}
 use Rattle.rmm_spec.specs.Linearization.{IsCalled, IsReturned}
-use Rattle.rmm_spec.specs.Local.{HeldCell}
-use Rattle.rmm_spec.specs.Shape.{Side}
-use Rattle.command_core.specs.Changed.{hold_of}
-use Rattle.command_core.specs.Seen.{place_of}
 use Rattle.commit_tickets.specs.declared.committing.Done.{Done}
-use Rattle.commit_tickets.specs.declared.draft.Draft.{Draft}
 use Rattle.commit_tickets.specs.declared.fault.CommitFault.{CommitFault}
 use Rattle.commit_tickets.specs.declared.fault.CommitFault.TheVariants as commit
-use Rattle.commit_tickets.specs.Drafts.{IsDecided}
 use Rattle.commit_tickets.specs.Entries.{Committed}
+pub use Rattle.commit_tickets.specs.Left.{HasCommitted, HasFailed}
 use Rattle.commit_tickets.specs.View.{TokenView}
 use Rattle.event_queue.specs.Records.{WasFull}
+use Rattle.event_queue.specs.Stages as stages
 use Rattle.event_queue.specs.View.{CpuView}
 use Rattle.monitor.specs.View.{MonitorView}
 use Rattle.monitor.specs.declared.refused.Refused.{Refused}
 use Rattle.monitor.specs.declared.refused.Refused.TheVariants.{Full, NoMemory, Unrecorded, Stopped, Disagrees}
 
--- The commits are those of a CPU's calls with these events: each is of the call of its number, counted from 0, and each return
--- gives the reply of the commit of its number.
-pub record AreOfCalls (cpu : ℕ) (mine : List Committed) (events : List Event) : Type 0 where
-  pub called : (number : ℕ) (commit : Committed) → slice_get mine number ≡ Some commit
-      → (place : ℕ) × IsCalled events place cpu number commit.command
-  pub returned : (place number : ℕ) (given : Reply) → IsReturned events place cpu number given
-      → (commit : Committed) × (slice_get mine number ≡ Some commit) × (commit.reply ≡ given)
-
--- Token and pass are of one CPU of this monitor, and its commits are those of its calls. While the token isn't stopped, the CPU has
--- returned from all its calls and has committed each. It has no more commits than events.
+-- Token and pass are of one CPU of this monitor. While the token isn't stopped, the CPU has returned from all its calls and has
+-- committed each, and none was refused. It has no more commits than events.
 pub record ArePaired (monitor : MonitorView) (token : TokenView) (pass : CpuView) : Type 0 where
   pub same_queue : pass.queue ≡ monitor.queue
   pub same_cpus : pass.cpus ≡ monitor.config.cpus
   pub same_cpu : pass.cpu ≡ token.cpu
-  pub calls : AreOfCalls token.cpu token.mine pass.events
   pub closed : token.is_stopped ≡ false → pass.stand.is_open ≡ false
   pub running : token.is_stopped ≡ false → pass.is_stopped ≡ false
   pub counted : token.is_stopped ≡ false → pass.stand.next ≡ length token.mine
+  pub faultless : token.is_stopped ≡ false → token.fault ≡ None
   pub few : length token.mine ≤ length pass.events
 
 -- ---- the pass
@@ -50,6 +38,7 @@ abbrev pub called : CpuView → Command → CpuView
 called pass command = record pass {
   events = pass.events ++ Called pass.cpu pass.stand.next command ∷ [];
   stand = record { next = pass.stand.next + 1; is_open = true };
+  stage = stages.Open command;
 }
 
 -- The pass of the token's CPU, whose last event is the call of this command.
@@ -63,32 +52,16 @@ abbrev pub returned : CpuView → Reply → CpuView
 returned pass given = record pass {
   events = pass.events ++ Returned pass.cpu (pass.stand.next - 1) given ∷ [];
   stand = record { next = pass.stand.next; is_open = false };
+  stage = stages.Idle;
 }
+
+-- the pass after the commit of its open call
+abbrev pub committed : CpuView → Reply → CpuView
+committed pass given = record pass { stage = stages.Committed given }
 
 -- the pass after a return that was refused
 abbrev pub unreturned : CpuView → CpuView
 unreturned pass = record pass { is_stopped = true }
-
--- ---- the token
-
--- the token has one commit more, and was told of all up to it; the CPU may be elsewhere
-abbrev pub HasCommitted : TokenView → Command → Done → TokenView → Type 0
-HasCommitted old command done new = new ≡ record old {
-  place = new.place;
-  mine = old.mine ++ record { ticket = done.ticket; command = command; reply = done.reply } ∷ [];
-  room = new.room;
-  fault = None;
-  seen = done.ticket + 1;
-}
-
--- what the draft owes was decided with some side table, that of the journal then
-pub record IsOwed (config : Config) (command : Command) (token : TokenView) (cells : List HeldCell) (draft : Draft) : Type 0 where
-  pub side : Side
-  pub decided : IsDecided config token.cpu command (hold_of cells side (place_of token.place)) draft
-
--- nothing was committed, for which the token keeps the fault
-abbrev pub HasFailed : TokenView → CommitFault → TokenView → Type 0
-HasFailed old fault new = new ≡ record old { room = new.room; fault = Some fault }
 
 -- ---- answers
 
@@ -102,7 +75,7 @@ abbrev pub Leaves : Command → TokenView → CpuView → Result Done Refused �
 Leaves command token pass (Ok done) new_token new_pass =
     HasCommitted token command done new_token × (new_pass ≡ returned (called pass command) done.reply)
 Leaves command token pass (Err (Unrecorded done)) new_token new_pass =
-    HasCommitted (record token { is_stopped = true }) command done new_token × (new_pass ≡ unreturned (called pass command))
+    HasCommitted (record token { is_stopped = true }) command done new_token × (new_pass ≡ unreturned (committed (called pass command) done.reply))
 Leaves command token pass (Err NoMemory) new_token new_pass =
     HasFailed (record token { is_stopped = true }) commit.NoMemory new_token × (new_pass ≡ called pass command)
 Leaves command token pass (Err Disagrees) new_token new_pass =

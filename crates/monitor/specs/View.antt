@@ -8,3 +8,9 @@ pub record MonitorView : Type 0 where
   pub config : Config
   pub queue : TableId
   pub capacity : ℕ
+
+-- a queue, how many events it holds at most, and how many CPUs record into it
+pub record QueueView : Type 0 where
+  pub queue : TableId
+  pub capacity : ℕ
+  pub cpus : ℕ

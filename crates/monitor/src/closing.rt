@@ -2,6 +2,9 @@
 
 ghost use Rattle.std.specs.Prelude.{◌≡◌, ◌<◌, ◌++◌, List, IfOk, IfErr};
 ghost use Rattle.rmm_spec.specs.declared.event.Event.{Event};
+ghost use Rattle.rmm_spec.specs.Linearization.{IsLinearization};
+ghost use Rattle.commit_tickets.specs.declared.unlisted.Unlisted.{Unlisted};
+ghost use Rattle.commit_tickets.specs.Listed.{unlisted_entries};
 ghost use Rattle.event_queue.specs.View.{AreWhole, CanDrain, count_recorded};
 ghost use Rattle.monitor.specs.Closed.{Disagree, IsJournal, IsShort};
 ghost use Rattle.monitor.specs.Cpus.{AreCpus};
@@ -10,6 +13,7 @@ ghost use Rattle.monitor.specs.declared.close_fault.CloseFault.TheVariants.{NoMe
 use crate::close_fault::CloseFault;
 use crate::journal_lines::certificate_of;
 use crate::monitor::Monitor;
+use crate::ordered::Ordered;
 use certificate::Certificate;
 use commit_tickets::{CpuToken, Site};
 use event_queue::{CpuPass, History, ScribePass};
@@ -36,8 +40,11 @@ impl<S: Site> Monitor<S> {
         ensures whole { IfOk result (λ closed. AreWhole passes.items closed.0.recorded.events) }
         ensures history { IfOk result (λ closed. (rest : List Event)
             × (closed.0.recorded ≡ record history.recorded { events = history.recorded.events ++ rest })) }
+        ensures linearization { IfOk result (λ closed.
+            IsLinearization (record { config = self.config; events = closed.0.recorded.events }) closed.1.lines) }
         ensures certificate { IfOk result (λ closed. IsJournal self.config tokens.items closed.0.recorded.events closed.1.lines) }
-        ensures cause { IfErr result (λ fault. fault ≡ Disagrees → Disagree self.config tokens.items) }
+        ensures cause { IfErr result (λ fault. (unlisted : Unlisted) → fault ≡ Disagrees unlisted
+            → Disagree self.config tokens.items (unlisted_entries unlisted)) }
         ensures short { IfErr result (λ fault. fault ≡ NoMemory → IsShort history tokens.items passes.items) }
     {
         let _cpus = self.config.cpus();
@@ -47,17 +54,18 @@ impl<S: Site> Monitor<S> {
             ..
         } = self;
         let (mut scribe, mut passes, mut history) = (scribe, passes, history);
-        recorder.drain_rest(rt, &mut scribe, passes.as_mut_slice(), &mut history)?;
+        let passes = passes.as_mut_slice();
+        recorder.drain_rest(rt, &mut scribe, passes, &mut history)?;
         let mut tokens = tokens;
         let tokens = tokens.as_mut_slice();
-        let mut journal = journal.into_inner();
+        let Ordered { mut journal, order } = journal.into_inner();
         journal.audit(tokens);
         let _size = journal.config();
         let _books = journal.books();
-        if !journal.is_listed_by(tokens) {
-            return Err(CloseFault::Disagrees);
+        if let Err(unlisted) = journal.compare(tokens) {
+            return Err(CloseFault::Disagrees(unlisted));
         }
-        history.well_formed();
+        recorder.keeps_real_time(rt, &mut scribe, order, passes);
         let certificate = certificate_of(alloc, &journal, &history)?;
         Ok((history, certificate))
     }

@@ -6,7 +6,7 @@ ghost use Rattle.rmm_spec.specs.CertificateText.{IsLine};
 ghost use Rattle.rmm_spec.specs.Run as run;
 ghost use Rattle.rmm_spec.specs.World.{line_for};
 ghost use Rattle.rmi_view.specs.Seen.{HasFewWords, command_seen, reply_seen};
-ghost use Rattle.monitor.specs.Closed.{lines_for};
+ghost use Rattle.event_queue.specs.Numbered.{lines_for};
 
 use certificate::{Certificate, Line, MOST_LINES};
 use command_log::Logged;

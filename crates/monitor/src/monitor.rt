@@ -6,6 +6,8 @@ ghost use Rattle.commit_tickets.specs.View.{first_tokens};
 ghost use Rattle.event_queue.specs.View.{CanDrain, before_calls};
 ghost use Rattle.monitor.specs.Cpus.{AreCpus};
 
+use crate::ordered::Ordered;
+use crate::queue::Queue;
 use crate::soon::Soon;
 use commit_tickets::{CpuToken, Journal, Site};
 use event_queue::{CpuPass, History, Recorder, ScribePass};
@@ -22,7 +24,7 @@ use std::sync::ledger::Blank;
 pub struct Monitor<S: Site> {
     pub(crate) config: Config,
     pub(crate) granules: Granules,
-    pub(crate) journal: Soon<Journal<S>>,
+    pub(crate) journal: Soon<Ordered<S>>,
     pub(crate) recorder: Recorder,
 }
 
@@ -35,26 +37,28 @@ impl<S: Site> Model for Monitor<S> {
 
     ghost view = { λ m. record { config = m.config; queue = m.recorder.queue; capacity = m.recorder.capacity } };
 
-    ghost invariant = { λ m. (m.granules.granules ≡ m.config.granules) × (m.config ≡ S.config) × (m.config.cpus ≡ S.parts) };
+    ghost invariant = { λ m. (m.granules.granules ≡ m.config.granules) × (m.config ≡ S.config) × (m.config.cpus ≡ S.parts)
+        × (m.recorder.queue ≡ S.queue) };
 }
 
 impl<S: Site> Monitor<S> {
-    /// A monitor whose granules are all the host's, with a queue for so many events; a token and a pass for each CPU, and the
+    /// A monitor whose granules are all the host's, with a queue that is made for its CPUs; a token and a pass for each CPU, and the
     /// scribe's pass. The blank is that of the site's ledger, with one part for each CPU. Where memory is refused there is
     /// nothing.
     pub fn new(
         alloc: Global,
         blank: Blank,
         config: Config,
-        capacity: usize,
+        queue: Queue,
     ) -> Result<(Monitor<S>, Vec<CpuToken<S>>, Vec<CpuPass>, ScribePass), AllocError>
         requires name { blank.name ≡ S.name }
         requires parts { blank.parts ≡ S.parts }
         requires one_each { blank.parts ≡ config.cpus }
         requires site { config ≡ S.config }
-        requires capacity { (1 ≤ capacity) × (capacity ≤ 65536) }
+        requires queue { (queue.queue ≡ S.queue) × (queue.cpus ≡ config.cpus) }
         ensures config { IfOk result (λ made. made.0.config ≡ config) }
-        ensures capacity { IfOk result (λ made. made.0.capacity ≡ capacity) }
+        ensures capacity { IfOk result (λ made. made.0.capacity ≡ queue.capacity) }
+        ensures queue { IfOk result (λ made. made.0.queue ≡ queue.queue) }
         ensures tokens { IfOk result (λ made. made.1.items ≡ first_tokens config.cpus) }
         ensures count { IfOk result (λ made. length made.2.items ≡ config.cpus) }
         ensures passes { IfOk result (λ made. (cpu : ℕ) → cpu < config.cpus
@@ -62,12 +66,17 @@ impl<S: Site> Monitor<S> {
         ensures cpus { IfOk result (λ made. AreCpus made.0 made.1.items made.2.items) }
         ensures scribe { IfOk result (λ made. made.3 ≡ record { queue = made.0.queue; cpus = config.cpus; events = [] }) }
     {
-        let (recorder, passes, scribe) = Recorder::new(alloc, capacity, config.cpus())?;
+        let Queue {
+            recorder,
+            passes,
+            scribe,
+            order,
+        } = queue;
         let (journal, tokens) = Journal::new(alloc, blank, config)?;
         let monitor = Monitor {
             config,
             granules: Granules::new(alloc, &config)?,
-            journal: Soon::new(journal),
+            journal: Soon::new(Ordered { journal, order }),
             recorder,
         };
         Ok((monitor, tokens, passes, scribe))
@@ -76,6 +85,13 @@ impl<S: Site> Monitor<S> {
     /// The machine's size.
     pub fn config(&self) -> Config
         ensures { result ≡ self.now.config }
+    {
+        self.config
+    }
+
+    /// That size, which is the site's.
+    pub(crate) fn site_config(&self) -> Config
+        ensures { result ≡ S.config }
     {
         self.config
     }

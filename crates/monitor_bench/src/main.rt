@@ -1,4 +1,4 @@
-//! Runs monitors and scenarios on threads, at random, and times them. `bench/README.md` has its words.
+//! Runs monitors and scenarios on threads, at random, and times them. `docs/SPEED.md` has its arguments.
 //! It prints counts and times, which no proof speaks of, and ends with status 1 where a judgement isn't `yes`.
 //! `monitor_bench gate` runs some of each kind, of which the lines that it prints are known.
 //! It depends on `monitor`, `monitor_runs` and `checker`. Nothing depends on it.

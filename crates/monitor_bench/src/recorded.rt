@@ -10,7 +10,7 @@ use crate::job::Job;
 use crate::started::started;
 use anyhow::{Result, bail};
 use granule_state::Config;
-use monitor::{Certificate, History, Monitor, ScribePass, Site, fit_a_history};
+use monitor::{Certificate, History, Monitor, Queue, ScribePass, Site, fit_a_history};
 use std::alloc::{AllocError, Global};
 use std::sync::Wait;
 use std::sync::atomic::{AtomicBool, Ordering};
@@ -24,16 +24,16 @@ pub(crate) fn recorded<S: Site + Send + Sync, R: Threads + Wait + Sync>(
     alloc: Global,
     blank: Blank,
     config: Config,
-    capacity: usize,
+    queue: Queue,
     jobs: &[Job],
 ) -> Result<(History, Certificate)>
     requires name { blank.name ≡ S.name }
     requires parts { blank.parts ≡ S.parts }
     requires one_each { blank.parts ≡ config.cpus }
     requires granules { config ≡ S.config }
-    requires capacity { (1 ≤ capacity) × (capacity ≤ 65536) }
+    requires queue { (queue.queue ≡ S.queue) × (queue.cpus ≡ config.cpus) }
 {
-    let (monitor, cpus, scribe) = started::<S>(alloc, blank, config, capacity)?;
+    let (monitor, cpus, scribe) = started::<S>(alloc, blank, config, queue)?;
     let history = History::new(alloc, config);
     let (cpus, scribe, history) = worked(rt, alloc, &monitor, jobs, cpus, scribe, history)?;
     let (tokens, passes) = parted(alloc, &monitor, cpus)?;

@@ -4,7 +4,7 @@ use crate::random::{CPUS, GRANULES, case, drawn_jobs};
 use crate::recorded::recorded;
 use anyhow::{Context, Result, bail};
 use granule_state::Config;
-use monitor::{Certificate, History};
+use monitor::{Certificate, History, Queue};
 use rand_core::SeedableRng;
 use rand_xoshiro::Xoshiro256PlusPlus;
 use random_runs::{are_yes, replies_of};
@@ -87,5 +87,6 @@ fn run_of<R: Threads + Wait + Sync>(
     let capacity = if case(&mut random, 4) == 0 { 64 } else { 65536 };
     let jobs = drawn_jobs(alloc, commands, with_stop, &mut random)?;
     let blank = Blank::new(u64::from(config.cpus()));
-    recorded::<Brand, R>(rt, alloc, blank, config, capacity, jobs.as_slice())
+    let queue = Queue::new(alloc, &config, capacity)?;
+    recorded::<Brand, R>(rt, alloc, blank, config, queue, jobs.as_slice())
 }

@@ -1,8 +1,9 @@
 //! Random scenarios, played on threads, of which each is judged.
 
 use anyhow::{Result, bail};
+use drawn_scenarios::Draft;
 use monitor_runs::threads_text;
-use random_runs::{Draft, is_yes};
+use random_runs::is_yes;
 use std::alloc::Global;
 use std::sync::Wait;
 use std::thread::Threads;

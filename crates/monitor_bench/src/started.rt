@@ -7,7 +7,7 @@ use crate::cpu::Cpu;
 use crate::cpus::paired;
 use anyhow::Result;
 use granule_state::Config;
-use monitor::{Monitor, ScribePass, Site};
+use monitor::{Monitor, Queue, ScribePass, Site};
 use std::alloc::Global;
 use std::sync::ledger::Blank;
 
@@ -16,18 +16,18 @@ pub(crate) fn started<S: Site>(
     alloc: Global,
     blank: Blank,
     config: Config,
-    capacity: usize,
+    queue: Queue,
 ) -> Result<(Monitor<S>, Vec<Cpu<S>>, ScribePass)>
     requires name { blank.name ≡ S.name }
     requires parts { blank.parts ≡ S.parts }
     requires one_each { blank.parts ≡ config.cpus }
     requires granules { config ≡ S.config }
-    requires capacity { (1 ≤ capacity) × (capacity ≤ 65536) }
+    requires queue { (queue.queue ≡ S.queue) × (queue.cpus ≡ config.cpus) }
     ensures config { IfOk result (λ made. made.0.config ≡ config) }
     ensures cpus { IfOk result (λ made. All (λ cpu. ArePaired made.0 cpu.token cpu.pass) made.1.items) }
     ensures scribe { IfOk result (λ made. made.2 ≡ record { queue = made.0.queue; cpus = config.cpus; events = [] }) }
 {
-    let (monitor, tokens, passes, scribe) = Monitor::<S>::new(alloc, blank, config, capacity)?;
+    let (monitor, tokens, passes, scribe) = Monitor::<S>::new(alloc, blank, config, queue)?;
     let cpus = paired(alloc, &monitor, tokens, passes)?;
     Ok((monitor, cpus, scribe))
 }

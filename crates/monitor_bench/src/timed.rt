@@ -9,7 +9,7 @@ use crate::started::started;
 use anyhow::{Context, Result, bail};
 use bench_words::Timing;
 use granule_state::Config;
-use monitor::Site;
+use monitor::{Queue, Site};
 use realm_lives::{Life, Pages};
 use std::alloc::{AllocError, Global};
 use std::marker::Brand;
@@ -65,7 +65,8 @@ pub(crate) fn time_rounds<R: Print + Threads + Wait + Clock + Sync>(
     let mut timing = Timing::none();
     for _round in 0..rounds {
         let blank = Blank::new(u64::from(config.cpus()));
-        timing = timing.and(round::<Brand, R>(rt, alloc, blank, config, kind)?);
+        let queue = Queue::new(alloc, &config, CAPACITY)?;
+        timing = timing.and(round::<Brand, R>(rt, alloc, blank, config, queue, kind)?);
     }
     timing.print(rt)?;
     Ok(())
@@ -77,14 +78,16 @@ fn round<S: Site + Send + Sync, R: Threads + Wait + Clock + Sync>(
     alloc: Global,
     blank: Blank,
     config: Config,
+    queue: Queue,
     kind: Kind,
 ) -> Result<Timing>
     requires name { blank.name ≡ S.name }
     requires parts { blank.parts ≡ S.parts }
     requires one_each { blank.parts ≡ config.cpus }
     requires granules { config ≡ S.config }
+    requires queue { (queue.queue ≡ S.queue) × (queue.cpus ≡ config.cpus) }
 {
-    let (monitor, cpus, _scribe) = started::<S>(alloc, blank, config, CAPACITY)?;
+    let (monitor, cpus, _scribe) = started::<S>(alloc, blank, config, queue)?;
     let before = first_jobs(alloc, kind)?;
     let cpus = work_all(rt, alloc, &monitor, None, before.as_slice(), cpus);
     let made = calls_of(&cpus);

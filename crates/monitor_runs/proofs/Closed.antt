@@ -4,6 +4,8 @@ use Rattle.std.specs.Prelude.{get_or}
 use Rattle.rmm_spec.specs.declared.event.Event.{Event}
 use Rattle.rmm_spec.specs.declared.line.Line.{Line}
 use Rattle.rmm_spec.specs.HistoryText.{Config, History, subhistory_of}
+use Rattle.rmm_spec.specs.Linearization.{IsLinearization}
+use Rattle.rmm_spec.specs.Run.{JournalEntry}
 use Rattle.rmm_spec.specs.Scenario.{Scenario}
 use Rattle.commit_tickets.specs.View.{TokenView}
 use Rattle.event_queue.specs.View.{CpuView, AreWhole}
@@ -31,6 +33,7 @@ IsThreadRun-from monitor scenario tokens passes history lines is_config is_queue
   tokens = tokens;
   count = worked.token_count ∙ ap (λ (c : Config). c.cpus) is_config;
   journal = subst (λ (c : Config). IsJournal c tokens history.events lines) is_config journal;
+  linearization = subst (λ (c : Config). IsLinearization (record { config = c; events = history.events }) lines) (is_config ∙ sym same) journal.linearization;
   each = λ cpu token at.
       let pass = is_there passes cpu (omega (arith, slice_get_within tokens cpu token at, worked.token_count, worked.pass_count)) in
       let has = worked.each cpu token pass.0 at pass.1 in
@@ -40,14 +43,15 @@ IsThreadRun-from monitor scenario tokens passes history lines is_config is_queue
 }
 
 -- what is left of one that is told to disagree
-pub MayDisagree-from : (monitor : MonitorView) (scenario : Scenario) (tokens : List TokenView) (passes : List CpuView)
+pub MayDisagree-from : (monitor : MonitorView) (scenario : Scenario) (tokens : List TokenView) (passes : List CpuView) (entries : List JournalEntry)
     → monitor.config ≡ scenario.config → monitor.capacity ≡ scenario.queue → HaveWorked monitor scenario.programs monitor.config.cpus tokens passes
-    → Disagree monitor.config tokens → MayDisagree scenario
-MayDisagree-from monitor scenario tokens passes is_config is_queue worked disagree = record {
+    → Disagree monitor.config tokens entries → MayDisagree scenario
+MayDisagree-from monitor scenario tokens passes entries is_config is_queue worked disagree = record {
   tokens = tokens;
   count = worked.token_count ∙ ap (λ (c : Config). c.cpus) is_config;
   each = λ cpu token at.
       let pass = is_there passes cpu (omega (arith, slice_get_within tokens cpu token at, worked.token_count, worked.pass_count)) in
       (pass.0.events, begun-of monitor scenario cpu pass.0.events token is_config is_queue (worked.each cpu token pass.0 at pass.1).begun);
-  disagree = subst (λ (c : Config). Disagree c tokens) is_config disagree;
+  entries = entries;
+  disagree = subst (λ (c : Config). Disagree c tokens entries) is_config disagree;
 }

@@ -1,6 +1,6 @@
 -- How a CPU comes through its program: what it has called and committed after each of its commands.
 use Rattle.std.proofs.Common.{◌≡◌, ℕ, zero, suc, ◌+◌, ◌-◌, ◌<◌, ◌≤◌, inl, inr, true, false, List, [], ◌∷◌, ◌++◌, length, map, take, get_or, refl, sym, ap, ◌∙◌, subst, arith}
-use Rattle.std.specs.Prelude.{Ok, Err, IsTrue}
+use Rattle.std.specs.Prelude.{Ok, Err, Option, Some, None, MatchOption, IsTrue}
 use Rattle.std.specs.List.{AllByRecursion}
 use Rattle.std.proofs.lemmas.List.{append-nil, length_push, map_push, take_more}
 use Rattle.rmm_spec.specs.declared.command.Command.{Command}
@@ -8,6 +8,8 @@ use Rattle.rmm_spec.specs.declared.event.Event.{Event}
 use Rattle.rmm_spec.specs.declared.event.Event.TheVariants.{Called, Returned}
 use Rattle.rmm_spec.specs.CommandText.{IsCommand}
 use Rattle.commit_tickets.specs.declared.committing.Done.{Done}
+use Rattle.commit_tickets.specs.declared.fault.CommitFault.{CommitFault}
+use Rattle.commit_tickets.specs.declared.fault.CommitFault.TheVariants as commit
 use Rattle.commit_tickets.specs.Entries.{Committed}
 use Rattle.commit_tickets.specs.View.{TokenView}
 use Rattle.event_queue.specs.Records.{WasFull}
@@ -35,15 +37,22 @@ IsCommand-at [] place command have within = absurd (omega (arith, within))
 IsCommand-at (first ∷ program) zero command have within = have.0
 IsCommand-at (first ∷ program) (suc place) command have within = IsCommand-at program place command have.1 (omega (arith, within))
 
--- The CPU has called so many commands of its program, the first, and has committed them and returned from them. It isn't stopped.
+-- The CPU has called so many commands of its program, the first, and has committed them and returned from them. It isn't stopped,
+-- and has no fault.
 pub record HasCome (monitor : MonitorView) (cpu : ℕ) (program : List Command) (count : ℕ) (token : TokenView) (pass : CpuView) : Type 0 where
   pub paired : ArePaired monitor token pass
   pub same_cpu : token.cpu ≡ cpu
   pub running : token.is_stopped ≡ false
+  pub unfailed : token.fault ≡ None
   pub called : commands_called pass.events ≡ take count program
   pub committed : commands_committed token ≡ take count program
   pub few : length pass.events ≤ count + count
   pub next : pass.stand.next ≡ count
+
+-- a token's fault that is known
+fault-is : (fault known : Option CommitFault) (commits calls : ℕ) → fault ≡ known → MatchOption known (commits ≡ calls) (λ _. commits < calls)
+    → MatchOption fault (commits ≡ calls) (λ _. commits < calls)
+fault-is fault known commits calls same is = subst (λ f. MatchOption f (commits ≡ calls) (λ _. commits < calls)) (sym same) is
 
 -- before its first command
 pub come-first : (monitor : MonitorView) (program : List Command) (token : TokenView) (pass : CpuView) → CanWork monitor program token pass
@@ -52,6 +61,7 @@ come-first monitor program token pass can = record {
   paired = can.paired;
   same_cpu = refl;
   running = ap (λ (t : TokenView). t.is_stopped) can.fresh;
+  unfailed = ap (λ (t : TokenView). t.fault) can.fresh;
   called = ap (λ (p : CpuView). commands_called p.events) can.before;
   committed = ap commands_committed can.fresh;
   few = omega (arith, ap (λ (p : CpuView). length p.events) can.before);
@@ -70,6 +80,7 @@ come-worked monitor cpu program count token pass all come = record {
     within = (omega arith, omega arith, omega (arith, all));
     called = come.called;
     committed = come.committed;
+    fault = fault-is token.fault None count count come.unfailed refl;
     heard = pass.heard;
     ends = inl all;
   };
@@ -103,6 +114,7 @@ module _ (monitor : MonitorView) (cpu : ℕ) (program : List Command) (count : �
         paired = paired;
         same_cpu = cpu-left command token new_token pass new_pass (Ok done) left ∙ come.same_cpu;
         running = ap (λ (t : TokenView). t.is_stopped) left.0 ∙ come.running;
+        unfailed = ap (λ (t : TokenView). t.fault) left.0;
         called = ap (λ (p : CpuView). commands_called p.events) left.1 ∙ commands_called-append (called pass command).events (event ∷ [])
             ∙ append-nil (commands_called (called pass command).events) ∙ called_more;
         committed = committed_more token done refl left.0;
@@ -119,8 +131,9 @@ module _ (monitor : MonitorView) (cpu : ℕ) (program : List Command) (count : �
       (subst (λ n. WasFull monitor.capacity new_pass.cpus n new_pass.events new_pass.heard) (paired.same_cpu ∙ same_cpu) full)
 
   -- the call stands, and was not committed
-  called-only : new_token.cpu ≡ token.cpu → new_token.mine ≡ token.mine → new_pass ≡ called pass command → HasWorked monitor cpu program new_token new_pass
-  called-only same_cpu same_mine is = record {
+  called-only : (fault : CommitFault) → new_token.cpu ≡ token.cpu → new_token.mine ≡ token.mine → new_token.fault ≡ Some fault
+      → new_pass ≡ called pass command → HasWorked monitor cpu program new_token new_pass
+  called-only fault same_cpu same_mine failed is = record {
     paired = paired;
     same_cpu = same_cpu ∙ come.same_cpu;
     begun = record {
@@ -129,6 +142,7 @@ module _ (monitor : MonitorView) (cpu : ℕ) (program : List Command) (count : �
       within = (omega arith, omega arith, omega (arith, within));
       called = ap (λ (p : CpuView). commands_called p.events) is ∙ called_more;
       committed = ap (λ mine. map (λ (c : Committed). c.command) mine) same_mine ∙ come.committed;
+      fault = fault-is new_token.fault (Some fault) count (count + 1) failed (omega arith);
       heard = new_pass.heard;
       ends = inr (inl (omega arith));
     };
@@ -149,15 +163,16 @@ module _ (monitor : MonitorView) (cpu : ℕ) (program : List Command) (count : �
           within = (omega arith, omega arith, omega (arith, within));
           called = ap (λ (p : CpuView). commands_called p.events) left.1 ∙ called_more;
           committed = committed_more (record token { is_stopped = true }) done refl left.0;
+          fault = fault-is new_token.fault None (count + 1) (count + 1) (ap (λ (t : TokenView). t.fault) left.0) refl;
           heard = new_pass.heard;
           ends = inr (inr (full-for same full));
         };
         few = subst (λ (p : CpuView). length p.events ≤ (count + 1) + (count + 1)) (sym left.1) (omega (arith, few_more));
       }
   come-refused NoMemory left stopped full =
-      called-only (ap (λ (t : TokenView). t.cpu) left.0) (ap (λ (t : TokenView). t.mine) left.0) left.1
+      called-only commit.NoMemory (ap (λ (t : TokenView). t.cpu) left.0) (ap (λ (t : TokenView). t.mine) left.0) (ap (λ (t : TokenView). t.fault) left.0) left.1
   come-refused Disagrees left stopped full =
-      called-only (ap (λ (t : TokenView). t.cpu) left.0) (ap (λ (t : TokenView). t.mine) left.0) left.1
+      called-only commit.Disagrees (ap (λ (t : TokenView). t.cpu) left.0) (ap (λ (t : TokenView). t.mine) left.0) (ap (λ (t : TokenView). t.fault) left.0) left.1
   come-refused Full left stopped full =
       let same = ap (λ (t : TokenView). t.cpu) left.0 ∙ come.same_cpu in record {
         paired = paired;
@@ -168,6 +183,7 @@ module _ (monitor : MonitorView) (cpu : ℕ) (program : List Command) (count : �
           within = (omega arith, omega arith, omega (arith, within));
           called = ap (λ (p : CpuView). commands_called p.events) left.1 ∙ come.called;
           committed = ap commands_committed left.0 ∙ come.committed;
+          fault = fault-is new_token.fault None count count (ap (λ (t : TokenView). t.fault) left.0 ∙ come.unfailed) refl;
           heard = new_pass.heard;
           ends = inr (inr (full-for same full));
         };

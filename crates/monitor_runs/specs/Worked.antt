@@ -1,5 +1,5 @@
 -- What CPUs with a program have called and committed.
-use Rattle.std.specs.Prelude.{◌≡◌, ℕ, zero, suc, ◌+◌, ◌-◌, ◌<◌, ◌≤◌, ◌⊎◌, List, [], ◌∷◌, ◌++◌, length, map, take, slice_get, get_or, Some, Vec}
+use Rattle.std.specs.Prelude.{◌≡◌, ℕ, zero, suc, ◌+◌, ◌-◌, ◌<◌, ◌≤◌, ◌⊎◌, List, [], ◌∷◌, ◌++◌, length, map, take, slice_get, get_or, Some, MatchOption, Vec}
 use Rattle.std.specs.List.{AllByRecursion}
 use Rattle.std.specs.declared.alloc.Global.{Global}
 use Rattle.rmm_spec.specs.declared.command.Command.{Command}
@@ -26,14 +26,16 @@ abbrev pub commands_committed : TokenView → List Command
 commands_committed token = map (λ (commit : Committed). commit.command) token.mine
 
 -- Of these events a CPU's calls are the first commands of its program, so many, and its token has committed those, but perhaps the
--- last. It leaves out commands of its program only where it was refused the commit of that call, or where the queue, which holds so many
--- events, was full at some moment, while the CPU had these events.
+-- last: that one where its commit was refused, of which the token keeps the fault. It has no other fault. Commands of its program are
+-- left out only behind such a fault, or where the queue, which holds so many events, was full at some moment, while the CPU had these
+-- events.
 pub record HasBegun (program : List Command) (capacity cpus cpu : ℕ) (own : List Event) (token : TokenView) : Type 0 where
   pub calls : ℕ
   pub commits : ℕ
   pub within : (commits ≤ calls) × (calls ≤ commits + 1) × (calls ≤ length program)
   pub called : commands_called own ≡ take calls program
   pub committed : commands_committed token ≡ take commits program
+  pub fault : MatchOption token.fault (commits ≡ calls) (λ _. commits < calls)
   pub heard : List Event
   pub ends : (commits ≡ length program) ⊎ ((commits < calls) ⊎ WasFull capacity cpus cpu own heard)
 

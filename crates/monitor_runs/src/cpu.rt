@@ -12,8 +12,8 @@ use std::alloc::Global;
 use std::sync::Wait;
 use std::thread;
 
-/// How often a CPU tries a command at most where the queue is full.
-const TRIES: u32 = 1_000_000;
+/// How often a CPU tries a command again at most, where the queue is full.
+const TRIES_AGAIN: u32 = 1_000_000;
 
 /// A CPU's token, its pass and its program.
 #[derive(Drop)]
@@ -65,7 +65,7 @@ fn execute<S: Site, R: Wait>(
     ensures stopped { IfErr result (λ refused. refused ≡ Refused.Stopped → IsTrue token.old.is_stopped) }
     ensures full { FullAtSomeMoment monitor.now.capacity pass.new result }
 {
-    for _try in 1..TRIES {
+    for _try in 0..TRIES_AGAIN {
         match monitor.execute(rt, alloc, token, pass, &Open, copied_command(command)) {
             Err(Refused::Full) => thread::yield_now(),
             answer => return answer,

@@ -9,7 +9,7 @@ use crate::working::{Ended, work_all};
 use certificate::Certificate;
 use granule_state::Config;
 use history::History;
-use monitor::{CloseFault, Monitor, Site};
+use monitor::{CloseFault, Monitor, Queue, Site};
 use run_texts::{RunFault, Verdict, print_run};
 use scenario::{Scenario, copied_programs};
 use std::alloc::Global;
@@ -34,7 +34,8 @@ pub fn threads_text<R: Threads + Wait + Sync>(
 {
     let config = *scenario.config();
     let blank = Blank::new(u64::from(config.cpus()));
-    let (history, certificate) = recorded::<Brand, R>(rt, alloc, blank, config, scenario)?;
+    let queue = Queue::new(alloc, &config, scenario.queue())?;
+    let (history, certificate) = recorded::<Brand, R>(rt, alloc, blank, queue, config, scenario)?;
     Ok(print_run(alloc, &history, &certificate, out)?)
 }
 
@@ -43,6 +44,7 @@ fn recorded<S: Site + Send + Sync, R: Threads + Wait + Sync>(
     rt: &R,
     alloc: Global,
     blank: Blank,
+    queue: Queue,
     config: Config,
     scenario: &Scenario,
 ) -> Result<(History, Certificate), RunFault>
@@ -50,18 +52,15 @@ fn recorded<S: Site + Send + Sync, R: Threads + Wait + Sync>(
     requires parts { blank.parts ≡ S.parts }
     requires one_each { blank.parts ≡ config.cpus }
     requires site { config ≡ S.config }
+    requires queue { (queue.queue ≡ S.queue) × (queue.cpus ≡ config.cpus) }
+    requires capacity { queue.capacity ≡ scenario.now.queue }
     requires config { config ≡ scenario.now.config }
     requires limits { IsScenario scenario.now }
     ensures ran { IfOk result (λ ran. IsThreadRun scenario.now ran.0.recorded ran.1.lines) }
     ensures disagrees { IfErr result (λ fault. fault ≡ Disagrees → MayDisagree scenario.now) }
 {
     let programs = copied_programs(alloc, scenario.programs())?;
-    let (monitor, tokens, passes, scribe) = Monitor::<S>::new(
-        alloc,
-        blank,
-        config,
-        scenario.queue(),
-    )?;
+    let (monitor, tokens, passes, scribe) = Monitor::<S>::new(alloc, blank, config, queue)?;
     let history = History::new(alloc, config);
     let ended = work_all(
         rt, alloc, &monitor, scenario, tokens, passes, programs, scribe, history,
@@ -75,6 +74,6 @@ fn recorded<S: Site + Send + Sync, R: Threads + Wait + Sync>(
     match monitor.close(rt, alloc, tokens, passes, scribe, history) {
         Ok(closed) => Ok(closed),
         Err(CloseFault::NoMemory) => Err(RunFault::NoMemory),
-        Err(CloseFault::Disagrees) => Err(RunFault::Disagrees),
+        Err(CloseFault::Disagrees(_)) => Err(RunFault::Disagrees),
     }
 }

@@ -1,7 +1,7 @@
 //! The commands of a CPU that is inside a REC.
 
 ghost use Rattle.std.specs.Prelude.{◌≡◌, ℕ, List, Some, IfOk, IfSome, IsTrue, is_some};
-ghost use Rattle.rmm_spec.specs.declared.call.Call.TheVariants.{MeasurementExtend};
+ghost use Rattle.rmm_spec.specs.declared.call.Call.TheVariants.{IpaStateGet, MeasurementExtend};
 ghost use Rattle.rmm_spec.specs.Call.{call_of};
 ghost use Rattle.rmm_spec.specs.State.{State};
 ghost use Rattle.rmm_spec.specs.Lookup.{is_inside, rec_inside, realm_at, rec_at};
@@ -18,14 +18,23 @@ use crate::step::RecStep;
 use realm_desc::{Realm, Rec};
 use rmm_spec::{Call, Command, Reply, Ripas};
 
-/// Whether the command of a CPU inside the REC reads an entry, whose RIPAS is then to be handed in.
+/// The address whose entry a CPU inside the REC reads by its call, if it reads one. The RIPAS of that entry is then to be handed in.
+#[inline(always)]
+pub fn walked_address(realm: &Realm, rec: &Rec, call: &Call) -> Option<u64>
+    ensures walks { is_some result ≡ is_walk realm.now rec.now call.now }
+    ensures read { IfSome result (λ ipa. call.now ≡ IpaStateGet ipa) }
+{
+    match call {
+        Call::IpaStateGet { ipa } if rec.can_call() && realm.protects(*ipa) => Some(*ipa),
+        _ => None,
+    }
+}
+
+/// Whether the command of a CPU inside the REC reads an entry.
 pub fn walks(realm: &Realm, rec: &Rec, command: &Command) -> bool
     ensures { result ≡ is_walk realm.now rec.now (call_of command.now) }
 {
-    match command.call() {
-        Call::IpaStateGet { ipa } => rec.can_call() && realm.protects(ipa),
-        _ => false,
-    }
+    walked_address(realm, rec, &command.call()).is_some()
 }
 
 /// What is answered to a command of a CPU inside the REC. Where the command reads an entry, the RIPAS is that entry's.

@@ -82,7 +82,5 @@ pub fn exit(rec: &mut Rec) -> Reply
     ensures step { (s : State) (cpu : ℕ) (command : Command) → call_of command ≡ call.Exit → IsTrue (is_inside s cpu)
         → s.rec (rec_inside s cpu) ≡ Some rec.old → Step s cpu command result (with_rec s (rec_inside s cpu) rec.new) }
 {
-    let words = exit_words(rec);
-    rec.exit();
-    Reply::Ok(reply_words(&words))
+    answer_to_exit(rec).apply_to_rec(rec)
 }

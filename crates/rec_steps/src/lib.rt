@@ -2,7 +2,7 @@
 //! It promises that each answer and each change is a step of the definitions, in every state that holds the two records.
 //! A refusal leaves both records as they were, and there is none but those of the definitions.
 //! Nothing here takes memory, waits or looks at a table: the RIPAS of an entry is handed in by whoever walked to it.
-//! The rows of commands stand on it.
+//! The rows of commands and the machine stand on the answers. `enter`, `realm_call`, `exit` and `walks` make such steps for other users.
 #![tactic(auto)]
 
 mod entering;
@@ -17,7 +17,9 @@ mod step;
 mod tests;
 
 pub use entering::{answer_to_enter, enter};
-pub use inside::{answer_inside, answer_to_call, extension_inside, realm_call, walks};
+pub use inside::{
+    answer_inside, answer_to_call, extension_inside, realm_call, walked_address, walks,
+};
 pub use leaving::{answer_to_exit, exit};
 pub use measurement::Extension;
 pub use realm_desc::{Realm, Rec};

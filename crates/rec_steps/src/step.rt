@@ -75,6 +75,15 @@ impl RecStep {
         if let Some(update) = self.realm {
             realm.update(update);
         }
+        self.apply_to_rec(rec)
+    }
+
+    /// Makes what the step changes of the REC, and returns its reply.
+    pub(crate) fn apply_to_rec(self, rec: &mut Rec) -> Reply
+        requires { IsStep self }
+        ensures reply { result ≡ Reply.Ok self.words }
+        ensures rec { rec.new ≡ rec_after self.rec rec.old }
+    {
         if let Some(update) = self.rec {
             rec.update(update);
         }

@@ -61,7 +61,7 @@ impl From<CloseFault> for Fault {
     fn from(fault: CloseFault) -> Fault {
         match fault {
             CloseFault::NoMemory => Fault::NoMemory,
-            CloseFault::Disagrees => Fault::Wrong("the journal and the tokens disagree"),
+            CloseFault::Disagrees(_) => Fault::Wrong("the journal and the tokens disagree"),
         }
     }
 }

@@ -1,7 +1,7 @@
 //! Plays runs to which memory may be refused at any request, and prints what is left of them.
 //! A call that keeps all as it was where memory is refused is made once more, and the run goes on from there. Where any other
 //! call is refused it, the run is thrown away and played anew. So one refusal changes nothing but where a commit meets it.
-//! What is printed with ample memory was worked out by hand; `bench/refusals.py` refuses each request in turn. No clause says
+//! What is printed with ample memory was worked out by hand; `tests/refusals.py` refuses each request in turn. No clause says
 //! more than that it is safe. It depends on what judges, plays and monitors runs, and nothing depends on it.
 #![tactic(auto)]
 

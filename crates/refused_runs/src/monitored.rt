@@ -8,7 +8,9 @@ use crate::fault::Fault;
 use crate::judged::push_judged;
 use granule_state::Config;
 use history::History;
-use monitor::{CpuPass, CpuToken, Done, Monitor, Open, Refused, ScribePass, Site, fit_a_history};
+use monitor::{
+    CpuPass, CpuToken, Done, Monitor, Open, Queue, Refused, ScribePass, Site, fit_a_history,
+};
 use rmi_codec::{push_decimal, read_command, write_reply};
 use std::alloc::{AllocError, Global};
 use std::marker::Brand;
@@ -66,7 +68,8 @@ pub(crate) fn monitor_steps<R: Wait>(
         return Err(Fault::Wrong("no such machine"));
     };
     let blank = Blank::new(u64::from(config.cpus()));
-    push_run::<Brand, R>(rt, alloc, blank, config, capacity, steps, out)
+    let queue = Queue::new(alloc, &config, capacity)?;
+    push_run::<Brand, R>(rt, alloc, blank, config, queue, steps, out)
 }
 
 fn push_run<S: Site, R: Wait>(
@@ -74,7 +77,7 @@ fn push_run<S: Site, R: Wait>(
     alloc: Global,
     blank: Blank,
     config: Config,
-    capacity: usize,
+    queue: Queue,
     steps: &[Step],
     out: &mut Vec<u8>,
 ) -> Result<(), Fault>
@@ -82,10 +85,10 @@ fn push_run<S: Site, R: Wait>(
     requires parts { blank.parts ≡ S.parts }
     requires one_each { blank.parts ≡ config.cpus }
     requires granules { config ≡ S.config }
-    requires capacity { (1 ≤ capacity) × (capacity ≤ 65536) }
+    requires queue { (queue.queue ≡ S.queue) × (queue.cpus ≡ config.cpus) }
 {
     let (monitor, mut tokens, mut passes, mut scribe) = Monitor::<S>::new(
-        alloc, blank, config, capacity,
+        alloc, blank, config, queue,
     )?;
     let mut history = History::new(alloc, config);
     take_steps(

@@ -3,10 +3,11 @@
 use crate::fault::Fault;
 use crate::judged::push_judged;
 use granule_state::Config;
+use opening_tests::can_open;
 use rmi_codec::read_command;
 use rmm_spec::Command;
 use std::alloc::Global;
-use world::{Turned, Will, World, can_open};
+use world::{Turned, Will, World};
 
 // More than the run has.
 const RINGS: u32 = 100;

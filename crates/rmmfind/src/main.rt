@@ -1,17 +1,17 @@
-//! `rmmfind [--limit OFFERS] [--explain] HISTORY`: prints an order of the history's calls that is a linearization, as a certificate: status 0.
-//! Where there is none it prints `none`: status 1. Where it made so many offers without an answer it prints `gave up`: status 3.
+//! `rmmfind [--limit N] [--explain] HISTORY`: prints an order of the history's calls that is a linearization, as a certificate: status 0.
+//! Where there is none it prints `none`: status 1. Where it tried N steps without an answer it prints `gave up`: status 3.
 #![tactic(auto)]
 
 mod explaining;
-mod words;
 
 use crate::explaining::append_longest;
-use crate::words::{Asked, words_given};
 use checker::{Verdict, verdict_text};
 use checking::ends_with;
-use file_programs::{Fault, bytes_of, end, print};
+use file_arguments::{Search, search_asked};
+use file_programs::{Fault, arguments_of, bytes_of, end, print, shown};
 use finding::{Found, find};
 use history::HistoryFault;
+use release::{Judged, append_judged, version_text};
 use std::alloc::{AllocError, Global};
 use std::io;
 use std::process::ExitCode;
@@ -22,10 +22,19 @@ fn main(rt: HostRuntime) -> ExitCode {
 }
 
 fn found<R: Env + Files + Print + AllocGlobal>(rt: &R) -> Result<u8, Fault> {
-    let words = words_given(rt)?;
-    let bytes = bytes_of(rt, words.history)?;
+    let arguments = arguments_of(rt)?;
+    let version = version_text(rt.alloc())?;
+    match search_asked(rt.alloc(), version.as_str(), arguments.as_slice()) {
+        Ok(search) => print_answer(rt, search),
+        Err(refusal) => shown(rt, refusal),
+    }
+}
+
+fn print_answer<R: Files + Print + AllocGlobal>(rt: &R, search: Search<'_>) -> Result<u8, Fault> {
+    let path = String::from_str(rt.alloc(), search.history)?;
+    let bytes = bytes_of(rt, path)?;
     let mut text = Vec::new(rt.alloc());
-    let status = append_answer(rt.alloc(), bytes.as_slice(), words.asked, &mut text)?;
+    let status = append_answer(rt.alloc(), bytes.as_slice(), search, &mut text)?;
     print(&mut io::writer(rt), text.as_slice())?;
     Ok(status)
 }
@@ -34,7 +43,7 @@ fn found<R: Env + Files + Print + AllocGlobal>(rt: &R) -> Result<u8, Fault> {
 fn append_answer(
     alloc: Global,
     bytes: &[u8],
-    asked: Asked,
+    search: Search<'_>,
     text: &mut Vec<u8>,
 ) -> Result<u8, AllocError> {
     let history = match history::read(alloc, bytes) {
@@ -46,15 +55,16 @@ fn append_answer(
         }
         Err(HistoryFault::NoMemory) => return Err(AllocError),
     };
-    match find(alloc, &history, asked.limit)? {
+    match find(alloc, &history, search.limit)? {
         Found::Order(certificate) => {
             certificate::write(&certificate, text)?;
             Ok(0)
         }
         Found::None => {
             text.extend_from_slice(b"none\n")?;
-            if asked.explained {
-                append_longest(alloc, bytes, &history, asked.limit, text)?;
+            if search.explained {
+                append_longest(alloc, bytes, &history, search.limit, text)?;
+                append_end(alloc, bytes, text)?;
             }
             Ok(1)
         }
@@ -63,4 +73,13 @@ fn append_answer(
             Ok(3)
         }
     }
+}
+
+// The end of the report on a history of which no order is a linearization.
+fn append_end(alloc: Global, bytes: &[u8], text: &mut Vec<u8>) -> Result<(), AllocError> {
+    let history = Judged {
+        name: "history",
+        bytes,
+    };
+    append_judged(alloc, &[history], text)
 }

@@ -1,4 +1,3 @@
-pub mod Alike
 pub mod Counted
 pub mod Joined
 pub mod Searches

@@ -2,7 +2,7 @@
 
 ghost use Rattle.std.specs.Prelude.{All, ◌≡◌, ◌++◌, ◌<◌, ◌≤◌, ◌↔◌, IfOk, IsTrue, false, length, map, replicate, Some, slice_get, slice_set};
 ghost use Rattle.std.specs.List.{list_any};
-ghost use Rattle.rmm_spec.specs.Table.{entries_with_ripas, AreAlike};
+ghost use Rattle.rmm_spec.specs.Table.{entries_with_ripas};
 ghost use Rattle.rmm_spec.specs.Walk.{is_unlike};
 ghost use Rattle.rtt_table.specs.Columns as spec;
 ghost use Rattle.rtt_table.specs.Columns.{kind_with_ripas};
@@ -87,13 +87,6 @@ impl Columns {
         !are_like(&self.kinds, first) && are_unlike(&self.kinds, first)
     }
 
-    /// Whether all entries are equal.
-    pub fn are_alike(&self) -> bool
-        ensures { IsTrue result ↔ AreAlike self.now }
-    {
-        are_kind(&self.kinds, self.kinds[0]) && are_at(&self.addresses, self.addresses[0])
-    }
-
     /// Changes the RIPAS of the entries from `from` up to but not `to`, of those that have one.
     pub fn set_ripas(&mut self, from: usize, to: usize, ripas: Ripas)
         requires order { from ≤ to }
@@ -129,13 +122,6 @@ fn is_kind(kind: Kind, same: Kind) -> bool
     ensures { IsTrue result ↔ (kind ≡ same) }
 {
     kind == same
-}
-
-// Whether each entry names the given address.
-fn are_at(addresses: &[u64], same: u64) -> bool
-    ensures { IsTrue result ↔ All (λ a. a ≡ same) addresses.now }
-{
-    addresses.iter().all(|address| *address == same)
 }
 
 // Whether all kinds are that of the given entry, where it is unassigned.

@@ -7,11 +7,9 @@
 
 mod columns;
 mod kind;
-mod place;
 mod table;
 #[cfg(test)]
 mod tests;
 
-pub use place::covers;
 pub use rmm_spec::{Entry, Place, Ripas};
 pub use table::{Table, index_of};

@@ -139,11 +139,17 @@ impl Table {
         }
     }
 
-    /// Whether all 512 entries are equal.
+    /// Whether all 512 entries are equal, for whoever asks: a fold asks by `has` whether one is unlike the first.
     pub fn is_uniform(&self) -> bool
         ensures { IsTrue result ↔ AreAlike self.now.entries }
     {
-        self.columns.are_alike()
+        let first = self.entry(0);
+        for at in 0..ENTRIES {
+            if self.entry(at) != first {
+                return false;
+            }
+        }
+        true
     }
 
     /// The table stands at another place.

@@ -1,6 +1,5 @@
 //! Indices at the edges of tables, and each method of a table once.
 
-use crate::place::covers;
 use crate::table::{Table, index_of};
 use granule_state::Ipa;
 use rmm_spec::{Entry, EntryTest, Place, Ripas};
@@ -43,14 +42,6 @@ fn place() -> Place {
         base: 0x20_0000,
         width: 0x27,
     }
-}
-
-#[test]
-fn covers_its_bytes(rt: HostRuntime) {
-    assert!(rt; covers(&place(), Ipa::new(0x20_0000)));
-    assert!(rt; covers(&place(), Ipa::new(0x3f_ffff)));
-    assert!(rt; !covers(&place(), Ipa::new(0x1f_ffff)));
-    assert!(rt; !covers(&place(), Ipa::new(0x40_0000)));
 }
 
 #[test]

@@ -1,4 +1,3 @@
 pub mod Plain
 pub mod PlainLaws
 pub mod Read
-pub mod Walkable

@@ -1,5 +1,5 @@
-//! A report of a scenario file for people: what it would run, or its first fault and what could stand there.
-//! It promises that the fault told is the first that the bytes have, that a file is called good exactly where it states a
+//! A report of a scenario file for people: what it runs, or its first fault and what was expected there.
+//! It promises that the fault reported is the first that the bytes have, that a file is called good exactly where it states a
 //! scenario, that the flaw found is one of its document, and that a report is appended whole or not at all.
 //! Nothing here waits, and nothing is read but the bytes that are given.
 //! The program `rmmexplain` depends on it.

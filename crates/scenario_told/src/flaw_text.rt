@@ -12,14 +12,12 @@ impl fmt::Display for Flaw<'_> {
             Flaw::Unknown { key } => {
                 let key = Shown(key.as_bytes());
                 write!(f, "wrong: a scenario has no key \"{key}\"\n")?;
-                f.write_str(
-                    "there could stand: granules, cpus, programs, queue, turns, limit or version\n",
-                )
+                f.write_str("expected: granules, cpus, programs, queue, turns, limit or version\n")
             }
             Flaw::Missing { key } => write!(f, "wrong: the key {key} is missing\n{}", Holds(*key)),
             Flaw::Kind { key } => write!(
                 f,
-                "wrong: the key {key} holds something else\n{}",
+                "wrong: the key {key} has a value of another kind\n{}",
                 Holds(*key)
             ),
             Flaw::Range { number, stated } => {
@@ -28,12 +26,12 @@ impl fmt::Display for Flaw<'_> {
             }
             Flaw::Programs { cpus, programs } => {
                 write!(f, "wrong: {programs} programs, and cpus = {cpus}\n")?;
-                f.write_str("there could stand: one program for each CPU, which may be empty\n")
+                f.write_str("expected: one program for each CPU, which may be empty\n")
             }
             Flaw::Commands => {
                 f.write_str(
                     "wrong: more than 499999 commands in all programs together\n\
-                    there could stand: as many as that, since a history has room for a call and a return of each\n",
+                    expected: no more than that, since a history has room for a call and a return of each\n",
                 )
             }
             Flaw::Command { cpu, number, text } => {
@@ -49,7 +47,7 @@ impl fmt::Display for Flaw<'_> {
                 write!(f, "wrong: turn {index}, \"{}\"\n", Shown(text.as_bytes()))?;
                 write!(
                     f,
-                    "there could stand: a CPU from 0 to {last}, and behind it nothing, \" giveup\" or \" stop\"\n"
+                    "expected: a CPU from 0 to {last}, alone or with \" giveup\" or \" stop\" after it\n"
                 )
             }
         }
@@ -63,14 +61,14 @@ fn write_wrong_part<W: fmt::Write>(f: &mut fmt::Formatter<W>, text: &[u8]) -> fm
     };
     let number = wrong.index.saturating_add(1);
     match wrong.part {
-        Some(part) => write!(f, "wrong: part {number}, \"{}\"\n", Shown(part))?,
-        None => write!(f, "wrong: the text ends before part {number}\n")?,
+        Some(part) => write!(f, "wrong: field {number}, \"{}\"\n", Shown(part))?,
+        None => write!(f, "wrong: the text ends before field {number}\n")?,
     }
     match wrong.wanted {
         Wanted::Words { left: 0 } => {
-            f.write_str("there could stand: nothing, since the command has all its words\n")
+            f.write_str("expected: nothing, since the command has all its words\n")
         }
-        wanted => write!(f, "there could stand: {wanted}\n"),
+        wanted => write!(f, "expected: {wanted}\n"),
     }
 }
 
@@ -86,7 +84,7 @@ struct Holds(Key);
 
 impl fmt::Display for Holds {
     fn fmt<W: fmt::Write>(&self, f: &mut fmt::Formatter<W>) -> fmt::Result {
-        f.write_str("there could stand: ")?;
+        f.write_str("expected: ")?;
         match self.0 {
             Key::Number(number) => write!(f, "a whole number from 1 to {}\n", number.most()),
             Key::Programs => {

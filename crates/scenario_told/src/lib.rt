@@ -1,6 +1,6 @@
-//! What people are told of a scenario: what it would run, or which of its keys, numbers, commands or turns is at fault.
-//! It promises that a command or number which is told as wrong stands in the scenario and is wrong: see `specs/Flaws.antt`.
-//! Nothing here reads a file. Commands and turns are told by name, and of what is at fault also what could stand there.
+//! What a scenario runs, or which of its keys, numbers, commands or turns is invalid, for people.
+//! It promises that a command or number reported as wrong stands in the scenario and is wrong: see `specs/Flaws.antt`.
+//! Nothing here reads a file. Commands and turns are reported by name, and with what is invalid also what was expected.
 //! Nothing here waits, and nothing is written but the text that is given.
 //! `scenario_report` makes a report of it.
 #![tactic(auto)]

@@ -2,15 +2,19 @@
 
 ghost use Rattle.std.specs.Prelude.{◌≡◌, ◌≤◌, Ok, IfOk, IfErr, map, string_bytes};
 ghost use Rattle.checking.specs.Ending.{status_of};
+ghost use Rattle.devices.specs.Sink.{writing};
+ghost use Rattle.devices.specs.Source.{reading};
+ghost use Rattle.scenarios.specs.Sources.{EndsPlay, IsPlayInTurns, IsPlayOnThreads};
 ghost use Rattle.scenarios.specs.Faults.{fault_status, play_fault, run_status, scenario_status, EndsThreads, EndsTurns, HasCause};
 
 use crate::fault::{ProgramFault, RunFault};
 use checker::Verdict;
 use checking::{CheckFault, Fault, Paths, check_files, end_check, opened, words_of};
-use devices::{FileSource, OutputSink};
+use devices::{FileSource, OutputSink, Sink, Source};
 use playing::{PlayFault, play_threads, play_turns};
 use program_words::{Request, request_given};
 use scenario_text::ScenarioFault;
+use std::alloc::Global;
 use std::io;
 use std::rt::{Env, Files};
 use std::sync::Wait;
@@ -69,7 +73,22 @@ fn run_file<'a, R: Files + Print + AllocGlobal>(
 {
     let mut source = FileSource::new(opened(rt, path)?);
     let mut sink = OutputSink::new(rt.alloc(), io::writer(rt));
-    match play_turns(rt.alloc(), &mut source, &mut sink) {
+    run_source(rt.alloc(), path, &mut source, &mut sink)
+}
+
+// Plays in turns the scenario that a source gives of the file at that path. What is printed of it goes to the sink.
+fn run_source<'a, S: Source, K: Sink>(
+    alloc: Global,
+    path: &'a str,
+    source: &mut S,
+    sink: &mut K,
+) -> Result<Verdict, ProgramFault<'a>>
+    ensures played { EndsPlay (IsPlayInTurns
+        (reading S.gives S.is_ended S.left S.refuses S.failures source.old source.new)
+        (writing K.taken K.contents K.room K.failures sink.old sink.new)) path.entry result }
+    ensures ends { IfErr result (EndsTurns path.entry) }
+{
+    match play_turns(alloc, source, sink) {
         Ok(verdict) => Ok(verdict),
         Err(fault) => Err(fault_of_play(path, fault)),
     }
@@ -85,7 +104,23 @@ fn run_file_on<'a, R: Files + Print + AllocGlobal, T: Threads + Wait + Sync>(
 {
     let mut source = FileSource::new(opened(rt, path)?);
     let mut sink = OutputSink::new(rt.alloc(), io::writer(rt));
-    match play_threads(threads, rt.alloc(), &mut source, &mut sink) {
+    run_source_on(threads, rt.alloc(), path, &mut source, &mut sink)
+}
+
+// The same on threads.
+fn run_source_on<'a, T: Threads + Wait + Sync, S: Source, K: Sink>(
+    threads: &T,
+    alloc: Global,
+    path: &'a str,
+    source: &mut S,
+    sink: &mut K,
+) -> Result<Verdict, ProgramFault<'a>>
+    ensures played { EndsPlay (IsPlayOnThreads
+        (reading S.gives S.is_ended S.left S.refuses S.failures source.old source.new)
+        (writing K.taken K.contents K.room K.failures sink.old sink.new)) path.entry result }
+    ensures ends { IfErr result (EndsThreads path.entry) }
+{
+    match play_threads(threads, alloc, source, sink) {
         Ok(verdict) => Ok(verdict),
         Err(fault) => Err(fault_of_play(path, fault)),
     }

@@ -6,8 +6,8 @@ use crate::machine::Machine;
 use crate::reply::{is_done, is_ok};
 use command_rows::Sight;
 use granule_state::Pa;
-use realm_desc::Rec;
-use rec_steps::{RecStep, answer_inside, extension_inside};
+use realm_desc::{Realm, Rec};
+use rec_steps::{RecStep, answer_inside, extension_inside, walked_address};
 use rmi_view::{CommandRef, ReplyRef};
 use rmm_spec::{Call, RealmChange, RealmUpdate, RecChange, Reply, Ripas};
 use table_entries::entry_ripas;
@@ -132,18 +132,18 @@ impl Machine {
         let Some(realm) = self.granules.realm(rd) else {
             unreachable!()
         };
-        let ripas = self.ripas_read(rd, call);
+        let ripas = self.ripas_read(realm, rec, call);
         answer_inside(realm, rec, call, ripas)
     }
 
-    // The RIPAS of the entry that a realm's call reads, where it reads one.
-    fn ripas_read(&self, rd: u64, call: &Call) -> Option<Ripas>
-        ensures read { IfSome result (IsRipasRead (state_of self.now) rd call.now) }
-        ensures some { (realm : RealmRecord) (rec : RecRecord) → IsTrue (is_walk realm rec call.now) → IsTrue (is_some result) }
+    // The RIPAS of the entry that the call reads, where it reads one.
+    fn ripas_read(&self, realm: &Realm, rec: &Rec, call: &Call) -> Option<Ripas>
+        ensures read { IfSome result (IsRipasRead (state_of self.now) rec.now.owner call.now) }
+        ensures some { IsTrue (is_walk realm.now rec.now call.now) → IsTrue (is_some result) }
     {
-        match call {
-            Call::IpaStateGet { ipa } => Some(entry_ripas(self.walk(rd, *ipa, 3).entry)),
-            _ => None,
+        match walked_address(realm, rec, call) {
+            Some(ipa) => Some(entry_ripas(self.walk(owner(rec), ipa, 3).entry)),
+            None => None,
         }
     }
 }

@@ -3,7 +3,6 @@
 ghost use Rattle.std.specs.Prelude.{◌≡◌};
 ghost use Rattle.rmm_spec.specs.Walk as spec;
 ghost use Rattle.rmm_spec.specs.Step.Ripas as stretch;
-ghost use Rattle.rmm_spec.specs.Update.{entry_with_ripas};
 
 use crate::entry_reads::ripas_number;
 use rmm_spec::{Entry, EntryTest, Ripas, StretchUse};
@@ -80,16 +79,5 @@ pub fn can_be_set(purpose: StretchUse, entry: Entry) -> bool
         (_, Entry::Table(_)) | (StretchUse::Init, Entry::Assigned(..)) => false,
         (_, Entry::Unassigned(_) | Entry::UnassignedNs | Entry::AssignedNs(_))
         | (StretchUse::Requested { .. }, Entry::Assigned(..)) => true,
-    }
-}
-
-/// The entry with another RIPAS, where it has one.
-pub fn with_ripas(entry: Entry, ripas: Ripas) -> Entry
-    ensures { result ≡ entry_with_ripas ripas entry }
-{
-    match entry {
-        Entry::Unassigned(_) => Entry::Unassigned(ripas),
-        Entry::Assigned(_, granule) => Entry::Assigned(ripas, granule),
-        Entry::Table(_) | Entry::UnassignedNs | Entry::AssignedNs(_) => entry,
     }
 }

@@ -9,7 +9,7 @@ mod entries;
 mod entry_reads;
 mod numbers;
 
-pub use entries::{can_be_set, is_live, is_table, linked, passes, with_ripas};
+pub use entries::{can_be_set, is_live, is_table, linked, passes};
 pub use entry_reads::{
     entry_address, entry_ripas, entry_state, is_assigned, is_assigned_ns, is_unassigned,
     is_unassigned_ns, is_unassigned_ram, ripas_number,

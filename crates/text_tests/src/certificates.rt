@@ -1,7 +1,10 @@
 //! Certificates made, and read line by line.
 
-use certificate::{Certificate, Line, LineRef, Reply, is_line, read, read_back, write};
-use rmi_codec::read_reply;
+ghost use Rattle.std.specs.Prelude.{◌↔◌, IsTrue};
+ghost use Rattle.rmm_spec.specs.CertificateText.{IsLine};
+
+use certificate::{Certificate, Line, LineRef, Reply, read, read_back, write};
+use rmi_codec::{read_reply, reply_has_text};
 use std::alloc::Global;
 use std::test::Fail;
 
@@ -27,6 +30,19 @@ fn unfinished(cpu: u8, number: u32, reply: &str) -> Result<Line, Fail> {
         number,
         reply: read_reply(reply)?,
     })
+}
+
+// Whether a line can stand in a certificate.
+fn is_line(line: &Line) -> bool
+    ensures { IsTrue result ↔ IsLine line.now }
+{
+    match line {
+        Line::Keep { cpu, number } => *cpu < 8 && *number < 1_000_000,
+        Line::Unfinished { cpu, number, reply } => {
+            reply_has_text(reply);
+            *cpu < 8 && *number < 1_000_000
+        }
+    }
 }
 
 fn claim(certificate: &mut Certificate, line: Line) -> Result<(), Fail> {
@@ -59,15 +75,6 @@ fn writes_what_is_claimed(rt: HostRuntime) -> Result<(), Fail> {
     assert!(rt; has_text(rt.alloc(), &certificate)?);
     let again = read_back(rt.alloc(), &certificate)?;
     assert!(rt; again.len() == 4 && has_text(rt.alloc(), &again)?);
-    Ok(())
-}
-
-#[test]
-fn reports_what_can_stand(rt: HostRuntime) -> Result<(), Fail> {
-    assert!(rt; is_line(&line("k 7 999999")?));
-    assert!(rt; !is_line(&line("k 8 0")?));
-    assert!(rt; !is_line(&line("k 0 1000000")?));
-    assert!(rt; is_line(&line("u 7 0 err 255 255")?));
     Ok(())
 }
 

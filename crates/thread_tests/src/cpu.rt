@@ -5,7 +5,7 @@ ghost use Rattle.monitor.specs.Cpus.{ArePairs};
 ghost use Rattle.monitor.specs.Executed.{ArePaired};
 
 use granule_state::Config;
-use monitor::{CpuPass, CpuToken, Done, Gate, Monitor, Open, Refused, ScribePass, Site};
+use monitor::{CpuPass, CpuToken, Done, Gate, Monitor, Open, Queue, Refused, ScribePass, Site};
 use rmi_codec::read_command;
 use std::alloc::Global;
 use std::sync::Wait;
@@ -15,7 +15,7 @@ use std::test::Fail;
 pub type Answer = Result<Done, Refused>;
 
 /// How many events the queue of a run holds, more than any run has.
-const CAPACITY: usize = 64;
+pub const CAPACITY: usize = 64;
 
 /// A CPU's token and pass.
 #[derive(Drop)]
@@ -89,19 +89,19 @@ pub fn two_cpus<S: Site>(
     alloc: Global,
     blank: Blank,
     config: Config,
+    queue: Queue,
 ) -> Result<(Monitor<S>, Cpu<S>, Cpu<S>, ScribePass), Fail>
     requires name { blank.name ≡ S.name }
     requires parts { blank.parts ≡ S.parts }
     requires one_each { blank.parts ≡ config.cpus }
     requires granules { config ≡ S.config }
+    requires queue { (queue.queue ≡ S.queue) × (queue.cpus ≡ config.cpus) }
     ensures config { IfOk result (λ made. made.0.config ≡ config) }
     ensures first { IfOk result (λ made. ArePaired made.0 made.1.token made.1.pass) }
     ensures second { IfOk result (λ made. ArePaired made.0 made.2.token made.2.pass) }
     ensures scribe { IfOk result (λ made. made.3 ≡ record { queue = made.0.queue; cpus = config.cpus; events = [] }) }
 {
-    let (monitor, mut tokens, mut passes, scribe) = Monitor::<S>::new(
-        alloc, blank, config, CAPACITY,
-    )?;
+    let (monitor, mut tokens, mut passes, scribe) = Monitor::<S>::new(alloc, blank, config, queue)?;
     let second = last_cpu(&monitor, &mut tokens, &mut passes)?;
     let first = last_cpu(&monitor, &mut tokens, &mut passes)?;
     Ok((monitor, first, second, scribe))

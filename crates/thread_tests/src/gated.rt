@@ -4,10 +4,10 @@ ghost use Rattle.std.specs.Prelude.{◌≡◌};
 ghost use Rattle.event_queue.specs.View.{CanDrain};
 ghost use Rattle.monitor.specs.Executed.{ArePaired};
 
-use crate::cpu::{Answer, Cpu, two_cpus};
+use crate::cpu::{Answer, CAPACITY, Cpu, two_cpus};
 use arrayvec::ArrayVec;
 use granule_state::Config;
-use monitor::{Gate, History, Monitor, ScribePass, Site};
+use monitor::{Gate, History, Monitor, Queue, ScribePass, Site};
 use rmi_codec::read_reply;
 use rmm_spec::{Command, Reply};
 use std::alloc::{AllocError, Global};
@@ -84,6 +84,14 @@ const TWO_SUBTREES: &str =
     c4000151 7000\nc4000158 1000 2000 27 1 1 0\nc400015d 1000 3000 0 2\nc400015d 1000 4000 0 3\nc400015d 1000 5000 200000 3\n";
 
 impl Pair {
+    /// How many granules the machine has.
+    fn granules(self) -> u64 {
+        match self {
+            Pair::OneGranule | Pair::TwoGranules => 4,
+            Pair::TwoPages | Pair::PageAndRead => 16,
+        }
+    }
+
     /// What CPU 0 executes before.
     fn script(self) -> &'static str {
         match self {
@@ -160,14 +168,16 @@ fn ask_apart<S: Site + Send + Sync, R: Threads + Wait + Sync>(
     alloc: Global,
     blank: Blank,
     config: Config,
+    queue: Queue,
     pair: Pair,
 ) -> Result<(Option<Answer>, Option<Answer>, bool), Fail>
     requires name { blank.name ≡ S.name }
     requires parts { blank.parts ≡ S.parts }
     requires one_each { blank.parts ≡ config.cpus }
     requires granules { config ≡ S.config }
+    requires queue { (queue.queue ≡ S.queue) × (queue.cpus ≡ config.cpus) }
 {
-    let (monitor, first, second, _scribe) = two_cpus::<S>(alloc, blank, config)?;
+    let (monitor, first, second, _scribe) = two_cpus::<S>(alloc, blank, config, queue)?;
     let first = first
         .prepare(rt, alloc, &monitor, pair.script())
         .ok_or("a script")?;
@@ -204,8 +214,16 @@ fn passes_by<R: Threads + Wait + Sync>(
     pair: Pair,
     reply: &Reply,
 ) -> Result<bool, Fail> {
-    let config = Config::new(16, 2).ok_or("a machine of this size")?;
-    let (first, second, ran_out) = ask_apart::<Brand, R>(rt, alloc, Blank::new(2), config, pair)?;
+    let config = Config::new(pair.granules(), 2).ok_or("a machine of this size")?;
+    let queue = Queue::new(alloc, &config, CAPACITY)?;
+    let (first, second, ran_out) = ask_apart::<Brand, R>(
+        rt,
+        alloc,
+        Blank::new(2),
+        config,
+        queue,
+        pair,
+    )?;
     Ok(is_answered(&first, &ok()) && is_answered(&second, reply) && !ran_out)
 }
 
@@ -280,13 +298,15 @@ fn delegate_same<S: Site + Send + Sync, R: Threads + Wait + Sync>(
     alloc: Global,
     blank: Blank,
     config: Config,
+    queue: Queue,
 ) -> Result<(Option<Answer>, Option<Answer>, bool), Fail>
     requires name { blank.name ≡ S.name }
     requires parts { blank.parts ≡ S.parts }
     requires one_each { blank.parts ≡ config.cpus }
     requires granules { config ≡ S.config }
+    requires queue { (queue.queue ≡ S.queue) × (queue.cpus ≡ config.cpus) }
 {
-    let (monitor, first, second, scribe) = two_cpus::<S>(alloc, blank, config)?;
+    let (monitor, first, second, scribe) = two_cpus::<S>(alloc, blank, config, queue)?;
     let history = History::new(alloc, config);
     let (gate, answered) = (Turnstile::new(), AtomicBool::new(false));
     let ((first, second), stayed_out) = thread::join(
@@ -316,11 +336,13 @@ fn delegate_same<S: Site + Send + Sync, R: Threads + Wait + Sync>(
 #[test]
 fn holder_keeps_others_out(rt: HostRuntime) -> Result<(), Fail> {
     let config = Config::new(4, 2).ok_or("a machine of this size")?;
+    let queue = Queue::new(rt.alloc(), &config, CAPACITY)?;
     let (first, second, stayed_out) = delegate_same::<Brand, _>(
         &rt,
         rt.alloc(),
         Blank::new(2),
         config,
+        queue,
     )?;
     assert!(rt; is_answered(&first, &ok()) && is_answered(&second, &Reply::Err(1, 0)));
     assert!(rt; stayed_out);

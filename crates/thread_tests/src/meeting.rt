@@ -5,12 +5,12 @@ ghost use Rattle.event_queue.specs.View.{CanDrain};
 ghost use Rattle.monitor.specs.Cpus.{AreCpus};
 ghost use Rattle.monitor.specs.Executed.{ArePaired};
 
-use crate::cpu::{Answer, Cpu, two_cpus};
+use crate::cpu::{Answer, CAPACITY, Cpu, two_cpus};
 use checker::{check, verdict_text};
 use granule_state::Config;
 use history::History;
 use monitor::{
-    Certificate, CpuPass, CpuToken, Monitor, Open, ScribePass, Site, fit_a_history, meet,
+    Certificate, CpuPass, CpuToken, Monitor, Open, Queue, ScribePass, Site, fit_a_history, meet,
 };
 use rmi_codec::{push_decimal, write_reply};
 use std::alloc::{AllocError, Global};
@@ -218,6 +218,7 @@ fn run_two<S: Site + Send + Sync, R: Threads + Wait + Sync>(
     alloc: Global,
     blank: Blank,
     config: Config,
+    queue: Queue,
     is_apart: bool,
     out: &mut Vec<u8>,
 ) -> Result<(), Fail>
@@ -225,9 +226,10 @@ fn run_two<S: Site + Send + Sync, R: Threads + Wait + Sync>(
     requires parts { blank.parts ≡ S.parts }
     requires one_each { blank.parts ≡ config.cpus }
     requires granules { config ≡ S.config }
+    requires queue { (queue.queue ≡ S.queue) × (queue.cpus ≡ config.cpus) }
     requires two { config.cpus ≡ 2 }
 {
-    let (monitor, first, second, scribe) = two_cpus::<S>(alloc, blank, config)?;
+    let (monitor, first, second, scribe) = two_cpus::<S>(alloc, blank, config, queue)?;
     if first.token.cpu() != 0 || second.token.cpu() != 1 {
         return Err("CPU 0 and CPU 1".into());
     }
@@ -256,7 +258,16 @@ yes 3
 fn meets_on_one_thread(rt: HostRuntime) -> Result<(), Fail> {
     let config = Config::new(4, 2).ok_or("a machine of this size")?;
     let mut out = Vec::new(rt.alloc());
-    run_two::<Brand, _>(&rt, rt.alloc(), Blank::new(2), config, false, &mut out)?;
+    let queue = Queue::new(rt.alloc(), &config, CAPACITY)?;
+    run_two::<Brand, _>(
+        &rt,
+        rt.alloc(),
+        Blank::new(2),
+        config,
+        queue,
+        false,
+        &mut out,
+    )?;
     assert!(rt; out.as_slice() == TOLD.as_bytes());
     Ok(())
 }
@@ -265,7 +276,16 @@ fn meets_on_one_thread(rt: HostRuntime) -> Result<(), Fail> {
 fn meets_across_threads(rt: HostRuntime) -> Result<(), Fail> {
     let config = Config::new(4, 2).ok_or("a machine of this size")?;
     let mut out = Vec::new(rt.alloc());
-    run_two::<Brand, _>(&rt, rt.alloc(), Blank::new(2), config, true, &mut out)?;
+    let queue = Queue::new(rt.alloc(), &config, CAPACITY)?;
+    run_two::<Brand, _>(
+        &rt,
+        rt.alloc(),
+        Blank::new(2),
+        config,
+        queue,
+        true,
+        &mut out,
+    )?;
     assert!(rt; out.as_slice() == TOLD.as_bytes());
     Ok(())
 }

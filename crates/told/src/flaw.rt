@@ -36,10 +36,10 @@ impl fmt::Display for Misplaced {
     fn fmt<W: fmt::Write>(&self, f: &mut fmt::Formatter<W>) -> fmt::Result {
         f.write_str(match self {
             Misplaced::Unended => "wrong: no newline ends the line\n",
-            Misplaced::Full => "wrong: 1000000 lines stand before it, and there may be no more\n",
+            Misplaced::Full => "wrong: 1000000 lines come before it, and a text has no more\n",
             Misplaced::OutOfTurn => {
                 "wrong: the event isn't its CPU's next\n\
-                 there could stand: where a CPU has a call open, that call's return, and else its next call, numbered from 0 on\n"
+                 expected: the return of the CPU's open call, or where it has none its next call, numbered from 0\n"
             }
         })
     }

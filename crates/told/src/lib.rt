@@ -1,6 +1,6 @@
-//! What is told of a verdict on a history and a certificate, and how it is written for people.
-//! It promises that what is told is of the verdict that `verdict_of` names, and that its texts end, in whatever it is written to.
-//! Nothing here reads a text or a run: who tells of one says what of it is true, as `explain` does.
+//! The types of an explanation of a verdict on a history and a certificate, and how they are written for people.
+//! It promises that an explanation's verdict is the one that `verdict_of` names, and that its texts end, in whatever it is written to.
+//! Nothing here reads a text or a run: whoever makes an explanation says what of it is true, as `explain` does.
 //! A type stands beside the text that it is written as.
 //! The crate `explain` depends on it.
 #![tactic(auto)]

@@ -14,7 +14,7 @@ use Rattle.rmm_spec.proofs.Tests.{both_ways}
 use Rattle.world_laws.proofs.Lists.{put_elim}
 use Rattle.world_laws.proofs.Members.{Contains-head, Contains-tail}
 use Rattle.command_core.specs.Seen.{are_distinct}
-use Rattle.command_core.proofs.PlainCells.{distinct-push}
+use Rattle.command_core.proofs.Distinct.{distinct-push}
 use Rattle.world.specs.Kept.{AreLocks, has_taken, freed_all}
 
 -- one that is among them is a member

@@ -15,7 +15,6 @@ mod locking;
 mod locks;
 mod opening;
 mod phase;
-mod programs;
 mod returning;
 mod stepping;
 mod telling;
@@ -23,7 +22,6 @@ mod turned;
 mod turning;
 mod world;
 
-pub use programs::can_open;
 pub use rmm_spec::Will;
 pub use turned::{Kind, Turned};
 pub use world::World;

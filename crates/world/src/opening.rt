@@ -20,8 +20,8 @@ use rmm_spec::Command;
 use std::alloc::{AllocError, Global};
 
 impl World {
-    /// Nothing is delegated, nobody holds a lock, and each CPU has its whole program before it. `can_open` is the test that it
-    /// asks for. Where memory is refused there is no world, and the programs are dropped.
+    /// Nothing is delegated, nobody holds a lock, and each CPU has its whole program before it. The programs of a scenario are such.
+    /// Where memory is refused there is no world, and the programs are dropped.
     pub fn new(
         alloc: Global,
         config: &Config,

@@ -3,9 +3,9 @@
 ghost use Rattle.std.specs.Prelude.{◌<◌};
 
 use anyhow::{Context, Result, bail};
+use drawn_scenarios::{Dice, Granules, Sharing, drafted_command, edged_command};
 use flat_machine::{Stepped, TwoMachines};
 use granule_state::Config;
-use random_runs::{Dice, Granules, Sharing, drafted_command, edged_command};
 use realm_lives::DeepLife;
 use std::alloc::Global;
 

@@ -1,4 +1,4 @@
-//! Runs worlds of turns at random, compares replies and machines, and lets a script time turns. `bench/README.md` has its words.
+//! Runs worlds of turns at random, compares replies and machines, and lets a script time turns. `docs/SPEED.md` has its arguments.
 //! It prints counts, which no proof speaks of, and ends with status 1 where a judgement isn't `yes` or a reply isn't equal.
 //! `world_bench gate` runs some of each kind, of which the lines that it prints are known.
 //! It depends on `world`, `spec_machine`, `flat_machine` and `checker`. Nothing depends on it.

@@ -2,8 +2,8 @@
 
 use crate::turning::{finish, opened_for};
 use anyhow::{Result, bail};
+use drawn_scenarios::{Draft, carry_out};
 use history::{Call, History};
-use random_runs::{Draft, carry_out};
 use spec_machine::Machine;
 use std::alloc::Global;
 

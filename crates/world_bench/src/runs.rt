@@ -2,7 +2,8 @@
 
 use crate::turning::{finish, opened_for, turned};
 use anyhow::{Result, bail};
-use random_runs::{Draft, are_yes, replies_of};
+use drawn_scenarios::Draft;
+use random_runs::{are_yes, replies_of};
 use scenario::Due;
 use std::alloc::Global;
 use world::World;

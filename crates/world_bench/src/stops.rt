@@ -2,8 +2,9 @@
 
 use crate::turning::{finish, opened_for, turned};
 use anyhow::{Context, Result, bail};
+use drawn_scenarios::{Draft, scenario_of};
 use granule_state::Config;
-use random_runs::{Draft, are_yes, scenario_of};
+use random_runs::are_yes;
 use rmi_codec::read_command;
 use scenario::{Due, Scenario};
 use std::alloc::Global;

@@ -2,10 +2,11 @@
 
 use anyhow::{Result, bail};
 use granule_state::Config;
+use opening_tests::can_open;
 use rmm_spec::Command;
 use scenario::{Scenario, copied_programs};
 use std::alloc::Global;
-use world::{Turned, Will, World, can_open};
+use world::{Turned, Will, World};
 
 /// The most rounds in which a world comes to rest.
 const MOST_ROUNDS: u32 = 100_000;

@@ -13,15 +13,20 @@ use Rattle.rmm_spec.specs.declared.turn.Will.TheVariants as told
 use Rattle.rmm_spec.specs.Waits.{Report, Turns, Turn, TurnAll}
 use Rattle.rmm_spec.specs.Waits as turn
 use Rattle.world.specs.Next.{go_report, IsNoMove}
-use Rattle.world_runs.specs.Played.{Plays, Goes, GoesRound, due_of}
+use Rattle.world_runs.specs.Played.{IsExact, ExactAll, Plays, Goes, GoesRound, due_of}
 use Rattle.world_runs.specs.Schedule.{ring}
 
 -- ---- what is played
 
-TurnAll-append : (old : World) (turns : List Turn) (mid : World) (more : List Turn) (new : World) → TurnAll old turns mid → TurnAll mid more new
-    → TurnAll old (turns ++ more) new
-TurnAll-append old [] mid more new run then = subst (λ w. TurnAll w more new) run then
-TurnAll-append old (first ∷ turns) mid more new run then = (run.0, run.1, TurnAll-append run.0 turns mid more new run.2 then)
+ExactAll-append : (old : World) (turns : List Turn) (mid : World) (more : List Turn) (new : World) → ExactAll old turns mid → ExactAll mid more new
+    → ExactAll old (turns ++ more) new
+ExactAll-append old [] mid more new run then = subst (λ w. ExactAll w more new) run then
+ExactAll-append old (first ∷ turns) mid more new run then = (run.0, run.1, ExactAll-append run.0 turns mid more new run.2 then)
+
+-- exact turns are turns
+pub TurnAll-exact : (old : World) (turns : List Turn) (new : World) → ExactAll old turns new → TurnAll old turns new
+TurnAll-exact old [] new run = run
+TurnAll-exact old (first ∷ turns) new run = (run.0, run.1.turned, TurnAll-exact run.0 turns new run.2)
 
 -- no turn
 pub Plays-nil : (w : World) → Plays w [] w
@@ -32,17 +37,17 @@ pub Plays-append : (old : World) (dues : List Due) (mid : World) (others : List 
     → Plays old (dues ++ others) new
 Plays-append old dues mid others new first then = record {
   turns = first.turns ++ then.turns;
-  run = TurnAll-append old first.turns mid then.turns new first.run then.run;
+  run = ExactAll-append old first.turns mid then.turns new first.run then.run;
   in_order = map-append due_of first.turns then.turns ∙ (λ i. first.in_order i ++ then.in_order i);
 }
 
 -- a turn more
-pub Plays-push : (old : World) (dues : List Due) (mid : World) (cpu : ℕ) (will : Will) (report : Report) (new : World) → Plays old dues mid
-    → Turns mid cpu will report new → Plays old (dues ++ record { cpu = cpu; will = will } ∷ []) new
-Plays-push old dues mid cpu will report new first turned =
-    Plays-append old dues mid (record { cpu = cpu; will = will } ∷ []) new first (record {
-      turns = record { cpu = cpu; will = will; report = report } ∷ [];
-      run = (new, turned, refl);
+pub Plays-push : (old : World) (dues : List Due) (mid : World) (last : Turn) (new : World) → Plays old dues mid → IsExact mid last new
+    → Plays old (dues ++ due_of last ∷ []) new
+Plays-push old dues mid last new first exact =
+    Plays-append old dues mid (due_of last ∷ []) new first (record {
+      turns = last ∷ [];
+      run = (new, exact, refl);
       in_order = refl;
     })
 
@@ -118,16 +123,16 @@ module _ (old mid new : World) (count cpu : ℕ) (had_moved has_moved : Bool) (r
   plays-more =
       let next : Plays old (ring old.config.cpus count ++ record { cpu = count % old.config.cpus; will = told.Go } ∷ []) new =
       subst (λ c. Plays old (ring old.config.cpus count ++ record { cpu = c; will = told.Go } ∷ []) new) round.is_next
-      (Plays-push old (ring old.config.cpus count) mid cpu told.Go goes.report new round.plays goes.turned) in
+      (Plays-push old (ring old.config.cpus count) mid (record { cpu = cpu; will = told.Go; report = goes.report }) new round.plays goes.exact) in
       subst (λ dues. Plays old dues new) (sym (ring-more old.config.cpus count)) next
 
   same-more : new.config ≡ old.config
-  same-more = config-Turns mid cpu told.Go goes.report new goes.turned ∙ round.same_config
+  same-more = config-Turns mid cpu told.Go goes.report new goes.exact.turned ∙ round.same_config
 
   still-more : has_moved ≡ false → AreStill new (cpu + 1)
   still-more none =
       let unmoved = goes.unmoved none in
-      AreStill-turned mid cpu goes.report new (round.still unmoved.0) unmoved.1 goes.exact goes.turned
+      AreStill-turned mid cpu goes.report new (round.still unmoved.0) unmoved.1 (goes.exact.exact refl) goes.exact.turned
 
   next_is : (count + 1) % old.config.cpus ≡ (cpu + 1) % old.config.cpus
   next_is = next_mod old.config.cpus count ∙ ap (λ x. (x + 1) % old.config.cpus) (sym round.is_next)

@@ -1,32 +1,44 @@
 -- Where turns that are due lead, and what a run of them prints.
-use Rattle.std.specs.Prelude.{◌≡◌, ℕ, ◌+◌, ◌≤◌, ◌⊎◌, Bool, false, List, [], ◌++◌, map, length, get_or, take}
+use Rattle.std.specs.Prelude.{◌≡◌, ℕ, ◌+◌, ◌≤◌, ◌⊎◌, Bool, false, List, [], ◌∷◌, ◌++◌, map, length, get_or, take}
 use Rattle.rmm_spec.specs.declared.command.Command.{Command}
 use Rattle.rmm_spec.specs.declared.turn.Due.{Due}
 use Rattle.rmm_spec.specs.declared.turn.Will.TheVariants.{Go}
 use Rattle.rmm_spec.specs.declared.verdict.Verdict.{Verdict}
 use Rattle.rmm_spec.specs.declared.verdict.Verdict.TheVariants.{Yes}
 use Rattle.rmm_spec.specs.Scenario.{Scenario}
-use Rattle.rmm_spec.specs.Waits.{Report, Turns, Turn, TurnAll}
-use Rattle.rmm_spec.specs.World.{World, opening_world, history_of, certificate_of}
+use Rattle.rmm_spec.specs.Waits.{Report, Turns, Turn}
+use Rattle.rmm_spec.specs.World.{World, IsDeciding, opening_world, history_of, certificate_of}
 use Rattle.run_texts.specs.RunText.{run_text}
-use Rattle.world.specs.Next.{IsNoMove, StandsStill, go_report}
+use Rattle.world.specs.Next.{DoesPlanned, IsNoMove, StandsStill, go_report}
 use Rattle.world_runs.specs.Schedule.{ring}
 
 abbrev pub due_of : Turn → Due
 due_of turn = record { cpu = turn.cpu; will = turn.will }
 
--- From one world turns that were due in this order, whatever they reported, lead to another.
+-- The turn leads from one world to another, and it is the one that a CPU has there: its go reports what comes next for it, and in an open
+-- call it does what the plan says next.
+pub record IsExact (old : World) (turn : Turn) (new : World) : Type 0 where
+  pub turned : Turns old turn.cpu turn.will turn.report new
+  pub exact : turn.will ≡ Go → turn.report ≡ go_report old turn.cpu
+  pub planned : turn.will ≡ Go → IsDeciding old turn.cpu → DoesPlanned old turn.cpu turn.report new
+
+-- from old, these turns in order lead to last, each the exact one
+abbrev pub ExactAll : World → List Turn → World → Type 0
+ExactAll old [] last = last ≡ old
+ExactAll old (turn ∷ turns) last = (next : World) × IsExact old turn next × ExactAll next turns last
+
+-- From one world turns that were due in this order lead to another, each the exact one.
 pub record Plays (old : World) (dues : List Due) (new : World) : Type 0 where
   pub turns : List Turn
-  pub run : TurnAll old turns new
+  pub run : ExactAll old turns new
   pub in_order : map due_of turns ≡ dues
 
 -- the program of each CPU, and no command of one that isn't there
 abbrev pub program_of : Scenario → ℕ → List Command
 program_of scenario = λ cpu. get_or scenario.programs cpu []
 
--- From the opening of the scenario's programs its listed turns lead there, and after them turns of all CPUs in a ring. They are
--- no more than its limit, and end there or where no CPU's go would make a move.
+-- From the opening of the scenario's programs its listed turns lead there, and after them turns of all CPUs in a ring, each the exact
+-- one. They are no more than its limit, and end there or where no CPU's go would make a move.
 pub record IsPlayed (scenario : Scenario) (w : World) : Type 0 where
   pub gone : ℕ
   pub plays : Plays (opening_world scenario.config (program_of scenario)) (take scenario.limit scenario.turns ++ ring scenario.config.cpus gone) w
@@ -40,11 +52,11 @@ pub record IsPrinted (scenario : Scenario) (judged : Verdict) (text : List ℕ) 
   pub is_yes : judged ≡ Yes (length world.journal)
   pub is_text : text ≡ run_text (history_of world) (certificate_of world) judged
 
--- A go of the CPU leads from one world to another. Unless it is told that it moved, or one had before, it made no move.
+-- A go of the CPU leads from one world to another, and is the exact one. Unless it is told that it moved, or one had before, it made no
+-- move.
 pub record Goes (old : World) (cpu : ℕ) (had_moved has_moved : Bool) (new : World) : Type 0 where
   pub report : Report
-  pub turned : Turns old cpu Go report new
-  pub exact : report ≡ go_report old cpu
+  pub exact : IsExact old (record { cpu = cpu; will = Go; report = report }) new
   pub unmoved : has_moved ≡ false → (had_moved ≡ false) × IsNoMove report
 
 -- From one world turns of all CPUs in a ring lead to another. They are no more than the limit, and end there or where no CPU's go

@@ -1,21 +1,64 @@
 //! A round through the event queue.
 
-ghost use Rattle.std.specs.Prelude.{◌≡◌, ◌<◌, length};
+ghost use Rattle.std.specs.Prelude.{◌≡◌, ◌<◌, [], length};
 ghost use Rattle.std.specs.List.{AllWithin};
+ghost use Rattle.atomic_table.specs.Seated.{TableId};
+ghost use Rattle.rmm_spec.specs.declared.command.Command.{Command};
+ghost use Rattle.event_queue.specs.Stages.{Open, Committed};
 ghost use Rattle.event_queue.specs.View.{CanDrain};
 
 use crate::queues::{CALL, CALLS, CAPACITY, REPLY};
 use bench_words::Timing;
-use event_queue::{CpuPass, Recorder, ScribePass};
+use event_queue::{CpuPass, OrderPass, Recorder, ScribePass};
 use granule_state::Config;
-use history::History;
+use history::{History, Reply};
 use rmi_codec::{read_command, read_reply};
+use rmi_view::ReplyRef;
 use std::alloc::{AllocError, Global};
-use std::sync::Wait;
+use std::marker::{Brand, Model, PhantomData};
 use std::sync::atomic::{AtomicBool, Ordering};
+use std::sync::{Mutex, Wait};
 use std::thread::Threads;
 use std::time::{Clock, Instant};
 use std::{io, thread};
+
+/// Names the queue whose commits lie behind a lock.
+trait Named {
+    ghost queue: { TableId };
+}
+
+impl Named for Brand {
+    ghost queue = { record { words = 0; slots = 0; views_name = 0; atom = 0; block = 0; offset = 0; slot_names = [] } };
+}
+
+// The commits of the queue that is named, where a monitor has its journal.
+#[derive(Drop)]
+struct Kept<N: Named> {
+    order: OrderPass,
+    named: PhantomData<N>,
+}
+
+impl<N: Named> Model for Kept<N> {
+    ghost use Rattle.event_queue.specs.View.{OrderView};
+
+    ghost Value = { OrderView };
+
+    ghost use Rattle.std.specs.Prelude.{◌≡◌};
+
+    ghost view = { λ k. k.order };
+
+    ghost invariant = { λ k. k.order.queue ≡ N.queue };
+}
+
+impl<N: Named> Kept<N> {
+    fn commit(&mut self, recorder: &Recorder, pass: &mut CpuPass, reply: &Reply)
+        requires queue { (recorder.now.queue ≡ N.queue) × (pass.old.queue ≡ recorder.now.queue) }
+        requires open { (command : Command) × (pass.old.stage ≡ Open command) }
+        ensures { pass.new ≡ record pass.old { stage = Committed reply.now } }
+    {
+        recorder.commit(&mut self.order, pass, ReplyRef::of(reply));
+    }
+}
 
 /// How many events came into the history, and in what time.
 pub(crate) fn round<R: Threads + Wait + Clock + Sync>(
@@ -24,25 +67,33 @@ pub(crate) fn round<R: Threads + Wait + Clock + Sync>(
     config: Config,
 ) -> io::Result<Timing> {
     let history = History::new(alloc, config);
-    let (recorder, mut passes, scribe) = Recorder::new(alloc, CAPACITY, config.cpus())?;
+    let (recorder, mut passes, scribe, order) = Recorder::new(alloc, CAPACITY, config.cpus())?;
     let start = Instant::now(rt)?;
-    let count = record_beside(rt, &recorder, passes.as_mut_slice(), scribe, history)?;
+    let passes = passes.as_mut_slice();
+    let count = record_beside::<Brand, R>(rt, &recorder, order, passes, scribe, history)?;
     let time = start.elapsed(rt)?;
     Ok(Timing { count, time })
 }
 
 // Each pass records on a thread, beside one that drains. How many events were drained.
-fn record_beside<R: Threads + Wait + Sync>(
+fn record_beside<N: Named + Send + Sync, R: Threads + Wait + Sync>(
     rt: &R,
     recorder: &Recorder,
+    order: OrderPass,
     passes: &mut [CpuPass],
     scribe: ScribePass,
     history: History,
 ) -> Result<u64, AllocError>
+    requires named { recorder.now.queue ≡ N.queue }
+    requires order { order.queue ≡ recorder.now.queue }
     requires passes { AllWithin (λ pass. pass.queue ≡ recorder.now.queue) passes.old 0 (length passes.old) }
     requires scribe { CanDrain recorder.now.queue scribe history.recorded }
 {
     let have_ended = AtomicBool::new(false);
+    let kept = Mutex::new(Kept::<N> {
+        order,
+        named: PhantomData,
+    });
     let cpus = passes.len();
     if cpus == 0 {
         return Ok(0);
@@ -50,9 +101,14 @@ fn record_beside<R: Threads + Wait + Sync>(
     let ((), drained) = thread::join(
         rt,
         ||
-            requires { (0 < cpus) × AllWithin (λ pass. pass.queue ≡ recorder.now.queue) passes.now 0 (length passes.now) }
+            requires { (0 < cpus) × (recorder.now.queue ≡ N.queue) × AllWithin (λ pass. pass.queue ≡ recorder.now.queue) passes.now 0 (length passes.now) }
         {
-            thread::for_each_mut(rt, passes, cpus, &|_, pass| record_all(rt, recorder, pass));
+            thread::for_each_mut(
+                rt,
+                passes,
+                cpus,
+                &|_, pass| record_all(rt, recorder, &kept, pass),
+            );
             have_ended.store(true, Ordering::SeqCst);
         },
         || -> Result<u64, AllocError>
@@ -63,19 +119,29 @@ fn record_beside<R: Threads + Wait + Sync>(
 }
 
 // Records all calls and returns of a producer.
-fn record_all<R: Wait>(rt: &R, recorder: &Recorder, pass: &mut CpuPass)
-    requires { pass.old.queue ≡ recorder.now.queue }
+fn record_all<N: Named, R: Wait>(
+    rt: &R,
+    recorder: &Recorder,
+    kept: &Mutex<Kept<N>>,
+    pass: &mut CpuPass,
+)
+    requires { (recorder.now.queue ≡ N.queue) × (pass.old.queue ≡ recorder.now.queue) }
 {
     for _call in 0..CALLS {
-        if !record_one(rt, recorder, pass) {
+        if !record_one(rt, recorder, kept, pass) {
             break;
         }
     }
 }
 
-// Records a call and its return, and returns whether neither was refused.
-fn record_one<R: Wait>(rt: &R, recorder: &Recorder, pass: &mut CpuPass) -> bool
-    requires { pass.old.queue ≡ recorder.now.queue }
+// Records a call, its commit and its return, and returns whether none was refused.
+fn record_one<N: Named, R: Wait>(
+    rt: &R,
+    recorder: &Recorder,
+    kept: &Mutex<Kept<N>>,
+    pass: &mut CpuPass,
+) -> bool
+    requires { (recorder.now.queue ≡ N.queue) × (pass.old.queue ≡ recorder.now.queue) }
     ensures { pass.new.queue ≡ pass.old.queue }
 {
     let (Ok(command), Ok(reply)) = (read_command(CALL), read_reply(REPLY)) else {
@@ -87,6 +153,7 @@ fn record_one<R: Wait>(rt: &R, recorder: &Recorder, pass: &mut CpuPass) -> bool
     if recorder.call(rt, pass, command).is_err() {
         return false;
     }
+    kept.lock(rt).commit(recorder, pass, &reply);
     recorder.returned(rt, pass, reply).is_ok()
 }
 

@@ -90,7 +90,7 @@ text{font:11px ui-monospace,monospace;fill:#111}\n\
 .key.cause{border:2px dashed #8a5300;background:radial-gradient(#8a5300 1px,#fff1d6 1.5px) 0 0/6px 6px}\n\
 .key.failing,.key.cause{text-shadow:0 0 3px #fff,0 0 3px #fff,0 0 3px #fff}\n";
 
-const NO_PICTURE: &[u8] = b"<p>There is no picture: one of the texts isn't in its grammar.</p>\n";
+const NO_PICTURE: &[u8] = b"<p>There is no diagram: one of the texts has a malformed line.</p>\n";
 
 const FIGURE: &[u8] =
     b"<figure>\n<div class=\"scroll\" tabindex=\"0\">\n<svg xmlns=\"http://www.w3.org/2000/svg\" role=\"img\" \
@@ -98,7 +98,7 @@ aria-labelledby=\"picture-title picture-text\"";
 
 const PATTERNS: &[u8] =
     b"</title>\n<desc id=\"picture-text\">A lane for each CPU, with a bar for each call and a numbered mark for each step. \
-The table below the picture has the same steps with their calls.</desc>\n\
+The table below the diagram has the same steps with their calls.</desc>\n\
 <defs>\n<pattern id=\"hatch\" width=\"6\" height=\"6\" patternUnits=\"userSpaceOnUse\" patternTransform=\"rotate(45)\">\
 <rect width=\"6\" height=\"6\" fill=\"#fde4e1\"/><rect width=\"2\" height=\"6\" fill=\"#b3261e\"/></pattern>\n\
 <pattern id=\"dots\" width=\"6\" height=\"6\" patternUnits=\"userSpaceOnUse\">\
@@ -107,5 +107,5 @@ The table below the picture has the same steps with their calls.</desc>\n\
 const LEGEND: &[u8] =
     b"</svg>\n</div>\n<figcaption>A lane for each CPU. Each call is a bar from its call to its return. \
 The marks are the steps in the claimed order, joined by a line: a step takes effect within its call's bar. \
-<span class=\"key failing\">Hatched</span> is the call that fails, <span class=\"key cause\">dotted</span> the one behind it. \
+<span class=\"key failing\">Hatched</span> is the call that fails, <span class=\"key cause\">dotted</span> the one that caused it. \
 A strip above the lanes, where there is one, is the whole history.</figcaption>\n</figure>\n";

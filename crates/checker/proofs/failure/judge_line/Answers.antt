@@ -1,7 +1,8 @@
-use Rattle.std.proofs.Common.{arith, sym, ◌∙◌}
+use Rattle.std.proofs.Common.{arith, length, sym, ◌∙◌}
 use Rattle.certificate.specs.LineRef.{line_seen}
 use Rattle.spec_machine.specs.View.{state_of}
 use Rattle.checker.proofs.Judging.{MatchOption-at_not_some}
+use Rattle.checker.proofs.Offers.{AreOffersAt-next}
 use Rattle.checker.proofs.SessionLaws.{AreJudged-failed, FailsAt-last}
 use Rattle.checker.proofs.failure.judge_line.Goals as goal
 
@@ -15,5 +16,5 @@ returns-in-Some-clause-judged c = λ lines counted judged.
     let fails = rw c.in-Some.is at c.in_ok-reason.ensures.judged in (
       FailsAt-last c.args.history.now.recorded lines (line_seen c.args.line) c.args.step c.in-Some.reason (state_of c.args.replay.now.machine) counted so_far.0.passes
           (fails lines so_far.0),
-      omega (arith, counted, so_far.1, c.take_line.ensures.offers),
+      AreOffersAt-next c.in-Some.reason (length lines) c.args.step _ _ counted (omega arith) so_far.1 (rw c.in-Some.is at c.in_ok-reason.ensures.offers),
     )

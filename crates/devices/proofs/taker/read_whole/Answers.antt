@@ -1,4 +1,4 @@
-use Rattle.std.proofs.Common.{◌≡◌, ◌++◌, rules, sym, subst}
+use Rattle.std.proofs.Common.{◌≡◌, ◌++◌, inr, rules, sym, subst}
 use Rattle.std.specs.Io.KnownBytes.{IsAtEnd}
 use Rattle.std.proofs.lemmas.List.{append-nil}
 use Rattle.std.proofs.lemmas.Result.{err_from_is_err_and}
@@ -32,7 +32,7 @@ loop-count-preserved g c =
     let so_far = c.loop-count.invariant.0 in
     let step = c.in_ok-count.ensures.gives in (
       IsReadUpTo-next g.S.Source.gives g.S.Source.left g.T.Taker.has_taken c.args.source.now c.loop-count.source c.read_more.new.self c.args.taker.now
-          c.loop-count.taker c.take.new.self step.0 _ step.1.0 step.1.1 c.in_ok-count.ensures.left c.in_ok-take.ensures so_far,
+          c.loop-count.taker c.take.new.self step.0 _ step.1.0 step.1.1 c.in_ok-count.ensures.left c.in_ok-take.ensures.taken so_far,
       search rules,
     )
 
@@ -45,3 +45,17 @@ returns-in_err-take-clause-read g c =
       so_far.text ++ step.0,
       (Gives-next g.S.Source.gives c.args.source.now c.loop-count.source c.read_more.new.self so_far.text step.0 so_far.given step.1.0, tt),
     )
+
+pub returns-in_err-take-clause-refused : goal.returns-in_err-take-clause-refused
+returns-in_err-take-clause-refused g c = λ _.
+    let so_far = c.loop-count.invariant.0 in
+    let step = c.in_ok-count.ensures.gives in
+    inr (record {
+      text = so_far.text;
+      piece = _;
+      taken = c.loop-count.taker;
+      given = Gives-next g.S.Source.gives c.args.source.now c.loop-count.source c.read_more.new.self so_far.text _ so_far.given
+          (subst (λ p. g.S.Source.gives c.loop-count.source p c.read_more.new.self) step.1.1 step.1.0);
+      handed = so_far.handed;
+      refused = c.in_err-take.ensures.refused;
+    })

@@ -1,12 +1,14 @@
 use Rattle.std.proofs.Common.{◌+◌, ap, ◌∙◌}
-use Rattle.event_queue.specs.declared.book.Page.{Page}
+use Rattle.event_queue.specs.Pages.{Page}
 use Rattle.event_queue.specs.View.{before_calls}
 use Rattle.event_queue.proofs.Steps.{seats}
 use Rattle.event_queue.proofs.Passes.{are_seated-push}
 use Rattle.event_queue.proofs.recorder.seat_cpus.Goals as goal
 
 pub another-pass-requires-clause-rule : goal.another-pass-requires-clause-rule
-another-pass-requires-clause-rule c = seats _ _ (ap (λ (p : Page). p.holder) c.loop-cpu.invariant.1)
+another-pass-requires-clause-rule c =
+    let is_page = c.loop-cpu.invariant.1 in
+    seats _ _ (ap (λ (p : Page). p.holder) is_page) (ap (λ (p : Page). p.keeps) is_page) (ap (λ (p : Page). p.entries) is_page)
 
 pub loop-cpu-preserved : goal.loop-cpu-preserved
 loop-cpu-preserved c =

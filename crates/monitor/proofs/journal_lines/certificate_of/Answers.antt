@@ -5,7 +5,7 @@ use Rattle.command_log.specs.Log.{logged_seen}
 use Rattle.commit_tickets.specs.Entries.{entry_of}
 use Rattle.commit_tickets.specs.Listed.{numbers_of}
 use Rattle.commit_tickets.proofs.Lists.{drop-at}
-use Rattle.monitor.specs.Closed.{lines_for}
+use Rattle.event_queue.specs.Numbered.{lines_for}
 use Rattle.monitor.proofs.Written.{commitment, lines_from, written-next, numbers-next}
 use Rattle.monitor.proofs.journal_lines.certificate_of.Goals as goal
 

@@ -1,7 +1,7 @@
 use Rattle.std.proofs.Common.{◌≡◌, ℕ, ◌≤◌, ◌++◌, length, map, drop}
 use Rattle.rmm_spec.specs.World.{line_for}
-use Rattle.commit_tickets.specs.Listed.{numbers_of, numbered_from}
-use Rattle.monitor.specs.Closed.{lines_for}
+use Rattle.commit_tickets.specs.Listed.{numbers_of}
+use Rattle.event_queue.specs.Numbered.{lines_for, numbered_from}
 use Rattle.monitor.proofs.journal_lines.certificate_of.Given as goal
 
 abbrev pub invariant-loop-ticket : goal.invariant-loop-ticket

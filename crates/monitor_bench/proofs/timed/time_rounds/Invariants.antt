@@ -1,7 +1,7 @@
 use Rattle.monitor_bench.proofs.timed.time_rounds.Given as goal
 
 abbrev pub ghosts-round-S-Site : goal.ghosts-round-S-Site
-ghosts-round-S-Site g a = record { config = a.config }
+ghosts-round-S-Site g a = record { config = a.config; queue = a.queue.queue }
 
 abbrev pub ghosts-round-S-Ledger : goal.ghosts-round-S-Ledger
 ghosts-round-S-Ledger g a = record { name = a.blank.name; parts = a.blank.parts }

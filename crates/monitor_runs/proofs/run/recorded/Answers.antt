@@ -47,10 +47,10 @@ returns-in-Ok-clause-ran g c =
     ∙ ap (λ (h : History). h.config) c.new-history.ensures ∙ c.requires.config in
     IsThreadRun-from c.in_ok-monitor.monitor c.args.scenario.now c.in_ok-ended.ended.tokens.items c.in_ok-ended.ended.passes.items
     c.in-Ok.closed.0.recorded c.in-Ok.closed.1.lines (c.in_ok-monitor.ensures.config ∙ c.requires.config)
-    (c.in_ok-monitor.ensures.capacity ∙ c.queue.ensures.room) same c.in_ok-ended.ensures.worked c.in-Ok.ensures.whole c.in-Ok.ensures.certificate
+    (c.in_ok-monitor.ensures.capacity ∙ c.requires.capacity) same c.in_ok-ended.ensures.worked c.in-Ok.ensures.whole c.in-Ok.ensures.certificate
 
-pub returns-in-Err-Disagrees-clause-disagrees : goal.returns-in-Err-Disagrees-clause-disagrees
-returns-in-Err-Disagrees-clause-disagrees g c = λ _.
-    MayDisagree-from c.in_ok-monitor.monitor c.args.scenario.now c.in_ok-ended.ended.tokens.items c.in_ok-ended.ended.passes.items
-    (c.in_ok-monitor.ensures.config ∙ c.requires.config) (c.in_ok-monitor.ensures.capacity ∙ c.queue.ensures.room) c.in_ok-ended.ensures.worked
-    (c.in-Err-Disagrees.ensures.cause c.in-Err-Disagrees.field-0-is)
+pub returns-clause-disagrees : goal.returns-clause-disagrees
+returns-clause-disagrees g c = λ _.
+    MayDisagree-from c.in_ok-monitor.monitor c.args.scenario.now c.in_ok-ended.ended.tokens.items c.in_ok-ended.ended.passes.items _
+    (c.in_ok-monitor.ensures.config ∙ c.requires.config) (c.in_ok-monitor.ensures.capacity ∙ c.requires.capacity) c.in_ok-ended.ensures.worked
+    (c.in-Err-Disagrees.ensures.cause _ c.in-Err-Disagrees.field-0-is)

@@ -11,6 +11,7 @@ loop-due-preserved c =
     let mid = world_of c.loop-due.world in
     let new = world_of c.turn.new.self in (
       subst (λ dues. Plays old dues new) (sym (take_more c.args.turns.now c.loop-due.due-index _ c.loop-due-test.true))
-          (Plays-push old _ mid _ _ _ new c.loop-due.invariant.0 c.in_ok-turn.ensures.turned),
+          (Plays-push old _ mid _ new c.loop-due.invariant.0
+          (record { turned = c.in_ok-turn.ensures.turned; exact = c.in_ok-turn.ensures.exact; planned = c.in_ok-turn.ensures.planned })),
       config-Turns mid _ _ _ new c.in_ok-turn.ensures.turned ∙ c.loop-due.invariant.1,
     )

@@ -1,5 +1,10 @@
-use Rattle.event_queue.proofs.Steps.{begins}
+use Rattle.std.proofs.Common.{ap}
+use Rattle.event_queue.specs.Pages.{Page}
+use Rattle.event_queue.proofs.Steps.{begins, lends}
 use Rattle.event_queue.proofs.recorder.Recorder.new.Goals as goal
 
 pub ruled-requires-clause-rule : goal.ruled-requires-clause-rule
 ruled-requires-clause-rule c = begins
+
+pub another-requires-clause-rule : goal.another-requires-clause-rule
+another-requires-clause-rule c = lends _ _ (ap (λ (p : Page). p.keeps) c.in_ok-passes.ensures.page)

@@ -1,7 +1,7 @@
 use Rattle.std.proofs.Common.{sym, ◌∙◌, subst, arith}
 use Rattle.std.specs.Prelude.{IsTrue}
 use Rattle.command_core.specs.Seen.{are_distinct}
-use Rattle.command_core.proofs.PlainCells.{distinct-push}
+use Rattle.command_core.proofs.Distinct.{distinct-push}
 use Rattle.granule_lock.specs.HeldCells.{paired}
 use Rattle.granule_lock.specs.HoldLaws.{length-paired}
 use Rattle.granule_lock.proofs.Pairs.{is_held-paired, paired-push}

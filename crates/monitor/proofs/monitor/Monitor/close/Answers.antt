@@ -1,30 +1,36 @@
-use Rattle.std.proofs.Common.{◌≡◌, ◌<◌, ◌≤◌, length, slice_get, refl, sym, ap, ◌∙◌, arith, inr}
+use Rattle.std.proofs.Common.{◌≡◌, ◌<◌, ◌≤◌, List, length, slice_get, sym, ap, ◌∙◌, subst, arith, inr}
 use Rattle.std.specs.Prelude.{Result, Ok, Err, IfErr}
 use Rattle.std.specs.List.{sum_by}
+use Rattle.rmm_spec.specs.declared.event.Event.{Event}
 use Rattle.rmm_spec.specs.HistoryText.{History}
+use Rattle.rmm_spec.specs.Run.{JournalEntry}
+use Rattle.event_queue.specs.Numbered.{AreInOrder}
+use Rattle.commit_tickets.specs.Listed.{unlisted_entries}
 use Rattle.commit_tickets.specs.View.{JournalView, TokenView}
 use Rattle.commit_tickets.proofs.Lists.{listed-below}
 use Rattle.monitor.specs.Closed.{IsShort, count_committed}
 use Rattle.monitor.specs.View.{MonitorView}
 use Rattle.monitor.specs.declared.close_fault.CloseFault.TheVariants.{NoMemory}
-use Rattle.monitor.proofs.Closes.{cpus-within, disagree, listed, closed}
+use Rattle.monitor.proofs.Closes.{disagree, listed, closed}
 use Rattle.monitor.proofs.CpuLists.{cpus-seats, commits-le}
 use Rattle.monitor.proofs.monitor.Monitor.close.Goals as goal
 
 pub drain_rest-requires-clause-passes : goal.drain_rest-requires-clause-passes
 drain_rest-requires-clause-passes g c cpu pass at =
     let seat = cpus-seats c.args.self c.args.tokens.items c.args.passes.items c.requires.cpus cpu pass
-    (ap (λ ps. slice_get ps cpu) (sym c.as_mut_slice.ensures.value) ∙ at) in
+    (ap (λ ps. slice_get ps cpu) (sym c.as_mut_slice-passes.ensures.value) ∙ at) in
     (seat.0 ∙ sym (ap (λ (m : MonitorView). m.queue) c.self.view_is), seat.1)
 
-pub returns-then-not-is_listed_by-clause-cause : goal.returns-then-not-is_listed_by-clause-cause
-returns-then-not-is_listed_by-clause-cause g c disagrees =
+pub returns-in-Err-clause-cause : goal.returns-in-Err-clause-cause
+returns-in-Err-clause-cause g c unlisted is =
     let same = sym c.config-size.ensures.config ∙ c.config-size.ensures.site
     ∙ sym c.self.invariant.1 ∙ ap (λ (m : MonitorView). m.config) c.self.view_is in
     let counted = ap (λ (j : JournalView). length j.entries) c.audit.ensures.journal ∙ c.audit.ensures.counted
     ∙ ap (sum_by (λ (token : TokenView). length token.mine)) c.as_mut_slice-tokens.ensures.value in
+    let same_unlisted : c.in-Err.unlisted ≡ unlisted = cc in
     disagree c.args.self.config c.audit.new.self _ same c.books-books.ensures c.args.tokens.items c.audit.new.tokens
-    (c.audit.ensures.tokens ∙ c.as_mut_slice-tokens.ensures.value) c.is_listed_by.result c.is_listed_by.ensures counted c.if-not-is_listed_by.true
+    (c.audit.ensures.tokens ∙ c.as_mut_slice-tokens.ensures.value) (unlisted_entries unlisted)
+    (ap unlisted_entries (sym same_unlisted) ∙ c.in-Err.ensures.compared) counted c.in-Err.ensures.unlisted
 
 pub certificate_of-requires-clause-few : goal.certificate_of-requires-clause-few
 certificate_of-requires-clause-few g c =
@@ -45,21 +51,25 @@ certificate_of-requires-clause-cpus g c =
     let most : length c.args.tokens.items ≤ 8 = omega (arith, c.requires.cpus.count, c.cpus-cpus.ensures.limits.most_cpus, ap (λ (m : MonitorView). m.config.cpus) c.self.view_is) in
     (listed-below c.args.tokens.items c.audit.new.self.entries 8 most
     (listed c.args.self.config c.audit.new.self _ same c.books-books.ensures c.args.tokens.items c.audit.new.tokens
-    (c.audit.ensures.tokens ∙ c.as_mut_slice-tokens.ensures.value) c.is_listed_by.result c.is_listed_by.ensures c.if-not-is_listed_by.false))
+    (c.audit.ensures.tokens ∙ c.as_mut_slice-tokens.ensures.value) c.in_default.ensures.listed))
 
 pub returns-clause-whole : goal.returns-clause-whole
 returns-clause-whole g c cpu pass at =
-    c.in_ok-drain_rest.ensures.whole cpu pass (ap (λ ps. slice_get ps cpu) c.as_mut_slice.ensures.value ∙ at)
+    c.in_ok-drain_rest.ensures.whole cpu pass (ap (λ ps. slice_get ps cpu) c.as_mut_slice-passes.ensures.value ∙ at)
 
 pub returns-clause-certificate : goal.returns-clause-certificate
 returns-clause-certificate g c =
     let same = sym c.config-size.ensures.config ∙ c.config-size.ensures.site
     ∙ sym c.self.invariant.1 ∙ ap (λ (m : MonitorView). m.config) c.self.view_is in
+    let entries = c.journal.invariant.1 ∙ ap (λ (j : JournalView). j.entries) (sym c.audit.ensures.journal) in
+    let events = ap (λ (h : History). h.events) (sym c.in_ok-drain_rest.ensures.history) in
     closed c.args.self.config c.audit.new.self _ same c.books-books.ensures c.args.tokens.items c.audit.new.tokens
-    (c.audit.ensures.tokens ∙ c.as_mut_slice-tokens.ensures.value) c.is_listed_by.result c.is_listed_by.ensures
-    c.args.self c.args.passes.items c.drain_rest.new.history.recorded.events _ refl c.requires.cpus (returns-clause-whole g c) (cpus-within c.drain_rest.new.history.recorded c.args.self.config c.well_formed-2.ensures
-    (ap (λ (h : History). h.config) c.in_ok-drain_rest.ensures.history ∙ c.requires.config))
-    c.if-not-is_listed_by.false c.in_ok-certificate.ensures.written
+    (c.audit.ensures.tokens ∙ c.as_mut_slice-tokens.ensures.value) c.drain_rest.new.history.recorded.events _
+    (subst (λ (y : List Event × List JournalEntry). AreInOrder y.0 y.1) (λ i. (events i, entries i)) c.keeps_real_time.ensures.ordered)
+    c.in_default.ensures.listed c.in_ok-certificate.ensures.written
+
+pub returns-clause-linearization : goal.returns-clause-linearization
+returns-clause-linearization g c = (returns-clause-certificate g c).linearization
 
 any_err : {T E : Type 0} (P : E → Type 0) (r : Result T E) → ((fault : E) → P fault) → IfErr r P
 any_err P (Ok x) each = tt

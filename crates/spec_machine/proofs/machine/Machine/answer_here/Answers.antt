@@ -1,10 +1,9 @@
-use Rattle.std.proofs.Common.{IfSome, is_some, ap, subst, sym, ◌∙◌}
+use Rattle.std.proofs.Common.{is_some, ap, sym, ◌∙◌}
 use Rattle.std.proofs.lemmas.Bool.{false≢true}
 use Rattle.rmm_spec.specs.declared.tag.Tag.TheVariants.{Rd}
 use Rattle.rmm_spec.specs.Lookup.{has_tag, rec_inside}
 use Rattle.rmm_spec.specs.State.{RecRecord}
 use Rattle.rmm_sound.proofs.Applies.{inside_running}
-use Rattle.rec_steps.specs.Answers.{IsRipasRead}
 use Rattle.rec_steps.specs.Held.{IsHeld}
 use Rattle.rec_steps.proofs.Steps.{rec_at-held}
 use Rattle.spec_machine.proofs.Common.{sound_in, state_of}
@@ -20,9 +19,6 @@ unreachable-requires c =
     let owner = c.owner-rd.ensures ∙ ap (λ (r : RecRecord). r.owner) (sym (rec_at-held s (rec_inside s c.args.cpu) c.args.rec.now c.requires.held)) in
     false≢true (ap is_some c.in_default.ensures ∙ sound.realms.tagged _ ∙ ap (λ a. has_tag s a Rd) owner ∙ running.owner)
 
-pub answer_inside-requires : goal.answer_inside-requires
-answer_inside-requires c = c.ripas_read-ripas.ensures.some c.in-Some.realm.now c.args.rec.now
-
 pub returns : goal.returns
 unfolding state_of
 returns c =
@@ -32,5 +28,4 @@ returns c =
       has_rec = c.requires.held;
       has_realm = ap s.realm (sym c.owner-rd.ensures) ∙ sym c.in-Some.ensures;
     } in
-    let read = subst (λ rd. IfSome c.ripas_read-ripas.result (IsRipasRead s rd a.call.now)) c.owner-rd.ensures c.ripas_read-ripas.ensures.read in
-    c.answer_inside.ensures.answer s a.cpu c.requires.inside held read
+    c.answer_inside.ensures.answer s a.cpu c.requires.inside held c.ripas_read-ripas.ensures.read

@@ -1,0 +1,2 @@
+mod Commands
+mod Refused

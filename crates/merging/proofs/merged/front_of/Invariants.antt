@@ -1,0 +1,10 @@
+use Rattle.std.proofs.Common.{◌≤◌, length, take}
+use Rattle.merging.specs.Merge.{AreReturns}
+use Rattle.merging.specs.Run.{known_front}
+use Rattle.merging.proofs.merged.front_of.Given as goal
+
+abbrev pub invariant-loop-stamp : goal.invariant-loop-stamp
+invariant-loop-stamp l = record {
+  within : l.stamp ≤ length (known_front l.table.slots);
+  are : AreReturns l.returns (take l.stamp (known_front l.table.slots));
+}

@@ -1,0 +1,5 @@
+pub mod Run
+pub mod Seen
+pub mod Refusals
+pub mod Merge
+pub mod Texts

@@ -1,0 +1,4 @@
+pub mod GrammarLaws
+mod SlotLaws
+mod SpellingLaws
+mod TableLaws

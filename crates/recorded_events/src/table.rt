@@ -1,0 +1,150 @@
+//! Events by their stamps.
+
+ghost use Rattle.std.specs.Prelude.{◌≡◌, ℕ, ◌+◌, ◌<◌, ◌≤◌, [], ◌++◌, length, replicate, None, OnOk, OnErr, option_map};
+ghost use Rattle.recorded_events.specs.Events.{IsMoment};
+ghost use Rattle.recorded_events.specs.Seen.{moment_seen, happened_seen, AreFew};
+ghost use Rattle.recorded_events.specs.Table.{Happened, IsHappened, IsPut, slot_at};
+
+use crate::moment::{HappenedRef, MomentRef};
+use crate::slot::{Slot, happened_at, keep};
+use granule_state::Config;
+use std::alloc::{AllocError, Global};
+use std::marker::Model;
+
+/// The most events of a recording. Their stamps are below it.
+pub const MOST_EVENTS: u32 = 2_000_000;
+
+// How many words an event has at most.
+const MOST_WORDS: usize = 10;
+
+/// Events, each at its stamp, with the sizes of their machine.
+#[derive(Drop)]
+pub struct EventTable {
+    sizes: Config,
+    count: u32,
+    // for how many events room is made at once
+    expected: usize,
+    slots: Vec<Option<Slot>>,
+    words: Vec<u64>,
+}
+
+impl Model for EventTable {
+    ghost use Rattle.recorded_events.specs.Slots.{IsHeld, slots_in};
+    ghost use Rattle.recorded_events.specs.Table.{Table};
+
+    ghost Value = { Table };
+
+    ghost view = { λ table. record {
+      granules = table.sizes.granules;
+      cpus = table.sizes.cpus;
+      count = table.count;
+      slots = slots_in table.words.items table.slots.items;
+    } };
+
+    ghost invariant = { λ table. IsHeld table.count table.words.items table.slots.items };
+}
+
+impl EventTable {
+    /// No event yet, of which so many are expected.
+    pub(crate) fn new(alloc: Global, sizes: Config, expected: usize) -> EventTable
+        ensures { result ≡ record { granules = sizes.granules; cpus = sizes.cpus; count = 0; slots = [] } }
+    {
+        EventTable {
+            sizes,
+            count: 0,
+            expected,
+            slots: Vec::new(alloc),
+            words: Vec::new(alloc),
+        }
+    }
+
+    /// The sizes that the header names, for a machine of version 1.
+    pub fn sizes(&self) -> Config
+        ensures granules { result.granules ≡ self.now.granules }
+        ensures cpus { result.cpus ≡ self.now.cpus }
+    {
+        self.sizes
+    }
+
+    /// How many events there are.
+    pub fn count(&self) -> u32
+        ensures count { result ≡ self.now.count }
+        ensures most { result ≤ MOST_EVENTS }
+    {
+        self.count
+    }
+
+    /// How many stamps there are up to the last one.
+    pub fn len(&self) -> usize
+        ensures len { result ≡ length self.now.slots }
+        ensures most { result ≤ MOST_EVENTS }
+    {
+        self.slots.len()
+    }
+
+    /// What happened at a stamp, where it is known.
+    pub fn slot(&self, stamp: usize) -> Option<HappenedRef<'_>>
+        ensures seen { option_map happened_seen result ≡ slot_at self.now.slots stamp }
+        ensures few { AreFew result }
+    {
+        match self.slots.get(stamp) {
+            Some(Some(slot)) => Some(happened_at(&self.words, *slot)),
+            _ => None,
+        }
+    }
+
+    /// The law that every table keeps.
+    pub fn well_formed(&self)
+        ensures { (stamp : ℕ) (slot : Happened) → slot_at self.now.slots stamp ≡ Some slot → IsHappened slot }
+    {
+        let _slots = &self.slots;
+    }
+
+    /// Puts the next line's event at its stamp, where none is known. Where memory is refused, nothing is put.
+    pub(crate) fn put(
+        &mut self,
+        stamp: u32,
+        cpu: u8,
+        moment: MomentRef<'_>,
+    ) -> Result<(), AllocError>
+        requires stamp { stamp < MOST_EVENTS }
+        requires cpu { cpu < 8 }
+        requires moment { IsMoment (moment_seen moment) }
+        requires few { self.old.count < MOST_EVENTS }
+        ensures ok { OnOk result (IsPut self.old.slots self.new.slots stamp
+            (record { line = self.old.count + 2; cpu = cpu; moment = moment_seen moment.entry })) }
+        ensures count { OnOk result (self.new ≡ record self.old { count = self.old.count + 1; slots = self.new.slots }) }
+        ensures err { OnErr result (self.new ≡ self.old) }
+    {
+        let at = stamp as usize;
+        self.words.reserve(MOST_WORDS)?;
+        grow(&mut self.slots, at + 1, self.expected)?;
+        let line = self.count + 2;
+        let first = self.words.len() as u32;
+        let what = keep(&mut self.words, moment);
+        self.slots[at] = Some(Slot {
+            line,
+            first,
+            cpu,
+            what,
+        });
+        self.count += 1;
+        Ok(())
+    }
+}
+
+ghost use Rattle.std.specs.Prelude.{◌-◌};
+
+// Makes the slots at least so many, and room for as many as are expected.
+fn grow(slots: &mut Vec<Option<Slot>>, least: usize, expected: usize) -> Result<(), AllocError>
+    ensures ok { OnOk result (slots.new.items ≡ slots.old.items ++ replicate (least - length slots.old.items) None) }
+    ensures err { OnErr result (slots.new.items ≡ slots.old.items) }
+{
+    if least <= slots.len() {
+        return Ok(());
+    }
+    if slots.capacity() == 0 {
+        slots.reserve_exact(expected)?;
+    }
+    slots.resize(least, None)
+}

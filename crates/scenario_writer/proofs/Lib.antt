@@ -1,0 +1,3 @@
+mod AsciiTexts
+mod Appends
+mod Members

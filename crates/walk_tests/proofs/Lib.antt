@@ -1,0 +1,2 @@
+pub mod PlainReads
+pub mod Walkables
