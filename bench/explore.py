@@ -1,13 +1,14 @@
 """What the CPUs of a short history call where every row is to be met: commands that fit the state, some with a word changed."""
 from functions import (CPU_OFF, DATA_CREATE, DATA_CREATE_UNKNOWN, DATA_DESTROY, EXIT, GRANULE_DELEGATE, GRANULE_UNDELEGATE,
-                       HOST_CALL, IPA_STATE_GET, IPA_STATE_SET, MEASUREMENT_EXTEND, MEASUREMENT_READ, REALM_ACTIVATE,
-                       REALM_CONFIG, REALM_CREATE, REALM_DESTROY, REC_CREATE, REC_DESTROY, REC_ENTER, RTT_CREATE,
-                       RTT_DESTROY, RTT_FOLD, RTT_INIT_RIPAS, RTT_MAP_UNPROTECTED, RTT_READ_ENTRY, RTT_SET_RIPAS,
-                       RTT_UNMAP_UNPROTECTED, SYSTEM_OFF)
+                       IPA_STATE_GET, IPA_STATE_SET, REALM_ACTIVATE, REALM_CALLS, REALM_CONFIG, REALM_CREATE, REALM_DESTROY,
+                       REC_CREATE, REC_DESTROY, REC_ENTER, RTT_CREATE, RTT_DESTROY, RTT_FOLD, RTT_INIT_RIPAS,
+                       RTT_MAP_UNPROTECTED, RTT_SET_RIPAS, RTT_UNMAP_UNPROTECTED, SYSTEM_OFF, WORDS)
 from machine import DELEGATED, NEW, UNDELEGATED
 from tables import ASSIGNED, ASSIGNED_NS, LAST_LEVEL, PAGE_BYTES, RAM, UNASSIGNED, UNASSIGNED_NS, entry_bytes, walk
 
 MOST = 2**64 - 1
+# a host's commands on an entry of a realm
+ON_ENTRY = [function for function, names in WORDS.items() if names[:1] == ["rd"] and {"ipa", "base"} & set(names) and "rec" not in names]
 NEAR_INDEXES = [0, 1, 255, 256, 511]
 EDGES = [0, 1, 2, 3, 4, 5, 8, 0x40, 0x41, 0x100, 0x10000, 1 << 38, 1 << 39, 1 << 47, 1 << 48, (1 << 48) - PAGE_BYTES,
          MOST + 1 - PAGE_BYTES, MOST]
@@ -142,53 +143,58 @@ class Explorer:
         table = walk(realm.root, ipa, LAST_LEVEL)
         entry = table.entry(ipa)
         is_last = table.level == LAST_LEVEL
-        function = self.weighted({
+        likely = {
             RTT_CREATE: 6 if rest and not is_last else 0.3,
-            RTT_DESTROY: 1,
             RTT_FOLD: 2,
-            RTT_READ_ENTRY: 1,
             RTT_INIT_RIPAS: (3 if is_last else 1) if entry.state == UNASSIGNED else 0.3,
             DATA_CREATE: 12 if is_last and entry.state == UNASSIGNED and entry.ripas == RAM else 0.3,
             DATA_CREATE_UNKNOWN: 1.5 if is_last and entry.state == UNASSIGNED else 0.3,
             DATA_DESTROY: 2 if entry.state == ASSIGNED else 0.3,
             RTT_MAP_UNPROTECTED: 2 if is_last and entry.state == UNASSIGNED_NS else 0.3,
             RTT_UNMAP_UNPROTECTED: 2 if entry.state == ASSIGNED_NS else 0.3,
-        })
-        return function, [rd, *self.entry_words(function, realm, ipa, table)]
+        }
+        function = self.weighted({function: likely.get(function, 1) for function in ON_ENTRY})
+        level = self.entry_level(function, table)
+        above = level - 1 if function in (RTT_CREATE, RTT_DESTROY, RTT_FOLD) else level
+        base = aligned(ipa, table.level)
+        known = {"rd": rd, "level": level, "base": base, "ipa": aligned(ipa, above) if "level" in WORDS[function] else ipa}
+        return function, [known[name] if name in known else self.entry_word(name, realm, base) for name in WORDS[function]]
 
-    def entry_words(self, function, realm, ipa, table):
-        if function == RTT_CREATE:
-            level = table.level + 1 if table.level < LAST_LEVEL else self.draw.randint(1, LAST_LEVEL)
-            return [*self.delegated(1), aligned(ipa, level - 1), level]
-        if function in (RTT_DESTROY, RTT_FOLD):
-            level = self.draw.choice([table.level, table.level, self.draw.randint(1, LAST_LEVEL)])
-            return [aligned(ipa, level - 1), level]
-        if function == RTT_READ_ENTRY:
-            level = self.draw.choice([table.level, self.draw.randint(0, LAST_LEVEL)])
-            return [aligned(ipa, level), level]
-        if function == RTT_INIT_RIPAS:
-            base = aligned(ipa, table.level)
-            return [base, self.top(realm, base)]
-        if function == RTT_MAP_UNPROTECTED:
-            return [ipa, self.draw.randrange(1 << 36) * PAGE_BYTES]
-        granule, *_ = self.delegated(1)
-        if function == DATA_CREATE:
-            return [granule, ipa, self.source(), self.draw.randrange(2), *(self.draw.randrange(16) for _ in range(4))]
-        return [granule, ipa] if function == DATA_CREATE_UNKNOWN else [ipa]
+    def entry_level(self, function, table):
+        """Mostly that of the table at which the walk ends, or of the one that would come below."""
+        if function == RTT_CREATE and table.level < LAST_LEVEL:
+            return table.level + 1
+        lowest = 1 if function in (RTT_CREATE, RTT_DESTROY, RTT_FOLD) else 0
+        return self.draw.choice([table.level, self.draw.randint(lowest, LAST_LEVEL)])
+
+    def entry_word(self, name, realm, base):
+        return {
+            "top": lambda: self.top(realm, base),
+            "rtt": lambda: self.delegated(1)[0],
+            "data": lambda: self.delegated(1)[0],
+            "src": self.source,
+            "pa": lambda: self.draw.randrange(1 << 36) * PAGE_BYTES,
+            "flags": lambda: self.draw.randrange(2),
+        }.get(name, lambda: self.draw.randrange(16))()
 
     def from_inside(self, rec):
         realm = self.machine.realms[rec.rd]
         base = self.entry_base(realm)
-        function = self.weighted({MEASUREMENT_READ: 1, MEASUREMENT_EXTEND: 1, REALM_CONFIG: 0.5, IPA_STATE_SET: 3,
-                                  IPA_STATE_GET: 2, HOST_CALL: 1, CPU_OFF: 0.2, SYSTEM_OFF: 0.1, EXIT: 5 if rec.pending else 1})
-        words = {
-            MEASUREMENT_READ: lambda: [self.draw.randrange(6)],
-            MEASUREMENT_EXTEND: lambda: [self.draw.randrange(6), self.draw.randrange(0x42), *self.values(8)],
-            IPA_STATE_SET: lambda: [base, self.top(realm, base), self.draw.randrange(2)],
-            IPA_STATE_GET: lambda: [base],
-            HOST_CALL: lambda: [self.draw.randrange(0x10000)],
-        }
-        return function, words.get(function, list)()
+        likely = {REALM_CONFIG: 0.5, IPA_STATE_SET: 3, IPA_STATE_GET: 2, CPU_OFF: 0.2, SYSTEM_OFF: 0.1}
+        weights = {function: likely.get(function, 1) for function in WORDS if function in REALM_CALLS}
+        function = self.weighted({**weights, EXIT: 5 if rec.pending else 1})
+        return function, [self.realm_word(name, realm, base) for name in WORDS[function]]
 
-    def values(self, count):
-        return [self.draw.getrandbits(self.draw.choice([0, 8, 64])) for _ in range(count)]
+    def realm_word(self, name, realm, base):
+        return {
+            "i": lambda: self.draw.randrange(6),
+            "size": lambda: self.draw.randrange(0x42),
+            "base": lambda: base,
+            "ipa": lambda: base,
+            "top": lambda: self.top(realm, base),
+            "ripas": lambda: self.draw.randrange(2),
+            "imm": lambda: self.draw.randrange(0x10000),
+        }.get(name, self.any_word)()
+
+    def any_word(self):
+        return self.draw.getrandbits(self.draw.choice([0, 8, 64]))

@@ -1,68 +1,25 @@
-"""The functions of docs/PROFILE.md: their numbers, how many words each takes, and which are realm calls."""
+"""The functions of docs/PROFILE.md, as its table has them: their numbers by name, the names of their words, and which are realm calls."""
+import pathlib
+import re
 
-GRANULE_DELEGATE = "c4000151"
-GRANULE_UNDELEGATE = "c4000152"
-DATA_CREATE = "c4000153"
-DATA_CREATE_UNKNOWN = "c4000154"
-DATA_DESTROY = "c4000155"
-REALM_ACTIVATE = "c4000157"
-REALM_CREATE = "c4000158"
-REALM_DESTROY = "c4000159"
-REC_CREATE = "c400015a"
-REC_DESTROY = "c400015b"
-REC_ENTER = "c400015c"
-RTT_CREATE = "c400015d"
-RTT_DESTROY = "c400015e"
-RTT_MAP_UNPROTECTED = "c400015f"
-RTT_READ_ENTRY = "c4000161"
-RTT_UNMAP_UNPROTECTED = "c4000162"
-RTT_FOLD = "c4000166"
-RTT_INIT_RIPAS = "c4000168"
-RTT_SET_RIPAS = "c4000169"
-MEASUREMENT_READ = "c4000192"
-MEASUREMENT_EXTEND = "c4000193"
-REALM_CONFIG = "c4000196"
-IPA_STATE_SET = "c4000197"
-IPA_STATE_GET = "c4000198"
-HOST_CALL = "c4000199"
-CPU_OFF = "84000002"
-SYSTEM_OFF = "84000008"
-EXIT = "00000001"
+PAGE = pathlib.Path(__file__).resolve().parent.parent / "docs" / "PROFILE.md"
+ROW = re.compile(r"^\| ([0-9a-f]{8}) \| (\w+) \|([^|]*)\|", re.M)
 
-WORDS = {
-    GRANULE_DELEGATE: 1,
-    GRANULE_UNDELEGATE: 1,
-    DATA_CREATE: 9,
-    DATA_CREATE_UNKNOWN: 3,
-    DATA_DESTROY: 2,
-    REALM_ACTIVATE: 1,
-    REALM_CREATE: 6,
-    REALM_DESTROY: 1,
-    REC_CREATE: 6,
-    REC_DESTROY: 1,
-    REC_ENTER: 1,
-    RTT_CREATE: 4,
-    RTT_DESTROY: 3,
-    RTT_MAP_UNPROTECTED: 3,
-    RTT_READ_ENTRY: 3,
-    RTT_UNMAP_UNPROTECTED: 2,
-    RTT_FOLD: 3,
-    RTT_INIT_RIPAS: 3,
-    RTT_SET_RIPAS: 4,
-    MEASUREMENT_READ: 1,
-    MEASUREMENT_EXTEND: 10,
-    REALM_CONFIG: 0,
-    IPA_STATE_SET: 3,
-    IPA_STATE_GET: 1,
-    HOST_CALL: 1,
-    CPU_OFF: 0,
-    SYSTEM_OFF: 0,
-    EXIT: 0,
-}
 
-# Realm calls and Exit are given inside a REC, and all others outside.
-REALM_CALLS = {
-    MEASUREMENT_READ, MEASUREMENT_EXTEND, REALM_CONFIG, IPA_STATE_SET, IPA_STATE_GET, HOST_CALL, CPU_OFF, SYSTEM_OFF,
-}
+def words_named(text):
+    """The words' names. `v0 .. v7` are eight."""
+    names = text.split()
+    if ".." not in names:
+        return names
+    at = names.index("..")
+    letter, first, last = names[at + 1][0], int(names[at - 1][1:]), int(names[at + 1][1:])
+    return names[:at - 1] + [f"{letter}{number}" for number in range(first, last + 1)] + names[at + 2:]
 
-NAMES = {number: name for name, number in globals().items() if isinstance(number, str) and number in WORDS}
+
+ROWS = ROW.findall(PAGE.read_text(encoding="utf-8"))
+NAMES = {number: name.upper() for number, name, _ in ROWS}
+WORDS = {number: words_named(words) for number, _, words in ROWS}
+globals().update({name: number for number, name in NAMES.items()})
+
+# Realm calls (RSI, from c4000190 on, and PSCI) and Exit are given inside a REC, and all others outside.
+REALM_CALLS = {number for number in NAMES if number >= "c4000190" or number.startswith("84")}

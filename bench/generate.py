@@ -18,7 +18,8 @@ import random
 import sys
 
 sys.dont_write_bytecode = True
-from loads import CPUS, GRANULES, LOADS
+from lives import CPUS, GRANULES
+from loads import LOADS
 from machine import Machine
 
 IDLE, CALLED, COMMITTED = range(3)

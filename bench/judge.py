@@ -60,7 +60,7 @@ def read_history(text):
                 raise BadLine(number)
             made[cpu], opened[cpu] = n + 1, n
             words = [int(word, 16) for word in match[4].split()]
-            if WORDS.get(match[3]) != len(words):
+            if match[3] not in WORDS or len(WORDS[match[3]]) != len(words):
                 raise BadLine(number)
             calls[cpu, n] = [number, match[3], words, None, None]
         elif (match := RETURN.match(line)) and is_reply(match[3]):

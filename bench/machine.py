@@ -174,6 +174,7 @@ class Machine:
 
     def create_realm(self, rd, root, width, level, vmid, algo):
         self.need(rd != root)
+        self.need(width in (space for space, _ in SPACES))
         self.need((width, level) in SPACES)
         self.need(vmid <= 0xFF)
         self.need_tag(rd, DELEGATED)
@@ -208,7 +209,8 @@ class Machine:
         self.need_tag(aux0, DELEGATED)
         self.need_tag(aux1, DELEGATED)
         self.need(realm.state == NEW, REALM_ERROR)
-        self.need(mpidr == realm.made_recs and mpidr < MOST_RECS)
+        self.need(mpidr == realm.made_recs)
+        self.need(mpidr < MOST_RECS)
         self.tags[rec], self.tags[aux0], self.tags[aux1] = REC, REC_AUX, REC_AUX
         self.recs[rec] = Rec(rec, rd, flags == 1, aux0, aux1)
         realm.recs.add(rec)
@@ -227,7 +229,8 @@ class Machine:
         realm = self.realms[rec.rd]
         self.need(realm.state != NEW, REALM_ERROR)
         self.need(realm.state != OFF, SYSTEM_OFF_ERROR)
-        self.need(rec.cpu is None and rec.runnable, REC_ERROR)
+        self.need(rec.cpu is None, REC_ERROR)
+        self.need(rec.runnable, REC_ERROR)
         reached = rec.request.base if rec.request else 0
         rec.cpu, rec.request = cpu, None
         self.running[cpu] = rec
@@ -257,7 +260,8 @@ class Machine:
         self.need(ipa < realm.full)
         above = walk(realm.root, ipa, level - 1)
         entry = above.entry(ipa)
-        self.need(above.level == level - 1 and entry.state == TABLE, table_error(above.level))
+        self.need(above.level == level - 1, table_error(above.level))
+        self.need(entry.state == TABLE, table_error(above.level))
         return realm, above, entry.table
 
     def take_table(self, above, ipa, left):
@@ -299,7 +303,8 @@ class Machine:
         self.need(realm.state == NEW, REALM_ERROR)
         table = self.need_page_table(realm, ipa)
         entry = table.entry(ipa)
-        self.need(entry.state == UNASSIGNED and entry.ripas == RAM, table_error(LAST_LEVEL))
+        self.need(entry.state == UNASSIGNED, table_error(LAST_LEVEL))
+        self.need(entry.ripas == RAM, table_error(LAST_LEVEL))
         self.tags[data] = DATA
         table.set_entry(ipa, Entry(ASSIGNED, RAM, data))
         realm.measure(DATA_CREATE, ipa, flags, *(digest if flags == 1 else [0] * 4))
@@ -348,13 +353,15 @@ class Machine:
     # RIPAS.
 
     def init_ripas(self, rd, base, top):
-        self.need(is_page(base) and is_page(top))
+        self.need(is_page(base))
+        self.need(is_page(top))
         self.need(base < top)
         realm = self.need_realm(rd)
         self.need(top <= realm.half)
         self.need(realm.state == NEW, REALM_ERROR)
         table = walk(realm.root, base, LAST_LEVEL)
-        self.need(table.entry(base).state == UNASSIGNED and self.has_room(table, base, top), table_error(table.level))
+        self.need(table.entry(base).state == UNASSIGNED, table_error(table.level))
+        self.need_room(table, base, top)
 
         def set_up_to(end):
             self.set_ripas(table, base, end, RAM)
@@ -368,10 +375,13 @@ class Machine:
         request = rec.request
         self.need(rec.rd == rd, REC_ERROR)
         self.need(rec.cpu is None, REC_ERROR)
-        self.need(request is not None and base == request.base)
-        self.need(is_page(top) and base < top <= request.top)
+        self.need(request is not None)
+        self.need(base == request.base)
+        self.need(top <= request.top)
+        self.need(base < top)
+        self.need(is_page(top))
         table = walk(realm.root, base, LAST_LEVEL)
-        self.need(self.has_room(table, base, top), table_error(table.level))
+        self.need_room(table, base, top)
 
         def set_up_to(end):
             self.set_ripas(table, base, end, request.ripas)
@@ -379,10 +389,10 @@ class Machine:
 
         return Stretch(self.tops(table, base, top, TABLE), set_up_to)
 
-    @staticmethod
-    def has_room(table, base, top):
+    def need_room(self, table, base, top):
         size = entry_bytes(table.level)
-        return base % size == 0 and base + size <= top
+        self.need(base % size == 0, table_error(table.level))
+        self.need(base + size <= top, table_error(table.level))
 
     @staticmethod
     def tops(table, base, top, *barred):
@@ -418,7 +428,8 @@ class Machine:
         return [realm.width, realm.algo]
 
     def request_ripas(self, rec, base, top, ripas):
-        self.need(is_page(base) and is_page(top))
+        self.need(is_page(base))
+        self.need(is_page(top))
         self.need(base < top)
         self.need(ripas <= 1)
         self.need(top <= self.realms[rec.rd].half)

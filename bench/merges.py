@@ -5,8 +5,8 @@ usage: merges.py [--program PROGRAM] [--cuts N] HISTORY CERTIFICATE
 
 Each commit gets its stamp right before the first return that needs it, of its own call or of a later line of the certificate. The events
 are written in the order of their stamps, CPU by CPU, and CPU by CPU with the last CPU first. Each time rmmmerge has to give both files back,
-byte for byte; its time and its peak of memory are printed. Then one event is left out, N times, each time another one: without
---prefix rmmmerge has to name the stamp, and with it to give back what comes before.
+byte for byte; its time and its peak of memory (that of /usr/bin/time -v) are printed, and those of a merge that renames. Then one event is
+left out, N times, each time another one: without --prefix rmmmerge has to name the stamp, and with it to give back what comes before.
 """
 import argparse
 import os
@@ -77,6 +77,7 @@ def main():
     given = parser.parse_args()
     texts = [open(given.history).read(), open(given.certificate).read()]
     sizes, events = events_of(*(text.splitlines() for text in texts))
+    granules = int(sizes[0])
     lines = [f"{stamp} {cpu} {rest}\n" for stamp, (cpu, rest) in enumerate(events)]
     cpus = [cpu for cpu, _ in events]
     by_cpu = sorted(range(len(lines)), key=lambda at: (cpus[at], at))
@@ -88,6 +89,9 @@ def main():
             expect(f"{name}: the history", found[0], texts[0])
             expect(f"{name}: the certificate", found[1], texts[1])
             print(f"{len(lines)} events {name}: {seconds:.2f} s, {peak:.0f} MB, {peak * 2**20 / len(lines):.0f} bytes an event")
+        printed, found, seconds, peak = merged(given.program, folder, sizes, lines, ["--rename", "--memory", f"{granules << 12:x}"])
+        expect("renamed: what is printed", printed, "")
+        print(f"{len(lines)} events renamed: {seconds:.2f} s, {peak:.0f} MB, {peak * 2**20 / len(lines):.0f} bytes an event")
         for _ in range(given.cuts):
             hole = random.randrange(len(lines) - 1)
             rest = [lines[at] for at in by_cpu if at != hole]

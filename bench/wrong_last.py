@@ -18,7 +18,8 @@ sys.path.append(os.path.join(os.path.dirname(os.path.abspath(__file__)), "../tes
 from compare import changed_reply
 from explore import Explorer
 from generate import run
-from loads import CPUS, LOADS
+from lives import CPUS
+from loads import LOADS
 from machine import Machine
 
 PROGRAM = os.path.join(os.path.dirname(os.path.abspath(__file__)), "../crates/rmmfind/out/rmmfind")

@@ -20,10 +20,7 @@ import sys
 import tempfile
 
 from places import EXAMPLES, built
-from functions import (DATA_CREATE, DATA_CREATE_UNKNOWN, DATA_DESTROY, GRANULE_DELEGATE, GRANULE_UNDELEGATE, HOST_CALL,
-                       IPA_STATE_GET, IPA_STATE_SET, MEASUREMENT_EXTEND, MEASUREMENT_READ, REALM_ACTIVATE, REALM_CREATE,
-                       REALM_DESTROY, REC_CREATE, REC_DESTROY, REC_ENTER, RTT_CREATE, RTT_DESTROY, RTT_FOLD, RTT_INIT_RIPAS,
-                       RTT_MAP_UNPROTECTED, RTT_READ_ENTRY, RTT_SET_RIPAS, RTT_UNMAP_UNPROTECTED, WORDS)
+from functions import GRANULE_UNDELEGATE, MEASUREMENT_READ, NAMES, REALM_CREATE, REC_CREATE, RTT_CREATE, RTT_DESTROY, WORDS
 from judge import gives, read_certificate, read_history
 from machine import DELEGATED, UNDELEGATED, Machine
 from tables import PAGE_BYTES
@@ -70,21 +67,25 @@ def texts_of(opening, cpus, steps):
 
 
 def fitting_words(machine):
-    """Words for each function that fit the state, or nearly."""
+    """Words for each function that fit the state, or nearly: by their names, but where a function means another by one."""
     tags = {granule: machine.tags.get(granule, UNDELEGATED) for granule in range(0, machine.granules * PAGE_BYTES, PAGE_BYTES)}
     free = [granule for granule, tag in tags.items() if tag == DELEGATED] + [3 * PAGE_BYTES, 4 * PAGE_BYTES, 5 * PAGE_BYTES]
     host = [granule for granule, tag in tags.items() if tag == UNDELEGATED and granule] + [0]
     rd, rec = min(machine.realms, default=PAGE_BYTES), min(machine.recs, default=5 * PAGE_BYTES)
-    index = machine.realms[rd].made_recs if rd in machine.realms else 0
+    words = {
+        "g": host[0], "src": host[0], "pa": host[0], "rd": rd, "rec": rec, "data": free[0], "rtt": free[0], "root": free[1],
+        "aux0": free[1], "aux1": free[2], "mpidr": machine.realms[rd].made_recs if rd in machine.realms else 0, "width": 0x27,
+        "level": 3, "vmid": 0xFE, "top": PAGE_BYTES, "flags": 1, "ripas": 1, "i": 1, "size": 0x40,
+        **{f"c{number}": number + 1 for number in range(4)}, **{f"v{number}": number + 1 for number in range(8)},
+    }
+    own = {
+        GRANULE_UNDELEGATE: {"g": free[0]}, REALM_CREATE: {"rd": free[0], "level": 1}, REC_CREATE: {"rec": free[0]},
+        RTT_CREATE: {"level": 2}, RTT_DESTROY: {"level": 2}, MEASUREMENT_READ: {"i": 0},
+    }
+    of_host = {number: {"ipa": HIGH} for number, name in NAMES.items() if name.endswith("UNPROTECTED")}
     return {
-        GRANULE_DELEGATE: [host[0]], GRANULE_UNDELEGATE: [free[0]], DATA_CREATE: [rd, free[0], 0, host[0], 1, 1, 2, 3, 4],
-        DATA_CREATE_UNKNOWN: [rd, free[0], 0], DATA_DESTROY: [rd, 0], REALM_ACTIVATE: [rd],
-        REALM_CREATE: [free[0], free[1], 0x27, 1, 0xFE, 0], REALM_DESTROY: [rd],
-        REC_CREATE: [rd, free[0], index, 1, free[1], free[2]], REC_DESTROY: [rec], REC_ENTER: [rec],
-        RTT_CREATE: [rd, free[0], 0, 2], RTT_DESTROY: [rd, 0, 2], RTT_FOLD: [rd, 0, 3], RTT_MAP_UNPROTECTED: [rd, HIGH, host[0]],
-        RTT_READ_ENTRY: [rd, 0, 3], RTT_UNMAP_UNPROTECTED: [rd, HIGH], RTT_INIT_RIPAS: [rd, 0, PAGE_BYTES],
-        RTT_SET_RIPAS: [rd, rec, 0, PAGE_BYTES], MEASUREMENT_READ: [0], MEASUREMENT_EXTEND: [1, 0x40, *range(1, 9)],
-        IPA_STATE_SET: [0, PAGE_BYTES, 1], IPA_STATE_GET: [0], HOST_CALL: [0],
+        function: [{**words, **own.get(function, {}), **of_host.get(function, {})}.get(name, 0) for name in names]
+        for function, names in WORDS.items() if names
     }
 
 
@@ -112,7 +113,7 @@ def hostile_commands(machine, steps, place):
     for function in WORDS:
         found = {}
         for base in bases:
-            found.update(dict.fromkeys(with_edges(base.get(function, [0] * WORDS[function]))))
+            found.update(dict.fromkeys(with_edges(base.get(function, [0] * len(WORDS[function])))))
         for words in found:
             yield function, list(words)
 

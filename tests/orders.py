@@ -5,7 +5,8 @@ usage: orders.py [--program PATH] [--jobs JOBS] [HISTORIES [SEED]]
 
 Every other history has one reply or one word changed. The search here tries each call that may come next, on a copy of the machine of
 machine.py, keeps nothing, and tries each end of a stretch that a call without a return may have reached. Where rmmfind
-prints an order, judge.py has to say `yes` of it; where it prints `none`, the search here has to find no order either.
+prints an order, judge.py has to say `yes` of it; where it prints `none`, the search here has to find no order either, and of the line that is
+told none up to it, and one up to the line before.
 Nothing about it is proved.
 """
 import argparse
@@ -14,6 +15,7 @@ import copy
 import multiprocessing
 import os
 import random
+import re
 import subprocess
 import sys
 import tempfile
@@ -81,6 +83,16 @@ def some_order(history):
     return has_order(machine, calls, dict(left))
 
 
+def is_told(history, answer):
+    """Whether the answer tells that there is no order, and of which return, if of one, no order is left."""
+    told = re.fullmatch(r"none\n(?:no order survives line (\d+)\n)?", answer)
+    if not told or not told[1]:
+        return bool(told)
+    lines = history.splitlines(keepends=True)
+    up_to = int(told[1])
+    return not some_order("".join(lines[:up_to])) and some_order("".join(lines[:up_to - 1]))
+
+
 def short_history(draw, changed):
     machine = Machine(draw.choice([2, 8, 16, 24, 40]))
     source = Explorer(machine, draw)
@@ -111,7 +123,7 @@ def compare(task):
             if found is not None and done.returncode == 0:
                 agrees = found and judge(history, done.stdout)[0] == 0
             elif found is not None:
-                agrees = not found and (done.returncode, done.stdout) == (1, "none\n")
+                agrees = not found and done.returncode == 1 and is_told(history, done.stdout)
             if not agrees:
                 return answers, f"{history!r}: {done.stdout!r} with {done.returncode}, and an order is {found}"
             kind = "bad line" if found is None else "order" if found else "none"

@@ -68,6 +68,17 @@ pub(crate) fn reported(alloc: Global, history: &str, certificate: &str) -> Resul
     Ok(String::from_utf8(text)?)
 }
 
+/// The reason that the report gives.
+pub(crate) fn why(alloc: Global, history: &str, certificate: &str) -> Result<String> {
+    let text = reported(alloc, history, certificate)?;
+    for line in text.as_str().lines() {
+        if let Some(reason) = line.strip_prefix("why: ") {
+            return Ok(format!(in alloc; "{reason}\n")?);
+        }
+    }
+    Ok(String::from_str(alloc, "no reason\n")?)
+}
+
 /// Whether the page has this piece.
 pub(crate) fn page_has(
     alloc: Global,

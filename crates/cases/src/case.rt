@@ -2,7 +2,7 @@
 
 use crate::answers::{
     page_has, read_certificate, read_history, reported, rewritten_certificate, rewritten_history,
-    verdict,
+    verdict, why,
 };
 use crate::cuts::{cuts, empties, offers};
 use crate::owners::owners;
@@ -53,6 +53,11 @@ impl Case {
                 run.add(alloc, statement.text(alloc)?.as_str())?;
                 self.take_run(run);
             }
+            Word::Why => {
+                let mut run = self.script_so_far(alloc)?;
+                run.claim(alloc, statement.argument)?;
+                self.take_run(run);
+            }
             _ => {}
         }
         Ok(())
@@ -86,6 +91,7 @@ impl Case {
         let part = part.as_str();
         match statement.word {
             Word::Report => reported(alloc, history, certificate),
+            Word::Why => why(alloc, history, certificate),
             Word::Page => page_has(alloc, history, certificate, part),
             Word::Cuts => cuts(alloc, history, certificate),
             Word::Empties => empties(alloc, history, certificate, part.parse()?),

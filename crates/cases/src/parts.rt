@@ -1,7 +1,7 @@
 //! What commands, replies and single lines are read as, in texts that the readers' own writers don't make.
 
 use crate::functions::name_of;
-use anyhow::{Context, Result};
+use anyhow::Result;
 use bad_lines::{WrongPart, wrong_in_certificate_line, wrong_in_event, wrong_in_header};
 use rmi_codec::{Command, Reply, read_command, read_reply, write_command, write_reply};
 use std::alloc::{AllocError, Global};
@@ -20,9 +20,7 @@ pub(crate) fn command_read(alloc: Global, text: &str) -> Result<String> {
 }
 
 fn command_named(alloc: Global, command: &Command) -> Result<String> {
-    let number = format!(in alloc; "{:08x}", command.function.number())?;
-    let name = name_of(number.as_str()).context("a function without a name")?;
-    let mut text = String::from_str(alloc, name)?;
+    let mut text = String::from_str(alloc, name_of(command.function))?;
     push_words(&mut text, command.words.as_slice())?;
     Ok(text)
 }

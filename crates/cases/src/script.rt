@@ -1,6 +1,6 @@
 //! Scripts: what CPUs call, each call answered before the next is made, and committed in that order.
 
-use crate::functions::number_of;
+use crate::functions::function_named;
 use anyhow::{Context, Result};
 use std::alloc::{AllocError, Global};
 use std::fmt::Write;
@@ -69,9 +69,19 @@ impl Script {
         Ok(())
     }
 
-    // A call, an arrow and its reply, behind `1: ` where CPU 1 calls.
+    // A call, an arrow and its reply.
     fn step(&mut self, alloc: Global, step: &str) -> Result<()> {
         let (call, reply) = step.split_once(" -> ").context("a step without a reply")?;
+        self.answered(alloc, call, reply)
+    }
+
+    /// A call that is claimed to be answered `ok`.
+    pub(crate) fn claim(&mut self, alloc: Global, call: &str) -> Result<()> {
+        self.answered(alloc, call, "ok")
+    }
+
+    // The call stands behind `1: ` where CPU 1 makes it.
+    fn answered(&mut self, alloc: Global, call: &str, reply: &str) -> Result<()> {
         let (cpu, command) = match call.split_once(": ") {
             Some((cpu, command)) => (cpu.parse::<usize>().context("no CPU's number")?, command),
             None => (0, call),
@@ -97,9 +107,9 @@ impl Script {
 // The text of a command that is given by its name, with its words.
 fn command_text(alloc: Global, command: &str) -> Result<String> {
     let (name, words) = command.split_once(' ').unwrap_or((command, ""));
-    let number = number_of(name).context("no such function")?;
+    let number = function_named(name).context("no such function")?.number();
     Ok(match words {
-        "" => String::from_str(alloc, number)?,
-        _ => format!(in alloc; "{number} {words}")?,
+        "" => format!(in alloc; "{number:08x}")?,
+        _ => format!(in alloc; "{number:08x} {words}")?,
     })
 }

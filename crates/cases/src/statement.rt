@@ -17,6 +17,8 @@ pub(crate) enum Word {
     Step,
     /// The script with these steps behind it, which the next statement doesn't see.
     Try,
+    /// Why a command isn't answered `ok` behind the script, which the next statement doesn't see.
+    Why,
     /// The first line of a history.
     Header,
     /// The checker's line on the two texts.
@@ -55,6 +57,7 @@ impl Word {
             "script" => Word::Script,
             "step" => Word::Step,
             "try" => Word::Try,
+            "why" => Word::Why,
             "header" => Word::Header,
             "verdict" => Word::Verdict,
             "cuts" => Word::Cuts,

@@ -4,6 +4,7 @@ use Rattle.std.specs.Prelude.{IsOk}
 use Rattle.rmm_spec.specs.HistoryText.{Config}
 use Rattle.rmm_spec.specs.declared.accepted.Accepted.{Accepted}
 use Rattle.rmm_spec.specs.declared.command.Command.{Command}
+use Rattle.rmm_spec.specs.declared.refusal.Refusal.{Refusal}
 use Rattle.rmm_spec.specs.declared.reply.Reply.{Reply}
 use Rattle.rmm_spec.specs.Call.{call_of}
 use Rattle.rmm_spec.specs.Ownership.{is_accepted}
@@ -23,7 +24,7 @@ step-accepts : (s : State) (cpu : ℕ) (command : Command) (given : Reply) (next
     → IsOk (outcome s cpu (call_of command))
 step-accepts s cpu command given next accepted step = by (outcome s cpu (call_of command)) refl step
   where
-    by : (found : Result Accepted Reply) → outcome s cpu (call_of command) ≡ found → CarriesOut found s given next → IsOk found
+    by : (found : Result Accepted Refusal) → outcome s cpu (call_of command) ≡ found → CarriesOut found s given next → IsOk found
     by (Ok done) is carried = refl
     by (Err refusal) is carried = both_ways (sym (ap is_accepted carried.0) ∙ accepted) (outcome-leads s cpu (call_of command) (Err refusal) is)
 

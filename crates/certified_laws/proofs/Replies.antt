@@ -15,6 +15,8 @@ use Rattle.rmm_spec.specs.declared.entry.Entry.{Entry}
 use Rattle.rmm_spec.specs.declared.entry.Entry.TheVariants.{Unassigned, Assigned, Table, UnassignedNs, AssignedNs}
 use Rattle.rmm_spec.specs.declared.function_id.FunctionId.{FunctionId}
 use Rattle.rmm_spec.specs.declared.function_id.FunctionId.TheVariants as function
+use Rattle.rmm_spec.specs.declared.refusal.Refusal.{Refusal}
+use Rattle.rmm_spec.specs.declared.refusal.Refusal.TheVariants as refusal
 use Rattle.rmm_spec.specs.declared.reply.Reply.{Reply}
 use Rattle.rmm_spec.specs.declared.reply.Reply.TheVariants as reply
 use Rattle.rmm_spec.specs.declared.tag.Ripas.{Ripas}
@@ -25,14 +27,13 @@ use Rattle.rmm_spec.specs.declared.measurement.Measurement.{Measurement}
 use Rattle.rmm_spec.specs.declared.measurement.Measurement.TheVariants.{Sha256, Sha512}
 use Rattle.rmm_spec.specs.Measure.{first_words, measurement_words}
 use Rattle.rmm_spec.specs.State.{State, RealmRecord, Request, Pending, Psci, RipasChange, HostCall}
-use Rattle.rmm_spec.specs.Lookup.{realm_at, rec_at, rec_inside, ripas_number}
+use Rattle.rmm_spec.specs.Lookup.{is_inside, realm_at, rec_at, rec_inside, ripas_number}
 use Rattle.rmm_spec.specs.Walk.{entry_state, reach, half}
-use Rattle.rmm_spec.specs.Rows.{Row, Needed, decided, inputs, tagged, input_error, realm_error, rec_error, table_error, ok}
+use Rattle.rmm_spec.specs.Rows.{Row, Needed, Word, decided, inputs, reply_of, tagged, input_error, ok}
 use Rattle.rmm_spec.proofs.Behind.{behind}
-use Rattle.rmm_spec.specs.Step.{Step, CarriesOut, answer_of, outcome, is_placed}
+use Rattle.rmm_spec.specs.Step.{Step, CarriesOut, answer_of, outcome, is_placed, misplacement}
 use Rattle.rmm_spec.specs.Step.Front.{with_front}
-use Rattle.rmm_spec.specs.Step.Named.{named}
-use Rattle.rmm_spec.specs.Step.Words.{words_of}
+use Rattle.rmm_spec.specs.Step.Terms.{named, words_of}
 use Rattle.rmm_spec.specs.Step.Table.{entry_after_table}
 use Rattle.rmm_spec.specs.Step.Ripas.{reached_change, stretch_change}
 use Rattle.rmm_spec.specs.Step.RealmCall.{exit_words}
@@ -42,8 +43,8 @@ use Rattle.certified_laws.proofs.Told.{EntryFits, RequestFits, PendingFits, Each
 -- ---- what is answered has a text
 
 -- what is found for a command has a text and fits, where it is carried out
-abbrev HasText : Result Accepted Reply → Type 0
-HasText (Err refusal) = IsReply refusal
+abbrev HasText : Result Accepted Refusal → Type 0
+HasText (Err refused) = IsReply (reply_of refused)
 HasText (Ok (Done words change)) = IsReply (reply.Ok words) × ChangeFits change
 HasText (Ok (Reaches stretch)) = stretch.top < 2 ^ 64
 
@@ -53,10 +54,10 @@ ChangeFits-stretch Init rd level base first last top fits = (tt, tt)
 ChangeFits-stretch (Requested rec ripas) rd level base first last top fits = (tt, fits)
 
 -- what is carried out gives a reply with a text, and keeps what fits
-IsReply-carried : (found : Result Accepted Reply) (old : State) (given : Reply) (new : State) → StateFits old → HasText found
+IsReply-carried : (found : Result Accepted Refusal) (old : State) (given : Reply) (new : State) → StateFits old → HasText found
     → CarriesOut found old given new → IsReply given × StateFits new
 unfolding reached_change
-IsReply-carried (Err refusal) old given new fits has carried = (subst IsReply (sym carried.0) has, subst StateFits (sym carried.1) fits)
+IsReply-carried (Err refused) old given new fits has carried = (subst IsReply (sym carried.0) has, subst StateFits (sym carried.1) fits)
 IsReply-carried (Ok (Done words change)) old given new fits has carried =
     (subst IsReply (sym carried.0) has.0, subst StateFits (sym carried.1) (StateFits-changed old change has.1 fits))
 IsReply-carried (Ok (Reaches stretch)) old given new fits has (top, (reached, is_ok, is_next)) =
@@ -70,7 +71,7 @@ IsReply-carried (Ok (Reaches stretch)) old given new fits has (top, (reached, is
 
 -- each row's refusal has a text
 abbrev AllHaveTexts : List Row → Type 0
-AllHaveTexts rows = AllByRecursion (λ (r : Row). IsReply r.otherwise) rows
+AllHaveTexts rows = AllByRecursion (λ (r : Row). IsReply (reply_of r.otherwise)) rows
 
 HasText-decided : (rows : List Row) (accepted : Accepted) → AllHaveTexts rows → HasText (Ok accepted) → HasText (decided rows accepted)
 HasText-decided [] accepted have last = last
@@ -83,17 +84,17 @@ HasText-decided (row ∷ rows) accepted have last = by row.holds (HasText-decide
 IsReply-input_error : IsReply input_error
 IsReply-input_error = (omega arith, omega arith)
 
-IsReply-realm_error : IsReply (realm_error 0)
+IsReply-realm_error : IsReply (reply.Err 2 0)
 IsReply-realm_error = (omega arith, omega arith)
 
-IsReply-rec_error : IsReply rec_error
+IsReply-rec_error : IsReply (reply.Err 3 0)
 IsReply-rec_error = (omega arith, omega arith)
 
-IsReply-table_error : (level : ℕ) → level ≤ 3 → IsReply (table_error level)
+IsReply-table_error : (level : ℕ) → level ≤ 3 → IsReply (reply.Err 4 level)
 IsReply-table_error level within = (omega arith, omega (arith, within))
 
 -- where a walk ends is a level
-IsReply-walk : (s : State) (rd ipa max : ℕ) → max ≤ 3 → IsReply (table_error (reach s rd ipa max))
+IsReply-walk : (s : State) (rd ipa max : ℕ) → max ≤ 3 → IsReply (reply.Err 4 (reach s rd ipa max))
 IsReply-walk s rd ipa max within = IsReply-table_error (reach s rd ipa max) (omega (arith, reach-le s rd ipa max, within))
 
 AllHaveTexts-tagged : (s : State) (names : List Needed) (rows : List Row) → AllHaveTexts rows → AllHaveTexts (tagged s names rows)
@@ -101,19 +102,19 @@ AllHaveTexts-tagged s [] rows have = have
 AllHaveTexts-tagged s (n ∷ names) rows have = (IsReply-input_error, AllHaveTexts-tagged s names rows have)
 
 -- rows behind tests are read where the tests hold
-HasText-inputs : (tests : List Bool) (rows : List Row) (accepted : Accepted) → (AllByRecursion IsTrue tests → HasText (decided rows accepted))
+HasText-inputs : (tests : List Word) (rows : List Row) (accepted : Accepted) → (AllByRecursion (λ (w : Word). IsTrue w.allowed) tests → HasText (decided rows accepted))
     → HasText (decided (inputs tests rows) accepted)
 HasText-inputs [] rows accepted have = have tt
-HasText-inputs (test ∷ tests) rows accepted have = by test refl (λ holds. HasText-inputs tests rows accepted (λ others. have (holds, others)))
+HasText-inputs (test ∷ tests) rows accepted have = by test.allowed refl (λ holds. HasText-inputs tests rows accepted (λ others. have (holds, others)))
   where
-    by : (b : Bool) → test ≡ b → (IsTrue test → HasText (decided (inputs tests rows) accepted))
-        → HasText (if b then decided (inputs tests rows) accepted else Err input_error)
+    by : (b : Bool) → test.allowed ≡ b → (IsTrue test.allowed → HasText (decided (inputs tests rows) accepted))
+        → HasText (if b then decided (inputs tests rows) accepted else Err (refusal.Input test.condition))
     by true holds later = later holds
     by false fails later = IsReply-input_error
 
 -- a command whose rows and whose end have texts, where its words are allowed
 HasText-front : (s : State) (c : Call) (rows : List Row) (accepted : Accepted)
-    → (AllByRecursion IsTrue (words_of c) → AllHaveTexts rows × HasText (Ok accepted)) → HasText (decided (with_front s c rows) accepted)
+    → (AllByRecursion (λ (w : Word). IsTrue w.allowed) (words_of c) → AllHaveTexts rows × HasText (Ok accepted)) → HasText (decided (with_front s c rows) accepted)
 HasText-front s c rows accepted have =
     HasText-inputs (words_of c) (tagged s (named c) rows) accepted (λ tests.
     let both = have tests in
@@ -159,21 +160,21 @@ EntryFits-after_table realm ipa ripas = either EntryFits (nat_lt ipa (half realm
 -- ---- functions
 
 -- a table that is taken out
-HasText-remove : (removal : Removal) (s : State) (cpu rd ipa level : ℕ) → StateFits s → AllByRecursion IsTrue (words_of (call.RttRemove removal rd ipa level))
+HasText-remove : (removal : Removal) (s : State) (cpu rd ipa level : ℕ) → StateFits s → AllByRecursion (λ (w : Word). IsTrue w.allowed) (words_of (call.RttRemove removal rd ipa level))
     → AllHaveTexts (behind s cpu (call.RttRemove removal rd ipa level)).0 × HasText (Ok (behind s cpu (call.RttRemove removal rd ipa level)).1)
 unfolding behind words_of
 HasText-remove removal s cpu rd ipa level fits tests =
     let last = leb-true level 3 tests.0 in (
-      (IsReply-input_error, (IsReply-input_error, (IsReply-walk s rd ipa _ (omega (arith, last)), (IsReply-table_error _ last, tt)))),
+      (IsReply-input_error, (IsReply-input_error, (IsReply-walk s rd ipa _ (omega (arith, last)), (IsReply-walk s rd ipa _ (omega (arith, last)), (IsReply-table_error _ last, tt))))),
       ((omega arith, (entry_at-fits s rd _ _ fits, tt)), EntryFits-after_table (realm_at s rd) ipa _),
     )
 
 -- where its words are allowed, what stands behind the rows of each function has texts and fits
-HasText-behind : (f : FunctionId) (w : List ℕ) (s : State) (cpu : ℕ) → StateFits s → AreWords w → AllByRecursion IsTrue (words_of (call_from f w))
+HasText-behind : (f : FunctionId) (w : List ℕ) (s : State) (cpu : ℕ) → StateFits s → AreWords w → AllByRecursion (λ (w : Word). IsTrue w.allowed) (words_of (call_from f w))
     → AllHaveTexts (behind s cpu (call_from f w)).0 × HasText (Ok (behind s cpu (call_from f w)).1)
 unfolding behind call_from words_of
 HasText-behind function.DataCreate w s cpu fits words tests = (
-  (IsReply-input_error, (IsReply-realm_error, (IsReply-walk s (slice_index w 0) (slice_index w 2) 3 (omega arith), (IsReply-table_error 3 (omega arith), tt)))),
+  (IsReply-input_error, (IsReply-realm_error, (IsReply-walk s (slice_index w 0) (slice_index w 2) 3 (omega arith), (IsReply-table_error 3 (omega arith), (IsReply-table_error 3 (omega arith), tt))))),
   ((omega arith, tt), (word w 1 words, tt)),
 )
 HasText-behind function.DataCreateUnknown w s cpu fits words tests = (
@@ -190,10 +191,10 @@ HasText-behind function.RealmCreate w s cpu fits words tests = (
   ((omega arith, tt), (word w 1 words, word w 2 words, word w 5 words)),
 )
 HasText-behind function.RealmDestroy w s cpu fits words tests = ((IsReply-realm_error, (IsReply-realm_error, tt)), ((omega arith, tt), tt))
-HasText-behind function.RecCreate w s cpu fits words tests = ((IsReply-realm_error, (IsReply-input_error, tt)), ((omega arith, tt), tt))
+HasText-behind function.RecCreate w s cpu fits words tests = ((IsReply-realm_error, (IsReply-input_error, (IsReply-input_error, tt))), ((omega arith, tt), tt))
 HasText-behind function.RecDestroy w s cpu fits words tests = ((IsReply-rec_error, tt), ((omega arith, tt), tt))
 HasText-behind function.RecEnter w s cpu fits words tests = (
-  (IsReply-realm_error, ((omega arith, omega arith), (IsReply-rec_error, tt))),
+  (IsReply-realm_error, ((omega arith, omega arith), (IsReply-rec_error, (IsReply-rec_error, tt)))),
   ((omega arith, ((request_of-fits (rec_at s (slice_index w 0)) (rec_at-fits s (slice_index w 0) fits)).0, tt)), tt),
 )
 HasText-behind function.RttCreate w s cpu fits words tests =
@@ -217,11 +218,12 @@ HasText-behind function.RttUnmapUnprotected w s cpu fits words tests = (
   ((omega arith, tt), (omega arith, tt)),
 )
 HasText-behind function.RttInitRipas w s cpu fits words tests = (
-  (IsReply-input_error, (IsReply-realm_error, (IsReply-walk s (slice_index w 0) (slice_index w 1) 3 (omega arith), tt))),
+  (let walk = IsReply-walk s (slice_index w 0) (slice_index w 1) 3 (omega arith) in (IsReply-input_error, (IsReply-realm_error, (walk, (walk, (walk, tt)))))),
   word w 2 words,
 )
 HasText-behind function.RttSetRipas w s cpu fits words tests = (
-  (IsReply-rec_error, (IsReply-rec_error, (IsReply-input_error, (IsReply-input_error, (IsReply-walk s (slice_index w 0) (slice_index w 2) 3 (omega arith), tt))))),
+  (let walk = IsReply-walk s (slice_index w 0) (slice_index w 2) 3 (omega arith) in
+      (IsReply-rec_error, (IsReply-rec_error, (IsReply-input_error, (IsReply-input_error, (IsReply-input_error, (IsReply-input_error, (IsReply-input_error, (walk, (walk, tt)))))))))),
   word w 3 words,
 )
 HasText-behind function.MeasurementRead w s cpu fits words tests = (
@@ -261,6 +263,6 @@ IsReply-Step old cpu command given new fits words step =
     IsReply-carried (outcome old cpu (call_of command)) old given new fits
     (by (is_placed old cpu (class_of (call_of command))) (HasText-answer_of command.function command.words.items old cpu fits words)) step
   where
-    by : (b : Bool) → HasText (answer_of old cpu (call_of command)) → HasText (if b then answer_of old cpu (call_of command) else Err reply.Misplaced)
+    by : (b : Bool) → HasText (answer_of old cpu (call_of command)) → HasText (if b then answer_of old cpu (call_of command) else Err (refusal.Misplaced (misplacement (is_inside old cpu) (class_of (call_of command)))))
     by true answered = answered
     by false answered = tt

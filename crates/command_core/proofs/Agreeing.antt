@@ -8,14 +8,9 @@ use Rattle.rmm_spec.specs.State.{State}
 use Rattle.rmm_spec.specs.Lookup.{has_tag, realm_at, rec_at}
 use Rattle.rmm_spec.specs.Rows.{Needed}
 use Rattle.rmm_spec.specs.Walk.{has_link}
-use Rattle.rmm_spec.specs.Step.{answer_of}
-use Rattle.rmm_spec.specs.Step.Words.{words_of}
-use Rattle.rmm_spec.specs.Step.Named.{named}
-use Rattle.rmm_spec.specs.Step.Granule.{granule_delegate, granule_undelegate}
-use Rattle.rmm_spec.specs.Step.Realm.{realm_activate}
-use Rattle.rmm_spec.specs.Step.Rec.{rec_create, rec_destroy, rec_enter}
-use Rattle.rmm_spec.specs.Step.RealmCall.{measurement_read, measurement_extend, realm_config, ipa_state_set, host_call, cpu_off, system_off}
-use Rattle.rec_steps.specs.Answers.{call_row}
+use Rattle.rmm_spec.specs.Step.{answer_of, commands}
+use Rattle.rmm_spec.specs.Step.Terms.{words_of, named}
+use Rattle.rmm_spec.specs.Step.RealmCall.{answer_to_realm}
 use Rattle.command_rows.specs.Answers.{outside_answer}
 use Rattle.walk_laws.specs.Walking.{way_of}
 
@@ -50,7 +45,7 @@ pub record SameLookUps (s t : State) (c : Call) : Type 0 where
 
 pub outside_answer-same : (vmids recs : ℕ → Bool) (s t : State) (cpu : ℕ) (c : Call) → way_of c ≡ None → SameLookUps s t c
     → outside_answer vmids recs s cpu c ≡ outside_answer vmids recs t cpu c
-unfolding outside_answer answer_of class_of words_of named granule_delegate granule_undelegate realm_activate rec_create rec_destroy rec_enter way_of entered rooted
+unfolding outside_answer answer_of class_of words_of named way_of entered rooted commands
 outside_answer-same vmids recs s t cpu (call.GranuleDelegate granule) walks same = let tag = same.tags 0 in cc
 outside_answer-same vmids recs s t cpu _ walks same =
     let first = same.tags 0 in let second = same.tags 1 in let third = same.tags 2 in let fourth = same.tags 3 in
@@ -63,8 +58,8 @@ asked (call.IpaStateGet ipa) = Some ipa
 asked _ = None
 
 -- a realm's call looks up the REC and its realm, and an entry besides where it asks for one
-pub call_row-same : (s t : State) (rec : ℕ) (c : Call) → asked c ≡ None → rec_at s rec ≡ rec_at t rec
-    → realm_at s (rec_at s rec).owner ≡ realm_at t (rec_at t rec).owner → call_row s rec c ≡ call_row t rec c
-unfolding call_row asked words_of named measurement_read measurement_extend realm_config ipa_state_set host_call cpu_off system_off
-call_row-same s t rec (call.MeasurementRead index) asks same realm = cc
-call_row-same s t rec _ asks same realm = cc
+pub answer_to_realm-same : (s t : State) (rec : ℕ) (c : Call) → asked c ≡ None → rec_at s rec ≡ rec_at t rec
+    → realm_at s (rec_at s rec).owner ≡ realm_at t (rec_at t rec).owner → answer_to_realm s rec c ≡ answer_to_realm t rec c
+unfolding answer_to_realm asked words_of named commands
+answer_to_realm-same s t rec (call.MeasurementRead index) asks same realm = cc
+answer_to_realm-same s t rec _ asks same realm = cc

@@ -15,13 +15,13 @@ use Rattle.rmm_spec.specs.declared.change.RealmUpdate.TheVariants.{RecCounted}
 use Rattle.rmm_spec.specs.declared.change.RecUpdate.{RecUpdate}
 use Rattle.rmm_spec.specs.declared.change.RecUpdate.TheVariants as update
 use Rattle.rmm_spec.specs.declared.command.Command.{Command}
-use Rattle.rmm_spec.specs.declared.reply.Reply.{Reply}
+use Rattle.rmm_spec.specs.declared.refusal.Refusal.{Refusal}
 use Rattle.rmm_spec.specs.declared.tag.Tag.{Tag}
 use Rattle.rmm_spec.specs.declared.tag.Tag.TheVariants as tag
 use Rattle.rmm_spec.specs.Applicable.{CanApply}
 use Rattle.rmm_spec.specs.Call.{call_of}
 use Rattle.rmm_spec.specs.Lookup.{has_tag, tag_number, is_granule}
-use Rattle.rmm_spec.specs.Rows.{Row, decided, ok, done}
+use Rattle.rmm_spec.specs.Rows.{Row, decided, ok, done, reply_of}
 use Rattle.rmm_spec.specs.Step.{Step, outcome}
 use Rattle.rmm_spec.specs.Cell.{Cell, Rec, RecAux, put, tag_of}
 use Rattle.rmm_spec.specs.Flat.{flat_state}
@@ -176,12 +176,12 @@ all_held hold changes each h has =
     (All-from_recursion (λ (x : HeldCell). IsTrue (is_held x.granule hold.cells)) changes each) has)
 
 -- what every whole that agrees answers is a local step
-pub answers-local : (config : Config) (cpu : ℕ) (command : Command) (hold : Hold) (answer : Result Accepted Reply) → CanAnswer cpu hold answer
+pub answers-local : (config : Config) (cpu : ℕ) (command : Command) (hold : Hold) (answer : Result Accepted Refusal) → CanAnswer cpu hold answer
     → ((w : Whole config cpu hold) → outcome (state config cpu hold w) cpu (call_of command) ≡ answer)
     → Answers config cpu command hold answer
 unfolding new_cells new_place side_changed
 answers-local config cpu command hold (Err refusal) can each =
-    unchanged-is_local config cpu command refusal hold
+    unchanged-is_local config cpu command (reply_of refusal) hold
     (λ cells places shaped agrees placed.
     Step-refused (flat_state config cells) cpu command refusal
     (each (record { cells = cells; places = places; shaped = shaped; agrees = agrees; placed = placed })))
@@ -203,7 +203,7 @@ answers-local config cpu command hold (Ok (Done words change)) can each =
 answers-local config cpu command hold (Ok (Reaches stretch)) can each = absurd can
 
 -- where each whole answers so, none leads to a stretch
-each-furthest : (config : Config) (cpu : ℕ) (command : Command) (hold : Hold) (answer : Result Accepted Reply) → CanAnswer cpu hold answer
+each-furthest : (config : Config) (cpu : ℕ) (command : Command) (hold : Hold) (answer : Result Accepted Refusal) → CanAnswer cpu hold answer
     → ((w : Whole config cpu hold) → outcome (state config cpu hold w) cpu (call_of command) ≡ answer)
     → IsFurthest config cpu command hold (given_of answer)
 each-furthest config cpu command hold answer can each = record {
@@ -212,12 +212,12 @@ each-furthest config cpu command hold answer can each = record {
       absurd (unled answer can stretch (sym (each w) ∙ leads));
 }
   where
-    unled : (a : Result Accepted Reply) → CanAnswer cpu hold a → (stretch : Stretch) → a ≡ Ok (Reaches stretch) → ⊥
+    unled : (a : Result Accepted Refusal) → CanAnswer cpu hold a → (stretch : Stretch) → a ≡ Ok (Reaches stretch) → ⊥
     unled (Err refusal) can stretch same = cc
     unled (Ok (Done words change)) can stretch same = cc
     unled (Ok (Reaches other)) can stretch same = can
 
-pub is_answer : (config : Config) (cpu : ℕ) (command : Command) (hold : Hold) (answer : Result Accepted Reply) → CanAnswer cpu hold answer
+pub is_answer : (config : Config) (cpu : ℕ) (command : Command) (hold : Hold) (answer : Result Accepted Refusal) → CanAnswer cpu hold answer
     → ((w : Whole config cpu hold) → outcome (state config cpu hold w) cpu (call_of command) ≡ answer)
     → IsAnswer config cpu command hold answer
 is_answer config cpu command hold answer can each = record {

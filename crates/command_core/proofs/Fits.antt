@@ -16,7 +16,7 @@ use Rattle.rmm_spec.specs.declared.tag.Tag.TheVariants as tag
 use Rattle.rmm_spec.specs.Applicable.{IsRealmUpdate, CanUpdateRec, CanRetag, CanChangeRealm, CanChangeRec, GoesWith, CanChangeEntries, CanApply}
 use Rattle.rmm_spec.specs.State.{State, RealmRecord, RecRecord}
 use Rattle.rmm_spec.specs.Lookup.{tag_number, is_granule, is_hash, has_tag, realm_at, rec_at}
-use Rattle.rmm_spec.specs.Step.Words.{is_space}
+use Rattle.rmm_spec.specs.Step.Terms.{is_space}
 use Rattle.rmm_spec.specs.Cell.{Cell, Rd, Rec, tag_of}
 use Rattle.rmm_spec.specs.Flat.{flat_state}
 use Rattle.rmm_spec.specs.Shape.{Side, CpuPlace}

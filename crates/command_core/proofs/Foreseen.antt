@@ -11,8 +11,7 @@ use Rattle.rmm_spec.specs.declared.call.Call.TheVariants.{RealmCreate, RealmDest
 use Rattle.rmm_spec.specs.declared.change.Change.{Change}
 use Rattle.rmm_spec.specs.declared.change.Change.TheVariants.{RecMade}
 use Rattle.rmm_spec.specs.declared.command.Command.{Command}
-use Rattle.rmm_spec.specs.declared.reply.Reply.{Reply}
-use Rattle.rmm_spec.specs.declared.reply.Reply.TheVariants.{Misplaced}
+use Rattle.rmm_spec.specs.declared.refusal.Refusal.{Refusal}
 use Rattle.rmm_spec.specs.Call.{call_of}
 use Rattle.rmm_spec.specs.Lookup.{is_granule}
 use Rattle.rmm_spec.specs.Rows.{done}
@@ -24,7 +23,7 @@ use Rattle.rmm_spec.specs.Local.{HeldCell, Hold}
 use Rattle.command_rows.specs.Answers.{outside_answer}
 use Rattle.walk_laws.specs.SeenState.{seen_state}
 use Rattle.command_core.specs.Changed.{hold_of, new_cells, fits_cells, can_count, can_make, CanMakeAnswer, IsAnswer, given_of}
-use Rattle.command_core.specs.Decided.{rows_answer, made_answer, settled_answer}
+use Rattle.command_core.specs.Decided.{rows_answer, made_answer, settled_answer, misshaped}
 use Rattle.command_core.specs.Foreseen.{unlisted, change_of, IsDecision, lists_none, has_count, bears_out}
 use Rattle.command_core.specs.Furthest.{furthest}
 use Rattle.command_core.specs.Settled.{is_settled}
@@ -39,13 +38,13 @@ settled_answer-makes : (config : Config) (cpu : ℕ) (c : Call) (hold : Hold) �
 unfolding settled_answer
 settled_answer-makes config cpu c hold few = by (is_unshaped config c hold.place hold.cells)
   where
-    by : (b : Bool) → CanMakeAnswer hold (if b then Err Misplaced
+    by : (b : Bool) → CanMakeAnswer hold (if b then Err misshaped
         else made_answer config hold.cells hold.side (rows_answer config cpu c hold.cells (Some hold.side) hold.place))
     by true = tt
     by false = answer-makes config hold (rows_answer config cpu c hold.cells (Some hold.side) hold.place) few
 
 -- an answer as a decision
-answer-decision : (config : Config) (cpu : ℕ) (command : Command) (hold : Hold) (answer : Result Accepted Reply)
+answer-decision : (config : Config) (cpu : ℕ) (command : Command) (hold : Hold) (answer : Result Accepted Refusal)
     → IsAnswer config cpu command hold answer → CanMakeAnswer hold answer → IsDecision config cpu command hold (given_of answer) (change_of answer)
 unfolding new_cells
 answer-decision config cpu command hold (Err refusal) answered makes = record {
@@ -62,7 +61,7 @@ answer-decision config cpu command hold (Ok (Done words made)) answered makes = 
 }
 answer-decision config cpu command hold (Ok (Reaches stretch)) answered makes = absurd answered.can
 
-pub settled-decision : (config : Config) (cpu : ℕ) (command : Command) (hold : Hold) (c : Call) (answer : Result Accepted Reply)
+pub settled-decision : (config : Config) (cpu : ℕ) (command : Command) (hold : Hold) (c : Call) (answer : Result Accepted Refusal)
     → c ≡ call_of command → is_settled config (call_of command) hold.place hold.cells ≡ true
     → answer ≡ settled_answer config cpu c hold.cells hold.side hold.place → CanMakeAnswer hold answer
     → IsDecision config cpu command hold (given_of answer) (change_of answer)
@@ -105,26 +104,26 @@ none-counted granules side (RecMade rd rec mpidr flags aux0 aux1) none =
 none-counted granules side _ none = absurd (false≢true (sym none))
 
 -- what is picked by one test is picked by another that agrees where it is picked
-picked : (fits counts other : Bool) (made refused : Result Accepted Reply) (P : Result Accepted Reply → Type 0) → P (if fits && counts then made else refused)
+picked : (fits counts other : Bool) (made refused : Result Accepted Refusal) (P : Result Accepted Refusal → Type 0) → P (if fits && counts then made else refused)
     → (P made → other ≡ counts) → (counts ≡ false → other ≡ false)
     → (if fits && other then made else refused) ≡ (if fits && counts then made else refused)
 picked false counts other made refused P is same none = refl
 picked true true other made refused P is same none = ap (λ b. if b then made else refused) (same is)
 picked true false other made refused P is same none = ap (λ b. if b then made else refused) (none refl)
 
-made_answer-borne_out : (config : Config) (held : List HeldCell) (side : Side) (rows : Result Accepted Reply)
+made_answer-borne_out : (config : Config) (held : List HeldCell) (side : Side) (rows : Result Accepted Refusal)
     → has_count config.granules side (change_of (made_answer config held unlisted rows)) ≡ true
     → made_answer config held side rows ≡ made_answer config held unlisted rows
 unfolding can_make
 made_answer-borne_out config held side (Err refusal) counts = refl
 made_answer-borne_out config held side (Ok (Done words made)) counts =
-    picked (fits_cells held made) (can_count config.granules unlisted made) (can_count config.granules side made) (Ok (Done words made)) (Err Misplaced)
+    picked (fits_cells held made) (can_count config.granules unlisted made) (can_count config.granules side made) (Ok (Done words made)) (Err misshaped)
     (λ answer. has_count config.granules side (change_of answer) ≡ true) counts
     (can_count-borne_out config.granules side made) (none-counted config.granules side made)
 made_answer-borne_out config held side (Ok (Reaches stretch)) counts =
     let top = furthest (seen_state config held) stretch in
     let made = reached_change stretch top in
-    picked (fits_cells held made) (can_count config.granules unlisted made) (can_count config.granules side made) (Ok (done (top ∷ []) made)) (Err Misplaced)
+    picked (fits_cells held made) (can_count config.granules unlisted made) (can_count config.granules side made) (Ok (done (top ∷ []) made)) (Err misshaped)
     (λ answer. has_count config.granules side (change_of answer) ≡ true) counts
     (can_count-borne_out config.granules side made) (none-counted config.granules side made)
 
@@ -134,19 +133,19 @@ settled-borne_out : (config : Config) (cpu : ℕ) (c : Call) (held : List HeldCe
 unfolding settled_answer
 settled-borne_out config cpu c held side place told = by (is_unshaped config c place held) told
   where
-    rows : Side → Result Accepted Reply
+    rows : Side → Result Accepted Refusal
     rows x = rows_answer config cpu c held (Some x) place
 
-    by : (b : Bool) → bears_out config.granules side c (change_of (if b then Err Misplaced else made_answer config held unlisted (rows unlisted))) ≡ true
-        → (if b then Err Misplaced else made_answer config held side (rows side))
-        ≡ (if b then Err Misplaced else made_answer config held unlisted (rows unlisted))
+    by : (b : Bool) → bears_out config.granules side c (change_of (if b then Err misshaped else made_answer config held unlisted (rows unlisted))) ≡ true
+        → (if b then Err misshaped else made_answer config held side (rows side))
+        ≡ (if b then Err misshaped else made_answer config held unlisted (rows unlisted))
     by true borne_out = refl
     by false borne_out =
         let both = and_parts _ _ borne_out in
         ap (made_answer config held side) (rows-borne_out config cpu c held side place both.0)
         ∙ made_answer-borne_out config held side (rows unlisted) both.1
 
-pub foreseen-decision : (config : Config) (cpu : ℕ) (command : Command) (held : List HeldCell) (side : Side) (place : CpuPlace) (answer : Result Accepted Reply)
+pub foreseen-decision : (config : Config) (cpu : ℕ) (command : Command) (held : List HeldCell) (side : Side) (place : CpuPlace) (answer : Result Accepted Refusal)
     → config.granules ≤ 4096 → is_settled config (call_of command) place held ≡ true
     → answer ≡ settled_answer config cpu (call_of command) held unlisted place
     → bears_out config.granules side (call_of command) (change_of answer) ≡ true

@@ -1,5 +1,5 @@
 -- A host's command that its words refuse, or a tag of what is held, is refused by what is held as by every whole that agrees.
-use Rattle.std.proofs.Common.{◌≡◌, ℕ, Bool, true, false, not, ◌&&◌, ◌||◌, ◌==◌, if◌then◌else◌, List, [], ◌∷◌, Option, Some, None, Err, refl, sym, ap, ◌∙◌, subst, eqb-true}
+use Rattle.std.proofs.Common.{◌≡◌, ℕ, Bool, true, false, not, ◌&&◌, ◌||◌, ◌==◌, if◌then◌else◌, List, [], ◌∷◌, Option, Some, None, refl, sym, ap, ◌∙◌, subst, eqb-true}
 use Rattle.std.specs.Prelude.{IsTrue, Contains, is_some}
 use Rattle.std.specs.List.{list_any, list_all}
 use Rattle.std.proofs.lemmas.Bool.{false≢true, and_parts, not-true}
@@ -10,15 +10,14 @@ use Rattle.rmm_spec.specs.declared.command.Command.{Command}
 use Rattle.rmm_spec.specs.Call.{ByHost, call_of, class_of}
 use Rattle.rmm_spec.specs.State.{State}
 use Rattle.rmm_spec.specs.Lookup.{has_tag, tag_number, is_granule}
-use Rattle.rmm_spec.specs.Rows.{Needed, input_error}
-use Rattle.rmm_spec.specs.Step.Words.{words_of}
-use Rattle.rmm_spec.specs.Step.Named.{named}
+use Rattle.rmm_spec.specs.Rows.{Needed, input_error, all_allowed}
+use Rattle.rmm_spec.specs.Step.Terms.{words_of, named}
 use Rattle.rmm_spec.specs.Cell.{Cell, Undelegated, tag_of}
 use Rattle.rmm_spec.specs.Shape.{Outside}
 use Rattle.rmm_spec.specs.Local.{HeldCell, Hold, granules_held, LocalStep}
 use Rattle.world_laws.specs.Replaced.{held_at}
 use Rattle.world_laws.proofs.Members.{Contains-head, Contains-tail, slice_get-from_Contains}
-use Rattle.world_laws.proofs.Refusals.{IsRefusedInFront, by_words, by_tag, decided-front, answer_of-front, words-are_local, addresses-are_local, tags-are_local}
+use Rattle.world_laws.proofs.Refusals.{IsInputError, IsRefusedInFront, by_words, by_tag, decided-front, answer_of-front, words-are_local, addresses-are_local, tags-are_local}
 use Rattle.command_rows.specs.Answers.{host_answer, outside_answer}
 use Rattle.command_core.specs.Seen.{cell_in, is_held}
 use Rattle.command_core.specs.Named.{is_wrong_for, is_wrong, has_wrong, words_fit}
@@ -124,9 +123,9 @@ pub front-refused : (config : Config) (held : List HeldCell) (c : Call) → (not
     → IsRefusedInFront (seen_state config held) c
 unfolding words_fit
 front-refused config held c is =
-    by (list_all (λ allowed. allowed) (words_of c)) (list_all (λ (n : Needed). is_granule config.granules n.granule) (named c)) refl refl is
+    by (all_allowed (words_of c)) (list_all (λ (n : Needed). is_granule config.granules n.granule) (named c)) refl refl is
   where
-    by : (b d : Bool) → list_all (λ allowed. allowed) (words_of c) ≡ b → list_all (λ (n : Needed). is_granule config.granules n.granule) (named c) ≡ d
+    by : (b d : Bool) → all_allowed (words_of c) ≡ b → list_all (λ (n : Needed). is_granule config.granules n.granule) (named c) ≡ d
         → (not (b && d) || has_wrong (named c) held) ≡ true → IsRefusedInFront (seen_state config held) c
     by false d words names is = by_words words
     by true false words names is =
@@ -139,25 +138,25 @@ front-refused config held c is =
         by_tag at.0 w.n at.1 (tag-wrong config held w.n w.h.cell (ap (λ g. cell_in g held) w.same ∙ w.found) w.wrong)
 
 outside-front : (vmids recs : ℕ → Bool) (s : State) (cpu : ℕ) (c : Call) → class_of c ≡ ByHost → IsRefusedInFront s c
-    → outside_answer vmids recs s cpu c ≡ Err input_error
+    → IsInputError (outside_answer vmids recs s cpu c)
 unfolding outside_answer
 outside-front vmids recs s cpu (call.RealmCreate rd root width level vmid algo) host refused =
     decided-front s (call.RealmCreate rd root width level vmid algo) _ _ refused
 outside-front vmids recs s cpu (call.RealmDestroy rd) host refused = decided-front s (call.RealmDestroy rd) _ _ refused
-outside-front vmids recs s cpu c host refused = ap (λ k. host_answer k s cpu c) host ∙ answer_of-front s cpu c refused
+outside-front vmids recs s cpu c host refused = subst IsInputError (ap (λ k. host_answer k s cpu c) (sym host)) (answer_of-front s cpu c refused)
 
 -- and so it is by every whole that agrees
 pub refused-answer : (config : Config) (cpu : ℕ) (command : Command) (hold : Hold) (vmids recs : ℕ → Bool) → class_of (call_of command) ≡ ByHost → hold.place ≡ Outside
     → (not (words_fit config (call_of command)) || has_wrong (named (call_of command)) hold.cells) ≡ true
-    → (outside_answer vmids recs (seen_state config hold.cells) cpu (call_of command) ≡ Err input_error)
+    → IsInputError (outside_answer vmids recs (seen_state config hold.cells) cpu (call_of command))
     × LocalStep config cpu command input_error hold hold
 unfolding words_fit
 refused-answer config cpu command hold vmids recs host place is = (
   outside-front vmids recs (seen_state config hold.cells) cpu (call_of command) host (front-refused config hold.cells (call_of command) is),
-  by (list_all (λ allowed. allowed) (words_of (call_of command))) (list_all (λ (n : Needed). is_granule config.granules n.granule) (named (call_of command))) refl refl is,
+  by (all_allowed (words_of (call_of command))) (list_all (λ (n : Needed). is_granule config.granules n.granule) (named (call_of command))) refl refl is,
 )
   where
-    by : (b d : Bool) → list_all (λ allowed. allowed) (words_of (call_of command)) ≡ b
+    by : (b d : Bool) → all_allowed (words_of (call_of command)) ≡ b
         → list_all (λ (n : Needed). is_granule config.granules n.granule) (named (call_of command)) ≡ d
         → (not (b && d) || has_wrong (named (call_of command)) hold.cells) ≡ true → LocalStep config cpu command input_error hold hold
     by false d words names is = words-are_local config cpu command hold host place words

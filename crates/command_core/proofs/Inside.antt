@@ -8,21 +8,21 @@ use Rattle.rmm_spec.specs.declared.call.Call.TheVariants as call
 use Rattle.rmm_spec.specs.declared.change.Change.TheVariants.{Unchanged, RecordsChanged}
 use Rattle.rmm_spec.specs.declared.change.RealmUpdate.TheVariants as realm_update
 use Rattle.rmm_spec.specs.declared.change.RecUpdate.TheVariants as rec_update
-use Rattle.rmm_spec.specs.declared.reply.Reply.TheVariants as reply
+use Rattle.rmm_spec.specs.declared.condition.Condition.TheVariants.{IpaAlign, IpaBound, OwnPending}
+use Rattle.rmm_spec.specs.declared.refusal.Refusal.TheVariants as of
 use Rattle.rmm_spec.specs.declared.tag.Tag.TheVariants as tag
 use Rattle.rmm_spec.specs.Call.{Class, ByHost, ByRealm, ByExit, class_of}
 use Rattle.rmm_spec.specs.State.{State, RecRecord, RealmRecord}
 use Rattle.rmm_spec.specs.Lookup.{is_granule, has_tag, realm_at, rec_at}
-use Rattle.rmm_spec.specs.Rows.{Needed, input_error}
+use Rattle.rmm_spec.specs.Rows.{Needed}
+use Rattle.rmm_spec.specs.Step.{commands}
 use Rattle.rmm_spec.specs.Step.Front.{with_front}
-use Rattle.rmm_spec.specs.Step.Words.{words_of, is_page}
-use Rattle.rmm_spec.specs.Step.Named.{needed, named}
-use Rattle.rmm_spec.specs.Step.RealmCall.{measurement_read, measurement_extend, realm_config, ipa_state_set, host_call, cpu_off, system_off, rec_exit, rec_change, realm_change, ripas_asked, ipa_state_get}
+use Rattle.rmm_spec.specs.Step.Terms.{words_of, is_page, needed, named}
+use Rattle.rmm_spec.specs.Step.RealmCall.{answer_to_realm, rec_exit, rec_change, realm_change, ripas_asked, ipa_state_get}
 use Rattle.rmm_spec.specs.Cell.{Cell, Rec, tag_of, Rd}
 use Rattle.rmm_spec.specs.Shape.{Inside}
 use Rattle.rmm_spec.specs.Local.{HeldCell, Hold}
 use Rattle.world_laws.proofs.Members.{Contains-head, Contains-tail}
-use Rattle.rec_steps.specs.Answers.{call_row}
 use Rattle.command_rows.specs.Answers.{IsInsideBy, class_answer, inside_answer}
 use Rattle.walk_laws.specs.Walking.{way, is_walk_held, is_refused_early}
 use Rattle.walk_laws.proofs.Seen.{realm-same, rec-same}
@@ -36,7 +36,7 @@ use Rattle.command_core.specs.Named.{has_wrong}
 use Rattle.command_core.specs.Walks.{way_inside, way_to_read, spare}
 use Rattle.command_core.specs.Unshaped.{has_other_owner, is_misplaced, is_misfit_way, is_misfit}
 use Rattle.command_core.specs.Settled.{is_read_over, is_settled_inside}
-use Rattle.command_core.proofs.Agreeing.{call_row-same, asked}
+use Rattle.command_core.proofs.Agreeing.{answer_to_realm-same, asked}
 use Rattle.command_core.proofs.Changes.{can-done}
 use Rattle.command_core.proofs.Fronts.{named-cell}
 use Rattle.command_core.proofs.SeenStates.{tag-seen, rec-seen, realm-seen}
@@ -157,8 +157,8 @@ settled-inside config c rec rd held ByExit fits settled =
 -- ---- realm calls
 
 can-call : (cpu : ℕ) (hold : Hold) (s : State) (rec : ℕ) (c : Call) → is_held rec hold.cells ≡ true
-    → is_held (rec_at s rec).owner hold.cells ≡ true → CanAnswer cpu hold (call_row s rec c)
-unfolding call_row new_cells measurement_read measurement_extend realm_config ipa_state_set ipa_state_get host_call cpu_off system_off
+    → is_held (rec_at s rec).owner hold.cells ≡ true → CanAnswer cpu hold (answer_to_realm s rec c)
+unfolding answer_to_realm new_cells commands
 can-call cpu hold s rec (call.MeasurementRead index) held owner =
     can-done cpu hold Unchanged _ (with_front s (call.MeasurementRead index) _) (record { held = tt; tables = tt; here = tt })
 can-call cpu hold s rec (call.MeasurementExtend index size values) held owner =
@@ -196,7 +196,7 @@ refused-get : (t : State) (rec rd ipa : ℕ) (realm : RealmRecord) → (rec_at t
 unfolding ipa_state_get words_of named
 refused-get t rec rd ipa realm owner at unprotected = rw (owner, at) (by _ (is_page ipa) (nat_lt ipa (half realm)) unprotected)
   where
-    by : (a : Accepted) (b d : Bool) → (b && d) ≡ false → is_refused_early (if b then (if d then Ok a else Err input_error) else Err input_error) ≡ true
+    by : (a : Accepted) (b d : Bool) → (b && d) ≡ false → is_refused_early (if b then (if d then Ok a else Err (of.Input IpaBound)) else Err (of.Input IpaAlign)) ≡ true
     by a true true is = absurd (false≢true (sym is))
     by a true false is = refl
     by a false d is = refl
@@ -206,8 +206,8 @@ row-told : (config : Config) (cpu : ℕ) (hold : Hold) (rec rd : ℕ) (c : Call)
     → rec_at (state config cpu hold w) rec ≡ rec_at (seen_state config hold.cells) rec
     → realm_at (state config cpu hold w) (rec_at (state config cpu hold w) rec).owner ≡ realm_at (seen_state config hold.cells) (rec_at (seen_state config hold.cells) rec).owner
     → is_none (rec_at (seen_state config hold.cells) rec).pending ≡ true
-    → call_row (state config cpu hold w) rec c ≡ call_row (seen_state config hold.cells) rec c
-unfolding call_row way_inside asked
+    → answer_to_realm (state config cpu hold w) rec c ≡ answer_to_realm (seen_state config hold.cells) rec c
+unfolding answer_to_realm way_inside asked
 row-told config cpu hold rec rd (call.IpaStateGet ipa) w fits settled recs realms ready =
     get-told (walk_whole config cpu hold w) rec rd ipa held.of_rec owner (ap (λ b. b || is_some (table_behind hold.cells rd)) held.of_rd)
     (by (is_protected realm.realm ipa) refl)
@@ -241,7 +241,7 @@ row-told config cpu hold rec rd (call.IpaStateGet ipa) w fits settled recs realm
         subst (λ b. is_read_over config hold.cells (if b then Some (way rd ipa 3) else None) ≡ true) (and_from (is_none one.it.pending) (is_protected realm.realm ipa) idle protected) over in
         ap (λ b. b || is_refused_early (ipa_state_get t rec ipa)) (and_parts (is_walk_held config hold.cells (way rd ipa 3)) (is_none (spare config true hold.cells (way rd ipa 3))) walked).0
     by false unprotected = or_second (is_walk_held config hold.cells (way rd ipa 3)) (is_refused_early (ipa_state_get t rec ipa)) (refused-get t rec rd ipa realm.realm owner realm.seen unprotected)
-row-told config cpu hold rec rd c w fits settled recs realms ready = call_row-same (state config cpu hold w) (seen_state config hold.cells) rec c refl recs realms
+row-told config cpu hold rec rd c w fits settled recs realms ready = answer_to_realm-same (state config cpu hold w) (seen_state config hold.cells) rec c refl recs realms
 
 -- ---- any command
 
@@ -269,7 +269,7 @@ fitting-told config cpu hold rec rd c place fits settled = record { can = can (c
         let one = fitting-rec config rec rd hold.cells (fitting-place config c rec rd hold.cells fits) both.0 in
         subst (λ x. is_held x hold.cells ≡ true) (sym (ap (λ (r : RecRecord). r.owner) one.seen ∙ one.owner)) both.1
 
-    can-wait : (b : Bool) → CanAnswer cpu hold (call_row t rec c) → CanAnswer cpu hold (if b then call_row t rec c else Err reply.Misplaced)
+    can-wait : (b : Bool) → CanAnswer cpu hold (answer_to_realm t rec c) → CanAnswer cpu hold (if b then answer_to_realm t rec c else Err (of.Misplaced OwnPending))
     can-wait true later = later
     can-wait false later = tt
 
@@ -288,11 +288,11 @@ fitting-told config cpu hold rec rd c place fits settled = record { can = can (c
         let both = both-held is in
         let recs = rec-same (walk_whole config cpu hold w) rec both.0 in
         let realms = ap (λ (r : RecRecord). realm_at s r.owner) recs ∙ realm-same (walk_whole config cpu hold w) (rec_at t rec).owner (owner-held both) in
-        (λ i. if is_none (recs i).pending then call_row s rec c else Err reply.Misplaced)
+        (λ i. if is_none (recs i).pending then answer_to_realm s rec c else Err (of.Misplaced OwnPending))
         ∙ waits (is_none (rec_at t rec).pending) refl (λ ready. row-told config cpu hold rec rd c w fits is recs realms ready)
       where
-        waits : (b : Bool) → is_none (rec_at t rec).pending ≡ b → (is_none (rec_at t rec).pending ≡ true → call_row (state config cpu hold w) rec c ≡ call_row t rec c)
-            → (if b then call_row (state config cpu hold w) rec c else Err reply.Misplaced) ≡ (if b then call_row t rec c else Err reply.Misplaced)
+        waits : (b : Bool) → is_none (rec_at t rec).pending ≡ b → (is_none (rec_at t rec).pending ≡ true → answer_to_realm (state config cpu hold w) rec c ≡ answer_to_realm t rec c)
+            → (if b then answer_to_realm (state config cpu hold w) rec c else Err (of.Misplaced OwnPending)) ≡ (if b then answer_to_realm t rec c else Err (of.Misplaced OwnPending))
         waits true ready rows = rows ready
         waits false pending rows = refl
     same w ByExit is = rec_exit-same (state config cpu hold w) t rec (rec-same (walk_whole config cpu hold w) rec (rec-held is))

@@ -13,7 +13,7 @@ use Rattle.rmm_spec.specs.Lookup.{tag_number, is_granule}
 use Rattle.rmm_spec.specs.Rows.{Needed}
 use Rattle.rmm_spec.specs.Table.{TableRecord, place_number}
 use Rattle.rmm_spec.specs.Walk.{table_size}
-use Rattle.rmm_spec.specs.Step.Named.{needed, named}
+use Rattle.rmm_spec.specs.Step.Terms.{needed, named}
 use Rattle.rmm_spec.specs.Cell.{Cell, Rd, Rec, RecAux, Rtt, tag_of, is_aux, table_in, realm_in, rec_in, realms_of, tables_of}
 use Rattle.rmm_spec.specs.Shape.{CpuPlace, Outside, Inside, HoldsTable}
 use Rattle.rmm_spec.specs.Local.{HeldCell, Hold}

@@ -10,21 +10,20 @@ use Rattle.rmm_spec.specs.declared.call.Call.TheVariants as call
 use Rattle.rmm_spec.specs.declared.change.Change.TheVariants.{RealmDestroyed, RecDestroyed}
 use Rattle.rmm_spec.specs.declared.change.RecUpdate.TheVariants.{Entered}
 use Rattle.rmm_spec.specs.declared.entry.EntryTest.TheVariants.{Link}
-use Rattle.rmm_spec.specs.declared.reply.Reply.{Reply}
+use Rattle.rmm_spec.specs.declared.condition.Condition.TheVariants.{RecState}
+use Rattle.rmm_spec.specs.declared.refusal.Refusal.{Refusal}
+use Rattle.rmm_spec.specs.declared.refusal.Refusal.TheVariants as of
 use Rattle.rmm_spec.specs.declared.tag.Tag.TheVariants as tag
 use Rattle.rmm_spec.specs.Call.{ByHost, class_of}
 use Rattle.rmm_spec.specs.Flat.{flat_state}
 use Rattle.rmm_spec.specs.State.{State, RealmRecord, RecRecord}
 use Rattle.rmm_spec.specs.Lookup.{is_granule, has_tag, realm_at, rec_at, is_vmid_used, has_rec}
-use Rattle.rmm_spec.specs.Rows.{Needed, rec_error}
+use Rattle.rmm_spec.specs.Rows.{Needed}
 use Rattle.rmm_spec.specs.Walk.{has_link}
-use Rattle.rmm_spec.specs.Step.{answer_of}
+use Rattle.rmm_spec.specs.Step.{answer_of, commands}
 use Rattle.rmm_spec.specs.Step.Front.{with_front}
-use Rattle.rmm_spec.specs.Step.Words.{words_of}
-use Rattle.rmm_spec.specs.Step.Named.{named}
-use Rattle.rmm_spec.specs.Step.Granule.{granule_delegate, granule_undelegate}
-use Rattle.rmm_spec.specs.Step.Realm.{realm_activate}
-use Rattle.rmm_spec.specs.Step.Rec.{rec_create, rec_destroy, rec_enter}
+use Rattle.rmm_spec.specs.Step.Terms.{words_of, named}
+use Rattle.rmm_spec.specs.Step.Rec.{rec_destroy, rec_enter}
 use Rattle.rmm_spec.specs.Step.RealmCall.{rec_change}
 use Rattle.rmm_spec.specs.Cell.{Cell, Rd, Rec, realm_in}
 use Rattle.rmm_spec.specs.Local.{HeldCell, Hold}
@@ -42,7 +41,7 @@ use Rattle.command_core.proofs.Changes.{can-done}
 use Rattle.command_core.proofs.SeenStates.{tag-seen, rec-seen, realm-seen}
 use Rattle.command_core.proofs.Wholes.{Whole, state, walk_whole, whole_cell, realm_at-cell, has_rec-counted, is_vmid_used-listed}
 
-abbrev pub told_outside : Config → ℕ → Hold → Call → Result Accepted Reply
+abbrev pub told_outside : Config → ℕ → Hold → Call → Result Accepted Refusal
 told_outside config cpu hold c = outside_answer (is_vmid_listed hold.side) (are_recs_counted hold.side) (seen_state config hold.cells) cpu c
 
 -- its change is one of what is held, and each whole that agrees answers the same
@@ -152,7 +151,7 @@ realm_destroy-told config cpu hold rd granule _ found root = absurd (false≢tru
 
 -- ---- a REC, its two others and its realm
 
-rec_destroy-running : (s : State) (rec : ℕ) → has_tag s rec tag.Rec ≡ true → is_none (rec_at s rec).cpu ≡ false → rec_destroy s rec ≡ Err rec_error
+rec_destroy-running : (s : State) (rec : ℕ) → has_tag s rec tag.Rec ≡ true → is_none (rec_at s rec).cpu ≡ false → rec_destroy s rec ≡ Err (of.Rec RecState)
 unfolding rec_destroy words_of named
 rec_destroy-running s rec tag running = rw (tag, running) refl
 
@@ -232,7 +231,7 @@ named-told config cpu hold c walks all no_owner no_root can = record {
 
 pub complete-told : (config : Config) (cpu : ℕ) (hold : Hold) (c : Call) → way_of c ≡ None → class_of c ≡ ByHost → words_fit config c ≡ true
     → is_complete c hold.cells ≡ true → IsToldOutside config cpu hold c
-unfolding way_of class_of is_complete outside_answer answer_of granule_delegate granule_undelegate realm_activate rec_create new_cells named entered rooted
+unfolding way_of class_of is_complete outside_answer answer_of new_cells named entered rooted commands
 complete-told config cpu hold (call.RealmDestroy rd) walks host fits complete =
     realm_destroy-told config cpu hold rd (realm_destroy-granule config rd fits) (cell_in rd hold.cells) refl complete
 complete-told config cpu hold (call.RecDestroy rec) walks host fits complete =

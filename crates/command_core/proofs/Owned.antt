@@ -9,8 +9,7 @@ use Rattle.rmm_spec.specs.Call.{class_of}
 use Rattle.rmm_spec.specs.State.{RealmRecord, RecRecord}
 use Rattle.rmm_spec.specs.Lookup.{tag_number, is_granule, has_tag, rec_at}
 use Rattle.rmm_spec.specs.Rows.{Needed}
-use Rattle.rmm_spec.specs.Step.Words.{words_of}
-use Rattle.rmm_spec.specs.Step.Named.{needed, named}
+use Rattle.rmm_spec.specs.Step.Terms.{words_of, needed, named}
 use Rattle.rmm_spec.specs.Cell.{Cell, Undelegated, Rd, Rec, tag_of}
 use Rattle.rmm_spec.specs.Shape.{Outside, Inside}
 use Rattle.rmm_spec.specs.Local.{HeldCell}

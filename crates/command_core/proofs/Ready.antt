@@ -8,12 +8,14 @@ use Rattle.rmm_spec.specs.declared.call.Call.{Call}
 use Rattle.rmm_spec.specs.declared.call.Call.TheVariants as call
 use Rattle.rmm_spec.specs.declared.change.Change.TheVariants.{Unchanged}
 use Rattle.rmm_spec.specs.declared.command.Command.{Command}
-use Rattle.rmm_spec.specs.declared.reply.Reply.{Reply}
+use Rattle.rmm_spec.specs.declared.condition.Condition.TheVariants.{OwnInside}
+use Rattle.rmm_spec.specs.declared.refusal.Refusal.{Refusal}
+use Rattle.rmm_spec.specs.declared.refusal.Refusal.TheVariants as of
 use Rattle.rmm_spec.specs.declared.reply.Reply.TheVariants as reply
 use Rattle.rmm_spec.specs.Call.{Class, ByHost, ByRealm, ByExit, call_of, class_of}
 use Rattle.rmm_spec.specs.State.{State}
-use Rattle.rmm_spec.specs.Rows.{input_error, done}
-use Rattle.rmm_spec.specs.Step.Named.{named}
+use Rattle.rmm_spec.specs.Rows.{done, reply_of}
+use Rattle.rmm_spec.specs.Step.Terms.{named}
 use Rattle.rmm_spec.specs.Shape.{CpuPlace, Outside, Inside}
 use Rattle.rmm_spec.specs.Local.{HeldCell, Hold}
 use Rattle.world_laws.proofs.Placed.{is_inside-outside, is_inside-inside}
@@ -34,7 +36,7 @@ use Rattle.command_core.specs.Settled.{is_all_held, is_settled_outside, is_settl
 use Rattle.walk_laws.specs.Walking.{Way}
 use Rattle.command_core.specs.Walks.{way_taken}
 use Rattle.command_core.specs.Plan.{AllowsStep, IsReady}
-use Rattle.command_core.specs.Decided.{rows_answer, made_answer, settled_answer, made_change}
+use Rattle.command_core.specs.Decided.{rows_answer, made_answer, settled_answer, made_change, misshaped}
 use Rattle.command_core.proofs.Fits.{makes}
 use Rattle.command_core.proofs.Fronts.{refused-answer}
 use Rattle.command_core.proofs.Outside.{told_outside, complete-told}
@@ -44,9 +46,9 @@ use Rattle.command_core.proofs.Wholes.{state, rec_inside-place}
 
 -- ---- any answer
 
-allowed : (config : Config) (cpu : ℕ) (command : Command) (hold : Hold) (answer : Result Accepted Reply) → Answers config cpu command hold answer
+allowed : (config : Config) (cpu : ℕ) (command : Command) (hold : Hold) (answer : Result Accepted Refusal) → Answers config cpu command hold answer
     → AllowsStep config cpu command hold
-allowed config cpu command hold (Err refusal) step = record { given = refusal; new = hold_changed hold Unchanged; step = step }
+allowed config cpu command hold (Err refusal) step = record { given = reply_of refusal; new = hold_changed hold Unchanged; step = step }
 allowed config cpu command hold (Ok (Done words change)) step = record { given = reply.Ok words; new = hold_changed hold change; step = step }
 allowed config cpu command hold (Ok (Reaches stretch)) step = absurd step
 
@@ -74,8 +76,8 @@ host-ready config cpu command hold host place shaped settled =
         → IsAnswer config cpu command hold (made_answer config hold.cells hold.side (told_outside config cpu hold (call_of command)))
     by true front =
         let refusal = refused-answer config cpu command hold (is_vmid_listed hold.side) (are_recs_counted hold.side) host place front in
-        subst (λ (answer : Result Accepted Reply). IsAnswer config cpu command hold (made_answer config hold.cells hold.side answer)) (sym refusal.0)
-        (refused config cpu command hold input_error (λ end same. cc) refusal.1)
+        subst (λ (answer : Result Accepted Refusal). IsAnswer config cpu command hold (made_answer config hold.cells hold.side answer)) (sym refusal.0.1)
+        (refused config cpu command hold (of.Input refusal.0.0) (λ end same. cc) refusal.1)
     by false front =
         let parts = settled_by (words_fit config (call_of command)) (has_wrong (named (call_of command)) hold.cells)
         (is_unshaped_outside config (call_of command) hold.cells) (is_all_held config (call_of command) hold.cells (way_taken (call_of command))) shaped settled front in
@@ -110,20 +112,20 @@ settled-answered config cpu command hold settled = by (is_unshaped config (call_
     c : Call
     c = call_of command
 
-    told : CpuPlace → Result Accepted Reply
+    told : CpuPlace → Result Accepted Refusal
     told p = made_answer config hold.cells hold.side (rows_answer config cpu c hold.cells (Some hold.side) p)
 
     outside : (k : Class) → class_of c ≡ k → hold.place ≡ Outside → is_unshaped_outside config c hold.cells ≡ false
         → is_settled_outside k config c hold.cells ≡ true → IsAnswer config cpu command hold (told Outside)
     outside ByHost host place shaped is = host-ready config cpu command hold host place shaped is
     outside ByRealm realm place shaped is =
-        subst (λ (answer : Result Accepted Reply). IsAnswer config cpu command hold (made_answer config hold.cells hold.side answer))
+        subst (λ (answer : Result Accepted Refusal). IsAnswer config cpu command hold (made_answer config hold.cells hold.side answer))
         (sym (other-answer (is_vmid_listed hold.side) (are_recs_counted hold.side) (seen_state config hold.cells) cpu c ByRealm realm (λ same. cc)))
-        (refused config cpu command hold reply.Misplaced (λ end same. cc) (outside-is_local config cpu command hold (inl realm) place))
+        (refused config cpu command hold (of.Misplaced OwnInside) (λ end same. cc) (outside-is_local config cpu command hold (inl realm) place))
     outside ByExit exit place shaped is =
-        subst (λ (answer : Result Accepted Reply). IsAnswer config cpu command hold (made_answer config hold.cells hold.side answer))
+        subst (λ (answer : Result Accepted Refusal). IsAnswer config cpu command hold (made_answer config hold.cells hold.side answer))
         (sym (other-answer (is_vmid_listed hold.side) (are_recs_counted hold.side) (seen_state config hold.cells) cpu c ByExit exit (λ same. cc)))
-        (refused config cpu command hold reply.Misplaced (λ end same. cc) (outside-is_local config cpu command hold (inr exit) place))
+        (refused config cpu command hold (of.Misplaced OwnInside) (λ end same. cc) (outside-is_local config cpu command hold (inr exit) place))
 
     inside : (rec rd : ℕ) → hold.place ≡ Inside rec rd → is_misfit config c rec rd hold.cells ≡ false
         → is_settled_inside (class_of c) config c rec rd hold.cells ≡ true → IsAnswer config cpu command hold (told (Inside rec rd))
@@ -141,12 +143,12 @@ settled-answered config cpu command hold settled = by (is_unshaped config (call_
     at (Inside rec rd) place is shaped = inside rec rd place shaped is
 
     by : (b : Bool) → is_unshaped config c hold.place hold.cells ≡ b
-        → IsAnswer config cpu command hold (if b then Err reply.Misplaced else told hold.place)
+        → IsAnswer config cpu command hold (if b then Err misshaped else told hold.place)
     by true unshaped = no_whole config cpu command hold (unshaped-none config cpu hold c unshaped)
     by false shaped = at hold.place refl settled shaped
 
 -- what was decided, under another name
-pub decision : (config : Config) (cpu : ℕ) (command : Command) (hold : Hold) (c : Call) (given answer : Result Accepted Reply) → c ≡ call_of command
+pub decision : (config : Config) (cpu : ℕ) (command : Command) (hold : Hold) (c : Call) (given answer : Result Accepted Refusal) → c ≡ call_of command
     → is_settled config (call_of command) hold.place hold.cells ≡ true
     → given ≡ settled_answer config cpu c hold.cells hold.side hold.place → given ≡ answer → IsAnswer config cpu command hold answer
 decision config cpu command hold c given answer is settled decided_so same =
@@ -159,12 +161,12 @@ change-makes : (config : Config) (hold : Hold) (words : List ℕ) (change : Chan
 change-makes config hold words change few = by (can_make config hold.cells hold.side change) refl
   where
     by : (b : Bool) → can_make config hold.cells hold.side change ≡ b
-        → CanMakeAnswer hold (if b then Ok (done words change) else Err reply.Misplaced)
+        → CanMakeAnswer hold (if b then Ok (done words change) else Err misshaped)
     by true fits = makes config hold.cells hold.side hold.place change few fits
     by false unfit = tt
 
 -- an answer that stands can be made of what is held
-pub answer-makes : (config : Config) (hold : Hold) (rows : Result Accepted Reply) → config.granules ≤ 4096
+pub answer-makes : (config : Config) (hold : Hold) (rows : Result Accepted Refusal) → config.granules ≤ 4096
     → CanMakeAnswer hold (made_answer config hold.cells hold.side rows)
 answer-makes config hold (Err refusal) few = tt
 answer-makes config hold (Ok (Done words change)) few = change-makes config hold words.items change few
@@ -173,9 +175,9 @@ answer-makes config hold (Ok (Reaches stretch)) few =
     change-makes config hold (top ∷ []) (reached_change stretch top) few
 
 -- cells that are unshaped are answered as misplaced
-pub decision-unshaped : (config : Config) (cpu : ℕ) (command : Command) (hold : Hold) (c : Call) (given : Result Accepted Reply) → c ≡ call_of command
+pub decision-unshaped : (config : Config) (cpu : ℕ) (command : Command) (hold : Hold) (c : Call) (given : Result Accepted Refusal) → c ≡ call_of command
     → given ≡ settled_answer config cpu c hold.cells hold.side hold.place → is_unshaped config (call_of command) hold.place hold.cells ≡ true
-    → given ≡ Err reply.Misplaced
+    → given ≡ Err misshaped
 unfolding settled_answer
 decision-unshaped config cpu command hold c given is decided_so unshaped =
     decided_so ∙ (ap (λ (x : Call). settled_answer config cpu x hold.cells hold.side hold.place) is ∙ rw unshaped refl)

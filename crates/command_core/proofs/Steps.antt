@@ -13,9 +13,8 @@ use Rattle.rmm_spec.specs.declared.command.Command.{Command}
 use Rattle.rmm_spec.specs.declared.tag.Tag.TheVariants as tag
 use Rattle.rmm_spec.specs.Call.{Class, ByHost, ByRealm, ByExit, call_of, class_of}
 use Rattle.rmm_spec.specs.Lookup.{is_granule}
-use Rattle.rmm_spec.specs.Rows.{Needed}
-use Rattle.rmm_spec.specs.Step.Words.{words_of}
-use Rattle.rmm_spec.specs.Step.Named.{needed, named}
+use Rattle.rmm_spec.specs.Rows.{Needed, all_allowed}
+use Rattle.rmm_spec.specs.Step.Terms.{words_of, needed, named}
 use Rattle.rmm_spec.specs.Cell.{Cell, Rd, Rec}
 use Rattle.rmm_spec.specs.Shape.{CpuPlace, Outside, Inside}
 use Rattle.rmm_spec.specs.Local.{HeldCell, granules_held}
@@ -358,7 +357,7 @@ unsettled-steps config c Outside learnt held distinct unsettled = by (class_of c
         let front = or_parts (not (words_fit config c) || has_wrong (named c) held) (is_unshaped_outside config c held) parts.0 in
         let fit = not-false (words_fit config c) (or_parts (not (words_fit config c)) (has_wrong (named c) held) front.0).0 in
         outside-steps config c learnt held distinct
-        (and_parts (list_all (λ allowed. allowed) (words_of c)) (list_all (λ (n : Needed). is_granule config.granules n.granule) (named c)) fit).1 front.1 parts.1
+        (and_parts (all_allowed (words_of c)) (list_all (λ (n : Needed). is_granule config.granules n.granule) (named c)) fit).1 front.1 parts.1
 unsettled-steps config c (Inside rec rd) learnt held distinct unsettled = inside-steps (class_of c) config c rec rd held distinct unsettled
 
 -- ---- the next step

@@ -13,11 +13,10 @@ use Rattle.rmm_spec.specs.declared.call.Call.TheVariants as call
 use Rattle.rmm_spec.specs.declared.change.Change.{Change}
 use Rattle.rmm_spec.specs.declared.change.Change.TheVariants.{Unchanged, TableMade, TableDestroyed, EntriesChanged}
 use Rattle.rmm_spec.specs.declared.command.Command.{Command}
-use Rattle.rmm_spec.specs.declared.reply.Reply.{Reply}
-use Rattle.rmm_spec.specs.declared.reply.Reply.TheVariants.{Misplaced}
+use Rattle.rmm_spec.specs.declared.refusal.Refusal.{Refusal}
 use Rattle.rmm_spec.specs.Call.{call_of, class_of}
 use Rattle.rmm_spec.specs.State.{State}
-use Rattle.rmm_spec.specs.Rows.{ok, done, Needed}
+use Rattle.rmm_spec.specs.Rows.{ok, done, Needed, all_allowed}
 use Rattle.rmm_spec.specs.Walk.{entry_size, table_number}
 use Rattle.rmm_spec.specs.Step.{answer_of, outcome}
 use Rattle.rmm_spec.specs.Step.Ripas.{IsReached, stretch_change, reached_change}
@@ -38,14 +37,13 @@ use Rattle.walk_laws.proofs.Settled.{IsHosts, hosts, stretch-placed, first-reach
 use Rattle.walk_laws.proofs.Steps.{cells-held, reached-local}
 use Rattle.walk_laws.proofs.Told.{walk-told, early-told}
 use Rattle.std.specs.List.{list_all}
-use Rattle.rmm_spec.specs.Step.Words.{words_of}
+use Rattle.rmm_spec.specs.Step.Terms.{words_of, named}
 use Rattle.std.proofs.lemmas.Option.{none-some}
 use Rattle.rmm_spec.specs.Lookup.{is_granule}
-use Rattle.rmm_spec.specs.Step.Named.{named}
 use Rattle.command_core.specs.Sides.{is_vmid_listed, are_recs_counted}
 use Rattle.command_core.specs.Named.{words_fit}
 use Rattle.command_core.specs.Changed.{new_cells, new_place, hold_changed, CanChange, IsFurthest, IsAnswer, can_make}
-use Rattle.command_core.specs.Decided.{made_answer}
+use Rattle.command_core.specs.Decided.{made_answer, misshaped}
 use Rattle.command_core.specs.Furthest.{furthest}
 use Rattle.command_core.specs.Walks.{spare, is_walk_over, way_taken}
 use Rattle.command_core.proofs.Changes.{is_answer}
@@ -60,7 +58,7 @@ use Rattle.command_core.proofs.Wholes.{Whole, state, walk_whole}
 -- where it walks, the command is one that does
 pub taken-way : (c : Call) (w : Way) → way_taken c ≡ Some w → way_of c ≡ Some w
 unfolding way_taken
-taken-way c w is = by (list_all (λ allowed. allowed) (words_of c)) is
+taken-way c w is = by (all_allowed (words_of c)) is
   where
     by : (b : Bool) → (if b then way_of c else None) ≡ Some w → way_of c ≡ Some w
     by true way = way
@@ -70,7 +68,7 @@ taken-way c w is = by (list_all (λ allowed. allowed) (words_of c)) is
 pub untaken-way : (config : Config) (c : Call) → words_fit config c ≡ true → way_taken c ≡ None → way_of c ≡ None
 unfolding way_taken words_fit
 untaken-way config c fits none =
-    let allowed = (and_parts (list_all (λ allowed. allowed) (words_of c)) (list_all (λ (n : Needed). is_granule config.granules n.granule) (named c)) fits).0 in
+    let allowed = (and_parts (all_allowed (words_of c)) (list_all (λ (n : Needed). is_granule config.granules n.granule) (named c)) fits).0 in
     subst (λ b. (if b then way_of c else None) ≡ None) allowed none
 
 -- ---- what is changed
@@ -99,7 +97,7 @@ reached-changed hold stretch top = stretch-changed hold stretch.purpose stretch.
 
 -- ---- where the walk's end is held
 
-ends-answered : (config : Config) (cpu : ℕ) (command : Command) (hold : Hold) (a : Result Accepted Reply) → are_told (call_of command) hold.cells ≡ true
+ends-answered : (config : Config) (cpu : ℕ) (command : Command) (hold : Hold) (a : Result Accepted Refusal) → are_told (call_of command) hold.cells ≡ true
     → is_way_settled config (call_of command) hold.cells (way_of (call_of command)) ≡ true
     → answer_of (seen_state config hold.cells) cpu (call_of command) ≡ a
     → ((w : Whole config cpu hold) → outcome (state config cpu hold w) cpu (call_of command) ≡ a)
@@ -151,7 +149,7 @@ ends-answered config cpu command hold (Ok (Reaches stretch)) told settled is eac
         (each w, whole w))
 
     by : (b : Bool) → can_make config hold.cells hold.side change ≡ b
-        → IsAnswer config cpu command hold (if b then Ok (done (top ∷ []) change) else Err Misplaced)
+        → IsAnswer config cpu command hold (if b then Ok (done (top ∷ []) change) else Err misshaped)
     by true fits = record {
       can = can-holds cpu hold change holds;
       is_local = subst (λ (new : Hold). LocalStep config cpu command (ok (top ∷ [])) hold new) (reached-changed hold stretch top) step;
@@ -181,7 +179,7 @@ pub walk-ready : (config : Config) (cpu : ℕ) (command : Command) (hold : Hold)
     → IsAnswer config cpu command hold (made_answer config hold.cells hold.side (told_outside config cpu hold (call_of command)))
 unfolding is_walk_over
 walk-ready config cpu command hold way is place over =
-    subst (λ (a : Result Accepted Reply). IsAnswer config cpu command hold (made_answer config hold.cells hold.side a))
+    subst (λ (a : Result Accepted Refusal). IsAnswer config cpu command hold (made_answer config hold.cells hold.side a))
     (outside-walk (is_vmid_listed hold.side) (are_recs_counted hold.side) (seen_state config hold.cells) cpu (call_of command) walks)
     (by (or_cases (is_refused_early (seen_answer config c hold.cells))
     (is_way_settled config c hold.cells (Some way) && is_none (spare config (keeps_realm c) hold.cells way)) parts.1))
@@ -203,11 +201,11 @@ walk-ready config cpu command hold way is place over =
     whole : (w : Whole config cpu hold) → outcome (state config cpu hold w) cpu c ≡ answer_of (state config cpu hold w) cpu c
     whole w = outcome-host config hold.side w.places w.cells w.shaped cpu c of.host (w.placed ∙ place)
 
-    early : (given : Reply) × (seen_answer config c hold.cells ≡ Err given) × (is_table_error given ≡ false)
+    early : (given : Refusal) × (seen_answer config c hold.cells ≡ Err given) × (is_table_error given ≡ false)
         → IsAnswer config cpu command hold (made_answer config hold.cells hold.side (answer_of (seen_state config hold.cells) cpu c))
     early e =
         let told : answer_of (seen_state config hold.cells) cpu c ≡ Err e.0 = of.alike (seen_state config hold.cells) cpu ∙ e.1 in
-        subst (λ (a : Result Accepted Reply). IsAnswer config cpu command hold (made_answer config hold.cells hold.side a)) (sym told)
+        subst (λ (a : Result Accepted Refusal). IsAnswer config cpu command hold (made_answer config hold.cells hold.side a)) (sym told)
         (is_answer config cpu command hold (Err e.0) tt (λ w. whole w ∙ early-told (walk_whole config cpu hold w) cpu c e.0 parts.0 walks told e.2))
 
     by : (is_refused_early (seen_answer config c hold.cells) ≡ true)

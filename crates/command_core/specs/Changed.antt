@@ -16,6 +16,7 @@ use Rattle.rmm_spec.specs.declared.change.RecChange.{RecChange}
 use Rattle.rmm_spec.specs.declared.change.RecUpdate.{RecUpdate}
 use Rattle.rmm_spec.specs.declared.change.RecUpdate.TheVariants.{Entered, Exited, RequestMoved}
 use Rattle.rmm_spec.specs.declared.command.Command.{Command}
+use Rattle.rmm_spec.specs.declared.refusal.Refusal.{Refusal}
 use Rattle.rmm_spec.specs.declared.reply.Reply.{Reply}
 use Rattle.rmm_spec.specs.declared.reply.Reply.TheVariants as reply
 use Rattle.rmm_spec.specs.declared.tag.Tag.{Tag}
@@ -23,7 +24,7 @@ use Rattle.rmm_spec.specs.declared.tag.Tag.TheVariants as tag
 use Rattle.rmm_spec.specs.Call.{call_of}
 use Rattle.rmm_spec.specs.Change.{new_realm, new_rec}
 use Rattle.rmm_spec.specs.Flat.{flat_state}
-use Rattle.rmm_spec.specs.Rows.{ok}
+use Rattle.rmm_spec.specs.Rows.{ok, reply_of}
 use Rattle.rmm_spec.specs.Step.{outcome}
 use Rattle.rmm_spec.specs.Step.Ripas.{IsReached}
 use Rattle.rmm_spec.specs.State.{RecRecord}
@@ -31,7 +32,7 @@ use Rattle.rmm_spec.specs.Lookup.{is_granule, is_hash}
 use Rattle.rmm_spec.specs.declared.change.EntryChange.{EntryChange}
 use Rattle.rmm_spec.specs.declared.change.EntryChange.TheVariants.{Replaced, RipasSet}
 use Rattle.rmm_spec.specs.declared.change.TagChange.{TagChange}
-use Rattle.rmm_spec.specs.Step.Words.{is_space}
+use Rattle.rmm_spec.specs.Step.Terms.{is_space}
 use Rattle.rmm_spec.specs.Walk.{table_size}
 use Rattle.walk_laws.specs.TableCells.{realm_cells, rec_cells, table_cells, holds_change}
 use Rattle.rmm_spec.specs.Cell.{Cell, Delegated, Rd, Rec, RecAux, Rtt}
@@ -119,7 +120,7 @@ pub record CanChange (cpu : ℕ) (hold : Hold) (change : Change) : Type 0 where
   pub here : RunsHere cpu hold.place change
 
 -- what is answered is a refusal, or a change that can be made of what is held
-abbrev pub CanAnswer : ℕ → Hold → Result Accepted Reply → Type 0
+abbrev pub CanAnswer : ℕ → Hold → Result Accepted Refusal → Type 0
 CanAnswer cpu hold (Err refusal) = Unit {0}
 CanAnswer cpu hold (Ok (Done words change)) = CanChange cpu hold change
 CanAnswer cpu hold (Ok (Reaches stretch)) = ⊥
@@ -210,8 +211,8 @@ abbrev pub Decides : Config → ℕ → Command → Hold → Reply → Change �
 Decides config cpu command hold given change = LocalStep config cpu command given hold (hold_changed hold change)
 
 -- and so is what is answered
-abbrev pub Answers : Config → ℕ → Command → Hold → Result Accepted Reply → Type 0
-Answers config cpu command hold (Err refusal) = Decides config cpu command hold refusal Unchanged
+abbrev pub Answers : Config → ℕ → Command → Hold → Result Accepted Refusal → Type 0
+Answers config cpu command hold (Err refusal) = Decides config cpu command hold (reply_of refusal) Unchanged
 Answers config cpu command hold (Ok (Done words change)) = Decides config cpu command hold (reply.Ok words) change
 Answers config cpu command hold (Ok (Reaches stretch)) = ⊥
 
@@ -222,19 +223,19 @@ pub record IsFurthest (config : Config) (cpu : ℕ) (command : Command) (hold : 
       → outcome (flat_state config cells) cpu (call_of command) ≡ Ok (Reaches stretch) → IsReached (flat_state config cells) stretch top
       → (chosen : ℕ) × (given ≡ ok (chosen ∷ [])) × (top ≤ chosen)
 
-abbrev pub given_of : Result Accepted Reply → Reply
-given_of (Err refusal) = refusal
+abbrev pub given_of : Result Accepted Refusal → Reply
+given_of (Err refusal) = reply_of refusal
 given_of (Ok (Done words change)) = reply.Ok words
 given_of (Ok (Reaches stretch)) = reply.Misplaced
 
 -- what is answered can be made, and is a local step, as far as it may go
-pub record IsAnswer (config : Config) (cpu : ℕ) (command : Command) (hold : Hold) (answer : Result Accepted Reply) : Type 0 where
+pub record IsAnswer (config : Config) (cpu : ℕ) (command : Command) (hold : Hold) (answer : Result Accepted Refusal) : Type 0 where
   pub can : CanAnswer cpu hold answer
   pub is_local : Answers config cpu command hold answer
   pub is_furthest : IsFurthest config cpu command hold (given_of answer)
 
 -- where it is no refusal, its change can be made of the records
-abbrev pub CanMakeAnswer : Hold → Result Accepted Reply → Type 0
+abbrev pub CanMakeAnswer : Hold → Result Accepted Refusal → Type 0
 CanMakeAnswer hold (Err refusal) = Unit {0}
 CanMakeAnswer hold (Ok (Done words change)) = CanMake hold change
 CanMakeAnswer hold (Ok (Reaches stretch)) = Unit {0}

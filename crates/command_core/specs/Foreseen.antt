@@ -9,6 +9,7 @@ use Rattle.rmm_spec.specs.declared.call.Call.TheVariants.{RealmCreate, RealmDest
 use Rattle.rmm_spec.specs.declared.change.Change.{Change}
 use Rattle.rmm_spec.specs.declared.change.Change.TheVariants.{Unchanged, RecMade}
 use Rattle.rmm_spec.specs.declared.command.Command.{Command}
+use Rattle.rmm_spec.specs.declared.refusal.Refusal.{Refusal}
 use Rattle.rmm_spec.specs.declared.reply.Reply.{Reply}
 use Rattle.rmm_spec.specs.Shape.{Side}
 use Rattle.rmm_spec.specs.Local.{Hold}
@@ -26,7 +27,7 @@ side_or_unlisted (Some side) = side
 -- ---- what is decided
 
 -- the change of an answer: a refusal changes nothing
-abbrev pub change_of : Result Accepted Reply → Change
+abbrev pub change_of : Result Accepted Refusal → Change
 change_of (Ok (Done words change)) = change
 change_of (Ok (Reaches stretch)) = Unchanged
 change_of (Err refusal) = Unchanged

@@ -6,9 +6,8 @@ use Rattle.rmm_spec.specs.HistoryText.{Config}
 use Rattle.rmm_spec.specs.declared.entry.Entry.{Entry}
 use Rattle.rmm_spec.specs.declared.call.Call.{Call}
 use Rattle.rmm_spec.specs.Lookup.{tag_number, is_granule}
-use Rattle.rmm_spec.specs.Rows.{Needed}
-use Rattle.rmm_spec.specs.Step.Words.{words_of}
-use Rattle.rmm_spec.specs.Step.Named.{named}
+use Rattle.rmm_spec.specs.Rows.{Needed, all_allowed}
+use Rattle.rmm_spec.specs.Step.Terms.{words_of, named}
 use Rattle.rmm_spec.specs.Cell.{Cell, Rd, Rec, tag_of, is_data, Rtt}
 use Rattle.rmm_spec.specs.Locks.{is_named, depth, leads_to}
 use Rattle.rmm_spec.specs.Local.{HeldCell, granules_held}
@@ -31,7 +30,7 @@ has_wrong names held = list_any (λ granule. is_wrong (cell_in granule held) gra
 
 -- whether the command's words allow it, and each granule that it names is one
 unfoldable pub words_fit : Config → Call → Bool
-words_fit config call = list_all (λ allowed. allowed) (words_of call) && list_all (λ (n : Needed). is_granule config.granules n.granule) (named call)
+words_fit config call = all_allowed (words_of call) && list_all (λ (n : Needed). is_granule config.granules n.granule) (named call)
 
 -- whether all granules that are named are held
 unfoldable pub holds_all : List Needed → List HeldCell → Bool

@@ -10,7 +10,7 @@ use Rattle.rmm_spec.specs.declared.tag.Tag.TheVariants as tag
 use Rattle.rmm_spec.specs.Call.{Class, ByHost, ByRealm, ByExit, class_of}
 use Rattle.rmm_spec.specs.State.{RecRecord}
 use Rattle.rmm_spec.specs.Rows.{Needed}
-use Rattle.rmm_spec.specs.Step.Named.{needed, named}
+use Rattle.rmm_spec.specs.Step.Terms.{needed, named}
 use Rattle.rmm_spec.specs.Cell.{Cell, Rd, Rec}
 use Rattle.rmm_spec.specs.Shape.{CpuPlace, Outside, Inside}
 use Rattle.rmm_spec.specs.Local.{HeldCell, granules_held}

@@ -5,7 +5,7 @@ use Rattle.rmm_spec.specs.declared.change.Change.{Change}
 use Rattle.rmm_spec.specs.declared.change.Change.TheVariants.{RealmMade, TableMade}
 use Rattle.rmm_spec.specs.Change.{new_realm}
 use Rattle.rmm_spec.specs.Lookup.{is_hash}
-use Rattle.rmm_spec.specs.Step.Words.{is_space}
+use Rattle.rmm_spec.specs.Step.Terms.{is_space}
 use Rattle.shape_laws.specs.Whole.{root_table}
 use Rattle.command_core.specs.declared.change_room.Room.{Room}
 

@@ -6,7 +6,7 @@ use Rattle.rmm_spec.specs.HistoryText.{Config}
 use Rattle.rmm_spec.specs.declared.call.Call.{Call}
 use Rattle.rmm_spec.specs.declared.call.Call.TheVariants.{RealmDestroy, RecDestroy, RecEnter}
 use Rattle.rmm_spec.specs.Call.{Class, ByHost, ByRealm, ByExit, class_of}
-use Rattle.rmm_spec.specs.Step.Named.{named}
+use Rattle.rmm_spec.specs.Step.Terms.{named}
 use Rattle.rmm_spec.specs.Cell.{Cell, Rd, Rec}
 use Rattle.rmm_spec.specs.Shape.{CpuPlace, Outside, Inside}
 use Rattle.rmm_spec.specs.Local.{HeldCell}

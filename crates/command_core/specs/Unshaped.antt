@@ -8,7 +8,7 @@ use Rattle.rmm_spec.specs.declared.call.Call.TheVariants.{RealmDestroy, RecDestr
 use Rattle.rmm_spec.specs.declared.tag.Tag.TheVariants as tag
 use Rattle.rmm_spec.specs.State.{RecRecord}
 use Rattle.rmm_spec.specs.Lookup.{is_granule}
-use Rattle.rmm_spec.specs.Step.Named.{needed}
+use Rattle.rmm_spec.specs.Step.Terms.{needed}
 use Rattle.rmm_spec.specs.Cell.{Cell, Rec, is_aux}
 use Rattle.rmm_spec.specs.Shape.{CpuPlace, Outside, Inside}
 use Rattle.rmm_spec.specs.Local.{HeldCell}

@@ -1,11 +1,11 @@
 -- What a walk of a command has come to, told by the tables that are held: which level, what its plan frees before it goes on, and
 -- the part that it takes next. This project's own.
 use Rattle.std.specs.Prelude.{ℕ, ◌-◌, ◌/◌, ◌%◌, Bool, false, not, ◌&&◌, ◌||◌, ◌==◌, nat_lt, if◌then◌else◌, List, Option, Some, None, is_some, is_none}
-use Rattle.std.specs.List.{list_all}
+use Rattle.rmm_spec.specs.Rows.{all_allowed}
 use Rattle.rmm_spec.specs.HistoryText.{Config}
 use Rattle.rmm_spec.specs.declared.call.Call.{Call}
 use Rattle.rmm_spec.specs.declared.call.Call.TheVariants as call
-use Rattle.rmm_spec.specs.Step.Words.{words_of}
+use Rattle.rmm_spec.specs.Step.Terms.{words_of}
 use Rattle.rmm_spec.specs.Table.{TableRecord}
 use Rattle.rmm_spec.specs.Walk.{table_number, entry_number, reach, is_protected}
 use Rattle.rmm_spec.specs.Cell.{Cell, Rd, Rec}
@@ -16,7 +16,7 @@ use Rattle.walk_laws.specs.Walking.{Way, way, way_of, keeps_realm, part_below, e
 
 -- where a host's command walks, if its words are allowed
 unfoldable pub way_taken : Call → Option Way
-way_taken call = if list_all (λ allowed. allowed) (words_of call) then way_of call else None
+way_taken call = if all_allowed (words_of call) then way_of call else None
 
 -- where a realm's call walks: with good words, from a REC that doesn't wait to leave
 abbrev pub way_to_read : ℕ → ℕ → Option Cell → Option Cell → Option Way

@@ -13,7 +13,7 @@ ghost use Rattle.command_core.specs.Sides.{side_of};
 
 use granule_cells::Side;
 use granule_state::{Config, Pa};
-use rmm_spec::{Accepted, Call, Change, Command, FunctionId, Reply};
+use rmm_spec::{Accepted, Call, Change, Command, FunctionId, Refusal};
 
 /// Whether the side table lists nothing of what the command's rows ask it for, and can count the REC that the answer makes, if
 /// any. Then what was foreseen of the command is a decision with this side table.
@@ -21,7 +21,7 @@ pub fn bears_out(
     config: &Config,
     side: &Side,
     command: &Command,
-    answer: &Result<Accepted, Reply>,
+    answer: &Result<Accepted, Refusal>,
 ) -> bool
     ensures told { result ≡ spec.bears_out config.now.granules (side_of side.now) (call_of command.now) (change_of answer.now) }
     ensures decides { IsTrue result → (cpu : ℕ) (held : List HeldCell) (place : shape.CpuPlace)
@@ -52,7 +52,7 @@ fn has_none(side: &Side, call: &Call) -> bool
     }
 }
 
-fn has_count(granules: u64, side: &Side, answer: &Result<Accepted, Reply>) -> bool
+fn has_count(granules: u64, side: &Side, answer: &Result<Accepted, Refusal>) -> bool
     ensures { result ≡ spec.has_count granules (side_of side.now) (change_of answer.now) }
 {
     match answer {

@@ -19,7 +19,7 @@ use arrayvec::ArrayVec;
 use command_rows::{answer_inside, answer_outside, reached_change};
 use granule_cells::{CpuPlace, Side};
 use granule_state::Config;
-use rmm_spec::{Accepted, Call, Change, Command, Reply, Stretch};
+use rmm_spec::{Accepted, Call, Change, Command, Condition, Refusal, Reply, Stretch};
 
 /// The reply and the change of a command that what is held settles. Together they are a step of the machine, whatever
 /// the cells are that aren't held; a refusal changes nothing, and a stretch is set as far as it may be. The change is made by `apply`, with the room that `room` takes.
@@ -44,7 +44,7 @@ pub fn decide<H: Held>(
     match settled_answer(config, &command.call(), cpu, place, held, Some(side)) {
         Ok(Accepted::Done { words, change }) => (Reply::Ok(words), change),
         Ok(Accepted::Reaches(_)) => unreachable!(),
-        Err(refusal) => (refusal, Change::Unchanged),
+        Err(refusal) => (refusal.reply(), Change::Unchanged),
     }
 }
 
@@ -56,7 +56,7 @@ pub fn answer<H: Held>(
     place: &CpuPlace,
     held: &H,
     side: &Side,
-) -> Result<Accepted, Reply>
+) -> Result<Accepted, Refusal>
     requires settled { IsTrue (is_settled config.now (call_of command.now) (place_of place.now) (H.cells held.now)) }
     ensures exact { result ≡ spec.settled_answer config.now cpu (call_of command.now) (H.cells held.now) (side_of side.now) (place_of place.now) }
     ensures decides { IsDecision config.now cpu command.now
@@ -72,7 +72,7 @@ pub fn foresee<H: Held>(
     cpu: u8,
     place: &CpuPlace,
     held: &H,
-) -> Result<Accepted, Reply>
+) -> Result<Accepted, Refusal>
     requires settled { IsTrue (is_settled config.now (call_of command.now) (place_of place.now) (H.cells held.now)) }
     ensures foreseen { result ≡ spec.settled_answer config.now cpu (call_of command.now) (H.cells held.now) unlisted (place_of place.now) }
 {
@@ -88,7 +88,7 @@ fn settled_answer<'a, H: Held>(
     place: &CpuPlace,
     held: &'a H,
     side: Option<&'a Side>,
-) -> Result<Accepted, Reply>
+) -> Result<Accepted, Refusal>
     requires { IsTrue (is_settled config.now call.now (place_of place.now) (H.cells held.now)) }
     ensures answer { result ≡ spec.settled_answer config.now cpu call.now (H.cells held.now)
         (side_or_unlisted (option_map side_of (option_copied side.entry))) (place_of place.now) }
@@ -96,7 +96,7 @@ fn settled_answer<'a, H: Held>(
 {
     let sight = HeldSight { config, held, side };
     if is_unshaped(&sight, call, place) {
-        return Err(Reply::Misplaced);
+        return Err(Refusal::Misplaced(Condition::OwnShape));
     }
     let answer = rows_answer(&sight, call, cpu, place);
     made_answer(&sight, config.granules(), answer)
@@ -108,7 +108,7 @@ fn rows_answer<H: Held>(
     call: &Call,
     cpu: u8,
     place: &CpuPlace,
-) -> Result<Accepted, Reply>
+) -> Result<Accepted, Refusal>
     requires settled { IsTrue (is_settled sight.now.config.now call.now (place_of place.now) (H.cells sight.now.held.now)) }
     requires shaped { is_unshaped sight.now.config.now call.now (place_of place.now) (H.cells sight.now.held.now) ≡ false }
     ensures { result ≡ spec.rows_answer sight.now.config.now cpu call.now (H.cells sight.now.held.now) (option_map side_of (option_copied sight.now.side)) (place_of place.now) }
@@ -124,8 +124,8 @@ fn rows_answer<H: Held>(
 fn made_answer<H: Held>(
     sight: &HeldSight<'_, H>,
     granules: u64,
-    answer: Result<Accepted, Reply>,
-) -> Result<Accepted, Reply>
+    answer: Result<Accepted, Refusal>,
+) -> Result<Accepted, Refusal>
     requires { granules ≡ sight.now.config.now.granules }
     ensures { result ≡ spec.made_answer sight.now.config.now (H.cells sight.now.held.now)
         (side_or_unlisted (option_map side_of (option_copied sight.now.side))) answer }
@@ -133,7 +133,7 @@ fn made_answer<H: Held>(
     match &answer {
         Ok(Accepted::Done { change, .. }) => {
             if !can_make(sight.config, granules, sight.held, sight.side, change) {
-                return Err(Reply::Misplaced);
+                return Err(Refusal::Misplaced(Condition::OwnShape));
             }
         }
         Ok(Accepted::Reaches(stretch)) => return reached_answer(sight, granules, stretch),
@@ -148,7 +148,7 @@ fn reached_answer<H: Held>(
     sight: &HeldSight<'_, H>,
     granules: u64,
     stretch: &Stretch,
-) -> Result<Accepted, Reply>
+) -> Result<Accepted, Refusal>
     requires { granules ≡ sight.now.config.now.granules }
     ensures { result ≡ spec.made_answer sight.now.config.now (H.cells sight.now.held.now)
         (side_or_unlisted (option_map side_of (option_copied sight.now.side))) (Ok (Reaches stretch.now)) }
@@ -156,7 +156,7 @@ fn reached_answer<H: Held>(
     let top = sight.furthest(stretch);
     let change = reached_change(stretch, top);
     if !can_make(sight.config, granules, sight.held, sight.side, &change) {
-        return Err(Reply::Misplaced);
+        return Err(Refusal::Misplaced(Condition::OwnShape));
     }
     let mut words = ArrayVec::new();
     words.push(top);

@@ -4,7 +4,7 @@ ghost use Rattle.std.specs.Prelude.{◌≡◌, ◌/◌, ◌&&◌, nat_le, if◌t
 ghost use Rattle.std.specs.List.{list_any};
 ghost use Rattle.rmm_spec.specs.Flat.{is_table_of};
 ghost use Rattle.rmm_spec.specs.Local.{granules_held};
-ghost use Rattle.rmm_spec.specs.Step.Words.{is_space};
+ghost use Rattle.rmm_spec.specs.Step.Terms.{is_space};
 ghost use Rattle.rmm_spec.specs.Table.{place_number};
 ghost use Rattle.rmm_spec.specs.Update.{is_same_entry};
 ghost use Rattle.rmm_spec.specs.Walk.{is_table};
@@ -173,7 +173,7 @@ pub(crate) fn placed<H: Held>(held: &H, rd: u64, level: u8, number: u64) -> Opti
 
 impl<'a, H: Held> HeldSight<'a, H> {
     ghost use Rattle.std.specs.Prelude.{◌≡◌, ◌<◌, ◌≤◌, ◌^◌, ◌+◌, ◌||◌, nat_lt, None, if◌then◌else◌, option_copied, option_map, IfSome, IsTrue};
-    ghost use Rattle.rmm_spec.specs.Step.Words.{is_space};
+    ghost use Rattle.rmm_spec.specs.Step.Terms.{is_space};
     ghost use Rattle.std.specs.Option.{option_and_then};
     ghost use Rattle.rmm_spec.specs.Table.{TableRecord};
     ghost use Rattle.rmm_spec.specs.Flat.{is_table_of};

@@ -6,6 +6,7 @@ ghost use Rattle.rmm_spec.specs.declared.accepted.Accepted.{Accepted};
 ghost use Rattle.rmm_spec.specs.declared.call.Call.{Call};
 ghost use Rattle.rmm_spec.specs.declared.change.Change.{Change};
 ghost use Rattle.rmm_spec.specs.declared.command.Command.{Command};
+ghost use Rattle.rmm_spec.specs.declared.refusal.Refusal.{Refusal};
 ghost use Rattle.rmm_spec.specs.declared.reply.Reply.{Reply};
 ghost use Rattle.rmm_spec.specs.Call.{call_of};
 ghost use Rattle.rmm_spec.specs.Rows.{Needed};
@@ -27,7 +28,7 @@ ghost use Rattle.command_core.specs.Plan.{IsReady};
 /// What every well-shaped whole answers that agrees with what is held is a local step: a refusal that changes nothing, or the
 /// answer's words with its change, made of the cells that are held, of the side table and of the CPU's place.
 pub fn answers_are_local()
-    ensures { (config : Config) (cpu : ℕ) (command : Command) (hold : Hold) (answer : Result Accepted Reply) → CanAnswer cpu hold answer
+    ensures { (config : Config) (cpu : ℕ) (command : Command) (hold : Hold) (answer : Result Accepted Refusal) → CanAnswer cpu hold answer
         → ((cells : ℕ → Cell) (places : ℕ → CpuPlace) → IsWellShaped config hold.side places cells → Agrees cells hold.cells
         → places cpu ≡ hold.place → outcome (flat_state config cells) cpu (call_of command) ≡ answer)
         → Answers config cpu command hold answer }

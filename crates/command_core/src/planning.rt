@@ -7,15 +7,15 @@ ghost use Rattle.command_core.specs.Settled.{is_settled};
 ghost use Rattle.command_core.specs.Plan.{IsPlanned, is_ready};
 ghost use Rattle.command_core.specs.Next as spec;
 ghost use Rattle.command_core.specs.Walks as walks;
-ghost use Rattle.command_core.specs.Ways.{way_seen};
+ghost use Rattle.command_words.specs.Ways.{way_seen};
 
 use crate::held::Held;
 use crate::held_sight::HeldSight;
 use crate::next::Next;
 use crate::settling::is_settled;
 use crate::taking::{is_downward, is_held, is_upward, least_missing};
-use crate::ways::{Way, keeps_realm, way_taken};
-use command_words::{Caller, Name, caller_of, named, needed, one, two};
+use crate::ways::{keeps_realm, way_taken};
+use command_words::{Caller, Name, Way, caller_of, named, needed, one, two};
 use granule_cells::{Cell, CpuPlace};
 use granule_state::{Config, Pa};
 use realm_desc::Rec;
@@ -144,7 +144,7 @@ fn take_auxes<H: Held>(config: &Config, names: &[Name], held: &H, rec: Pa) -> Ne
 }
 
 // An Enter takes its REC, and frees it as it learns the realm.
-#[tactic(auto, unfolding(rmm_spec::specs::Step::Named::named, realm_desc::specs::View::rec_record))]
+#[tactic(auto, unfolding(rmm_spec::specs::Step::Terms::named, realm_desc::specs::View::rec_record))]
 fn learn_realm<H: Held>(config: &Config, held: &H, rec: Pa) -> Next
     ensures { result ≡ spec.learn_realm config.now (H.cells held.now) rec (cell_in rec (H.cells held.now)) }
 {
@@ -156,7 +156,7 @@ fn learn_realm<H: Held>(config: &Config, held: &H, rec: Pa) -> Next
 }
 
 // With a realm learnt it takes the two by address, and begins anew where the REC is another realm's by now.
-#[tactic(auto, unfolding(rmm_spec::specs::Step::Named::named, realm_desc::specs::View::rec_record))]
+#[tactic(auto, unfolding(rmm_spec::specs::Step::Terms::named, realm_desc::specs::View::rec_record))]
 fn take_realm<H: Held>(sight: &HeldSight<'_, H>, rec: Pa, rd: Pa) -> Next
     ensures { result ≡ spec.take_realm sight.now.config.now (H.cells sight.now.held.now) rec rd (cell_in rec (H.cells sight.now.held.now)) }
 {

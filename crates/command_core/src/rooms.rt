@@ -3,7 +3,7 @@
 ghost use Rattle.std.specs.Prelude.{◌≡◌, IfOk, OnErr, IsSomeAnd, IsTrue, Some, None, ◌&&◌, replicate};
 ghost use Rattle.rmm_spec.specs.Change.{new_realm};
 ghost use Rattle.rmm_spec.specs.Lookup.{is_hash};
-ghost use Rattle.rmm_spec.specs.Step.Words as spec;
+ghost use Rattle.rmm_spec.specs.Step.Terms as spec;
 ghost use Rattle.shape_laws.specs.Whole as whole;
 ghost use Rattle.command_core.specs.Rooms.{IsRoomFor, HasNoMore, makes_table};
 ghost use Rattle.command_core.specs.Sides.{side_of};

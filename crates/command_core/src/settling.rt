@@ -10,7 +10,7 @@ ghost use Rattle.command_core.specs.Seen.{cell_of, cell_in, place_of};
 ghost use Rattle.command_core.specs.Settled as spec;
 ghost use Rattle.command_core.specs.Unshaped.{is_unshaped_outside};
 ghost use Rattle.command_core.specs.Walks.{way_taken, way_inside};
-ghost use Rattle.rmm_spec.specs.Step.Named as step_named;
+ghost use Rattle.rmm_spec.specs.Step.Terms as step_named;
 
 use crate::held::Held;
 use crate::held_sight::HeldSight;

@@ -3,13 +3,13 @@
 ghost use Rattle.std.specs.Prelude.{◌≡◌, option_map, option_copied};
 ghost use Rattle.command_core.specs.Seen.{cell_of, cell_in, place_of};
 ghost use Rattle.command_core.specs.Unshaped as spec;
-ghost use Rattle.command_core.specs.Ways.{way_seen};
+ghost use Rattle.command_words.specs.Ways.{way_seen};
 
 use crate::held::Held;
 use crate::held_sight::HeldSight;
 use crate::taking::{has_wrong, is_granule, is_held};
-use crate::ways::{Way, way_taken};
-use command_words::{needed, two};
+use crate::ways::way_taken;
+use command_words::{Way, needed, two};
 use granule_cells::{Cell, CpuPlace};
 use granule_state::{Config, Pa};
 use realm_desc::Rec;

@@ -8,12 +8,12 @@ ghost use Rattle.command_core.specs.Ways.{part_seen};
 use crate::held::Held;
 use crate::held_sight::HeldSight;
 use crate::held_tables::{found_or, placed, table_in};
-use crate::ways::{Way, keeps_realm, part_below};
+use crate::ways::{keeps_realm, part_below};
 use command_rows::answer_outside;
-use command_words::{Name, is_tag, named};
+use command_words::{Name, Way, is_tag, named};
 use granule_cells::Cell;
 use granule_state::Pa;
-use rmm_spec::{Call, Entry, Reply, Tag};
+use rmm_spec::{Call, Entry, Refusal, Tag};
 use table_entries::{entry_number, is_table, table_number};
 
 /// A part of what is held: the granule that names it, at which of its entries where that is a table's, and the part.
@@ -30,7 +30,8 @@ impl<'a, H: Held> HeldSight<'a, H> {
     ghost use Rattle.walk_laws.specs.Walking as walking;
     ghost use Rattle.walk_laws.specs.SeenState as seen;
     ghost use Rattle.command_core.specs.Walks as spec;
-    ghost use Rattle.command_core.specs.Ways.{way_seen, part_seen};
+    ghost use Rattle.command_words.specs.Ways.{way_seen};
+    ghost use Rattle.command_core.specs.Ways.{part_seen};
 
     // The level at which the walk ends.
     fn end_level(&self, way: &Way) -> u8
@@ -94,7 +95,7 @@ impl<'a, H: Held> HeldSight<'a, H> {
     {
         match answer_outside(self, 0, call) {
             Ok(_) => false,
-            Err(refusal) => is_early(&refusal),
+            Err(refusal) => is_early(refusal),
         }
     }
 
@@ -234,11 +235,11 @@ impl<'a, H: Held> HeldSight<'a, H> {
     }
 }
 
-// Whether a reply is of a row before those over tables.
-fn is_early(reply: &Reply) -> bool
-    ensures { result ≡ not (walking.is_table_error reply.now) }
+// Whether a refusal is of a row before those over tables.
+fn is_early(refusal: Refusal) -> bool
+    ensures { result ≡ not (walking.is_table_error refusal) }
 {
-    !matches!(reply, Reply::Err(4, _))
+    !matches!(refusal, Refusal::Rtt(..))
 }
 
 // The part that an entry names, in the table that is held at its level.

@@ -8,7 +8,7 @@ use Rattle.rmm_spec.specs.Lookup.{has_rec, has_tag, is_inside, is_vmid_used, rec
 use Rattle.rmm_spec.specs.State.{State}
 use Rattle.rmm_spec.specs.Step.{answer_of, outcome}
 use Rattle.rmm_spec.specs.Step.Realm.{realm_create, realm_destroy}
-use Rattle.rec_steps.specs.Answers.{call_row}
+use Rattle.rmm_spec.specs.Step.RealmCall.{answer_to_realm}
 use Rattle.command_rows.specs.Answers.{IsInside, IsInsideBy, IsOwned, inside_answer, outside_answer}
 
 -- of a CPU outside of RECs
@@ -20,7 +20,7 @@ outcome-outside s cpu _ outside = rw outside refl
 
 -- of a CPU inside the REC that runs on it
 pub outcome-inside : (s : State) (cpu : ℕ) (c : Call) → is_inside s cpu ≡ true → inside_answer s (rec_inside s cpu) c ≡ outcome s cpu c
-unfolding outcome answer_of class_of inside_answer call_row
+unfolding outcome answer_of class_of inside_answer answer_to_realm
 outcome-inside s cpu (call.MeasurementRead index) inside = rw inside refl
 outcome-inside s cpu _ inside = rw inside refl
 

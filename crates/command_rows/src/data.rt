@@ -3,18 +3,16 @@
 ghost use Rattle.std.specs.Prelude.{◌≡◌};
 ghost use Rattle.rmm_spec.specs.Step.Data as spec;
 
-use crate::reply::{done, done_with, table_error};
+use crate::reply::{done, done_with};
 use crate::sight::Sight;
 use command_words::is_page;
-use rec_steps::{input_error, realm_error};
 use rmm_spec::{
-    Accepted, Change, Entry, EntryChange, RealmChange, RealmUpdate, Reply, Ripas, Tag, TagChange,
+    Accepted, Change, Condition, Entry, EntryChange, RealmChange, RealmUpdate, Refusal, Ripas, Tag,
+    TagChange,
 };
-use table_entries::{
-    entry_address, entry_number, entry_ripas, is_assigned, is_unassigned, is_unassigned_ram,
-};
+use table_entries::{entry_address, entry_number, entry_ripas, is_assigned, is_ram, is_unassigned};
 
-#[tactic(auto, unfolding(rmm_spec::specs::Step::Data::data_create, rmm_spec::specs::Step::Words::words_of, rmm_spec::specs::Step::Named::named, rmm_spec::specs::Lookup::realm_at))]
+#[tactic(auto, unfolding(rmm_spec::specs::Step::Data::data_create, rmm_spec::specs::Step::Terms::words_of, rmm_spec::specs::Step::Terms::named, rmm_spec::specs::Lookup::realm_at))]
 #[inline(never)]
 pub(crate) fn data_create<S: Sight>(
     sight: &S,
@@ -24,33 +22,36 @@ pub(crate) fn data_create<S: Sight>(
     source: u64,
     flags: u64,
     digest: [u64; 4],
-) -> Result<Accepted, Reply>
+) -> Result<Accepted, Refusal>
     ensures { result ≡ spec.data_create (S.state sight.now) rd granule ipa source flags digest }
 {
     if flags > 1 {
-        return Err(input_error());
+        return Err(Refusal::Input(Condition::OwnFlags));
     }
     if !is_page(ipa) {
-        return Err(input_error());
+        return Err(Refusal::Input(Condition::IpaAlign));
     }
     let Some(realm) = sight.realm(rd) else {
-        return Err(input_error());
+        return Err(Refusal::Input(Condition::GranState));
     };
     if !(sight.has_tag(granule, Tag::Delegated) && sight.has_tag(source, Tag::Undelegated)) {
-        return Err(input_error());
+        return Err(Refusal::Input(Condition::GranState));
     }
     if ipa >= realm.protected_end() {
-        return Err(input_error());
+        return Err(Refusal::Input(Condition::IpaBound));
     }
     if !realm.is_new() {
-        return Err(realm_error(0));
+        return Err(Refusal::Realm(Condition::RealmState, 0));
     }
     let end = sight.walk(rd, ipa, 3);
     if end.level != 3 {
-        return Err(table_error(end.level));
+        return Err(Refusal::Rtt(Condition::RttWalk, end.level));
     }
-    if !is_unassigned_ram(end.entry) {
-        return Err(table_error(3));
+    if !is_unassigned(end.entry) {
+        return Err(Refusal::Rtt(Condition::RtteState, 3));
+    }
+    if !is_ram(entry_ripas(end.entry)) {
+        return Err(Refusal::Rtt(Condition::RtteRipas, 3));
     }
     let update = RealmUpdate::PageMeasured { ipa, flags, digest };
     Ok(done(Change::EntriesChanged {
@@ -66,34 +67,34 @@ pub(crate) fn data_create<S: Sight>(
     }))
 }
 
-#[tactic(auto, unfolding(rmm_spec::specs::Step::Data::data_create_unknown, rmm_spec::specs::Step::Words::words_of, rmm_spec::specs::Step::Named::named, rmm_spec::specs::Lookup::realm_at))]
+#[tactic(auto, unfolding(rmm_spec::specs::Step::Data::data_create_unknown, rmm_spec::specs::Step::Terms::words_of, rmm_spec::specs::Step::Terms::named, rmm_spec::specs::Lookup::realm_at))]
 #[inline(never)]
 pub(crate) fn data_create_unknown<S: Sight>(
     sight: &S,
     rd: u64,
     granule: u64,
     ipa: u64,
-) -> Result<Accepted, Reply>
+) -> Result<Accepted, Refusal>
     ensures { result ≡ spec.data_create_unknown (S.state sight.now) rd granule ipa }
 {
     if !is_page(ipa) {
-        return Err(input_error());
+        return Err(Refusal::Input(Condition::IpaAlign));
     }
     let Some(realm) = sight.realm(rd) else {
-        return Err(input_error());
+        return Err(Refusal::Input(Condition::GranState));
     };
     if !sight.has_tag(granule, Tag::Delegated) {
-        return Err(input_error());
+        return Err(Refusal::Input(Condition::GranState));
     }
     if ipa >= realm.protected_end() {
-        return Err(input_error());
+        return Err(Refusal::Input(Condition::IpaBound));
     }
     let end = sight.walk(rd, ipa, 3);
     if end.level != 3 {
-        return Err(table_error(end.level));
+        return Err(Refusal::Rtt(Condition::RttWalk, end.level));
     }
     if !is_unassigned(end.entry) {
-        return Err(table_error(3));
+        return Err(Refusal::Rtt(Condition::RtteState, 3));
     }
     Ok(done(Change::EntriesChanged {
         rd,
@@ -108,26 +109,26 @@ pub(crate) fn data_create_unknown<S: Sight>(
     }))
 }
 
-#[tactic(auto, unfolding(rmm_spec::specs::Step::Data::data_destroy, rmm_spec::specs::Step::Words::words_of, rmm_spec::specs::Step::Named::named, rmm_spec::specs::Lookup::realm_at))]
+#[tactic(auto, unfolding(rmm_spec::specs::Step::Data::data_destroy, rmm_spec::specs::Step::Terms::words_of, rmm_spec::specs::Step::Terms::named, rmm_spec::specs::Lookup::realm_at))]
 #[inline(never)]
-pub(crate) fn data_destroy<S: Sight>(sight: &S, rd: u64, ipa: u64) -> Result<Accepted, Reply>
+pub(crate) fn data_destroy<S: Sight>(sight: &S, rd: u64, ipa: u64) -> Result<Accepted, Refusal>
     ensures { result ≡ spec.data_destroy (S.state sight.now) rd ipa }
 {
     if !is_page(ipa) {
-        return Err(input_error());
+        return Err(Refusal::Input(Condition::IpaAlign));
     }
     let Some(realm) = sight.realm(rd) else {
-        return Err(input_error());
+        return Err(Refusal::Input(Condition::GranState));
     };
     if ipa >= realm.protected_end() {
-        return Err(input_error());
+        return Err(Refusal::Input(Condition::IpaBound));
     }
     let end = sight.walk(rd, ipa, 3);
     if end.level != 3 {
-        return Err(table_error(end.level));
+        return Err(Refusal::Rtt(Condition::RttWalk, end.level));
     }
     if !is_assigned(end.entry) {
-        return Err(table_error(3));
+        return Err(Refusal::Rtt(Condition::RtteState, 3));
     }
     let granule = entry_address(end.entry);
     let ripas = ripas_after_data(entry_ripas(end.entry));

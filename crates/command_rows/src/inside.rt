@@ -13,32 +13,32 @@ use crate::sight::Sight;
 use command_words::{Caller, caller_of};
 use realm_desc::Rec;
 use rec_steps::{answer_to_call, answer_to_exit};
-use rmm_spec::{Accepted, Call, Reply, Ripas};
+use rmm_spec::{Accepted, Call, Condition, Refusal, Ripas};
 use table_entries::entry_ripas;
 
 /// What a call is answered in the state of the sight, given from inside of the REC.
 #[tactic(auto, unfolding(crate::specs::Answers::IsInside, crate::specs::Answers::inside_answer))]
 #[inline(never)]
-pub fn answer_inside<S: Sight>(sight: &S, rec: u64, call: &Call) -> Result<Accepted, Reply>
+pub fn answer_inside<S: Sight>(sight: &S, rec: u64, call: &Call) -> Result<Accepted, Refusal>
     requires inside { IsInside (S.state sight.now) rec call.now }
     ensures { result ≡ inside_answer (S.state sight.now) rec call.now }
 {
     match caller_of(call) {
-        Caller::Host => Err(Reply::Misplaced),
+        Caller::Host => Err(Refusal::Misplaced(Condition::OwnOutside)),
         Caller::Realm => realm_called(sight, rec, call),
         Caller::Rec => left(sight, rec),
     }
 }
 
 // A realm calls from the REC, which may wait to leave.
-fn realm_called<S: Sight>(sight: &S, address: u64, call: &Call) -> Result<Accepted, Reply>
+fn realm_called<S: Sight>(sight: &S, address: u64, call: &Call) -> Result<Accepted, Refusal>
     requires rec { IsTrue (look.has_tag (S.state sight.now) address tag.Rec) }
     requires realm { IsTrue (look.has_tag (S.state sight.now) (look.rec_at (S.state sight.now) address).owner tag.Rd) }
     ensures { result ≡ realm_answer (S.state sight.now) address call.now }
 {
     let rec = rec_at(sight, address);
     if !rec.can_call() {
-        return Err(Reply::Misplaced);
+        return Err(Refusal::Misplaced(Condition::OwnPending));
     }
     let rd = owner(&rec);
     let Some(realm) = sight.realm(rd) else {
@@ -49,7 +49,7 @@ fn realm_called<S: Sight>(sight: &S, address: u64, call: &Call) -> Result<Accept
 }
 
 // The REC leaves to its host.
-fn left<S: Sight>(sight: &S, address: u64) -> Result<Accepted, Reply>
+fn left<S: Sight>(sight: &S, address: u64) -> Result<Accepted, Refusal>
     requires { IsTrue (look.has_tag (S.state sight.now) address tag.Rec) }
     ensures { result ≡ spec.rec_exit (S.state sight.now) address }
 {

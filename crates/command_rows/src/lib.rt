@@ -1,7 +1,7 @@
 //! What each command is answered: its rows, in their order, over whatever can look up what they read.
-//! It promises the definitions' answer in the state that a `Sight` stands for, with what the sight tells of VMIDs and RECs.
-//! A row stands once in code, but that the machine lends granules and steps a REC's own calls in place, by the same definitions.
-//! What a command changes is a value, and is made elsewhere. Nothing here changes a state, takes memory or waits.
+//! It promises the definitions' answer in the state that a `Sight` stands for: what is done, or a refusal by the name of the first row
+//! that fails; of VMIDs and RECs it says what the sight tells. A row stands once in code, but that the machine lends granules and steps
+//! a REC's own calls in place, by the same definitions. What a command changes is a value: nothing here makes it, takes memory or waits.
 //! The specification machine and the core of the monitor decide by it.
 #![tactic(auto)]
 
@@ -22,7 +22,6 @@ pub use inside::answer_inside;
 pub use outside::answer_outside;
 pub use reached::reached_change;
 pub use realm_desc::{Realm, Rec};
-pub use rec_steps::{input_error, realm_error, rec_error};
-pub use reply::{accepted_at, done, done_with, table_error, told};
-pub use rmm_spec::{Accepted, Call, Reply, Tag, Walked};
+pub use reply::{accepted_at, done, done_with, told};
+pub use rmm_spec::{Accepted, Call, Condition, Refusal, Tag, Walked};
 pub use sight::Sight;

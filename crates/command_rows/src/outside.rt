@@ -11,11 +11,11 @@ use crate::ripas::{rtt_init_ripas, rtt_set_ripas};
 use crate::sight::Sight;
 use crate::table::{rtt_create, rtt_read_entry, rtt_remove};
 use crate::unprotected::{rtt_map_unprotected, rtt_unmap_unprotected};
-use rmm_spec::{Accepted, Call, Reply};
+use rmm_spec::{Accepted, Call, Condition, Refusal};
 
 /// What a call of the CPU is answered in the state of the sight.
 #[tactic(auto, unfolding(crate::specs::Answers::outside_answer, rmm_spec::specs::Step::answer_of, rmm_spec::specs::Call::class_of))]
-pub fn answer_outside<S: Sight>(sight: &S, cpu: u8, call: &Call) -> Result<Accepted, Reply>
+pub fn answer_outside<S: Sight>(sight: &S, cpu: u8, call: &Call) -> Result<Accepted, Refusal>
     requires owned { IsOwned (S.state sight.now) call.now }
     ensures { result ≡ outside_answer (S.uses_vmid sight.now) (S.has_recs sight.now) (S.state sight.now) cpu call.now }
 {
@@ -71,14 +71,6 @@ pub fn answer_outside<S: Sight>(sight: &S, cpu: u8, call: &Call) -> Result<Accep
         Call::RttUnmapUnprotected { rd, ipa } => rtt_unmap_unprotected(sight, rd, ipa),
         Call::RttInitRipas { rd, base, top } => rtt_init_ripas(sight, rd, base, top),
         Call::RttSetRipas { rd, rec, base, top } => rtt_set_ripas(sight, rd, rec, base, top),
-        Call::MeasurementRead { .. }
-        | Call::MeasurementExtend { .. }
-        | Call::RealmConfig
-        | Call::IpaStateSet { .. }
-        | Call::IpaStateGet { .. }
-        | Call::HostCall { .. }
-        | Call::CpuOff
-        | Call::SystemOff
-        | Call::Exit => Err(Reply::Misplaced),
+        _ => Err(Refusal::Misplaced(Condition::OwnInside)),
     }
 }

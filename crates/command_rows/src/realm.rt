@@ -5,12 +5,11 @@ ghost use Rattle.rmm_spec.specs.Step.Realm as spec;
 
 use crate::reply::done;
 use crate::sight::Sight;
-use command_words::algorithm_in;
+use command_words::{algorithm_in, is_width};
 use realm_desc::Space;
-use rec_steps::{input_error, realm_error};
-use rmm_spec::{Accepted, Change, EntryTest, RealmChange, RealmUpdate, Reply, Tag};
+use rmm_spec::{Accepted, Change, Condition, EntryTest, RealmChange, RealmUpdate, Refusal, Tag};
 
-#[tactic(auto, unfolding(rmm_spec::specs::Step::Words::words_of, rmm_spec::specs::Step::Named::named))]
+#[tactic(auto, unfolding(rmm_spec::specs::Step::Terms::words_of, rmm_spec::specs::Step::Terms::named))]
 #[inline(never)]
 pub(crate) fn realm_create<S: Sight>(
     sight: &S,
@@ -20,30 +19,33 @@ pub(crate) fn realm_create<S: Sight>(
     level: u64,
     vmid: u64,
     algo: u64,
-) -> Result<Accepted, Reply>
+) -> Result<Accepted, Refusal>
     ensures { result ≡ spec.realm_create_told (S.uses_vmid sight.now vmid) (S.state sight.now) rd root width level vmid algo }
 {
     if rd == root {
-        return Err(input_error());
+        return Err(Refusal::Input(Condition::Alias));
+    }
+    if !is_width(width) {
+        return Err(Refusal::Input(Condition::ParamsSupp));
     }
     let Some(space) = Space::of(width, level) else {
-        return Err(input_error());
+        return Err(Refusal::Input(Condition::RttNumLevel));
     };
     if vmid > 0xff {
-        return Err(input_error());
+        return Err(Refusal::Input(Condition::VmidValid));
     }
     if !sight.has_tag(rd, Tag::Delegated) {
-        return Err(input_error());
+        return Err(Refusal::Input(Condition::GranState));
     }
     if !sight.has_tag(root, Tag::Delegated) {
-        return Err(input_error());
+        return Err(Refusal::Input(Condition::GranState));
     }
     let Some(algorithm) = algorithm_in(sight.version(), algo) else {
-        return Err(input_error());
+        return Err(Refusal::Input(Condition::ParamsSupp));
     };
     let vmid = vmid as u8;
     if sight.is_vmid_used(vmid) {
-        return Err(input_error());
+        return Err(Refusal::Input(Condition::VmidValid));
     }
     Ok(done(Change::RealmMade {
         rd,
@@ -55,16 +57,16 @@ pub(crate) fn realm_create<S: Sight>(
     }))
 }
 
-#[tactic(auto, unfolding(rmm_spec::specs::Step::Realm::realm_activate, rmm_spec::specs::Step::Words::words_of, rmm_spec::specs::Step::Named::named, rmm_spec::specs::Lookup::realm_at))]
+#[tactic(auto, unfolding(rmm_spec::specs::Step::Realm::realm_activate, rmm_spec::specs::Step::Terms::words_of, rmm_spec::specs::Step::Terms::named, rmm_spec::specs::Lookup::realm_at))]
 #[inline(never)]
-pub(crate) fn realm_activate<S: Sight>(sight: &S, rd: u64) -> Result<Accepted, Reply>
+pub(crate) fn realm_activate<S: Sight>(sight: &S, rd: u64) -> Result<Accepted, Refusal>
     ensures { result ≡ spec.realm_activate (S.state sight.now) rd }
 {
     let Some(realm) = sight.realm(rd) else {
-        return Err(input_error());
+        return Err(Refusal::Input(Condition::GranState));
     };
     if !realm.is_new() {
-        return Err(realm_error(0));
+        return Err(Refusal::Realm(Condition::RealmState, 0));
     }
     let update = RealmUpdate::Activated;
     Ok(done(Change::RecordsChanged {
@@ -73,19 +75,19 @@ pub(crate) fn realm_activate<S: Sight>(sight: &S, rd: u64) -> Result<Accepted, R
     }))
 }
 
-#[tactic(auto, unfolding(rmm_spec::specs::Step::Words::words_of, rmm_spec::specs::Step::Named::named, rmm_spec::specs::Lookup::realm_at, realm_desc::specs::View::realm_record))]
+#[tactic(auto, unfolding(rmm_spec::specs::Step::Terms::words_of, rmm_spec::specs::Step::Terms::named, rmm_spec::specs::Lookup::realm_at, realm_desc::specs::View::realm_record))]
 #[inline(never)]
-pub(crate) fn realm_destroy<S: Sight>(sight: &S, rd: u64) -> Result<Accepted, Reply>
+pub(crate) fn realm_destroy<S: Sight>(sight: &S, rd: u64) -> Result<Accepted, Refusal>
     ensures { result ≡ spec.realm_destroy_told (S.has_recs sight.now rd) (S.state sight.now) rd }
 {
     let Some(realm) = sight.realm(rd) else {
-        return Err(input_error());
+        return Err(Refusal::Input(Condition::GranState));
     };
     if sight.has_rec(rd) {
-        return Err(realm_error(0));
+        return Err(Refusal::Realm(Condition::RealmLive, 0));
     }
     if sight.has_entry(rd, realm.start_level(), 0, EntryTest::Link) {
-        return Err(realm_error(0));
+        return Err(Refusal::Realm(Condition::RealmLive, 0));
     }
     let root = realm.root.address();
     Ok(done(Change::RealmDestroyed { rd, root }))

@@ -1,4 +1,4 @@
-//! Refusals and acceptances, as the definitions' rows say them.
+//! Acceptances, as the definitions' rows say them.
 
 ghost use Rattle.std.specs.Prelude.{◌≡◌, [], ◌∷◌};
 ghost use Rattle.rmm_spec.specs.declared.change.Change.TheVariants.{Unchanged};
@@ -7,14 +7,7 @@ ghost use Rattle.rec_steps.specs.Answers.{answer_at};
 
 use arrayvec::ArrayVec;
 use rec_steps::RecStep;
-use rmm_spec::{Accepted, Change, Reply};
-
-/// A table or an entry of this level is in the way (DEN0137, RMI_ERROR_RTT).
-pub fn table_error(level: u8) -> Reply
-    ensures { result ≡ rows.table_error level }
-{
-    Reply::Err(4, level)
-}
+use rmm_spec::{Accepted, Change, Refusal};
 
 /// The change is made, and the reply has no words.
 pub fn done(change: Change) -> Accepted
@@ -52,7 +45,7 @@ pub fn told(told: [u64; 4]) -> Accepted
 }
 
 /// What is answered to the REC and its realm at their addresses.
-pub fn accepted_at(rd: u64, rec: u64, answer: Result<RecStep, Reply>) -> Result<Accepted, Reply>
+pub fn accepted_at(rd: u64, rec: u64, answer: Result<RecStep, Refusal>) -> Result<Accepted, Refusal>
     ensures { result ≡ answer_at rd rec answer }
 {
     match answer {

@@ -3,17 +3,16 @@
 ghost use Rattle.std.specs.Prelude.{◌≡◌, ◌<◌, ◌^◌};
 ghost use Rattle.rmm_spec.specs.Step.Table as spec;
 
-use crate::reply::{done, done_with, table_error, told};
+use crate::reply::{done, done_with, told};
 use crate::sight::Sight;
 use command_words::is_aligned;
 use realm_desc::Realm;
-use rec_steps::input_error;
-use rmm_spec::{Accepted, Change, Entry, EntryTest, Removal, Reply, Ripas, Tag};
+use rmm_spec::{Accepted, Change, Condition, Entry, EntryTest, Refusal, Removal, Ripas, Tag};
 use table_entries::{
     entry_address, entry_ripas, entry_state, is_table, ripas_number, table_number,
 };
 
-#[tactic(auto, unfolding(rmm_spec::specs::Step::Table::rtt_create, rmm_spec::specs::Step::Words::words_of, rmm_spec::specs::Step::Named::named, rmm_spec::specs::Lookup::realm_at))]
+#[tactic(auto, unfolding(rmm_spec::specs::Step::Table::rtt_create, rmm_spec::specs::Step::Terms::words_of, rmm_spec::specs::Step::Terms::named, rmm_spec::specs::Lookup::realm_at))]
 #[inline(never)]
 pub(crate) fn rtt_create<S: Sight>(
     sight: &S,
@@ -21,35 +20,35 @@ pub(crate) fn rtt_create<S: Sight>(
     rtt: u64,
     ipa: u64,
     level: u64,
-) -> Result<Accepted, Reply>
+) -> Result<Accepted, Refusal>
     ensures { result ≡ spec.rtt_create (S.state sight.now) rd rtt ipa level }
 {
     if level > 3 {
-        return Err(input_error());
+        return Err(Refusal::Input(Condition::LevelBound));
     }
     let level = level as u8;
     let above = level.saturating_sub(1);
     if !is_aligned(ipa, above) {
-        return Err(input_error());
+        return Err(Refusal::Input(Condition::IpaAlign));
     }
     let Some(realm) = sight.realm(rd) else {
-        return Err(input_error());
+        return Err(Refusal::Input(Condition::GranState));
     };
     if !sight.has_tag(rtt, Tag::Delegated) {
-        return Err(input_error());
+        return Err(Refusal::Input(Condition::GranState));
     }
     if realm.start_level() >= level {
-        return Err(input_error());
+        return Err(Refusal::Input(Condition::LevelBound));
     }
     if ipa >= realm.space_end() {
-        return Err(input_error());
+        return Err(Refusal::Input(Condition::IpaBound));
     }
     let end = sight.walk(rd, ipa, above);
     if end.level != above {
-        return Err(table_error(end.level));
+        return Err(Refusal::Rtt(Condition::RttWalk, end.level));
     }
     if is_table(end.entry) {
-        return Err(table_error(above));
+        return Err(Refusal::Rtt(Condition::RtteState, above));
     }
     let number = table_number(level, ipa);
     Ok(done(Change::TableMade {
@@ -61,7 +60,7 @@ pub(crate) fn rtt_create<S: Sight>(
     }))
 }
 
-#[tactic(auto, unfolding(rmm_spec::specs::Step::Table::rtt_remove, rmm_spec::specs::Step::Words::words_of, rmm_spec::specs::Step::Named::named, rmm_spec::specs::Lookup::realm_at))]
+#[tactic(auto, unfolding(rmm_spec::specs::Step::Table::rtt_remove, rmm_spec::specs::Step::Terms::words_of, rmm_spec::specs::Step::Terms::named, rmm_spec::specs::Lookup::realm_at))]
 #[inline(never)]
 pub(crate) fn rtt_remove<S: Sight>(
     sight: &S,
@@ -69,33 +68,36 @@ pub(crate) fn rtt_remove<S: Sight>(
     rd: u64,
     ipa: u64,
     level: u64,
-) -> Result<Accepted, Reply>
+) -> Result<Accepted, Refusal>
     ensures { result ≡ spec.rtt_remove (S.state sight.now) removal rd ipa level }
 {
     if level > 3 {
-        return Err(input_error());
+        return Err(Refusal::Input(Condition::LevelBound));
     }
     let level = level as u8;
     let above = level.saturating_sub(1);
     if !is_aligned(ipa, above) {
-        return Err(input_error());
+        return Err(Refusal::Input(Condition::IpaAlign));
     }
     let Some(realm) = sight.realm(rd) else {
-        return Err(input_error());
+        return Err(Refusal::Input(Condition::GranState));
     };
     if realm.start_level() >= level {
-        return Err(input_error());
+        return Err(Refusal::Input(Condition::LevelBound));
     }
     if ipa >= realm.space_end() {
-        return Err(input_error());
+        return Err(Refusal::Input(Condition::IpaBound));
     }
     let end = sight.walk(rd, ipa, above);
-    if !(end.level == above && is_table(end.entry)) {
-        return Err(table_error(end.level));
+    if end.level != above {
+        return Err(Refusal::Rtt(Condition::RttWalk, end.level));
+    }
+    if !is_table(end.entry) {
+        return Err(Refusal::Rtt(Condition::RtteState, end.level));
     }
     let number = table_number(level, ipa);
     let Some(ripas) = ripas_left(sight, removal, rd, level, number) else {
-        return Err(table_error(level));
+        return Err(Refusal::Rtt(left_condition(removal), level));
     };
     let rtt = entry_address(end.entry);
     let entry = entry_after_table(&realm, ipa, ripas);
@@ -111,31 +113,31 @@ pub(crate) fn rtt_remove<S: Sight>(
     ))
 }
 
-#[tactic(auto, unfolding(rmm_spec::specs::Step::Table::rtt_read_entry, rmm_spec::specs::Step::Words::words_of, rmm_spec::specs::Step::Named::named, rmm_spec::specs::Lookup::realm_at))]
+#[tactic(auto, unfolding(rmm_spec::specs::Step::Table::rtt_read_entry, rmm_spec::specs::Step::Terms::words_of, rmm_spec::specs::Step::Terms::named, rmm_spec::specs::Lookup::realm_at))]
 #[inline(never)]
 pub(crate) fn rtt_read_entry<S: Sight>(
     sight: &S,
     rd: u64,
     ipa: u64,
     level: u64,
-) -> Result<Accepted, Reply>
+) -> Result<Accepted, Refusal>
     ensures { result ≡ spec.rtt_read_entry (S.state sight.now) rd ipa level }
 {
     if level > 3 {
-        return Err(input_error());
+        return Err(Refusal::Input(Condition::LevelBound));
     }
     let level = level as u8;
     if !is_aligned(ipa, level) {
-        return Err(input_error());
+        return Err(Refusal::Input(Condition::IpaAlign));
     }
     let Some(realm) = sight.realm(rd) else {
-        return Err(input_error());
+        return Err(Refusal::Input(Condition::GranState));
     };
     if realm.start_level() > level {
-        return Err(input_error());
+        return Err(Refusal::Input(Condition::LevelBound));
     }
     if ipa >= realm.space_end() {
-        return Err(input_error());
+        return Err(Refusal::Input(Condition::IpaBound));
     }
     let end = sight.walk(rd, ipa, level);
     let level = u64::from(end.level);
@@ -171,6 +173,16 @@ fn ripas_left<S: Sight>(
                 Some(entry_ripas(first))
             }
         }
+    }
+}
+
+// What a table's entries are asked for.
+fn left_condition(removal: Removal) -> Condition
+    ensures { result ≡ spec.left_condition removal }
+{
+    match removal {
+        Removal::Destroy => Condition::RttLive,
+        Removal::Fold => Condition::OwnAlike,
     }
 }
 

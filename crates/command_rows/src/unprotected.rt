@@ -6,70 +6,69 @@ ghost use Rattle.rmm_spec.specs.declared.change.EntryChange.TheVariants.{Replace
 ghost use Rattle.rmm_spec.specs.Walk.{entry_number};
 ghost use Rattle.rmm_spec.specs.Step.Unprotected as spec;
 
-use crate::reply::{done, table_error};
+use crate::reply::done;
 use crate::sight::Sight;
 use command_words::{is_host_page, is_page};
 use realm_desc::Realm;
-use rec_steps::input_error;
-use rmm_spec::{Accepted, Change, Entry, EntryChange, Reply};
+use rmm_spec::{Accepted, Change, Condition, Entry, EntryChange, Refusal};
 use table_entries::{entry_number, is_assigned_ns, is_unassigned_ns};
 
-#[tactic(auto, unfolding(rmm_spec::specs::Step::Unprotected::rtt_map_unprotected, rmm_spec::specs::Step::Words::words_of, rmm_spec::specs::Step::Named::named, rmm_spec::specs::Lookup::realm_at))]
+#[tactic(auto, unfolding(rmm_spec::specs::Step::Unprotected::rtt_map_unprotected, rmm_spec::specs::Step::Terms::words_of, rmm_spec::specs::Step::Terms::named, rmm_spec::specs::Lookup::realm_at))]
 #[inline(never)]
 pub(crate) fn rtt_map_unprotected<S: Sight>(
     sight: &S,
     rd: u64,
     ipa: u64,
     page: u64,
-) -> Result<Accepted, Reply>
+) -> Result<Accepted, Refusal>
     ensures { result ≡ spec.rtt_map_unprotected (S.state sight.now) rd ipa page }
 {
     if !is_page(ipa) {
-        return Err(input_error());
+        return Err(Refusal::Input(Condition::IpaAlign));
     }
     if !is_host_page(page) {
-        return Err(input_error());
+        return Err(Refusal::Input(Condition::OwnPage));
     }
     let Some(realm) = sight.realm(rd) else {
-        return Err(input_error());
+        return Err(Refusal::Input(Condition::GranState));
     };
     if !is_upper(&realm, ipa) {
-        return Err(input_error());
+        return Err(Refusal::Input(Condition::IpaBound));
     }
     let end = sight.walk(rd, ipa, 3);
     if end.level != 3 {
-        return Err(table_error(end.level));
+        return Err(Refusal::Rtt(Condition::RttWalk, end.level));
     }
     if !is_unassigned_ns(end.entry) {
-        return Err(table_error(3));
+        return Err(Refusal::Rtt(Condition::RtteState, 3));
     }
     Ok(done(host_entry(rd, ipa, Entry::AssignedNs(page))))
 }
 
-#[tactic(auto, unfolding(rmm_spec::specs::Step::Unprotected::rtt_unmap_unprotected, rmm_spec::specs::Step::Words::words_of, rmm_spec::specs::Step::Named::named, rmm_spec::specs::Lookup::realm_at))]
+#[tactic(auto, unfolding(rmm_spec::specs::Step::Unprotected::rtt_unmap_unprotected, rmm_spec::specs::Step::Terms::words_of, rmm_spec::specs::Step::Terms::named, rmm_spec::specs::Lookup::realm_at))]
 #[inline(never)]
 pub(crate) fn rtt_unmap_unprotected<S: Sight>(
     sight: &S,
     rd: u64,
     ipa: u64,
-) -> Result<Accepted, Reply>
+) -> Result<Accepted, Refusal>
     ensures { result ≡ spec.rtt_unmap_unprotected (S.state sight.now) rd ipa }
 {
     if !is_page(ipa) {
-        return Err(input_error());
+        return Err(Refusal::Input(Condition::IpaAlign));
     }
     let Some(realm) = sight.realm(rd) else {
-        return Err(input_error());
+        return Err(Refusal::Input(Condition::GranState));
     };
     if !is_upper(&realm, ipa) {
-        return Err(input_error());
+        return Err(Refusal::Input(Condition::IpaBound));
     }
     let end = sight.walk(rd, ipa, 3);
     if end.level != 3 {
-        return Err(table_error(end.level));
+        return Err(Refusal::Rtt(Condition::RttWalk, end.level));
     }
     if !is_assigned_ns(end.entry) {
-        return Err(table_error(3));
+        return Err(Refusal::Rtt(Condition::RtteState, 3));
     }
     Ok(done(host_entry(rd, ipa, Entry::UnassignedNs)))
 }

@@ -1,5 +1,5 @@
-//! What a command says by itself: who gives it, whether its words allow it, and which granules it names with which tag.
-//! It promises the definitions' words, names and class of every command.
+//! What a command says by itself: who gives it, whether its words allow it, which granules it names with which tag, where it walks.
+//! It promises the definitions' class, words, names and walk of every command, and the condition that fails where it isn't placed.
 //! Each condition on words is one function, which the rows of commands and a report on them share.
 //! Nothing here looks at a state, takes memory or waits.
 //! The rows of commands and the plan of the monitor's locks stand on it.
@@ -8,12 +8,14 @@
 mod caller;
 mod name_list;
 mod names;
+mod placement;
+mod terms;
 mod words;
 
-pub use caller::{Caller, caller_of};
+pub use caller::Caller;
 pub use name_list::{Name, Names};
-pub use names::{is_tag, named, needed, one, two};
+pub use names::{is_tag, needed, one, two};
+pub use placement::misplacement;
 pub use rmm_spec::{Call, Tag};
-pub use words::{
-    algorithm_in, are_apart, is_aligned, is_host_page, is_page, is_space, words_allow,
-};
+pub use terms::{Way, caller_for, caller_of, named, way_of, words_allow};
+pub use words::{algorithm_in, are_apart, is_aligned, is_host_page, is_page, is_space, is_width};

@@ -1,12 +1,12 @@
-//! The granules that a command names, each with the tag that it needs there.
+//! Names, each with the tag that is needed there.
 
 ghost use Rattle.std.specs.Prelude.{◌≡◌, ◌∷◌, [], ◌==◌};
 ghost use Rattle.rmm_spec.specs.Lookup.{tag_number};
-ghost use Rattle.rmm_spec.specs.Step.Named as spec;
+ghost use Rattle.rmm_spec.specs.Step.Terms as spec;
 ghost use Rattle.command_words.specs.Names.{names_of};
 
 use crate::name_list::{Name, Names};
-use rmm_spec::{Call, Tag};
+use rmm_spec::Tag;
 
 impl Names {
     ghost use Rattle.std.specs.Prelude.{◌≡◌};
@@ -26,8 +26,8 @@ pub fn needed(granule: u64, tag: Tag) -> Name
     Name { granule, tag }
 }
 
-// No names, with one that fills the list.
-fn none() -> Names
+/// No names, with one that fills the list.
+pub(crate) fn none() -> Names
     ensures { names_of result ≡ [] }
 {
     let unused = needed(0, Tag::Undelegated);
@@ -57,8 +57,8 @@ pub fn two(first: Name, second: Name) -> Names
     }
 }
 
-// Three names.
-fn three(first: Name, second: Name, third: Name) -> Names
+/// Three names.
+pub(crate) fn three(first: Name, second: Name, third: Name) -> Names
     ensures { names_of result ≡ first ∷ second ∷ third ∷ [] }
 {
     Names {
@@ -67,8 +67,8 @@ fn three(first: Name, second: Name, third: Name) -> Names
     }
 }
 
-// Four names.
-fn four(first: Name, second: Name, third: Name, fourth: Name) -> Names
+/// Four names.
+pub(crate) fn four(first: Name, second: Name, third: Name, fourth: Name) -> Names
     ensures { names_of result ≡ first ∷ second ∷ third ∷ fourth ∷ [] }
 {
     Names {
@@ -96,64 +96,5 @@ fn number_of(tag: Tag) -> u8
         Tag::RecAux => 4,
         Tag::Data => 5,
         Tag::Rtt => 6,
-    }
-}
-
-/// What a command names outside of RECs. A realm call names nothing.
-#[tactic(auto, unfolding(rmm_spec::specs::Step::Named::named))]
-pub fn named(call: &Call) -> Names
-    ensures { names_of result ≡ spec.named call.now }
-{
-    match *call {
-        Call::GranuleDelegate { granule } => one(needed(granule, Tag::Undelegated)),
-        Call::GranuleUndelegate { granule } => one(needed(granule, Tag::Delegated)),
-        Call::RealmActivate { rd }
-        | Call::RealmDestroy { rd }
-        | Call::DataDestroy { rd, .. }
-        | Call::RttRemove { rd, .. }
-        | Call::RttMapUnprotected { rd, .. }
-        | Call::RttReadEntry { rd, .. }
-        | Call::RttUnmapUnprotected { rd, .. }
-        | Call::RttInitRipas { rd, .. } => one(needed(rd, Tag::Rd)),
-        Call::RealmCreate { rd, root, .. } => {
-            two(needed(rd, Tag::Delegated), needed(root, Tag::Delegated))
-        }
-        Call::RecCreate {
-            rd,
-            rec,
-            aux0,
-            aux1,
-            ..
-        } => four(
-            needed(rd, Tag::Rd),
-            needed(rec, Tag::Delegated),
-            needed(aux0, Tag::Delegated),
-            needed(aux1, Tag::Delegated),
-        ),
-        Call::RecDestroy { rec } | Call::RecEnter { rec } => one(needed(rec, Tag::Rec)),
-        Call::RttCreate { rd, rtt, .. } => two(needed(rd, Tag::Rd), needed(rtt, Tag::Delegated)),
-        Call::DataCreate {
-            rd,
-            granule,
-            source,
-            ..
-        } => three(
-            needed(rd, Tag::Rd),
-            needed(granule, Tag::Delegated),
-            needed(source, Tag::Undelegated),
-        ),
-        Call::DataCreateUnknown { rd, granule, .. } => {
-            two(needed(rd, Tag::Rd), needed(granule, Tag::Delegated))
-        }
-        Call::RttSetRipas { rd, rec, .. } => two(needed(rd, Tag::Rd), needed(rec, Tag::Rec)),
-        Call::MeasurementRead { .. }
-        | Call::MeasurementExtend { .. }
-        | Call::RealmConfig
-        | Call::IpaStateSet { .. }
-        | Call::IpaStateGet { .. }
-        | Call::HostCall { .. }
-        | Call::CpuOff
-        | Call::SystemOff
-        | Call::Exit => none(),
     }
 }

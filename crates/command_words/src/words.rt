@@ -1,15 +1,14 @@
-//! What a command's words must say by themselves.
+//! Conditions on a command's words by themselves.
 
 ghost use Rattle.std.specs.Prelude.{◌≡◌, ◌≤◌, ◌^◌, ◌↔◌, ◌&&◌, ◌==◌, not, nat_lt, IfSome, IsSome, IsTrue};
-ghost use Rattle.std.specs.List.{list_all};
 ghost use Rattle.rmm_spec.specs.Lookup.{allows_hash};
-ghost use Rattle.rmm_spec.specs.Step.Words as spec;
+ghost use Rattle.rmm_spec.specs.Step.Terms as spec;
 ghost use Rattle.rmm_spec.specs.Walk as walk;
 ghost use Rattle.realm_desc.specs.View.{algorithm_number};
 
 use granule_state::GRANULE_BYTES;
 use realm_desc::{HashAlgorithm, Space};
-use rmm_spec::{Call, Version};
+use rmm_spec::Version;
 use table_entries::entry_size;
 
 /// Where the host's memory ends: its addresses have 48 bits.
@@ -35,6 +34,13 @@ pub fn is_aligned(ipa: u64, level: u8) -> bool
     ensures { result ≡ walk.is_multiple ipa (walk.entry_size level) }
 {
     ipa % entry_size(level) == 0
+}
+
+/// Whether a realm's addresses can have so many bits.
+pub fn is_width(width: u64) -> bool
+    ensures { result ≡ spec.is_width width }
+{
+    width == 0x27 || width == 0x30
 }
 
 /// Whether a realm can have an address space of that width, walked from that level on.
@@ -64,58 +70,4 @@ pub fn are_apart(rec: u64, aux0: u64, aux1: u64) -> bool
     ensures { result ≡ (not (rec == aux0) && not (rec == aux1) && not (aux0 == aux1)) }
 {
     rec != aux0 && rec != aux1 && aux0 != aux1
-}
-
-/// Whether a command's words allow it, whatever the state.
-#[tactic(auto, unfolding(rmm_spec::specs::Step::Words::words_of))]
-pub fn words_allow(call: &Call) -> bool
-    ensures { result ≡ list_all (λ allowed. allowed) (spec.words_of call.now) }
-{
-    match *call {
-        Call::DataCreate { ipa, flags, .. } => flags <= 1 && is_page(ipa),
-        Call::DataCreateUnknown { ipa, .. }
-        | Call::DataDestroy { ipa, .. }
-        | Call::RttUnmapUnprotected { ipa, .. }
-        | Call::IpaStateGet { ipa } => is_page(ipa),
-        Call::RealmCreate {
-            rd,
-            root,
-            width,
-            level,
-            vmid,
-            ..
-        } => rd != root && is_space(width, level) && vmid <= 0xff,
-        Call::RecCreate {
-            rec,
-            flags,
-            aux0,
-            aux1,
-            ..
-        } => are_apart(rec, aux0, aux1) && flags <= 1,
-        Call::RttCreate { ipa, level, .. } | Call::RttRemove { ipa, level, .. } => {
-            level <= 3 && is_aligned(ipa, (level as u8).saturating_sub(1))
-        }
-        Call::RttReadEntry { ipa, level, .. } => level <= 3 && is_aligned(ipa, level as u8),
-        Call::RttMapUnprotected { ipa, page, .. } => is_page(ipa) && is_host_page(page),
-        Call::RttInitRipas { base, top, .. } => is_page(base) && is_page(top) && base < top,
-        Call::MeasurementRead { index } => index <= 4,
-        Call::MeasurementExtend { index, size, .. } => {
-            1 <= index && index <= 4 && 1 <= size && size <= 0x40
-        }
-        Call::IpaStateSet { base, top, ripas } => {
-            is_page(base) && is_page(top) && base < top && ripas <= 1
-        }
-        Call::HostCall { imm } => imm < 0x10000,
-        Call::GranuleDelegate { .. }
-        | Call::GranuleUndelegate { .. }
-        | Call::RealmActivate { .. }
-        | Call::RealmDestroy { .. }
-        | Call::RecDestroy { .. }
-        | Call::RecEnter { .. }
-        | Call::RttSetRipas { .. }
-        | Call::RealmConfig
-        | Call::CpuOff
-        | Call::SystemOff
-        | Call::Exit => true,
-    }
 }

@@ -1,16 +1,8 @@
 -- A reply that the held cells give and the books don't.
-use Rattle.std.proofs.Common.{◌≡◌, List, subst}
-use Rattle.rmm_spec.specs.HistoryText.{Config}
+use Rattle.commit_tickets.proofs.Common.{◌≡◌, List, subst, Config, Command, Reply, HeldCell, IsRun, State, opening, Step, JournalView, TokenView, hold_with}
 use Rattle.rmm_spec.specs.declared.change.Change.{Change}
-use Rattle.rmm_spec.specs.declared.command.Command.{Command}
-use Rattle.rmm_spec.specs.declared.reply.Reply.{Reply}
-use Rattle.rmm_spec.specs.Local.{HeldCell}
-use Rattle.rmm_spec.specs.Run.{IsRun}
-use Rattle.rmm_spec.specs.State.{State, opening}
-use Rattle.rmm_spec.specs.Step.{Step}
 use Rattle.command_core.specs.Changed.{hold_changed, Decides}
 use Rattle.commit_tickets.specs.Faults.{Disagree}
-use Rattle.commit_tickets.specs.View.{JournalView, TokenView, hold_with}
 use Rattle.commit_tickets.proofs.Runs.{refused-at_end}
 
 -- what is decided on the cells, and not given at the end of the journal's run, disagrees

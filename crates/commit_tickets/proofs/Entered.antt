@@ -1,26 +1,17 @@
 -- A draft is entered and settled.
-use Rattle.std.proofs.Common.{◌≡◌, ℕ, ◌+◌, ◌≤◌, List, [], ◌∷◌, ◌++◌, None, inl, inr, refl, sym, ap, ◌∙◌, subst, arith}
-use Rattle.std.specs.Prelude.{Result, Ok, Err, IfErr}
-use Rattle.rmm_spec.specs.declared.command.Command.{Command}
-use Rattle.rmm_spec.specs.declared.reply.Reply.{Reply}
-use Rattle.rmm_spec.specs.HistoryText.{Config}
-use Rattle.rmm_spec.specs.Local.{HeldCell, Hold, LocalStep}
+use Rattle.commit_tickets.proofs.Common.{◌≡◌, ℕ, ◌+◌, ◌≤◌, List, [], ◌∷◌, ◌++◌, None, inl, refl, sym, ap, ◌∙◌, subst, arith, Ok, Err, Command, Reply, Config, HeldCell, LocalStep, given_of, change_of, place_of, hold_cells, IsCommit, JournalView, TokenView, hold_with}
+use Rattle.std.proofs.Common.{inr}
+use Rattle.std.specs.Prelude.{Result, IfErr}
+use Rattle.rmm_spec.specs.Local.{Hold}
 use Rattle.world_laws.specs.Replaced.{replaced_all}
-use Rattle.shape_laws.specs.Whole.{side_changed}
-use Rattle.command_core.specs.Changed.{hold_changed, new_cells, new_place, given_of, Decides}
-use Rattle.command_core.specs.Foreseen.{change_of}
-use Rattle.command_core.specs.Seen.{known_cell, place_of}
-use Rattle.command_core.specs.Sides.{side_of}
+use Rattle.command_core.specs.Changed.{new_cells, new_place}
 use Rattle.granule_lock.specs.declared.hold.Hold as lock
-use Rattle.granule_lock.specs.HeldCells.{hold_cells}
-use Rattle.commit_tickets.specs.declared.committing.Done.{Done}
+use Rattle.commit_tickets.specs.Commits.{IsEntry}
 use Rattle.commit_tickets.specs.declared.draft.Draft.{Draft}
 use Rattle.commit_tickets.specs.declared.fault.CommitFault.{CommitFault}
 use Rattle.commit_tickets.specs.declared.fault.CommitFault.TheVariants.{NoMemory, Disagrees}
-use Rattle.commit_tickets.specs.Commits.{IsEntry, IsCommit}
 use Rattle.commit_tickets.specs.Faults.{HasCause}
 use Rattle.commit_tickets.specs.Left.{HasGained}
-use Rattle.commit_tickets.specs.View.{JournalView, TokenView, hold_with}
 
 -- a fault of a token whose list has more room had its cause with less
 cause-less : (fault : CommitFault) (config : Config) (command : Command) (journal : JournalView) (token : TokenView) (cells : List HeldCell) (room : ℕ)
@@ -58,21 +49,6 @@ IsEntry-less config command before after token drafted new cells draft result is
       kept_draft = entry.kept_draft;
     }
 
--- the decided change, made of all three parts of what is held, is a local step
-step-of_parts : (config : Config) (cpu : ℕ) (command : Command) (hold new : Hold) (given : Reply) (draft : Draft)
-    → Decides config cpu command hold (given_of draft.answer) (change_of draft.answer) → given ≡ given_of draft.answer
-    → new.cells ≡ replaced_all hold.cells (new_cells hold.cells (change_of draft.answer))
-    → new.side ≡ side_changed (known_cell hold.cells) hold.side (change_of draft.answer)
-    → new.place ≡ new_place hold.cells hold.place (change_of draft.answer) → LocalStep config cpu command given hold new
-step-of_parts config cpu command hold new given draft decides is_given cells side place =
-    subst (λ (p : Reply × Hold). LocalStep config cpu command p.0 hold p.1)
-    (λ i. (sym is_given i, record { cells = sym cells i; side = sym side i; place = sym place i })) decides
-
--- the fault of an entry, where there is one
-abbrev faulted : Result ℕ CommitFault → CommitFault → Result Done CommitFault
-faulted (Ok ticket) fault = Err fault
-faulted (Err fault) other = Err fault
-
 module _ (config : Config) (command : Command) (before after : JournalView) (token entered new : TokenView) (hold new_hold : lock.Hold) (draft : Draft) where
   -- a draft that was entered and settled is committed
   pub committed : (ticket : ℕ) (reply : Reply) → IsEntry config command before after token entered (hold_cells hold) draft (Ok ticket)
@@ -98,8 +74,8 @@ module _ (config : Config) (command : Command) (before after : JournalView) (tok
             });
         told = entry.told;
         short = λ few. absurd (let other : Ok ticket ≡ Err Disagrees = entry.short few in cc);
-        step = step-of_parts config token.cpu command (hold_with before token (hold_cells hold)) (hold_with after new (hold_cells new_hold)) reply draft
-            entry.owed.decision.decides is_reply cells entry.side there;
+        step = subst (λ (p : Reply × Hold). LocalStep config token.cpu command p.0 (hold_with before token (hold_cells hold)) p.1)
+            (λ i. (sym is_reply i, record { cells = sym cells i; side = sym entry.side i; place = sym there i })) entry.owed.decision.decides;
         cause = tt;
         kept_journal = tt;
         kept_token = tt;
@@ -115,7 +91,7 @@ module _ (config : Config) (command : Command) (before after : JournalView) (tok
     journal = tt;
     token = tt;
     told = tt;
-    short = λ few. ap (λ result. faulted result fault) (entry.short few);
+    short = λ few. let told = entry.short few in let is : fault ≡ Disagrees = cc in ap Err is;
     step = tt;
     cause = entry.cause;
     kept_journal = entry.kept_journal;

@@ -1,3 +1,4 @@
+pub mod Common
 pub mod Disagreements
 pub mod Entered
 pub mod Lists

@@ -1,15 +1,12 @@
 -- The journal gone through beside what the tokens list.
-use Rattle.std.proofs.Common.{◌≡◌, ℕ, zero, suc, ◌+◌, ◌<◌, ◌≤◌, List, [], ◌∷◌, length, get_or, drop, Some, None, slice_get, refl, sym, ap, ◌∙◌, subst, arith, ⊎_elim}
+use Rattle.commit_tickets.proofs.Common.{◌≡◌, ℕ, suc, ◌+◌, ◌<◌, ◌≤◌, List, [], ◌∷◌, length, Some, None, refl, sym, ap, ◌∙◌, subst, arith, put, JournalEntry, Committed, mine_of, TokenView}
+use Rattle.std.proofs.Common.{zero, get_or, take, drop, slice_get, ⊎_elim}
 use Rattle.std.specs.Prelude.{◌↔◌}
 use Rattle.std.specs.List.{AllByRecursion}
 use Rattle.std.proofs.lemmas.Bool.{eq-eqb, ne_eqb, cases_eq, cases_lt}
 use Rattle.std.proofs.lemmas.List.{length-drop, drop_all}
 use Rattle.std.proofs.lemmas.Option.{none-some, same_Some, slice_get_past, slice_get_read}
-use Rattle.rmm_spec.specs.Cell.{put}
-use Rattle.rmm_spec.specs.Run.{JournalEntry}
-use Rattle.commit_tickets.specs.Entries.{Committed}
-use Rattle.commit_tickets.specs.Listed.{commit_at, listed_from, mine_of, AreListed}
-use Rattle.commit_tickets.specs.View.{TokenView}
+use Rattle.commit_tickets.specs.Listed.{commit_at, listed_from, AreListed}
 
 -- ---- lists
 
@@ -38,6 +35,69 @@ listed-own ticket cpu entry entries own = rw (eq-eqb entry.cpu cpu own) refl
 pub listed-other : (ticket cpu : ℕ) (entry : JournalEntry) (entries : List JournalEntry) → (entry.cpu ≡ cpu → ⊥)
     → listed_from ticket cpu (entry ∷ entries) ≡ listed_from (suc ticket) cpu entries
 listed-other ticket cpu entry entries other = rw (ne_eqb entry.cpu cpu other) refl
+
+-- the entry at a place is listed behind those of its CPU before it
+pub listed-at : (ticket : ℕ) (entries : List JournalEntry) (place : ℕ) (entry : JournalEntry) → slice_get entries place ≡ Some entry
+    → (commit : Committed) × (commit.ticket ≡ ticket + place)
+    × (slice_get (listed_from ticket entry.cpu entries) (length (listed_from ticket entry.cpu (take place entries))) ≡ Some commit)
+listed-at ticket [] place entry at = absurd (none-some entry at)
+listed-at ticket (first ∷ entries) zero entry at =
+    let own = ap (λ (e : JournalEntry). e.cpu) (same_Some first entry at) in
+    (commit_at ticket first, omega arith, ap (λ cs. slice_get cs 0) (listed-own ticket entry.cpu first entries own))
+listed-at ticket (first ∷ entries) (suc place) entry at =
+    let rest = listed-at (suc ticket) entries place entry at in (
+      rest.0,
+      omega (arith, rest.1),
+      ⊎_elim (λ (own : first.cpu ≡ entry.cpu). rw (eq-eqb first.cpu entry.cpu own) rest.2)
+          (λ (other : first.cpu ≡ entry.cpu → ⊥). rw (ne_eqb first.cpu entry.cpu other) rest.2) (cases_eq first.cpu entry.cpu),
+    )
+
+-- the place of the entry that a CPU lists behind so many
+pub record IsListed (ticket cpu : ℕ) (entries : List JournalEntry) (behind : ℕ) (commit : Committed) : Type 0 where
+  pub place : ℕ
+  pub entry : JournalEntry
+  pub at : slice_get entries place ≡ Some entry
+  pub own : entry.cpu ≡ cpu
+  pub before : length (listed_from ticket cpu (take place entries)) ≡ behind
+  pub is_ticket : commit.ticket ≡ ticket + place
+
+pub listed-place : (ticket cpu : ℕ) (entries : List JournalEntry) (behind : ℕ) (commit : Committed)
+    → slice_get (listed_from ticket cpu entries) behind ≡ Some commit → IsListed ticket cpu entries behind commit
+listed-place ticket cpu [] behind commit at = absurd (none-some commit at)
+listed-place ticket cpu (first ∷ entries) behind commit at =
+    let rest = λ (k : ℕ) (is : slice_get (listed_from (suc ticket) cpu entries) k ≡ Some commit). listed-place (suc ticket) cpu entries k commit is in
+    ⊎_elim (λ (own : first.cpu ≡ cpu). here own rest behind (ap (λ cs. slice_get cs behind) (sym (listed-own ticket cpu first entries own)) ∙ at))
+    (λ (other : first.cpu ≡ cpu → ⊥).
+    later other (rest behind (ap (λ cs. slice_get cs behind) (sym (listed-other ticket cpu first entries other)) ∙ at))) (cases_eq first.cpu cpu)
+  where
+    here : first.cpu ≡ cpu → ((k : ℕ) → slice_get (listed_from (suc ticket) cpu entries) k ≡ Some commit → IsListed (suc ticket) cpu entries k commit)
+        → (k : ℕ) → slice_get (commit_at ticket first ∷ listed_from (suc ticket) cpu entries) k ≡ Some commit → IsListed ticket cpu (first ∷ entries) k commit
+    here own rest zero is = record {
+      place = 0;
+      entry = first;
+      at = refl;
+      own = own;
+      before = refl;
+      is_ticket = omega (arith, ap (λ (c : Committed). c.ticket) (same_Some _ commit is));
+    }
+    here own rest (suc k) is = let it = rest k is in record {
+      place = suc it.place;
+      entry = it.entry;
+      at = it.at;
+      own = it.own;
+      before = rw (eq-eqb first.cpu cpu own) (ap suc it.before);
+      is_ticket = omega (arith, it.is_ticket);
+    }
+
+    later : (first.cpu ≡ cpu → ⊥) → IsListed (suc ticket) cpu entries behind commit → IsListed ticket cpu (first ∷ entries) behind commit
+    later other it = record {
+      place = suc it.place;
+      entry = it.entry;
+      at = it.at;
+      own = it.own;
+      before = rw (ne_eqb first.cpu cpu other) it.before;
+      is_ticket = omega (arith, it.is_ticket);
+    }
 
 pub mine_of-some : (tokens : List TokenView) (cpu : ℕ) (token : TokenView) → slice_get tokens cpu ≡ Some token → mine_of tokens cpu ≡ token.mine
 mine_of-some [] cpu token at = absurd (none-some token at)

@@ -1,26 +1,21 @@
 -- A commit is a move of the world.
-use Rattle.std.proofs.Common.{◌≡◌, ℕ, true, false, ◌==◌, not, List, [], ◌∷◌, ◌++◌, map, refl, sym, ap, ◌∙◌, subst}
-use Rattle.std.specs.Prelude.{IsTrue, Ok}
+use Rattle.commit_tickets.proofs.Common.{◌≡◌, ℕ, List, [], ◌∷◌, ◌++◌, map, refl, sym, ap, ◌∙◌, subst, Ok, map-append, Command, Config, put, HeldCell, LocalStep, place_of, hold_cells, IsCommit, JournalView, TokenView, hold_with}
+use Rattle.std.proofs.Common.{false, ◌==◌, not}
+use Rattle.std.specs.Prelude.{IsTrue}
 use Rattle.std.specs.List.{list_any}
 use Rattle.std.proofs.lemmas.Bool.{and_parts, not-true, or_parts}
-use Rattle.std.proofs.lemmas.List.{map-append}
-use Rattle.rmm_spec.specs.declared.command.Command.{Command}
-use Rattle.rmm_spec.specs.HistoryText.{Config}
-use Rattle.rmm_spec.specs.Cell.{Cell, put}
-use Rattle.rmm_spec.specs.Local as local
-use Rattle.rmm_spec.specs.Local.{HeldCell, granules_held, put_all, LocalStep}
-use Rattle.rmm_spec.specs.Run.{JournalEntry}
+use Rattle.rmm_spec.specs.Cell.{Cell}
+use Rattle.rmm_spec.specs.Local.{granules_held, put_all}
 use Rattle.rmm_spec.specs.World.{World, Commit, Decided, IsDeciding, Moves, held_cells, hold_of}
 use Rattle.world_laws.specs.Replaced.{held_at}
 use Rattle.world_laws.proofs.Lists.{keys_apart, put_elim, put-other}
 use Rattle.world_laws.proofs.Members.{granules_held-cells_at}
-use Rattle.command_core.specs.Seen.{are_distinct, place_of}
+use Rattle.command_core.specs.Seen.{are_distinct}
 use Rattle.granule_lock.specs.declared.hold.Hold.{Hold}
-use Rattle.granule_lock.specs.HeldCells.{hold_cells}
 use Rattle.granule_lock.specs.HoldLaws.{hold-distinct}
+use Rattle.rmm_spec.specs.Local as local
 use Rattle.commit_tickets.specs.declared.committing.Done.{Done}
-use Rattle.commit_tickets.specs.Commits.{IsCommit}
-use Rattle.commit_tickets.specs.View.{JournalView, TokenView, entry, hold_with}
+use Rattle.commit_tickets.specs.View.{entry}
 use Rattle.commit_tickets.specs.Worlds.{IsWorldOf, entry_for}
 
 -- ---- cells put into a whole

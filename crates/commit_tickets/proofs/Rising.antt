@@ -1,6 +1,5 @@
 -- Rising tickets.
-use Rattle.std.proofs.Common.{◌≡◌, ℕ, suc, ◌+◌, ◌≤◌, List, [], ◌∷◌, ◌++◌, sym, subst, arith}
-use Rattle.commit_tickets.specs.Entries.{Committed}
+use Rattle.commit_tickets.proofs.Common.{◌≡◌, ℕ, suc, ◌+◌, ◌≤◌, List, [], ◌∷◌, ◌++◌, sym, subst, arith, Committed}
 use Rattle.commit_tickets.specs.Told.{RiseWithin}
 
 -- tickets below an end are below a later one

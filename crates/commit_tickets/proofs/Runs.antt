@@ -1,14 +1,6 @@
 -- Runs, one commit longer.
-use Rattle.std.proofs.Common.{◌≡◌, ℕ, List, [], ◌∷◌, ◌++◌, Some, map, refl, sym, ap, ◌∙◌, subst}
-use Rattle.std.proofs.lemmas.List.{map-append}
-use Rattle.rmm_spec.specs.declared.command.Command.{Command}
-use Rattle.rmm_spec.specs.declared.reply.Reply.{Reply}
-use Rattle.rmm_spec.specs.State.{State}
-use Rattle.rmm_spec.specs.Step.{Step}
-use Rattle.rmm_spec.specs.Run.{JournalEntry, IsRun}
+use Rattle.commit_tickets.proofs.Common.{◌≡◌, ℕ, List, [], ◌∷◌, ◌++◌, Some, map, refl, sym, ap, ◌∙◌, subst, map-append, Command, Reply, State, Step, JournalEntry, IsRun, Entry, entry_of}
 use Rattle.rmm_laws.proofs.Replays.{run-replay}
-use Rattle.command_log.specs.Log.{Entry}
-use Rattle.commit_tickets.specs.Entries.{entry_of}
 
 -- a run goes on by one step from its last state
 IsRun-push : (old : State) (entries : List JournalEntry) (entry : JournalEntry) (last next : State) → IsRun old entries last

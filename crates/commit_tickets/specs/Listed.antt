@@ -1,5 +1,5 @@
 -- The journal, and what its CPUs' tokens list.
-use Rattle.std.specs.Prelude.{◌≡◌, ℕ, zero, suc, ◌+◌, ◌==◌, if◌then◌else◌, List, [], ◌∷◌, get_or, map}
+use Rattle.std.specs.Prelude.{◌≡◌, ℕ, zero, suc, ◌==◌, if◌then◌else◌, List, [], ◌∷◌, get_or, map}
 use Rattle.rmm_spec.specs.Run.{JournalEntry}
 use Rattle.commit_tickets.specs.declared.numbers.Numbers.{Numbers}
 use Rattle.commit_tickets.specs.declared.unlisted.Unlisted.{Unlisted}

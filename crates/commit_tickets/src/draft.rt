@@ -17,7 +17,7 @@ use command_core::{Room, foresee, room_for};
 use granule_lock::Hold;
 use granule_state::Config;
 use rmi_view::ReplyRef;
-use rmm_spec::{Accepted, Change, Command, Reply};
+use rmm_spec::{Accepted, Change, Command, Condition, Refusal};
 use std::alloc::{AllocError, Global};
 use std::snapshot::Snapshot;
 
@@ -43,7 +43,7 @@ impl Entered {
 /// What is answered to a command, the memory for its change, and whether it stands in the journal. It has no `Drop`, so that once it
 /// does, it is settled.
 pub struct Draft {
-    pub(crate) answer: Result<Accepted, Reply>,
+    pub(crate) answer: Result<Accepted, Refusal>,
     pub(crate) room: Option<Room>,
     pub(crate) entered: Option<Entered>,
 }
@@ -54,7 +54,7 @@ impl Draft {
         ensures { result.entered ≡ None }
     {
         Draft {
-            answer: Err(Reply::Misplaced),
+            answer: Err(Refusal::Misplaced(Condition::OwnShape)),
             room: None,
             entered: None,
         }
@@ -92,7 +92,7 @@ impl Draft {
             Ok(Accepted::Done { words, .. }) => ReplyRef::Ok(words.as_slice()),
             // not an answer: a stretch's end is chosen first
             Ok(Accepted::Reaches(_)) => ReplyRef::Misplaced,
-            Err(refusal) => ReplyRef::of(refusal),
+            Err(refusal) => ReplyRef::refused(*refusal),
         }
     }
 
@@ -109,7 +109,7 @@ impl Draft {
 }
 
 /// What an answer changes.
-pub(crate) fn change_of(answer: &Result<Accepted, Reply>) -> &Change
+pub(crate) fn change_of(answer: &Result<Accepted, Refusal>) -> &Change
     ensures { result.now ≡ spec.change_of answer.now }
 {
     match answer {
@@ -119,7 +119,7 @@ pub(crate) fn change_of(answer: &Result<Accepted, Reply>) -> &Change
 }
 
 /// The memory for what an answer changes.
-pub(crate) fn room_of(alloc: Global, answer: &Result<Accepted, Reply>) -> Result<Room, AllocError>
+pub(crate) fn room_of(alloc: Global, answer: &Result<Accepted, Refusal>) -> Result<Room, AllocError>
     ensures ok { IfOk result (IsRoomFor (spec.change_of answer.now)) }
     ensures only { OnErr result (IsTrue (makes_table (spec.change_of answer.now))) }
 {

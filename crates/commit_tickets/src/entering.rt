@@ -25,7 +25,7 @@ use crate::token::CpuToken;
 use command_core::{Room, Side, answer, apply_aside, bears_out};
 use granule_lock::Hold;
 use rmi_view::CommandRef;
-use rmm_spec::{Accepted, Command, Reply};
+use rmm_spec::{Accepted, Command, Refusal};
 use std::alloc::{AllocError, Global};
 
 /// Enters a draft into the journal, and returns its ticket. Where the side table doesn't bear the draft out, or memory was refused
@@ -82,7 +82,7 @@ pub(crate) fn enter<S: Site>(
 }
 
 // The side table's part of what an answer changes.
-fn change_aside(hold: &Hold, side: &mut Side, answer: &Result<Accepted, Reply>)
+fn change_aside(hold: &Hold, side: &mut Side, answer: &Result<Accepted, Refusal>)
     requires { IsTrue (can_count 4096 (side_of side.old) (spec.change_of answer.now)) }
     ensures { side_of side.new ≡ side_changed (known_cell (hold_cells hold.now)) (side_of side.old) (spec.change_of answer.now) }
 {
@@ -122,7 +122,7 @@ fn decided<S: Site>(
     token: &CpuToken<S>,
     hold: &Hold,
     command: &Command,
-) -> Result<(Result<Accepted, Reply>, Room), AllocError>
+) -> Result<(Result<Accepted, Refusal>, Room), AllocError>
     requires settled { IsTrue (is_settled S.config (call_of command.now) (place_of token.now.place) (hold_cells hold.now)) }
     ensures decision { IfOk result (λ made. IsDecision S.config token.now.cpu command.now
         (hold_with journal.now token.now (hold_cells hold.now)) (given_of made.0) (spec.change_of made.0)) }

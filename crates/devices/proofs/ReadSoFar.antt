@@ -1,11 +1,12 @@
 -- One piece more of a source.
-use Rattle.std.proofs.Common.{◌≡◌, ℕ, List, [], ◌∷◌, ◌++◌, Option, Some, None, refl, sym, ap, ◌∙◌, subst}
+use Rattle.std.proofs.Common.{arith, ◌≡◌, ◌⊎◌, inl, inr, ℕ, ◌+◌, ◌<◌, List, [], ◌∷◌, ◌++◌, length, Option, Some, None, refl, sym, ap, ◌∙◌, subst}
 use Rattle.std.specs.Prelude.{IfSome}
 use Rattle.std.specs.List.{flat_map}
 use Rattle.std.specs.Io.KnownBytes.{Consumes, IsAtEnd}
-use Rattle.std.proofs.lemmas.List.{append-nil, append_assoc}
+use Rattle.std.proofs.lemmas.List.{append-nil, append_assoc, length-append}
 use Rattle.std.proofs.lemmas.List.Concat.{flat_map-append}
-use Rattle.devices.specs.Source.{Gives, GivesPieces}
+use Rattle.devices.specs.Source.{Gives, GivesPieces, GivesSome, IsRefused}
+use Rattle.devices.specs.Taker.{RefusesPiece}
 
 -- ---- what a source gives
 
@@ -67,3 +68,15 @@ pub IsReadUpTo-end : {S T : Type 0} (gives : S → List ℕ → S → Type 0) (l
     → IfSome (left_of old) (λ whole. so_far.text ≡ whole)
 IsReadUpTo-end gives left_of has_taken old now taker taken ended so_far =
     Consumes-all (left_of old) (left_of now) so_far.text so_far.left ended
+
+-- ---- memory is refused
+
+-- where it is for a piece, the source gave that
+pub refused_or_given : {S T : Type 0} (gives : S → List ℕ → S → Type 0) (source_refuses : S → S → Type 0) (has_taken : T → List ℕ → List ℕ → Type 0)
+    (refuses : T → List ℕ → Type 0) (old new : S) (taker : T)
+    → IsRefused gives source_refuses old new ⊎ RefusesPiece gives has_taken refuses old new taker → IsRefused gives source_refuses old new ⊎ GivesSome gives old new
+refused_or_given gives source_refuses has_taken refuses old new taker (inl refused) = inl refused
+refused_or_given gives source_refuses has_taken refuses old new taker (inr refused) =
+    let count : length (refused.text ++ refused.piece) ≡ length refused.text + length refused.piece = length-append refused.text refused.piece in
+    let some : 0 < length refused.piece = refused.some in
+    inr (refused.text ++ refused.piece, refused.given, omega arith)

@@ -1,5 +1,5 @@
 -- What a source's answers say of the device.
-use Rattle.std.specs.Prelude.{◌≡◌, ℕ, ◌+◌, ◌-◌, ◌^◌, min, List, [], ◌∷◌, Option, IfSome, Result, Ok, Err}
+use Rattle.std.specs.Prelude.{◌≡◌, ℕ, ◌+◌, ◌-◌, ◌^◌, ◌<◌, min, List, [], ◌∷◌, length, Option, IfSome, Result, Ok, Err}
 use Rattle.std.specs.List.{flat_map}
 use Rattle.devices.specs.declared.source.ReadError.{ReadError}
 use Rattle.devices.specs.declared.source.ReadError.TheVariants as errors
@@ -24,6 +24,10 @@ pub record IsRefused {S : Type 0} (gives : S → List ℕ → S → Type 0) (ref
   pub middle : S
   pub given : Gives gives old text middle
   pub refused : refuses middle new
+
+-- the source gave a byte or more
+abbrev pub GivesSome : {S : Type 0} → (S → List ℕ → S → Type 0) → S → S → Type 0
+GivesSome gives old new = (text : List ℕ) × Gives gives old text new × (0 < length text)
 
 -- what a call did to a source: the text that it gave, which is all that was left of its text, its end, no read at all, memory
 -- that was refused to it, and its failures until then and now

@@ -1,7 +1,8 @@
 //! A source's whole text, which is kept.
 
-ghost use Rattle.std.specs.Prelude.{◌≡◌, ℕ, ◌+◌, List, OnOk, IfOk};
-ghost use Rattle.devices.specs.Source.{Gives, GivesWhole, read_failures};
+ghost use Rattle.std.specs.Prelude.{◌≡◌, ◌⊎◌, ℕ, ◌+◌, List, Err, OnOk, IfOk};
+ghost use Rattle.devices.specs.Source.{Gives, GivesSome, GivesWhole, IsRefused, read_failures};
+ghost use Rattle.devices.specs.declared.source.ReadError.TheVariants.{NoMemory};
 
 use crate::source::{ReadError, Source};
 use crate::taker::{Taker, read_whole};
@@ -20,11 +21,13 @@ impl Taker for Vec<u8> {
     }
 }
 
-/// Reads a source to its end, and returns its text.
+/// Reads a source to its end, and returns its text. Memory is refused to the source, or for what it gave.
+#[tactic(auto, using(crate::proofs::ReadSoFar::refused_or_given))]
 pub fn read_text<S: Source>(alloc: Global, source: &mut S) -> Result<Vec<u8>, ReadError>
     ensures read { (text : List ℕ) × Gives S.gives source.old text source.new }
     ensures whole { IfOk result (λ text. GivesWhole S.gives (S.left source.old) source.old source.new text.items) }
     ensures end { OnOk result (S.is_ended source.new) }
+    ensures refused { result ≡ Err NoMemory → IsRefused S.gives S.refuses source.old source.new ⊎ GivesSome S.gives source.old source.new }
     ensures failures { S.failures source.new ≡ S.failures source.old + read_failures result }
 {
     let mut text = Vec::new(alloc);

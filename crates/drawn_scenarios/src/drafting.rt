@@ -7,6 +7,7 @@ use crate::drawing::{Granules, drawn_command, drawn_function};
 use crate::edges::edged_command;
 use crate::schedule::Schedule;
 use crate::sharing::Sharing;
+use crate::words::walks;
 use anyhow::{Result, bail};
 use arrayvec::ArrayVec;
 use granule_state::Config;
@@ -142,18 +143,7 @@ fn likely_turns(function: FunctionId) -> u8 {
     match function {
         FunctionId::RecCreate | FunctionId::RecDestroy => 11,
         FunctionId::RealmCreate | FunctionId::RealmDestroy | FunctionId::RecEnter => 7,
-        FunctionId::RttCreate
-        | FunctionId::RttDestroy
-        | FunctionId::RttFold
-        | FunctionId::RttReadEntry
-        | FunctionId::DataCreate
-        | FunctionId::DataCreateUnknown
-        | FunctionId::DataDestroy
-        | FunctionId::RttMapUnprotected
-        | FunctionId::RttUnmapUnprotected
-        | FunctionId::RttInitRipas
-        | FunctionId::RttSetRipas
-        | FunctionId::IpaStateGet => 10,
+        _ if walks(function) => 10,
         _ => 4,
     }
 }
@@ -188,7 +178,7 @@ pub fn carry_out(machine: &mut Machine, cpu: u8, command: &Command) -> Result<Re
     match machine.outcome(cpu, command) {
         Ok(Accepted::Done { words, .. }) => offered(machine, cpu, command, Reply::Ok(words)),
         Ok(Accepted::Reaches(stretch)) => farthest(machine, cpu, command, &stretch),
-        Err(refusal) => offered(machine, cpu, command, refusal),
+        Err(refusal) => offered(machine, cpu, command, refusal.reply()),
     }
 }
 

@@ -4,14 +4,24 @@ ghost use Rattle.std.specs.Prelude.{◌<◌, length};
 
 use crate::dice::Dice;
 use crate::sharing::Sharing;
-use crate::walking::{drawn_ipa, drawn_walk};
+use crate::words::{drawn_place, drawn_word};
+use arrayvec::ArrayVec;
+use command_words::{Name, named};
 use granule_state::GRANULE_BYTES;
-use realm_lives::command;
-use rmm_spec::{Command, FunctionId, Tag};
+use rmm_spec::{Call, Command, FunctionId, Tag};
 use spec_machine::OwnerRow;
 
 /// How often a granule is drawn before one with another tag does.
 const GRANULE_DRAWS: u32 = 16;
+
+/// How often a function is drawn before one is taken that seldom comes.
+const FUNCTION_DRAWS: u32 = 64;
+
+/// How often the most frequent functions come.
+const MOST_OFTEN: u64 = 15;
+
+/// Words of which each is its own place.
+const PLACES: [u64; 10] = [0, 1, 2, 3, 4, 5, 6, 7, 8, 9];
 
 /// A machine's granules, from which a CPU draws.
 #[derive(Clone, Copy)]
@@ -65,7 +75,7 @@ impl Granules<'_> {
     }
 
     // A realm's VMID.
-    fn vmid(self, dice: &mut Dice) -> u64 {
+    pub(crate) fn vmid(self, dice: &mut Dice) -> u64 {
         let number = dice.below(32);
         if self.sharing.is_apart() {
             return u64::from(self.cpu) * 32 + number;
@@ -76,126 +86,69 @@ impl Granules<'_> {
 
 /// One of the functions. Those that make something come more often than those that end it.
 pub(crate) fn drawn_function(dice: &mut Dice) -> FunctionId {
-    match dice.below(114) {
-        0..14 => FunctionId::GranuleDelegate,
-        14 => FunctionId::GranuleUndelegate,
-        15 | 16 => FunctionId::RealmCreate,
-        17..29 => FunctionId::RecCreate,
-        29 | 30 => FunctionId::RealmActivate,
-        31 => FunctionId::RealmDestroy,
-        32 => FunctionId::RecDestroy,
-        33..45 => FunctionId::RecEnter,
-        45 | 46 => FunctionId::MeasurementRead,
-        47 | 48 => FunctionId::MeasurementExtend,
-        49 | 50 => FunctionId::RealmConfig,
-        51..54 => FunctionId::IpaStateSet,
-        54..57 => FunctionId::HostCall,
-        57 => FunctionId::CpuOff,
-        58 => FunctionId::SystemOff,
-        59..64 => FunctionId::Exit,
-        64..66 => FunctionId::IpaStateGet,
-        other => drawn_walking_function(other),
+    let functions = FunctionId::all();
+    for _draw in 0..FUNCTION_DRAWS {
+        let function = functions[dice.below(functions.len() as u64) as usize];
+        if dice.below(MOST_OFTEN) < often(function) {
+            return function;
+        }
+    }
+    FunctionId::Exit
+}
+
+// How often a function is drawn, of so many times that it could be.
+fn often(function: FunctionId) -> u64 {
+    match function {
+        FunctionId::RttCreate | FunctionId::GranuleDelegate => 15,
+        FunctionId::RecCreate | FunctionId::RecEnter => 12,
+        FunctionId::DataCreate | FunctionId::DataCreateUnknown => 6,
+        FunctionId::Exit => 5,
+        FunctionId::RttMapUnprotected | FunctionId::RttInitRipas | FunctionId::RttSetRipas => 4,
+        FunctionId::IpaStateSet | FunctionId::HostCall => 3,
+        FunctionId::GranuleUndelegate
+        | FunctionId::RealmDestroy
+        | FunctionId::RecDestroy
+        | FunctionId::RttUnmapUnprotected
+        | FunctionId::CpuOff
+        | FunctionId::SystemOff => 1,
+        _ => 2,
     }
 }
 
-// One of those that walk tables for the host, by a number from 66 on.
-fn drawn_walking_function(number: u64) -> FunctionId {
-    match number {
-        66..81 => FunctionId::RttCreate,
-        81 | 82 => FunctionId::RttDestroy,
-        83..89 => FunctionId::DataCreate,
-        89..95 => FunctionId::DataCreateUnknown,
-        95 | 96 => FunctionId::DataDestroy,
-        97..101 => FunctionId::RttMapUnprotected,
-        101 => FunctionId::RttUnmapUnprotected,
-        102 | 103 => FunctionId::RttReadEntry,
-        104..108 => FunctionId::RttInitRipas,
-        108 | 109 => FunctionId::RttFold,
-        _ => FunctionId::RttSetRipas,
-    }
-}
-
-/// The function with words that are likely to fit it.
+/// The function with words that are likely to fit it. The last of its names stands for all words that are left.
 pub(crate) fn drawn_command(
     function: FunctionId,
     granules: Granules<'_>,
     dice: &mut Dice,
 ) -> Command {
-    if let Some(walk) = drawn_walk(function, granules, dice) {
-        return walk;
+    let mut words = drawn_words(function, granules, dice);
+    for _word in words.len()..function.row().words {
+        let _ = words.try_push(dice.word());
     }
-    match function {
-        FunctionId::GranuleDelegate => {
-            command(function, &[granules.draw(dice, Tag::Undelegated)])
-        }
-        FunctionId::GranuleUndelegate => command(function, &[granules.draw(dice, Tag::Delegated)]),
-        FunctionId::RealmActivate | FunctionId::RealmDestroy => {
-            command(function, &[granules.draw(dice, Tag::Rd)])
-        }
-        FunctionId::RecDestroy | FunctionId::RecEnter => {
-            command(function, &[granules.draw(dice, Tag::Rec)])
-        }
-        FunctionId::RealmCreate => drawn_realm(granules, dice),
-        FunctionId::RecCreate => drawn_rec(granules, dice),
-        _ => drawn_realm_call(function, dice),
-    }
+    Command { function, words }
 }
 
-fn drawn_realm(granules: Granules<'_>, dice: &mut Dice) -> Command {
-    let (width, level) = match dice.below(16) {
-        0 => (0x28, 1),
-        1 | 2 | 3 | 4 | 5 | 6 => (0x30, 0),
-        _ => (0x27, 1),
-    };
-    let words = [
-        granules.draw(dice, Tag::Delegated),
-        granules.draw(dice, Tag::Delegated),
-        width,
-        level,
-        granules.vmid(dice),
-        dice.below(16) / 15,
-    ];
-    command(FunctionId::RealmCreate, &words)
-}
-
-fn drawn_rec(granules: Granules<'_>, dice: &mut Dice) -> Command {
-    let words = [
-        granules.draw(dice, Tag::Rd),
-        granules.draw(dice, Tag::Delegated),
-        dice.below(3),
-        dice.below(9).min(2) % 2,
-        granules.draw(dice, Tag::Delegated),
-        granules.draw(dice, Tag::Delegated),
-    ];
-    command(FunctionId::RecCreate, &words)
-}
-
-// A call of a realm, or the exit.
-fn drawn_realm_call(function: FunctionId, dice: &mut Dice) -> Command {
-    match function {
-        FunctionId::MeasurementRead => command(function, &[dice.below(6)]),
-        FunctionId::MeasurementExtend => {
-            let words = [
-                dice.below(6),
-                dice.below(0x42),
-                dice.word(),
-                dice.word(),
-                dice.word(),
-                dice.word(),
-                dice.word(),
-                dice.word(),
-                dice.word(),
-                dice.word(),
-            ];
-            command(function, &words)
-        }
-        FunctionId::IpaStateSet => {
-            let base = dice.below(4) * GRANULE_BYTES;
-            let top = dice.below(6) * GRANULE_BYTES;
-            command(function, &[base, top, dice.below(3)])
-        }
-        FunctionId::IpaStateGet => command(function, &[drawn_ipa(dice, 12)]),
-        FunctionId::HostCall => command(function, &[dice.below(0x1_1000)]),
-        _ => command(function, &[]),
+// A word for each name: a granule with the tag that is needed there, or another by the name.
+fn drawn_words(function: FunctionId, granules: Granules<'_>, dice: &mut Dice) -> ArrayVec<u64, 10> {
+    let needed = named(&Call::of(function, &PLACES));
+    let place = drawn_place(function, dice);
+    let mut words = ArrayVec::new();
+    for name in function.row().names.split(' ').skip(1) {
+        let word = match tag_at(needed.as_slice(), words.len() as u64) {
+            Some(tag) => granules.draw(dice, tag),
+            None => drawn_word(name, place, granules, dice),
+        };
+        let _ = words.try_push(word);
     }
+    words
+}
+
+// The tag that the word at a place needs, where each word is its own place.
+fn tag_at(names: &[Name], place: u64) -> Option<Tag> {
+    for name in names {
+        if name.granule == place {
+            return Some(name.tag);
+        }
+    }
+    None
 }

@@ -13,7 +13,7 @@ mod edges;
 mod plan;
 mod schedule;
 mod sharing;
-mod walking;
+mod words;
 
 pub use dice::Dice;
 pub use draft::{Draft, scenario_of};

@@ -1,11 +1,7 @@
 -- Passes that hear of what was drained, one after the other.
-use Rattle.std.proofs.Common.{◌≡◌, ℕ, zero, suc, List, [], ◌∷◌, ◌++◌, map, take, drop, Some, refl, sym, ap, subst}
-use Rattle.std.specs.Prelude.{slice_get, slice_set}
-use Rattle.std.proofs.lemmas.Option.{none-some, same_Some}
-use Rattle.rmm_spec.specs.declared.event.Event.{Event}
-use Rattle.rmm_spec.specs.HistoryText.{subhistory_of}
+use Rattle.event_queue.proofs.Common.{◌≡◌, ℕ, zero, suc, List, [], ◌∷◌, ◌++◌, map, take, Some, refl, subst, slice_get, Event, CpuView, hearing}
+use Rattle.std.proofs.Common.{drop}
 use Rattle.world_laws.proofs.Lists.{slice_get-map_from}
-use Rattle.event_queue.specs.View.{CpuView, hearing}
 
 -- a list of which the first so many elements were replaced
 abbrev pub replaced_before : {X : Type 0} → (X → X) → ℕ → List X → List X
@@ -17,13 +13,6 @@ replaced-next f zero [] = refl
 replaced-next f (suc count) [] = refl
 replaced-next f zero (x ∷ xs) = refl
 replaced-next f (suc count) (x ∷ xs) = replaced-next f count xs
-
--- and it is replaced too
-pub replaced-more : {X : Type 0} (f : X → X) (count : ℕ) (xs : List X) (x : X) → slice_get xs count ≡ Some x
-    → slice_set (replaced_before f count xs) count (f x) ≡ replaced_before f (suc count) xs
-replaced-more f count [] x at = absurd (none-some x at)
-replaced-more f zero (first ∷ xs) x at = ap (λ y. f y ∷ xs) (sym (same_Some first x at))
-replaced-more f (suc count) (first ∷ xs) x at = ap (λ rest. f first ∷ rest) (replaced-more f count xs x at)
 
 -- what is said of each pass, and not of what it has heard, stays so
 pub each_hearing : (P : ℕ → CpuView → Type 0) (drained : List Event) (passes : List CpuView) → ((cpu : ℕ) (pass : CpuView) → P cpu pass → P cpu (hearing drained pass))

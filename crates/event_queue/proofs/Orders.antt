@@ -1,26 +1,16 @@
 -- The journal's commits beside the events, with one more of either, and as a certificate.
-use Rattle.std.proofs.Common.{◌≡◌, ℕ, zero, suc, ◌+◌, ◌<◌, List, [], ◌∷◌, ◌++◌, length, map, Option, Some, None, refl, sym, ap, ◌∙◌, subst, arith, append-nil, length-append, ⊎_elim}
-use Rattle.std.specs.Prelude.{slice_get, ◌==◌, MatchOption, IfNone}
-use Rattle.std.proofs.lemmas.Bool.{eq-eqb, ne_eqb, cases_eq}
-use Rattle.std.proofs.lemmas.List.{nil_from_length}
-use Rattle.std.proofs.lemmas.List.Elements.{filter-append}
-use Rattle.std.proofs.lemmas.Option.{none-some, same_Some}
+use Rattle.event_queue.proofs.Common.{◌≡◌, ℕ, zero, suc, ◌+◌, ◌<◌, List, [], ◌∷◌, ◌++◌, length, map, take, Some, None, refl, sym, ap, ◌∙◌, subst, arith, append-nil, length-append, ⊎_elim, slice_get, ◌==◌, eq-eqb, ne_eqb, cases_eq, nil_from_length, filter-append, none-some, same_Some, Event, Called, Returned, cpu_of, JournalEntry, AreRecorded, IsAt, count_of, numbered, Stage, Idle, Open, Committed}
+use Rattle.std.proofs.Common.{Option}
+use Rattle.std.specs.Prelude.{MatchOption, IfNone}
 use Rattle.crossbeam_queue.specs.Fifo.{Held}
-use Rattle.rmm_spec.specs.declared.command.Command.{Command}
-use Rattle.rmm_spec.specs.declared.event.Event.{Event}
-use Rattle.rmm_spec.specs.declared.event.Event.TheVariants.{Called, Returned}
-use Rattle.rmm_spec.specs.declared.reply.Reply.{Reply}
 use Rattle.rmm_spec.specs.Cell.{put}
-use Rattle.rmm_spec.specs.HistoryText.{cpu_of}
 use Rattle.rmm_spec.specs.Linearization.{AreEntriesOf, IsCalled}
-use Rattle.rmm_spec.specs.Run.{JournalEntry}
-use Rattle.rmm_spec.specs.World.{Commitment, line_for}
+use Rattle.rmm_spec.specs.World.{Commitment}
 use Rattle.world_laws.proofs.Lists.{slice_get-append, slice_get-push}
-use Rattle.world_laws.proofs.Recorded.{AreRecorded, AreBelow, entry_of, AreRecorded-called, AreRecorded-returned, AreRecorded-committed}
+use Rattle.world_laws.proofs.Recorded.{AreBelow, HasCommitted, entry_of, AreRecorded-called, AreRecorded-returned, AreRecorded-committed}
 use Rattle.world_laws.proofs.Certified.{commit_of, IsOrderOf-line_for, AreEntriesOf-commits}
-use Rattle.event_queue.specs.Book.{IsAt}
-use Rattle.event_queue.specs.Numbered.{AreInOrder, count_of, lines_for, numbered, numbered_from}
-use Rattle.event_queue.specs.Stages.{Stage, Idle, Open, Committed, stage_after}
+use Rattle.event_queue.specs.Numbered.{AreInOrder, lines_for, numbered_from}
+use Rattle.event_queue.specs.Stages.{stage_after}
 
 -- ---- numbers
 
@@ -38,6 +28,16 @@ counted-first number entry entries cpu = ⊎_elim
     (λ (own : entry.cpu ≡ cpu). rw (eq-eqb cpu entry.cpu (sym own), eq-eqb entry.cpu cpu own) (omega (arith, ap number own)))
     (λ (other : entry.cpu ≡ cpu → ⊥). rw (ne_eqb cpu entry.cpu (λ own. other (sym own)), ne_eqb entry.cpu cpu other) refl)
     (cases_eq entry.cpu cpu)
+
+-- the entry at a place has the number that its CPU has come to there
+pub numbered-at : (number : ℕ → ℕ) (entries : List JournalEntry) (place : ℕ) (entry : JournalEntry) → slice_get entries place ≡ Some entry
+    → slice_get (numbered_from number entries) place ≡ Some (commitment entry (number entry.cpu + count_of entry.cpu (take place entries)))
+numbered-at number [] place entry at = absurd (none-some entry at)
+numbered-at number (first ∷ entries) zero entry at =
+    let none : number entry.cpu ≡ number entry.cpu + 0 = omega arith in
+    ap (λ (e : JournalEntry). Some (commitment e (number e.cpu))) (same_Some first entry at) ∙ ap (λ n. Some (commitment entry n)) none
+numbered-at number (first ∷ entries) (suc place) entry at =
+    numbered-at (next number first) entries place entry at ∙ ap (λ n. Some (commitment entry n)) (counted-first number first (take place entries) entry.cpu)
 
 -- one entry more has the number that its CPU has come to
 numbered_from-push : (number : ℕ → ℕ) (entries : List JournalEntry) (entry : JournalEntry)
@@ -60,6 +60,11 @@ numbered-below number (entry ∷ entries) (suc i) c at =
 count-push : (cpu : ℕ) (entries : List JournalEntry) (entry : JournalEntry) → count_of cpu (entries ++ entry ∷ []) ≡ count_of cpu entries + count_of cpu (entry ∷ [])
 count-push cpu entries entry =
     ap length (filter-append (λ (e : JournalEntry). e.cpu == cpu) entries (entry ∷ [])) ∙ length-append _ _
+
+-- whoever counts one entry more
+pub counted-push : (number : ℕ → ℕ) (entries : List JournalEntry) (entry : JournalEntry) → ((cpu : ℕ) → number cpu ≡ count_of cpu entries)
+    → (cpu : ℕ) → put number entry.cpu (number entry.cpu + 1) cpu ≡ count_of cpu (entries ++ entry ∷ [])
+counted-push number entries entry counted cpu = omega (arith, counted-first number entry [] cpu, count-push cpu entries entry, counted cpu)
 
 pub count-push_own : (entries : List JournalEntry) (entry : JournalEntry) → count_of entry.cpu (entries ++ entry ∷ []) ≡ count_of entry.cpu entries + 1
 count-push_own entries entry = count-push entry.cpu entries entry ∙ (rw (eq-eqb entry.cpu entry.cpu refl) refl)
@@ -101,12 +106,8 @@ ordered-recorded entries all (Called cpu number command) stage commits old count
 )
 ordered-recorded entries all (Returned cpu number given) stage commits old counted at is_next =
     let made = subst (λ s. IsAt s cpu commits entries all) is_next.0 at in
-    let commit : Commitment = record { cpu = cpu; number = made.0; command = made.2; given = given } in
-    let same : made.0 ≡ number = omega (arith, made.3, is_next.1) in (
-      AreRecorded-returned (numbered entries) all cpu number given old
-          (record { index = made.1; it = commit; is_it = made.4; is_cpu = refl; is_number = same; is_given = refl }),
-      tt,
-    )
+    let same : made.0 ≡ number = omega (arith, made.1, is_next.1) in
+    (AreRecorded-returned (numbered entries) all cpu number given old (subst (λ n. HasCommitted (numbered entries) cpu n given) same made.2), tt)
 
 pub IsAt-recorded : (stage : Stage) (cpu commits : ℕ) (entries : List JournalEntry) (all : List Event) (event : Event)
     → IsAt stage cpu commits entries all → IsAt stage cpu commits entries (all ++ event ∷ [])
@@ -129,25 +130,25 @@ module _ (entries : List JournalEntry) (all : List Event) (entry : JournalEntry)
       (fresh entries entry.cpu (count_of entry.cpu entries) refl) called.1)
 
   pub IsAt-own : IsAt (Committed entry.given) entry.cpu (count_of entry.cpu entries + 1) (entries ++ entry ∷ []) all
-  IsAt-own = (
-    count_of entry.cpu entries,
-    length (numbered entries),
-    entry.command,
-    omega arith,
-    ap (λ cs. slice_get cs (length (numbered entries))) longer ∙ slice_get-push (numbered entries) (commitment entry (count_of entry.cpu entries)),
-  )
+  IsAt-own =
+      let commit = commitment entry (count_of entry.cpu entries) in
+      let there = ap (λ cs. slice_get cs (length (numbered entries))) longer ∙ slice_get-push (numbered entries) commit in (
+        count_of entry.cpu entries,
+        omega arith,
+        record { index = length (numbered entries); it = commit; is_it = there; is_cpu = refl; is_number = refl; is_given = refl },
+      )
 
   pub IsAt-committed : (stage : Stage) (cpu commits : ℕ) → IsAt stage cpu commits entries all → IsAt stage cpu commits (entries ++ entry ∷ []) all
   IsAt-committed Idle cpu commits at = tt
   IsAt-committed (Open command) cpu commits at = at
-  IsAt-committed (Committed given) cpu commits (number, index, command, is_last, at) =
-      let commit : Commitment = record { cpu = cpu; number = number; command = command; given = given } in
-      let there = slice_get-append (numbered entries) (commitment entry (count_of entry.cpu entries) ∷ []) index commit at in
-      (number, index, command, is_last, ap (λ cs. slice_get cs index) longer ∙ there)
+  IsAt-committed (Committed given) cpu commits (number, is_last, has) =
+      let there = slice_get-append (numbered entries) (commitment entry (count_of entry.cpu entries) ∷ []) has.index has.it has.is_it in
+      let is_it = ap (λ cs. slice_get cs has.index) longer ∙ there in
+      (number, is_last, record { index = has.index; it = has.it; is_it = is_it; is_cpu = has.is_cpu; is_number = has.is_number; is_given = has.is_given })
 
 -- ---- as a certificate
 
-entries-numbered_from : (number : ℕ → ℕ) (entries : List JournalEntry) → map entry_of (numbered_from number entries) ≡ entries
+pub entries-numbered_from : (number : ℕ → ℕ) (entries : List JournalEntry) → map entry_of (numbered_from number entries) ≡ entries
 entries-numbered_from number [] = refl
 entries-numbered_from number (entry ∷ entries) = ap (λ es. entry ∷ es) (entries-numbered_from (next number entry) entries)
 

@@ -1,9 +1,6 @@
 -- The passes, one CPU further.
-use Rattle.std.proofs.Common.{◌≡◌, ℕ, zero, suc, ◌+◌, ◌<◌, List, [], ◌∷◌, ◌++◌, length, Some, arith, sym, ap, ◌∙◌, subst}
-use Rattle.std.specs.Prelude.{slice_get}
-use Rattle.std.proofs.lemmas.List.{length_push}
+use Rattle.event_queue.proofs.Common.{◌≡◌, ℕ, zero, suc, ◌+◌, ◌<◌, List, [], ◌∷◌, ◌++◌, length, Some, arith, sym, ap, ◌∙◌, subst, slice_get, length_push, CpuView, before_calls}
 use Rattle.atomic_table.specs.Seated.{TableId}
-use Rattle.event_queue.specs.View.{CpuView, before_calls}
 
 -- each element is the one of its place, with one element more
 each_pushed : {X : Type 0} (f : ℕ → X) (xs : List X) (x : X) → ((k : ℕ) → k < length xs → slice_get xs k ≡ Some (f k)) → x ≡ f (length xs)

@@ -1,26 +1,16 @@
 -- Each step of a pass keeps the rule of the queue.
-use Rattle.std.proofs.Common.{◌≡◌, ◌≢◌, ℕ, zero, suc, ◌+◌, ◌==◌, true, false, eqb, if◌then◌else◌, List, [], ◌∷◌, ◌++◌, length, set, refl, arith, sym, ap, ◌∙◌, ◌⊎◌, inl, inr, subst, ⊎_elim, append_assoc, append-nil, eq-eqb, ne_eqb}
-use Rattle.std.specs.List.{AllByRecursion}
-use Rattle.std.proofs.lemmas.Bool.{eqb-true, cases_Bool, false≢true}
-use Rattle.std.proofs.lemmas.List.Elements.{filter-append}
-use mathlib.Core.List.{IsPrefix}
+use Rattle.event_queue.proofs.Common.{◌≡◌, ◌≢◌, ℕ, zero, suc, ◌+◌, ◌==◌, true, false, eqb, if◌then◌else◌, List, [], ◌∷◌, ◌++◌, length, refl, arith, sym, ap, ◌∙◌, subst, ⊎_elim, append-nil, eq-eqb, ne_eqb, AllByRecursion, false≢true, filter-append, IsPrefix, Command, Event, Called, Returned, Reply, IsEvent, IsRecord, cpu_of, subhistory_of, JournalEntry, subhistory_of-push_same, AreRecorded, count_of, numbered, Stage, Open, Committed, Page, recorded, IsAt, ◌≤◌}
+use Rattle.std.proofs.Common.{set, ◌⊎◌, inl, inr, append_assoc}
+use Rattle.std.proofs.lemmas.Bool.{eqb-true, cases_Bool}
 use mathlib.Core.Option.{some, some-injective, some-ne-none}
 use lib.ListN.{get_elem?}
 use Rattle.crossbeam_queue.specs.Fifo.{Pushes, Pops, Forks, Merges, Learns}
 use Rattle.crossbeam_queue.proofs.Lists.{at_set}
-use Rattle.rmm_spec.specs.declared.command.Command.{Command}
-use Rattle.rmm_spec.specs.declared.event.Event.{Event}
-use Rattle.rmm_spec.specs.declared.event.Event.TheVariants.{Called, Returned}
-use Rattle.rmm_spec.specs.declared.reply.Reply.{Reply}
-use Rattle.rmm_spec.specs.HistoryText.{IsEvent, IsRecord, cpu_of, subhistory_of}
-use Rattle.rmm_spec.specs.Run.{JournalEntry}
-use Rattle.rmm_spec.proofs.Records.{subhistory_of-push_same, subhistory_of-push_other, IsRecord-front, AllByRecursion-push}
-use Rattle.world_laws.proofs.Recorded.{AreRecorded}
-use Rattle.event_queue.specs.Numbered.{count_of, numbered}
+use Rattle.rmm_spec.proofs.Records.{subhistory_of-push_other, IsRecord-front, AllByRecursion-push}
 use Rattle.event_queue.specs.Records.{AreRecords}
-use Rattle.event_queue.specs.Stages.{Stage, Open, Committed, entry_at}
-use Rattle.event_queue.specs.Pages.{Page, Holder, Cpu, Scribe, Nobody, opening_page, nobody_page, cpu_page, journal_page, note_of, recorded, committed, entered, with_journal, without_journal, MayFindQueued, BeginsWithDrained, IsDrained}
-use Rattle.event_queue.specs.Book.{Ledger, Shelf, IsAt, IsCpuPage, IsPage, IsKept, IsRecorded}
+use Rattle.event_queue.specs.Stages.{entry_at}
+use Rattle.event_queue.specs.Pages.{Cpu, Scribe, Nobody, opening_page, nobody_page, cpu_page, journal_page, note_of, committed, entered, with_journal, without_journal, MayFindQueued, BeginsWithDrained, IsDrained}
+use Rattle.event_queue.specs.Book.{Ledger, Shelf, IsCpuPage, IsScribePage, IsPage, IsKept, IsRecorded}
 use Rattle.event_queue.proofs.Orders.{IsNextEvent, ordered-none, ordered-recorded, ordered-committed, IsAt-recorded, IsAt-committed, IsAt-own, count-push_own, count-push_other}
 
 -- ---- records
@@ -110,18 +100,44 @@ scribe_no_cpu page cpu scribe is_cpu = let same : Scribe ≡ Cpu cpu = sym scrib
 same_cpu : (page : Page) (cpu other : ℕ) → page.holder ≡ Cpu cpu → page.holder ≡ Cpu other → cpu ≡ other
 same_cpu page cpu other is is_other = let same : Cpu cpu ≡ Cpu other = sym is ∙ is_other in cc
 
--- what nobody holds may keep the journal
-nobody : (ledger : Ledger) (shelf : Shelf) (all : List Event) (place : ℕ) (page : Page) → page.holder ≡ Nobody
-    → (page.keeps ≡ true → (shelf.place ≡ place) × (page.entries ≡ shelf.entries)) → IsPrefix page.seen ledger.drained → IsPage ledger shelf all place page
-nobody ledger shelf all place page holder shelved seen = (
-  λ cpu is_cpu. let same : Nobody ≡ Cpu cpu = sym holder ∙ is_cpu in absurd (cc),
-  λ scribe. let same : Nobody ≡ Scribe = sym holder ∙ scribe in absurd (cc),
-  shelved,
-  seen,
-)
+-- A page of a CPU, of the scribe or of nobody: it may keep the journal, and what it has seen begins what was drained.
+module _ (ledger : Ledger) (shelf : Shelf) (all : List Event) (place : ℕ) (page : Page)
+    (shelved : page.keeps ≡ true → (shelf.place ≡ place) × (page.entries ≡ shelf.entries)) (seen : IsPrefix page.seen ledger.drained) where
+  of_cpu : (cpu : ℕ) → page.holder ≡ Cpu cpu → IsCpuPage ledger shelf.entries all cpu place page → IsPage ledger shelf all place page
+  of_cpu cpu holder mine = (
+    λ other is_other. subst (λ c. IsCpuPage ledger shelf.entries all c place page) (same_cpu page cpu other holder is_other) mine,
+    λ scribe. absurd (scribe_no_cpu page cpu scribe holder),
+    shelved,
+    seen,
+  )
 
-spent : (ledger : Ledger) (shelf : Shelf) (all : List Event) (place : ℕ) → IsPage ledger shelf all place nobody_page
-spent ledger shelf all place = nobody ledger shelf all place nobody_page refl (λ keeps. absurd (false≢true keeps)) (begins_with_none ledger.drained)
+  of_scribe : page.holder ≡ Scribe → IsScribePage ledger place page → IsPage ledger shelf all place page
+  of_scribe holder mine = (λ cpu is_cpu. absurd (scribe_no_cpu page cpu holder is_cpu), λ _. mine, shelved, seen)
+
+  of_nobody : page.holder ≡ Nobody → IsPage ledger shelf all place page
+  of_nobody holder = (
+    λ cpu is_cpu. let same : Nobody ≡ Cpu cpu = sym holder ∙ is_cpu in absurd (cc),
+    λ scribe. let same : Nobody ≡ Scribe = sym holder ∙ scribe in absurd (cc),
+    shelved,
+    seen,
+  )
+
+unshelved : {A : Type 0} → false ≡ true → A
+unshelved keeps = absurd (false≢true keeps)
+
+-- what one page knows goes to two, of which the second stands at the end
+forked : (ledger after : Ledger) (shelf kept_on : Shelf) (all : List Event) (pages : List Page) (place : ℕ) (left right : Page) → IsKept ledger shelf all pages
+    → AreRecords after.cpus all → ((cpu : ℕ) → after.seated ≤ cpu → subhistory_of cpu all ≡ []) → AreRecorded (numbered kept_on.entries) all
+    → IsPage after kept_on all place left → IsPage after kept_on all (length (set pages place left)) right
+    → ((other : ℕ) (p : Page) → other ≢ place → IsPage ledger shelf all other p → IsPage after kept_on all other p)
+    → IsKept after kept_on all (set pages place left ++ right ∷ [])
+forked ledger after shelf kept_on all pages place left right kept are_records unseated ordered mine last others = record {
+  are_records = are_records;
+  unseated = unseated;
+  ordered = ordered;
+  each = each_push (IsPage after kept_on all) (set pages place left) right last
+      (each_set (IsPage after kept_on all) pages place left mine (λ other p off is. others other p off (kept.each other p is)));
+}
 
 -- ---- the steps of the queue
 
@@ -145,7 +161,7 @@ begins = (
 
     first : (place : ℕ) (page : Page) → get_elem? (opening_page ∷ []) place ≡ some page → IsPage ledger shelf [] place page
     first zero page is = subst (IsPage ledger shelf [] 0) (some-injective opening_page page is)
-        (λ cpu is_cpu. absurd (scribe_no_cpu opening_page cpu refl is_cpu), λ _. (refl, refl, refl, refl), λ _. (refl, refl), begins_with_none [])
+        (of_scribe ledger shelf [] 0 opening_page (λ _. (refl, refl)) (begins_with_none []) refl (refl, refl, refl, refl))
     first (suc place) page is = absurd (some-ne-none page (sym is))
 
 -- a CPU records an event
@@ -172,13 +188,8 @@ records n place page event holder is_event goes_on is_next queued pages room (le
               (subst (λ cpus. IsEvent cpus event) mine.2 is_event) (subst IsRecord own goes_on);
           unseated = λ cpu none. apart cpu (λ same. let is_seated = mine.0 in omega (arith, same)) ∙ kept.unseated cpu none;
           ordered = goes.0;
-          each = each_set (IsPage ledger shelf after) pages place new (
-            λ cpu is_cpu. subst (λ c. IsCpuPage ledger shelf.entries after c place new) (same_cpu page (cpu_of event) cpu holder is_cpu)
-                (mine.0, mine.1, mine.2, own, mine.4, goes.1),
-            λ scribe. absurd (scribe_no_cpu page (cpu_of event) scribe holder),
-            old.2,
-            old.3,
-          )
+          each = each_set (IsPage ledger shelf after) pages place new
+              (of_cpu ledger shelf after place new old.2 old.3 (cpu_of event) holder (mine.0, mine.1, mine.2, own, mine.4, goes.1))
               (λ other p off is. let was = kept.each other p is in (
                 λ cpu is_cpu.
                     let its = was.0 cpu is_cpu in (
@@ -232,12 +243,9 @@ drains place page holder event queued pages (ledger, shelf, kept) at =
           are_records = kept.are_records;
           unseated = kept.unseated;
           ordered = kept.ordered;
-          each = each_set (IsPage after shelf all) pages place new (
-            λ own is_cpu. absurd (scribe_no_cpu page own holder is_cpu),
-            λ _. (mine.0, mine.1, mine.2, ap (λ (es : List Event). es ++ event ∷ []) mine.3),
-            old.2,
-            begins_more page.seen ledger.drained (event ∷ []) old.3,
-          )
+          each = each_set (IsPage after shelf all) pages place new
+              (of_scribe after shelf all place new old.2 (begins_more page.seen ledger.drained (event ∷ []) old.3) holder
+              (mine.0, mine.1, mine.2, ap (λ (es : List Event). es ++ event ∷ []) mine.3))
               (λ other p off is. let was = kept.each other p is in (
                 was.0,
                 λ scribe. absurd (off (sym (was.1 scribe).0 ∙ mine.0)),
@@ -264,24 +272,15 @@ counts place page holder none queued pages (ledger, shelf, kept) at =
     let new : Page = record page { cpus = page.cpus + 1 } in (
       after,
       shelf,
-      record {
-        are_records = are_records-more ledger.cpus all kept.are_records;
-        unseated = kept.unseated;
-        ordered = kept.ordered;
-        each = each_push (IsPage after shelf all) (set pages place new) nobody_page (spent after shelf all (length (set pages place new)))
-            (each_set (IsPage after shelf all) pages place new (
-              λ cpu is_cpu. absurd (scribe_no_cpu page cpu holder is_cpu),
-              λ _. (mine.0, ap (λ n. n + 1) mine.1, mine.2, mine.3),
-              old.2,
-              old.3,
-            )
-            (λ other p off is. let was = kept.each other p is in (
-              λ cpu is_cpu. let is_seated = (was.0 cpu is_cpu).0 in absurd (omega (arith, is_seated, sym mine.2 ∙ none)),
-              λ scribe. absurd (off (sym (was.1 scribe).0 ∙ mine.0)),
-              was.2,
-              was.3,
-            )));
-      },
+      forked ledger after shelf shelf all pages place new nobody_page kept (are_records-more ledger.cpus all kept.are_records) kept.unseated kept.ordered
+          (of_scribe after shelf all place new old.2 old.3 holder (mine.0, ap (λ n. n + 1) mine.1, mine.2, mine.3))
+          (of_nobody after shelf all (length (set pages place new)) nobody_page unshelved (begins_with_none ledger.drained) refl)
+          (λ other p off was. (
+            λ cpu is_cpu. let is_seated = (was.0 cpu is_cpu).0 in absurd (omega (arith, is_seated, sym mine.2 ∙ none)),
+            λ scribe. absurd (off (sym (was.1 scribe).0 ∙ mine.0)),
+            was.2,
+            was.3,
+          )),
     )
 
 -- the seats with one CPU's more
@@ -310,39 +309,26 @@ seats place page holder keeps none queued pages (ledger, shelf, kept) at =
     let right : Page = cpu_page page.cpus page.seated in (
       after,
       shelf,
-      record {
-        are_records = kept.are_records;
-        unseated = λ cpu past. kept.unseated cpu (omega (arith, past));
-        ordered = kept.ordered;
-        each = each_push (IsPage after shelf all) (set pages place new) right (
-          λ cpu is_cpu. subst (λ c. IsCpuPage after shelf.entries all c last right) (sym mine.2 ∙ same_cpu right page.seated cpu refl is_cpu) (
+      forked ledger after shelf shelf all pages place new right kept kept.are_records (λ cpu past. kept.unseated cpu (omega (arith, past))) kept.ordered
+          (of_scribe after shelf all place new old.2 old.3 holder (mine.0, mine.1, ap (λ n. n + 1) mine.2, mine.3))
+          (subst (λ cpu. IsPage after shelf all last (cpu_page page.cpus cpu)) (sym mine.2)
+          (of_cpu after shelf all last (cpu_page page.cpus ledger.seated) unshelved (begins_with_none ledger.drained) ledger.seated refl (
             omega arith,
             seats_with-same ledger.seat ledger.seated last,
             mine.1,
             sym (kept.unseated ledger.seated (omega arith)),
             ap (λ (es : List JournalEntry). count_of ledger.seated es) (sym (old.2 keeps).1 ∙ none),
             tt,
-          ),
-          λ scribe. absurd (scribe_no_cpu right page.seated scribe refl),
-          λ kept_there. absurd (false≢true kept_there),
-          begins_with_none ledger.drained,
-        )
-            (each_set (IsPage after shelf all) pages place new (
-              λ cpu is_cpu. absurd (scribe_no_cpu page cpu holder is_cpu),
-              λ _. (mine.0, mine.1, ap (λ n. n + 1) mine.2, mine.3),
-              old.2,
-              old.3,
-            )
-            (λ other p off is. let was = kept.each other p is in (
-              λ cpu is_cpu.
-                  let its = was.0 cpu is_cpu in
-                  let is_seated = its.0 in
-                  (omega (arith, is_seated), seats_with-other ledger.seat ledger.seated last cpu (λ same. omega (arith, same, is_seated)) ∙ its.1, its.2, its.3, its.4, its.5),
-              λ scribe. absurd (off (sym (was.1 scribe).0 ∙ mine.0)),
-              was.2,
-              was.3,
-            )));
-      },
+          )))
+          (λ other p off was. (
+            λ cpu is_cpu.
+                let its = was.0 cpu is_cpu in
+                let is_seated = its.0 in
+                (omega (arith, is_seated), seats_with-other ledger.seat ledger.seated last cpu (λ same. omega (arith, same, is_seated)) ∙ its.1, its.2, its.3, its.4, its.5),
+            λ scribe. absurd (off (sym (was.1 scribe).0 ∙ mine.0)),
+            was.2,
+            was.3,
+          )),
     )
 
 -- the scribe writes down what was drained
@@ -353,14 +339,8 @@ tells place page holder queued pages (ledger, shelf, kept) at =
     let told : IsPrefix page.events ledger.drained = subst (λ (es : List Event). IsPrefix es ledger.drained) (sym (old.1 holder).3) (begins_with_all ledger.drained) in (
       ledger,
       shelf,
-      record {
-        are_records = kept.are_records;
-        unseated = kept.unseated;
-        ordered = kept.ordered;
-        each = each_push (IsPage ledger shelf all) (set pages place page) (note_of page)
-            (nobody ledger shelf all (length (set pages place page)) (note_of page) refl (λ keeps. absurd (false≢true keeps)) told)
-            (each_set (IsPage ledger shelf all) pages place page old (λ other p off is. kept.each other p is));
-      },
+      forked ledger ledger shelf shelf all pages place page (note_of page) kept kept.are_records kept.unseated kept.ordered old
+          (of_nobody ledger shelf all (length (set pages place page)) (note_of page) unshelved told refl) (λ other p off was. was),
     )
 
 -- what two passes know comes to one of them
@@ -378,7 +358,7 @@ joined ledger shelf after all pages place new other told kept ordered there apar
       are_records = kept.are_records;
       unseated = kept.unseated;
       ordered = ordered;
-      each = each_set (IsPage ledger after all) (set pages place new) other nobody_page (spent ledger after all other)
+      each = each_set (IsPage ledger after all) (set pages place new) other nobody_page (of_nobody ledger after all other nobody_page unshelved (begins_with_none ledger.drained) refl)
           (λ k q away at_k. each_set (λ n p. n ≢ other → IsPage ledger after all n p) pages place new (λ _. mine its)
           (λ n p off is other_than. others n p other_than is its) k q at_k away);
     }
@@ -412,16 +392,10 @@ lends place page keeps queued pages (ledger, shelf, kept) at =
     let after : Shelf = record shelf { place = last } in (
       ledger,
       after,
-      record {
-        are_records = kept.are_records;
-        unseated = kept.unseated;
-        ordered = kept.ordered;
-        each = each_push (IsPage ledger after all) (set pages place left) (journal_page page.entries)
-            (nobody ledger after all last (journal_page page.entries) refl (λ _. (refl, (old.2 keeps).1)) (begins_with_none ledger.drained))
-            (each_set (IsPage ledger after all) pages place left (old.0, old.1, λ no. absurd (false≢true no), old.3)
-            (λ other p off is. let was = kept.each other p is in
-            (was.0, was.1, λ too. absurd (off (sym (was.2 too).0 ∙ (old.2 keeps).0)), was.3)));
-      },
+      forked ledger ledger shelf after all pages place left (journal_page page.entries) kept kept.are_records kept.unseated kept.ordered
+          (old.0, old.1, unshelved, old.3)
+          (of_nobody ledger after all last (journal_page page.entries) (λ _. (refl, (old.2 keeps).1)) (begins_with_none ledger.drained) refl)
+          (λ other p off was. (was.0, was.1, λ too. absurd (off (sym (was.2 too).0 ∙ (old.2 keeps).0)), was.3)),
     )
 
 -- they come to one
@@ -455,40 +429,32 @@ commits-entry place page entry holder keeps deciding queued pages (ledger, shelf
     let count : count_of entry.cpu shelf.entries + 1 ≡ page.commits + 1 = ap (λ n. n + 1) mine.4 in (
       ledger,
       after,
-      record {
-        are_records = kept.are_records;
-        unseated = kept.unseated;
-        ordered = ordered-committed shelf.entries all entry kept.ordered called;
-        each = each_push (IsPage ledger after all) (set pages place left) right
-            (nobody ledger after all last right refl (λ _. (refl, ap (λ (es : List JournalEntry). es ++ entry ∷ []) (old.2 keeps).1)) (begins_with_none ledger.drained))
-            (each_set (IsPage ledger after all) pages place left (
-              λ cpu is_cpu. subst (λ c. IsCpuPage ledger entries all c place left) (same_cpu page entry.cpu cpu holder is_cpu) (
-                mine.0,
-                mine.1,
-                mine.2,
-                mine.3,
-                count-push_own shelf.entries entry ∙ count,
-                subst (λ n. IsAt (Committed entry.given) entry.cpu n entries all) count (IsAt-own shelf.entries all entry),
-              ),
-              λ scribe. absurd (scribe_no_cpu page entry.cpu scribe holder),
-              λ no. absurd (false≢true no),
-              old.3,
-            )
-            (λ other p off is. let was = kept.each other p is in (
-              λ cpu is_cpu.
-                  let its = was.0 cpu is_cpu in (
-                    its.0,
-                    its.1,
-                    its.2,
-                    its.3,
-                    count-push_other cpu shelf.entries entry (λ same. off (sym its.1 ∙ ap ledger.seat (sym same) ∙ mine.1)) ∙ its.4,
-                    IsAt-committed shelf.entries all entry p.stage cpu p.commits its.5,
-                  ),
-              was.1,
-              λ too. absurd (off (sym (was.2 too).0 ∙ (old.2 keeps).0)),
-              was.3,
-            )));
-      },
+      forked ledger ledger shelf after all pages place left right kept kept.are_records kept.unseated
+          (ordered-committed shelf.entries all entry kept.ordered called)
+          (of_cpu ledger after all place left unshelved old.3 entry.cpu holder (
+            mine.0,
+            mine.1,
+            mine.2,
+            mine.3,
+            count-push_own shelf.entries entry ∙ count,
+            subst (λ n. IsAt (Committed entry.given) entry.cpu n entries all) count (IsAt-own shelf.entries all entry),
+          ))
+          (of_nobody ledger after all last right (λ _. (refl, ap (λ (es : List JournalEntry). es ++ entry ∷ []) (old.2 keeps).1))
+          (begins_with_none ledger.drained) refl)
+          (λ other p off was. (
+            λ cpu is_cpu.
+                let its = was.0 cpu is_cpu in (
+                  its.0,
+                  its.1,
+                  its.2,
+                  its.3,
+                  count-push_other cpu shelf.entries entry (λ same. off (sym its.1 ∙ ap ledger.seat (sym same) ∙ mine.1)) ∙ its.4,
+                  IsAt-committed shelf.entries all entry p.stage cpu p.commits its.5,
+                ),
+            was.1,
+            λ too. absurd (off (sym (was.2 too).0 ∙ (old.2 keeps).0)),
+            was.3,
+          )),
     )
 
 pub commits : (place : ℕ) (page : Page) (said_cpu cpu : ℕ) (said given : Reply) (command : Command) → said_cpu ≡ cpu → said ≡ given → page.holder ≡ Cpu cpu

@@ -1,18 +1,8 @@
 -- Where all CPUs' parts together are as long as their lists, each part is the whole list.
-use Rattle.std.proofs.Common.{◌≡◌, ◌≢◌, ℕ, zero, suc, ◌+◌, ◌<◌, ◌≤◌, List, [], ◌∷◌, ◌++◌, length, Bool, true, false, eqb, if◌then◌else◌, get_or, Some, None, refl, arith, sym, ap, ◌∙◌, append-nil, subst, ⊎_elim}
-use Rattle.std.specs.List.{AllByRecursion}
-use Rattle.std.specs.Prelude.{slice_get}
-use Rattle.std.proofs.lemmas.List.{length-append, length_push, nil_from_length}
+use Rattle.event_queue.proofs.Common.{◌≡◌, ◌≢◌, ℕ, zero, suc, ◌+◌, ◌<◌, ◌≤◌, List, [], ◌∷◌, ◌++◌, length, Bool, true, false, eqb, if◌then◌else◌, get_or, Some, None, refl, arith, sym, ap, ◌∙◌, append-nil, subst, ⊎_elim, AllByRecursion, slice_get, length-append, length_push, nil_from_length, cases_eq, none-some, same_Some, IsPrefix, Event, IsEvent, cpu_of, subhistory_of, subhistory_of-push_same, cpu_below, CpuView, AreBegun, AreWhole, count_recorded}
 use Rattle.std.proofs.lemmas.List.Sums.{sum_by-cons}
-use Rattle.std.proofs.lemmas.Bool.{cases_eq}
-use Rattle.std.proofs.lemmas.Option.{none-some, same_Some, slice_get_cases}
-use mathlib.Core.List.{IsPrefix}
-use Rattle.rmm_spec.specs.declared.event.Event.{Event}
-use Rattle.rmm_spec.specs.HistoryText.{IsEvent, cpu_of, subhistory_of}
+use Rattle.std.proofs.lemmas.Option.{slice_get_cases}
 use Rattle.rmm_spec.proofs.Places.{subhistory_of-same}
-use Rattle.rmm_spec.proofs.Records.{subhistory_of-push_same}
-use Rattle.history.proofs.SubhistoryLaws.{cpu_below}
-use Rattle.event_queue.specs.View.{CpuView, AreBegun, AreWhole, count_recorded}
 
 -- ---- the parts together
 

@@ -1,14 +1,13 @@
 -- The rule of the queue, over what it holds and the pages of all passes.
-use Rattle.std.specs.Prelude.{⊤, ◌≡◌, ℕ, suc, ◌<◌, ◌≤◌, true, List, [], ◌++◌, Some, slice_get}
+use Rattle.std.specs.Prelude.{⊤, ◌≡◌, ℕ, suc, ◌<◌, ◌≤◌, true, List, [], ◌++◌}
 use mathlib.Core.List.{IsPrefix}
 use mathlib.Core.Option.{some}
 use lib.ListN.{get_elem?}
-use Rattle.rmm_spec.specs.declared.command.Command.{Command}
 use Rattle.rmm_spec.specs.declared.event.Event.{Event}
 use Rattle.rmm_spec.specs.HistoryText.{subhistory_of}
 use Rattle.rmm_spec.specs.Linearization.{IsCalled}
 use Rattle.rmm_spec.specs.Run.{JournalEntry}
-use Rattle.world_laws.proofs.Recorded.{AreRecorded}
+use Rattle.world_laws.proofs.Recorded.{AreRecorded, HasCommitted}
 use Rattle.event_queue.specs.Numbered.{count_of, numbered}
 use Rattle.event_queue.specs.Pages.{Page, Cpu, Scribe}
 use Rattle.event_queue.specs.Records.{AreRecords}
@@ -32,9 +31,7 @@ pub record Shelf : Type 0 where
 abbrev pub IsAt : Stage → ℕ → ℕ → List JournalEntry → List Event → Type 0
 IsAt Idle cpu commits entries all = ⊤
 IsAt (Open command) cpu commits entries all = (place : ℕ) × IsCalled all place cpu commits command
-IsAt (Committed given) cpu commits entries all =
-    (number : ℕ) × (index : ℕ) × (command : Command) × (suc number ≡ commits)
-    × (slice_get (numbered entries) index ≡ Some (record { cpu = cpu; number = number; command = command; given = given }))
+IsAt (Committed given) cpu commits entries all = (number : ℕ) × (suc number ≡ commits) × HasCommitted (numbered entries) cpu number given
 
 -- the one page of a CPU has the CPU's part of all events, and counts its commits
 abbrev pub IsCpuPage : Ledger → List JournalEntry → List Event → ℕ → ℕ → Page → Type 0

@@ -1,7 +1,9 @@
 pub mod Calls
 pub mod Counts
+pub mod Four
 pub mod GoodLines
 pub mod Lines
 pub mod Owners
-pub mod Refusals
+pub mod Tags
 pub mod TextLines
+pub mod Ways

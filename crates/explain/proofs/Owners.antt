@@ -6,6 +6,7 @@ use Rattle.std.proofs.lemmas.List.{length-append}
 use Rattle.std.proofs.lemmas.Option.{none-some, same_Some, slice_get_within}
 use Rattle.checker.proofs.Elements.{slice_get-append_left, slice_get_push}
 use Rattle.rmm_spec.specs.Lookup.{is_granule}
+use Rattle.rmm_spec.specs.Ownership.{IsTied}
 use Rattle.rmm_spec.specs.State.{State}
 use Rattle.spec_machine.specs.declared.owner_report.OwnerRow.{OwnerRow}
 use Rattle.spec_machine.specs.Report.{AddsOwners, owner_rows}
@@ -36,22 +37,35 @@ slice_get-owner_rows s owner (suc n) k within = elim (cases_lt k n) [
       (slice_get_push (owner_rows s owner n) (owner_row s owner n) ∙ ap (λ (x : ℕ). Some (owner_row s owner x)) same)
 ]
 
+-- a row is that of its place
+pub is_row-owner_rows : (s : State) (rows : List OwnerRow) (k : ℕ) (row : OwnerRow) (report : AddsOwners s [] rows)
+    → slice_get rows k ≡ Some row → (k < s.config.granules) × (owner_row s report.0 k ≡ row)
+is_row-owner_rows s rows k row report is_row =
+    let owner = report.0 in
+    let rows_are : rows ≡ owner_rows s owner s.config.granules = report.2 in
+    let counted : length rows ≡ s.config.granules = ap (λ (xs : List OwnerRow). length xs) rows_are ∙ length-owner_rows s owner s.config.granules in
+    let within : k < s.config.granules = omega (arith, slice_get_within rows k row is_row, counted) in
+    let here : Some (owner_row s owner k) ≡ Some row =
+    sym (slice_get-owner_rows s owner s.config.granules k within) ∙ ap (λ (xs : List OwnerRow). slice_get xs k) (sym rows_are) ∙ is_row in
+    (within, same_Some (owner_row s owner k) row here)
+
+-- a row of a realm's granule says how the state ties it to the realm
+pub IsTied-owner_rows : (s : State) (rows : List OwnerRow) (k : ℕ) (row : OwnerRow) (realm : ℕ) → AddsOwners s [] rows
+    → slice_get rows k ≡ Some row → row.realm ≡ Some realm → IsTied row.tag s row.granule realm
+IsTied-owner_rows s rows k row realm report is_row of_realm =
+    let same = (is_row-owner_rows s rows k row report is_row).1 in
+    subst (λ (r : OwnerRow). IsTied r.tag s r.granule realm) same
+    ((report.1 (k * 4096) realm).0 (ap (λ (r : OwnerRow). r.realm) same ∙ of_realm))
+
 -- a granule's row has its tag
 pub tag-owner_rows : (s : State) (rows : List OwnerRow) (granule : ℕ) (row : OwnerRow) → AddsOwners s [] rows → granule % 4096 ≡ 0
     → slice_get rows (granule / 4096) ≡ Some row → IsTrue (is_granule s.config.granules granule) × (s.tag granule ≡ row.tag)
 tag-owner_rows s rows granule row report aligned is_row =
     let place = granule / 4096 in
-    let owner = report.0 in
-    let rows_are : rows ≡ owner_rows s owner s.config.granules = report.2 in
-    let all = length-owner_rows s owner s.config.granules in
-    let counted : length rows ≡ s.config.granules = ap (λ (xs : List OwnerRow). length xs) rows_are ∙ all in
-    let within : place < s.config.granules = omega (arith, slice_get_within rows place row is_row, counted) in
-    let at : place * 4096 ≡ granule = omega (arith, aligned) in
-    let here : Some (owner_row s owner place) ≡ Some row =
-    sym (slice_get-owner_rows s owner s.config.granules place within) ∙ ap (λ (xs : List OwnerRow). slice_get xs place) (sym rows_are) ∙ is_row in
-    let same : owner_row s owner place ≡ row = same_Some (owner_row s owner place) row here in (
-      subst (λ (g : ℕ). IsTrue (is_granule s.config.granules g)) at (granule_placed s.config.granules place within),
-      ap s.tag (sym at) ∙ ap (λ (r : OwnerRow). r.tag) same,
+    let here = is_row-owner_rows s rows place row report is_row in
+    let at : place * 4096 ≡ granule = omega (arith, aligned) in (
+      subst (λ (g : ℕ). IsTrue (is_granule s.config.granules g)) at (granule_placed s.config.granules place here.0),
+      ap s.tag (sym at) ∙ ap (λ (r : OwnerRow). r.tag) here.1,
     )
 
 -- what has no row is no granule

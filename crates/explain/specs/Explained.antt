@@ -21,9 +21,9 @@ use Rattle.told.specs.declared.flaw.Flaw.TheVariants as flaw
 use Rattle.told.specs.declared.flaw.Misplaced.{Misplaced}
 use Rattle.told.specs.declared.flaw.Misplaced.TheVariants as misplaced
 use Rattle.bad_lines.specs.Wrong.{IsCertificateLine, IsEventLine, IsHeader, IsHeaderOf, IsWrong}
-use Rattle.told.specs.declared.explanation.Refusal.{Refusal}
+use Rattle.told.specs.declared.explanation.RefusedLine.{RefusedLine}
 use Rattle.told.specs.declared.explanation.Summary.{Summary}
-use Rattle.explain.specs.Failing.{IsConditionOf, IsFailing}
+use Rattle.explain.specs.Facts.{AreFacts}
 use Rattle.explain.specs.Told.{IsTold, NamesAt, is_call}
 pub use Rattle.told.specs.Verdict.{reason_of, verdict_of}
 
@@ -35,18 +35,17 @@ IsEarlier history lines step earlier =
     NamesAt lines earlier.step earlier.call.cpu earlier.call.number × IsTold history.events earlier.call × (earlier.step < step)
 
 -- The line claims the reply of the call, and the specified answer is the machine's in the state that the lines before lead to.
-pub record IsRefusal (history : History) (lines : List Line) (step : ℕ) (refusal : Refusal) : Type 0 where
+pub record IsRefused (history : History) (lines : List Line) (step : ℕ) (refused : RefusedLine) : Type 0 where
   pub index : ℕ
   pub counted : step ≡ index + 1
   pub line : Line
   pub is_line : slice_get lines index ≡ Some line
-  pub claims : IsReplyOf history.events line refusal.claimed
+  pub claims : IsReplyOf history.events line refused.claimed
   pub old : State
   pub before : Passes history (take index lines) old
-  pub specifies : refusal.specified ≡ outcome old refusal.call.cpu (call_of refusal.call.call.command)
-  pub fails : IsFailing old (call_of refusal.call.call.command) refusal.condition
-  pub status : IsConditionOf old refusal.call.cpu (call_of refusal.call.call.command) refusal.specified refusal.condition
-  pub changed : IfSome refusal.changed (IsEarlier history lines step)
+  pub specifies : refused.specified ≡ outcome old refused.call.cpu (call_of refused.call.call.command)
+  pub facts : AreFacts old refused.call.cpu (call_of refused.call.call.command) refused.specified refused.facts
+  pub changed : IfSome refused.changed (IsEarlier history lines step)
 
 -- of the line that fails, and of the calls that it is about
 abbrev pub IsCause : Cause → History → List Line → ℕ → Type 0
@@ -58,8 +57,8 @@ IsCause (cause.Order call earlier other) history lines step =
     NamesAt lines step call.cpu call.number × IsTold history.events call
     × NamesAt lines earlier other.cpu other.number × (earlier < step) × IsTold history.events other
     × ReturnsBefore history.events call.cpu call.number other.cpu other.number
-IsCause (cause.Reply refusal) history lines step =
-    NamesAt lines step refusal.call.cpu refusal.call.number × IsTold history.events refusal.call × IsRefusal history lines step refusal
+IsCause (cause.Reply refused) history lines step =
+    NamesAt lines step refused.call.cpu refused.call.number × IsTold history.events refused.call × IsRefused history lines step refused
 IsCause (cause.Missing call) history lines step = IsTold history.events call
 
 -- the machine's CPUs, and the owners in the state to which all lines lead

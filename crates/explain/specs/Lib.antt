@@ -1,5 +1,4 @@
-pub mod OwnRows
 pub mod Told
-pub mod Failing
+pub mod Facts
 pub mod Explained
 pub mod Run

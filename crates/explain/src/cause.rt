@@ -15,7 +15,8 @@ ghost use Rattle.spec_machine.specs.View.{state_of};
 
 use crate::changed::{last_change, part_read};
 use crate::earlier::{called_by, line_made_after, line_naming};
-use crate::failing::{failing_condition, farthest_end};
+use crate::facts::facts_of;
+use crate::farthest::farthest_end;
 use crate::named_call::named_call;
 use certificate::{Certificate, LineRef};
 use checker::Reason;
@@ -24,7 +25,7 @@ use rmi_view::copied_reply;
 use rmm_spec::Reply;
 use spec_machine::Machine;
 use std::alloc::{AllocError, Global};
-use told::{Cause, Refusal};
+use told::{Cause, RefusedLine};
 
 /// Why the step fails, with the calls that it is about. The machine is as the lines before the step leave it.
 pub(crate) fn cause_of(
@@ -166,17 +167,17 @@ fn refused(
     let (cpu, number) = called_by(line);
     let call = named_call(history, cpu, number);
     let specified = machine.outcome(cpu, &call.call.command);
-    let condition = failing_condition(alloc, machine, cpu, &call.call.command, &specified)?;
-    let changed = match part_read(&condition, &call.call.command) {
+    let facts = facts_of(alloc, machine, cpu, &call.call.command, &specified)?;
+    let changed = match part_read(&call.call.command, &specified, facts) {
         Some(part) => last_change(alloc, history, certificate, index, part)?,
         None => None,
     };
-    Ok(Cause::Reply(Refusal {
+    Ok(Cause::Reply(RefusedLine {
         call,
         claimed: claimed_by(history, line),
         farthest: farthest_end(machine, cpu, &specified),
         specified,
-        condition,
+        facts,
         changed,
     }))
 }

@@ -4,15 +4,17 @@ ghost use Rattle.std.specs.Prelude.{◌+◌, ◌<◌, ◌≤◌, length, IfOk, I
 ghost use Rattle.explain.specs.Explained.{IsEarlier};
 
 use crate::earlier::called_by;
+use crate::walks::walk_of;
 use certificate::{Certificate, LineRef};
 use history::History;
 use rmi_view::{CommandRef, ReplyRef};
 use rmm_spec::{
-    Accepted, Change, Command, EntryChange, RealmChange, RealmUpdate, RecChange, Stretch,
+    Accepted, Call, Change, Command, Condition, EntryChange, RealmChange, RealmUpdate, RecChange,
+    Refusal, Stretch,
 };
 use spec_machine::Machine;
 use std::alloc::{AllocError, Global};
-use told::{Condition, EarlierStep, NamedCall, entry_size};
+use told::{EarlierStep, Facts, NamedCall, entry_size};
 
 /// A part of the state that a condition reads.
 #[derive(Clone, Copy)]
@@ -24,27 +26,48 @@ pub(crate) enum Part {
     Entry { rd: u64, ipa: u64 },
 }
 
-/// The part that decides a command's condition, where it is one part.
-pub(crate) fn part_read(condition: &Condition, command: &Command) -> Option<Part> {
-    match *condition {
-        Condition::Tag {
+/// The part for which a command is refused, where it is one part.
+pub(crate) fn part_read(
+    command: &Command,
+    specified: &Result<Accepted, Refusal>,
+    facts: Facts,
+) -> Option<Part> {
+    let Err(refusal) = *specified else {
+        return None;
+    };
+    match facts {
+        Facts::Tag {
             granule,
             found: Some(_),
             ..
         } => Some(Part::Tag { granule }),
-        Condition::VmidUsed { vmid } => Some(Part::Vmid { vmid }),
-        Condition::RealmNotNew { rd } => Some(Part::Realm { rd }),
-        Condition::RealmHasRec { rec, .. }
-        | Condition::RecRuns { rec }
-        | Condition::RecNotReady { rec }
-        | Condition::RecOfOtherRealm { rec, .. } => Some(Part::Rec { rec }),
-        Condition::WalkEnds { ipa, .. }
-        | Condition::EntryIsTable { ipa, .. }
-        | Condition::EntryIsNoTable { ipa, .. }
-        | Condition::Entry { ipa, .. }
-        | Condition::NoRoom { base: ipa, .. } => {
-            let rd = command.words.first()?;
-            Some(Part::Entry { rd: *rd, ipa })
+        Facts::Vmid { vmid } => Some(Part::Vmid { vmid }),
+        Facts::Rec { rec } => Some(Part::Rec { rec }),
+        _ => named_part(&command.call(), refusal),
+    }
+}
+
+// The part that the command's words name.
+fn named_part(call: &Call, refusal: Refusal) -> Option<Part> {
+    match (refusal, *call) {
+        (
+            Refusal::Realm(Condition::RealmState, _),
+            Call::RealmActivate { rd }
+            | Call::RecCreate { rd, .. }
+            | Call::DataCreate { rd, .. }
+            | Call::RttInitRipas { rd, .. },
+        ) => Some(Part::Realm { rd }),
+        (
+            Refusal::Rec(_),
+            Call::RecEnter { rec } | Call::RecDestroy { rec } | Call::RttSetRipas { rec, .. },
+        ) => Some(Part::Rec { rec }),
+        (Refusal::Rtt(Condition::RttLive | Condition::OwnAlike, _), _) => None,
+        (Refusal::Rtt(_, _), _) => {
+            let way = walk_of(call)?;
+            Some(Part::Entry {
+                rd: way.rd,
+                ipa: way.ipa,
+            })
         }
         _ => None,
     }

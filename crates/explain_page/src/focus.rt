@@ -1,7 +1,7 @@
 //! What a picture points at.
 
 use crate::calls::CallId;
-use explain::{Cause, Explanation, NamedCall, Refusal};
+use explain::{Cause, Explanation, NamedCall, RefusedLine};
 
 /// How a call is drawn.
 #[derive(Clone, Copy)]
@@ -57,7 +57,7 @@ fn of_cause(step: u64, cause: &Cause) -> Focus {
             of_calls(step, call, None)
         }
         Cause::Order { call, other, .. } => of_calls(step, call, Some(id_of(other))),
-        Cause::Reply(refusal) => of_calls(step, &refusal.call, behind(refusal)),
+        Cause::Reply(refused) => of_calls(step, &refused.call, behind(refused)),
     }
 }
 
@@ -69,8 +69,8 @@ fn of_calls(last_step: u64, failing: &NamedCall, cause: Option<CallId>) -> Focus
     }
 }
 
-fn behind(refusal: &Refusal) -> Option<CallId> {
-    match &refusal.changed {
+fn behind(refused: &RefusedLine) -> Option<CallId> {
+    match &refused.changed {
         Some(earlier) => Some(id_of(&earlier.call)),
         None => None,
     }

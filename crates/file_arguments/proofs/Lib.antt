@@ -1,2 +1,1 @@
-mod Commands
 mod Refused

@@ -1,12 +1,10 @@
 -- The command line of `rmmexplain`.
-use Rattle.std.specs.Prelude.{◌≡◌, ◌⊎◌, ⊤, List, [], ◌∷◌, Some, None, codes, option_map}
-use Rattle.file_arguments.specs.Arguments.{command_of, option_rule}
+use Rattle.std.specs.Prelude.{◌≡◌, List, [], ◌∷◌, Some, None, codes, option_map}
+use Rattle.file_arguments.specs.Arguments.{AskForNothing, AsksFor, command_of, option_rule}
 use Rattle.file_arguments.specs.declared.parsing.Refusal.{Refusal}
-use Rattle.file_arguments.specs.declared.parsing.Refusal.TheVariants.{Shown, Arguments, NoMemory}
 use Rattle.file_arguments.specs.declared.report.Report.{Report}
 use Rattle.file_arguments.specs.declared.report.Report.TheVariants.{Run, Scenario}
-use Rattle.clap.specs.Words.{App, IsAmong, Row, Text, fault_of, first_of, matches_of, new_rule}
-use Rattle.clap.specs.declared.error.kind.ErrorKind.TheVariants.{DisplayHelp, DisplayVersion}
+use Rattle.clap.specs.Words.{App, Row, Text, first_of, new_rule}
 
 abbrev pub report_command : App
 report_command = command_of (codes "rmmexplain")
@@ -25,14 +23,10 @@ IsReport rows (Scenario file) =
     × (first_of (codes "HISTORY") rows ≡ None)
     × (first_of (codes "CERT") rows ≡ None)
 
--- clap finds no fault in the arguments, and their values fill this form
-pub record AsksForReport (arguments : List Text) (report : Report) : Type 0 where
-  pub no_fault : fault_of report_command arguments ≡ []
-  pub is_report : IsReport (matches_of report_command arguments) report
+-- the arguments ask for this report
+abbrev pub AsksForReport : List Text → Report → Type 0
+AsksForReport arguments report = AsksFor report_command IsReport arguments report
 
 -- the arguments ask for help or the version, or for no report
 abbrev pub AskForNoReport : List Text → Refusal → Type 0
-AskForNoReport arguments (Shown text) =
-    IsAmong DisplayHelp (fault_of report_command arguments) ⊎ IsAmong DisplayVersion (fault_of report_command arguments)
-AskForNoReport arguments (Arguments text) = (report : Report) → AsksForReport arguments report → ⊥
-AskForNoReport arguments NoMemory = ⊤
+AskForNoReport arguments refusal = AskForNothing report_command IsReport arguments refusal

@@ -1,14 +1,12 @@
 -- The command line of `rmmfind`.
-use Rattle.std.specs.Prelude.{◌≡◌, ◌⊎◌, ⊤, ◌<◌, ◌^◌, ℕ, List, [], ◌∷◌, Option, Some, None, true, false, codes, Bool}
+use Rattle.std.specs.Prelude.{◌≡◌, ◌<◌, ◌^◌, ℕ, List, [], ◌∷◌, Option, Some, None, true, false, codes, Bool}
 use Rattle.std.specs.Str.Parse.{IsNumeral, digits_value, without_leading_plus}
-use Rattle.file_arguments.specs.Arguments.{command_of, option_rule}
+use Rattle.file_arguments.specs.Arguments.{AskForNothing, AsksFor, command_of, option_rule}
 use Rattle.file_arguments.specs.declared.parsing.Refusal.{Refusal}
-use Rattle.file_arguments.specs.declared.parsing.Refusal.TheVariants.{Shown, Arguments, NoMemory}
 use Rattle.file_arguments.specs.declared.search.Search.{Search}
-use Rattle.clap.specs.Words.{App, IsAmong, Row, Rule, Text, fault_of, first_of, matches_of, new_rule, one_of}
+use Rattle.clap.specs.Words.{App, Row, Rule, Text, first_of, new_rule, one_of}
 use Rattle.clap.specs.declared.builder.action.ArgAction.TheVariants.{SetTrue}
 use Rattle.clap.specs.declared.builder.value_parser.ValueParser.TheVariants.{Unsigned}
-use Rattle.clap.specs.declared.error.kind.ErrorKind.TheVariants.{DisplayHelp, DisplayVersion}
 
 -- a number that 64 bits hold
 abbrev pub limit_rule : Rule
@@ -41,14 +39,10 @@ IsSearch rows search =
     × IsFlag (one_of (codes "explain") rows) search.explained
     × (first_of (codes "HISTORY") rows ≡ Some search.history.now)
 
--- clap finds no fault in the arguments, and their values are this search's
-pub record AsksForSearch (arguments : List Text) (search : Search) : Type 0 where
-  pub no_fault : fault_of search_command arguments ≡ []
-  pub is_search : IsSearch (matches_of search_command arguments) search
+-- the arguments ask for this search
+abbrev pub AsksForSearch : List Text → Search → Type 0
+AsksForSearch arguments search = AsksFor search_command IsSearch arguments search
 
 -- the arguments ask for help or the version, or for no search
 abbrev pub AskForNoSearch : List Text → Refusal → Type 0
-AskForNoSearch arguments (Shown text) =
-    IsAmong DisplayHelp (fault_of search_command arguments) ⊎ IsAmong DisplayVersion (fault_of search_command arguments)
-AskForNoSearch arguments (Arguments text) = (search : Search) → AsksForSearch arguments search → ⊥
-AskForNoSearch arguments NoMemory = ⊤
+AskForNoSearch arguments refusal = AskForNothing search_command IsSearch arguments refusal

@@ -1,9 +1,9 @@
 //! What `clap` makes of arguments.
 
-ghost use Rattle.std.specs.Prelude.{◌≡◌, [], IfOk, IfErr, OnOk, true, false, map, option_map, string_bytes};
-ghost use Rattle.clap.specs.Words.{app_of, fault_of, first_of, found_of, is_simple, is_simple_and_free};
+ghost use Rattle.std.specs.Prelude.{◌≡◌, List, [], IfErr, IfNone, IfOk, IfSome, OnOk, true, false, map, option_map, string_bytes};
+ghost use Rattle.clap.specs.Words.{App, Row, app_of, fault_of, first_of, found_of, is_simple, is_simple_and_free};
 ghost use Rattle.clap.specs.Words.{kind_of, matches_of, new_rule, rows_of, rule_of};
-ghost use Rattle.file_arguments.specs.Arguments.{IsNoForm, IsRefusalOf, IsRefusedBy, option_rule};
+ghost use Rattle.file_arguments.specs.Arguments.{AskForNothing, AsksFor, IsNoForm, IsRefusalOf, option_rule};
 ghost use Rattle.file_arguments.specs.declared.parsing.Refusal.TheVariants.{NoMemory};
 
 use clap::error::ErrorKind;
@@ -29,19 +29,56 @@ impl From<AllocError> for Refusal {
     }
 }
 
-/// The values that the arguments give, of which the first is the program's name.
-pub(crate) fn parsed<'a>(
+/// A form that the values of a program's arguments may fill.
+pub(crate) trait Form<'a>: Sized {
+    /// The command line.
+    ghost app: { App };
+
+    /// The values fill this form.
+    ghost is_asked: { List Row → Self → Type 0 };
+
+    /// What is printed where `clap` finds no fault and the values fill no form.
+    const NO_FORM: &'static str;
+
+    /// The command line with its help, in which no argument has a rule on another. `version` is printed after the program's name.
+    fn command(alloc: Global, version: &'a str) -> Result<Command<'a>, AllocError>
+        ensures app { IfOk result (λ command. app_of command ≡ app) }
+        ensures simple { is_simple app ≡ true }
+        ensures free { is_simple_and_free app ≡ true };
+
+    /// The form that the values fill.
+    fn from_values(matches: &ArgMatches<'a>) -> Option<Self>
+        ensures some { IfSome result (is_asked (rows_of (found_of matches.now))) }
+        ensures none { IfNone result ((asked : Self) → is_asked (rows_of (found_of matches.now)) asked → ⊥) };
+}
+
+/// What the arguments ask for, of which the first is the program's name.
+pub(crate) fn asked<'a, F: Form<'a>>(
     alloc: Global,
-    command: Command<'a>,
+    version: &'a str,
+    arguments: &'a [String],
+) -> Result<F, Refusal>
+    ensures found { IfOk result (AsksFor F.app F.is_asked (map string_bytes arguments.now)) }
+    ensures refused { IfErr result (AskForNothing F.app F.is_asked (map string_bytes arguments.now)) }
+{
+    let matches = parsed::<F>(alloc, version, arguments)?;
+    match F::from_values(&matches) {
+        Some(asked) => Ok(asked),
+        None => Err(no_form(alloc, F::NO_FORM)),
+    }
+}
+
+// The values that the arguments give.
+fn parsed<'a, F: Form<'a>>(
+    alloc: Global,
+    version: &'a str,
     arguments: &'a [String],
 ) -> Result<ArgMatches<'a>, Refusal>
-    requires simple { is_simple (app_of command) ≡ true }
-    requires free { is_simple_and_free (app_of command) ≡ true }
-    ensures rows { IfOk result (λ matches.
-        rows_of (found_of matches) ≡ matches_of (app_of command.entry) (map string_bytes arguments.now)) }
-    ensures accepted { OnOk result (fault_of (app_of command.entry) (map string_bytes arguments.now) ≡ []) }
-    ensures refused { IfErr result (IsRefusedBy (fault_of (app_of command.entry) (map string_bytes arguments.now))) }
+    ensures rows { IfOk result (λ matches. rows_of (found_of matches) ≡ matches_of F.app (map string_bytes arguments.now)) }
+    ensures accepted { OnOk result (fault_of F.app (map string_bytes arguments.now) ≡ []) }
+    ensures refused { IfErr result (AskForNothing F.app F.is_asked (map string_bytes arguments.now)) }
 {
+    let command = F::command(alloc, version)?;
     match command.try_get_matches_from(arguments) {
         Ok(matches) => Ok(matches),
         Err(error) => Err(refused_by(alloc, &error)),
@@ -94,8 +131,8 @@ pub(crate) fn value<'a>(matches: &ArgMatches<'a>, id: &str) -> Option<&'a str>
     matches.get_str(id)
 }
 
-/// Arguments in which `clap` finds no fault and that fill no form.
-pub(crate) fn no_form(alloc: Global, text: &str) -> Refusal
+// Arguments in which `clap` finds no fault and that fill no form.
+fn no_form(alloc: Global, text: &str) -> Refusal
     ensures { IsNoForm result }
 {
     match String::from_str(alloc, text) {

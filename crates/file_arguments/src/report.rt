@@ -1,11 +1,9 @@
 //! The command line of `rmmexplain`.
 
-ghost use Rattle.std.specs.Prelude.{◌≡◌, IfErr, IfNone, IfOk, IfSome, map, string_bytes};
-ghost use Rattle.clap.specs.Words.{app_of, found_of, rows_of};
+ghost use Rattle.std.specs.Prelude.{IfErr, IfOk, map, string_bytes};
 ghost use Rattle.file_arguments.specs.Reports.{AskForNoReport, AsksForReport, IsReport, report_command};
-ghost use Rattle.file_arguments.specs.declared.report.Report.{Report as ReportGiven};
 
-use crate::parsing::{Refusal, no_form, option_named, parsed, path_named, value};
+use crate::parsing::{Form, Refusal, asked, option_named, path_named, value};
 use clap::{ArgMatches, Command};
 use std::alloc::{AllocError, Global};
 
@@ -25,11 +23,6 @@ pub enum Report<'a> {
 
 const USAGE: &str = "rmmexplain [--html FILE] HISTORY CERT\n       rmmexplain --scenario FILE";
 
-const NO_FORM: &str =
-    "error: HISTORY and CERT are required, or --scenario FILE and nothing else\n\n\
-Usage: rmmexplain [--html FILE] HISTORY CERT\n       rmmexplain --scenario FILE\n\n\
-For more information, try '--help'.\n";
-
 /// Reads `[--html FILE] HISTORY CERT` or `--scenario FILE` after the program's name. A path that begins with a dash stands after
 /// `--`. `version` is the text that `--version` prints after the name.
 pub fn report_asked<'a>(
@@ -40,68 +33,68 @@ pub fn report_asked<'a>(
     ensures found { IfOk result (AsksForReport (map string_bytes arguments.now)) }
     ensures refused { IfErr result (AskForNoReport (map string_bytes arguments.now)) }
 {
-    let command = program(alloc, version)?;
-    let matches = parsed(alloc, command, arguments)?;
-    match report_in(&matches) {
-        Some(report) => Ok(report),
-        None => Err(no_form(alloc, NO_FORM)),
+    asked(alloc, version, arguments)
+}
+
+impl<'a> Form<'a> for Report<'a> {
+    ghost app = { report_command };
+
+    ghost is_asked = { IsReport };
+
+    const NO_FORM: &'static str =
+        "error: HISTORY and CERT are required, or --scenario FILE and nothing else\n\n\
+Usage: rmmexplain [--html FILE] HISTORY CERT\n       rmmexplain --scenario FILE\n\n\
+For more information, try '--help'.\n";
+
+    fn command(alloc: Global, version: &'a str) -> Result<Command<'a>, AllocError> {
+        let page = option_named(
+            alloc,
+            "html",
+            "FILE",
+            "Write the report to FILE, as a web page with a diagram",
+        );
+        let scenario = option_named(
+            alloc,
+            "scenario",
+            "FILE",
+            "Print what the scenario in FILE runs",
+        );
+        let history = path_named(
+            alloc,
+            "HISTORY",
+            "The history: which CPU called what, and what came back",
+        );
+        let certificate = path_named(
+            alloc,
+            "CERT",
+            "The certificate: the claimed order of the calls",
+        );
+        Command::new(alloc, "rmmexplain")
+            .version(version)
+            .about("Prints the verdict on a history and a certificate, with the reason")
+            .override_usage(USAGE)
+            .arg(page)?
+            .arg(scenario)?
+            .arg(history)?
+            .arg(certificate)
     }
-}
 
-// The command, with its help.
-fn program<'a>(alloc: Global, version: &'a str) -> Result<Command<'a>, AllocError>
-    ensures { IfOk result (λ command. app_of command ≡ report_command) }
-{
-    let page = option_named(
-        alloc,
-        "html",
-        "FILE",
-        "Write the report to FILE, as a web page with a diagram",
-    );
-    let scenario = option_named(
-        alloc,
-        "scenario",
-        "FILE",
-        "Print what the scenario in FILE runs",
-    );
-    let history = path_named(
-        alloc,
-        "HISTORY",
-        "The history: which CPU called what, and what came back",
-    );
-    let certificate = path_named(
-        alloc,
-        "CERT",
-        "The certificate: the claimed order of the calls",
-    );
-    Command::new(alloc, "rmmexplain")
-        .version(version)
-        .about("Prints the verdict on a history and a certificate, with the reason")
-        .override_usage(USAGE)
-        .arg(page)?
-        .arg(scenario)?
-        .arg(history)?
-        .arg(certificate)
-}
-
-// The form that the values fill.
-fn report_in<'a>(matches: &ArgMatches<'a>) -> Option<Report<'a>>
-    ensures some { IfSome result (IsReport (rows_of (found_of matches.now))) }
-    ensures none { IfNone result ((report : ReportGiven) → IsReport (rows_of (found_of matches.now)) report → ⊥) }
-{
-    let page = value(matches, "html");
-    let history = value(matches, "HISTORY");
-    let certificate = value(matches, "CERT");
-    match (value(matches, "scenario"), history, certificate) {
-        (None, Some(history), Some(certificate)) => Some(Report::Run {
-            page,
-            history,
-            certificate,
-        }),
-        (Some(file), None, None) => match page {
-            None => Some(Report::Scenario(file)),
-            Some(_) => None,
-        },
-        _ => None,
+    // The form that the values fill.
+    fn from_values(matches: &ArgMatches<'a>) -> Option<Report<'a>> {
+        let page = value(matches, "html");
+        let history = value(matches, "HISTORY");
+        let certificate = value(matches, "CERT");
+        match (value(matches, "scenario"), history, certificate) {
+            (None, Some(history), Some(certificate)) => Some(Report::Run {
+                page,
+                history,
+                certificate,
+            }),
+            (Some(file), None, None) => match page {
+                None => Some(Report::Scenario(file)),
+                Some(_) => None,
+            },
+            _ => None,
+        }
     }
 }

@@ -1,21 +1,17 @@
 //! The command line of `rmmfind`.
 
 ghost use Rattle.std.specs.Prelude.{◌≡◌, ℕ, IfErr, IfNone, IfOk, IfSome, codes, false, map, option_map, string_bytes};
-ghost use Rattle.clap.specs.Words.{app_of, found_of, one_of, rows_of, rule_of};
+ghost use Rattle.clap.specs.Words.{found_of, one_of, rows_of, rule_of};
 ghost use Rattle.file_arguments.specs.Searches.{AskForNoSearch, AsksForSearch, IsFlag, IsLimit, IsSearch};
 ghost use Rattle.file_arguments.specs.Searches.{explain_rule, history_rule, limit_rule, search_command};
-ghost use Rattle.file_arguments.specs.declared.search.Search.{Search as SearchGiven};
 
-use crate::parsing::{Refusal, no_form, option_named, parsed, path_named, value};
+use crate::parsing::{Form, Refusal, asked, option_named, path_named, value};
 use clap::builder::ValueParser;
 use clap::{Arg, ArgAction, ArgMatches, Command};
 use std::alloc::{AllocError, Global};
 
 /// How many steps are tried where no number is given.
 pub const LIMIT: u64 = 10_000_000;
-
-const NO_SEARCH: &str =
-    "error: HISTORY is required, and the limit is a number\n\nFor more information, try '--help'.\n";
 
 /// How a history is searched.
 #[derive(Clone, Copy)]
@@ -37,27 +33,40 @@ pub fn search_asked<'a>(
     ensures found { IfOk result (AsksForSearch (map string_bytes arguments.now)) }
     ensures refused { IfErr result (AskForNoSearch (map string_bytes arguments.now)) }
 {
-    let command = program(alloc, version)?;
-    let matches = parsed(alloc, command, arguments)?;
-    match search_in(&matches) {
-        Some(search) => Ok(search),
-        None => Err(no_form(alloc, NO_SEARCH)),
-    }
+    asked(alloc, version, arguments)
 }
 
-// The command, with its help.
-fn program<'a>(alloc: Global, version: &'a str) -> Result<Command<'a>, AllocError>
-    ensures { IfOk result (λ command. app_of command ≡ search_command) }
-{
-    let limit = limit(alloc);
-    let explain = explain(alloc);
-    let history = history(alloc);
-    Command::new(alloc, "rmmfind")
-        .version(version)
-        .about("Searches for an order of a history's calls that is a linearization")
-        .arg(limit)?
-        .arg(explain)?
-        .arg(history)
+impl<'a> Form<'a> for Search<'a> {
+    ghost app = { search_command };
+
+    ghost is_asked = { IsSearch };
+
+    const NO_FORM: &'static str =
+        "error: HISTORY is required, and the limit is a number\n\nFor more information, try '--help'.\n";
+
+    fn command(alloc: Global, version: &'a str) -> Result<Command<'a>, AllocError> {
+        Command::new(alloc, "rmmfind")
+            .version(version)
+            .about("Searches for an order of a history's calls that is a linearization")
+            .arg(limit(alloc))?
+            .arg(explain(alloc))?
+            .arg(history(alloc))
+    }
+
+    fn from_values(matches: &ArgMatches<'a>) -> Option<Search<'a>> {
+        let explained = flag(matches);
+        match (
+            limit_from(value(matches, "limit")),
+            value(matches, "HISTORY"),
+        ) {
+            (Some(limit), Some(history)) => Some(Search {
+                limit,
+                explained,
+                history,
+            }),
+            _ => None,
+        }
+    }
 }
 
 fn limit<'a>(alloc: Global) -> Arg<'a>
@@ -86,25 +95,6 @@ fn history<'a>(alloc: Global) -> Arg<'a>
 {
     let help = "The history: which CPU called what, and what came back";
     path_named(alloc, "HISTORY", help).required(true)
-}
-
-// The search that the values ask for.
-fn search_in<'a>(matches: &ArgMatches<'a>) -> Option<Search<'a>>
-    ensures some { IfSome result (IsSearch (rows_of (found_of matches.now))) }
-    ensures none { IfNone result ((search : SearchGiven) → IsSearch (rows_of (found_of matches.now)) search → ⊥) }
-{
-    let explained = flag(matches);
-    match (
-        limit_from(value(matches, "limit")),
-        value(matches, "HISTORY"),
-    ) {
-        (Some(limit), Some(history)) => Some(Search {
-            limit,
-            explained,
-            history,
-        }),
-        _ => None,
-    }
 }
 
 // The number that is given, or that of none.

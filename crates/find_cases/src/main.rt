@@ -60,7 +60,7 @@ fn outcome(alloc: Global, bytes: &[u8]) -> Result<String> {
             let text = std::str::from_utf8(line.as_slice())?;
             Ok(String::from_str(alloc, text.trim_end())?)
         }
-        Found::None => Ok(String::from_str(alloc, "none")?),
+        Found::None(_) => Ok(String::from_str(alloc, "none")?),
         Found::GaveUp(_) => Ok(String::from_str(alloc, "gave up")?),
     }
 }

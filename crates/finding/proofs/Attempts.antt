@@ -10,6 +10,7 @@ use Rattle.rmm_spec.specs.declared.accepted.Stretch.{Stretch}
 use Rattle.rmm_spec.specs.declared.command.Command.{Command}
 use Rattle.rmm_spec.specs.declared.line.Line.{Line}
 use Rattle.rmm_spec.specs.declared.line.Line.TheVariants.{Keep, Unfinished}
+use Rattle.rmm_spec.specs.declared.refusal.Refusal.{Refusal}
 use Rattle.rmm_spec.specs.declared.reply.Reply.{Reply}
 use Rattle.rmm_spec.specs.declared.reply.Reply.TheVariants as reply
 use Rattle.rmm_spec.specs.Call.{call_of}
@@ -84,7 +85,7 @@ nowhere_pending history lines cpu number pending each (Unfinished c n claimed) o
     subst (λ (x : ℕ). LeadsNowhere history (lines ++ Unfinished x n claimed ∷ [])) (sym of_cpu)
     (subst (λ (x : ℕ). LeadsNowhere history (lines ++ Unfinished cpu x claimed ∷ [])) (sym numbered) (each claimed))
 
-module _ (history : History) (lines : List Line) (state : State) (choice : Choice) (above : Option ℕ) (may : MayTry history lines state choice above) (command : Command) (answer : Result Accepted Reply) (answered : IsAnswered history choice state command answer) where
+module _ (history : History) (lines : List Line) (state : State) (choice : Choice) (above : Option ℕ) (may : MayTry history lines state choice above) (command : Command) (answer : Result Accepted Refusal) (answered : IsAnswered history choice state command answer) where
   pending : ¬ IsFinished history.events choice.cpu choice.number
   pending = pending_at history choice may.places answered.pending
 
@@ -94,7 +95,7 @@ module _ (history : History) (lines : List Line) (state : State) (choice : Choic
   claim_carries claimed entry new is_entry step =
       let one = HasOnePlaces-from_history history may.is_history in
       let same = same_command history.events one is_entry.called choice.places.called choice.cpu choice.number entry.command command is_entry.is_called answered.is_called in
-      subst (λ (a : Result Accepted Reply). CarriesOut a state claimed new) (sym answered.answered)
+      subst (λ (a : Result Accepted Refusal). CarriesOut a state claimed new) (sym answered.answered)
       (subst (λ (g : Reply). CarriesOut (outcome state choice.cpu (call_of command)) state g new) is_entry.given
       (subst (λ (m : Command). CarriesOut (outcome state choice.cpu (call_of m)) state entry.given new) same
       (subst (λ (c : ℕ). CarriesOut (outcome state c (call_of entry.command)) state entry.given new) is_entry.cpu step)))

@@ -9,3 +9,7 @@ pub mod LeftBehind
 pub mod Replayed
 pub mod KeptLaws
 pub mod Moving
+pub mod BegunLaws
+pub mod NextLines
+pub mod Rounds
+pub mod Finds

@@ -494,7 +494,7 @@ module _ (history : History) (is_history : IsHistory history) (search : Search) 
       (λ entry new is_entry step. absurd (refused entry new is_entry step)))
 
 -- a call that is given its reply makes the order longer
-Grows-given : (history : History) → IsHistory history → (lines : List Line) (state later : State) (counts : List ℕ) (from : ℕ) (choice : Choice) (line : Line)
+pub Grows-given : (history : History) → IsHistory history → (lines : List Line) (state later : State) (counts : List ℕ) (from : ℕ) (choice : Choice) (line : Line)
     → AreCounts counts lines → IsNextCall history counts from choice → cpu_named line ≡ choice.cpu → number_named line ≡ choice.number
     → IsOfItsKind history.events line → ReturnBehind history.events lines choice.places.called
     → IsGiven history.events line choice.places.called state later → Grows history lines state line later

@@ -4,6 +4,7 @@ use Rattle.rmm_spec.specs.declared.accepted.Accepted.{Accepted}
 use Rattle.rmm_spec.specs.declared.command.Command.{Command}
 use Rattle.rmm_spec.specs.declared.line.Line.{Line}
 use Rattle.rmm_spec.specs.declared.line.Line.TheVariants.{Unfinished}
+use Rattle.rmm_spec.specs.declared.refusal.Refusal.{Refusal}
 use Rattle.rmm_spec.specs.declared.reply.Reply.{Reply}
 use Rattle.rmm_spec.specs.Call.{call_of}
 use Rattle.rmm_spec.specs.CertificateText.{IsLine}
@@ -33,7 +34,7 @@ pub record MayTry (history : History) (lines : List Line) (state : State) (choic
   pub ended : EndsLeadNowhere history lines choice above
 
 -- the command is that of a call that hasn't returned, and this is what the specification answers it in the state
-pub record IsAnswered (history : History) (choice : Choice) (state : State) (command : Command) (answer : Result Accepted Reply) : Type 0 where
+pub record IsAnswered (history : History) (choice : Choice) (state : State) (command : Command) (answer : Result Accepted Refusal) : Type 0 where
   pub pending : choice.places.returned ≡ None
   pub is_called : IsCalled history.events choice.places.called choice.cpu choice.number command
   pub answered : answer ≡ outcome state choice.cpu (call_of command)

@@ -7,4 +7,7 @@ pub mod Counts
 pub mod Held
 pub mod Kept
 pub mod Search
+pub mod Begun
+pub mod Survey
 pub mod Found
+pub mod Told

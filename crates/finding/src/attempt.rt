@@ -1,8 +1,9 @@
 //! The line of a call that is tried next.
 
-ghost use Rattle.std.specs.Prelude.{◌≡◌, ◌+◌, ◌^◌, ◌<◌, ℕ, List, [], ◌∷◌, Some, None};
+ghost use Rattle.std.specs.Prelude.{◌≡◌, ◌+◌, ◌^◌, ◌<◌, ℕ, List, [], ◌∷◌, Some, None, IfSome};
 ghost use Rattle.rmm_spec.specs.declared.command.Command.{Command};
 ghost use Rattle.rmm_spec.specs.declared.line.Line.{Line};
+ghost use Rattle.rmm_spec.specs.declared.reply.Reply.{Reply};
 ghost use Rattle.rmm_spec.specs.declared.line.Line.TheVariants as line;
 ghost use Rattle.rmm_spec.specs.HistoryText.{History as Recorded};
 ghost use Rattle.rmm_spec.specs.CommandText.{IsReply};
@@ -19,7 +20,7 @@ use crate::frame::Frame;
 use arrayvec::ArrayVec;
 use history::History;
 use rmi_codec::reply_has_text;
-use rmm_spec::{Accepted, Line, Reply};
+use rmm_spec::{Accepted, Line, Refusal, Reply};
 use spec_machine::Machine;
 
 /// The next line for a call that can come next and hasn't returned, and what is tried behind it. Where its stretch may have several ends,
@@ -32,7 +33,8 @@ pub(crate) fn attempt(
 ) -> Option<Frame>
     requires places { ArePlacesOf history.now.recorded.events choice.cpu choice.number choice.places }
     requires pending { choice.places.returned ≡ None }
-    ensures { (lines : List Line) → MayTry history.now.recorded lines (state_of machine.now) choice above → IsTriedNext history.now.recorded lines choice result }
+    ensures tried { (lines : List Line) → MayTry history.now.recorded lines (state_of machine.now) choice above → IsTriedNext history.now.recorded lines choice result }
+    ensures line { IfSome result (λ frame. (claimed : Reply) × (frame.line ≡ line.Unfinished choice.cpu choice.number claimed)) }
 {
     history.well_formed();
     let Some(command) = history.command_at(choice.places.called as usize) else {
@@ -43,13 +45,14 @@ pub(crate) fn attempt(
 }
 
 /// The line of a call that hasn't returned, by what the specification answers it.
-fn claim(choice: Choice, outcome: Result<Accepted, Reply>, above: Option<u64>) -> Option<Frame>
+fn claim(choice: Choice, outcome: Result<Accepted, Refusal>, above: Option<u64>) -> Option<Frame>
     requires { rank_of choice < 2 ^ 31 }
-    ensures { (history : Recorded) (lines : List Line) (state : State) (command : Command) → IsAnswered history choice state command outcome
+    ensures tried { (history : Recorded) (lines : List Line) (state : State) (command : Command) → IsAnswered history choice state command outcome
         → MayTry history lines state choice above → IsTriedNext history lines choice result }
+    ensures line { IfSome result (λ frame. (claimed : Reply) × (frame.line ≡ line.Unfinished choice.cpu choice.number claimed)) }
 {
     match outcome {
-        Err(refusal) => Some(only_claim(choice, refusal)),
+        Err(refusal) => Some(only_claim(choice, refusal.reply())),
         Ok(Accepted::Done { words, .. }) => Some(only_claim(choice, Reply::Ok(words))),
         Ok(Accepted::Reaches(stretch)) => {
             let top = next_end(&stretch, above)?;

@@ -139,7 +139,7 @@ fn gives(history: &History, machine: &Machine, choice: Choice) -> bool
         unreachable!()
     };
     match machine.outcome(choice.cpu, &command.to_command()) {
-        Err(refusal) => reply.is(&refusal),
+        Err(refusal) => reply.is(&refusal.reply()),
         Ok(Accepted::Done { words, .. }) => reply.is(&Reply::Ok(words)),
         Ok(Accepted::Reaches(_)) => matches!(reply, ReplyRef::Ok(_)),
     }

@@ -1,21 +1,32 @@
 //! Orders found from a history alone.
 
-ghost use Rattle.std.specs.Prelude.{IfOk};
-ghost use Rattle.finding.specs.Found.{IsFound};
+ghost use Rattle.std.specs.Prelude.{IfOk, IfSome};
+ghost use Rattle.finding.specs.Found.{HasNoneUpTo, IsFound};
+ghost use Rattle.finding.specs.Search.{IsSearch, IsSearched};
 
+use crate::first_part::first_part;
+use crate::forward::{Survey, forward};
+use crate::guided::guided;
 use crate::offers::Offers;
 use crate::search::{Progress, Search};
 use certificate::Certificate;
 use history::History;
 use std::alloc::{AllocError, Global};
+use std::cmp::min;
+
+/// How many cells may be copied to name a return once it is known that there is no order.
+const TO_NAME: u64 = 2_000_000;
+
+/// How many cells may be copied to look at orders return by return, where each offer is made to a copy of a machine.
+const TO_DECIDE: u64 = 50_000_000;
 
 /// What was found of a history.
 #[derive(Drop)]
 pub enum Found {
     /// A linearization.
     Order(Certificate),
-    /// No certificate is one.
-    None,
+    /// No certificate is one; nor is one of the history that ends behind the return at the place, where it is told.
+    None(Option<u32>),
     /// Neither, within the limit: so many offers were made.
     GaveUp(Offers),
 }
@@ -26,12 +37,138 @@ pub fn find(alloc: Global, history: &History, limit: u64) -> Result<Found, Alloc
 {
     history.well_formed();
     let mut search = Search::new(alloc, history)?;
+    let soon = limit / 2;
+    let progress = search_until(&mut search, alloc, history, soon)?;
+    match progress {
+        Progress::Going => find_forward(alloc, history, search, limit),
+        Progress::Whole => {
+            let certificate = search.certificate(alloc, history)?;
+            Ok(Found::Order(certificate))
+        }
+        Progress::Exhausted => {
+            let near = offers_near(history, search.offers.count(), TO_NAME, limit);
+            let told = lost_place(alloc, &mut search.offers, history, near)?;
+            Ok(Found::None(told))
+        }
+    }
+}
+
+/// Looks for an order return by return, and then as the search does.
+fn find_forward(
+    alloc: Global,
+    history: &History,
+    search: Search,
+    limit: u64,
+) -> Result<Found, AllocError>
+    requires { IsSearch history.now.recorded search }
+    ensures { IfOk result (IsFound history.now.recorded limit) }
+{
+    history.well_formed();
+    let mut search = search;
+    let near = offers_near(history, search.offers.count(), TO_DECIDE, limit);
+    let found = forward(alloc, &mut search.offers, history, near)?;
+    match found {
+        Survey::Lost(place) => {
+            let told = told_place(alloc, &mut search.offers, history, limit, place)?;
+            Ok(Found::None(told))
+        }
+        Survey::Kept(orders) => {
+            let found = guided(alloc, history, orders.as_slice(), limit)?;
+            match found {
+                Some(certificate) => Ok(Found::Order(certificate)),
+                None => find_rest(alloc, history, search, limit),
+            }
+        }
+        Survey::Undecided => find_rest(alloc, history, search, limit),
+    }
+}
+
+/// Goes on with the search.
+fn find_rest(
+    alloc: Global,
+    history: &History,
+    search: Search,
+    limit: u64,
+) -> Result<Found, AllocError>
+    requires { IsSearch history.now.recorded search }
+    ensures { IfOk result (IsFound history.now.recorded limit) }
+{
+    history.well_formed();
+    let mut search = search;
+    let progress = search_until(&mut search, alloc, history, limit)?;
+    match progress {
+        Progress::Going => Ok(Found::GaveUp(search.offers)),
+        Progress::Whole => {
+            let certificate = search.certificate(alloc, history)?;
+            Ok(Found::Order(certificate))
+        }
+        Progress::Exhausted => Ok(Found::None(None)),
+    }
+}
+
+/// The place of the return that no order survives, where one is found within the limit.
+fn lost_place(
+    alloc: Global,
+    offers: &mut Offers,
+    history: &History,
+    limit: u64,
+) -> Result<Option<u32>, AllocError>
+    ensures { IfOk result (λ told. IfSome told (HasNoneUpTo history.now.recorded)) }
+{
+    let found = forward(alloc, offers, history, limit)?;
+    match found {
+        Survey::Lost(place) => told_place(alloc, offers, history, limit, place),
+        _ => Ok(None),
+    }
+}
+
+/// The place, where it is found once more that the history up to it has no order.
+fn told_place(
+    alloc: Global,
+    offers: &mut Offers,
+    history: &History,
+    limit: u64,
+    place: u32,
+) -> Result<Option<u32>, AllocError>
+    ensures { IfOk result (λ told. IfSome told (HasNoneUpTo history.now.recorded)) }
+{
+    let count = place as usize + 1;
+    if count > history.len() {
+        return Ok(None);
+    }
+    let Some(part) = first_part(alloc, history, count)? else {
+        return Ok(None);
+    };
+    let found = forward(alloc, offers, &part, limit)?;
+    match found {
+        Survey::Lost(_) => Ok(Some(place)),
+        _ => Ok(None),
+    }
+}
+
+/// Searches until so many offers are made.
+fn search_until(
+    search: &mut Search,
+    alloc: Global,
+    history: &History,
+    limit: u64,
+) -> Result<Progress, AllocError>
+    requires { IsSearch history.now.recorded search.old }
+    ensures { IfOk result (λ progress. IsSearched progress history.now.recorded limit search.new) }
+{
+    history.well_formed();
     'going: while search.offers.count() < limit {
         match search.step(alloc, history)? {
             Progress::Going => {}
-            Progress::Whole => return Ok(Found::Order(search.certificate(alloc, history)?)),
-            Progress::Exhausted => return Ok(Found::None),
+            ended => return Ok(ended),
         }
     }
-    Ok(Found::GaveUp(search.offers))
+    Ok(Progress::Going)
+}
+
+/// How many offers are made at the limit, or once so many more cells are copied.
+fn offers_near(history: &History, count: u64, cells: u64, limit: u64) -> u64 {
+    let granules = history.config().granules();
+    let more = cells.checked_div(granules).unwrap_or(cells);
+    min(limit, count.saturating_add(more))
 }

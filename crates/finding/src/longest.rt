@@ -63,7 +63,11 @@ fn go_until(
 }
 
 /// Takes a step, and tells whether there may be another.
-fn goes_on(search: &mut Search, alloc: Global, history: &History) -> Result<bool, AllocError>
+pub(crate) fn goes_on(
+    search: &mut Search,
+    alloc: Global,
+    history: &History,
+) -> Result<bool, AllocError>
     requires is_search { IsSearch history.now.recorded search.old }
     requires few { search.old.offers.count < 2 ^ 64 - 1 }
     ensures { IfOk result (λ goes. IsSearch history.now.recorded search.new × (IsTrue goes → GoesOn history.now.recorded search.old search.new)) }

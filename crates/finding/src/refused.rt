@@ -58,7 +58,7 @@ fn is_refused(history: &History, machine: &Machine, choice: Choice) -> bool
         unreachable!()
     };
     match machine.outcome(choice.cpu, &command.to_command()) {
-        Err(refusal) => reply.is(&refusal),
+        Err(refusal) => reply.is(&refusal.reply()),
         Ok(_) => false,
     }
 }

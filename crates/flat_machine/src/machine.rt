@@ -7,7 +7,7 @@ use crate::kept::{Kept, Spot};
 use command_rows::{Sight, answer_inside, answer_outside, reached_change};
 use granule_state::{Config, GRANULE_BYTES};
 use realm_desc::Rec;
-use rmm_spec::{Accepted, Call, Command, Entry, Reply, Tag};
+use rmm_spec::{Accepted, Call, Command, Entry, Refusal, Reply, Tag};
 use std::alloc::Global;
 use std::collections::HashMap;
 
@@ -49,7 +49,7 @@ impl FlatMachine {
         &self,
         cpu: u8,
         command: &Command,
-    ) -> Result<Result<Accepted, Reply>, FlatFault> {
+    ) -> Result<Result<Accepted, Refusal>, FlatFault> {
         let call = command.call();
         let Some(rec) = self.rec_inside(cpu) else {
             if !self.can_answer(&call) {
@@ -69,7 +69,7 @@ impl FlatMachine {
     /// Takes one step: whether the reply is the command's. Where it is, the command's change is made.
     pub fn offer(&mut self, cpu: u8, command: &Command, reply: &Reply) -> Result<bool, FlatFault> {
         let change = match self.outcome(cpu, command)? {
-            Err(refusal) => return Ok(*reply == refusal),
+            Err(refusal) => return Ok(*reply == refusal.reply()),
             Ok(Accepted::Done { words, change }) => {
                 if words_of(reply) != Some(words.as_slice()) {
                     return Ok(false);

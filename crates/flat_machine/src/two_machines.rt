@@ -5,7 +5,7 @@ use crate::machine::FlatMachine;
 use crate::walks::ENTRIES;
 use arrayvec::ArrayVec;
 use granule_state::Config;
-use rmm_spec::{Accepted, Command, Reply, Stretch};
+use rmm_spec::{Accepted, Command, Refusal, Reply, Stretch};
 use spec_machine::Machine;
 use std::alloc::{AllocError, Global};
 use table_entries::entry_size;
@@ -72,7 +72,7 @@ impl TwoMachines {
         let reply = match self.machine.outcome(cpu, command) {
             Ok(Accepted::Done { words, .. }) => Reply::Ok(words),
             Ok(Accepted::Reaches(stretch)) => return self.reach(cpu, command, &stretch),
-            Err(refusal) => refusal,
+            Err(refusal) => refusal.reply(),
         };
         self.offer(cpu, command, &reply)
     }
@@ -100,7 +100,7 @@ impl TwoMachines {
 }
 
 // Whether the outcomes have one reply, or leave the end of one stretch open.
-fn is_same(one: &Result<Accepted, Reply>, other: &Result<Accepted, Reply>) -> bool {
+fn is_same(one: &Result<Accepted, Refusal>, other: &Result<Accepted, Refusal>) -> bool {
     match (one, other) {
         (Err(one), Err(other)) => one == other,
         (Ok(Accepted::Done { words: one, .. }), Ok(Accepted::Done { words: other, .. })) => {

@@ -1,7 +1,8 @@
 //! A CPU takes and frees granules.
 
-ghost use Rattle.std.specs.Prelude.{◌≡◌, ℕ, [], false, Option, IsTrue, IfSome, IfNone};
+ghost use Rattle.std.specs.Prelude.{◌≡◌, ℕ, ◌-◌, [], false, length, slice_get, Option, IsTrue, IfSome, IfNone};
 ghost use Rattle.rmm_spec.specs.Call.{call_of};
+ghost use Rattle.rmm_spec.specs.Local.{granules_held};
 ghost use Rattle.command_core.specs.Seen.{place_of, is_held};
 ghost use Rattle.command_core.specs.Settled.{is_settled};
 ghost use Rattle.granule_lock.specs.HeldCells.{freed_cells, hold_cells};
@@ -83,6 +84,7 @@ pub fn free_all<R: Wait>(rt: &R, granules: &Granules, hold: &mut Hold)
 
 // The granule that was taken last, if any is held.
 fn last_held(hold: &Hold) -> Option<Pa>
+    ensures last { result ≡ slice_get (granules_held (hold_cells hold.now)) (length (granules_held (hold_cells hold.now)) - 1) }
     ensures some { IfSome result (λ last. IsTrue (is_held last (hold_cells hold.now))) }
     ensures none { IfNone result (hold_cells hold.now ≡ []) }
 {

@@ -7,7 +7,7 @@ use Rattle.std.proofs.lemmas.Option.{none-some}
 use Rattle.rmm_spec.specs.HistoryText.{Config}
 use Rattle.rmm_spec.specs.declared.entry.Entry.{Entry}
 use Rattle.rmm_spec.specs.State.{RealmRecord}
-use Rattle.rmm_spec.specs.Step.Words.{is_space}
+use Rattle.rmm_spec.specs.Step.Terms.{is_space}
 use Rattle.rmm_spec.specs.Walk.{entry_number, table_number, table_size, full}
 use Rattle.rmm_spec.specs.Table.{TableRecord, entry_index, place_number, covers}
 use Rattle.rmm_spec.specs.TableCells.{TableCell, table_in, is_table_at, flat_table, flat_leaf, leaf_of, with_tables, ArePlaced, LinksTo, IsOnPath, IsWalkable}

@@ -1,20 +1,20 @@
 //! Merges each recording of the folder where it runs, and prints its name and what came of it: both texts, or why there are none.
 //! What should come stands in the file `stdout` beside this crate, worked out by hand from docs/RECORDING.md.
 //! It reads every `.events` there in the order of their names. A name that ends in `prefix` is merged up to its first hole, one that
-//! ends in `two` into a history of version 2, and one that ends in `sizes` for a machine of 8 granules and 3 CPUs.
+//! ends in `two` into a history of version 2, one that ends in `sizes` for a machine of 8 granules and 3 CPUs. One that begins with `rename`
+//! is merged with names for granules: of a memory that ends at 100000 (hex) where it ends in `memory`, for 2 granules where it ends in `few`.
 //! No clause says more than that it is safe. It depends on `merging`, and nothing depends on it.
 #![tactic(auto)]
 
 use anyhow::{Context, Result};
-use merging::{Asked, Extent, Texts, merge_text};
-use std::alloc::Global;
+use devices::FileSource;
+use merging::{Asked, Extent, Renaming, SourceFault, Texts, merge_source};
 use std::fs;
 use std::rt::Files;
 
 fn main(rt: HostRuntime) -> Result<()> {
     for file in &files(&rt)? {
-        let bytes = fs::read(&rt, file.as_str()).context(file.as_str())?;
-        let outcome = outcome(rt.alloc(), file.as_str(), bytes)?;
+        let outcome = outcome(&rt, file.as_str())?;
         println!(rt; "{file}: {outcome}")?;
     }
     Ok(())
@@ -36,30 +36,59 @@ fn asked(name: &str) -> Asked {
     let is_small = name.ends_with("sizes.events");
     Asked {
         version: if name.ends_with("two.events") { 2 } else { 1 },
-        granules: if is_small { Some(8) } else { None },
+        granules: granules(name),
         cpus: if is_small { Some(3) } else { None },
         extent: if name.ends_with("prefix.events") {
             Extent::UpToHole
         } else {
             Extent::Whole
         },
+        renaming: renaming(name),
     }
 }
 
-// The history and the certificate behind a first line with the count of stamps, or the fault.
-fn outcome(alloc: Global, name: &str, bytes: Vec<u8>) -> Result<String> {
-    match merge_text(alloc, bytes, asked(name)) {
+fn granules(name: &str) -> Option<u64> {
+    if name.ends_with("sizes.events") {
+        Some(8)
+    } else if name.ends_with("few.events") {
+        Some(2)
+    } else {
+        None
+    }
+}
+
+fn renaming(name: &str) -> Option<Renaming> {
+    if !name.starts_with("rename") {
+        return None;
+    }
+    Some(Renaming {
+        memory: if name.ends_with("memory.events") {
+            0x100000
+        } else {
+            u64::MAX
+        },
+    })
+}
+
+// The history, the certificate and the map behind a first line with the count of stamps, or the fault.
+fn outcome<R: Files + AllocGlobal>(rt: &R, name: &str) -> Result<String> {
+    let alloc = rt.alloc();
+    let mut source = FileSource::new(fs::open(rt, name).context(name)?);
+    match merge_source(alloc, &mut source, asked(name)) {
         Ok(
             Texts {
                 history,
                 certificate,
+                map,
                 stamps,
             },
         ) => {
             let calls = std::str::from_utf8(history.as_slice())?;
             let commits = std::str::from_utf8(certificate.as_slice())?;
-            Ok(format!(in alloc; "{stamps} stamps\n{calls}{commits}")?)
+            let names = std::str::from_utf8(map.as_slice())?;
+            Ok(format!(in alloc; "{stamps} stamps\n{calls}{commits}{names}")?)
         }
-        Err(fault) => Ok(format!(in alloc; "{fault}")?),
+        Err(SourceFault::Events(fault)) => Ok(format!(in alloc; "{fault}")?),
+        Err(_) => Ok(String::from_str(alloc, "unread")?),
     }
 }

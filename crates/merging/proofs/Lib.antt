@@ -1,3 +1,4 @@
 mod RunLaws
 mod CountLaws
 mod StepLaws
+mod NamingLaws

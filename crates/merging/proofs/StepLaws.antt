@@ -8,7 +8,7 @@ use Rattle.rmm_spec.specs.Cell.{put}
 use Rattle.rmm_spec.specs.HistoryText.{Config, History, subhistory_of}
 use Rattle.rmm_spec.specs.declared.event.Event.{Event}
 use Rattle.rmm_spec.specs.declared.line.Line.{Line}
-use Rattle.merging.specs.Run.{Stand, start, starts, stand_at, stand_after, stands_with, CanFollow, Fits, events_of, lines_of, events_from, lines_from, returns_in, known_front}
+use Rattle.merging.specs.Run.{Stand, start, starts, stand_at, stand_after, stands_with, CanFollow, Fits, events_of, lines_of, events_from, lines_from, returns_in}
 use Rattle.merging.specs.Seen.{phase_seen, stand_seen, stands_in}
 use Rattle.merging.specs.Merge.{Walked, open_count, AreCounted, IsStep, IsWalkedTo}
 use Rattle.merging.specs.Refusals.{Refuses, IsRefusedNext, IsFaultOf}
@@ -21,46 +21,45 @@ use Rattle.merging.specs.declared.fault.MergeFault.TheVariants.{Hole, Refused, N
 -- ---- refusals
 
 -- the elements before a place, that one, and the rest
-cut_at : {X : Type 0} (xs : List X) (place : ℕ) (x : X) → slice_get xs place ≡ Some x → xs ≡ take place xs ++ x ∷ drop (place + 1) xs
+pub cut_at : {X : Type 0} (xs : List X) (place : ℕ) (x : X) → slice_get xs place ≡ Some x → xs ≡ take place xs ++ x ∷ drop (place + 1) xs
 cut_at xs place x is =
     sym (take-append-drop place xs)
     ∙ ap (λ rest. take place xs ++ rest)
     (drop-cons xs place x (slice_get_within xs place x is) ∙ (λ i. get_or_from_slice_get xs place x x is i ∷ drop (sym (add-one place) i) xs))
 
 -- a walk that is refused next
-pub IsFaultOf-next : (slots : List (Option Happened)) (stamp : ℕ) (slot : Happened) (walked : Walked) (fault : MergeFault)
-    → IsWalkedTo stamp (known_front slots) walked.history.config walked → slice_get (known_front slots) stamp ≡ Some slot → IsRefusedNext walked slot fault
-    → IsFaultOf walked.history.config.cpus slots fault
-IsFaultOf-next slots stamp slot walked (Hole at) to is refused = absurd refused
-IsFaultOf-next slots stamp slot walked (Refused line refusal) to is refused =
-    let all = known_front slots in
-    let before = take stamp all in
+pub IsFaultOf-next : (slots : List (Option Happened)) (events : List Happened) (stamp : ℕ) (slot : Happened) (walked : Walked) (fault : MergeFault)
+    → IsWalkedTo stamp events walked.history.config walked → slice_get events stamp ≡ Some slot → IsRefusedNext walked slot fault
+    → IsFaultOf walked.history.config.cpus slots events fault
+IsFaultOf-next slots events stamp slot walked (Hole at) to is refused = absurd refused
+IsFaultOf-next slots events stamp slot walked (Refused line refusal) to is refused =
+    let before = take stamp events in
     record {
       before = before;
       slot = slot;
-      later = drop (stamp + 1) all;
-      are_slots = cut_at all stamp slot is;
+      later = drop (stamp + 1) events;
+      are_slots = cut_at events stamp slot is;
       is_run = to.is_run;
       is_line = refused.0;
       refused =
           let P = λ (h : ℕ) (l : ℕ) (s : Stand). Refuses walked.history.config.cpus h l s slot refusal in
-          subst (λ (s : Stand). P (length (events_from starts before)) (length (lines_from (λ cpu. returns_in cpu all) starts before)) s)
+          subst (λ (s : Stand). P (length (events_from starts before)) (length (lines_from (λ cpu. returns_in cpu events) starts before)) s)
           (λ i. to.are_stands i slot.cpu)
           (subst (λ (n : ℕ). P (length (events_from starts before)) n (stand_at walked.stands slot.cpu)) (ap length to.are_lines)
           (subst (λ (n : ℕ). P n (length walked.lines) (stand_at walked.stands slot.cpu)) (λ i. length (to.is_history i).events) refused.1));
     }
-IsFaultOf-next slots stamp slot walked NoMemory to is refused =
-    let within = slice_get_within (known_front slots) stamp slot is in
-    let some : 0 < length (known_front slots) = omega (arith, within) in some
+IsFaultOf-next slots events stamp slot walked NoMemory to is refused =
+    let within = slice_get_within events stamp slot is in
+    let some : 0 < length events = omega (arith, within) in some
 
 -- the same of the configuration that the walk began with
-pub IsFaultOf-stopped : (slots : List (Option Happened)) (stamp : ℕ) (slot : Happened) (config : Config) (walked : Walked) (fault : MergeFault)
-    → IsWalkedTo stamp (known_front slots) config walked → slice_get (known_front slots) stamp ≡ Some slot → IsRefusedNext walked slot fault
-    → IsFaultOf config.cpus slots fault
-IsFaultOf-stopped slots stamp slot config walked fault to is refused =
+pub IsFaultOf-stopped : (slots : List (Option Happened)) (events : List Happened) (stamp : ℕ) (slot : Happened) (config : Config) (walked : Walked)
+    (fault : MergeFault) → IsWalkedTo stamp events config walked → slice_get events stamp ≡ Some slot → IsRefusedNext walked slot fault
+    → IsFaultOf config.cpus slots events fault
+IsFaultOf-stopped slots events stamp slot config walked fault to is refused =
     let same : walked.history.config ≡ config = ap (λ (h : History). h.config) to.is_history in
-    subst (λ (c : Config). IsFaultOf c.cpus slots fault) same
-    (IsFaultOf-next slots stamp slot walked fault (subst (λ c. IsWalkedTo stamp (known_front slots) c walked) (sym same) to) is refused)
+    subst (λ (c : Config). IsFaultOf c.cpus slots events fault) same
+    (IsFaultOf-next slots events stamp slot walked fault (subst (λ c. IsWalkedTo stamp events c walked) (sym same) to) is refused)
 
 -- ---- CPUs
 

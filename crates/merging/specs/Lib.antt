@@ -1,5 +1,7 @@
 pub mod Run
 pub mod Seen
+pub mod Naming
 pub mod Refusals
 pub mod Merge
 pub mod Texts
+pub mod Source

@@ -57,8 +57,8 @@ pub record IsRefused (cpus : ℕ) (slots : List Happened) (line : ℕ) (refusal 
   pub refused : Refuses cpus (length (events_from starts before)) (length (lines_from (λ cpu. returns_in cpu slots) starts before))
       (stands_after starts before slot.cpu) slot refusal
 
--- of a merge, of all that is known or of the part before the first hole
-abbrev pub IsFaultOf : ℕ → List (Option Happened) → MergeFault → Type 0
-IsFaultOf cpus slots (Hole stamp) = (stamp ≡ length (known_front slots)) × (stamp < length slots)
-IsFaultOf cpus slots (Refused line refusal) = IsRefused cpus (known_front slots) line refusal
-IsFaultOf cpus slots NoMemory = 0 < length (known_front slots)
+-- of a merge of events that are told of what is known before the first hole, of all where there is none
+abbrev pub IsFaultOf : ℕ → List (Option Happened) → List Happened → MergeFault → Type 0
+IsFaultOf cpus slots events (Hole stamp) = (stamp ≡ length (known_front slots)) × (stamp < length slots)
+IsFaultOf cpus slots events (Refused line refusal) = IsRefused cpus events line refusal
+IsFaultOf cpus slots events NoMemory = 0 < length events

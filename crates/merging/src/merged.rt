@@ -2,13 +2,16 @@
 
 ghost use Rattle.std.specs.Prelude.{◌≡◌, ◌≢◌, ℕ, ◌<◌, ◌≤◌, length, Err, IfOk, IfErr, OnOk};
 ghost use Rattle.merging.specs.Merge.{AreReturns, IsMergeOf};
+ghost use Rattle.merging.specs.Naming.{events_named};
 ghost use Rattle.merging.specs.Refusals.{IsFaultOf};
 ghost use Rattle.merging.specs.Run.{known_front};
 
 use crate::cpu::Cpu;
 use crate::fault::MergeFault;
+use crate::naming::{Naming, named};
 use crate::walk::{idle_cpus, step};
 use certificate::Certificate;
+use granule_names::Lasts;
 use history::{Config, History};
 use recorded_events::{EventTable, HappenedRef, MomentRef};
 use std::alloc::Global;
@@ -30,23 +33,26 @@ pub struct Merged {
     pub stamps: usize,
 }
 
-/// Makes a history and a certificate of what is known from stamp 0 on, for a machine of that configuration.
+/// Makes a history and a certificate of what is known from stamp 0 on, as it is told, for a machine of that configuration.
 pub fn merge(
     alloc: Global,
     table: &EventTable,
     config: Config,
     extent: Extent,
+    naming: &Naming,
 ) -> Result<Merged, MergeFault>
-    ensures merged { IfOk result (λ merged. IsMergeOf config (known_front table.now.slots) merged.history.recorded merged.certificate.lines) }
+    ensures merged { IfOk result (λ merged. IsMergeOf config (events_named naming.now config.granules (known_front table.now.slots))
+        merged.history.recorded merged.certificate.lines) }
     ensures stamps { IfOk result (λ merged. merged.stamps ≡ length (known_front table.now.slots)) }
     ensures whole { extent ≡ Extent.Whole → IfOk result (λ merged. merged.stamps ≡ length table.now.slots) }
-    ensures fault { IfErr result (IsFaultOf config.cpus table.now.slots) }
+    ensures fault { IfErr result (IsFaultOf config.cpus table.now.slots
+        (events_named naming.now config.granules (known_front table.now.slots))) }
     ensures passes { extent ≡ Extent.UpToHole → (stamp : ℕ) → result ≢ Err (MergeFault.Hole stamp) }
 {
     let front = front_of(table);
     match extent {
-        Extent::Whole => merge_whole(alloc, table, config, &front),
-        Extent::UpToHole => merge_front(alloc, table, config, &front),
+        Extent::Whole => merge_whole(alloc, table, config, &front, naming),
+        Extent::UpToHole => merge_front(alloc, table, config, &front, naming),
     }
 }
 
@@ -56,18 +62,21 @@ fn merge_whole(
     table: &EventTable,
     config: Config,
     front: &Front,
+    naming: &Naming,
 ) -> Result<Merged, MergeFault>
     requires stamps { front.now.stamps ≡ length (known_front table.now.slots) }
     requires returns { AreReturns front.now.returns (known_front table.now.slots) }
-    ensures merged { IfOk result (λ merged. IsMergeOf config (known_front table.now.slots) merged.history.recorded merged.certificate.lines) }
+    ensures merged { IfOk result (λ merged. IsMergeOf config (events_named naming.now config.granules (known_front table.now.slots))
+        merged.history.recorded merged.certificate.lines) }
     ensures stamps { IfOk result (λ merged. merged.stamps ≡ length (known_front table.now.slots)) }
     ensures whole { IfOk result (λ merged. merged.stamps ≡ length table.now.slots) }
-    ensures fault { IfErr result (IsFaultOf config.cpus table.now.slots) }
+    ensures fault { IfErr result (IsFaultOf config.cpus table.now.slots
+        (events_named naming.now config.granules (known_front table.now.slots))) }
 {
     if front.stamps < table.len() {
         return Err(MergeFault::Hole(front.stamps as u32));
     }
-    merge_front(alloc, table, config, front)
+    merge_front(alloc, table, config, front, naming)
 }
 
 /// How many stamps are known from 0 on, and how often each CPU returns at them.
@@ -122,18 +131,28 @@ fn merge_front(
     table: &EventTable,
     config: Config,
     front: &Front,
+    naming: &Naming,
 ) -> Result<Merged, MergeFault>
     requires stamps { front.now.stamps ≡ length (known_front table.now.slots) }
     requires returns { AreReturns front.now.returns (known_front table.now.slots) }
-    ensures merged { IfOk result (λ merged. IsMergeOf config (known_front table.now.slots) merged.history.recorded merged.certificate.lines) }
+    ensures merged { IfOk result (λ merged. IsMergeOf config (events_named naming.now config.granules (known_front table.now.slots))
+        merged.history.recorded merged.certificate.lines) }
     ensures stamps { IfOk result (λ merged. merged.stamps ≡ length (known_front table.now.slots)) }
-    ensures fault { IfErr result (IsFaultOf config.cpus table.now.slots) }
+    ensures fault { IfErr result (IsFaultOf config.cpus table.now.slots
+        (events_named naming.now config.granules (known_front table.now.slots))) }
     ensures no_hole { (stamp : ℕ) → result ≢ Err (MergeFault.Hole stamp) }
 {
     let mut history = History::new(alloc, config);
     let mut certificate = Certificate::new(alloc);
     let mut cpus = idle_cpus();
-    walk_along(&mut history, &mut certificate, &mut cpus, table, front)?;
+    walk_along(
+        &mut history,
+        &mut certificate,
+        &mut cpus,
+        table,
+        front,
+        naming,
+    )?;
     Ok(Merged {
         history,
         certificate,
@@ -145,30 +164,39 @@ ghost use Rattle.merging.specs.Merge.{AreCounted, IsWalkedTo};
 ghost use Rattle.merging.specs.Run.{stand_at};
 ghost use Rattle.merging.specs.Seen.{stands_in};
 
-// Takes each moment of the front.
+// Takes each moment of the front, as it is told.
 fn walk_along(
     history: &mut History,
     certificate: &mut Certificate,
     cpus: &mut [Cpu; 8],
     table: &EventTable,
     front: &Front,
+    naming: &Naming,
 ) -> Result<(), MergeFault>
-    requires begun { IsWalkedTo 0 (known_front table.now.slots) history.old.recorded.config
-        (record { history = history.old.recorded; lines = certificate.old.lines; stands = stands_in cpus.old }) }
+    requires begun { IsWalkedTo 0 (events_named naming.now history.old.recorded.config.granules (known_front table.now.slots))
+        history.old.recorded.config (record { history = history.old.recorded; lines = certificate.old.lines; stands = stands_in cpus.old }) }
     requires counted { AreCounted history.old.recorded.events (stand_at (stands_in cpus.old)) }
     requires stamps { front.now.stamps ≡ length (known_front table.now.slots) }
     requires returns { AreReturns front.now.returns (known_front table.now.slots) }
-    ensures walked { OnOk result (IsWalkedTo (length (known_front table.now.slots)) (known_front table.now.slots) history.old.recorded.config
+    ensures walked { OnOk result (IsWalkedTo (length (known_front table.now.slots))
+        (events_named naming.now history.old.recorded.config.granules (known_front table.now.slots)) history.old.recorded.config
         (record { history = history.new.recorded; lines = certificate.new.lines; stands = stands_in cpus.new })) }
-    ensures fault { IfErr result (IsFaultOf history.old.recorded.config.cpus table.now.slots) }
+    ensures fault { IfErr result (IsFaultOf history.old.recorded.config.cpus table.now.slots
+        (events_named naming.now history.old.recorded.config.granules (known_front table.now.slots))) }
     ensures no_hole { (stamp : ℕ) → result ≢ Err (MergeFault.Hole stamp) }
 {
     table.well_formed();
+    history.well_formed();
+    let size = history.config().granules();
+    let mut lasts = Lasts::new();
     for stamp in 0..front.stamps {
         let Some(slot) = table.slot(stamp) else {
             unreachable!()
         };
-        step(history, certificate, cpus, slot, &front.returns)?;
+        let mut words = [0; 10];
+        let event = named(naming, size, &mut words, &lasts, slot);
+        step(history, certificate, cpus, event, &front.returns)?;
+        lasts.take(slot);
     }
     Ok(())
 }

@@ -1,24 +1,9 @@
 -- Token and pass of a CPU, after an execution.
-use Rattle.std.proofs.Common.{◌≡◌, ℕ, ◌+◌, ◌-◌, ◌≤◌, true, false, List, [], ◌∷◌, ◌++◌, length, Some, slice_get, ◌⊎◌, inl, inr, refl, sym, ap, ◌∙◌, subst, arith}
-use Rattle.std.specs.Prelude.{Result, Ok, Err, IfOk, OnErr}
+use Rattle.monitor.proofs.Common.{◌≡◌, ◌+◌, true, [], ◌∷◌, ◌++◌, length, refl, sym, ap, ◌∙◌, subst, arith, Result, Ok, Err, IfOk, OnErr, length_push, Command, Done, Committed, CommitFault, TokenView, CpuView, MonitorView, Refused, Unrecorded, ArePaired, committed, returned, unreturned}
+use Rattle.std.proofs.Common.{◌-◌, false}
 use Rattle.std.proofs.lemmas.Bool.{false≢true}
-use Rattle.std.proofs.lemmas.List.{length_push}
-use Rattle.std.proofs.lemmas.Option.{none-some}
-use Rattle.world_laws.proofs.Lists.{slice_get-append, slice_get-push, slice_get-push_cases}
-use Rattle.rmm_spec.specs.declared.command.Command.{Command}
-use Rattle.rmm_spec.specs.declared.event.Event.{Event}
 use Rattle.rmm_spec.specs.declared.event.Event.TheVariants.{Called, Returned}
-use Rattle.rmm_spec.specs.declared.reply.Reply.{Reply}
-use Rattle.rmm_spec.specs.Linearization.{IsCalled, IsReturned}
-use Rattle.commit_tickets.specs.declared.committing.Done.{Done}
-use Rattle.commit_tickets.specs.Entries.{Committed}
-use Rattle.commit_tickets.specs.declared.fault.CommitFault.{CommitFault}
-use Rattle.commit_tickets.specs.View.{TokenView}
-use Rattle.event_queue.specs.View.{CpuView}
-use Rattle.monitor.specs.View.{MonitorView}
-use Rattle.monitor.specs.declared.refused.Refused.{Refused}
-use Rattle.monitor.specs.declared.refused.Refused.TheVariants.{Unrecorded}
-use Rattle.monitor.specs.Executed.{ArePaired, HasCommitted, HasFailed, called, committed, returned, unreturned}
+use Rattle.monitor.specs.Executed.{called, HasCommitted, HasFailed}
 
 -- ---- an execution
 

@@ -1,31 +1,19 @@
 -- What a commit on cells that were taken leaves.
-use Rattle.std.proofs.Common.{◌≡◌, ℕ, true, List, Option, sym, ap, ◌∙◌, subst}
-use Rattle.std.specs.Prelude.{Result, Ok, Err, IfOk, IfErr, OnErr, IsTrue, All}
-use Rattle.rmm_spec.specs.declared.command.Command.{Command}
+use Rattle.monitor.proofs.Common.{◌≡◌, ℕ, true, List, sym, ap, ◌∙◌, subst, Result, Ok, Err, IfOk, IfErr, OnErr, Command, Config, JournalEntry, IsRun, State, opening, place_of, hold_cells, AreGranules, Done, CommitFault, JournalView, TokenView, CpuView, Refused, Unrecorded, returned, unreturned, WereHeld, LeavesHeld, WereTaken}
+use Rattle.std.proofs.Common.{Option}
+use Rattle.std.specs.Prelude.{IsTrue, All}
 use Rattle.rmm_spec.specs.Call.{call_of}
-use Rattle.rmm_spec.specs.HistoryText.{Config}
 use Rattle.rmm_spec.specs.Local.{HeldCell}
 use Rattle.rmm_spec.specs.Lookup.{is_granule}
-use Rattle.rmm_spec.specs.Run.{JournalEntry, IsRun}
 use Rattle.rmm_spec.specs.Shape.{CpuPlace}
-use Rattle.rmm_spec.specs.State.{State, opening}
-use Rattle.command_core.specs.Seen.{place_of}
 use Rattle.command_core.specs.Settled.{is_settled}
 use Rattle.command_core.specs.Sides.{side_of}
 use Rattle.granule_lock.specs.declared.hold.Hold.{Hold}
-use Rattle.granule_lock.specs.HeldCells.{hold_cells}
-use Rattle.granule_lock.specs.Locked.{AreGranules, IsReached, locking}
-use Rattle.commit_tickets.specs.declared.committing.Done.{Done}
-use Rattle.commit_tickets.specs.declared.fault.CommitFault.{CommitFault}
+use Rattle.granule_lock.specs.Locked.{IsReached, locking}
 use Rattle.commit_tickets.specs.declared.fault.CommitFault.TheVariants.{NoMemory, Disagrees}
 use Rattle.commit_tickets.specs.Commits.{IsCommit}
-use Rattle.commit_tickets.specs.View.{JournalView, TokenView}
-use Rattle.event_queue.specs.View.{CpuView}
-use Rattle.monitor.specs.declared.refused.Refused.{Refused}
-use Rattle.monitor.specs.declared.refused.Refused.TheVariants.{Unrecorded}
 use Rattle.monitor.specs.Causes.{HadCause}
-use Rattle.monitor.specs.Executed.{refused_for, returned, unreturned}
-use Rattle.monitor.specs.Held.{WereTaken, WereHeld, LeavesHeld}
+use Rattle.monitor.specs.Executed.{refused_for}
 
 -- a run of a machine is one of the same
 pub same-run : (config other : Config) (entries : List JournalEntry) (last : State) → other ≡ config

@@ -1,16 +1,7 @@
 -- A run that is closed, or whose tokens and journal disagree.
-use Rattle.std.proofs.Common.{◌≡◌, ℕ, ◌<◌, List, length, Some, slice_get, sym, ap, subst, arith}
-use Rattle.std.specs.List.{sum_by}
-use Rattle.rmm_spec.specs.declared.event.Event.{Event}
-use Rattle.rmm_spec.specs.declared.line.Line.{Line}
-use Rattle.rmm_spec.specs.HistoryText.{Config}
+use Rattle.monitor.proofs.Common.{◌≡◌, List, length, sym, subst, sum_by, Event, Line, Config, JournalEntry, IsRun, State, opening, JournalView, TokenView, AreInOrder, lines_for, IsJournal, AreListed}
 use Rattle.rmm_spec.specs.Linearization.{IsLinearization}
-use Rattle.rmm_spec.specs.Run.{JournalEntry, IsRun}
-use Rattle.rmm_spec.specs.State.{State, opening}
-use Rattle.commit_tickets.specs.Listed.{AreListed}
-use Rattle.commit_tickets.specs.View.{JournalView, TokenView}
-use Rattle.event_queue.specs.Numbered.{AreInOrder, lines_for}
-use Rattle.monitor.specs.Closed.{IsJournal, Disagree}
+use Rattle.monitor.specs.Closed.{Disagree}
 use Rattle.monitor.proofs.Causes.{same-run}
 
 module _ (config : Config) (journal : JournalView) (last : State) (same : journal.config ≡ config)
@@ -25,9 +16,6 @@ module _ (config : Config) (journal : JournalView) (last : State) (same : journa
     unlisted = subst (λ ts. ¬ AreListed ts journal.entries) are unlisted;
   })
 
-  pub listed : AreListed compared journal.entries → AreListed tokens journal.entries
-  listed granted = subst (λ ts. AreListed ts journal.entries) are granted
-
   -- with what the queue has shown of journal and history
   pub closed : (events : List Event) (lines : List Line) → AreInOrder events journal.entries → AreListed compared journal.entries
       → lines ≡ lines_for events journal.entries → IsJournal config tokens events lines
@@ -40,6 +28,6 @@ module _ (config : Config) (journal : JournalView) (last : State) (same : journa
       last = last;
       run = record { claimed = ordered.claimed; run = same-run config journal.config journal.entries last same run };
     });
-    listed = listed granted;
+    listed = subst (λ ts. AreListed ts journal.entries) are granted;
     written = written;
   }

@@ -1,19 +1,14 @@
 -- The tokens and passes of all CPUs: as they are made, and with those of one CPU changed.
-use Rattle.std.proofs.Common.{◌≡◌, ℕ, zero, suc, ◌<◌, ◌≤◌, List, [], ◌∷◌, ◌++◌, length, set, take, drop, Some, refl, sym, ap, ◌∙◌, subst, arith, ◌⊎◌, inl, inr, ⊎_elim}
-use Rattle.std.specs.Prelude.{Result, Ok, Err, slice_get}
-use Rattle.std.proofs.lemmas.List.{length_push, length-set, take_at}
-use Rattle.std.specs.List.{sum_by}
-use Rattle.std.proofs.lemmas.List.Sums.{sum_by-cons}
-use Rattle.std.proofs.lemmas.Option.{none-some, same_Some, slice_get_within}
+use Rattle.monitor.proofs.Common.{◌≡◌, ℕ, suc, ◌<◌, ◌≤◌, List, [], ◌∷◌, ◌++◌, length, take, Some, refl, sym, ap, ◌∙◌, subst, arith, inl, inr, ⊎_elim, Result, Ok, Err, slice_get, length_push, sum_by, same_Some, slice_get_within, Command, Done, TokenView, CpuView, before_calls, MonitorView, Refused, Unrecorded, ArePaired}
+use Rattle.std.proofs.Common.{◌⊎◌, zero, get_or, set, drop}
+use Rattle.std.proofs.lemmas.Option.{none-some, slice_get-get_or}
 use Rattle.world_laws.proofs.Lists.{slice_get-append, slice_get-push, slice_get-push_cases}
-use Rattle.rmm_spec.specs.declared.command.Command.{Command}
-use Rattle.commit_tickets.specs.declared.committing.Done.{Done}
-use Rattle.commit_tickets.specs.View.{TokenView, before_commits, first_tokens}
-use Rattle.event_queue.specs.View.{CpuView, AreSeats, before_calls, count_recorded}
-use Rattle.monitor.specs.View.{MonitorView}
-use Rattle.monitor.specs.declared.refused.Refused.{Refused}
-use Rattle.monitor.specs.declared.refused.Refused.TheVariants.{Full, NoMemory, Unrecorded, Stopped, Disagrees}
-use Rattle.monitor.specs.Executed.{ArePaired, Leaves}
+use Rattle.std.proofs.lemmas.List.{length-set, take_at}
+use Rattle.std.proofs.lemmas.List.Sums.{sum_by-cons}
+use Rattle.commit_tickets.specs.View.{before_commits, first_tokens}
+use Rattle.event_queue.specs.View.{AreSeats, count_recorded}
+use Rattle.monitor.specs.declared.refused.Refused.TheVariants.{Full, NoMemory, Stopped, Disagrees}
+use Rattle.monitor.specs.Executed.{Leaves}
 use Rattle.monitor.specs.Cpus.{ArePairs, AreCpus}
 
 -- ---- as they are made
@@ -64,19 +59,14 @@ cpus-first monitor tokens passes are count each =
 
 -- ---- at the close
 
--- a place within a list has an element
-pub is_there : {X : Type 0} (xs : List X) (place : ℕ) → place < length xs → (x : X) × (slice_get xs place ≡ Some x)
-is_there [] place within = absurd (omega (arith, within))
-is_there (x ∷ xs) zero within = (x, refl)
-is_there (x ∷ xs) (suc place) within = is_there xs place (omega (arith, within))
-
 -- each pass is of the monitor's queue, and of the CPU of its place
 pub cpus-seats : (monitor : MonitorView) (tokens : List TokenView) (passes : List CpuView) → AreCpus monitor tokens passes
     → AreSeats monitor.queue passes
 cpus-seats monitor tokens passes cpus cpu pass at =
-    let token = is_there tokens cpu (omega (arith, slice_get_within passes cpu pass at, cpus.pairs.same_count)) in
-    let pair = cpus.pairs.each cpu token.0 pass token.1 at in
-    (pair.same_queue, pair.same_cpu ∙ cpus.numbered cpu token.0 token.1)
+    let token = get_or tokens cpu (before_commits cpu) in
+    let token_at = slice_get-get_or tokens cpu (before_commits cpu) (omega (arith, slice_get_within passes cpu pass at, cpus.pairs.same_count)) in
+    let pair = cpus.pairs.each cpu token pass token_at at in
+    (pair.same_queue, pair.same_cpu ∙ cpus.numbered cpu token token_at)
 
 -- the tokens together list no more commits than the passes have events
 pub commits-le : (tokens : List TokenView) (passes : List CpuView) → length passes ≡ length tokens
@@ -106,9 +96,9 @@ cpus-of_two monitor first second first_pass second_pass two pair second_pair is_
     paired_at : (cpu : ℕ) (token : TokenView) (pass : CpuView) → slice_get (first ∷ second ∷ []) cpu ≡ Some token
         → slice_get (first_pass ∷ second_pass ∷ []) cpu ≡ Some pass → ArePaired monitor token pass
     paired_at zero token pass at pass_at =
-        subst (λ t. ArePaired monitor t pass) (same_Some _ _ at) (subst (λ p. ArePaired monitor first p) (same_Some _ _ pass_at) pair)
+        subst (λ (p : TokenView × CpuView). ArePaired monitor p.0 p.1) (λ i. (same_Some first token at i, same_Some first_pass pass pass_at i)) pair
     paired_at (suc zero) token pass at pass_at =
-        subst (λ t. ArePaired monitor t pass) (same_Some _ _ at) (subst (λ p. ArePaired monitor second p) (same_Some _ _ pass_at) second_pair)
+        subst (λ (p : TokenView × CpuView). ArePaired monitor p.0 p.1) (λ i. (same_Some second token at i, same_Some second_pass pass pass_at i)) second_pair
     paired_at (suc (suc cpu)) token pass at pass_at = absurd (none-some token at)
 
     numbered_at : (cpu : ℕ) (token : TokenView) → slice_get (first ∷ second ∷ []) cpu ≡ Some token → token.cpu ≡ cpu

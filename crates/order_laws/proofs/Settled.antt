@@ -9,6 +9,7 @@ use Rattle.rmm_spec.specs.declared.command.Command.{Command}
 use Rattle.rmm_spec.specs.declared.event.Event.{Event}
 use Rattle.rmm_spec.specs.declared.line.Line.{Line}
 use Rattle.rmm_spec.specs.declared.line.Line.TheVariants.{Keep, Unfinished}
+use Rattle.rmm_spec.specs.declared.refusal.Refusal.{Refusal}
 use Rattle.rmm_spec.specs.declared.reply.Reply.{Reply}
 use Rattle.rmm_spec.specs.declared.reply.Reply.TheVariants as reply
 use Rattle.rmm_spec.specs.Call.{call_of}
@@ -84,7 +85,7 @@ same_state events places (l ∷ lines) (e ∷ es) (f ∷ fs) start one other her
     same_state events places lines es fs ran.0 one other here.1 (subst (λ (s : State). IsRun s es one) same run.2) there.1 ran.2
 
 -- a refusal changes nothing
-refusal_keeps : (answer : Result Accepted Reply) (old new : State) (given : Reply) → IsRefusal given → CarriesOut answer old given new → new ≡ old
+refusal_keeps : (answer : Result Accepted Refusal) (old new : State) (given : Reply) → IsRefusal given → CarriesOut answer old given new → new ≡ old
 refusal_keeps (Err refusal) old new given refused carried = carried.1
 refusal_keeps (Ok (accepted.Done words change)) old new given refused carried = absurd (subst IsRefusal carried.0 refused)
 refusal_keeps (Ok (accepted.Reaches stretch)) old new given refused carried = absurd (subst IsRefusal carried.1.1 refused)

@@ -1,6 +1,6 @@
 //! The laws of orders that are found from a history alone, line by line: each is the contract of a function that does nothing.
-//! It promises that an order which is begun leads nowhere where each call that can come next leads nowhere with each reply that
-//! the specification gives it, and that an order which grew so, and names each finished call, is a linearization.
+//! It promises that an order which is begun, and in which a finished call isn't yet, leads nowhere where each call that can come next leads
+//! nowhere with each reply that the specification gives it; and that an order which grew so, and names each finished call, is a linearization.
 //! An order is the lines of a certificate, and its configuration how many calls of each CPU stand in it, with the state behind them.
 //! The search for an order depends on it.
 #![tactic(auto)]

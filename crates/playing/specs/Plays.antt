@@ -1,7 +1,10 @@
 -- What playing a scenario's bytes says of its source and its sink.
-use Rattle.std.specs.Prelude.{◌≢◌, ⊤, ℕ, List, Result, Ok, Err}
+use Rattle.std.specs.Prelude.{◌≡◌, ◌≢◌, ◌⊎◌, ⊤, ℕ, ◌+◌, ◌<◌, List, ◌++◌, length, Result, Ok, Err, IfOk, IfErr}
+use Rattle.std.specs.Io.KnownBytes.{Appends}
 use Rattle.rmm_spec.specs.declared.verdict.Verdict.{Verdict}
 use Rattle.rmm_spec.specs.Scenario.{Scenario}
+use Rattle.devices.specs.Sink.{HoldsBeginning, Writing}
+use Rattle.devices.specs.Source.{Reading}
 use Rattle.devices.specs.declared.source.ReadError.{ReadError}
 use Rattle.devices.specs.declared.source.ReadError.TheVariants as of_read
 use Rattle.run_texts.specs.declared.fault.RunFault.{RunFault}
@@ -85,3 +88,26 @@ failures_of (Err (fault.Scenario refused)) = record { source = 0; sink = 0 }
 failures_of (Err fault.NoMemory) = record { source = 0; sink = 0 }
 failures_of (Err fault.Thread) = record { source = 0; sink = 0 }
 failures_of (Err fault.Disagrees) = record { source = 0; sink = 0 }
+
+-- ---- a source is played to a sink
+
+-- memory may be refused to the source, for what it gave, or once it was read to its end
+abbrev pub MayRefuse : Reading → Type 0
+MayRefuse source = source.is_refused ⊎ (((text : List ℕ) × source.given text × (0 < length text)) ⊎ source.is_ended)
+
+-- The source was read to its end before anything was written, and the sink took the text that is printed of the scenario of its bytes:
+-- all of it, a beginning of it after `Write`, and nothing after any other fault. Each fault has its cause, and each failure of a
+-- device is reported.
+pub record IsPlay (IsPrinted : Scenario → Verdict → List ℕ → Type 0) (source : Reading) (sink : Writing) (answer : Result Verdict PlayFault) : Type 0 where
+  pub read : (text : List ℕ) × source.given text
+  pub ends : OnRead answer source.is_ended
+  pub played : IfOk answer (λ verdict. (text : List ℕ) × (sink.taken_after ≡ sink.taken_before ++ text)
+      × Appends sink.held_before sink.held_after text × Plays IsPrinted source.whole verdict text)
+  pub torn : answer ≡ Err fault.Write → (verdict : Verdict) × (text : List ℕ) × Plays IsPrinted source.whole verdict text
+      × HoldsBeginning text sink.taken_before sink.taken_after sink.held_before sink.held_after
+  pub caused : IfErr answer (IsCaused source.whole)
+  pub memory : answer ≡ Err fault.NoMemory → MayRefuse source
+  pub silent : IfErr answer (λ failed. failed ≢ fault.Write → sink.taken_after ≡ sink.taken_before)
+  pub untouched : IfErr answer (λ failed. failed ≢ fault.Write → sink.held_after ≡ sink.held_before)
+  pub source_failures : source.failures_after ≡ source.failures_before + (failures_of answer).source
+  pub sink_failures : sink.failures_after ≡ sink.failures_before + (failures_of answer).sink

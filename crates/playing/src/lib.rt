@@ -1,6 +1,6 @@
-//! Plays the scenario that a source's bytes state, and writes to a sink all that is printed of it: no words and no paths.
-//! `play_turns` runs it in the world of turns, and `play_threads` on threads.
-//! It promises that the sink takes nothing before the text is whole, and that each fault but refused memory has its cause.
+//! Plays the scenario of a source's bytes, in turns (`play_turns`) or on threads (`play_threads`), and writes what is printed of it to a sink.
+//! It promises that the sink takes nothing before the text is whole, and that each fault has its cause; that of refused memory is only that
+//! the source was refused it, gave a byte or was read to its end.
 //! What a scenario's bytes are is in `scenario_text`; the texts are those of `world_runs` and `monitor_runs`, which alone waits.
 //! `scenarios` depends on it.
 #![tactic(auto)]

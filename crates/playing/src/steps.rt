@@ -3,8 +3,8 @@
 ghost use Rattle.std.specs.Prelude.{◌≡◌, ◌≢◌, ◌⊎◌, ◌+◌, ℕ, List, ◌++◌, length, IfOk, IfErr, OnOk, Err};
 ghost use Rattle.std.specs.Io.KnownBytes.{Appends};
 ghost use Rattle.devices.specs.Sink.{HoldsBeginning};
-ghost use Rattle.devices.specs.Source.{Gives, GivesWhole};
-ghost use Rattle.playing.specs.Plays.{IsCaused, IsStated, OnRead, failures_of};
+ghost use Rattle.devices.specs.Source.{Gives, GivesWhole, reading};
+ghost use Rattle.playing.specs.Plays.{IsCaused, IsStated, MayRefuse, OnRead, failures_of};
 
 use crate::fault::PlayFault;
 use devices::{Sink, Source, read_text, write_whole};
@@ -18,6 +18,7 @@ pub(crate) fn scenario_from<S: Source>(alloc: Global, source: &mut S) -> Result<
     ensures ends { OnRead result (S.is_ended source.new) }
     ensures stated { IfOk result (λ scenario. IsStated (GivesWhole S.gives (S.left source.old) source.old source.new) scenario) }
     ensures caused { IfErr result (IsCaused (GivesWhole S.gives (S.left source.old) source.old source.new)) }
+    ensures memory { result ≡ Err PlayFault.NoMemory → MayRefuse (reading S.gives S.is_ended S.left S.refuses S.failures source.old source.new) }
     ensures failures { S.failures source.new ≡ S.failures source.old + (failures_of result).source }
     ensures unwritten { IfErr result (λ fault. (fault ≢ PlayFault.Write) × (fault ≢ PlayFault.Thread) × (fault ≢ PlayFault.Disagrees)) }
 {

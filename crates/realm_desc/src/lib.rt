@@ -21,7 +21,7 @@ mod space;
 
 pub use hash_algorithm::HashAlgorithm;
 pub use pending_exit::PendingExit;
-pub use realm::Realm;
+pub use realm::{RECS, Realm};
 pub use rec::Rec;
 pub use ripas_request::RipasRequest;
 pub use rmm_spec::{RealmState, Ripas};

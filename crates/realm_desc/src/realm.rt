@@ -4,7 +4,7 @@ ghost use Rattle.std.specs.Prelude.{◌≡◌, ◌==◌, ◌&&◌, nat_lt, IsTru
 ghost use Rattle.rmm_spec.specs.declared.change.RealmUpdate.TheVariants.{Activated, TurnedOff, RecCounted};
 ghost use Rattle.rmm_spec.specs.Lookup as spec;
 ghost use Rattle.rmm_spec.specs.Change.{new_realm, realm_updated};
-ghost use Rattle.rmm_spec.specs.Step.Words.{is_space};
+ghost use Rattle.rmm_spec.specs.Step.Terms.{is_space};
 ghost use Rattle.rmm_spec.specs.Walk.{full, half, is_protected};
 ghost use Rattle.realm_desc.specs.View.{width_of, level_of, algorithm_number};
 
@@ -16,7 +16,7 @@ use rmm_spec::{FunctionId, RealmState};
 use std::marker::Model;
 
 /// How many RECs a realm can have in all.
-const RECS: u64 = 8;
+pub const RECS: u64 = 8;
 
 /// A realm, as its descriptor says (DEN0137, RD).
 #[tactic(auto, unfolding(crate::specs::View::realm_record, crate::specs::View::realm_fields))]
@@ -154,7 +154,14 @@ impl Realm {
     pub fn takes_index(&self, index: u64) -> bool
         ensures { result ≡ (index == self.now.next_index && nat_lt index 8) }
     {
-        index == u64::from(self.next_index) && index < RECS
+        self.is_next_index(index) && index < RECS
+    }
+
+    /// Whether it is the next REC's index.
+    pub fn is_next_index(&self, index: u64) -> bool
+        ensures { result ≡ (index == self.now.next_index) }
+    {
+        index == u64::from(self.next_index)
     }
 
     /// Counts and measures one REC more.

@@ -64,11 +64,11 @@ impl Rec {
         self.cpu.is_none()
     }
 
-    /// Whether it may be entered: it runs on no CPU, and is runnable.
-    pub fn can_run(&self) -> bool
-        ensures { result ≡ (is_none self.now.cpu && self.now.runnable) }
+    /// Whether it may be entered while it runs on no CPU.
+    pub fn is_runnable(&self) -> bool
+        ensures { result ≡ self.now.runnable }
     {
-        self.is_ready() && self.runnable
+        self.runnable
     }
 
     /// Whether it may give a realm call: not while an exit is pending.

@@ -11,7 +11,7 @@ pub enum Space {
 
 impl Space {
     ghost use Rattle.std.specs.Prelude.{◌≡◌, ◌↔◌, IfSome, IsSome, IsTrue};
-    ghost use Rattle.rmm_spec.specs.Step.Words.{is_space};
+    ghost use Rattle.rmm_spec.specs.Step.Terms.{is_space};
     ghost use Rattle.realm_desc.specs.View.{width_of, level_of};
 
     /// The space of that width whose root is at that level.

@@ -1,8 +1,9 @@
 -- In a state that holds the two records: what the definitions answer, and the step that an answer is.
 use Rattle.std.proofs.Common.{◌≡◌, ℕ, Bool, true, false, ◌==◌, if◌then◌else◌, not, IsTrue, refl, sym, ap, ◌∙◌, subst}
-use Rattle.std.specs.Prelude.{Ok, Err, Option, Some, None, is_none, unwrap_or}
+use Rattle.std.specs.Prelude.{Result, Ok, Err, Option, Some, None, is_none, unwrap_or}
 use Rattle.arrayvec.specs.ArrayVec.{ArrayVec}
 use Rattle.std.proofs.lemmas.Bool.{eqb-true, and_from, and_right}
+use Rattle.rmm_spec.specs.declared.accepted.Accepted.{Accepted}
 use Rattle.rmm_spec.specs.declared.accepted.Accepted.TheVariants.{Done}
 use Rattle.rmm_spec.specs.declared.call.Call.{Call}
 use Rattle.rmm_spec.specs.declared.call.Call.TheVariants as call
@@ -10,21 +11,22 @@ use Rattle.rmm_spec.specs.declared.command.Command.{Command}
 use Rattle.rmm_spec.specs.declared.change.RealmUpdate.{RealmUpdate}
 use Rattle.rmm_spec.specs.declared.change.RecUpdate.{RecUpdate}
 use Rattle.rmm_spec.specs.declared.change.RecUpdate.TheVariants.{Exited}
-use Rattle.rmm_spec.specs.declared.reply.Reply.{Reply}
+use Rattle.rmm_spec.specs.declared.condition.Condition.TheVariants.{GranState, OwnInside, OwnOutside}
+use Rattle.rmm_spec.specs.declared.refusal.Refusal.{Refusal}
+use Rattle.rmm_spec.specs.declared.refusal.Refusal.TheVariants as of
 use Rattle.rmm_spec.specs.declared.reply.Reply.TheVariants as reply
 use Rattle.rmm_spec.specs.declared.tag.Tag.TheVariants as tag
 use Rattle.rmm_spec.specs.Call.{Class, ByHost, ByRealm, ByExit, call_of, class_of}
 use Rattle.rmm_spec.specs.Change.{changed, realm_updated, rec_updated}
 use Rattle.rmm_spec.specs.Lookup.{no_realm, no_rec, has_tag, is_inside, rec_inside, realm_at, rec_at, request_of}
-use Rattle.rmm_spec.specs.Rows.{done, input_error}
+use Rattle.rmm_spec.specs.Rows.{done, reply_of}
 use Rattle.rmm_spec.specs.State.{State, RealmRecord, RecRecord}
-use Rattle.rmm_spec.specs.Step.{Step, CarriesOut, answer_of, is_placed, outcome}
-use Rattle.rmm_spec.specs.Step.Named.{named}
-use Rattle.rmm_spec.specs.Step.RealmCall.{exit_words, rec_change, rec_exit}
+use Rattle.rmm_spec.specs.Step.{Step, CarriesOut, answer_by, answer_of, is_placed, misplacement, outcome}
+use Rattle.rmm_spec.specs.Step.Terms.{named, words_of}
+use Rattle.rmm_spec.specs.Step.RealmCall.{answer_to_realm, exit_words, rec_change, rec_exit}
 use Rattle.rmm_spec.specs.Step.Rec.{rec_enter}
-use Rattle.rmm_spec.specs.Step.Words.{words_of}
 use Rattle.rmm_spec.specs.Update.{with_realm, with_rec}
-use Rattle.rec_steps.specs.Answers.{answer_at, call_row, enter_rows, change_at, realm_after, rec_after}
+use Rattle.rec_steps.specs.Answers.{answer_at, enter_rows, change_at, realm_after, rec_after}
 use Rattle.rec_steps.specs.Held.{IsHeld}
 use Rattle.rec_steps.specs.declared.step.RecStep.{RecStep}
 
@@ -88,12 +90,12 @@ step_taken s cpu address command realm rec step held is =
     subst (λ answer. CarriesOut answer s (reply.Ok step.words) new) is (refl, changed-step s address realm rec step.realm step.rec held)
 
 -- a refusal that is the definitions' leaves the records as they are
-pub step_refused : (s : State) (cpu address : ℕ) (command : Command) (realm : RealmRecord) (rec : RecRecord) (refusal : Reply)
+pub step_refused : (s : State) (cpu address : ℕ) (command : Command) (realm : RealmRecord) (rec : RecRecord) (refusal : Refusal)
     → IsHeld s address realm rec → Err refusal ≡ outcome s cpu (call_of command)
-    → Step s cpu command refusal (with_rec (with_realm s rec.owner realm) address rec)
+    → Step s cpu command (reply_of refusal) (with_rec (with_realm s rec.owner realm) address rec)
 unfolding changed
 step_refused s cpu address command realm rec refusal held is =
-    subst (λ answer. CarriesOut answer s refusal (with_rec (with_realm s rec.owner realm) address rec)) is
+    subst (λ answer. CarriesOut answer s (reply_of refusal) (with_rec (with_realm s rec.owner realm) address rec)) is
     (refl, changed-step s address realm rec None None held)
 
 -- an exit changes the REC alone
@@ -122,7 +124,7 @@ rec_enter-IsHeld s cpu address realm rec held tagged =
     let here = rec_at-held s address rec held.has_rec in
     ap (λ r. enter_rows r rec cpu address) (sym (realm_at-IsHeld s address realm rec held))
     ∙ ap (λ (r : RecRecord). enter_rows (realm_at s (rec_at s address).owner) r cpu address) (sym here)
-    ∙ when_true (has_tag s address tag.Rec) (enter_rows (realm_at s (rec_at s address).owner) (rec_at s address) cpu address) (Err input_error) tagged
+    ∙ when_true (has_tag s address tag.Rec) (enter_rows (realm_at s (rec_at s address).owner) (rec_at s address) cpu address) (Err (of.Input GranState)) tagged
 
 -- a host enters a REC from outside
 pub outcome-enter : (s : State) (cpu address : ℕ) (c : Call) → c ≡ call.RecEnter address → is_inside s cpu ≡ false
@@ -130,32 +132,36 @@ pub outcome-enter : (s : State) (cpu address : ℕ) (c : Call) → c ≡ call.Re
 unfolding outcome answer_of class_of
 outcome-enter s cpu address c is outside = rw (is, outside) refl
 
--- a REC with no exit pending is answered by its rows, and gives no host's command
-pub outcome-row : (s : State) (cpu : ℕ) (c : Call) (rec : RecRecord) → IsTrue (is_inside s cpu)
-    → s.rec (rec_inside s cpu) ≡ Some rec → is_none rec.pending ≡ true → (c ≡ call.Exit → ⊥) → call_row s (rec_inside s cpu) c ≡ outcome s cpu c
-unfolding outcome answer_of class_of call_row
-outcome-row s cpu c rec inside held free other = by c other
-  where
-    placed : is_placed s cpu ByRealm ≡ true
-    placed = and_from (is_inside s cpu) _ inside (ap (λ (r : RecRecord). is_none r.pending) (rec_at-held s (rec_inside s cpu) rec held) ∙ free)
+-- what only a realm is answered
+abbrev realms_alone : Class → Result Accepted Refusal → Result Accepted Refusal
+realms_alone ByRealm answer = answer
+realms_alone _ answer = Err (of.Misplaced OwnOutside)
 
-    by : (d : Call) → (d ≡ call.Exit → ⊥) → call_row s (rec_inside s cpu) d ≡ outcome s cpu d
-    by (call.MeasurementRead index) other = when_true (is_placed s cpu ByRealm) _ _ placed
-    by (call.MeasurementExtend index size values) other = when_true (is_placed s cpu ByRealm) _ _ placed
-    by call.RealmConfig other = when_true (is_placed s cpu ByRealm) _ _ placed
-    by (call.IpaStateSet base top ripas) other = when_true (is_placed s cpu ByRealm) _ _ placed
-    by (call.IpaStateGet ipa) other = when_true (is_placed s cpu ByRealm) _ _ placed
-    by (call.HostCall imm) other = when_true (is_placed s cpu ByRealm) _ _ placed
-    by call.CpuOff other = when_true (is_placed s cpu ByRealm) _ _ placed
-    by call.SystemOff other = when_true (is_placed s cpu ByRealm) _ _ placed
-    by call.Exit other = absurd (other refl)
-    by _ other = when_false (is_placed s cpu ByHost) _ _ (ap not inside)
+answer_to_realm-class : (s : State) (rec : ℕ) (c : Call) → realms_alone (class_of c) (answer_to_realm s rec c) ≡ answer_to_realm s rec c
+unfolding class_of answer_to_realm
+answer_to_realm-class s rec (call.GranuleDelegate granule) = refl
+answer_to_realm-class s rec _ = refl
 
 -- only Exit is given while an exit is pending
 exit_class : (c : Call) → class_of c ≡ ByExit → c ≡ call.Exit
 unfolding class_of
 exit_class call.Exit class = refl
 exit_class _ class = absurd cc
+
+-- a REC with no exit pending is answered by its rows, and gives no host's command
+pub outcome-row : (s : State) (cpu : ℕ) (c : Call) (rec : RecRecord) → IsTrue (is_inside s cpu)
+    → s.rec (rec_inside s cpu) ≡ Some rec → is_none rec.pending ≡ true → (c ≡ call.Exit → ⊥) → answer_to_realm s (rec_inside s cpu) c ≡ outcome s cpu c
+unfolding outcome answer_of
+outcome-row s cpu c rec inside held free other = sym (answer_to_realm-class s (rec_inside s cpu) c) ∙ by (class_of c) refl
+  where
+    placed : is_placed s cpu ByRealm ≡ true
+    placed = and_from (is_inside s cpu) _ inside (ap (λ (r : RecRecord). is_none r.pending) (rec_at-held s (rec_inside s cpu) rec held) ∙ free)
+
+    by : (k : Class) → class_of c ≡ k
+        → realms_alone k (answer_to_realm s (rec_inside s cpu) c) ≡ (if is_placed s cpu k then answer_by k s cpu c else Err (of.Misplaced (misplacement (is_inside s cpu) k)))
+    by ByRealm is = when_true (is_placed s cpu ByRealm) _ _ placed
+    by ByHost is = when_false (is_placed s cpu ByHost) _ _ (ap not inside)
+    by ByExit is = absurd (other (exit_class c is))
 
 pending_misplaced : (s : State) (cpu : ℕ) (rec : RecRecord) (class : Class) → IsTrue (is_inside s cpu) → s.rec (rec_inside s cpu) ≡ Some rec
     → is_none rec.pending ≡ false → (class ≡ ByExit → ⊥) → is_placed s cpu class ≡ false
@@ -166,10 +172,11 @@ pending_misplaced s cpu rec ByExit inside held waits other = absurd (other refl)
 
 -- a REC with an exit pending gives no call, and never a host's command
 pub outcome-pending : (s : State) (cpu : ℕ) (c : Call) (rec : RecRecord) → IsTrue (is_inside s cpu) → s.rec (rec_inside s cpu) ≡ Some rec
-    → is_none rec.pending ≡ false → (c ≡ call.Exit → ⊥) → Err reply.Misplaced ≡ outcome s cpu c
+    → is_none rec.pending ≡ false → (c ≡ call.Exit → ⊥) → Err (of.Misplaced (misplacement true (class_of c))) ≡ outcome s cpu c
 unfolding outcome
 outcome-pending s cpu c rec inside held waits other =
-    when_false (is_placed s cpu (class_of c)) (answer_of s cpu c) (Err reply.Misplaced)
+    ap (λ b. Err (of.Misplaced (misplacement b (class_of c)))) (sym inside)
+    ∙ when_false (is_placed s cpu (class_of c)) (answer_of s cpu c) (Err (of.Misplaced (misplacement (is_inside s cpu) (class_of c))))
     (pending_misplaced s cpu rec (class_of c) inside held waits (λ class. other (exit_class c class)))
 
 -- a REC leaves, and its host is told why
@@ -181,5 +188,5 @@ answered_exit s cpu c rec words is inside held told =
     let address = rec_inside s cpu in
     ap (λ items. Ok (done items (rec_change address Exited))) told
     ∙ ap (λ (r : RecRecord). Ok (done (exit_words (request_of r) r.pending) (rec_change address Exited))) (sym (rec_at-held s address rec held))
-    ∙ when_true (is_inside s cpu) (rec_exit s address) (Err reply.Misplaced) inside
+    ∙ when_true (is_inside s cpu) (rec_exit s address) (Err (of.Misplaced OwnInside)) inside
     ∙ ap (outcome s cpu) (sym is)

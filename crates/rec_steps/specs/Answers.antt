@@ -3,22 +3,25 @@ use Rattle.std.specs.Prelude.{◌≡◌, ℕ, Bool, true, false, not, ◌&&◌, 
 use Rattle.rmm_spec.specs.declared.accepted.Accepted.{Accepted}
 use Rattle.rmm_spec.specs.declared.accepted.Accepted.TheVariants.{Done}
 use Rattle.rmm_spec.specs.declared.call.Call.{Call}
-use Rattle.rmm_spec.specs.declared.call.Call.TheVariants.{MeasurementRead, MeasurementExtend, RealmConfig, IpaStateSet, IpaStateGet, HostCall, CpuOff, SystemOff}
+use Rattle.rmm_spec.specs.declared.call.Call.TheVariants.{IpaStateGet}
 use Rattle.rmm_spec.specs.declared.change.Change.{Change}
 use Rattle.rmm_spec.specs.declared.change.Change.TheVariants.{Unchanged, RecordsChanged}
 use Rattle.rmm_spec.specs.declared.change.RealmUpdate.{RealmUpdate}
 use Rattle.rmm_spec.specs.declared.change.RealmUpdate.TheVariants.{MeasurementExtended}
 use Rattle.rmm_spec.specs.declared.change.RecUpdate.{RecUpdate}
 use Rattle.rmm_spec.specs.declared.change.RecUpdate.TheVariants.{Entered}
+use Rattle.rmm_spec.specs.declared.condition.Condition.TheVariants as condition
+use Rattle.rmm_spec.specs.declared.refusal.Refusal.{Refusal}
+use Rattle.rmm_spec.specs.declared.refusal.Refusal.TheVariants as of
 use Rattle.rmm_spec.specs.declared.reply.Reply.{Reply}
 use Rattle.rmm_spec.specs.declared.reply.Reply.TheVariants as reply
 use Rattle.rmm_spec.specs.declared.tag.Ripas.{Ripas}
 use Rattle.rmm_spec.specs.Applicable.{IsRealmUpdate}
 use Rattle.rmm_spec.specs.Change.{realm_updated, rec_updated}
 use Rattle.rmm_spec.specs.Lookup.{request_of, is_new, is_system_off}
-use Rattle.rmm_spec.specs.Rows.{row, decided, done, realm_error, rec_error}
+use Rattle.rmm_spec.specs.Rows.{row, decided, done, realm_row, rec_row}
 use Rattle.rmm_spec.specs.State.{State, RealmRecord, RecRecord}
-use Rattle.rmm_spec.specs.Step.RealmCall.{rec_change, realm_change, measurement_read, measurement_extend, realm_config, ipa_state_set, ipa_state_get, host_call, cpu_off, system_off}
+use Rattle.rmm_spec.specs.Step.RealmCall.{rec_change, realm_change}
 use Rattle.rmm_spec.specs.Walk.{walk, entry_ripas, is_protected}
 use Rattle.realm_desc.specs.Updates.{IsRecUpdate}
 use Rattle.rec_steps.specs.declared.measurement.Extension.{Extension}
@@ -39,34 +42,23 @@ abbrev pub accepted_at : ℕ → ℕ → RecStep → Accepted
 accepted_at rd rec step = Done step.words (change_at rd rec step.realm step.rec)
 
 -- what is answered to the REC and its realm at their addresses
-abbrev pub answer_at : ℕ → ℕ → Result RecStep Reply → Result Accepted Reply
+abbrev pub answer_at : ℕ → ℕ → Result RecStep Refusal → Result Accepted Refusal
 answer_at rd rec (Ok step) = Ok (accepted_at rd rec step)
 answer_at rd rec (Err refusal) = Err refusal
 
 -- what is answered to a realm that extends a measurement by these values
-abbrev pub extension_at : ℕ → List ℕ → Result Extension Reply → Result Accepted Reply
+abbrev pub extension_at : ℕ → List ℕ → Result Extension Refusal → Result Accepted Refusal
 extension_at rd values (Ok extension) = Ok (done [] (realm_change rd (MeasurementExtended extension.index extension.size values)))
 extension_at rd values (Err refusal) = Err refusal
 
--- what a realm's call is answered by its rows, to the REC at an address
-unfoldable pub call_row : State → ℕ → Call → Result Accepted Reply
-call_row s rec (MeasurementRead index) = measurement_read s rec index
-call_row s rec (MeasurementExtend index size values) = measurement_extend s rec index size values
-call_row s rec RealmConfig = realm_config s rec
-call_row s rec (IpaStateSet base top ripas) = ipa_state_set s rec base top ripas
-call_row s rec (IpaStateGet ipa) = ipa_state_get s rec ipa
-call_row s rec (HostCall imm) = host_call s rec imm
-call_row s rec CpuOff = cpu_off s rec
-call_row s rec SystemOff = system_off s rec
-call_row s rec _ = Err reply.Misplaced
-
 -- the rows of an Enter over the two records
-abbrev pub enter_rows : RealmRecord → RecRecord → ℕ → ℕ → Result Accepted Reply
+abbrev pub enter_rows : RealmRecord → RecRecord → ℕ → ℕ → Result Accepted Refusal
 enter_rows realm rec cpu address =
     decided
-    (row (not (is_new realm)) (realm_error 0)
-    ∷ row (not (is_system_off realm)) (realm_error 1)
-    ∷ row (is_none rec.cpu && rec.runnable) rec_error
+    (realm_row condition.RealmNew (not (is_new realm))
+    ∷ row (of.Realm condition.SystemOff 1) (not (is_system_off realm))
+    ∷ rec_row condition.RecState (is_none rec.cpu)
+    ∷ rec_row condition.RecRunnable rec.runnable
     ∷ [])
     (done ((request_of rec).base ∷ []) (rec_change address (Entered cpu)))
 

@@ -13,27 +13,30 @@ ghost use Rattle.rmm_spec.specs.Update.{with_realm, with_rec};
 ghost use Rattle.rec_steps.specs.Answers.{answer_at, enter_rows, is_refusal, IsStep};
 ghost use Rattle.rec_steps.specs.Held.{IsHeld};
 
-use crate::reply::{realm_error, rec_error, reply_words};
+use crate::reply::reply_words;
 use crate::step::RecStep;
 use realm_desc::{Realm, Rec};
-use rmm_spec::{RecUpdate, Reply};
+use rmm_spec::{Condition, RecUpdate, Refusal, Reply};
 
 /// What is answered where the CPU, which is outside of RECs, is to enter the REC.
-#[tactic(auto, unfolding(rmm_spec::specs::Step::Rec::rec_enter, rmm_spec::specs::Step::Words::words_of, rmm_spec::specs::Step::Named::named))]
-pub fn answer_to_enter(realm: &Realm, rec: &Rec, cpu: u8) -> Result<RecStep, Reply>
+#[tactic(auto, unfolding(rmm_spec::specs::Step::Rec::rec_enter, rmm_spec::specs::Step::Terms::words_of, rmm_spec::specs::Step::Terms::named))]
+pub fn answer_to_enter(realm: &Realm, rec: &Rec, cpu: u8) -> Result<RecStep, Refusal>
     ensures answer { (s : State) (address : ℕ) → IsHeld s address realm.now rec.now → IsTrue (has_tag s address tag.Rec)
         → answer_at rec.now.owner address result ≡ rec_enter s cpu address }
     ensures rows { (address : ℕ) → answer_at rec.now.owner address result ≡ enter_rows realm.now rec.now cpu address }
     ensures fits { IfOk result IsStep }
 {
     if realm.is_new() {
-        return Err(realm_error(0));
+        return Err(Refusal::Realm(Condition::RealmNew, 0));
     }
     if realm.is_system_off() {
-        return Err(realm_error(1));
+        return Err(Refusal::Realm(Condition::SystemOff, 1));
     }
-    if !rec.can_run() {
-        return Err(rec_error());
+    if !rec.is_ready() {
+        return Err(Refusal::Rec(Condition::RecState));
+    }
+    if !rec.is_runnable() {
+        return Err(Refusal::Rec(Condition::RecRunnable));
     }
     Ok(RecStep {
         words: reply_words(&[rec.reached()]),
@@ -53,6 +56,6 @@ pub fn enter(realm: &mut Realm, rec: &mut Rec, cpu: u8) -> Reply
 {
     match answer_to_enter(realm, rec, cpu) {
         Ok(step) => step.apply(realm, rec),
-        Err(refusal) => refusal,
+        Err(refusal) => refusal.reply(),
     }
 }

@@ -6,8 +6,9 @@ ghost use Rattle.rmm_spec.specs.Call.{call_of};
 ghost use Rattle.rmm_spec.specs.State.{State};
 ghost use Rattle.rmm_spec.specs.Lookup.{is_inside, rec_inside, realm_at, rec_at};
 ghost use Rattle.rmm_spec.specs.Step.{Step, outcome};
+ghost use Rattle.rmm_spec.specs.Step.RealmCall.{answer_to_realm};
 ghost use Rattle.rmm_spec.specs.Update.{with_realm, with_rec};
-ghost use Rattle.rec_steps.specs.Answers.{answer_at, call_row, extension_at, is_refusal, is_read, is_walk, IsRipasRead, IsStep};
+ghost use Rattle.rec_steps.specs.Answers.{answer_at, extension_at, is_refusal, is_read, is_walk, IsRipasRead, IsStep};
 ghost use Rattle.rec_steps.specs.Held.{IsHeld};
 
 use crate::ipa_state::{ipa_state_get, ipa_state_set};
@@ -15,8 +16,9 @@ use crate::leaving::{answer_to_exit, cpu_off, host_call, system_off};
 use crate::measurement::{Extension, extension_of, measurement_extend, measurement_read};
 use crate::realm_config::config_of;
 use crate::step::RecStep;
+use command_words::{caller_of, misplacement};
 use realm_desc::{Realm, Rec};
-use rmm_spec::{Call, Command, Reply, Ripas};
+use rmm_spec::{Call, Command, Condition, Refusal, Reply, Ripas};
 
 /// The address whose entry a CPU inside the REC reads by its call, if it reads one. The RIPAS of that entry is then to be handed in.
 #[inline(always)]
@@ -43,7 +45,7 @@ pub fn answer_inside(
     rec: &Rec,
     call: &Call,
     ripas: Option<Ripas>,
-) -> Result<RecStep, Reply>
+) -> Result<RecStep, Refusal>
     requires { IsTrue (is_walk realm.now rec.now call.now) → IsTrue (is_some ripas) }
     ensures answer { (s : State) (cpu : ℕ) → IsTrue (is_inside s cpu) → IsHeld s (rec_inside s cpu) realm.now rec.now
         → IfSome ripas (IsRipasRead s rec.now.owner call.now)
@@ -54,31 +56,31 @@ pub fn answer_inside(
         return Ok(answer_to_exit(rec));
     }
     if !rec.can_call() {
-        return Err(Reply::Misplaced);
+        return Err(Refusal::Misplaced(misplacement(true, caller_of(call))));
     }
     answer_to_call(realm, call, ripas)
 }
 
 /// What is answered to a CPU inside the REC that asks for an extension of a measurement: the extension, which then is all
 /// that is done, or the refusal.
-pub fn extension_inside(rec: &Rec, index: u64, size: u64) -> Result<Extension, Reply>
+pub fn extension_inside(rec: &Rec, index: u64, size: u64) -> Result<Extension, Refusal>
     ensures { (s : State) (cpu : ℕ) (values : List ℕ) → IsTrue (is_inside s cpu) → s.rec (rec_inside s cpu) ≡ Some rec.now
         → extension_at rec.now.owner values result ≡ outcome s cpu (MeasurementExtend index size values) }
 {
     if !rec.can_call() {
-        return Err(Reply::Misplaced);
+        return Err(Refusal::Misplaced(Condition::OwnPending));
     }
     extension_of(index, size)
 }
 
 /// What is answered to a realm's call of a REC that doesn't wait to leave. Where the call reads an entry, the RIPAS is that
 /// entry's.
-#[tactic(auto, unfolding(crate::specs::Answers::call_row))]
-pub fn answer_to_call(realm: &Realm, call: &Call, ripas: Option<Ripas>) -> Result<RecStep, Reply>
+#[tactic(auto, unfolding(rmm_spec::specs::Step::RealmCall::answer_to_realm))]
+pub fn answer_to_call(realm: &Realm, call: &Call, ripas: Option<Ripas>) -> Result<RecStep, Refusal>
     requires { IsTrue (is_read realm.now call.now) → IsTrue (is_some ripas) }
     ensures answer { (s : State) (address : ℕ) → realm_at s (rec_at s address).owner ≡ realm.now
         → IfSome ripas (IsRipasRead s (rec_at s address).owner call.now)
-        → answer_at (rec_at s address).owner address result ≡ call_row s address call.now }
+        → answer_at (rec_at s address).owner address result ≡ answer_to_realm s address call.now }
     ensures fits { IfOk result IsStep }
 {
     match call {
@@ -94,7 +96,7 @@ pub fn answer_to_call(realm: &Realm, call: &Call, ripas: Option<Ripas>) -> Resul
         Call::HostCall { imm } => host_call(*imm),
         Call::CpuOff => cpu_off(),
         Call::SystemOff => system_off(),
-        _ => Err(Reply::Misplaced),
+        _ => Err(Refusal::Misplaced(Condition::OwnOutside)),
     }
 }
 
@@ -114,6 +116,6 @@ pub fn realm_call(
 {
     match answer_inside(realm, rec, &command.call(), ripas) {
         Ok(step) => step.apply(realm, rec),
-        Err(refusal) => refusal,
+        Err(refusal) => refusal.reply(),
     }
 }

@@ -12,34 +12,34 @@ ghost use Rattle.rmm_spec.specs.Step.RealmCall.{host_call, cpu_off, system_off, 
 ghost use Rattle.rmm_spec.specs.Update.{with_rec};
 ghost use Rattle.rec_steps.specs.Answers.{answer_at, IsStep};
 
-use crate::reply::{input_error, reply_words};
+use crate::reply::reply_words;
 use crate::step::RecStep;
 use arrayvec::ArrayVec;
 use realm_desc::{PendingExit, Rec};
-use rmm_spec::{RealmUpdate, RecUpdate, Reply};
+use rmm_spec::{Condition, RealmUpdate, RecUpdate, Refusal, Reply};
 use table_entries::ripas_number;
 
-#[tactic(auto, unfolding(rmm_spec::specs::Step::RealmCall::host_call, rmm_spec::specs::Step::Words::words_of, rmm_spec::specs::Step::Named::named))]
-pub(crate) fn host_call(imm: u64) -> Result<RecStep, Reply>
+#[tactic(auto, unfolding(rmm_spec::specs::Step::RealmCall::host_call, rmm_spec::specs::Step::Terms::words_of, rmm_spec::specs::Step::Terms::named))]
+pub(crate) fn host_call(imm: u64) -> Result<RecStep, Refusal>
     ensures answer { (s : State) (rd rec : ℕ) → answer_at rd rec result ≡ host_call s rec imm }
     ensures fits { IfOk result IsStep }
 {
     if imm >= 0x10000 {
-        return Err(input_error());
+        return Err(Refusal::Input(Condition::OwnImm));
     }
     Ok(RecStep::of_rec(RecUpdate::HostCalled { imm: imm as u16 }))
 }
 
-#[tactic(auto, unfolding(rmm_spec::specs::Step::RealmCall::cpu_off, rmm_spec::specs::Step::Words::words_of, rmm_spec::specs::Step::Named::named))]
-pub(crate) fn cpu_off() -> Result<RecStep, Reply>
+#[tactic(auto, unfolding(rmm_spec::specs::Step::RealmCall::cpu_off, rmm_spec::specs::Step::Terms::words_of, rmm_spec::specs::Step::Terms::named))]
+pub(crate) fn cpu_off() -> Result<RecStep, Refusal>
     ensures answer { (s : State) (rd rec : ℕ) → answer_at rd rec result ≡ cpu_off s rec }
     ensures fits { IfOk result IsStep }
 {
     Ok(RecStep::of_rec(RecUpdate::TurnedOff))
 }
 
-#[tactic(auto, unfolding(rmm_spec::specs::Step::RealmCall::system_off, rmm_spec::specs::Step::Words::words_of, rmm_spec::specs::Step::Named::named))]
-pub(crate) fn system_off() -> Result<RecStep, Reply>
+#[tactic(auto, unfolding(rmm_spec::specs::Step::RealmCall::system_off, rmm_spec::specs::Step::Terms::words_of, rmm_spec::specs::Step::Terms::named))]
+pub(crate) fn system_off() -> Result<RecStep, Refusal>
     ensures answer { (s : State) (rec : ℕ) → answer_at (rec_at s rec).owner rec result ≡ system_off s rec }
     ensures fits { IfOk result IsStep }
 {

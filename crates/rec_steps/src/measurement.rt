@@ -6,21 +6,20 @@ ghost use Rattle.rmm_spec.specs.Lookup.{realm_at, rec_at};
 ghost use Rattle.rmm_spec.specs.Step.RealmCall.{measurement_read, measurement_extend};
 ghost use Rattle.rec_steps.specs.Answers.{answer_at, extension_at, IsStep};
 
-use crate::reply::input_error;
 use crate::step::RecStep;
 use arrayvec::ArrayVec;
 use measure::{words, words8};
 use realm_desc::Realm;
-use rmm_spec::{Measurement, RealmUpdate, Reply};
+use rmm_spec::{Condition, Measurement, RealmUpdate, Refusal};
 
-#[tactic(auto, unfolding(rmm_spec::specs::Step::RealmCall::measurement_read, rmm_spec::specs::Step::Words::words_of, rmm_spec::specs::Step::Named::named))]
-pub(crate) fn measurement_read(realm: &Realm, index: u64) -> Result<RecStep, Reply>
+#[tactic(auto, unfolding(rmm_spec::specs::Step::RealmCall::measurement_read, rmm_spec::specs::Step::Terms::words_of, rmm_spec::specs::Step::Terms::named))]
+pub(crate) fn measurement_read(realm: &Realm, index: u64) -> Result<RecStep, Refusal>
     ensures answer { (s : State) (rec : ℕ) → realm_at s (rec_at s rec).owner ≡ realm.now
         → answer_at (rec_at s rec).owner rec result ≡ measurement_read s rec index }
     ensures fits { IfOk result IsStep }
 {
     if index > 4 {
-        return Err(input_error());
+        return Err(Refusal::Input(Condition::IndexBound));
     }
     match realm.measurement(index as u8) {
         Measurement::Sha256(bytes) => Ok(RecStep::read(&words(bytes))),
@@ -36,17 +35,17 @@ pub struct Extension {
 }
 
 // The extension that the words ask for.
-#[tactic(auto, unfolding(rmm_spec::specs::Step::RealmCall::measurement_extend, rmm_spec::specs::Step::Words::words_of, rmm_spec::specs::Step::Named::named))]
-pub(crate) fn extension_of(index: u64, size: u64) -> Result<Extension, Reply>
+#[tactic(auto, unfolding(rmm_spec::specs::Step::RealmCall::measurement_extend, rmm_spec::specs::Step::Terms::words_of, rmm_spec::specs::Step::Terms::named))]
+pub(crate) fn extension_of(index: u64, size: u64) -> Result<Extension, Refusal>
     ensures answer { (s : State) (rec : ℕ) (values : List ℕ)
         → extension_at (rec_at s rec).owner values result ≡ measurement_extend s rec index size values }
     ensures fits { IfOk result (λ extension. (1 ≤ extension.index) × (extension.index ≤ 4) × (extension.size ≤ 0x40)) }
 {
     if index < 1 || index > 4 {
-        return Err(input_error());
+        return Err(Refusal::Input(Condition::IndexBound));
     }
     if size < 1 || size > 0x40 {
-        return Err(input_error());
+        return Err(Refusal::Input(Condition::SizeBound));
     }
     Ok(Extension {
         index: index as u8,
@@ -54,7 +53,11 @@ pub(crate) fn extension_of(index: u64, size: u64) -> Result<Extension, Reply>
     })
 }
 
-pub(crate) fn measurement_extend(index: u64, size: u64, values: &[u64; 8]) -> Result<RecStep, Reply>
+pub(crate) fn measurement_extend(
+    index: u64,
+    size: u64,
+    values: &[u64; 8],
+) -> Result<RecStep, Refusal>
     ensures answer { (s : State) (rec : ℕ)
         → answer_at (rec_at s rec).owner rec result ≡ measurement_extend s rec index size values.now }
     ensures fits { IfOk result IsStep }

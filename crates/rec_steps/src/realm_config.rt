@@ -8,10 +8,10 @@ ghost use Rattle.rec_steps.specs.Answers.{answer_at, IsStep};
 
 use crate::step::RecStep;
 use realm_desc::Realm;
-use rmm_spec::Reply;
+use rmm_spec::Refusal;
 
-#[tactic(auto, unfolding(rmm_spec::specs::Step::RealmCall::realm_config, rmm_spec::specs::Step::Words::words_of, rmm_spec::specs::Step::Named::named, realm_desc::specs::View::realm_record))]
-pub(crate) fn config_of(realm: &Realm) -> Result<RecStep, Reply>
+#[tactic(auto, unfolding(rmm_spec::specs::Step::RealmCall::realm_config, rmm_spec::specs::Step::Terms::words_of, rmm_spec::specs::Step::Terms::named, realm_desc::specs::View::realm_record))]
+pub(crate) fn config_of(realm: &Realm) -> Result<RecStep, Refusal>
     ensures answer { (s : State) (rec : ℕ) → realm_at s (rec_at s rec).owner ≡ realm.now
         → answer_at (rec_at s rec).owner rec result ≡ realm_config s rec }
     ensures fits { IfOk result IsStep }

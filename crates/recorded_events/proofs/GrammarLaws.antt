@@ -101,14 +101,14 @@ pushed granules cpus events event text front is_text of_line room = record {
 }
 
 -- the number of the next line, counted from 1
-counted : (recording : Recording) (text : List ℕ) → IsBadLine InRecordings text (length (recording_lines recording) + 1)
+pub counted : (recording : Recording) (text : List ℕ) → IsBadLine InRecordings text (length (recording_lines recording) + 1)
     → IsBadLine InRecordings text (length recording.events + 2)
 counted recording text bad =
     let n : length (recording_lines recording) + 1 ≡ length recording.events + 2 = omega (arith, length-map recording.events recorded_parts) in
     subst (λ n. IsBadLine InRecordings text n) n bad
 
 -- what a recording takes behind the lines of another is an event, and there is room for it
-next_event : (recording : Recording) (line : List (List ℕ)) → AreRecordingLines (recording_lines recording ++ line ∷ [])
+pub next_event : (recording : Recording) (line : List (List ℕ)) → AreRecordingLines (recording_lines recording ++ line ∷ [])
     → ((event : Recorded) × IsLineOf line event) × (length recording.events < 2000000)
 next_event recording line taken =
     let other = taken.recording in

@@ -2,3 +2,4 @@ pub mod GrammarLaws
 mod SlotLaws
 mod SpellingLaws
 mod TableLaws
+mod PieceLaws

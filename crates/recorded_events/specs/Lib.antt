@@ -4,3 +4,4 @@ pub mod Word
 pub mod Table
 pub mod Slots
 pub mod Faults
+pub mod Pieces

@@ -22,8 +22,6 @@ const MOST_WORDS: usize = 10;
 pub struct EventTable {
     sizes: Config,
     count: u32,
-    // for how many events room is made at once
-    expected: usize,
     slots: Vec<Option<Slot>>,
     words: Vec<u64>,
 }
@@ -45,14 +43,13 @@ impl Model for EventTable {
 }
 
 impl EventTable {
-    /// No event yet, of which so many are expected.
-    pub(crate) fn new(alloc: Global, sizes: Config, expected: usize) -> EventTable
+    /// No event yet.
+    pub(crate) fn new(alloc: Global, sizes: Config) -> EventTable
         ensures { result ≡ record { granules = sizes.granules; cpus = sizes.cpus; count = 0; slots = [] } }
     {
         EventTable {
             sizes,
             count: 0,
-            expected,
             slots: Vec::new(alloc),
             words: Vec::new(alloc),
         }
@@ -118,7 +115,7 @@ impl EventTable {
     {
         let at = stamp as usize;
         self.words.reserve(MOST_WORDS)?;
-        grow(&mut self.slots, at + 1, self.expected)?;
+        grow(&mut self.slots, at + 1)?;
         let line = self.count + 2;
         let first = self.words.len() as u32;
         let what = keep(&mut self.words, moment);
@@ -135,16 +132,13 @@ impl EventTable {
 
 ghost use Rattle.std.specs.Prelude.{◌-◌};
 
-// Makes the slots at least so many, and room for as many as are expected.
-fn grow(slots: &mut Vec<Option<Slot>>, least: usize, expected: usize) -> Result<(), AllocError>
+// Makes the slots at least so many.
+fn grow(slots: &mut Vec<Option<Slot>>, least: usize) -> Result<(), AllocError>
     ensures ok { OnOk result (slots.new.items ≡ slots.old.items ++ replicate (least - length slots.old.items) None) }
     ensures err { OnErr result (slots.new.items ≡ slots.old.items) }
 {
     if least <= slots.len() {
         return Ok(());
-    }
-    if slots.capacity() == 0 {
-        slots.reserve_exact(expected)?;
     }
     slots.resize(least, None)
 }

@@ -53,35 +53,10 @@ fn function_spelled(bytes: u64) -> Option<FunctionId>
 
 /// How many words a function takes.
 #[inline(always)]
-#[tactic(auto, unfolding(rmm_spec::specs::Function::word_count))]
 pub fn words_of(function: FunctionId) -> usize
     ensures { result ≡ word_count function }
 {
-    match function {
-        FunctionId::RealmConfig | FunctionId::CpuOff | FunctionId::SystemOff | FunctionId::Exit =>
-            0,
-        FunctionId::GranuleDelegate
-        | FunctionId::GranuleUndelegate
-        | FunctionId::RealmActivate
-        | FunctionId::RealmDestroy
-        | FunctionId::RecDestroy
-        | FunctionId::RecEnter
-        | FunctionId::MeasurementRead
-        | FunctionId::IpaStateGet
-        | FunctionId::HostCall => 1,
-        FunctionId::DataDestroy | FunctionId::RttUnmapUnprotected => 2,
-        FunctionId::DataCreateUnknown
-        | FunctionId::RttDestroy
-        | FunctionId::RttMapUnprotected
-        | FunctionId::RttReadEntry
-        | FunctionId::RttFold
-        | FunctionId::RttInitRipas
-        | FunctionId::IpaStateSet => 3,
-        FunctionId::RttCreate | FunctionId::RttSetRipas => 4,
-        FunctionId::RealmCreate | FunctionId::RecCreate => 6,
-        FunctionId::DataCreate => 9,
-        FunctionId::MeasurementExtend => 10,
-    }
+    function.row().words
 }
 
 // The function whose number a text begins with.

@@ -1,7 +1,7 @@
 //! Replies, seen where their words lie.
 
 use crate::words::owned;
-use rmm_spec::Reply;
+use rmm_spec::{Refusal, Reply};
 
 /// A reply whose words lie elsewhere.
 #[derive(Clone, Copy)]
@@ -16,6 +16,7 @@ pub enum ReplyRef<'a> {
 
 impl<'a> ReplyRef<'a> {
     ghost use Rattle.std.specs.Prelude.{◌≡◌, ◌↔◌, IsTrue};
+    ghost use Rattle.rmm_spec.specs.Rows.{reply_of};
     ghost use Rattle.rmi_view.specs.Seen.{HasFewWords, reply_seen};
 
     pub fn of(reply: &'a Reply) -> ReplyRef<'a>
@@ -26,6 +27,17 @@ impl<'a> ReplyRef<'a> {
             Reply::Ok(words) => ReplyRef::Ok(words.as_slice()),
             Reply::Err(status, index) => ReplyRef::Err(*status, *index),
             Reply::Misplaced => ReplyRef::Misplaced,
+        }
+    }
+
+    /// What is answered for a refusal.
+    pub fn refused(refusal: Refusal) -> ReplyRef<'a>
+        ensures seen { reply_seen result ≡ reply_of refusal }
+        ensures few { HasFewWords (reply_seen result) }
+    {
+        match refusal.status() {
+            None => ReplyRef::Misplaced,
+            Some((status, index)) => ReplyRef::Err(status, index),
         }
     }
 

@@ -5,6 +5,7 @@ use Rattle.rmm_spec.specs.declared.accepted.Accepted.{Accepted}
 use Rattle.rmm_spec.specs.declared.call.Call.{Call}
 use Rattle.rmm_spec.specs.declared.call.Call.TheVariants as call
 use Rattle.rmm_spec.specs.declared.function_id.FunctionId.TheVariants as function
+use Rattle.rmm_spec.specs.declared.refusal.Refusal.{Refusal}
 use Rattle.rmm_spec.specs.declared.reply.Reply.{Reply}
 use Rattle.rmm_spec.specs.declared.tag.Tag.TheVariants.{Undelegated, Delegated}
 use Rattle.rmm_spec.specs.Call.{call_from}
@@ -16,8 +17,7 @@ use Rattle.rmm_spec.specs.Update.{with_tag}
 use Rattle.rmm_spec.specs.Walk.{table_number, entry_for, IsWalk}
 use Rattle.rmm_spec.specs.Step.{outcome, CarriesOut, Step}
 use Rattle.rmm_spec.specs.Step.Front.{with_front}
-use Rattle.rmm_spec.specs.Step.Named.{named}
-use Rattle.rmm_spec.specs.Step.Words.{is_space, words_of}
+use Rattle.rmm_spec.specs.Step.Terms.{named, is_space, words_of}
 use Rattle.rmm_spec.specs.Sound.{IsSound}
 use Rattle.rmm_spec.proofs.TagLaws.{tag-has_tag, with_tag-restored}
 use Rattle.rmm_sound.proofs.Cases.{spot_itself}
@@ -29,7 +29,7 @@ use Rattle.rmm_laws.proofs.RowLaws.{Leads, front-rest, outcome-leads}
 use Rattle.rmm_spec.proofs.Tests.{both_ways}
 
 -- what leads to a reply that accepts
-leads-accepted : (s : State) (cpu : ℕ) (c : Call) (found : Result Accepted Reply) (given : Reply) (next : State) → Leads s cpu c found → is_accepted given ≡ true
+leads-accepted : (s : State) (cpu : ℕ) (c : Call) (found : Result Accepted Refusal) (given : Reply) (next : State) → Leads s cpu c found → is_accepted given ≡ true
     → CarriesOut found s given next → AllHold (with_front s c (behind s cpu c).0) × CarriesOut (Ok (behind s cpu c).1) s given next
 leads-accepted s cpu c (Ok found) given next all accepted carried = (all.0, subst (λ a. CarriesOut (Ok a) s given next) (sym all.1) carried)
 leads-accepted s cpu c (Err refusal) given next refused accepted carried = both_ways (sym (ap is_accepted carried.0) ∙ accepted) refused
@@ -90,7 +90,7 @@ fresh-root old next cpu ipa words step below =
     let level = slice_index words 3 in
     let c = call.RealmCreate rd root width level (slice_index words 4) (slice_index words 5) in
     let carried = step-accepted old cpu c (ok []) next refl step in
-    let space = (front-rest old c _ carried.0).0.1.0 in
+    let space = (front-rest old c _ carried.0).0.1.1.0 in
     root-walk next rd ipa level root (ap (λ (s : State). s.table rd level 0) carried.1.1 ∙ rw (spot_itself rd level 0) refl) (root_number width level ipa space below)
 
 -- and so in every sound state

@@ -6,7 +6,8 @@ use Rattle.rmm_spec.specs.declared.change.Change.TheVariants.{Unchanged, Retagge
 use Rattle.rmm_spec.specs.declared.change.TagChange.{TagChange}
 use Rattle.rmm_spec.specs.declared.tag.Tag.{Tag}
 use Rattle.rmm_spec.specs.declared.tag.Tag.TheVariants.{Delegated, Rd, Data, Rtt}
-use Rattle.rmm_spec.specs.Footprint.{Part, Tags, Realms, Recs, Tables, Leaves, is_listed}
+use Rattle.rmm_spec.specs.Function.{Part, Tags, Realms, Recs, Tables, Leaves}
+use Rattle.rmm_spec.specs.Footprint.{is_listed}
 use Rattle.rmm_spec.specs.Ownership.{Claim, claim, RecParts, rec_claims}
 
 -- whether the part is listed, where something is changed in it

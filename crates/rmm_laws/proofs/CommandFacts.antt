@@ -1,6 +1,5 @@
 -- What each accepted command changes, told from its words: the one place where the laws look at commands.
-use Rattle.std.proofs.Common.{◌≡◌, ℕ, ◌+◌, ◌&&◌, true, false, slice_index, List, [], ◌∷◌, Result, Ok, Err, refl, subst}
-use Rattle.std.proofs.lemmas.Bool.{and_parts}
+use Rattle.std.proofs.Common.{◌≡◌, ℕ, ◌+◌, true, false, nat_le, slice_index, List, [], ◌∷◌, Result, Ok, Err, refl, subst}
 use Rattle.rmm_spec.specs.declared.accepted.Accepted.{Accepted}
 use Rattle.rmm_spec.specs.declared.accepted.Accepted.TheVariants.{Done, Reaches}
 use Rattle.rmm_spec.specs.declared.accepted.StretchUse.{StretchUse}
@@ -11,16 +10,17 @@ use Rattle.rmm_spec.specs.declared.entry.Entry.{Entry}
 use Rattle.rmm_spec.specs.declared.entry.Entry.TheVariants.{Unassigned, Assigned, Table, UnassignedNs, AssignedNs}
 use Rattle.rmm_spec.specs.declared.function_id.FunctionId.{FunctionId}
 use Rattle.rmm_spec.specs.declared.function_id.FunctionId.TheVariants.{RttInitRipas, RttSetRipas}
-use Rattle.rmm_spec.specs.declared.reply.Reply.{Reply}
+use Rattle.rmm_spec.specs.declared.refusal.Refusal.{Refusal}
 use Rattle.rmm_spec.specs.Call.{call_from, call_of}
 use Rattle.rmm_spec.specs.Footprint.{changed_parts}
 use Rattle.rmm_spec.specs.Ownership.{claims_opened, claims_closed, is_accepted, root_made, rec_made, latest_root, latest_rec}
+use Rattle.rmm_spec.specs.Rows.{reply_of}
 use Rattle.rmm_spec.specs.Run.{JournalEntry}
 use Rattle.rmm_spec.specs.State.{State}
 use Rattle.rmm_spec.specs.Lookup.{rec_at, request_of}
-use Rattle.rmm_spec.specs.Walk.{entry_size, entry_for, reach, is_unassigned}
+use Rattle.rmm_spec.specs.Walk.{entry_size, entry_for, is_multiple, reach, is_unassigned}
 use Rattle.rmm_spec.specs.Step.{outcome}
-use Rattle.rmm_spec.specs.Step.Ripas.{can_be_set, has_room, IsReached, reached_change}
+use Rattle.rmm_spec.specs.Step.Ripas.{can_be_set, IsReached, reached_change}
 use Rattle.rmm_spec.proofs.WalkLaws.{reach-le, walk_ends_unlinked, first_reached}
 use Rattle.rmm_laws.proofs.ChangeWords.{is_within, opened, closed, root_of, rec_of}
 use Rattle.rmm_sound.proofs.ByRows.{AllHold}
@@ -42,9 +42,9 @@ AcceptedTells s function words (Done given change) = Tells function words given.
 AcceptedTells s function words (Reaches stretch) = ((top : ℕ) × IsReached s stretch top) × ((top : ℕ) → Tells function words (top ∷ []) (reached_change stretch top))
 
 -- what a command leads to: a refusal, or what says so
-abbrev pub OutcomeTells : State → FunctionId → List ℕ → Result Accepted Reply → Type 0
+abbrev pub OutcomeTells : State → FunctionId → List ℕ → Result Accepted Refusal → Type 0
 OutcomeTells s function words (Ok accepted) = AcceptedTells s function words accepted
-OutcomeTells s function words (Err refusal) = is_accepted refusal ≡ false
+OutcomeTells s function words (Err refusal) = is_accepted (reply_of refusal) ≡ false
 
 -- ---- stretches end by their first entry at least
 
@@ -57,19 +57,17 @@ unassigned-set UnassignedNs is = both_ways is refl
 unassigned-set (AssignedNs page) is = both_ways is refl
 
 -- the end of the first entry
-first_end : (s : State) (rd base top : ℕ) (purpose : StretchUse) → has_room base top (reach s rd base 3) ≡ true
-    → can_be_set purpose (entry_for s rd (reach s rd base 3) base) ≡ true
+first_end : (s : State) (rd base top : ℕ) (purpose : StretchUse) → is_multiple base (entry_size (reach s rd base 3)) ≡ true
+    → nat_le (base + entry_size (reach s rd base 3)) top ≡ true → can_be_set purpose (entry_for s rd (reach s rd base 3) base) ≡ true
     → (end : ℕ) × IsReached s (record { rd = rd; base = base; top = top; level = reach s rd base 3; purpose = purpose }) end
-first_end s rd base top purpose room here =
-    (base + entry_size (reach s rd base 3), first_reached s (record { rd = rd; base = base; top = top; level = reach s rd base 3; purpose = purpose }) (reach-le s rd base 3) room here)
+first_end s rd base top purpose first ends here =
+    (base + entry_size (reach s rd base 3), first_reached s (record { rd = rd; base = base; top = top; level = reach s rd base 3; purpose = purpose }) (reach-le s rd base 3) first ends here)
 
 -- a stretch that a realm is told of
-init-end : (s : State) (rd base top : ℕ) → (is_unassigned (entry_for s rd (reach s rd base 3) base) && has_room base top (reach s rd base 3)) ≡ true
+init-end : (s : State) (rd base top : ℕ) → is_unassigned (entry_for s rd (reach s rd base 3) base) ≡ true
+    → is_multiple base (entry_size (reach s rd base 3)) ≡ true → nat_le (base + entry_size (reach s rd base 3)) top ≡ true
     → (end : ℕ) × IsReached s (record { rd = rd; base = base; top = top; level = reach s rd base 3; purpose = Init }) end
-init-end s rd base top row =
-    let entry = entry_for s rd (reach s rd base 3) base in
-    let tests = and_parts (is_unassigned entry) (has_room base top (reach s rd base 3)) row in
-    first_end s rd base top Init tests.1 (unassigned-set entry tests.0)
+init-end s rd base top free first ends = first_end s rd base top Init first ends (unassigned-set (entry_for s rd (reach s rd base 3) base) free)
 
 -- ---- each command
 
@@ -77,22 +75,22 @@ init-end s rd base top row =
 done-tells : (function : FunctionId) (w : List ℕ) (s : State) (cpu : ℕ) → AllHold (behind s cpu (call_from function w)).0 → AcceptedTells s function w (behind s cpu (call_from function w)).1
 unfolding behind call_from changed_parts claims_opened claims_closed reached_change
 done-tells RttInitRipas w s cpu rows =
-    (init-end s (slice_index w 0) (slice_index w 1) (slice_index w 2) rows.1.1.0, λ top. record { within = refl; opens = refl; closes = λ _. refl; roots = λ _. refl; recs = λ _. refl })
+    (init-end s (slice_index w 0) (slice_index w 1) (slice_index w 2) rows.1.1.0 rows.1.1.1.0 rows.1.1.1.1.0, λ top. record { within = refl; opens = refl; closes = λ _. refl; roots = λ _. refl; recs = λ _. refl })
 done-tells RttSetRipas w s cpu rows = (
-  first_end s (slice_index w 0) (slice_index w 2) (slice_index w 3) (Requested (slice_index w 1) (request_of (rec_at s (slice_index w 1))).ripas) rows.1.1.1.1.0
+  first_end s (slice_index w 0) (slice_index w 2) (slice_index w 3) (Requested (slice_index w 1) (request_of (rec_at s (slice_index w 1))).ripas) rows.1.1.1.1.1.1.1.0 rows.1.1.1.1.1.1.1.1.0
       (rw (walk_ends_unlinked s (slice_index w 0) (slice_index w 2)) refl),
   λ top. record { within = refl; opens = refl; closes = λ _. refl; roots = λ _. refl; recs = λ _. refl },
 )
 done-tells _ w s cpu rows = record { within = refl; opens = refl; closes = λ _. refl; roots = λ _. refl; recs = λ _. refl }
 
 -- what leads to something that is done is told by the words
-leads-tells : (function : FunctionId) (w : List ℕ) (s : State) (cpu : ℕ) (found : Result Accepted Reply) → Leads s cpu (call_from function w) found → OutcomeTells s function w found
+leads-tells : (function : FunctionId) (w : List ℕ) (s : State) (cpu : ℕ) (found : Result Accepted Refusal) → Leads s cpu (call_from function w) found → OutcomeTells s function w found
 leads-tells function w s cpu (Ok found) all =
     let c = call_from function w in
     subst (AcceptedTells s function w) all.1 (done-tells function w s cpu (front-rest s c (behind s cpu c).0 all.0).2)
 leads-tells function w s cpu (Err refusal) refused = refused
 
 -- what a command leads to is told by its words
-pub outcome-tells : (command : Command) (s : State) (cpu : ℕ) (found : Result Accepted Reply) → outcome s cpu (call_of command) ≡ found
+pub outcome-tells : (command : Command) (s : State) (cpu : ℕ) (found : Result Accepted Refusal) → outcome s cpu (call_of command) ≡ found
     → OutcomeTells s command.function command.words.items found
 outcome-tells command s cpu found is = leads-tells command.function command.words.items s cpu found (outcome-leads s cpu (call_of command) found is)

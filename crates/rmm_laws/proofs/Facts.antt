@@ -12,7 +12,7 @@ use Rattle.rmm_spec.specs.declared.tag.Tag.TheVariants.{Delegated}
 use Rattle.rmm_spec.specs.State.{State, RealmRecord}
 use Rattle.rmm_spec.specs.Lookup.{has_tag}
 use Rattle.rmm_spec.specs.Walk.{table_size, full, is_table, linked_entry, entry_at, is_live, is_in_use, has_link, has_entry}
-use Rattle.rmm_spec.specs.Step.Words.{is_space}
+use Rattle.rmm_spec.specs.Step.Terms.{is_space}
 use Rattle.rmm_spec.specs.Sound.{IsSound}
 use Rattle.rmm_spec.proofs.TagLaws.{tag-has_tag}
 use Rattle.rmm_spec.proofs.Tests.{both_ways}

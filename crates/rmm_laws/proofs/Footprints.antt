@@ -9,7 +9,8 @@ use Rattle.rmm_spec.specs.declared.change.RealmChange.{RealmChange}
 use Rattle.rmm_spec.specs.declared.change.RecChange.{RecChange}
 use Rattle.rmm_spec.specs.declared.change.TagChange.{TagChange}
 use Rattle.rmm_spec.specs.Change.{changed, with_tag_change, with_realm_change, with_rec_change, with_entry_change}
-use Rattle.rmm_spec.specs.Footprint.{Part, Tags, Realms, Recs, Tables, Leaves, is_listed, KeepsOthers}
+use Rattle.rmm_spec.specs.Function.{Part, Tags, Realms, Recs, Tables, Leaves}
+use Rattle.rmm_spec.specs.Footprint.{is_listed, KeepsOthers}
 use Rattle.rmm_spec.specs.State.{State}
 use Rattle.rmm_laws.proofs.ChangeWords.{is_listed_for, is_within}
 use Rattle.rmm_spec.proofs.Tests.{both_ways}

@@ -4,6 +4,7 @@ use Rattle.rmm_spec.specs.declared.accepted.Accepted.{Accepted}
 use Rattle.rmm_spec.specs.declared.accepted.Accepted.TheVariants.{Done, Reaches}
 use Rattle.rmm_spec.specs.declared.change.Change.{Change}
 use Rattle.rmm_spec.specs.declared.change.Change.TheVariants.{Unchanged, Retagged, RealmMade, RealmDestroyed, RecMade, RecDestroyed, RecordsChanged, TableMade, TableDestroyed, EntriesChanged}
+use Rattle.rmm_spec.specs.declared.refusal.Refusal.{Refusal}
 use Rattle.rmm_spec.specs.declared.reply.Reply.{Reply}
 use Rattle.rmm_spec.specs.declared.reply.Reply.TheVariants as reply
 use Rattle.rmm_spec.specs.declared.tag.Tag.TheVariants.{Rd, Rtt}
@@ -86,7 +87,7 @@ module _ (earlier : List JournalEntry) (held : List Claim) (old : State) (entry 
       }
 
   -- whatever is carried out
-  carried-accounted : (found : Result Accepted Reply) (new : State) → outcome old entry.cpu (call_of entry.command) ≡ found
+  carried-accounted : (found : Result Accepted Refusal) (new : State) → outcome old entry.cpu (call_of entry.command) ≡ found
       → OutcomeTells old entry.command.function entry.command.words.items found → CarriesOut found old entry.given new
       → IsAccounted (entry ∷ earlier) (claims_after entry.given entry earlier held) new
   carried-accounted (Err refusal) new is tells p = rw p.1 (refused-accounted entry.given refl (rw p.0 tells))

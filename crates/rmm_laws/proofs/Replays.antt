@@ -8,11 +8,12 @@ use Rattle.std.specs.Option.{option_and_then}
 use Rattle.rmm_spec.specs.declared.accepted.Accepted.{Accepted}
 use Rattle.rmm_spec.specs.declared.accepted.Accepted.TheVariants.{Done, Reaches}
 use Rattle.rmm_spec.specs.declared.accepted.Stretch.{Stretch}
+use Rattle.rmm_spec.specs.declared.refusal.Refusal.{Refusal}
 use Rattle.rmm_spec.specs.declared.reply.Reply.{Reply}
 use Rattle.rmm_spec.specs.declared.reply.Reply.TheVariants as reply
 use Rattle.rmm_spec.specs.Call.{call_of}
 use Rattle.rmm_spec.specs.Change.{changed}
-use Rattle.rmm_spec.specs.Rows.{ok}
+use Rattle.rmm_spec.specs.Rows.{ok, reply_of}
 use Rattle.rmm_spec.specs.Run.{JournalEntry, IsRun}
 use Rattle.rmm_spec.specs.Script.{are_same_words, is_same_reply, end_among, end_given, next_by, replay}
 use Rattle.rmm_spec.specs.State.{State}
@@ -105,9 +106,9 @@ mapped_some : (f : ℕ → State) (found : Option ℕ) (next : State) → option
 mapped_some f None next is = absurd (let bad : None ≡ Some next = is in cc)
 mapped_some f (Some x) next is = (x, refl, let same : Some (f x) ≡ Some next = is in cc)
 
-next_by-carries : (found : Result Accepted Reply) (s : State) (given : Reply) (next : State) → next_by found s given ≡ Some next → CarriesOut found s given next
+next_by-carries : (found : Result Accepted Refusal) (s : State) (given : Reply) (next : State) → next_by found s given ≡ Some next → CarriesOut found s given next
 next_by-carries (Err refusal) s given next is =
-    let found = if_some (is_same_reply given refusal) s next is in (is_same_reply-same given refusal found.0, sym found.1)
+    let found = if_some (is_same_reply given (reply_of refusal)) s next is in (is_same_reply-same given (reply_of refusal) found.0, sym found.1)
 next_by-carries (Ok (Done words change)) s given next is =
     let found = if_some (is_same_reply given (reply.Ok words)) (changed s change) next is in (is_same_reply-same given (reply.Ok words) found.0, sym found.1)
 next_by-carries (Ok (Reaches stretch)) s given next is =
@@ -179,8 +180,8 @@ reached-is_reached s stretch top r =
     let fifth : all_below (d / size) passes ≡ true = rw number (all_below-from r.count passes r.each) in
     and_from _ (all_below (d / size) passes) (and_from _ (nat_le top ((table_number stretch.level stretch.base + 1) * table_size stretch.level)) (and_from _ (nat_le top stretch.top) (and_from (nat_lt stretch.base top) (is_multiple d size) first second) third) fourth) fifth
 
-carries-next_by : (found : Result Accepted Reply) (s : State) (given : Reply) (next : State) → CarriesOut found s given next → next_by found s given ≡ Some next
-carries-next_by (Err refusal) s given next p = rw (p.0, p.1) (rw (is_same_reply-itself refusal) refl)
+carries-next_by : (found : Result Accepted Refusal) (s : State) (given : Reply) (next : State) → CarriesOut found s given next → next_by found s given ≡ Some next
+carries-next_by (Err refusal) s given next p = rw (p.0, p.1) (rw (is_same_reply-itself (reply_of refusal)) refl)
 carries-next_by (Ok (Done words change)) s given next p = rw (p.0, p.1) (rw (are_same_words-itself words.items) refl)
 carries-next_by (Ok (Reaches stretch)) s given next (top, (reached, is_ok, is_next)) = rw (is_ok, is_next) (rw (reached-is_reached s stretch top reached) refl)
 

@@ -10,21 +10,15 @@ use Rattle.rmm_spec.specs.Function.{number_of}
 use Rattle.rmm_spec.specs.HistoryText.{Config}
 use Rattle.rmm_spec.specs.Rows.{ok}
 use Rattle.rmm_spec.specs.Run.{JournalEntry}
-use Rattle.rmm_spec.specs.Script.{script_config, version_two_config, answered, replay, table_with_data_stays, table_folds, data_granule_mapped_twice, ripas_change_in_two_parts, ripas_change_past_table, life_of_a_rec, off_and_out_of_range, ripas_before_a_realm_runs, realms_and_recs_come_and_go, words_out_of_range, page_of_the_host, realm_of_algo_1}
+use Rattle.rmm_spec.specs.Script.{script_config, version_two_config, answered, replay, life_of_a_rec, off_and_out_of_range, realms_and_recs_come_and_go, realm_of_algo_1}
+use Rattle.rmm_spec.specs.TableScript.{table_with_data_stays, table_folds, data_granule_mapped_twice, ripas_change_in_two_parts, ripas_change_past_table, ripas_before_a_realm_runs, words_out_of_range, page_of_the_host}
 use Rattle.rmm_spec.specs.State.{opening}
 use Rattle.rmm_spec.specs.Lookup.{is_granule, has_tag, is_inside, rec_inside, realm_at, rec_at, is_vmid_used, has_rec}
 use Rattle.rmm_spec.specs.Walk.{entry_size, table_size, entry_number, table_number, entry_at, reach, has_entry}
-use Rattle.rmm_spec.specs.Step.{answer_of, outcome}
-use Rattle.rmm_spec.specs.Step.Words.{words_of}
-use Rattle.rmm_spec.specs.Step.Named.{named}
-use Rattle.rmm_spec.specs.Step.Granule.{granule_delegate, granule_undelegate}
-use Rattle.rmm_spec.specs.Step.Realm.{realm_create, realm_activate, realm_destroy}
-use Rattle.rmm_spec.specs.Step.Rec.{rec_create, rec_destroy, rec_enter}
-use Rattle.rmm_spec.specs.Step.Table.{rtt_create, rtt_remove, ripas_left, rtt_read_entry}
-use Rattle.rmm_spec.specs.Step.Data.{data_create, data_create_unknown, data_destroy}
-use Rattle.rmm_spec.specs.Step.Unprotected.{rtt_map_unprotected, rtt_unmap_unprotected}
-use Rattle.rmm_spec.specs.Step.Ripas.{rtt_init_ripas, rtt_set_ripas, is_reached, reached_change}
-use Rattle.rmm_spec.specs.Step.RealmCall.{measurement_read, measurement_extend, realm_config, ipa_state_set, ipa_state_get, host_call, cpu_off, system_off, rec_exit}
+use Rattle.rmm_spec.specs.Step.{answer_of, outcome, commands}
+use Rattle.rmm_spec.specs.Step.Terms.{words_of, named}
+use Rattle.rmm_spec.specs.Step.Table.{ripas_left}
+use Rattle.rmm_spec.specs.Step.Ripas.{is_reached, reached_change}
 
 -- the machine gives each reply, or not
 abbrev pub AreReplayed : Config → Bool → List (List JournalEntry) → Type 0
@@ -44,11 +38,11 @@ pub all_runs : AreReplayed script_config true
     ∷ page_of_the_host
     ∷ (take 5 realm_of_algo_1 ++ answered RealmCreate (0x1000 ∷ 0x2000 ∷ 39 ∷ 1 ∷ 1 ∷ 1 ∷ []) (reply.Err 1 0) ∷ [])
     ∷ [])
-unfolding replay opening table_with_data_stays table_folds data_granule_mapped_twice ripas_change_in_two_parts ripas_change_past_table life_of_a_rec off_and_out_of_range ripas_before_a_realm_runs realms_and_recs_come_and_go words_out_of_range page_of_the_host realm_of_algo_1 call_from class_of changed realm_updated rec_updated is_granule has_tag is_inside rec_inside realm_at rec_at is_vmid_used has_rec entry_size table_size entry_number table_number entry_at reach has_entry answer_of outcome words_of named granule_delegate granule_undelegate realm_create realm_activate realm_destroy rec_create rec_destroy rec_enter rtt_create rtt_remove ripas_left rtt_read_entry data_create data_create_unknown data_destroy rtt_map_unprotected rtt_unmap_unprotected rtt_init_ripas rtt_set_ripas is_reached reached_change measurement_read measurement_extend realm_config ipa_state_set ipa_state_get host_call cpu_off system_off rec_exit number_of measurement_words first_words rem_start
+unfolding replay opening table_with_data_stays table_folds data_granule_mapped_twice ripas_change_in_two_parts ripas_change_past_table life_of_a_rec off_and_out_of_range ripas_before_a_realm_runs realms_and_recs_come_and_go words_out_of_range page_of_the_host realm_of_algo_1 call_from class_of changed realm_updated rec_updated is_granule has_tag is_inside rec_inside realm_at rec_at is_vmid_used has_rec entry_size table_size entry_number table_number entry_at reach has_entry answer_of outcome words_of named ripas_left is_reached reached_change number_of measurement_words first_words rem_start commands
 all_runs = (refl, (refl, (refl, (refl, (refl, (refl, (refl, (refl, (refl, (refl, (refl, (refl, tt))))))))))))
 
 pub version_two_runs : AreReplayed version_two_config true (realm_of_algo_1 ∷ [])
-unfolding replay opening realm_of_algo_1 call_from class_of changed realm_updated rec_updated is_granule has_tag is_inside rec_inside realm_at rec_at is_vmid_used answer_of outcome words_of named granule_delegate realm_create realm_activate rec_create rec_enter measurement_read realm_config measurement_words first_words rem_start
+unfolding replay opening realm_of_algo_1 call_from class_of changed realm_updated rec_updated is_granule has_tag is_inside rec_inside realm_at rec_at is_vmid_used answer_of outcome words_of named measurement_words first_words rem_start commands
 version_two_runs = (refl, tt)
 
 -- an end past the table, an end over a page that was given, a page that is given twice, and a realm of version 2
@@ -58,5 +52,5 @@ pub no_runs : AreReplayed script_config false
     ∷ (data_granule_mapped_twice ++ answered DataCreateUnknown (0x6000 ∷ 0x5000 ∷ 0 ∷ []) (ok []) ∷ [])
     ∷ take 6 realm_of_algo_1
     ∷ [])
-unfolding replay opening data_granule_mapped_twice ripas_change_past_table ripas_before_a_realm_runs realm_of_algo_1 call_from class_of changed realm_updated rec_updated is_granule has_tag is_inside rec_inside realm_at rec_at is_vmid_used has_rec entry_size table_size entry_number table_number entry_at reach has_entry answer_of outcome words_of named granule_delegate granule_undelegate realm_create realm_activate realm_destroy rec_create rec_destroy rec_enter rtt_create rtt_remove ripas_left rtt_read_entry data_create data_create_unknown data_destroy rtt_map_unprotected rtt_unmap_unprotected rtt_init_ripas rtt_set_ripas is_reached reached_change measurement_read measurement_extend realm_config ipa_state_set ipa_state_get host_call cpu_off system_off rec_exit number_of
+unfolding replay opening data_granule_mapped_twice ripas_change_past_table ripas_before_a_realm_runs realm_of_algo_1 call_from class_of changed realm_updated rec_updated is_granule has_tag is_inside rec_inside realm_at rec_at is_vmid_used has_rec entry_size table_size entry_number table_number entry_at reach has_entry answer_of outcome words_of named ripas_left is_reached reached_change number_of commands
 no_runs = (refl, (refl, (refl, (refl, tt))))

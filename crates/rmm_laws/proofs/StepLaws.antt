@@ -4,13 +4,14 @@ use Rattle.rmm_spec.specs.declared.accepted.Accepted.{Accepted}
 use Rattle.rmm_spec.specs.declared.accepted.Accepted.TheVariants.{Done, Reaches}
 use Rattle.rmm_spec.specs.declared.command.Command.{Command}
 use Rattle.rmm_spec.specs.declared.function_id.FunctionId.{FunctionId}
+use Rattle.rmm_spec.specs.declared.refusal.Refusal.{Refusal}
 use Rattle.rmm_spec.specs.declared.reply.Reply.{Reply}
 use Rattle.rmm_spec.specs.declared.reply.Reply.TheVariants as reply
 use Rattle.rmm_spec.specs.Call.{call_of}
 use Rattle.rmm_spec.specs.Change.{changed}
 use Rattle.rmm_spec.specs.Footprint.{changed_parts, KeepsOthers}
 use Rattle.rmm_spec.specs.Ownership.{is_accepted}
-use Rattle.rmm_spec.specs.Rows.{ok}
+use Rattle.rmm_spec.specs.Rows.{ok, reply_of}
 use Rattle.rmm_spec.specs.State.{State}
 use Rattle.rmm_spec.specs.Step.{outcome, CarriesOut, Step}
 use Rattle.rmm_spec.specs.Step.Ripas.{reached_change}
@@ -30,7 +31,7 @@ unfolding first_word
 word_of a b same = ap first_word same
 
 -- a reply decides the next state
-carried-decides : (found : Result Accepted Reply) (old : State) (given : Reply) (a b : State)
+carried-decides : (found : Result Accepted Refusal) (old : State) (given : Reply) (a b : State)
     → CarriesOut found old given a → CarriesOut found old given b → a ≡ b
 carried-decides (Err refusal) old given a b p q = p.1 ∙ sym q.1
 carried-decides (Ok (Done words change)) old given a b p q = p.1 ∙ sym q.1
@@ -38,22 +39,22 @@ carried-decides (Ok (Reaches stretch)) old given a b (top, (_, is_ok, is_next)) 
     is_next ∙ ap (λ end. changed old (reached_change stretch end)) (word_of top other (sym is_ok ∙ other_ok)) ∙ sym other_next
 
 -- a reply other than an acceptance changes nothing
-refused-unchanged : (found : Result Accepted Reply) (old : State) (given : Reply) (new : State)
+refused-unchanged : (found : Result Accepted Refusal) (old : State) (given : Reply) (new : State)
     → CarriesOut found old given new → is_accepted given ≡ false → new ≡ old
 refused-unchanged (Err refusal) old given new p refused = p.1
 refused-unchanged (Ok (Done words change)) old given new p refused = both_ways (rw p.0 refl) refused
 refused-unchanged (Ok (Reaches stretch)) old given new (top, (_, is_ok, _)) refused = both_ways (rw is_ok refl) refused
 
 -- some reply has a next state
-carried-exists : (function : FunctionId) (w : List ℕ) (found : Result Accepted Reply) (old : State) → OutcomeTells old function w found
+carried-exists : (function : FunctionId) (w : List ℕ) (found : Result Accepted Refusal) (old : State) → OutcomeTells old function w found
     → (given : Reply) × (next : State) × CarriesOut found old given next
-carried-exists function w (Err refusal) old tells = (refusal, old, (refl, refl))
+carried-exists function w (Err refusal) old tells = (reply_of refusal, old, (refl, refl))
 carried-exists function w (Ok (Done words change)) old tells = (reply.Ok words, changed old change, (refl, refl))
 carried-exists function w (Ok (Reaches stretch)) old tells =
     let end = tells.0 in (ok (end.0 ∷ []), changed old (reached_change stretch end.0), (end.0, (end.1, refl, refl)))
 
 -- a function keeps the maps that it isn't listed with
-carried-keeps : (function : FunctionId) (w : List ℕ) (found : Result Accepted Reply) (old : State) (given : Reply) (new : State)
+carried-keeps : (function : FunctionId) (w : List ℕ) (found : Result Accepted Refusal) (old : State) (given : Reply) (new : State)
     → OutcomeTells old function w found → CarriesOut found old given new → KeepsOthers (changed_parts function) old new
 carried-keeps function w (Err refusal) old given new tells p = rw p.1 (same-keeps (changed_parts function) old)
 carried-keeps function w (Ok (Done words change)) old given new tells p = rw p.1 (changed-keeps (changed_parts function) old change tells.within)

@@ -12,6 +12,7 @@ ghost use Rattle.rmm_spec.specs.Rows.{ok};
 ghost use Rattle.rmm_spec.specs.Step.{Step};
 ghost use Rattle.rmm_spec.specs.Run.{JournalEntry, IsRun};
 ghost use Rattle.rmm_spec.specs.Script as script;
+ghost use Rattle.rmm_spec.specs.TableScript as tables;
 ghost use Rattle.rmm_spec.specs.Script.{script_config, version_two_config};
 ghost use Rattle.rmm_spec.specs.Footprint.{KeepsOthers, changed_parts};
 ghost use Rattle.rmm_laws.specs.Commands as commands;
@@ -59,17 +60,17 @@ pub fn no_default_is_read()
 
 /// The worked scripts are runs: the definitions give each of their replies.
 pub fn worked_scripts_are_runs()
-    ensures table_with_data_stays { (last : State) × IsRun (opening script_config) script.table_with_data_stays last }
-    ensures data_granule_mapped_twice { (last : State) × IsRun (opening script_config) script.data_granule_mapped_twice last }
-    ensures ripas_change_in_two_parts { (last : State) × IsRun (opening script_config) script.ripas_change_in_two_parts last }
-    ensures ripas_change_past_table { (last : State) × IsRun (opening script_config) script.ripas_change_past_table last }
+    ensures table_with_data_stays { (last : State) × IsRun (opening script_config) tables.table_with_data_stays last }
+    ensures data_granule_mapped_twice { (last : State) × IsRun (opening script_config) tables.data_granule_mapped_twice last }
+    ensures ripas_change_in_two_parts { (last : State) × IsRun (opening script_config) tables.ripas_change_in_two_parts last }
+    ensures ripas_change_past_table { (last : State) × IsRun (opening script_config) tables.ripas_change_past_table last }
     ensures life_of_a_rec { (last : State) × IsRun (opening script_config) script.life_of_a_rec last }
     ensures off_and_out_of_range { (last : State) × IsRun (opening script_config) script.off_and_out_of_range last }
-    ensures ripas_before_a_realm_runs { (last : State) × IsRun (opening script_config) script.ripas_before_a_realm_runs last }
+    ensures ripas_before_a_realm_runs { (last : State) × IsRun (opening script_config) tables.ripas_before_a_realm_runs last }
     ensures realms_and_recs_come_and_go { (last : State) × IsRun (opening script_config) script.realms_and_recs_come_and_go last }
-    ensures words_out_of_range { (last : State) × IsRun (opening script_config) script.words_out_of_range last }
-    ensures table_folds { (last : State) × IsRun (opening script_config) script.table_folds last }
-    ensures page_of_the_host { (last : State) × IsRun (opening script_config) script.page_of_the_host last }
+    ensures words_out_of_range { (last : State) × IsRun (opening script_config) tables.words_out_of_range last }
+    ensures table_folds { (last : State) × IsRun (opening script_config) tables.table_folds last }
+    ensures page_of_the_host { (last : State) × IsRun (opening script_config) tables.page_of_the_host last }
     ensures realm_of_algo_1 { (last : State) × IsRun (opening version_two_config) script.realm_of_algo_1 last }
 {}
 
@@ -83,14 +84,14 @@ pub fn version_one_has_no_sha512()
 
 /// After the script that gives a page of one realm to another, the machine doesn't accept that.
 pub fn a_page_is_given_once()
-    ensures { (last next : State) → IsRun (opening script_config) script.data_granule_mapped_twice last
+    ensures { (last next : State) → IsRun (opening script_config) tables.data_granule_mapped_twice last
         → Step last 0 (commands.command DataCreateUnknown (0x6000 ∷ 0x5000 ∷ 0 ∷ [])) (ok []) next → ⊥ }
 {}
 
 /// Behind two worked scripts, a reply that says that more of a stretch was set than the definitions allow makes no run.
 pub fn longer_stretches_are_no_runs()
     ensures past_the_table { (last : State) → IsRun (opening script_config)
-        (take 15 script.ripas_change_past_table ++ script.answered RttSetRipas (0x1000 ∷ 0x5000 ∷ 0x1ff000 ∷ 0x201000 ∷ []) (ok (0x201000 ∷ [])) ∷ []) last → ⊥ }
+        (take 15 tables.ripas_change_past_table ++ script.answered RttSetRipas (0x1000 ∷ 0x5000 ∷ 0x1ff000 ∷ 0x201000 ∷ []) (ok (0x201000 ∷ [])) ∷ []) last → ⊥ }
     ensures over_a_page { (last : State) → IsRun (opening script_config)
-        (take 11 script.ripas_before_a_realm_runs ++ script.answered RttInitRipas (0x1000 ∷ 0 ∷ 0x3000 ∷ []) (ok (0x2000 ∷ [])) ∷ []) last → ⊥ }
+        (take 11 tables.ripas_before_a_realm_runs ++ script.answered RttInitRipas (0x1000 ∷ 0 ∷ 0x3000 ∷ []) (ok (0x2000 ∷ [])) ∷ []) last → ⊥ }
 {}

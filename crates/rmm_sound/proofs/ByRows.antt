@@ -3,7 +3,7 @@ use Rattle.std.proofs.Common.{◌≡◌, Bool, true, false, if◌then◌else◌,
 use Rattle.std.specs.Prelude.{Result, Ok, Err}
 use Rattle.std.specs.List.{AllByRecursion}
 use Rattle.rmm_spec.specs.declared.accepted.Accepted.{Accepted}
-use Rattle.rmm_spec.specs.declared.reply.Reply.{Reply}
+use Rattle.rmm_spec.specs.declared.refusal.Refusal.{Refusal}
 use Rattle.rmm_spec.specs.Rows.{Row, decided}
 
 -- each row holds
@@ -11,7 +11,7 @@ abbrev pub AllHold : List Row → Type 0
 AllHold rows = AllByRecursion (λ (r : Row). IsTrue r.holds) rows
 
 -- one row, by whether it holds
-pub row_holds : (Later : Type 0) (holds : Bool) (later : Result Accepted Reply) (otherwise : Reply) (a : Accepted)
+pub row_holds : (Later : Type 0) (holds : Bool) (later : Result Accepted Refusal) (otherwise : Refusal) (a : Accepted)
     → (if holds then later else Err otherwise) ≡ Ok a → (IsTrue holds → later ≡ Ok a → Later) → Later
 row_holds Later true later otherwise a is next = next refl is
 row_holds Later false later otherwise a is next = absurd (let bad : Err otherwise ≡ Ok a = is in cc)

@@ -1,14 +1,14 @@
 -- What an accepted command does is a change that the state can take: each command by its rows.
 use Rattle.std.proofs.Common.{◌≡◌, ℕ, ◌<◌, ◌&&◌, ◌==◌, IsTrue, List, length, is_none, nat_le, not, refl, inl, inr, arith}
 use Rattle.std.specs.Prelude.{Ok}
-use Rattle.std.proofs.lemmas.Bool.{and_parts, or_left, not-true, ltb-true, leb-true}
+use Rattle.std.proofs.lemmas.Bool.{and_from, and_parts, or_left, not-true, ltb-true, leb-true}
 use Rattle.rmm_spec.specs.declared.accepted.Accepted.{Accepted}
 use Rattle.rmm_spec.specs.declared.call.Call.{Call}
 use Rattle.rmm_spec.specs.declared.call.Call.TheVariants as call
 use Rattle.rmm_spec.specs.declared.command.Command.{Command}
 use Rattle.rmm_spec.specs.declared.function_id.FunctionId.{FunctionId}
 use Rattle.rmm_spec.specs.declared.function_id.FunctionId.TheVariants as function
-use Rattle.rmm_spec.specs.declared.reply.Reply.TheVariants as reply
+use Rattle.rmm_spec.specs.declared.refusal.Refusal.TheVariants.{Misplaced}
 use Rattle.rmm_spec.specs.Call.{call_from, call_of, class_of}
 use Rattle.rmm_spec.specs.State.{State}
 use Rattle.rmm_spec.specs.declared.version.Version.{Version}
@@ -16,9 +16,8 @@ use Rattle.rmm_spec.specs.declared.version.Version.TheVariants.{One, Two}
 use Rattle.rmm_spec.specs.Lookup.{is_hash, allows_hash, is_inside, rec_inside, realm_at, rec_at}
 use Rattle.rmm_spec.specs.Walk.{half}
 use Rattle.rmm_spec.specs.Sound.{IsSound}
-use Rattle.rmm_spec.specs.Step.{is_placed, answer_of, outcome}
-use Rattle.rmm_spec.specs.Step.Words.{words_of}
-use Rattle.rmm_spec.specs.Step.Named.{named}
+use Rattle.rmm_spec.specs.Step.{is_placed, misplacement, answer_of, outcome}
+use Rattle.rmm_spec.specs.Step.Terms.{words_of, named}
 use Rattle.rmm_spec.proofs.Behind.{behind}
 use Rattle.rmm_sound.proofs.ByRows.{row_holds}
 use Rattle.rmm_sound.proofs.Applies.{Applies, Follows, IsRunning, answer_applies, inside_running, idle_awaits_nothing}
@@ -57,7 +56,7 @@ command_follows : (s : State) (cpu : ℕ) (c : Call) → IsSound s → IsWhole c
 unfolding behind class_of words_of named
 command_follows s cpu (call.GranuleDelegate granule) sound whole placed (tag, _) = inl (tag, refl)
 command_follows s cpu (call.GranuleUndelegate granule) sound whole placed (tag, _) = inr (tag, refl)
-command_follows s cpu (call.RealmCreate rd root width level vmid algo) sound whole placed (differ, (space, (vmid_fits, (rd_tag, (root_tag, (allowed, (unused, _))))))) = record {
+command_follows s cpu (call.RealmCreate rd root width level vmid algo) sound whole placed (differ, (supported, (space, (vmid_fits, (rd_tag, (root_tag, (allowed, (unused, _)))))))) = record {
   rd_tag = rd_tag;
   root_tag = root_tag;
   apart = not-true _ differ;
@@ -69,7 +68,7 @@ command_follows s cpu (call.RealmCreate rd root width level vmid algo) sound who
 command_follows s cpu (call.RealmActivate rd) sound whole placed (rd_tag, _) = ((rd_tag, tt), tt)
 command_follows s cpu (call.RealmDestroy rd) sound whole placed (rd_tag, (childless, (unlinked, _))) =
     record { rd_tag = rd_tag; is_root = refl; childless = not-true _ childless; unlinked = not-true _ unlinked }
-command_follows s cpu (call.RecCreate rd rec mpidr flags aux0 aux1) sound whole placed (differ, (flags_fit, (rd_tag, (rec_tag, (aux0_tag, (aux1_tag, (new, (index_fits, _)))))))) =
+command_follows s cpu (call.RecCreate rd rec mpidr flags aux0 aux1) sound whole placed (differ, (flags_fit, (rd_tag, (rec_tag, (aux0_tag, (aux1_tag, (new, (next, (few, _))))))))) =
     let three = and_parts (not (rec == aux0) && not (rec == aux1)) (not (aux0 == aux1)) differ in
     let two = and_parts (not (rec == aux0)) (not (rec == aux1)) three.0 in
     record {
@@ -80,13 +79,12 @@ command_follows s cpu (call.RecCreate rd rec mpidr flags aux0 aux1) sound whole 
       apart0 = not-true _ two.0;
       apart1 = not-true _ two.1;
       apart = not-true _ three.1;
-      index_fits = index_fits;
+      index_fits = and_from _ _ next few;
       flags_fit = flags_fit;
     }
 command_follows s cpu (call.RecDestroy rec) sound whole placed (rec_tag, (ready, _)) =
     record { rec_tag = rec_tag; is_aux0 = refl; is_aux1 = refl; ready = ready }
-command_follows s cpu (call.RecEnter rec) sound whole placed (rec_tag, (not_new, (not_off, (ready, _)))) =
-    let idle = (and_parts (is_none (rec_at s rec).cpu) (rec_at s rec).runnable ready).0 in
+command_follows s cpu (call.RecEnter rec) sound whole placed (rec_tag, (not_new, (not_off, (idle, (runnable, _))))) =
     (tt, (rec_tag, (idle, not-true (is_inside s cpu) placed, idle_awaits_nothing s rec sound rec_tag idle)))
 command_follows s cpu (call.RttCreate rd rtt ipa level) sound whole placed holds = rtt_create_follows s cpu rd rtt ipa level sound holds
 command_follows s cpu (call.RttRemove removal rd ipa level) sound whole placed holds = rtt_remove_follows s cpu removal rd ipa level sound holds
@@ -101,10 +99,10 @@ command_follows s cpu (call.MeasurementExtend index size values) sound whole pla
     let index_in = and_parts (nat_le 1 index) (nat_le index 4) index_fits in
     let size_in = and_parts (nat_le 1 size) (nat_le size 0x40) size_fits in
     (((call_running s cpu sound placed).owner, (leb-true 1 index index_in.0, leb-true index 4 index_in.1, leb-true size 0x40 size_in.1, whole)), tt)
-command_follows s cpu (call.IpaStateSet base top ripas) sound whole placed (pages, (ordered, (ripas_fits, (within, _)))) =
+command_follows s cpu (call.IpaStateSet base top ripas) sound whole placed (base_page, (top_page, (ordered, (ripas_fits, (within, _))))) =
     let running = call_running s cpu sound placed in
     let below : base < top = ltb-true base top ordered in
-    (tt, (running.tag, (running.cpu, record { pages = pages; ordered = omega arith; protected = leb-true top (half (realm_at s (rec_at s (rec_inside s cpu)).owner)) within })))
+    (tt, (running.tag, (running.cpu, record { pages = and_from _ _ base_page top_page; ordered = omega arith; protected = leb-true top (half (realm_at s (rec_at s (rec_inside s cpu)).owner)) within })))
 command_follows s cpu (call.HostCall imm) sound whole placed _ = let running = call_running s cpu sound placed in (tt, (running.tag, running.cpu))
 command_follows s cpu call.CpuOff sound whole placed _ = let running = call_running s cpu sound placed in (tt, (running.tag, running.cpu))
 command_follows s cpu call.SystemOff sound whole placed _ = let running = call_running s cpu sound placed in ((running.owner, tt), (running.tag, running.cpu))
@@ -115,5 +113,5 @@ command_follows s cpu _ sound whole placed _ = tt
 pub accepted_applies : (s : State) (cpu : ℕ) (called : Call) (a : Accepted) → IsSound s → IsWhole called → outcome s cpu called ≡ Ok a → Applies s a
 unfolding outcome
 accepted_applies s cpu called a sound whole is =
-    row_holds (Applies s a) (is_placed s cpu (class_of called)) (answer_of s cpu called) reply.Misplaced a is
+    row_holds (Applies s a) (is_placed s cpu (class_of called)) (answer_of s cpu called) (Misplaced (misplacement (is_inside s cpu) (class_of called))) a is
     (λ placed. answer_applies s cpu called a (command_follows s cpu called sound whole placed))

@@ -12,7 +12,7 @@ use Rattle.rmm_spec.specs.declared.tag.Tag.TheVariants.{Rd}
 use Rattle.rmm_spec.specs.State.{State, RealmRecord}
 use Rattle.rmm_spec.specs.Lookup.{has_tag, realm_at}
 use Rattle.rmm_spec.specs.Walk.{entry_size, table_size, entry_number, table_number, full, half, is_multiple, is_table, is_assigned, entry_at, reach, walk}
-use Rattle.rmm_spec.specs.Step.Words.{is_page}
+use Rattle.rmm_spec.specs.Step.Terms.{is_page}
 use Rattle.rmm_spec.specs.Step.Table.{entry_after_table}
 use Rattle.rmm_spec.specs.Step.Ripas.{can_be_set, IsReached}
 use Rattle.rmm_spec.specs.Sound.{IsSound, IsLeafOf}

@@ -6,7 +6,7 @@ use Rattle.rmm_spec.specs.declared.tag.Ripas.{Ripas}
 use Rattle.rmm_spec.specs.declared.tag.Tag.TheVariants.{Rd, Rec, RecAux, Data, Rtt}
 use Rattle.rmm_spec.specs.State.{State, RealmRecord, RecRecord, Request}
 use Rattle.rmm_spec.specs.Lookup.{has_tag, runs_on}
-use Rattle.rmm_spec.specs.Step.Words.{is_space}
+use Rattle.rmm_spec.specs.Step.Terms.{is_space}
 use Rattle.rmm_spec.specs.Sound.{AreRealms, AreRecs, AreTables, AreLeaves, IsRequest, IsLeafOf, has_aux}
 
 -- ---- realms that agree in what does not change

@@ -5,24 +5,23 @@ use Rattle.rmm_spec.specs.declared.entry.Entry.TheVariants.{Unassigned, Assigned
 use Rattle.rmm_spec.specs.declared.tag.Ripas.TheVariants.{Ram}
 use Rattle.rmm_spec.specs.State.{State}
 use Rattle.rmm_spec.specs.Lookup.{realm_at}
-use Rattle.rmm_spec.specs.Walk.{entry_number, entry_at, full, half, is_table, is_unassigned, is_unassigned_ram, is_unassigned_ns, is_assigned_ns, entry_address, entry_ripas, reach, walk}
-use Rattle.rmm_spec.specs.Step.Words.{words_of}
-use Rattle.rmm_spec.specs.Step.Named.{named}
+use Rattle.rmm_spec.specs.Walk.{entry_number, entry_at, full, half, is_table, is_unassigned, is_unassigned_ns, is_assigned_ns, entry_address, entry_ripas, reach, walk}
+use Rattle.rmm_spec.specs.Step.Terms.{words_of, named}
 use Rattle.rmm_spec.specs.Step.Data.{ripas_after_data}
 use Rattle.rmm_spec.specs.Sound.{IsSound}
 use Rattle.rmm_spec.proofs.Behind.{behind}
 use Rattle.rmm_sound.proofs.Applies.{Follows}
 use Rattle.rmm_sound.proofs.Ends.{at_end, page_replaced, page_protected, page_unprotected, walked_whole}
-use Rattle.rmm_sound.proofs.Walked.{walked_protected, unassigned_kind, ram_kind, assigned_kind, unassigned_ns_kind, assigned_ns_kind}
+use Rattle.rmm_sound.proofs.Walked.{walked_protected, unassigned_kind, assigned_kind, unassigned_ns_kind, assigned_ns_kind}
 use Rattle.rmm_spec.specs.declared.call.Call.TheVariants as call
 
 -- a page is given and measured
 pub data_create_follows : (s : State) (cpu rd granule ipa source flags : ℕ) (digest : List ℕ) → IsSound s → length digest ≡ 4 → Follows s cpu (call.DataCreate rd granule ipa source flags digest)
 unfolding behind words_of named
-data_create_follows s cpu rd granule ipa source flags digest sound whole (flags_fit, (aligned, (rd_tag, (page_tag, (source_tag, (below, (new, (ends, (free, _))))))))) =
+data_create_follows s cpu rd granule ipa source flags digest sound whole (flags_fit, (aligned, (rd_tag, (page_tag, (source_tag, (below, (new, (ends, (free, (ram, _)))))))))) =
     let at : reach s rd ipa 3 ≡ 3 = eqb-true (reach s rd ipa 3) 3 ends in
     let inside : ipa < half (realm_at s rd) = ltb-true ipa (half (realm_at s rd)) below in
-    let old = unassigned_kind (entry_at s rd 3 (entry_number 3 ipa)) (ram_kind (entry_at s rd 3 (entry_number 3 ipa)) (at_end (λ e. IsTrue (is_unassigned_ram e)) s rd ipa at free)) in (
+    let old = unassigned_kind (entry_at s rd 3 (entry_number 3 ipa)) (at_end (λ e. IsTrue (is_unassigned e)) s rd ipa at free) in (
       rd_tag,
       (
         page_replaced s rd ipa (Assigned Ram granule) (walked_protected s rd ipa sound rd_tag inside) at old.1 (page_protected s rd ipa inside, refl),

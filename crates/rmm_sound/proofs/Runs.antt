@@ -6,6 +6,7 @@ use Rattle.rmm_spec.specs.declared.accepted.Accepted.TheVariants.{Done, Reaches}
 use Rattle.rmm_spec.specs.declared.accepted.Stretch.{Stretch}
 use Rattle.rmm_spec.specs.declared.change.Change.{Change}
 use Rattle.rmm_spec.specs.declared.command.Command.{Command}
+use Rattle.rmm_spec.specs.declared.refusal.Refusal.{Refusal}
 use Rattle.rmm_spec.specs.declared.reply.Reply.{Reply}
 use Rattle.rmm_spec.specs.HistoryText.{Config}
 use Rattle.rmm_spec.specs.Call.{call_of}
@@ -35,7 +36,7 @@ reached_applies s cpu command stretch top sound is = accepted_applies s cpu (cal
 -- ---- steps and runs
 
 -- what an outcome leads to is sound
-carried_sound : (old : State) (cpu : ℕ) (command : Command) (given : Reply) (new : State) (result : Result Accepted Reply) → IsSound old
+carried_sound : (old : State) (cpu : ℕ) (command : Command) (given : Reply) (new : State) (result : Result Accepted Refusal) → IsSound old
     → outcome old cpu (call_of command) ≡ result → CarriesOut result old given new → IsSound new
 carried_sound old cpu command given new (Err refusal) sound is step = subst IsSound (sym step.1) sound
 carried_sound old cpu command given new (Ok (Done words change)) sound is step =

@@ -8,7 +8,7 @@ use Rattle.rmm_spec.specs.declared.entry.Entry.{Entry}
 use Rattle.rmm_spec.specs.declared.tag.Ripas.TheVariants.{Empty}
 use Rattle.rmm_spec.specs.State.{RealmRecord}
 use Rattle.rmm_spec.specs.Walk.{entry_size, half}
-use Rattle.rmm_spec.specs.Step.Words.{is_space}
+use Rattle.rmm_spec.specs.Step.Terms.{is_space}
 use Rattle.rmm_spec.specs.Sound.{IsTableOf, IsLeafOf}
 use Rattle.rmm_spec.specs.Applicable.{IsVacant}
 use Rattle.rmm_sound.proofs.Cases.{choice}

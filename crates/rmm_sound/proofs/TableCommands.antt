@@ -1,6 +1,6 @@
 -- Commands that make, destroy and read tables: what is accepted can be applied.
-use Rattle.std.proofs.Common.{◌≡◌, ℕ, zero, suc, ◌+◌, ◌-◌, ◌*◌, ◌/◌, ◌<◌, ◌≤◌, Bool, true, false, ◌==◌, if◌then◌else◌, IsTrue, Some, None, is_some, refl, sym, ◌∙◌, ap, subst, arith}
-use Rattle.std.proofs.lemmas.Bool.{and_parts, or_parts, not-true, eqb-true, ltb-true, leb-true}
+use Rattle.std.proofs.Common.{◌≡◌, ℕ, zero, suc, ◌+◌, ◌-◌, ◌*◌, ◌/◌, ◌<◌, ◌≤◌, Bool, true, false, if◌then◌else◌, IsTrue, Some, None, is_some, refl, sym, ◌∙◌, ap, subst, arith}
+use Rattle.std.proofs.lemmas.Bool.{or_parts, not-true, eqb-true, ltb-true, leb-true}
 use Rattle.rmm_spec.specs.declared.call.Removal.{Removal}
 use Rattle.rmm_spec.specs.declared.call.Removal.TheVariants.{Destroy, Fold}
 use Rattle.rmm_spec.specs.declared.entry.Entry.{Entry}
@@ -11,8 +11,7 @@ use Rattle.rmm_spec.specs.State.{State}
 use Rattle.rmm_spec.specs.Lookup.{any_below, realm_at}
 use Rattle.rmm_spec.specs.Walk.{entry_size, entry_number, table_number, entry_at, entry_for, full, is_table, is_live, is_unlike, has_entry, is_in_use, entry_ripas, entry_address, reach, walk}
 use Rattle.rmm_spec.specs.Step.Table.{ripas_left}
-use Rattle.rmm_spec.specs.Step.Words.{words_of}
-use Rattle.rmm_spec.specs.Step.Named.{named}
+use Rattle.rmm_spec.specs.Step.Terms.{words_of, named}
 use Rattle.rmm_spec.specs.Sound.{IsSound}
 use Rattle.rmm_spec.proofs.Behind.{behind}
 use Rattle.rmm_sound.proofs.Applies.{Follows}
@@ -72,16 +71,15 @@ left_unused s Fold rd level number there =
 -- a table is taken out
 pub rtt_remove_follows : (s : State) (cpu : ℕ) (removal : Removal) (rd ipa level : ℕ) → IsSound s → Follows s cpu (call.RttRemove removal rd ipa level)
 unfolding behind words_of named
-rtt_remove_follows s cpu removal rd ipa level sound (level_fits, (aligned, (rd_tag, (above, (below, (linked, (there, _))))))) =
+rtt_remove_follows s cpu removal rd ipa level sound (level_fits, (aligned, (rd_tag, (above, (below, (walks, (linked, (there, _)))))))) =
     let last : level ≤ 3 = leb-true level 3 level_fits in
     let under : (realm_at s rd).start_level < level = ltb-true (realm_at s rd).start_level level above in
     let inside : ipa < full (realm_at s rd) = ltb-true ipa (full (realm_at s rd)) below in
-    let parts = and_parts (reach s rd ipa (level - 1) == level - 1) (is_table (walk s rd ipa (level - 1)).entry) linked in
-    let at : reach s rd ipa (level - 1) ≡ level - 1 = eqb-true (reach s rd ipa (level - 1)) (level - 1) parts.0 in
+    let at : reach s rd ipa (level - 1) ≡ level - 1 = eqb-true (reach s rd ipa (level - 1)) (level - 1) walks in
     let number : table_number level ipa ≡ entry_number (level - 1) ipa = table_number-above level ipa (omega arith) in
     let up : suc (level - 1) ≡ level = omega arith in
     let end : IsWalked s rd ipa (level - 1) = subst (IsWalked s rd ipa) at (walked s rd ipa (level - 1) sound rd_tag inside (omega arith) (omega arith)) in
-    let link = link_there s sound rd (level - 1) (entry_number (level - 1) ipa) end.table (subst (λ l. IsTrue (is_table (entry_for s rd l ipa))) at parts.1) in
+    let link = link_there s sound rd (level - 1) (entry_number (level - 1) ipa) end.table (subst (λ l. IsTrue (is_table (entry_for s rd l ipa))) at linked) in
     let address : entry_address (walk s rd ipa (level - 1)).entry ≡ link.0 = ap entry_address (ap (λ l. entry_for s rd l ipa) at ∙ link.2) in
     let below_it : s.table rd (suc (level - 1)) (table_number level ipa) ≡ Some link.0 = ap (s.table rd (suc (level - 1))) number ∙ link.1 in
     let begins : table_number level ipa * entry_size (level - 1) ≡ ipa = ap (λ n. n * entry_size (level - 1)) number ∙ entry_begins (level - 1) ipa aligned in

@@ -8,8 +8,8 @@ use Rattle.rmm_spec.specs.declared.tag.Ripas.{Ripas}
 use Rattle.rmm_spec.specs.declared.tag.Tag.TheVariants.{Rd}
 use Rattle.rmm_spec.specs.State.{State, RealmRecord}
 use Rattle.rmm_spec.specs.Lookup.{has_tag, realm_at}
-use Rattle.rmm_spec.specs.Walk.{entry_size, table_size, entry_number, table_number, full, half, is_multiple, is_table, is_assigned, is_unassigned, is_unassigned_ram, is_unassigned_ns, is_assigned_ns, entry_address, reach}
-use Rattle.rmm_spec.specs.Step.Words.{is_space}
+use Rattle.rmm_spec.specs.Walk.{entry_size, table_size, entry_number, table_number, full, half, is_multiple, is_table, is_assigned, is_unassigned, is_unassigned_ns, is_assigned_ns, entry_address, reach}
+use Rattle.rmm_spec.specs.Step.Terms.{is_space}
 use Rattle.rmm_spec.specs.Sound.{IsSound}
 use Rattle.rmm_spec.proofs.WalkLaws.{reach-le, reach-covers, table_size-entries}
 use Rattle.rmm_sound.proofs.Cases.{both_ways}
@@ -108,14 +108,6 @@ unassigned_kind (Assigned ripas granule) is = both_ways is refl
 unassigned_kind (Table granule) is = both_ways is refl
 unassigned_kind UnassignedNs is = both_ways is refl
 unassigned_kind (AssignedNs page) is = both_ways is refl
-
--- unassigned memory that is RAM is unassigned
-pub ram_kind : (e : Entry) → IsTrue (is_unassigned_ram e) → IsTrue (is_unassigned e)
-ram_kind (Unassigned ripas) is = refl
-ram_kind (Assigned ripas granule) is = is
-ram_kind (Table granule) is = is
-ram_kind UnassignedNs is = is
-ram_kind (AssignedNs page) is = is
 
 -- a page is no link, and names its granule
 pub assigned_kind : (e : Entry) → IsTrue (is_assigned e) → (is_table e ≡ false) × ((ripas : Ripas) × (e ≡ Assigned ripas (entry_address e)))

@@ -12,14 +12,14 @@ use Rattle.rmm_spec.specs.declared.command.Command.{Command}
 use Rattle.rmm_spec.specs.declared.event.Event.{Event}
 use Rattle.rmm_spec.specs.declared.event.Event.TheVariants.{Called, Returned}
 use Rattle.rmm_spec.specs.declared.function_id.FunctionId.{FunctionId}
-use Rattle.rmm_spec.specs.declared.function_id.FunctionId.TheVariants.{GranuleDelegate, GranuleUndelegate, DataCreate, DataCreateUnknown, DataDestroy, RealmActivate, RealmCreate, RealmDestroy, RecCreate, RecDestroy, RecEnter, RttCreate, RttDestroy, RttMapUnprotected, RttReadEntry, RttUnmapUnprotected, RttFold, RttInitRipas, RttSetRipas, MeasurementRead, MeasurementExtend, RealmConfig, IpaStateSet, IpaStateGet, HostCall, CpuOff, SystemOff, Exit}
+use Rattle.rmm_spec.specs.declared.function_id.FunctionId.TheVariants.{GranuleDelegate, Exit}
 use Rattle.rmm_spec.specs.declared.line.Line.{Line}
 use Rattle.rmm_spec.specs.declared.line.Line.TheVariants.{Keep, Unfinished}
 use Rattle.rmm_spec.specs.declared.reply.Reply.{Reply}
 use Rattle.rmm_spec.specs.declared.reply.Reply.TheVariants as reply
 use Rattle.rmm_spec.specs.CertificateText.{line_parts}
 use Rattle.rmm_spec.specs.CommandText.{command_parts, reply_parts}
-use Rattle.rmm_spec.specs.Function.{number_of}
+use Rattle.rmm_spec.specs.Function.{functions, number_of}
 use Rattle.rmm_spec.specs.declared.version.Version.{Version}
 use Rattle.rmm_spec.specs.declared.version.Version.TheVariants.{One, Two}
 use Rattle.rmm_spec.specs.HistoryText.{Config, mark, config_parts, event_parts}
@@ -214,8 +214,7 @@ function_among (f ∷ others) n = if number_of f == n then f else function_among
 
 -- the function of a number
 unfoldable pub function_numbered : ℕ → FunctionId
-function_numbered n =
-    function_among (GranuleDelegate ∷ GranuleUndelegate ∷ DataCreate ∷ DataCreateUnknown ∷ DataDestroy ∷ RealmActivate ∷ RealmCreate ∷ RealmDestroy ∷ RecCreate ∷ RecDestroy ∷ RecEnter ∷ RttCreate ∷ RttDestroy ∷ RttMapUnprotected ∷ RttReadEntry ∷ RttUnmapUnprotected ∷ RttFold ∷ RttInitRipas ∷ RttSetRipas ∷ MeasurementRead ∷ MeasurementExtend ∷ RealmConfig ∷ IpaStateSet ∷ IpaStateGet ∷ HostCall ∷ CpuOff ∷ SystemOff ∷ []) n
+function_numbered n = function_among functions n
 
 pub function_numbered-number_of : (f : FunctionId) → function_numbered (number_of f) ≡ f
 unfolding function_numbered number_of

@@ -1,12 +1,12 @@
 -- Walks: the recursion finds the deepest table that covers an address, and a walk to the last level ends on no link.
-use Rattle.std.proofs.Common.{◌≡◌, ℕ, zero, suc, ◌+◌, ◌-◌, ◌*◌, ◌/◌, ◌%◌, ◌^◌, ◌<◌, ◌≤◌, Bool, true, false, ◌&&◌, ◌⊎◌, IsTrue, Option, Some, None, is_some, refl, sym, ap, inl, inr, arith, nat_lt, nat_le, add-one, add-zero}
+use Rattle.std.proofs.Common.{◌≡◌, ℕ, zero, suc, ◌+◌, ◌-◌, ◌*◌, ◌/◌, ◌%◌, ◌^◌, ◌<◌, ◌≤◌, Bool, true, false, ◌⊎◌, IsTrue, Option, Some, None, is_some, refl, sym, ap, inl, inr, arith, nat_lt, nat_le, add-one, add-zero}
 use Rattle.std.proofs.Math.Nat.{div-add-mod, div-div-eq-div-mul, mul-le-mul_left}
 use Rattle.std.proofs.lemmas.Bool.Decides.{nat_tests}
 use Rattle.rmm_spec.specs.declared.entry.Entry.{Entry}
 use Rattle.rmm_spec.specs.declared.entry.Entry.TheVariants.{Unassigned, Assigned, Table, UnassignedNs, AssignedNs}
 use Rattle.rmm_spec.specs.State.{State}
 use Rattle.rmm_spec.specs.declared.accepted.Stretch.{Stretch}
-use Rattle.rmm_spec.specs.Step.Ripas.{can_be_set, has_room, IsReached}
+use Rattle.rmm_spec.specs.Step.Ripas.{can_be_set, IsReached}
 use Rattle.rmm_spec.proofs.Tests.{both_ways}
 use Rattle.rmm_spec.specs.Walk.{entry_size, table_size, entry_number, table_number, is_multiple, is_table, linked_entry, entry_at, entry_for, reach, IsWalk}
 
@@ -160,9 +160,6 @@ walk_ends_unlinked s rd ipa =
 -- ---- stretches
 
 -- the two parts of a test that holds
-pub both_true : (a b : Bool) → IsTrue (a && b) → IsTrue a × IsTrue b
-both_true true b both = (refl, both)
-both_true false b both = absurd (let bad : false ≡ true = both in cc)
 
 -- an entry that begins at a multiple of its size ends by the end of its table
 entry_in_table : (base size : ℕ) → base % size ≡ 0 → base + size ≤ (base / (512 * size) + 1) * (512 * size)
@@ -179,21 +176,20 @@ entry_in_table base size multiple =
 
 -- where an entry is a stretch by itself: it ends by top, and by the end of its table
 pub first_reached : (s : State) (stretch : Stretch) → stretch.level ≤ 3
-    → IsTrue (has_room stretch.base stretch.top stretch.level)
+    → IsTrue (is_multiple stretch.base (entry_size stretch.level)) → IsTrue (nat_le (stretch.base + entry_size stretch.level) stretch.top)
     → IsTrue (can_be_set stretch.purpose (entry_for s stretch.rd stretch.level stretch.base))
     → IsReached s stretch (stretch.base + entry_size stretch.level)
 unfolding table_number
-first_reached s stretch within room here =
+first_reached s stretch within first ends here =
     let base = stretch.base in
     let level = stretch.level in
-    let tests = both_true (is_multiple base (entry_size level)) (nat_le (base + entry_size level) stretch.top) room in
-    let multiple : base % entry_size level ≡ 0 = grind (arith, nat_tests, tests.0) in
-    let ends : base + entry_size level ≤ stretch.top = grind (arith, nat_tests, tests.1) in
+    let multiple : base % entry_size level ≡ 0 = grind (arith, nat_tests, first) in
+    let by_top : base + entry_size level ≤ stretch.top = grind (arith, nat_tests, ends) in
     record {
       count = 1;
       some = omega arith;
       is_end = omega arith;
-      within = ends;
+      within = by_top;
       in_table = rw (table_size-entries level within) (entry_in_table base (entry_size level) multiple);
       each = λ k first. let none : k ≡ 0 = omega arith in rw (none, add-zero) here;
     }

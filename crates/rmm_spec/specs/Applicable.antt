@@ -18,7 +18,7 @@ use Rattle.rmm_spec.specs.declared.tag.Tag.TheVariants.{Undelegated, Delegated, 
 use Rattle.rmm_spec.specs.State.{State, RecRecord}
 use Rattle.rmm_spec.specs.Lookup.{is_hash, has_tag, is_inside, is_vmid_used, has_rec, realm_at, rec_at, request_of}
 use Rattle.rmm_spec.specs.Walk.{entry_size, entry_at, half, has_link, is_in_use, is_table, is_assigned}
-use Rattle.rmm_spec.specs.Step.Words.{is_space}
+use Rattle.rmm_spec.specs.Step.Terms.{is_space}
 use Rattle.rmm_spec.specs.Sound.{IsRequest, IsTableOf, IsLeafOf}
 
 -- ---- granules, realms and RECs

@@ -7,6 +7,8 @@ use Rattle.rmm_spec.specs.declared.call.Removal.TheVariants.{Destroy, Fold}
 use Rattle.rmm_spec.specs.declared.command.Command.{Command}
 use Rattle.rmm_spec.specs.declared.function_id.FunctionId.{FunctionId}
 use Rattle.rmm_spec.specs.declared.function_id.FunctionId.TheVariants as function
+unfoldable pub use Rattle.rmm_spec.specs.Step.Terms.{class_of}
+pub use Rattle.rmm_spec.specs.Step.Terms.{Class, ByHost, ByRealm, ByExit}
 
 -- so many words from a place on
 abbrev pub words_at : List ℕ → ℕ → ℕ → List ℕ
@@ -48,21 +50,3 @@ call_from function.Exit w = call.Exit
 
 abbrev pub call_of : Command → Call
 call_of command = call_from command.function command.words.items
-
--- who gives a command: a realm's host (RMI), a realm from inside a REC (RSI, PSCI), or a REC that leaves to its host
-pub data Class : Type 0 where
-  ByHost : Class
-  ByRealm : Class
-  ByExit : Class
-
-unfoldable pub class_of : Call → Class
-class_of (call.MeasurementRead index) = ByRealm
-class_of (call.MeasurementExtend index size values) = ByRealm
-class_of call.RealmConfig = ByRealm
-class_of (call.IpaStateSet base top ripas) = ByRealm
-class_of (call.IpaStateGet ipa) = ByRealm
-class_of (call.HostCall imm) = ByRealm
-class_of call.CpuOff = ByRealm
-class_of call.SystemOff = ByRealm
-class_of call.Exit = ByExit
-class_of _ = ByHost

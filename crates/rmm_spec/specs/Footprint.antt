@@ -1,46 +1,12 @@
 -- What each command may change: whatever it answers, the other parts of the state stay as they are.
 use Rattle.std.specs.Prelude.{◌≡◌, ℕ, Bool, false, ◌||◌, ◌==◌, List, [], ◌∷◌}
 use Rattle.rmm_spec.specs.declared.function_id.FunctionId.{FunctionId}
-use Rattle.rmm_spec.specs.declared.function_id.FunctionId.TheVariants.{GranuleDelegate, GranuleUndelegate, DataCreate, DataCreateUnknown, DataDestroy, RealmActivate, RealmCreate, RealmDestroy, RecCreate, RecDestroy, RecEnter, RttCreate, RttDestroy, RttMapUnprotected, RttReadEntry, RttUnmapUnprotected, RttFold, RttInitRipas, RttSetRipas, MeasurementRead, MeasurementExtend, RealmConfig, IpaStateSet, IpaStateGet, HostCall, CpuOff, SystemOff, Exit}
+use Rattle.rmm_spec.specs.Function.{Part, Tags, Realms, Recs, Tables, Leaves, row_of}
 use Rattle.rmm_spec.specs.State.{State}
 
--- the maps of a state
-pub data Part : Type 0 where
-  Tags : Part
-  Realms : Part
-  Recs : Part
-  Tables : Part
-  Leaves : Part
-
 unfoldable pub changed_parts : FunctionId → List Part
-changed_parts GranuleDelegate = Tags ∷ []
-changed_parts GranuleUndelegate = Tags ∷ []
-changed_parts DataCreate = Tags ∷ Realms ∷ Leaves ∷ []
-changed_parts DataCreateUnknown = Tags ∷ Leaves ∷ []
-changed_parts DataDestroy = Tags ∷ Leaves ∷ []
-changed_parts RealmActivate = Realms ∷ []
-changed_parts RealmCreate = Tags ∷ Realms ∷ Tables ∷ Leaves ∷ []
-changed_parts RealmDestroy = Tags ∷ Realms ∷ Tables ∷ Leaves ∷ []
-changed_parts RecCreate = Tags ∷ Realms ∷ Recs ∷ []
-changed_parts RecDestroy = Tags ∷ Recs ∷ []
-changed_parts RecEnter = Recs ∷ []
-changed_parts RttCreate = Tags ∷ Tables ∷ Leaves ∷ []
-changed_parts RttDestroy = Tags ∷ Tables ∷ Leaves ∷ []
-changed_parts RttMapUnprotected = Leaves ∷ []
-changed_parts RttReadEntry = []
-changed_parts RttUnmapUnprotected = Leaves ∷ []
-changed_parts RttFold = Tags ∷ Tables ∷ Leaves ∷ []
-changed_parts RttInitRipas = Realms ∷ Leaves ∷ []
-changed_parts RttSetRipas = Recs ∷ Leaves ∷ []
-changed_parts MeasurementRead = []
-changed_parts MeasurementExtend = Realms ∷ []
-changed_parts RealmConfig = []
-changed_parts IpaStateSet = Recs ∷ []
-changed_parts IpaStateGet = []
-changed_parts HostCall = Recs ∷ []
-changed_parts CpuOff = Recs ∷ []
-changed_parts SystemOff = Realms ∷ Recs ∷ []
-changed_parts Exit = Recs ∷ []
+unfolding row_of
+changed_parts f = (row_of f).changes
 
 abbrev pub part_number : Part → ℕ
 part_number Tags = 0

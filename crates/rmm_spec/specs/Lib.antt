@@ -18,6 +18,7 @@ pub mod Sound
 pub mod Applicable
 pub mod Run
 pub mod Script
+pub mod TableScript
 pub mod Linearization
 pub mod FirstFault
 pub mod Footprint

@@ -1,15 +1,17 @@
--- Worked scripts: runs of CPU 0 on a machine of 16 granules, written out with their replies, and how one is replayed.
+-- How a script is replayed; and worked scripts of realms and RECs: runs of CPU 0 on a machine of 16 granules, written out with their
+-- replies.
 use Rattle.std.specs.Prelude.{ℕ, Bool, true, false, ◌&&◌, ◌==◌, if◌then◌else◌, List, [], ◌∷◌, Option, Some, None, Result, Ok, Err, option_map}
 use Rattle.std.specs.Option.{option_and_then}
 use Rattle.rmm_spec.specs.declared.version.Version.TheVariants.{One, Two}
 use Rattle.rmm_spec.specs.declared.accepted.Accepted.{Accepted}
 use Rattle.rmm_spec.specs.declared.accepted.Accepted.TheVariants.{Done, Reaches}
 use Rattle.rmm_spec.specs.declared.function_id.FunctionId.{FunctionId}
-use Rattle.rmm_spec.specs.declared.function_id.FunctionId.TheVariants.{GranuleDelegate, GranuleUndelegate, DataCreate, DataCreateUnknown, DataDestroy, RealmActivate, RealmCreate, RealmDestroy, RecCreate, RecDestroy, RecEnter, RttCreate, RttDestroy, RttFold, RttMapUnprotected, RttReadEntry, RttUnmapUnprotected, RttInitRipas, RttSetRipas, MeasurementRead, MeasurementExtend, RealmConfig, IpaStateSet, IpaStateGet, HostCall, CpuOff, SystemOff, Exit}
+use Rattle.rmm_spec.specs.declared.function_id.FunctionId.TheVariants.{GranuleDelegate, RealmActivate, RealmCreate, RealmDestroy, RecCreate, RecDestroy, RecEnter, MeasurementRead, MeasurementExtend, RealmConfig, IpaStateSet, HostCall, CpuOff, SystemOff, Exit}
+use Rattle.rmm_spec.specs.declared.refusal.Refusal.{Refusal}
 use Rattle.rmm_spec.specs.declared.reply.Reply.{Reply}
 use Rattle.rmm_spec.specs.declared.reply.Reply.TheVariants as reply
 use Rattle.rmm_spec.specs.HistoryText.{Config}
-use Rattle.rmm_spec.specs.Rows.{ok}
+use Rattle.rmm_spec.specs.Rows.{ok, reply_of}
 use Rattle.rmm_spec.specs.Call.{call_of}
 use Rattle.rmm_spec.specs.Change.{changed}
 use Rattle.rmm_spec.specs.State.{State}
@@ -44,8 +46,8 @@ end_given (reply.Err status index) is_allowed = None
 end_given reply.Misplaced is_allowed = None
 
 -- the next state, where what the specification answers is this reply
-abbrev pub next_by : Result Accepted Reply → State → Reply → Option State
-next_by (Err refusal) s given = if is_same_reply given refusal then Some s else None
+abbrev pub next_by : Result Accepted Refusal → State → Reply → Option State
+next_by (Err refused) s given = if is_same_reply given (reply_of refused) then Some s else None
 next_by (Ok (Done words change)) s given = if is_same_reply given (reply.Ok words) then Some (changed s change) else None
 next_by (Ok (Reaches stretch)) s given = option_map (λ top. changed s (reached_change stretch top)) (end_given given (is_reached s stretch))
 
@@ -67,113 +69,6 @@ version_two_config = record script_config { version = Two }
 
 abbrev pub answered : FunctionId → List ℕ → Reply → JournalEntry
 answered function words given = record { cpu = 0; command = record { function = function; words = record { items = words } }; given = given }
-
--- a table with a page in it can't be taken out, and can once the page was taken back
-unfoldable pub table_with_data_stays : List JournalEntry
-table_with_data_stays =
-    (answered GranuleDelegate (0x1000 ∷ []) (ok ([]))
-    ∷ answered GranuleDelegate (0x2000 ∷ []) (ok ([]))
-    ∷ answered GranuleDelegate (0x3000 ∷ []) (ok ([]))
-    ∷ answered GranuleDelegate (0x4000 ∷ []) (ok ([]))
-    ∷ answered GranuleDelegate (0x5000 ∷ []) (ok ([]))
-    ∷ answered RealmCreate (0x1000 ∷ 0x2000 ∷ 39 ∷ 1 ∷ 1 ∷ 0 ∷ []) (ok ([]))
-    ∷ answered RttCreate (0x1000 ∷ 0x3000 ∷ 0 ∷ 2 ∷ []) (ok ([]))
-    ∷ answered RttCreate (0x1000 ∷ 0x4000 ∷ 0 ∷ 3 ∷ []) (ok ([]))
-    ∷ answered DataCreateUnknown (0x1000 ∷ 0x5000 ∷ 0x1ff000 ∷ []) (ok ([]))
-    ∷ answered RttDestroy (0x1000 ∷ 0 ∷ 3 ∷ []) (reply.Err 4 3)
-    ∷ answered DataDestroy (0x1000 ∷ 0x1ff000 ∷ []) (ok (0x5000 ∷ []))
-    ∷ answered RttDestroy (0x1000 ∷ 0 ∷ 3 ∷ []) (ok (0x4000 ∷ []))
-    ∷ answered RttReadEntry (0x1000 ∷ 0 ∷ 3 ∷ []) (ok (2 ∷ 0 ∷ 0 ∷ 2 ∷ []))
-    ∷ [])
-
--- a table folds once all its entries are RAM, and not before
-unfoldable pub table_folds : List JournalEntry
-table_folds =
-    (answered GranuleDelegate (0x1000 ∷ []) (ok ([]))
-    ∷ answered GranuleDelegate (0x2000 ∷ []) (ok ([]))
-    ∷ answered GranuleDelegate (0x3000 ∷ []) (ok ([]))
-    ∷ answered GranuleDelegate (0x4000 ∷ []) (ok ([]))
-    ∷ answered RealmCreate (0x1000 ∷ 0x2000 ∷ 39 ∷ 1 ∷ 1 ∷ 0 ∷ []) (ok ([]))
-    ∷ answered RttCreate (0x1000 ∷ 0x3000 ∷ 0 ∷ 2 ∷ []) (ok ([]))
-    ∷ answered RttCreate (0x1000 ∷ 0x4000 ∷ 0 ∷ 3 ∷ []) (ok ([]))
-    ∷ answered RttInitRipas (0x1000 ∷ 0 ∷ 0x1000 ∷ []) (ok (0x1000 ∷ []))
-    ∷ answered RttFold (0x1000 ∷ 0 ∷ 3 ∷ []) (reply.Err 4 3)
-    ∷ answered RttInitRipas (0x1000 ∷ 0x1000 ∷ 0x200000 ∷ []) (ok (0x200000 ∷ []))
-    ∷ answered RttFold (0x1000 ∷ 0 ∷ 3 ∷ []) (ok (0x4000 ∷ []))
-    ∷ answered RttReadEntry (0x1000 ∷ 0 ∷ 3 ∷ []) (ok (2 ∷ 0 ∷ 0 ∷ 1 ∷ []))
-    ∷ answered RttFold (0x1000 ∷ 0 ∷ 3 ∷ []) (reply.Err 4 2)
-    ∷ answered RttFold (0x1000 ∷ 0 ∷ 2 ∷ []) (reply.Err 4 2)
-    ∷ answered RttFold (0x1000 ∷ 0 ∷ 1 ∷ []) (reply.Err 1 0)
-    ∷ answered GranuleUndelegate (0x4000 ∷ []) (ok ([]))
-    ∷ [])
-
--- a page of one realm can't be given to another
-unfoldable pub data_granule_mapped_twice : List JournalEntry
-data_granule_mapped_twice =
-    (answered GranuleDelegate (0x1000 ∷ []) (ok ([]))
-    ∷ answered GranuleDelegate (0x2000 ∷ []) (ok ([]))
-    ∷ answered GranuleDelegate (0x3000 ∷ []) (ok ([]))
-    ∷ answered GranuleDelegate (0x4000 ∷ []) (ok ([]))
-    ∷ answered GranuleDelegate (0x5000 ∷ []) (ok ([]))
-    ∷ answered GranuleDelegate (0x6000 ∷ []) (ok ([]))
-    ∷ answered GranuleDelegate (0x7000 ∷ []) (ok ([]))
-    ∷ answered GranuleDelegate (0x8000 ∷ []) (ok ([]))
-    ∷ answered GranuleDelegate (0x9000 ∷ []) (ok ([]))
-    ∷ answered RealmCreate (0x1000 ∷ 0x2000 ∷ 39 ∷ 1 ∷ 1 ∷ 0 ∷ []) (ok ([]))
-    ∷ answered RealmCreate (0x6000 ∷ 0x7000 ∷ 39 ∷ 1 ∷ 2 ∷ 0 ∷ []) (ok ([]))
-    ∷ answered RttCreate (0x1000 ∷ 0x3000 ∷ 0 ∷ 2 ∷ []) (ok ([]))
-    ∷ answered RttCreate (0x1000 ∷ 0x4000 ∷ 0 ∷ 3 ∷ []) (ok ([]))
-    ∷ answered RttCreate (0x6000 ∷ 0x8000 ∷ 0 ∷ 2 ∷ []) (ok ([]))
-    ∷ answered RttCreate (0x6000 ∷ 0x9000 ∷ 0 ∷ 3 ∷ []) (ok ([]))
-    ∷ answered DataCreateUnknown (0x1000 ∷ 0x5000 ∷ 0 ∷ []) (ok ([]))
-    ∷ answered DataCreateUnknown (0x6000 ∷ 0x5000 ∷ 0 ∷ []) (reply.Err 1 0)
-    ∷ [])
-
--- a stretch that a realm asked for becomes RAM in two commands
-unfoldable pub ripas_change_in_two_parts : List JournalEntry
-ripas_change_in_two_parts =
-    (answered GranuleDelegate (0x1000 ∷ []) (ok ([]))
-    ∷ answered GranuleDelegate (0x2000 ∷ []) (ok ([]))
-    ∷ answered GranuleDelegate (0x3000 ∷ []) (ok ([]))
-    ∷ answered GranuleDelegate (0x4000 ∷ []) (ok ([]))
-    ∷ answered GranuleDelegate (0x5000 ∷ []) (ok ([]))
-    ∷ answered GranuleDelegate (0x6000 ∷ []) (ok ([]))
-    ∷ answered GranuleDelegate (0x7000 ∷ []) (ok ([]))
-    ∷ answered RealmCreate (0x1000 ∷ 0x2000 ∷ 39 ∷ 1 ∷ 1 ∷ 0 ∷ []) (ok ([]))
-    ∷ answered RecCreate (0x1000 ∷ 0x5000 ∷ 0 ∷ 1 ∷ 0x6000 ∷ 0x7000 ∷ []) (ok ([]))
-    ∷ answered RttCreate (0x1000 ∷ 0x3000 ∷ 0 ∷ 2 ∷ []) (ok ([]))
-    ∷ answered RttCreate (0x1000 ∷ 0x4000 ∷ 0 ∷ 3 ∷ []) (ok ([]))
-    ∷ answered RealmActivate (0x1000 ∷ []) (ok ([]))
-    ∷ answered RecEnter (0x5000 ∷ []) (ok (0 ∷ []))
-    ∷ answered IpaStateSet (0 ∷ 0x3000 ∷ 1 ∷ []) (ok ([]))
-    ∷ answered Exit ([]) (ok (4 ∷ 0 ∷ 0x3000 ∷ 1 ∷ []))
-    ∷ answered RttSetRipas (0x1000 ∷ 0x5000 ∷ 0 ∷ 0x3000 ∷ []) (ok (0x1000 ∷ []))
-    ∷ answered RttSetRipas (0x1000 ∷ 0x5000 ∷ 0x1000 ∷ 0x3000 ∷ []) (ok (0x3000 ∷ []))
-    ∷ answered RecEnter (0x5000 ∷ []) (ok (0x3000 ∷ []))
-    ∷ answered IpaStateGet (0x2000 ∷ []) (ok (1 ∷ []))
-    ∷ [])
-
--- a stretch ends by the end of its table, and goes on in the table above where that has room
-unfoldable pub ripas_change_past_table : List JournalEntry
-ripas_change_past_table =
-    (answered GranuleDelegate (0x1000 ∷ []) (ok ([]))
-    ∷ answered GranuleDelegate (0x2000 ∷ []) (ok ([]))
-    ∷ answered GranuleDelegate (0x3000 ∷ []) (ok ([]))
-    ∷ answered GranuleDelegate (0x4000 ∷ []) (ok ([]))
-    ∷ answered GranuleDelegate (0x5000 ∷ []) (ok ([]))
-    ∷ answered GranuleDelegate (0x6000 ∷ []) (ok ([]))
-    ∷ answered GranuleDelegate (0x7000 ∷ []) (ok ([]))
-    ∷ answered RealmCreate (0x1000 ∷ 0x2000 ∷ 39 ∷ 1 ∷ 1 ∷ 0 ∷ []) (ok ([]))
-    ∷ answered RecCreate (0x1000 ∷ 0x5000 ∷ 0 ∷ 1 ∷ 0x6000 ∷ 0x7000 ∷ []) (ok ([]))
-    ∷ answered RttCreate (0x1000 ∷ 0x3000 ∷ 0 ∷ 2 ∷ []) (ok ([]))
-    ∷ answered RttCreate (0x1000 ∷ 0x4000 ∷ 0 ∷ 3 ∷ []) (ok ([]))
-    ∷ answered RealmActivate (0x1000 ∷ []) (ok ([]))
-    ∷ answered RecEnter (0x5000 ∷ []) (ok (0 ∷ []))
-    ∷ answered IpaStateSet (0x1ff000 ∷ 0x201000 ∷ 1 ∷ []) (ok ([]))
-    ∷ answered Exit ([]) (ok (4 ∷ 0x1ff000 ∷ 0x201000 ∷ 1 ∷ []))
-    ∷ answered RttSetRipas (0x1000 ∷ 0x5000 ∷ 0x1ff000 ∷ 0x201000 ∷ []) (ok (0x200000 ∷ []))
-    ∷ answered RttSetRipas (0x1000 ∷ 0x5000 ∷ 0x200000 ∷ 0x201000 ∷ []) (reply.Err 4 2)
-    ∷ [])
 
 -- a REC is made, entered, leaves, and is gone with its realm
 unfoldable pub life_of_a_rec : List JournalEntry
@@ -224,28 +119,6 @@ off_and_out_of_range =
     ∷ answered Exit ([]) (reply.Misplaced)
     ∷ [])
 
--- pages are said to be RAM, one is given with its content, and is lost when it is taken back
-unfoldable pub ripas_before_a_realm_runs : List JournalEntry
-ripas_before_a_realm_runs =
-    (answered GranuleDelegate (0x1000 ∷ []) (ok ([]))
-    ∷ answered GranuleDelegate (0x2000 ∷ []) (ok ([]))
-    ∷ answered GranuleDelegate (0x3000 ∷ []) (ok ([]))
-    ∷ answered GranuleDelegate (0x4000 ∷ []) (ok ([]))
-    ∷ answered GranuleDelegate (0x5000 ∷ []) (ok ([]))
-    ∷ answered RealmCreate (0x1000 ∷ 0x2000 ∷ 39 ∷ 1 ∷ 1 ∷ 0 ∷ []) (ok ([]))
-    ∷ answered RttCreate (0x1000 ∷ 0x3000 ∷ 0 ∷ 2 ∷ []) (ok ([]))
-    ∷ answered RttCreate (0x1000 ∷ 0x4000 ∷ 0 ∷ 3 ∷ []) (ok ([]))
-    ∷ answered DataCreate (0x1000 ∷ 0x5000 ∷ 0 ∷ 0x6000 ∷ 0 ∷ 0 ∷ 0 ∷ 0 ∷ 0 ∷ []) (reply.Err 4 3)
-    ∷ answered RttInitRipas (0x1000 ∷ 0 ∷ 0x2000 ∷ []) (ok (0x2000 ∷ []))
-    ∷ answered DataCreate (0x1000 ∷ 0x5000 ∷ 0x1000 ∷ 0x6000 ∷ 1 ∷ 10 ∷ 11 ∷ 12 ∷ 13 ∷ []) (ok ([]))
-    ∷ answered RttReadEntry (0x1000 ∷ 0x1000 ∷ 3 ∷ []) (ok (3 ∷ 1 ∷ 0x5000 ∷ 1 ∷ []))
-    ∷ answered RttInitRipas (0x1000 ∷ 0x1000 ∷ 0x3000 ∷ []) (reply.Err 4 3)
-    ∷ answered DataDestroy (0x1000 ∷ 0x1000 ∷ []) (ok (0x5000 ∷ []))
-    ∷ answered RttReadEntry (0x1000 ∷ 0x1000 ∷ 3 ∷ []) (ok (3 ∷ 0 ∷ 0 ∷ 2 ∷ []))
-    ∷ answered RttMapUnprotected (0x1000 ∷ 0x4000000000 ∷ 0 ∷ []) (reply.Err 4 1)
-    ∷ answered RttReadEntry (0x1000 ∷ 0 ∷ 1 ∷ []) (ok (1 ∷ 2 ∷ 0x3000 ∷ 0 ∷ []))
-    ∷ [])
-
 -- realms and RECs are made and destroyed, in their order and out of it
 unfoldable pub realms_and_recs_come_and_go : List JournalEntry
 realms_and_recs_come_and_go =
@@ -269,49 +142,6 @@ realms_and_recs_come_and_go =
     ∷ answered RecCreate (0x1000 ∷ 0x5000 ∷ 1 ∷ 1 ∷ 0x6000 ∷ 0x7000 ∷ []) (reply.Err 2 0)
     ∷ answered RealmDestroy (0x1000 ∷ []) (ok ([]))
     ∷ answered RealmCreate (0x3000 ∷ 0x4000 ∷ 48 ∷ 0 ∷ 1 ∷ 0 ∷ []) (ok ([]))
-    ∷ [])
-
--- words past their ranges are refused, whatever their size
-unfoldable pub words_out_of_range : List JournalEntry
-words_out_of_range =
-    (answered GranuleDelegate (0x1000 ∷ []) (ok ([]))
-    ∷ answered GranuleDelegate (0x2000 ∷ []) (ok ([]))
-    ∷ answered GranuleDelegate (0x3000 ∷ []) (ok ([]))
-    ∷ answered RealmCreate (0x1000 ∷ 0x2000 ∷ 39 ∷ 1 ∷ 1 ∷ 0 ∷ []) (ok ([]))
-    ∷ answered RttCreate (0x1000 ∷ 0x3000 ∷ 0 ∷ 0 ∷ []) (reply.Err 1 0)
-    ∷ answered RttCreate (0x1000 ∷ 0x3000 ∷ 0 ∷ 0xffffffffffffffff ∷ []) (reply.Err 1 0)
-    ∷ answered RttReadEntry (0x1000 ∷ 0x8000000000 ∷ 1 ∷ []) (reply.Err 1 0)
-    ∷ answered RttReadEntry (0x1000 ∷ 0 ∷ 0 ∷ []) (reply.Err 1 0)
-    ∷ answered RttInitRipas (0x1000 ∷ 0xfffffffffffff000 ∷ 0 ∷ []) (reply.Err 1 0)
-    ∷ answered RttInitRipas (0x1000 ∷ 0 ∷ 0x4000001000 ∷ []) (reply.Err 1 0)
-    ∷ answered RttMapUnprotected (0x1000 ∷ 0x4000000000 ∷ 0x1000000000000 ∷ []) (reply.Err 1 0)
-    ∷ answered RecCreate (0x1000 ∷ 0x3000 ∷ 0 ∷ 1 ∷ 0x3000 ∷ 0x3000 ∷ []) (reply.Err 1 0)
-    ∷ [])
-
--- a page of the host is mapped once, read, unmapped and read again; a REC extends a measurement and leaves by an interrupt
-unfoldable pub page_of_the_host : List JournalEntry
-page_of_the_host =
-    (answered GranuleDelegate (0x1000 ∷ []) (ok ([]))
-    ∷ answered GranuleDelegate (0x2000 ∷ []) (ok ([]))
-    ∷ answered GranuleDelegate (0x3000 ∷ []) (ok ([]))
-    ∷ answered GranuleDelegate (0x4000 ∷ []) (ok ([]))
-    ∷ answered GranuleDelegate (0x5000 ∷ []) (ok ([]))
-    ∷ answered GranuleDelegate (0x6000 ∷ []) (ok ([]))
-    ∷ answered GranuleDelegate (0x7000 ∷ []) (ok ([]))
-    ∷ answered RealmCreate (0x1000 ∷ 0x2000 ∷ 39 ∷ 1 ∷ 1 ∷ 0 ∷ []) (ok ([]))
-    ∷ answered RttCreate (0x1000 ∷ 0x3000 ∷ 0x4000000000 ∷ 2 ∷ []) (ok ([]))
-    ∷ answered RttCreate (0x1000 ∷ 0x4000 ∷ 0x4000000000 ∷ 3 ∷ []) (ok ([]))
-    ∷ answered RttMapUnprotected (0x1000 ∷ 0x4000000000 ∷ 0x8000 ∷ []) (ok ([]))
-    ∷ answered RttMapUnprotected (0x1000 ∷ 0x4000000000 ∷ 0x9000 ∷ []) (reply.Err 4 3)
-    ∷ answered RttReadEntry (0x1000 ∷ 0x4000000000 ∷ 3 ∷ []) (ok (3 ∷ 1 ∷ 0x8000 ∷ 0 ∷ []))
-    ∷ answered RttUnmapUnprotected (0x1000 ∷ 0x4000000000 ∷ []) (ok ([]))
-    ∷ answered RttReadEntry (0x1000 ∷ 0x4000000000 ∷ 3 ∷ []) (ok (3 ∷ 0 ∷ 0 ∷ 0 ∷ []))
-    ∷ answered RttUnmapUnprotected (0x1000 ∷ 0x4000000000 ∷ []) (reply.Err 4 3)
-    ∷ answered RecCreate (0x1000 ∷ 0x5000 ∷ 0 ∷ 1 ∷ 0x6000 ∷ 0x7000 ∷ []) (ok ([]))
-    ∷ answered RealmActivate (0x1000 ∷ []) (ok ([]))
-    ∷ answered RecEnter (0x5000 ∷ []) (ok (0 ∷ []))
-    ∷ answered MeasurementExtend (4 ∷ 64 ∷ 1 ∷ 2 ∷ 3 ∷ 4 ∷ 5 ∷ 6 ∷ 7 ∷ 8 ∷ []) (ok ([]))
-    ∷ answered Exit ([]) (ok (1 ∷ 0 ∷ 0 ∷ 0 ∷ []))
     ∷ [])
 
 -- in version 2 a realm is measured by SHA-512: it is told so, and reads eight words

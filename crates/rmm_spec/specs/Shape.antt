@@ -11,7 +11,7 @@ use Rattle.rmm_spec.specs.State.{RealmRecord, RecRecord, Request, Pending, Ripas
 use Rattle.rmm_spec.specs.Lookup.{is_granule, is_owned_by}
 use Rattle.rmm_spec.specs.Walk.{table_size}
 use Rattle.rmm_spec.specs.Table.{TableRecord, place_number}
-use Rattle.rmm_spec.specs.Step.Words.{is_space}
+use Rattle.rmm_spec.specs.Step.Terms.{is_space}
 use Rattle.rmm_spec.specs.Sound.{IsRequest, IsTableOf, IsLeafOf, has_aux}
 use Rattle.rmm_spec.specs.Cell.{Cell, Undelegated, realms_of, recs_of, tables_of, auxes_of, datas_of}
 

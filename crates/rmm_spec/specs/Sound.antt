@@ -9,7 +9,7 @@ use Rattle.rmm_spec.specs.declared.tag.Tag.TheVariants.{Undelegated, Rd, Rec, Re
 use Rattle.rmm_spec.specs.State.{State, RealmRecord, RecRecord, Request, Pending, RipasChange}
 use Rattle.rmm_spec.specs.Lookup.{is_granule, has_tag, runs_on}
 use Rattle.rmm_spec.specs.Walk.{entry_size, table_size, full, half}
-use Rattle.rmm_spec.specs.Step.Words.{is_page, is_space}
+use Rattle.rmm_spec.specs.Step.Terms.{is_page, is_space}
 
 -- ---- realms
 

@@ -70,14 +70,6 @@ is_assigned (Table granule) = false
 is_assigned UnassignedNs = false
 is_assigned (AssignedNs page) = false
 
--- whether an entry is unassigned memory
-abbrev pub is_unassigned_ram : Entry → Bool
-is_unassigned_ram (Unassigned ripas) = is_ram ripas
-is_unassigned_ram (Assigned ripas granule) = false
-is_unassigned_ram (Table granule) = false
-is_unassigned_ram UnassignedNs = false
-is_unassigned_ram (AssignedNs page) = false
-
 abbrev pub is_unassigned_ns : Entry → Bool
 is_unassigned_ns UnassignedNs = true
 is_unassigned_ns (Unassigned ripas) = false

@@ -1,15 +1,16 @@
 //! `rmmfind [--limit N] [--explain] HISTORY`: prints an order of the history's calls that is a linearization, as a certificate: status 0.
-//! Where there is none it prints `none`: status 1. Where it tried N steps without an answer it prints `gave up`: status 3.
+//! Where there is none it prints `none`, and the line of the return that no order survives, where it knows that: status 1. Where it tried N
+//! steps without an answer it prints `gave up`: status 4.
 #![tactic(auto)]
 
 mod explaining;
 
-use crate::explaining::append_longest;
+use crate::explaining::append_reached;
 use checker::{Verdict, verdict_text};
 use checking::ends_with;
 use file_arguments::{Search, search_asked};
 use file_programs::{Fault, arguments_of, bytes_of, end, print, shown};
-use finding::{Found, find};
+use finding::{Found, append_found, find, status_of};
 use history::HistoryFault;
 use release::{Judged, append_judged, version_text};
 use std::alloc::{AllocError, Global};
@@ -55,24 +56,15 @@ fn append_answer(
         }
         Err(HistoryFault::NoMemory) => return Err(AllocError),
     };
-    match find(alloc, &history, search.limit)? {
-        Found::Order(certificate) => {
-            certificate::write(&certificate, text)?;
-            Ok(0)
-        }
-        Found::None => {
-            text.extend_from_slice(b"none\n")?;
-            if search.explained {
-                append_longest(alloc, bytes, &history, search.limit, text)?;
-                append_end(alloc, bytes, text)?;
-            }
-            Ok(1)
-        }
-        Found::GaveUp(_) => {
-            text.extend_from_slice(b"gave up\n")?;
-            Ok(3)
-        }
+    let found = find(alloc, &history, search.limit)?;
+    append_found(&found, text)?;
+    if search.explained
+        && let Found::None(place) = &found
+    {
+        append_reached(alloc, bytes, &history, search.limit, *place, text)?;
+        append_end(alloc, bytes, text)?;
     }
+    Ok(status_of(&found))
 }
 
 // The end of the report on a history of which no order is a linearization.

@@ -1,49 +1,107 @@
-//! `rmmmerge [--version 1|2] [--granules G] [--cpus P] [--prefix] EVENTS HISTORY CERTIFICATE`: writes the history and the certificate of
-//! what a recorder wrote: status 0. With `--prefix` it takes the events before the first stamp that is missing, and prints that stamp.
-//! Where the events are no run it prints why, with the line: status 2, and it writes no file.
+//! `rmmmerge [--version 1|2] [--granules G] [--cpus P] [--prefix] [--rename [--memory BYTES] [--map FILE]] EVENTS HISTORY CERTIFICATE`:
+//! writes the history and the certificate of what a recorder wrote: status 0. With `--prefix` it takes the events before the first
+//! stamp that is missing, and prints that stamp. With `--rename` granules are numbered as they come, and FILE gets their names.
+//! Where the events are no run it prints why, with the line: status 2, and it writes no file. So do other arguments.
 #![tactic(auto)]
 
-mod arguments;
-
-use crate::arguments::{Arguments, arguments_given};
-use file_programs::{Fault, bytes_of, end, print};
-use merging::{EventsFault, Extent, MergeFault, TextFault, Texts, merge_text};
+use devices::FileSource;
+use file_programs::{Fault, end, print};
+use merge_words::{Asked as Words, Extent as Given, Names, Paths, Request, Unasked, request_given};
+use merging::{
+    Asked, EventsFault, Extent, MergeFault, Renaming, SourceFault, TextFault, Texts, merge_source,
+};
+use release::VERSION;
 use std::alloc::{AllocError, Global};
+use std::io::ErrorKind;
 use std::process::ExitCode;
 use std::rt::{Env, Files};
-use std::{fs, io};
+use std::{env, fs, io};
 
 fn main(rt: HostRuntime) -> ExitCode {
-    ExitCode::from(end(&rt, "rmmmerge", merged(&rt)))
+    ExitCode::from(end(&rt, "rmmmerge", served(&rt)))
 }
 
-fn merged<R: Env + Files + Print + AllocGlobal>(rt: &R) -> Result<u8, Fault> {
-    let Arguments {
-        asked,
-        events,
-        history,
-        certificate,
-    } = arguments_given(rt)?;
-    let text = bytes_of(rt, events)?;
-    match merge_text(rt.alloc(), text, asked) {
-        Ok(texts) => {
-            let Texts {
-                history: calls,
-                certificate: commits,
-                stamps,
-            } = texts;
-            write(rt, &history, calls)?;
-            write(rt, &certificate, commits)?;
-            report_extent(rt, asked.extent, stamps)?;
+fn served<R: Env + Files + Print + Eprint + AllocGlobal>(rt: &R) -> Result<u8, Fault> {
+    let words = words_of(rt)?;
+    match request_given(rt, words.as_slice()) {
+        Ok(Words::Merge(request)) => merge(rt, request),
+        Ok(Words::Version) => {
+            let line = format!(in rt.alloc(); "rmmmerge {VERSION}\n")?;
+            print(&mut io::writer(rt), line.as_bytes())?;
             Ok(0)
         }
-        Err(fault) => report_fault(rt, fault),
+        Err(Unasked::Printed(status)) => Ok(status),
+        Err(Unasked::CannotWrite) => Err(Fault::CannotWrite),
+        Err(Unasked::NoMemory) => Err(Fault::NoMemory),
     }
 }
 
+fn words_of<R: Env + AllocGlobal>(rt: &R) -> Result<Vec<String>, Fault> {
+    match env::args(rt) {
+        Ok(words) => Ok(words.collect(rt.alloc())?),
+        Err(error) if error.kind() == ErrorKind::OutOfMemory => Err(Fault::NoMemory),
+        Err(_) => Err(Fault::Arguments),
+    }
+}
+
+fn merge<R: Files + Print + AllocGlobal>(rt: &R, request: Request<'_>) -> Result<u8, Fault> {
+    let path = request.paths.events;
+    let Ok(file) = fs::open(rt, path) else {
+        return unread(rt, path);
+    };
+    let mut source = FileSource::new(file);
+    match merge_source(rt.alloc(), &mut source, asked_by(&request)) {
+        Ok(texts) => write_out(rt, &request, texts),
+        Err(SourceFault::Events(fault)) => report_fault(rt, fault),
+        Err(SourceFault::Device) => unread(rt, path),
+        Err(SourceFault::NoMemory) => Err(Fault::NoMemory),
+    }
+}
+
+fn unread<R: AllocGlobal>(rt: &R, path: &str) -> Result<u8, Fault> {
+    Err(Fault::CannotRead(String::from_str(rt.alloc(), path)?))
+}
+
+fn asked_by(request: &Request<'_>) -> Asked {
+    Asked {
+        version: request.version,
+        granules: request.granules,
+        cpus: request.cpus,
+        extent: match request.extent {
+            Given::All => Extent::Whole,
+            Given::UpToHole => Extent::UpToHole,
+        },
+        renaming: match request.names {
+            Some(names) => Some(Renaming {
+                memory: names.memory.unwrap_or(u64::MAX),
+            }),
+            None => None,
+        },
+    }
+}
+
+fn write_out<R: Files + Print + AllocGlobal>(
+    rt: &R,
+    request: &Request<'_>,
+    texts: Texts,
+) -> Result<u8, Fault> {
+    let Paths {
+        history,
+        certificate,
+        ..
+    } = request.paths;
+    write(rt, history, &texts.history)?;
+    write(rt, certificate, &texts.certificate)?;
+    if let Some(Names { map: Some(map), .. }) = request.names {
+        write(rt, map, &texts.map)?;
+    }
+    report_extent(rt, request.extent, texts.stamps)?;
+    Ok(0)
+}
+
 // Writes a file, in place of one that is there.
-fn write<R: Files + AllocGlobal>(rt: &R, path: &String, text: Vec<u8>) -> Result<(), Fault> {
-    match fs::write(rt, path.as_str(), text.as_slice()) {
+fn write<R: Files + AllocGlobal>(rt: &R, path: &str, text: &Vec<u8>) -> Result<(), Fault> {
+    match fs::write(rt, path, text.as_slice()) {
         Ok(()) => Ok(()),
         Err(_) => Err(Fault::CannotWrite),
     }
@@ -52,12 +110,12 @@ fn write<R: Files + AllocGlobal>(rt: &R, path: &String, text: Vec<u8>) -> Result
 // Prints up to which stamp events were taken, where not all had to be there.
 fn report_extent<R: Print + AllocGlobal>(
     rt: &R,
-    extent: Extent,
+    extent: Given,
     stamps: usize,
 ) -> Result<(), Fault> {
     match extent {
-        Extent::Whole => Ok(()),
-        Extent::UpToHole => {
+        Given::All => Ok(()),
+        Given::UpToHole => {
             let line = format!(in rt.alloc(); "merged the events before stamp {stamps}\n")?;
             print(&mut io::writer(rt), line.as_bytes())
         }

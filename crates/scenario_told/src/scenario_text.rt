@@ -36,7 +36,11 @@ fn write_program<W: fmt::Write>(
     }
     write!(f, "CPU {cpu} calls:\n")?;
     for (number, command) in program.iter().enumerate() {
-        write!(f, "    {number}: {}\n", CallText(command.call()))?;
+        let command = CallText {
+            function: command.function,
+            words: command.words.as_slice(),
+        };
+        write!(f, "    {number}: {command}\n")?;
     }
     Ok(())
 }

@@ -19,8 +19,7 @@ use Rattle.rmm_spec.specs.Step.Realm.{realm_create}
 use Rattle.rmm_spec.specs.Step.Rec.{rec_create}
 use Rattle.rmm_spec.specs.Step.Table.{rtt_create}
 use Rattle.rmm_spec.specs.Step.Data.{data_create_unknown}
-use Rattle.rmm_spec.specs.Step.Words.{words_of}
-use Rattle.rmm_spec.specs.Step.Named.{named}
+use Rattle.rmm_spec.specs.Step.Terms.{words_of, named}
 use Rattle.rmm_spec.specs.Table.{place_number}
 use Rattle.rmm_spec.specs.Walk.{entry_size, table_size, entry_number, table_number, entry_at, reach}
 use Rattle.rmm_spec.specs.Cell.{Cell, Undelegated, Delegated, Data, Rtt, put}

@@ -9,7 +9,7 @@ use Rattle.rmm_spec.specs.declared.tag.Tag.TheVariants as tag
 use Rattle.rmm_spec.specs.Call.{ByHost, call_of, call_from, class_of}
 use Rattle.rmm_spec.specs.Lookup.{is_granule}
 use Rattle.rmm_spec.specs.Rows.{Needed, ok, input_error}
-use Rattle.rmm_spec.specs.Step.Named.{needed, named}
+use Rattle.rmm_spec.specs.Step.Terms.{needed, named}
 use Rattle.rmm_spec.specs.Cell.{Undelegated, Delegated, put, tag_of}
 use Rattle.rmm_spec.specs.Shape.{Outside}
 use Rattle.rmm_spec.specs.Local.{HeldCell, LocalStep}

@@ -5,7 +5,7 @@ use Rattle.rmm_spec.specs.declared.tag.Tag.TheVariants as tag
 use Rattle.rmm_spec.specs.Call.{call_of, call_from}
 use Rattle.rmm_spec.specs.Lookup.{is_granule}
 use Rattle.rmm_spec.specs.Rows.{Needed}
-use Rattle.rmm_spec.specs.Step.Named.{needed, named}
+use Rattle.rmm_spec.specs.Step.Terms.{needed, named}
 use Rattle.rmm_spec.specs.Cell.{Delegated, tag_of, is_data}
 use Rattle.rmm_spec.specs.Local.{HeldCell}
 use Rattle.rmm_spec.specs.Locks.{is_named, names_part, IsStray, IsNextNamed, IsNextPart, IsRisingTake}

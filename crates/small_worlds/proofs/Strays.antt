@@ -17,8 +17,7 @@ use Rattle.rmm_spec.specs.Step.{outcome, answer_of}
 use Rattle.rmm_spec.specs.Step.Granule.{granule_delegate}
 use Rattle.rmm_spec.specs.Step.Realm.{realm_create}
 use Rattle.rmm_spec.specs.Step.Rec.{rec_create}
-use Rattle.rmm_spec.specs.Step.Words.{words_of}
-use Rattle.rmm_spec.specs.Step.Named.{needed, named}
+use Rattle.rmm_spec.specs.Step.Terms.{words_of, needed, named}
 use Rattle.rmm_spec.specs.Cell.{Rec, RecAux, put, tag_of, is_data}
 use Rattle.rmm_spec.specs.Flat.{flat_state}
 use Rattle.rmm_spec.specs.Shape.{CpuPlace, Outside}

@@ -2,6 +2,7 @@
 use Rattle.spec_machine.proofs.Common.{◌≡◌, ℕ, true, false, [], ◌∷◌, Ok, CarriesOut, Reaches, State, Stretch, both_ways, is_reached, ok, reached-is_reached, refl, sym, ◌∙◌}
 use Rattle.std.specs.Prelude.{Result}
 use Rattle.rmm_spec.specs.declared.accepted.Accepted.{Accepted}
+use Rattle.rmm_spec.specs.declared.refusal.Refusal.{Refusal}
 use Rattle.rmm_spec.specs.declared.reply.Reply.{Reply}
 use Rattle.rmm_laws.proofs.StepLaws.{word_of}
 use Rattle.spec_machine.specs.Offers.{TakesReply}
@@ -14,6 +15,6 @@ no_reach s stretch top given is refused next (other, (reached, told, changed)) =
     both_ways passes refused
 
 -- a reply with which nothing is carried out isn't taken, and the state stays
-pub not_taken : (answer : Result Accepted Reply) (s : State) (given : Reply) → ((next : State) → CarriesOut answer s given next → ⊥)
+pub not_taken : (answer : Result Accepted Refusal) (s : State) (given : Reply) → ((next : State) → CarriesOut answer s given next → ⊥)
     → TakesReply answer s given false s
 not_taken answer s given never = record { step = λ bad. both_ways bad refl; only = λ _. never; kept = λ _. refl }

@@ -2,6 +2,7 @@
 use Rattle.std.specs.Prelude.{◌≡◌, ℕ, ◌+◌, ◌-◌, ◌^◌, min, Bool, false, IsTrue, Result, IfOk, IsOk, OnErr}
 use Rattle.rmm_spec.specs.declared.accepted.Accepted.{Accepted}
 use Rattle.rmm_spec.specs.declared.command.Command.{Command}
+use Rattle.rmm_spec.specs.declared.refusal.Refusal.{Refusal}
 use Rattle.rmm_spec.specs.declared.reply.Reply.{Reply}
 use Rattle.rmm_spec.specs.Call.{call_of}
 use Rattle.rmm_spec.specs.State.{State}
@@ -13,7 +14,7 @@ abbrev pub one_more : ℕ → ℕ
 one_more count = min (count + 1) (2 ^ 64 - 1)
 
 -- whether the reply is taken: exactly where what is answered is carried out with it, and else the state stays
-pub record TakesReply (answer : Result Accepted Reply) (old : State) (reply : Reply) (given : Bool) (new : State) : Type 0 where
+pub record TakesReply (answer : Result Accepted Refusal) (old : State) (reply : Reply) (given : Bool) (new : State) : Type 0 where
   pub step : IsTrue given → CarriesOut answer old reply new
   pub only : given ≡ false → (next : State) → CarriesOut answer old reply next → ⊥
   pub kept : given ≡ false → new ≡ old

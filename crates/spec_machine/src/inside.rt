@@ -3,13 +3,13 @@
 ghost use Rattle.std.specs.Prelude.{◌≡◌};
 
 use crate::machine::Machine;
-use crate::reply::{is_done, is_ok};
+use crate::reply::{is_done, is_ok, is_refusal};
 use command_rows::Sight;
 use granule_state::Pa;
 use realm_desc::{Realm, Rec};
 use rec_steps::{RecStep, answer_inside, extension_inside, walked_address};
 use rmi_view::{CommandRef, ReplyRef};
-use rmm_spec::{Call, RealmChange, RealmUpdate, RecChange, Reply, Ripas};
+use rmm_spec::{Call, RealmChange, RealmUpdate, RecChange, Refusal, Ripas};
 use table_entries::entry_ripas;
 
 impl Machine {
@@ -85,7 +85,7 @@ impl Machine {
         let rd = owner(rec);
         let answer = self.answer_here(cpu, rec, call);
         match &answer {
-            Err(refusal) => reply.is(refusal),
+            Err(refusal) => is_refusal(reply, *refusal),
             Ok(step) => {
                 if !is_ok(reply, &step.words) {
                     return false;
@@ -123,7 +123,7 @@ impl Machine {
     }
 
     // What the records of the REC that the CPU is inside and of its realm answer.
-    fn answer_here(&self, cpu: u8, rec: &Rec, call: &Call) -> Result<RecStep, Reply>
+    fn answer_here(&self, cpu: u8, rec: &Rec, call: &Call) -> Result<RecStep, Refusal>
         requires inside { IsTrue (is_inside (state_of self.now) cpu) }
         requires held { (state_of self.now).rec (rec_inside (state_of self.now) cpu) ≡ Some rec.now }
         ensures { answer_at rec.now.owner (rec_inside (state_of self.now) cpu) result ≡ outcome (state_of self.now) cpu call.now }

@@ -7,12 +7,12 @@ ghost use Rattle.spec_machine.specs.Single.{owners-single, shaped-sound};
 
 use crate::lending::lending_of;
 use crate::owners::Owners;
-use crate::reply::is_ok;
+use crate::reply::{is_ok, is_refusal};
 use command_rows::{answer_inside, answer_outside};
 use granule_state::Config;
 use machine_cells::Granules;
 use rmi_view::{CommandRef, ReplyRef};
-use rmm_spec::{Accepted, Call, Command, Reply};
+use rmm_spec::{Accepted, Call, Command, Refusal, Reply};
 use std::alloc::{AllocError, Global};
 
 /// A state of the specification machine: all its granules, and to which realm each belongs.
@@ -59,10 +59,10 @@ impl Machine {
         self.offers
     }
 
-    /// What the specification answers to the command of this CPU: the reply of the first condition that fails, with which
+    /// What the specification answers to the command of this CPU: a refusal by the first condition that fails, with which
     /// nothing changes; or what is done, the reply's words and the change. So where `offer` refuses a reply, this is what would
     /// have been accepted in its place.
-    pub fn outcome(&self, cpu: u8, command: &Command) -> Result<Accepted, Reply>
+    pub fn outcome(&self, cpu: u8, command: &Command) -> Result<Accepted, Refusal>
         ensures { result ≡ outcome (state_of self.now) cpu (call_of command.now) }
     {
         self.outcome_seen(cpu, CommandRef::of(command))
@@ -146,7 +146,7 @@ impl Machine {
         ensures { TakesStep (state_of self.old) cpu (command_seen command.entry) (reply_seen reply.entry) result (state_of self.new) }
     {
         match answer_outside(self, cpu, call) {
-            Err(ref refusal) => Ok(reply.is(refusal)),
+            Err(refusal) => Ok(is_refusal(reply, refusal)),
             Ok(ref accepted) => self.take_accepted(cpu, command, accepted, reply),
         }
     }
@@ -178,7 +178,7 @@ impl Machine {
     }
 
     // What the specification answers, as `outcome` does.
-    fn outcome_seen(&self, cpu: u8, command: CommandRef<'_>) -> Result<Accepted, Reply>
+    fn outcome_seen(&self, cpu: u8, command: CommandRef<'_>) -> Result<Accepted, Refusal>
         ensures { result ≡ outcome (state_of self.now) cpu (call_of (command_seen command.entry)) }
     {
         let call = command.call();

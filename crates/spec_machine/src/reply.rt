@@ -7,12 +7,30 @@ ghost use Rattle.rmi_view.specs.Seen.{reply_seen};
 
 use arrayvec::ArrayVec;
 use rmi_view::ReplyRef;
+use rmm_spec::Refusal;
 
 /// Whether a word, or what it names, was found not to fit the command.
 pub fn is_input_error(reply: ReplyRef<'_>) -> bool
     ensures { IsTrue result ↔ (reply_seen reply.entry ≡ rows.input_error) }
 {
     matches!(reply, ReplyRef::Err(1, 0))
+}
+
+/// Whether it is what is answered for the refusal.
+pub fn is_refusal(reply: ReplyRef<'_>, refusal: Refusal) -> bool
+    ensures { IsTrue result ↔ (reply_seen reply.entry ≡ rows.reply_of refusal) }
+{
+    match refusal.status() {
+        None => matches!(reply, ReplyRef::Misplaced),
+        Some((status, index)) => is_error(reply, status, index),
+    }
+}
+
+// Whether it has this status and index.
+fn is_error(reply: ReplyRef<'_>, status: u8, index: u8) -> bool
+    ensures { IsTrue result ↔ (reply_seen reply.entry ≡ answer.Err status index) }
+{
+    matches!(reply, ReplyRef::Err(given, at) if given == status && at == index)
 }
 
 /// Whether the command was carried out and gave no words.

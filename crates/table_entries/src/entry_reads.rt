@@ -56,11 +56,11 @@ pub fn is_unassigned(entry: Entry) -> bool
     matches!(entry, Entry::Unassigned(_))
 }
 
-/// Whether an entry is unassigned, and the realm was told that it is memory.
-pub fn is_unassigned_ram(entry: Entry) -> bool
-    ensures { result ≡ spec.is_unassigned_ram entry }
+/// Whether the realm was told that it is memory.
+pub fn is_ram(ripas: Ripas) -> bool
+    ensures { result ≡ spec.is_ram ripas }
 {
-    matches!(entry, Entry::Unassigned(Ripas::Ram))
+    matches!(ripas, Ripas::Ram)
 }
 
 /// Whether an entry has a data granule.

@@ -11,7 +11,7 @@ mod numbers;
 
 pub use entries::{can_be_set, is_live, is_table, linked, passes};
 pub use entry_reads::{
-    entry_address, entry_ripas, entry_state, is_assigned, is_assigned_ns, is_unassigned,
-    is_unassigned_ns, is_unassigned_ram, ripas_number,
+    entry_address, entry_ripas, entry_state, is_assigned, is_assigned_ns, is_ram, is_unassigned,
+    is_unassigned_ns, ripas_number,
 };
 pub use numbers::{entry_number, entry_size, table_number};

@@ -13,7 +13,7 @@ reason_of (cause.Unknown cpu number) = reason.Unknown
 reason_of (cause.Repeated call earlier) = reason.Repeated
 reason_of (cause.Kind call) = reason.Kind
 reason_of (cause.Order call earlier other) = reason.Order
-reason_of (cause.Reply refusal) = reason.Reply
+reason_of (cause.Reply refused) = reason.Reply
 reason_of (cause.Missing call) = reason.Missing call.cpu call.number
 
 abbrev pub verdict_of : Explanation → Verdict

@@ -3,10 +3,10 @@
 ghost use Rattle.std.specs.Prelude.{◌≡◌};
 ghost use Rattle.told.specs.Verdict.{verdict_of, reason_of};
 
-use crate::condition::Condition;
+use crate::facts::Facts;
 use crate::flaw::Flaw;
 use crate::named_call::{EarlierStep, NamedCall};
-use rmm_spec::{Accepted, Reason, Reply, Verdict};
+use rmm_spec::{Accepted, Reason, Refusal, Reply, Verdict};
 use spec_machine::OwnerRow;
 
 /// A line that isn't in its grammar, counted from 1, its bytes without a newline, and why it isn't.
@@ -27,15 +27,16 @@ pub struct Summary {
     pub owners: Vec<OwnerRow>,
 }
 
-/// A reply that the specification doesn't give after the lines before.
+/// A line whose reply the specification doesn't give after the lines before.
 #[derive(Drop)]
-pub struct Refusal {
+pub struct RefusedLine {
     pub call: NamedCall,
     /// The reply that the line claims: the recorded one, or an unfinished line's own.
     pub claimed: Reply,
-    /// What the specification answers there.
-    pub specified: Result<Accepted, Reply>,
-    pub condition: Condition,
+    /// What the specification answers there: what is done, or the condition that doesn't hold.
+    pub specified: Result<Accepted, Refusal>,
+    /// What that condition read.
+    pub facts: Facts,
     /// The last step before that changed what the condition reads.
     pub changed: Option<EarlierStep>,
     /// The greatest end that the specification allows, where it leaves the choice of one.
@@ -66,7 +67,7 @@ pub enum Cause {
         other: NamedCall,
     },
     /// The specification doesn't give that reply there.
-    Reply(Refusal),
+    Reply(RefusedLine),
     /// The call returned, and no line names it.
     Missing(NamedCall),
 }

@@ -1,10 +1,13 @@
 //! The lines of a report behind the verdict's.
 
-use crate::explanation::{BadLine, Cause, Explanation, Refusal};
+use crate::condition_text::WhyText;
+use crate::explanation::{BadLine, Cause, Explanation, RefusedLine};
+use crate::facts::Facts;
 use crate::named_call::{EarlierStep, NamedCall};
 use crate::reply_text::{AcceptedText, ReplyText, is_by_realm};
 use bad_lines::Shown;
 use call_text::CallText;
+use rmm_spec::{Accepted, Refusal};
 use std::fmt;
 
 impl fmt::Display for Explanation<'_> {
@@ -45,7 +48,7 @@ fn write_cause<W: fmt::Write>(f: &mut fmt::Formatter<W>, step: u64, cause: &Caus
             write!(f, "step {earlier} names {other}")?;
             write_order(f, call, other)
         }
-        Cause::Reply(refusal) => { write!(f, "step {step} names {refusal}") }
+        Cause::Reply(line) => { write!(f, "step {step} names {line}") }
         Cause::Missing(call) => {
             write!(f, "no step names {call}")?;
             f.write_str("why: the call returned, so it has to have a line\n")
@@ -75,7 +78,10 @@ fn write_order<W: fmt::Write>(
 impl fmt::Display for NamedCall {
     fn fmt<W: fmt::Write>(&self, f: &mut fmt::Formatter<W>) -> fmt::Result {
         let (cpu, number, made) = (self.cpu, self.number, self.call.called);
-        let command = CallText(self.call.command.call());
+        let command = CallText {
+            function: self.call.command.function,
+            words: self.call.command.words.as_slice(),
+        };
         write!(f, "call {number} of CPU {cpu}: {command}\n")?;
         write!(f, "    called on line {made}")?;
         match &self.call.answer {
@@ -92,7 +98,7 @@ impl fmt::Display for NamedCall {
     }
 }
 
-impl fmt::Display for Refusal {
+impl fmt::Display for RefusedLine {
     fn fmt<W: fmt::Write>(&self, f: &mut fmt::Formatter<W>) -> fmt::Result {
         let call = &self.call;
         let is_by_realm = is_by_realm(call.call.command.function);
@@ -100,7 +106,6 @@ impl fmt::Display for Refusal {
             reply: &self.claimed,
             is_by_realm,
         };
-        let condition = &self.condition;
         write!(f, "{call}claimed: {claimed}\nspecified: ")?;
         match &self.specified {
             Ok(accepted) => {
@@ -110,15 +115,30 @@ impl fmt::Display for Refusal {
                 };
                 write!(f, "{accepted}\n")?;
             }
-            Err(reply) => {
+            Err(refusal) => {
+                let reply = &refusal.reply();
                 let reply = ReplyText { reply, is_by_realm };
                 write!(f, "{reply}\n")?;
             }
         }
-        write!(f, "why: {condition}\n")?;
+        write_why(f, &self.specified, self.facts)?;
         match &self.changed {
             Some(EarlierStep { step, call }) => write!(f, "since step {step}, which names {call}"),
             None => Ok(()),
+        }
+    }
+}
+
+fn write_why<W: fmt::Write>(
+    f: &mut fmt::Formatter<W>,
+    specified: &Result<Accepted, Refusal>,
+    facts: Facts,
+) -> fmt::Result {
+    match *specified {
+        Ok(_) => f.write_str("why: every condition of the command holds\n"),
+        Err(refusal) => {
+            let why = WhyText { refusal, facts };
+            write!(f, "why: {why}\n")
         }
     }
 }

@@ -5,18 +5,19 @@
 //! The crate `explain` depends on it.
 #![tactic(auto)]
 
-mod condition;
 mod condition_text;
 mod explanation;
 mod explanation_text;
+mod facts;
+mod facts_text;
 mod flaw;
 mod levels;
 mod named_call;
 mod reply_text;
 mod summary_text;
 
-pub use condition::{Condition, EntryKind, EntryRead, WordFault};
-pub use explanation::{BadLine, Cause, Explanation, Refusal, Summary};
+pub use explanation::{BadLine, Cause, Explanation, RefusedLine, Summary};
+pub use facts::{EntryRead, Facts};
 pub use flaw::{Flaw, Misplaced};
 pub use levels::entry_size;
 pub use named_call::{EarlierStep, NamedCall};

@@ -4,6 +4,7 @@ ghost use Rattle.std.specs.Prelude.{◌≡◌, ℕ, List, IsTrue};
 ghost use Rattle.rmm_spec.specs.Call.{ByRealm, call_from, class_of};
 
 use crate::levels::entry_size;
+use command_words::{Caller, caller_for};
 use rmm_spec::{Accepted, FunctionId, Reply, Stretch};
 use std::fmt;
 
@@ -88,20 +89,9 @@ fn write_reached<W: fmt::Write>(
 }
 
 /// Whether a realm gives the command, from inside a REC.
-#[tactic(auto, unfolding(rmm_spec::specs::Call::class_of, rmm_spec::specs::Call::call_from))]
 pub(crate) fn is_by_realm(function: FunctionId) -> bool
     ensures realm { (words : List ℕ) → IsTrue result → class_of (call_from function words) ≡ ByRealm }
     ensures other { (words : List ℕ) → class_of (call_from function words) ≡ ByRealm → IsTrue result }
 {
-    matches!(
-        function,
-        FunctionId::MeasurementRead
-            | FunctionId::MeasurementExtend
-            | FunctionId::RealmConfig
-            | FunctionId::IpaStateSet
-            | FunctionId::IpaStateGet
-            | FunctionId::HostCall
-            | FunctionId::CpuOff
-            | FunctionId::SystemOff
-    )
+    matches!(caller_for(function), Caller::Realm)
 }

@@ -1,7 +1,7 @@
 //! The summary of a linearization, as lines.
 
-use crate::condition_text::TagText;
 use crate::explanation::Summary;
+use crate::facts_text::TagText;
 use rmm_spec::Tag;
 use spec_machine::OwnerRow;
 use std::fmt;

@@ -17,8 +17,7 @@ use Rattle.rmm_spec.specs.Rows.{Needed}
 use Rattle.rmm_spec.specs.Walk.{entry_address, is_table, is_assigned, entry_for, entry_number, table_number, reach, walk}
 use Rattle.rmm_spec.specs.Step.{answer_of}
 use Rattle.rmm_spec.specs.Step.Front.{with_front}
-use Rattle.rmm_spec.specs.Step.Words.{words_of}
-use Rattle.rmm_spec.specs.Step.Named.{needed, named}
+use Rattle.rmm_spec.specs.Step.Terms.{words_of, needed, named}
 use Rattle.rmm_spec.specs.Step.Ripas.{reached_change}
 use Rattle.rmm_spec.specs.Local.{HeldCell}
 use Rattle.rmm_spec.proofs.Behind.{behind}
@@ -115,15 +114,14 @@ rtt_remove-held : (config : Config) (held : List HeldCell) (cpu : ℕ) (removal 
     → AllHold (with_front (seen_state config held) (call.RttRemove removal rd ipa level) (behind (seen_state config held) cpu (call.RttRemove removal rd ipa level)).0)
     → IsHeldChange held (behind (seen_state config held) cpu (call.RttRemove removal rd ipa level)).1
 unfolding behind words_of named holds_change
-rtt_remove-held config held cpu removal rd ipa level walked part (level_fits, (aligned, (rd_tag, (above, (below, (linked, (some, _))))))) =
+rtt_remove-held config held cpu removal rd ipa level walked part (level_fits, (aligned, (rd_tag, (above, (below, (walks, (linked, (some, _)))))))) =
     let t = seen_state config held in
     let under : (realm_at t rd).start_level < level = ltb-true (realm_at t rd).start_level level above in
     let last : level ≤ 3 = leb-true level 3 level_fits in
-    let parts = and_parts (reach t rd ipa (level - 1) == level - 1) (is_table (walk t rd ipa (level - 1)).entry) linked in
     and_from (is_held (entry_address (walk t rd ipa (level - 1)).entry) held) (is_some (table_placed held rd (level - 1) (table_number level ipa / 512)))
-    (link-held removal rd ipa level held (walk t rd ipa (level - 1)).entry part parts.1)
+    (link-held removal rd ipa level held (walk t rd ipa (level - 1)).entry part linked)
     (above-placed held rd ipa level (reach t rd ipa (level - 1)) (end-placed config held (way rd ipa (level - 1)) walked)
-    (eqb-true (reach t rd ipa (level - 1)) (level - 1) parts.0) (omega (arith, under)) last)
+    (eqb-true (reach t rd ipa (level - 1)) (level - 1) walks) (omega (arith, under)) last)
 
 data_create-held : (config : Config) (held : List HeldCell) (cpu rd granule ipa source flags : ℕ) (digest : List ℕ)
     → are_told (call.DataCreate rd granule ipa source flags digest) held ≡ true → is_walk_held config held (way rd ipa 3) ≡ true

@@ -4,7 +4,7 @@ use Rattle.std.proofs.Common.{◌≡◌, ℕ, zero, suc, ◌-◌, ◌/◌, ◌%�
 use Rattle.std.specs.Prelude.{IsTrue, is_some}
 use Rattle.std.specs.List.{AllByRecursion, list_all}
 use Rattle.std.specs.Option.{option_and_then}
-use Rattle.std.proofs.lemmas.Bool.{false≢true, cases_order, and_from, and_parts, or_right}
+use Rattle.std.proofs.lemmas.Bool.{false≢true, cases_order, and_from, and_parts, not-true, or_right}
 use Rattle.std.proofs.lemmas.Bool.Decides.{nat_tests}
 use Rattle.std.proofs.lemmas.Option.{none-some}
 use Rattle.rmm_spec.specs.HistoryText.{Config}
@@ -15,7 +15,7 @@ use Rattle.rmm_spec.specs.declared.entry.Entry.TheVariants.{Unassigned, Assigned
 use Rattle.rmm_spec.specs.declared.tag.Tag.TheVariants as tag
 use Rattle.rmm_spec.specs.Lookup.{tag_number}
 use Rattle.rmm_spec.specs.Rows.{Needed}
-use Rattle.rmm_spec.specs.Step.Named.{named}
+use Rattle.rmm_spec.specs.Step.Terms.{named, Terms, OfWalk, terms_of, names_in, walk_in}
 use Rattle.rmm_spec.specs.Walk.{is_table, entry_at, entry_for, entry_number, table_number, reach}
 use Rattle.rmm_spec.specs.Cell.{tables_of}
 use Rattle.rmm_spec.specs.Flat.{flat_state}
@@ -230,24 +230,38 @@ end-held {config} {side} {held} w way g last found has =
 abbrev IsWayRealm : ℕ → Needed → Type 0
 IsWayRealm rd n = (tag_number n.tag == tag_number tag.Rd) ≡ true → n.granule ≡ rd
 
-abbrev AreWayRealms : Call → Option Way → Type 0
-AreWayRealms c None = Unit {0}
-AreWayRealms c (Some w) = AllByRecursion (IsWayRealm w.rd) (named c)
+abbrev AreWayRealms : List Needed → Option Way → Type 0
+AreWayRealms names None = Unit {0}
+AreWayRealms names (Some w) = AllByRecursion (IsWayRealm w.rd) names
+
+-- whether none is named as a realm
+abbrev are_no_realms : List Needed → Bool
+are_no_realms names = list_all (λ (n : Needed). not (tag_number n.tag == tag_number tag.Rd)) names
+
+no_realms-way : (rd : ℕ) (names : List Needed) → are_no_realms names ≡ true → AllByRecursion (IsWayRealm rd) names
+no_realms-way rd [] none = tt
+no_realms-way rd (n ∷ names) none =
+    let parts = and_parts (not (tag_number n.tag == tag_number tag.Rd)) (are_no_realms names) none in
+    (λ is. absurd (false≢true (sym (not-true (tag_number n.tag == tag_number tag.Rd) parts.0) ∙ is)), no_realms-way rd names parts.1)
+
+-- what a command that walks names besides its realm
+abbrev others_in : Terms → List Needed
+others_in (OfWalk route words others) = others
+others_in _ = []
+
+others-no_realms : (c : Call) → are_no_realms (others_in (terms_of c)) ≡ true
+unfolding terms_of
+others-no_realms (call.GranuleDelegate granule) = refl
+others-no_realms _ = refl
 
 -- no other granule is named as a realm
-way-realms : (c : Call) → AreWayRealms c (way_of c)
+way-realms : (c : Call) → AreWayRealms (named c) (way_of c)
 unfolding way_of named
-way-realms (call.RttCreate rd rtt ipa level) = (λ is. refl, (λ is. absurd (false≢true is), tt))
-way-realms (call.RttRemove removal rd ipa level) = (λ is. refl, tt)
-way-realms (call.RttReadEntry rd ipa level) = (λ is. refl, tt)
-way-realms (call.DataCreate rd granule ipa source flags digest) = (λ is. refl, (λ is. absurd (false≢true is), (λ is. absurd (false≢true is), tt)))
-way-realms (call.DataCreateUnknown rd granule ipa) = (λ is. refl, (λ is. absurd (false≢true is), tt))
-way-realms (call.DataDestroy rd ipa) = (λ is. refl, tt)
-way-realms (call.RttMapUnprotected rd ipa page) = (λ is. refl, tt)
-way-realms (call.RttUnmapUnprotected rd ipa) = (λ is. refl, tt)
-way-realms (call.RttInitRipas rd base top) = (λ is. refl, tt)
-way-realms (call.RttSetRipas rd rec base top) = (λ is. refl, (λ is. absurd (false≢true is), tt))
-way-realms _ = tt
+way-realms c = by (terms_of c) (others-no_realms c)
+  where
+    by : (terms : Terms) → are_no_realms (others_in terms) ≡ true → AreWayRealms (names_in terms) (walk_in terms)
+    by (OfWalk route words others) apart = (λ is. refl, no_realms-way route.rd others apart)
+    by _ apart = tt
 
 -- a realm is told of by a table that is placed
 placed-behind : (held : List HeldCell) (rd level number f : ℕ) → table_placed held rd level number ≡ Some f → is_some (table_behind held rd) ≡ true
@@ -284,7 +298,7 @@ unfolding is_walk_settled are_told is_kept
 kept-settled {config} {side} {held} w c way g walks last found has kept part =
     let ends = end-held w way g last found has in
     let end = walk-end w way ends in
-    let realms = subst (AreWayRealms c) walks (way-realms c) in
+    let realms = subst (AreWayRealms (named c)) walks (way-realms c) in
     let told = kept-told (keeps_realm c) held way.rd (placed-behind held way.rd _ _ end.granule end.placed) (named c) realms kept in
     let below : is_part_held (part_below c (end_entry config held way)) held ≡ true =
     subst (λ e. is_part_held (part_below c e) held ≡ true) end.same.entry part in

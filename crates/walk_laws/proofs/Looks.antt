@@ -11,23 +11,20 @@ use Rattle.rmm_spec.specs.declared.call.Call.TheVariants as call
 use Rattle.rmm_spec.specs.declared.call.Removal.{Removal}
 use Rattle.rmm_spec.specs.declared.call.Removal.TheVariants.{Destroy, Fold}
 use Rattle.rmm_spec.specs.declared.change.Change.TheVariants.{TableDestroyed}
-use Rattle.rmm_spec.specs.declared.reply.Reply.{Reply}
+use Rattle.rmm_spec.specs.declared.condition.Condition.TheVariants as condition
+use Rattle.rmm_spec.specs.declared.refusal.Refusal.{Refusal}
 use Rattle.rmm_spec.specs.declared.tag.Ripas.{Ripas}
 use Rattle.rmm_spec.specs.declared.tag.Ripas.TheVariants.{Destroyed}
 use Rattle.rmm_spec.specs.declared.tag.Tag.{Tag}
 use Rattle.rmm_spec.specs.declared.tag.Tag.TheVariants as tag
 use Rattle.rmm_spec.specs.State.{State}
 use Rattle.rmm_spec.specs.Lookup.{has_tag, realm_at, rec_at, is_vmid_used, has_rec, rec_inside}
-use Rattle.rmm_spec.specs.Rows.{Row, Needed, decided, row, input, done, table_error}
+use Rattle.rmm_spec.specs.Rows.{Row, Needed, decided, input, done, rtt_row}
 use Rattle.rmm_spec.specs.Walk.{table_number, full, is_table, entry_address, entry_at, entry_for, reach, has_entry}
-use Rattle.rmm_spec.specs.Step.{answer_of}
+use Rattle.rmm_spec.specs.Step.{answer_of, commands}
 use Rattle.rmm_spec.specs.Step.Front.{with_front}
-use Rattle.rmm_spec.specs.Step.Words.{words_of}
-use Rattle.rmm_spec.specs.Step.Named.{named}
-use Rattle.rmm_spec.specs.Step.Table.{rtt_create, rtt_remove, rtt_read_entry, entry_after_table, ripas_left}
-use Rattle.rmm_spec.specs.Step.Data.{data_create, data_create_unknown, data_destroy}
-use Rattle.rmm_spec.specs.Step.Unprotected.{rtt_map_unprotected, rtt_unmap_unprotected}
-use Rattle.rmm_spec.specs.Step.Ripas.{rtt_init_ripas, rtt_set_ripas}
+use Rattle.rmm_spec.specs.Step.Terms.{words_of, named}
+use Rattle.rmm_spec.specs.Step.Table.{rtt_remove, entry_after_table, left_condition, ripas_left}
 use Rattle.rmm_spec.specs.Step.RealmCall.{ipa_state_get}
 use Rattle.rmm_spec.proofs.Behind.{behind}
 use Rattle.walk_laws.specs.Same.{SameSpace, SameWalk}
@@ -66,30 +63,39 @@ pub record SameLooks (s t : State) (c : Call) (way : Way) : Type 0 where
 
 -- ---- answers
 
+-- the answer to who takes a table out, by the RIPAS that it leaves
+abbrev removed : State → Removal → ℕ → ℕ → ℕ → Option Ripas → Result Accepted Refusal
+removed t removal rd ipa level left =
+    let above = reach t rd ipa (level - 1) in
+    let entry = entry_for t rd above ipa in
+    decided
+    (with_front t (call.RttRemove removal rd ipa level)
+    (input condition.LevelBound (nat_lt (realm_at t rd).start_level level)
+    ∷ input condition.IpaBound (nat_lt ipa (full (realm_at t rd)))
+    ∷ rtt_row condition.RttWalk above (above == level - 1)
+    ∷ rtt_row condition.RtteState above (is_table entry)
+    ∷ rtt_row (left_condition removal) level (is_some left)
+    ∷ []))
+    (done (entry_address entry ∷ [])
+    (TableDestroyed rd level (table_number level ipa) (entry_address entry) (entry_after_table (realm_at t rd) ipa (unwrap_or left Destroyed))))
+
 -- what is left is read of a table that the walk links to
 used-same : (s t : State) (removal : Removal) (rd ipa level : ℕ) → SameUse s t (call.RttRemove removal rd ipa level)
-    → (λ (left : Option Ripas). decided (with_front t (call.RttRemove removal rd ipa level)
-    (input (nat_lt (realm_at t rd).start_level level) ∷ input (nat_lt ipa (full (realm_at t rd)))
-    ∷ row (is_linked t rd ipa (level - 1)) (table_error (reach t rd ipa (level - 1))) ∷ row (is_some left) (table_error level) ∷ []))
-    (done (entry_address (entry_for t rd (reach t rd ipa (level - 1)) ipa) ∷ [])
-    (TableDestroyed rd level (table_number level ipa) (entry_address (entry_for t rd (reach t rd ipa (level - 1)) ipa)) (entry_after_table (realm_at t rd) ipa (unwrap_or left Destroyed)))))
-    (ripas_left removal s rd level (table_number level ipa)) ≡ rtt_remove t removal rd ipa level
+    → removed t removal rd ipa level (ripas_left removal s rd level (table_number level ipa)) ≡ rtt_remove t removal rd ipa level
 unfolding rtt_remove words_of named
-used-same s t removal rd ipa level used = by (nat_lt (realm_at t rd).start_level level) refl (is_linked t rd ipa (level - 1)) refl
+used-same s t removal rd ipa level used =
+    by (nat_lt (realm_at t rd).start_level level) refl (reach t rd ipa (level - 1) == level - 1) (is_table (entry_for t rd (reach t rd ipa (level - 1)) ipa)) refl refl
   where
-    rows : Option Ripas → Result Accepted Reply
-    rows left = decided
-        (with_front t (call.RttRemove removal rd ipa level)
-        (input (nat_lt (realm_at t rd).start_level level) ∷ input (nat_lt ipa (full (realm_at t rd)))
-        ∷ row (is_linked t rd ipa (level - 1)) (table_error (reach t rd ipa (level - 1))) ∷ row (is_some left) (table_error level) ∷ []))
-        (done (entry_address (entry_for t rd (reach t rd ipa (level - 1)) ipa) ∷ [])
-        (TableDestroyed rd level (table_number level ipa) (entry_address (entry_for t rd (reach t rd ipa (level - 1)) ipa)) (entry_after_table (realm_at t rd) ipa (unwrap_or left Destroyed))))
+    rows : Option Ripas → Result Accepted Refusal
+    rows left = removed t removal rd ipa level left
 
-    by : (a : Bool) → nat_lt (realm_at t rd).start_level level ≡ a → (b : Bool) → is_linked t rd ipa (level - 1) ≡ b
+    by : (a : Bool) → nat_lt (realm_at t rd).start_level level ≡ a → (b d : Bool) → (reach t rd ipa (level - 1) == level - 1) ≡ b
+        → is_table (entry_for t rd (reach t rd ipa (level - 1)) ipa) ≡ d
         → rows (ripas_left removal s rd level (table_number level ipa)) ≡ rows (ripas_left removal t rd level (table_number level ipa))
-    by true above true linked = ap rows (used above linked)
-    by true above false unlinked = rw unlinked refl
-    by false above b linked = rw above refl
+    by true above true true walks linked = ap rows (used above (rw (walks, linked) refl))
+    by true above true false walks linked = rw (walks, linked) refl
+    by true above false d walks linked = rw walks refl
+    by false above b d walks linked = rw above refl
 
 -- the same of all that a command looks up, if it walks
 abbrev pub LooksAlike : State → State → Call → Option Way → Type 0
@@ -98,7 +104,7 @@ LooksAlike s t c (Some w) = SameLooks s t c w
 
 -- each command in turn, by what it looks up
 pub answer-same : (s t : State) (cpu : ℕ) (c : Call) → LooksAlike s t c (way_of c) → answer_of s cpu c ≡ answer_of t cpu c
-unfolding answer_of way_of keeps_realm named words_of rtt_create rtt_remove rtt_read_entry data_create data_create_unknown data_destroy rtt_map_unprotected rtt_unmap_unprotected rtt_init_ripas rtt_set_ripas
+unfolding answer_of way_of keeps_realm named words_of commands
 answer-same s t cpu (call.RttCreate rd rtt ipa level) looks =
     rw (looks.front.names.0.0, looks.front.names.1.0.0, looks.front.space.width, looks.front.space.start, looks.walk.entry, looks.walk.level) refl
 answer-same s t cpu (call.RttRemove removal rd ipa level) looks =
@@ -129,8 +135,8 @@ ipa_state_get-same s t rec rd ipa of_s of_t space walk = rw (of_s, of_t, space.w
 
 -- ---- refusals before the walk
 
--- the reply of the first row that doesn't hold, before those over tables
-abbrev early : List Row → Option Reply
+-- the refusal of the first row that doesn't hold, before those over tables
+abbrev early : List Row → Option Refusal
 early [] = None
 early (first ∷ rows) = if is_table_error first.otherwise then None else (if first.holds then early rows else Some first.otherwise)
 
@@ -139,8 +145,8 @@ abbrev tables_last : List Row → Bool
 tables_last [] = true
 tables_last (first ∷ rows) = if is_table_error first.otherwise then list_all (λ (r : Row). is_table_error r.otherwise) rows else tables_last rows
 
--- such a reply is the answer
-early-decided : (rows : List Row) (a : Accepted) (given : Reply) → early rows ≡ Some given → decided rows a ≡ Err given
+-- such a refusal is the answer
+early-decided : (rows : List Row) (a : Accepted) (given : Refusal) → early rows ≡ Some given → decided rows a ≡ Err given
 early-decided [] a given is = absurd (none-some given is)
 early-decided (first ∷ rows) a given is = by (is_table_error first.otherwise) first.holds is (early-decided rows a given)
   where
@@ -148,18 +154,18 @@ early-decided (first ∷ rows) a given is = by (is_table_error first.otherwise) 
         → (early rows ≡ Some given → decided rows a ≡ Err given) → (if holds then decided rows a else Err first.otherwise) ≡ Err given
     by true holds same rest = absurd (none-some given same)
     by false true same rest = rest same
-    by false false same rest = ap (λ (o : Option Reply). refused o) same
+    by false false same rest = ap (λ (o : Option Refusal). refused o) same
       where
-        refused : Option Reply → Result Accepted Reply
+        refused : Option Refusal → Result Accepted Refusal
         refused None = Ok a
         refused (Some given) = Err given
 
 -- a result has one refusal
-same_Err : (a b : Reply) → (the_error : Result Accepted Reply) → the_error ≡ Err a → the_error ≡ Err b → a ≡ b
+same_Err : (a b : Refusal) → (the_error : Result Accepted Refusal) → the_error ≡ Err a → the_error ≡ Err b → a ≡ b
 same_Err a b the_error first second = let same : Err a ≡ Err b = sym first ∙ second in cc
 
 -- rows over tables alone refuse with their error
-tables-decided : (rows : List Row) (a : Accepted) (given : Reply) → list_all (λ (r : Row). is_table_error r.otherwise) rows ≡ true
+tables-decided : (rows : List Row) (a : Accepted) (given : Refusal) → list_all (λ (r : Row). is_table_error r.otherwise) rows ≡ true
     → decided rows a ≡ Err given → is_table_error given ≡ true
 tables-decided [] a given all is = absurd (let bad : Ok a ≡ Err given = is in cc)
 tables-decided (first ∷ rows) a given all is =
@@ -171,8 +177,8 @@ tables-decided (first ∷ rows) a given all is =
     by true error same rest = rest same
     by false error same rest = ap is_table_error (sym (same_Err first.otherwise given (Err first.otherwise) refl same)) ∙ error
 
--- and a refusal that is no ERROR_RTT is such a reply
-decided-early : (rows : List Row) (a : Accepted) (given : Reply) → tables_last rows ≡ true → decided rows a ≡ Err given → is_table_error given ≡ false
+-- and a refusal that is no ERROR_RTT is such a one
+decided-early : (rows : List Row) (a : Accepted) (given : Refusal) → tables_last rows ≡ true → decided rows a ≡ Err given → is_table_error given ≡ false
     → early rows ≡ Some given
 decided-early [] a given last is plain = absurd (let bad : Ok a ≡ Err given = is in cc)
 decided-early (first ∷ rows) a given last is plain =
@@ -259,7 +265,7 @@ FrontsAlike s t c None = ⊥
 FrontsAlike s t c (Some w) = SameFront s t c w
 
 -- what one refuses before the walk the other refuses
-pub refused-same : (s t : State) (cpu : ℕ) (c : Call) (given : Reply) → FrontsAlike s t c (way_of c) → answer_of t cpu c ≡ Err given
+pub refused-same : (s t : State) (cpu : ℕ) (c : Call) (given : Refusal) → FrontsAlike s t c (way_of c) → answer_of t cpu c ≡ Err given
     → is_table_error given ≡ false → answer_of s cpu c ≡ Err given
 refused-same s t cpu c given alike is plain = by (way_of c) refl alike
   where

@@ -11,18 +11,18 @@ use Rattle.rmm_spec.specs.declared.call.Call.{Call}
 use Rattle.rmm_spec.specs.declared.call.Call.TheVariants as call
 use Rattle.rmm_spec.specs.declared.change.Change.TheVariants.{Unchanged}
 use Rattle.rmm_spec.specs.declared.command.Command.{Command}
-use Rattle.rmm_spec.specs.declared.reply.Reply.{Reply}
+use Rattle.rmm_spec.specs.declared.refusal.Refusal.{Refusal}
+use Rattle.rmm_spec.specs.declared.condition.Condition.TheVariants.{IpaBound}
 use Rattle.rmm_spec.specs.Call.{ByHost, call_of, class_of}
 use Rattle.rmm_spec.specs.State.{State}
 use Rattle.rmm_spec.specs.Lookup.{realm_at, rec_at, ripas_number}
-use Rattle.rmm_spec.specs.Rows.{Row, decided, input, done}
-use Rattle.rmm_spec.specs.Walk.{entry_size, table_size, entry_number, table_number, entry_at, reach, walk, half, is_unassigned, entry_ripas}
-use Rattle.rmm_spec.specs.Step.{answer_of, outcome}
+use Rattle.rmm_spec.specs.Rows.{Row, decided, input, done, reply_of}
+use Rattle.rmm_spec.specs.Walk.{entry_size, table_size, entry_number, table_number, entry_at, reach, walk, half, entry_ripas}
+use Rattle.rmm_spec.specs.Step.{answer_by, answer_of, answer_to_host, outcome}
 use Rattle.rmm_spec.specs.Step.Front.{with_front}
-use Rattle.rmm_spec.specs.Step.Words.{words_of}
-use Rattle.rmm_spec.specs.Step.Named.{named}
+use Rattle.rmm_spec.specs.Step.Terms.{words_of, named, Terms, OfWalk, class_in, terms_of, walk_in}
 use Rattle.rmm_spec.specs.Step.RealmCall.{ipa_state_get}
-use Rattle.rmm_spec.specs.Step.Ripas.{can_be_set, has_room, IsReached}
+use Rattle.rmm_spec.specs.Step.Ripas.{can_be_set, IsReached}
 use Rattle.rmm_spec.specs.Cell.{Cell}
 use Rattle.rmm_spec.specs.Flat.{flat_state}
 use Rattle.rmm_spec.specs.Shape.{Side, CpuPlace, Outside, IsWellShaped}
@@ -127,14 +127,13 @@ IsFirstReached t (Reaches stretch) = IsReached t stretch (stretch.base + entry_s
 -- since the entry has room and may be set
 rows-first : (t : State) (cpu : ℕ) (c : Call) → AllHold (with_front t c (behind t cpu c).0) → IsFirstReached t (behind t cpu c).1
 unfolding behind words_of named
-rows-first t cpu (call.RttInitRipas rd base top) (pages, (ordered, (rd_tag, (within, (new, (room, _)))))) =
+rows-first t cpu (call.RttInitRipas rd base top) (base_page, (top_page, (ordered, (rd_tag, (within, (new, (free, (first, (ends, _))))))))) =
     let end = walk t rd base 3 in
-    let parts = and_parts (is_unassigned end.entry) (has_room base top end.level) room in
-    let kind = unassigned_kind end.entry parts.0 in
+    let kind = unassigned_kind end.entry free in
     let can : IsTrue (can_be_set Init end.entry) = λ i. not (kind.1 i) && not (kind.0 i) in
-    first_reached t (record { rd = rd; base = base; top = top; level = end.level; purpose = Init }) (reach-le t rd base 3) parts.1 can
-rows-first t cpu (call.RttSetRipas rd rec base top) (rd_tag, (rec_tag, (owned, (idle, (asked, (fits, (room, _))))))) =
-    first_reached t (record { rd = rd; base = base; top = top; level = reach t rd base 3; purpose = Requested rec _ }) (reach-le t rd base 3) room
+    first_reached t (record { rd = rd; base = base; top = top; level = end.level; purpose = Init }) (reach-le t rd base 3) first ends can
+rows-first t cpu (call.RttSetRipas rd rec base top) (rd_tag, (rec_tag, (owned, (idle, (asked, (at_base, (bounded, (ordered, (paged, (first, (ends, _))))))))))) =
+    first_reached t (record { rd = rd; base = base; top = top; level = reach t rd base 3; purpose = Requested rec _ }) (reach-le t rd base 3) first ends
     (ap not (walk_ends_unlinked t rd base))
 rows-first t cpu _ rows = tt
 
@@ -153,31 +152,35 @@ pub record IsHosts (c : Call) : Type 0 where
   pub host : class_of c ≡ ByHost
   pub alike : (s : State) (cpu : ℕ) → answer_of s cpu c ≡ answer_of s 0 c
 
--- each of the ten
+-- the CPU is asked for by an Enter alone
+host-alike : (s : State) (cpu : ℕ) (c : Call) → is_some (way_of c) ≡ true → answer_to_host s cpu c ≡ answer_to_host s 0 c
+unfolding way_of answer_to_host
+host-alike s cpu (call.RecEnter rec) walks = absurd (false≢true walks)
+host-alike s cpu _ walks = refl
+
+walking-host : (terms : Terms) → is_some (walk_in terms) ≡ true → class_in terms ≡ ByHost
+walking-host (OfWalk way words others) walks = refl
+walking-host _ walks = absurd (false≢true walks)
+
 pub hosts : (c : Call) → is_some (way_of c) ≡ true → IsHosts c
 unfolding class_of way_of answer_of
-hosts (call.RttCreate rd rtt ipa level) walks = record { host = refl; alike = λ s cpu. refl }
-hosts (call.RttRemove removal rd ipa level) walks = record { host = refl; alike = λ s cpu. refl }
-hosts (call.RttReadEntry rd ipa level) walks = record { host = refl; alike = λ s cpu. refl }
-hosts (call.DataCreate rd granule ipa source flags digest) walks = record { host = refl; alike = λ s cpu. refl }
-hosts (call.DataCreateUnknown rd granule ipa) walks = record { host = refl; alike = λ s cpu. refl }
-hosts (call.DataDestroy rd ipa) walks = record { host = refl; alike = λ s cpu. refl }
-hosts (call.RttMapUnprotected rd ipa page) walks = record { host = refl; alike = λ s cpu. refl }
-hosts (call.RttUnmapUnprotected rd ipa) walks = record { host = refl; alike = λ s cpu. refl }
-hosts (call.RttInitRipas rd base top) walks = record { host = refl; alike = λ s cpu. refl }
-hosts (call.RttSetRipas rd rec base top) walks = record { host = refl; alike = λ s cpu. refl }
-hosts _ walks = absurd (false≢true walks)
+hosts c walks =
+    let host = walking-host (terms_of c) walks in
+    record {
+      host = host;
+      alike = λ s cpu. ap (λ k. answer_by k s cpu c) host ∙ host-alike s cpu c walks ∙ ap (λ k. answer_by k s 0 c) (sym host);
+    }
 
 -- each whole that agrees with a hold gives the outcome
-abbrev IsOutcome : Config → ℕ → Command → Hold → Result Accepted Reply → Type 0
+abbrev IsOutcome : Config → ℕ → Command → Hold → Result Accepted Refusal → Type 0
 IsOutcome config cpu command hold answer = (cells : ℕ → Cell) (places : ℕ → CpuPlace) → IsWellShaped config hold.side places cells → Agrees cells hold.cells
     → places cpu ≡ hold.place → outcome (flat_state config cells) cpu (call_of command) ≡ answer
 
 -- a refusal of every whole changes nothing
-refused-local : (config : Config) (cpu : ℕ) (command : Command) (hold : Hold) (given : Reply) → IsOutcome config cpu command hold (Err given)
-    → LocalStep config cpu command given hold hold
+refused-local : (config : Config) (cpu : ℕ) (command : Command) (hold : Hold) (given : Refusal) → IsOutcome config cpu command hold (Err given)
+    → LocalStep config cpu command (reply_of given) hold hold
 refused-local config cpu command hold given each =
-    unchanged-is_local config cpu command given hold (λ cells places shaped agrees placed.
+    unchanged-is_local config cpu command (reply_of given) hold (λ cells places shaped agrees placed.
     Step-refused (flat_state config cells) cpu command given (each cells places shaped agrees placed))
 
 -- the table of a stretch is held
@@ -205,7 +208,7 @@ stretch-placed config cpu c held stretch settled is =
         )
 
 -- what each whole answers as it is told is a local step
-answered-local : (config : Config) (cpu : ℕ) (command : Command) (hold : Hold) (a : Result Accepted Reply) → are_told (call_of command) hold.cells ≡ true
+answered-local : (config : Config) (cpu : ℕ) (command : Command) (hold : Hold) (a : Result Accepted Refusal) → are_told (call_of command) hold.cells ≡ true
     → is_way_settled config (call_of command) hold.cells (way_of (call_of command)) ≡ true → answer_of (seen_state config hold.cells) cpu (call_of command) ≡ a
     → IsOutcome config cpu command hold a → IsLocalAnswer config cpu command hold a
 answered-local config cpu command hold (Err given) told settled is each = refused-local config cpu command hold given each
@@ -223,7 +226,7 @@ answered-local config cpu command hold (Ok (Reaches stretch)) told settled is ea
     )
 
 -- what is refused before the walk
-pub early-error : (a : Result Accepted Reply) → is_refused_early a ≡ true → (given : Reply) × (a ≡ Err given) × (is_table_error given ≡ false)
+pub early-error : (a : Result Accepted Refusal) → is_refused_early a ≡ true → (given : Refusal) × (a ≡ Err given) × (is_table_error given ≡ false)
 early-error (Ok accepted) early = absurd (false≢true early)
 early-error (Err given) early = (given, refl, not-true (is_table_error given) early)
 
@@ -250,7 +253,7 @@ settled-local config cpu command hold walks place settled =
     parts : (are_told c hold.cells ≡ true) × ((is_refused_early (seen_answer config c hold.cells) || is_way_settled config c hold.cells (way_of c)) ≡ true)
     parts = and_parts (are_told c hold.cells) (is_refused_early (seen_answer config c hold.cells) || is_way_settled config c hold.cells (way_of c)) settled
 
-    refused : (given : Reply) × (seen_answer config c hold.cells ≡ Err given) × (is_table_error given ≡ false)
+    refused : (given : Refusal) × (seen_answer config c hold.cells ≡ Err given) × (is_table_error given ≡ false)
         → IsLocalAnswer config cpu command hold (seen_answer config c hold.cells)
     refused early =
         subst (IsLocalAnswer config cpu command hold) (sym early.1)
@@ -262,7 +265,7 @@ settled-local config cpu command hold walks place settled =
 -- ---- the realm's call that walks
 
 -- what rows refuse they refuse whatever is done
-refused-rows : (rows : List Row) (a b : Accepted) (given : Reply) → decided rows a ≡ Err given → decided rows b ≡ Err given
+refused-rows : (rows : List Row) (a b : Accepted) (given : Refusal) → decided rows a ≡ Err given → decided rows b ≡ Err given
 refused-rows [] a b given is = absurd (let bad : Ok a ≡ Err given = is in cc)
 refused-rows (first ∷ rows) a b given is = by first.holds is (refused-rows rows a b given)
   where
@@ -273,14 +276,14 @@ refused-rows (first ∷ rows) a b given is = by first.holds is (refused-rows row
 
 -- the rows of IPA_STATE_GET
 abbrev get_rows : State → ℕ → ℕ → List Row
-get_rows s rec ipa = with_front s (call.IpaStateGet ipa) (input (nat_lt ipa (half (realm_at s (rec_at s rec).owner))) ∷ [])
+get_rows s rec ipa = with_front s (call.IpaStateGet ipa) (input IpaBound (nat_lt ipa (half (realm_at s (rec_at s rec).owner))) ∷ [])
 
 -- and what it tells
 abbrev get_done : State → ℕ → ℕ → Accepted
 get_done s rec ipa = done (ripas_number (entry_ripas (walk s (rec_at s rec).owner ipa 3).entry) ∷ []) Unchanged
 
 -- an address that is refused in one is refused in the other
-get-refused : (s t : State) (rec rd ipa : ℕ) (given : Reply) → (rec_at s rec).owner ≡ rd → (rec_at t rec).owner ≡ rd → SameSpace s t rd
+get-refused : (s t : State) (rec rd ipa : ℕ) (given : Refusal) → (rec_at s rec).owner ≡ rd → (rec_at t rec).owner ≡ rd → SameSpace s t rd
     → ipa_state_get t rec ipa ≡ Err given → ipa_state_get s rec ipa ≡ Err given
 unfolding ipa_state_get words_of named
 get-refused s t rec rd ipa given of_s of_t space is =

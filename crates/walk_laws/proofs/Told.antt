@@ -10,7 +10,7 @@ use Rattle.rmm_spec.specs.declared.call.Call.TheVariants as call
 use Rattle.rmm_spec.specs.declared.call.Removal.{Removal}
 use Rattle.rmm_spec.specs.declared.entry.Entry.{Entry}
 use Rattle.rmm_spec.specs.declared.entry.Entry.TheVariants.{Table}
-use Rattle.rmm_spec.specs.declared.reply.Reply.{Reply}
+use Rattle.rmm_spec.specs.declared.refusal.Refusal.{Refusal}
 use Rattle.rmm_spec.specs.declared.tag.Tag.{Tag}
 use Rattle.rmm_spec.specs.declared.tag.Tag.TheVariants as tag
 use Rattle.rmm_spec.specs.Lookup.{tag_number, realm_at}
@@ -20,7 +20,7 @@ use Rattle.rmm_spec.specs.Cell.{tables_of}
 use Rattle.rmm_spec.specs.Flat.{flat_state}
 use Rattle.rmm_spec.specs.Shape.{Side, HoldsTable}
 use Rattle.rmm_spec.specs.Step.{answer_of}
-use Rattle.rmm_spec.specs.Step.Named.{needed, named}
+use Rattle.rmm_spec.specs.Step.Terms.{needed, named, Terms, OfWalk, terms_of, names_in, walk_in}
 use Rattle.rmm_spec.specs.Local.{HeldCell}
 use Rattle.rmm_spec.proofs.WalkLaws.{table_number-suc}
 use Rattle.rmm_sound.proofs.Cases.{both_ways}
@@ -130,17 +130,11 @@ IsWayTold c held (Some w) = is_told (keeps_realm c) held (needed w.rd tag.Rd) �
 -- it is the first that the command names
 way-told : (c : Call) (held : List HeldCell) → are_told c held ≡ true → IsWayTold c held (way_of c)
 unfolding named way_of
-way-told (call.RttCreate rd rtt ipa level) held told = head (call.RttCreate rd rtt ipa level) held told
-way-told (call.RttRemove removal rd ipa level) held told = head (call.RttRemove removal rd ipa level) held told
-way-told (call.RttReadEntry rd ipa level) held told = head (call.RttReadEntry rd ipa level) held told
-way-told (call.DataCreate rd granule ipa source flags digest) held told = head (call.DataCreate rd granule ipa source flags digest) held told
-way-told (call.DataCreateUnknown rd granule ipa) held told = head (call.DataCreateUnknown rd granule ipa) held told
-way-told (call.DataDestroy rd ipa) held told = head (call.DataDestroy rd ipa) held told
-way-told (call.RttMapUnprotected rd ipa page) held told = head (call.RttMapUnprotected rd ipa page) held told
-way-told (call.RttUnmapUnprotected rd ipa) held told = head (call.RttUnmapUnprotected rd ipa) held told
-way-told (call.RttInitRipas rd base top) held told = head (call.RttInitRipas rd base top) held told
-way-told (call.RttSetRipas rd rec base top) held told = head (call.RttSetRipas rd rec base top) held told
-way-told _ held told = tt
+way-told c held told = by (terms_of c) (head c held told)
+  where
+    by : (terms : Terms) → IsHeadTold (is_told (keeps_realm c) held) (names_in terms) → IsWayTold c held (walk_in terms)
+    by (OfWalk route words others) first = first
+    by _ first = tt
 
 -- so what rows look up before the walk is the same
 front-same : {config : Config} {side : Side} {held : List HeldCell} (w : Whole config side held) (c : Call) (route : Way) → are_told c held ≡ true
@@ -226,7 +220,7 @@ pub walk-told : {config : Config} {side : Side} {held : List HeldCell} (w : Whol
 walk-told {config} {side} {held} w cpu c told settled = answer-same (state w) (seen_state config held) cpu c (looks-told w c told settled)
 
 -- and so is a refusal before the walk
-pub early-told : {config : Config} {side : Side} {held : List HeldCell} (w : Whole config side held) (cpu : ℕ) (c : Call) (given : Reply) → are_told c held ≡ true
+pub early-told : {config : Config} {side : Side} {held : List HeldCell} (w : Whole config side held) (cpu : ℕ) (c : Call) (given : Refusal) → are_told c held ≡ true
     → is_some (way_of c) ≡ true → answer_of (seen_state config held) cpu c ≡ Err given → is_table_error given ≡ false → answer_of (state w) cpu c ≡ Err given
 early-told {config} {side} {held} w cpu c given told walks is plain =
     refused-same (state w) (seen_state config held) cpu c given (by (way_of c) walks (way-told c held told)) is plain

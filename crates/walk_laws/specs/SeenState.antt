@@ -10,7 +10,7 @@ use Rattle.rmm_spec.specs.declared.entry.Entry.TheVariants.{Unassigned, Assigned
 use Rattle.rmm_spec.specs.State.{State, RealmRecord}
 use Rattle.rmm_spec.specs.Lookup.{is_granule}
 use Rattle.rmm_spec.specs.Change.{new_realm}
-use Rattle.rmm_spec.specs.Step.Words.{is_space}
+use Rattle.rmm_spec.specs.Step.Terms.{is_space}
 use Rattle.rmm_spec.specs.Table.{TableRecord}
 use Rattle.rmm_spec.specs.TableCells.{leaf_of}
 use Rattle.rmm_spec.specs.Cell.{Cell, Undelegated, Rd, tags_of, realms_of, recs_of, table_in}

@@ -5,17 +5,17 @@ use Rattle.rmm_spec.specs.HistoryText.{Config}
 use Rattle.rmm_spec.specs.declared.accepted.Accepted.{Accepted}
 use Rattle.rmm_spec.specs.declared.accepted.Accepted.TheVariants.{Done, Reaches}
 use Rattle.rmm_spec.specs.declared.command.Command.{Command}
-use Rattle.rmm_spec.specs.declared.reply.Reply.{Reply}
+use Rattle.rmm_spec.specs.declared.refusal.Refusal.{Refusal}
 use Rattle.rmm_spec.specs.declared.reply.Reply.TheVariants as reply
-use Rattle.rmm_spec.specs.Rows.{ok}
+use Rattle.rmm_spec.specs.Rows.{ok, reply_of}
 use Rattle.rmm_spec.specs.Step.Ripas.{IsReached, reached_change}
 use Rattle.rmm_spec.specs.Local.{Hold, LocalStep}
 use Rattle.walk_laws.specs.SeenState.{seen_state}
 use Rattle.walk_laws.specs.TableCells.{holds_change, tables_changed}
 
 -- of a stretch, each end that the held table's entries allow may be chosen
-abbrev pub IsLocalAnswer : Config → ℕ → Command → Hold → Result Accepted Reply → Type 0
-IsLocalAnswer config cpu command hold (Err refusal) = LocalStep config cpu command refusal hold hold
+abbrev pub IsLocalAnswer : Config → ℕ → Command → Hold → Result Accepted Refusal → Type 0
+IsLocalAnswer config cpu command hold (Err refusal) = LocalStep config cpu command (reply_of refusal) hold hold
 IsLocalAnswer config cpu command hold (Ok (Done words change)) =
     (holds_change hold.cells change ≡ true) × LocalStep config cpu command (reply.Ok words) hold (tables_changed hold change)
 IsLocalAnswer config cpu command hold (Ok (Reaches stretch)) =

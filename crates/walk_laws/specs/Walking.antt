@@ -9,43 +9,22 @@ use Rattle.rmm_spec.specs.declared.call.Call.{Call}
 use Rattle.rmm_spec.specs.declared.call.Call.TheVariants as call
 use Rattle.rmm_spec.specs.declared.entry.Entry.{Entry}
 use Rattle.rmm_spec.specs.declared.entry.Entry.TheVariants.{Assigned, Table}
-use Rattle.rmm_spec.specs.declared.reply.Reply.{Reply}
-use Rattle.rmm_spec.specs.declared.reply.Reply.TheVariants as reply
+use Rattle.rmm_spec.specs.declared.refusal.Refusal.{Refusal}
+use Rattle.rmm_spec.specs.declared.refusal.Refusal.TheVariants as of
 use Rattle.rmm_spec.specs.declared.tag.Tag.TheVariants.{Rd}
 use Rattle.rmm_spec.specs.State.{State}
 use Rattle.rmm_spec.specs.Lookup.{tag_number}
 use Rattle.rmm_spec.specs.Walk.{table_number, is_table, entry_for, reach}
 use Rattle.rmm_spec.specs.Rows.{Needed}
 use Rattle.rmm_spec.specs.Step.{answer_of}
-use Rattle.rmm_spec.specs.Step.Named.{named}
+use Rattle.rmm_spec.specs.Step.Terms.{named}
+unfoldable pub use Rattle.rmm_spec.specs.Step.Terms.{way_of}
+pub use Rattle.rmm_spec.specs.Step.Terms.{Way, way}
 use Rattle.rmm_spec.specs.Local.{HeldCell}
 use Rattle.walk_laws.specs.Held.{is_held}
 use Rattle.walk_laws.specs.SeenState.{table_behind, table_placed, seen_state}
 
 -- ---- what each command walks for
-
--- a walk in the tables of a realm, for an address, down to a level
-pub record Way : Type 0 where
-  pub rd : ℕ
-  pub ipa : ℕ
-  pub max : ℕ
-
-abbrev pub way : ℕ → ℕ → ℕ → Way
-way rd ipa max = record { rd = rd; ipa = ipa; max = max }
-
--- where a host's command walks, if it does
-unfoldable pub way_of : Call → Option Way
-way_of (call.RttCreate rd rtt ipa level) = Some (way rd ipa (level - 1))
-way_of (call.RttRemove removal rd ipa level) = Some (way rd ipa (level - 1))
-way_of (call.RttReadEntry rd ipa level) = Some (way rd ipa level)
-way_of (call.DataCreate rd granule ipa source flags digest) = Some (way rd ipa 3)
-way_of (call.DataCreateUnknown rd granule ipa) = Some (way rd ipa 3)
-way_of (call.DataDestroy rd ipa) = Some (way rd ipa 3)
-way_of (call.RttMapUnprotected rd ipa page) = Some (way rd ipa 3)
-way_of (call.RttUnmapUnprotected rd ipa) = Some (way rd ipa 3)
-way_of (call.RttInitRipas rd base top) = Some (way rd base 3)
-way_of (call.RttSetRipas rd rec base top) = Some (way rd base 3)
-way_of _ = None
 
 -- whether a command reads more of its realm than the address space, and changes its record: it keeps the realm to its commit
 unfoldable pub keeps_realm : Call → Bool
@@ -92,19 +71,18 @@ are_told c held = list_all (is_told (keeps_realm c) held) (named c)
 
 -- ---- what settles a command
 
--- whether a reply is ERROR_RTT, which rows over tables alone give
-abbrev pub is_table_error : Reply → Bool
-is_table_error (reply.Ok words) = false
-is_table_error (reply.Err status index) = status == 4
-is_table_error reply.Misplaced = false
+-- whether a refusal is ERROR_RTT, which rows over tables alone give
+abbrev pub is_table_error : Refusal → Bool
+is_table_error (of.Rtt condition level) = true
+is_table_error _ = false
 
 -- whether the rows before the walk refuse
-abbrev pub is_refused_early : Result Accepted Reply → Bool
+abbrev pub is_refused_early : Result Accepted Refusal → Bool
 is_refused_early (Ok accepted) = false
 is_refused_early (Err refusal) = not (is_table_error refusal)
 
 -- what a host's command is answered in the state that the held cells tell of: none that walks asks for the CPU
-abbrev pub seen_answer : Config → Call → List HeldCell → Result Accepted Reply
+abbrev pub seen_answer : Config → Call → List HeldCell → Result Accepted Refusal
 seen_answer config c held = answer_of (seen_state config held) 0 c
 
 -- whether the walk's end is held, with what is taken out below it

@@ -1,5 +1,5 @@
 -- What words or a named granule's tag refuse is refused in every whole that agrees with what is held.
-use Rattle.std.proofs.Common.{◌≡◌, ℕ, zero, suc, Bool, true, false, ◌==◌, if◌then◌else◌, List, [], ◌∷◌, Some, slice_get, Err, ◌⊎◌, inl, inr, refl, sym, ap, ◌∙◌, subst}
+use Rattle.std.proofs.Common.{◌≡◌, ℕ, zero, suc, Bool, true, false, ◌==◌, if◌then◌else◌, List, [], ◌∷◌, Some, slice_get, ◌&&◌, Result, Err, ◌⊎◌, inl, inr, refl, sym, ap, ◌∙◌, subst}
 use Rattle.std.specs.Prelude.{Contains, not}
 use Rattle.std.specs.List.{list_all}
 use Rattle.std.proofs.lemmas.Bool.{false≢true, and_right, and_left}
@@ -8,16 +8,18 @@ use Rattle.rmm_spec.specs.HistoryText.{Config}
 use Rattle.rmm_spec.specs.declared.accepted.Accepted.{Accepted}
 use Rattle.rmm_spec.specs.declared.call.Call.{Call}
 use Rattle.rmm_spec.specs.declared.command.Command.{Command}
-use Rattle.rmm_spec.specs.declared.reply.Reply.{Reply}
+use Rattle.rmm_spec.specs.declared.condition.Condition.{Condition}
+use Rattle.rmm_spec.specs.declared.condition.Condition.TheVariants.{GranState}
+use Rattle.rmm_spec.specs.declared.refusal.Refusal.{Refusal}
+use Rattle.rmm_spec.specs.declared.refusal.Refusal.TheVariants as of
 use Rattle.rmm_spec.specs.declared.reply.Reply.TheVariants as reply
 use Rattle.rmm_spec.specs.Call.{ByHost, ByRealm, ByExit, call_of, class_of}
 use Rattle.rmm_spec.specs.State.{State}
 use Rattle.rmm_spec.specs.Lookup.{has_tag, tag_number, is_granule, is_inside}
-use Rattle.rmm_spec.specs.Rows.{Row, Needed, decided, inputs, tagged, input_error}
+use Rattle.rmm_spec.specs.Rows.{Row, Needed, Word, decided, inputs, reply_of, tagged, input_error, all_allowed}
 use Rattle.rmm_spec.specs.Step.Front.{with_front}
-use Rattle.rmm_spec.specs.Step.Words.{words_of}
-use Rattle.rmm_spec.specs.Step.Named.{named}
-use Rattle.rmm_spec.specs.Step.{Step, CarriesOut, answer_of, outcome, is_placed}
+use Rattle.rmm_spec.specs.Step.Terms.{words_of, named}
+use Rattle.rmm_spec.specs.Step.{Step, CarriesOut, answer_of, outcome, is_placed, misplacement}
 use Rattle.rmm_spec.proofs.Behind.{behind}
 use Rattle.rmm_spec.specs.Cell.{Cell, tag_of}
 use Rattle.rmm_spec.specs.Flat.{flat_state}
@@ -29,51 +31,65 @@ use Rattle.world_laws.proofs.Placed.{is_inside-outside, is_inside-inside}
 
 -- ---- rows
 
+-- it is refused as input
+abbrev pub IsInputError : Result Accepted Refusal → Type 0
+IsInputError found = (condition : Condition) × (found ≡ Err (of.Input condition))
+
 -- a word that is refused decides, whatever the rows behind say
-decided-words : (words : List Bool) (rows : List Row) (accepted : Accepted) → list_all (λ b. b) words ≡ false → decided (inputs words rows) accepted ≡ Err input_error
+decided-words : (words : List Word) (rows : List Row) (accepted : Accepted) → list_all (λ (w : Word). w.allowed) words ≡ false
+    → IsInputError (decided (inputs words rows) accepted)
 decided-words [] rows accepted wrong = absurd (false≢true (sym wrong))
-decided-words (true ∷ words) rows accepted wrong = decided-words words rows accepted wrong
-decided-words (false ∷ words) rows accepted wrong = refl
+decided-words (word ∷ words) rows accepted wrong = by word.allowed wrong (decided-words words rows accepted)
+  where
+    by : (b : Bool) → (b && list_all (λ (w : Word). w.allowed) words) ≡ false
+        → (list_all (λ (w : Word). w.allowed) words ≡ false → IsInputError (decided (inputs words rows) accepted))
+        → IsInputError (if b then decided (inputs words rows) accepted else Err (of.Input word.condition))
+    by true others later = later others
+    by false others later = (word.condition, refl)
 
 -- what the rows behind refuse as input is refused as input, whatever the words say
-decided-inputs : (words : List Bool) (rows : List Row) (accepted : Accepted) → decided rows accepted ≡ Err input_error → decided (inputs words rows) accepted ≡ Err input_error
+decided-inputs : (words : List Word) (rows : List Row) (accepted : Accepted) → IsInputError (decided rows accepted) → IsInputError (decided (inputs words rows) accepted)
 decided-inputs [] rows accepted refused = refused
-decided-inputs (true ∷ words) rows accepted refused = decided-inputs words rows accepted refused
-decided-inputs (false ∷ words) rows accepted refused = refl
+decided-inputs (word ∷ words) rows accepted refused = by word.allowed (decided-inputs words rows accepted refused)
+  where
+    by : (b : Bool) → IsInputError (decided (inputs words rows) accepted)
+        → IsInputError (if b then decided (inputs words rows) accepted else Err (of.Input word.condition))
+    by true later = later
+    by false later = (word.condition, refl)
 
 -- a named granule without the tag that is needed there decides
 decided-tags : (s : State) (names : List Needed) (rows : List Row) (accepted : Accepted) (i : ℕ) (n : Needed) → slice_get names i ≡ Some n
-    → has_tag s n.granule n.tag ≡ false → decided (tagged s names rows) accepted ≡ Err input_error
+    → has_tag s n.granule n.tag ≡ false → IsInputError (decided (tagged s names rows) accepted)
 decided-tags s [] rows accepted i n is wrong = absurd (none-some n is)
 decided-tags s (first ∷ names) rows accepted zero n is wrong =
     let same : has_tag s first.granule first.tag ≡ false = subst (λ (m : Needed). has_tag s m.granule m.tag ≡ false) (let e : n ≡ first = cc in e) wrong in
-    rw same refl
+    (GranState, rw same refl)
 decided-tags s (first ∷ names) rows accepted (suc i) n is wrong = by (has_tag s first.granule first.tag) (decided-tags s names rows accepted i n is wrong)
   where
-    by : (b : Bool) → decided (tagged s names rows) accepted ≡ Err input_error
-        → (if b then decided (tagged s names rows) accepted else Err input_error) ≡ Err input_error
+    by : (b : Bool) → IsInputError (decided (tagged s names rows) accepted)
+        → IsInputError (if b then decided (tagged s names rows) accepted else Err (of.Input GranState))
     by true later = later
-    by false later = refl
+    by false later = (GranState, refl)
 
 -- the words refuse, or a named granule hasn't the tag that is needed there
 pub data IsRefusedInFront (s : State) (c : Call) : Type 0 where
-  by_words : list_all (λ b. b) (words_of c) ≡ false → IsRefusedInFront s c
+  by_words : all_allowed (words_of c) ≡ false → IsRefusedInFront s c
   by_tag : (i : ℕ) (n : Needed) → slice_get (named c) i ≡ Some n → has_tag s n.granule n.tag ≡ false → IsRefusedInFront s c
 
-pub decided-front : (s : State) (c : Call) (rows : List Row) (accepted : Accepted) → IsRefusedInFront s c → decided (with_front s c rows) accepted ≡ Err input_error
+pub decided-front : (s : State) (c : Call) (rows : List Row) (accepted : Accepted) → IsRefusedInFront s c → IsInputError (decided (with_front s c rows) accepted)
 decided-front s c rows accepted (by_words wrong) = decided-words (words_of c) (tagged s (named c) rows) accepted wrong
 decided-front s c rows accepted (by_tag i n is wrong) =
     decided-inputs (words_of c) (tagged s (named c) rows) accepted (decided-tags s (named c) rows accepted i n is wrong)
 
 -- each command begins with those rows
-pub answer_of-front : (s : State) (cpu : ℕ) (c : Call) → IsRefusedInFront s c → answer_of s cpu c ≡ Err input_error
-answer_of-front s cpu c refused = let rest = behind s cpu c in rest.2 ∙ decided-front s c rest.0 rest.1 refused
+pub answer_of-front : (s : State) (cpu : ℕ) (c : Call) → IsRefusedInFront s c → IsInputError (answer_of s cpu c)
+answer_of-front s cpu c refused = let rest = behind s cpu c in subst IsInputError (sym rest.2) (decided-front s c rest.0 rest.1 refused)
 
 -- ---- local steps
 
 -- what refuses gives that reply and changes nothing
-pub Step-refused : (s : State) (cpu : ℕ) (command : Command) (refusal : Reply) → outcome s cpu (call_of command) ≡ Err refusal → Step s cpu command refusal s
-Step-refused s cpu command refusal is = subst (λ o. CarriesOut o s refusal s) (sym is) (refl, refl)
+pub Step-refused : (s : State) (cpu : ℕ) (command : Command) (refusal : Refusal) → outcome s cpu (call_of command) ≡ Err refusal → Step s cpu command (reply_of refusal) s
+Step-refused s cpu command refusal is = subst (λ o. CarriesOut o s (reply_of refusal) s) (sym is) (refl, refl)
 
 -- a host's command on a CPU that is outside is answered by its rows
 pub outcome-host : (config : Config) (side : Side) (places : ℕ → CpuPlace) (cells : ℕ → Cell) → IsWellShaped config side places cells
@@ -84,7 +100,7 @@ outcome-host config side places cells shaped cpu c by_host place =
     ap (is_placed (flat_state config cells) cpu) by_host ∙ ap not (is_inside-outside config side places cells shaped cpu place) in
     rw placed refl
 
-pub outcome-misplaced : (s : State) (cpu : ℕ) (c : Call) → is_placed s cpu (class_of c) ≡ false → outcome s cpu c ≡ Err reply.Misplaced
+pub outcome-misplaced : (s : State) (cpu : ℕ) (c : Call) → is_placed s cpu (class_of c) ≡ false → outcome s cpu c ≡ Err (of.Misplaced (misplacement (is_inside s cpu) (class_of c)))
 unfolding outcome
 outcome-misplaced s cpu c misplaced = rw misplaced refl
 
@@ -93,12 +109,12 @@ refused_in_front-is_local : (config : Config) (cpu : ℕ) (command : Command) (h
     → LocalStep config cpu command input_error hold hold
 refused_in_front-is_local config cpu command hold by_host outside refused =
     unchanged-is_local config cpu command input_error hold (λ cells places shaped agrees place.
-    Step-refused (flat_state config cells) cpu command input_error
-    (outcome-host config hold.side places cells shaped cpu (call_of command) by_host (place ∙ outside)
-    ∙ answer_of-front (flat_state config cells) cpu (call_of command) (refused cells agrees)))
+    let front = answer_of-front (flat_state config cells) cpu (call_of command) (refused cells agrees) in
+    Step-refused (flat_state config cells) cpu command (of.Input front.0)
+    (outcome-host config hold.side places cells shaped cpu (call_of command) by_host (place ∙ outside) ∙ front.1))
 
 pub words-are_local : (config : Config) (cpu : ℕ) (command : Command) (hold : Hold) → class_of (call_of command) ≡ ByHost → hold.place ≡ Outside
-    → list_all (λ b. b) (words_of (call_of command)) ≡ false → LocalStep config cpu command input_error hold hold
+    → all_allowed (words_of (call_of command)) ≡ false → LocalStep config cpu command input_error hold hold
 words-are_local config cpu command hold by_host outside wrong =
     refused_in_front-is_local config cpu command hold by_host outside (λ cells agrees. by_words wrong)
 
@@ -136,7 +152,7 @@ pub inside-is_local : (config : Config) (cpu : ℕ) (command : Command) (hold : 
 inside-is_local config cpu command hold rec rd by_host inside =
     unchanged-is_local config cpu command reply.Misplaced hold (λ cells places shaped agrees place.
     let s = flat_state config cells in
-    Step-refused s cpu command reply.Misplaced (outcome-misplaced s cpu (call_of command)
+    Step-refused s cpu command (of.Misplaced _) (outcome-misplaced s cpu (call_of command)
     (ap (is_placed s cpu) by_host ∙ ap not (is_inside-inside config hold.side places cells shaped cpu rec rd (place ∙ inside)))))
 
 -- a realm's call, and an exit, outside of RECs
@@ -145,7 +161,7 @@ pub outside-is_local : (config : Config) (cpu : ℕ) (command : Command) (hold :
 outside-is_local config cpu command hold not_host outside =
     unchanged-is_local config cpu command reply.Misplaced hold (λ cells places shaped agrees place.
     let s = flat_state config cells in
-    Step-refused s cpu command reply.Misplaced (outcome-misplaced s cpu (call_of command)
+    Step-refused s cpu command (of.Misplaced _) (outcome-misplaced s cpu (call_of command)
     (misplaced s (is_inside-outside config hold.side places cells shaped cpu (place ∙ outside)) not_host)))
   where
     misplaced : (s : State) → is_inside s cpu ≡ false → (class_of (call_of command) ≡ ByRealm) ⊎ (class_of (call_of command) ≡ ByExit)

@@ -15,8 +15,7 @@ use Rattle.rmm_spec.specs.Lookup.{has_tag, tag_number, is_granule}
 use Rattle.rmm_spec.specs.Rows.{ok, done}
 use Rattle.rmm_spec.specs.Step.{Step, CarriesOut, answer_of, outcome}
 use Rattle.rmm_spec.specs.Step.Granule.{granule_delegate, granule_undelegate}
-use Rattle.rmm_spec.specs.Step.Words.{words_of}
-use Rattle.rmm_spec.specs.Step.Named.{named}
+use Rattle.rmm_spec.specs.Step.Terms.{words_of, named}
 use Rattle.rmm_spec.specs.Cell.{Cell, Undelegated, Delegated, put, tag_of, realm_in, rec_in, table_in, is_aux, is_data, realms_of, recs_of, tables_of, auxes_of, datas_of}
 use Rattle.rmm_spec.specs.Flat.{flat_state, table_granule, leaf_in_tables}
 use Rattle.rmm_spec.specs.Shape.{Side, CpuPlace, Outside, AreRealmCells, AreTableCells, AreDataCells, AreRecCells, IsWellShaped}

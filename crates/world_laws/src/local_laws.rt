@@ -9,10 +9,9 @@ ghost use Rattle.rmm_spec.specs.declared.reply.Reply.{Reply};
 ghost use Rattle.rmm_spec.specs.declared.reply.Reply.TheVariants.{Misplaced};
 ghost use Rattle.rmm_spec.specs.Call.{ByHost, ByRealm, ByExit, call_of, class_of};
 ghost use Rattle.rmm_spec.specs.Lookup.{tag_number, is_granule};
-ghost use Rattle.rmm_spec.specs.Rows.{Needed, ok, input_error};
+ghost use Rattle.rmm_spec.specs.Rows.{Needed, ok, input_error, all_allowed};
 ghost use Rattle.rmm_spec.specs.Step.{Step};
-ghost use Rattle.rmm_spec.specs.Step.Words.{words_of};
-ghost use Rattle.rmm_spec.specs.Step.Named.{named};
+ghost use Rattle.rmm_spec.specs.Step.Terms.{words_of, named};
 ghost use Rattle.rmm_spec.specs.Cell.{Cell, Undelegated, Delegated, put, tag_of};
 ghost use Rattle.rmm_spec.specs.Flat.{flat_state};
 ghost use Rattle.rmm_spec.specs.Shape.{Side, CpuPlace, Outside, Inside, IsWellShaped};
@@ -37,7 +36,7 @@ pub fn local_on_any_hold()
 /// that is held, is refused as input in a local step that changes nothing, whatever else is held.
 pub fn input_refusals_are_local()
     ensures words { (config : Config) (cpu : ℕ) (command : Command) (hold : Hold) → class_of (call_of command) ≡ ByHost → hold.place ≡ Outside
-        → list_all (λ allowed. allowed) (words_of (call_of command)) ≡ false → LocalStep config cpu command input_error hold hold }
+        → all_allowed (words_of (call_of command)) ≡ false → LocalStep config cpu command input_error hold hold }
     ensures addresses { (config : Config) (cpu : ℕ) (command : Command) (hold : Hold) (n : Needed) → class_of (call_of command) ≡ ByHost
         → hold.place ≡ Outside → Contains (named (call_of command)) n → is_granule config.granules n.granule ≡ false
         → LocalStep config cpu command input_error hold hold }

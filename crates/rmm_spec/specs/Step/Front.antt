@@ -3,8 +3,7 @@ use Rattle.std.specs.Prelude.{List}
 use Rattle.rmm_spec.specs.declared.call.Call.{Call}
 use Rattle.rmm_spec.specs.State.{State}
 use Rattle.rmm_spec.specs.Rows.{Row, inputs, tagged}
-use Rattle.rmm_spec.specs.Step.Words.{words_of}
-use Rattle.rmm_spec.specs.Step.Named.{named}
+use Rattle.rmm_spec.specs.Step.Terms.{words_of, named}
 
 -- the rows over records, tables and requests come behind
 abbrev pub with_front : State → Call → List Row → List Row

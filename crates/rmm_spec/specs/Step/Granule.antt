@@ -3,18 +3,18 @@ use Rattle.std.specs.Prelude.{ℕ, [], Result}
 use Rattle.rmm_spec.specs.declared.accepted.Accepted.{Accepted}
 use Rattle.rmm_spec.specs.declared.call.Call.TheVariants.{GranuleDelegate, GranuleUndelegate}
 use Rattle.rmm_spec.specs.declared.change.Change.TheVariants.{Retagged}
-use Rattle.rmm_spec.specs.declared.reply.Reply.{Reply}
+use Rattle.rmm_spec.specs.declared.refusal.Refusal.{Refusal}
 use Rattle.rmm_spec.specs.declared.tag.Tag.TheVariants.{Undelegated, Delegated}
 use Rattle.rmm_spec.specs.State.{State}
 use Rattle.rmm_spec.specs.Rows.{decided, done}
 use Rattle.rmm_spec.specs.Step.Front.{with_front}
 
-unfoldable pub granule_delegate : State → ℕ → Result Accepted Reply
+unfoldable pub granule_delegate : State → ℕ → Result Accepted Refusal
 granule_delegate s granule =
     decided (with_front s (GranuleDelegate granule) [])
     (done [] (Retagged (record { granule = granule; tag = Delegated })))
 
-unfoldable pub granule_undelegate : State → ℕ → Result Accepted Reply
+unfoldable pub granule_undelegate : State → ℕ → Result Accepted Refusal
 granule_undelegate s granule =
     decided (with_front s (GranuleUndelegate granule) [])
     (done [] (Retagged (record { granule = granule; tag = Undelegated })))

@@ -13,14 +13,15 @@ use Rattle.rmm_spec.specs.declared.change.EntryChange.TheVariants.{RipasSet}
 use Rattle.rmm_spec.specs.declared.change.RealmUpdate.TheVariants.{StretchMeasured}
 use Rattle.rmm_spec.specs.declared.change.RecUpdate.TheVariants.{RequestMoved}
 use Rattle.rmm_spec.specs.declared.entry.Entry.{Entry}
-use Rattle.rmm_spec.specs.declared.reply.Reply.{Reply}
+use Rattle.rmm_spec.specs.declared.condition.Condition.TheVariants as condition
+use Rattle.rmm_spec.specs.declared.refusal.Refusal.{Refusal}
 use Rattle.rmm_spec.specs.declared.tag.Ripas.TheVariants.{Ram}
 use Rattle.rmm_spec.specs.State.{State}
 use Rattle.rmm_spec.specs.Lookup.{realm_at, rec_at, request_of, is_new, all_below}
 use Rattle.rmm_spec.specs.Walk.{entry_size, table_size, entry_number, table_number, entry_at, walk, half, is_multiple, is_table, is_assigned, is_unassigned}
-use Rattle.rmm_spec.specs.Rows.{row, input, decided, realm_error, rec_error, table_error}
+use Rattle.rmm_spec.specs.Rows.{input, decided, realm_row, rec_row, rtt_row}
 use Rattle.rmm_spec.specs.Step.Front.{with_front}
-use Rattle.rmm_spec.specs.Step.Words.{is_page}
+use Rattle.rmm_spec.specs.Step.Terms.{is_page}
 
 -- ---- how far a command gets
 
@@ -65,33 +66,35 @@ reached_change stretch top =
 
 -- ---- the commands
 
--- whether the first entry of a stretch begins at base and ends by top
-abbrev pub has_room : ℕ → ℕ → ℕ → Bool
-has_room base top level = is_multiple base (entry_size level) && nat_le (base + entry_size level) top
-
-unfoldable pub rtt_init_ripas : State → ℕ → ℕ → ℕ → Result Accepted Reply
+unfoldable pub rtt_init_ripas : State → ℕ → ℕ → ℕ → Result Accepted Refusal
 rtt_init_ripas s rd base top =
     let realm = realm_at s rd in
     let end = walk s rd base 3 in
     decided
     (with_front s (RttInitRipas rd base top)
-    (input (nat_le top (half realm))  -- top_bound
-    ∷ row (is_new realm) (realm_error 0)  -- realm_state
-    ∷ row (is_unassigned end.entry && has_room base top end.level) (table_error end.level)  -- rtte_state, base_align, top_rtt_align
+    (input condition.TopBound (nat_le top (half realm))
+    ∷ realm_row condition.RealmState (is_new realm)
+    ∷ rtt_row condition.RtteState end.level (is_unassigned end.entry)
+    ∷ rtt_row condition.BaseAlign end.level (is_multiple base (entry_size end.level))
+    ∷ rtt_row condition.TopRttAlign end.level (nat_le (base + entry_size end.level) top)
     ∷ []))
     (Reaches (record { rd = rd; base = base; top = top; level = end.level; purpose = Init }))
 
-unfoldable pub rtt_set_ripas : State → ℕ → ℕ → ℕ → ℕ → Result Accepted Reply
+unfoldable pub rtt_set_ripas : State → ℕ → ℕ → ℕ → ℕ → Result Accepted Refusal
 rtt_set_ripas s rd rec base top =
     let old = rec_at s rec in
     let request = request_of old in
     let end = walk s rd base 3 in
     decided
     (with_front s (RttSetRipas rd rec base top)
-    (row (old.owner == rd) rec_error  -- rec_owner
-    ∷ row (is_none old.cpu) rec_error  -- rec_state
-    ∷ input (is_some old.request && base == request.base)  -- base_bound
-    ∷ input (nat_le top request.top && nat_lt base top && is_page top)  -- top_bound, size_valid, top_gran_align
-    ∷ row (has_room base top end.level) (table_error end.level)  -- base_align, top_rtt_align
+    (rec_row condition.RecOwner (old.owner == rd)
+    ∷ rec_row condition.RecState (is_none old.cpu)
+    ∷ input condition.OwnRequest (is_some old.request)
+    ∷ input condition.BaseBound (base == request.base)
+    ∷ input condition.TopBound (nat_le top request.top)
+    ∷ input condition.SizeValid (nat_lt base top)
+    ∷ input condition.TopGranAlign (is_page top)
+    ∷ rtt_row condition.BaseAlign end.level (is_multiple base (entry_size end.level))
+    ∷ rtt_row condition.TopRttAlign end.level (nat_le (base + entry_size end.level) top)
     ∷ []))
     (Reaches (record { rd = rd; base = base; top = top; level = end.level; purpose = Requested rec request.ripas }))

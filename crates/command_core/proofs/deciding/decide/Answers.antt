@@ -1,7 +1,8 @@
 use Rattle.std.proofs.Common.{◌≡◌, Ok, Err, refl, sym, ap, ◌∙◌}
 use Rattle.rmm_spec.specs.declared.accepted.Accepted.TheVariants.{Done, Reaches}
-use Rattle.rmm_spec.specs.declared.reply.Reply.TheVariants.{Misplaced}
+use Rattle.rmm_spec.specs.Rows.{reply_of}
 use Rattle.command_core.specs.Changed.{hold_of, new_cells}
+use Rattle.command_core.specs.Decided.{misshaped}
 use Rattle.command_core.specs.Seen.{place_of}
 use Rattle.command_core.specs.Sides.{side_of}
 use Rattle.command_core.proofs.Ready.{decision, decision-unshaped}
@@ -37,15 +38,17 @@ returns-in-Ok-Done-clause-can g c =
 
 pub returns-in-Err-clause-decides : goal.returns-in-Err-clause-decides
 returns-in-Err-clause-decides g c =
-    (decision c.args.config.now c.args.cpu c.args.command.now
+    rw c.reply.ensures
+    ((decision c.args.config.now c.args.cpu c.args.command.now
     (hold_of (g.H.Held.cells c.args.held.now) (side_of c.args.side.now) (place_of c.args.place.now)) c.call.result c.settled_answer.result
-    (Err c.in-Err.refusal) c.call.ensures c.requires.settled c.settled_answer.ensures.answer c.in-Err.is).is_local
+    (Err c.in-Err.refusal) c.call.ensures c.requires.settled c.settled_answer.ensures.answer c.in-Err.is).is_local)
 
 pub returns-in-Err-clause-furthest : goal.returns-in-Err-clause-furthest
 returns-in-Err-clause-furthest g c =
-    (decision c.args.config.now c.args.cpu c.args.command.now
+    rw c.reply.ensures
+    ((decision c.args.config.now c.args.cpu c.args.command.now
     (hold_of (g.H.Held.cells c.args.held.now) (side_of c.args.side.now) (place_of c.args.place.now)) c.call.result c.settled_answer.result
-    (Err c.in-Err.refusal) c.call.ensures c.requires.settled c.settled_answer.ensures.answer c.in-Err.is).is_furthest
+    (Err c.in-Err.refusal) c.call.ensures c.requires.settled c.settled_answer.ensures.answer c.in-Err.is).is_furthest)
 
 pub returns-in-Err-clause-can : goal.returns-in-Err-clause-can
 unfolding new_cells
@@ -53,18 +56,18 @@ returns-in-Err-clause-can g c = record { held = tt; tables = tt; here = tt }
 
 pub returns-in-Ok-Done-clause-misplaced : goal.returns-in-Ok-Done-clause-misplaced
 returns-in-Ok-Done-clause-misplaced g c = λ unshaped.
-    let is : c.settled_answer.result ≡ Err Misplaced =
+    let is : c.settled_answer.result ≡ Err misshaped =
     decision-unshaped c.args.config.now c.args.cpu c.args.command.now
     (hold_of (g.H.Held.cells c.args.held.now) (side_of c.args.side.now) (place_of c.args.place.now)) c.call.result c.settled_answer.result
     c.call.ensures c.settled_answer.ensures.answer unshaped in
-    absurd (let bad : Ok c.in-Ok-Done.field-0 ≡ Err Misplaced = sym c.in-Ok-Done.is ∙ is in cc)
+    absurd (let bad : Ok c.in-Ok-Done.field-0 ≡ Err misshaped = sym c.in-Ok-Done.is ∙ is in cc)
 
 pub returns-in-Err-clause-misplaced : goal.returns-in-Err-clause-misplaced
 returns-in-Err-clause-misplaced g c = λ unshaped.
-    let is : c.settled_answer.result ≡ Err Misplaced =
+    let is : c.settled_answer.result ≡ Err misshaped =
     decision-unshaped c.args.config.now c.args.cpu c.args.command.now
     (hold_of (g.H.Held.cells c.args.held.now) (side_of c.args.side.now) (place_of c.args.place.now)) c.call.result c.settled_answer.result
     c.call.ensures c.settled_answer.ensures.answer unshaped in
-    let both : Err c.in-Err.refusal ≡ Err Misplaced = sym c.in-Err.is ∙ is in
-    let same : c.in-Err.refusal ≡ Misplaced = cc in
-    (same, refl)
+    let both : Err c.in-Err.refusal ≡ Err misshaped = sym c.in-Err.is ∙ is in
+    let same : c.in-Err.refusal ≡ misshaped = cc in
+    (c.reply.ensures ∙ ap reply_of same, refl)

@@ -1,6 +1,6 @@
 use Rattle.std.proofs.Common.{sym}
 use Rattle.command_core.proofs.Walked.{taken-way}
-use Rattle.command_core.specs.Ways.{way_seen}
+use Rattle.command_words.specs.Ways.{way_seen}
 use Rattle.command_core.proofs.settling.is_all_held.Goals as goal
 
 pub is_walk_over-requires : goal.is_walk_over-requires

@@ -1,7 +1,4 @@
-use Rattle.std.proofs.Common.{sym, subst}
-use Rattle.std.specs.Prelude.{Ok, Err}
-use Rattle.granule_lock.specs.HeldCells.{hold_cells}
-use Rattle.commit_tickets.specs.Commits.{IsEntry}
+use Rattle.commit_tickets.proofs.Common.{Ok, Err, hold_cells}
 use Rattle.commit_tickets.proofs.Entered.{IsEntry-less, committed, refused}
 use Rattle.commit_tickets.proofs.committing.commit.Goals as goal
 

@@ -1,16 +1,7 @@
-use Rattle.std.proofs.Common.{◌≡◌, ◌+◌, ◌≤◌, length, map, [], ◌∷◌, ◌++◌, ℕ, sym, ap, ◌∙◌, subst, arith, inl}
-use Rattle.std.proofs.lemmas.List.{length-map, length_push, map-append}
-use Rattle.rmm_spec.specs.declared.command.Command.{Command}
-use Rattle.rmm_spec.specs.declared.reply.Reply.{Reply}
-use Rattle.rmm_spec.specs.Step.{Step}
+use Rattle.commit_tickets.proofs.Common.{◌≡◌, ◌+◌, ◌≤◌, length, map, [], ◌∷◌, ◌++◌, ℕ, sym, ap, ◌∙◌, subst, arith, inl, map-append, Command, Reply, Step, given_of, change_of, Entry, hold_cells, state_of, entry_of, JournalView}
+use Rattle.std.proofs.lemmas.List.{length-map, length_push}
 use Rattle.rmi_view.specs.Seen.{command_seen, reply_seen}
-use Rattle.command_core.specs.Changed.{given_of}
-use Rattle.command_core.specs.Foreseen.{change_of}
-use Rattle.command_log.specs.Log.{Entry}
-use Rattle.granule_lock.specs.HeldCells.{hold_cells}
-use Rattle.spec_machine.specs.View.{state_of}
-use Rattle.commit_tickets.specs.Entries.{entry_of, committed_of}
-use Rattle.commit_tickets.specs.View.{JournalView}
+use Rattle.commit_tickets.specs.Entries.{committed_of}
 use Rattle.commit_tickets.proofs.Disagreements.{refused-disagree}
 use Rattle.commit_tickets.proofs.Rising.{RiseWithin-append}
 use Rattle.commit_tickets.proofs.Runs.{IsRun-append}

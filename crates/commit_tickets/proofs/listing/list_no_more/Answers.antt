@@ -1,5 +1,4 @@
-use Rattle.std.proofs.Common.{arith, refl}
-use Rattle.commit_tickets.specs.Listed.{numbers_of}
+use Rattle.commit_tickets.proofs.Common.{arith, refl, numbers_of}
 use Rattle.commit_tickets.proofs.Lists.{no_more}
 use Rattle.commit_tickets.proofs.listing.list_no_more.Goals as goal
 

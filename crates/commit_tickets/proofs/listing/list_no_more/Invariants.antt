@@ -1,5 +1,4 @@
-use Rattle.std.proofs.Common.{ℕ, ◌<◌, ◌≤◌, length}
-use Rattle.commit_tickets.specs.Listed.{mine_of, numbers_of}
+use Rattle.commit_tickets.proofs.Common.{ℕ, ◌<◌, ◌≤◌, length, mine_of, numbers_of}
 use Rattle.commit_tickets.proofs.listing.list_no_more.Given as goal
 
 abbrev pub invariant-loop-cpu : goal.invariant-loop-cpu

@@ -1,4 +1,4 @@
-use Rattle.std.proofs.Common.{◌≤◌, sym, subst}
+use Rattle.commit_tickets.proofs.Common.{◌≤◌, sym, subst}
 use Rattle.std.proofs.Math.Nat.{le-max_left, le-max_right}
 use Rattle.commit_tickets.proofs.Rising.{RiseWithin-later}
 use Rattle.commit_tickets.proofs.meeting.meet.Goals as goal

@@ -53,6 +53,7 @@ returns-in_err-take-clause-refused g c = λ _.
     inr (record {
       text = so_far.text;
       piece = _;
+      some = search rules;
       taken = c.loop-count.taker;
       given = Gives-next g.S.Source.gives c.args.source.now c.loop-count.source c.read_more.new.self so_far.text _ so_far.given
           (subst (λ p. g.S.Source.gives c.loop-count.source p c.read_more.new.self) step.1.1 step.1.0);

@@ -1,6 +1,4 @@
-use Rattle.std.proofs.Common.{◌≡◌}
-use Rattle.crossbeam_queue.specs.Passes.{view as page_of, IsPassOf}
-use Rattle.event_queue.specs.Pages.{scribe_page}
+use Rattle.event_queue.proofs.Common.{◌≡◌, page_of, IsPassOf, scribe_page}
 use Rattle.event_queue.proofs.recorder.count_cpus.Given as goal
 
 abbrev pub invariant-loop-counted : goal.invariant-loop-counted

@@ -1,6 +1,4 @@
-use Rattle.std.proofs.Common.{◌+◌, ap, ◌∙◌}
-use Rattle.event_queue.specs.Pages.{Page}
-use Rattle.event_queue.specs.View.{before_calls}
+use Rattle.event_queue.proofs.Common.{◌+◌, ap, ◌∙◌, Page, before_calls}
 use Rattle.event_queue.proofs.Steps.{seats}
 use Rattle.event_queue.proofs.Passes.{are_seated-push}
 use Rattle.event_queue.proofs.recorder.seat_cpus.Goals as goal

@@ -1,6 +1,4 @@
-use Rattle.std.proofs.Common.{◌≡◌}
-use Rattle.crossbeam_queue.specs.Passes.{view as page_of, IsPassOf}
-use Rattle.event_queue.specs.Pages.{scribe_page}
+use Rattle.event_queue.proofs.Common.{◌≡◌, page_of, IsPassOf, scribe_page}
 use Rattle.event_queue.proofs.Passes.{AreSeated}
 use Rattle.event_queue.proofs.recorder.seat_cpus.Given as goal
 

@@ -1,5 +1,4 @@
-use Rattle.std.proofs.Common.{◌≡◌, ◌<◌, take}
-use Rattle.event_queue.specs.View.{count_recorded}
+use Rattle.event_queue.proofs.Common.{◌≡◌, ◌<◌, take, count_recorded}
 use Rattle.event_queue.proofs.rest.count_recorded.Given as goal
 
 abbrev pub invariant-loop-pass : goal.invariant-loop-pass

@@ -1,4 +1,4 @@
-use Rattle.std.proofs.Common.{arith}
+use Rattle.event_queue.proofs.Common.{arith}
 use Rattle.event_queue.proofs.Stands.{count_from_stand}
 use Rattle.event_queue.proofs.rest.recorded_by.Goals as goal
 

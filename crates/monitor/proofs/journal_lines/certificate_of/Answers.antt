@@ -1,13 +1,17 @@
-use Rattle.std.proofs.Common.{◌≡◌, ◌+◌, ◌++◌, suc, length, drop, ap, ◌∙◌, subst, arith}
-use Rattle.std.proofs.lemmas.List.{length_push}
-use Rattle.rmm_spec.specs.World.{line_for}
+use Rattle.monitor.proofs.Common.{◌≡◌, ℕ, ◌+◌, ◌≤◌, List, [], ◌∷◌, ◌++◌, length, take, subst, sym, ap, ◌∙◌, arith, Some, slice_get, slice_get_within, line_for, slice_get-map_to, numbers_of, count_of, lines_for, numbered, commitment, numbered-at, entries-numbered_from}
+use Rattle.std.proofs.lemmas.List.{length-map, take_all, take_more}
+use Rattle.std.proofs.lemmas.Option.{get_or_from_slice_get}
+use Rattle.world_laws.proofs.Lists.{put_elim}
+use Rattle.world_laws.proofs.Recorded.{entry_of as entry_for}
 use Rattle.command_log.specs.Log.{logged_seen}
 use Rattle.commit_tickets.specs.Entries.{entry_of}
-use Rattle.commit_tickets.specs.Listed.{numbers_of}
-use Rattle.commit_tickets.proofs.Lists.{drop-at}
-use Rattle.event_queue.specs.Numbered.{lines_for}
-use Rattle.monitor.proofs.Written.{commitment, lines_from, written-next, numbers-next}
+use Rattle.event_queue.proofs.Orders.{counted-push}
 use Rattle.monitor.proofs.journal_lines.certificate_of.Goals as goal
+
+-- a beginning with the next element
+take-next : {X : Type 0} (xs : List X) (place : ℕ) (x : X) → slice_get xs place ≡ Some x → take (place + 1) xs ≡ take place xs ++ x ∷ []
+take-next xs place x at =
+    take_more xs place x (slice_get_within xs place x at) ∙ ap (λ y. take place xs ++ y ∷ []) (get_or_from_slice_get xs place x x at)
 
 pub loop-ticket-preserved : goal.loop-ticket-preserved
 loop-ticket-preserved g c =
@@ -16,17 +20,29 @@ loop-ticket-preserved g c =
     let was = c.loop-ticket.invariant in
     let ticket = c.loop-ticket.ticket in
     let entry = entry_of (logged_seen c.entry-entry.result) in
+    let entry_at = c.entry-entry.ensures.entry in
     let number = numbers_of c.loop-ticket.numbers in
-    let next = numbers_of c.count-number.new.self in
-    let lines = c.loop-ticket.certificate.lines in
-    let new = c.push.new.self.lines in
-    let longer = c.in_ok-push.ensures.ok in
-    let later : suc ticket ≡ ticket + 1 = omega arith in
+    let is_number : 0 + count_of entry.cpu (take ticket entries) ≡ c.count-number.result = omega (arith, c.count-number.ensures.number, was.numbers entry.cpu) in
+    let line_at : slice_get (lines_for events entries) ticket ≡ Some c.line_of.result =
+    slice_get-map_to (line_for events) (numbered entries) ticket _ (numbered-at (λ _. 0) entries ticket entry entry_at)
+    ∙ ap (λ n. Some (line_for events (commitment entry n))) is_number ∙ ap Some (sym c.line_of.ensures.line) in
     record {
-      count = omega (arith, was.count, ap length longer, length_push lines c.line_of.result);
-      numbers = numbers-next number next entry.cpu lines new c.line_of.result c.count-number.ensures.counted longer was.numbers;
-      written = subst (λ t. new ++ lines_from events next (drop t entries) ≡ lines_for events entries) later
-          (written-next events (drop ticket entries) (drop (suc ticket) entries) entry number next lines new (lines_for events entries) c.line_of.result
-          (drop-at entries ticket entry c.entry-entry.ensures.entry) c.count-number.ensures.counted
-          (c.line_of.ensures.line ∙ ap (λ n. line_for events (commitment entry n)) c.count-number.ensures.number) longer was.written);
+      written = c.in_ok-push.ensures.ok ∙ ap (λ ls. ls ++ c.line_of.result ∷ []) was.written ∙ sym (take-next (lines_for events entries) ticket _ line_at);
+      numbers = λ cpu. ap (λ next. next cpu) c.count-number.ensures.counted ∙ counted-push number (take ticket entries) entry was.numbers cpu
+          ∙ ap (count_of cpu) (sym (take-next entries ticket entry entry_at));
+      few = λ cpu. subst (λ n. n ≤ ticket + 1) (sym (ap (λ (next : ℕ → ℕ). next cpu) c.count-number.ensures.counted))
+          (put_elim (λ n. n ≤ ticket + 1) number entry.cpu (number entry.cpu + 1) cpu (λ _. omega (arith, was.few entry.cpu)) (λ _. omega (arith, was.few cpu)));
     }
+
+pub returns-clause-written : goal.returns-clause-written
+returns-clause-written g c =
+    let entries = c.args.journal.now.entries in
+    let lines = lines_for c.args.history.now.recorded.events entries in
+    c.loop-ticket.invariant.written ∙ take_all c.loop-ticket.ticket lines (omega (
+      arith,
+      length-map (numbered entries) (line_for c.args.history.now.recorded.events),
+      length-map (numbered entries) entry_for,
+      ap length (entries-numbered_from (λ _. 0) entries),
+      c.loop-ticket-test.false,
+      c.len-ticket-end.ensures,
+    ))

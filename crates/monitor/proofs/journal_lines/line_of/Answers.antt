@@ -1,8 +1,7 @@
-use Rattle.std.proofs.Common.{sym, ap, ◌∙◌}
+use Rattle.monitor.proofs.Common.{sym, ap, ◌∙◌, Commitment}
 use Rattle.std.proofs.lemmas.Bool.{iff_false}
 use Rattle.rmi_view.specs.Seen.{command_seen, reply_seen}
 use Rattle.rmm_spec.specs.declared.line.Line.TheVariants.{Unfinished}
-use Rattle.rmm_spec.specs.World.{Commitment}
 use Rattle.world_laws.proofs.LineOf.{line_for-returned, line_for-unfinished}
 use Rattle.monitor.proofs.journal_lines.line_of.Goals as goal
 

@@ -1,4 +1,4 @@
-use Rattle.std.proofs.Common.{arith}
+use Rattle.monitor.proofs.Common.{arith}
 use Rattle.monitor.proofs.ToldLines.{ComesBefore-tickets}
 use Rattle.monitor.proofs.told_order.told_calls_come_first.Goals as goal
 

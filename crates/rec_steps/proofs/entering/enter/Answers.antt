@@ -13,5 +13,6 @@ returns-in-Ok-clause-step c = λ s address command is outside tagged held.
 pub returns-in-Err-clause-step : goal.returns-in-Err-clause-step
 returns-in-Err-clause-step c = λ s address command is outside tagged held.
     let a = c.args in
-    step_refused s a.cpu address command a.realm.now a.rec.now c.in-Err.refusal held
-    (c.in-Err.ensures.answer s address held tagged ∙ outcome-enter s a.cpu address (call_of command) is outside)
+    rw c.reply.ensures
+    (step_refused s a.cpu address command a.realm.now a.rec.now c.in-Err.refusal held
+    (c.in-Err.ensures.answer s address held tagged ∙ outcome-enter s a.cpu address (call_of command) is outside))

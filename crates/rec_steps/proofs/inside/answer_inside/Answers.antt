@@ -1,7 +1,9 @@
-use Rattle.std.proofs.Common.{Ok, refl, ap, ◌∙◌, subst, sym}
+use Rattle.std.proofs.Common.{true, Ok, Err, refl, ap, ◌∙◌, subst, sym}
 use Rattle.std.specs.Prelude.{IfSome}
+use Rattle.rmm_spec.specs.declared.refusal.Refusal.TheVariants.{Misplaced}
 use Rattle.rmm_spec.specs.Lookup.{rec_inside}
 use Rattle.rmm_spec.specs.State.{RecRecord}
+use Rattle.rmm_spec.specs.Step.{misplacement}
 use Rattle.rec_steps.specs.Answers.{answer_at, accepted_at, IsRipasRead}
 use Rattle.rec_steps.proofs.Steps.{rec_at-held, realm_at-IsHeld, answered_exit, outcome-pending, outcome-row}
 use Rattle.rec_steps.specs.declared.step.RecStep.{RecStep}
@@ -15,7 +17,8 @@ returns-in-Exit-clause-answer c = λ s cpu inside held read.
 pub returns-then-not-can_call : goal.returns-then-not-can_call
 returns-then-not-can_call c = record {
   answer = λ s cpu inside held read.
-      outcome-pending s cpu c.args.call.now c.args.rec.now inside held.has_rec (sym c.can_call.ensures ∙ c.if-not-can_call.true) c.in_default.not-Exit;
+      ap (λ condition. Err (Misplaced condition)) (c.misplacement.ensures ∙ ap (misplacement true) c.caller_of.ensures)
+      ∙ outcome-pending s cpu c.args.call.now c.args.rec.now inside held.has_rec (sym c.can_call.ensures ∙ c.if-not-can_call.true) c.in_default.not-Exit;
   fits = tt;
 }
 

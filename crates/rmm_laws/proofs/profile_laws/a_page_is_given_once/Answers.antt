@@ -1,7 +1,8 @@
 use Rattle.std.proofs.Common.{[], ◌∷◌}
 use Rattle.rmm_spec.specs.declared.function_id.FunctionId.TheVariants.{DataCreateUnknown}
 use Rattle.rmm_spec.specs.Rows.{ok}
-use Rattle.rmm_spec.specs.Script.{script_config, answered, data_granule_mapped_twice}
+use Rattle.rmm_spec.specs.Script.{script_config, answered}
+use Rattle.rmm_spec.specs.TableScript.{data_granule_mapped_twice}
 use Rattle.rmm_spec.specs.State.{opening}
 use Rattle.rmm_laws.proofs.Replays.{no_replay-no_run}
 use Rattle.rmm_laws.proofs.RunLaws.{run-snoc}

@@ -1,4 +1,5 @@
-use Rattle.rmm_spec.specs.Script.{script_config, version_two_config, table_with_data_stays, data_granule_mapped_twice, ripas_change_in_two_parts, ripas_change_past_table, life_of_a_rec, off_and_out_of_range, ripas_before_a_realm_runs, realms_and_recs_come_and_go, words_out_of_range, table_folds, page_of_the_host, realm_of_algo_1}
+use Rattle.rmm_spec.specs.Script.{script_config, version_two_config, life_of_a_rec, off_and_out_of_range, realms_and_recs_come_and_go, realm_of_algo_1}
+use Rattle.rmm_spec.specs.TableScript.{table_with_data_stays, data_granule_mapped_twice, ripas_change_in_two_parts, ripas_change_past_table, ripas_before_a_realm_runs, words_out_of_range, table_folds, page_of_the_host}
 use Rattle.rmm_spec.specs.State.{opening}
 use Rattle.rmm_laws.proofs.Replays.{replayed-run}
 use Rattle.rmm_laws.proofs.Scripts.{all_runs, version_two_runs}

@@ -1,8 +1,6 @@
-use Rattle.std.proofs.Common.{arith}
+use Rattle.commit_tickets.proofs.Common.{arith, entry_of, numbers_of}
 use Rattle.std.proofs.lemmas.Bool.{false≢true, iff_false}
 use Rattle.command_log.specs.Log.{logged_seen}
-use Rattle.commit_tickets.specs.Entries.{entry_of}
-use Rattle.commit_tickets.specs.Listed.{numbers_of}
 use Rattle.commit_tickets.proofs.Lists.{unlisted-cpu, listed-by_token, Remain-by_token, listed-end}
 use Rattle.commit_tickets.proofs.journal.Journal.is_listed_by.Goals as goal
 

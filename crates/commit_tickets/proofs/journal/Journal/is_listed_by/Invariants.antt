@@ -1,4 +1,4 @@
-use Rattle.commit_tickets.specs.Listed.{numbers_of}
+use Rattle.commit_tickets.proofs.Common.{numbers_of}
 use Rattle.commit_tickets.proofs.Lists.{Remain}
 use Rattle.commit_tickets.proofs.journal.Journal.is_listed_by.Given as goal
 

@@ -1,4 +1,4 @@
-use Rattle.std.proofs.Common.{◌≡◌, ◌+◌}
+use Rattle.commit_tickets.proofs.Common.{◌≡◌, ◌+◌}
 use Rattle.commit_tickets.specs.View.{first_tokens}
 use Rattle.commit_tickets.proofs.journal.Journal.new.Given as goal
 

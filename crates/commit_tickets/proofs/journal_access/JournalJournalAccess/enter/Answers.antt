@@ -1,8 +1,4 @@
-use Rattle.std.proofs.Common.{refl, sym, ◌∙◌, subst}
-use Rattle.rmm_spec.specs.HistoryText.{Config}
-use Rattle.rmm_spec.specs.Run.{IsRun}
-use Rattle.rmm_spec.specs.State.{opening}
-use Rattle.spec_machine.specs.View.{state_of}
+use Rattle.commit_tickets.proofs.Common.{refl, sym, ◌∙◌, subst, Config, IsRun, opening, state_of}
 use Rattle.commit_tickets.proofs.journal_access.JournalJournalAccess.enter.Goals as goal
 
 pub returns : goal.returns

@@ -1,5 +1,4 @@
-use Rattle.std.proofs.Common.{ap}
-use Rattle.event_queue.specs.Pages.{Page}
+use Rattle.event_queue.proofs.Common.{ap, Page}
 use Rattle.event_queue.proofs.Steps.{lends, takes}
 use Rattle.event_queue.proofs.cpu_pass.CpuPass.commit.Goals as goal
 

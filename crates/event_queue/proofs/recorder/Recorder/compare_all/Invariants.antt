@@ -1,8 +1,4 @@
-use Rattle.std.proofs.Common.{◌≡◌, ℕ, ◌<◌, Some}
-use Rattle.std.specs.Prelude.{slice_get}
-use mathlib.Core.List.{IsPrefix}
-use Rattle.rmm_spec.specs.HistoryText.{subhistory_of}
-use Rattle.event_queue.specs.View.{CpuView, hearing}
+use Rattle.event_queue.proofs.Common.{◌≡◌, ℕ, ◌<◌, Some, slice_get, IsPrefix, subhistory_of, CpuView, hearing}
 use Rattle.event_queue.proofs.Hearings.{replaced_before}
 use Rattle.event_queue.proofs.recorder.Recorder.compare_all.Given as goal
 

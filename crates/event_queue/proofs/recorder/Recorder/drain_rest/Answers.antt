@@ -1,9 +1,7 @@
-use Rattle.std.proofs.Common.{◌≡◌, List, length, arith, sym, ap, ◌∙◌, subst, length-append}
-use Rattle.std.specs.List.{AllByRecursion}
+use Rattle.event_queue.proofs.Common.{◌≡◌, List, length, arith, sym, ap, ◌∙◌, subst, length-append, AllByRecursion, Event, IsEvent, subhistory_of, AreBegun, AreWhole, CpuView, ScribeView}
 use Rattle.std.proofs.lemmas.Result.{on_ok_weaker, on_err_weaker}
-use Rattle.rmm_spec.specs.declared.event.Event.{Event}
-use Rattle.rmm_spec.specs.HistoryText.{History, IsEvent, subhistory_of}
-use Rattle.event_queue.specs.View.{AreBegun, AreSeats, AreWhole, CpuView, ScribeView}
+use Rattle.rmm_spec.specs.HistoryText.{History}
+use Rattle.event_queue.specs.View.{AreSeats}
 use Rattle.event_queue.proofs.Hearings.{each_hearing}
 use Rattle.event_queue.proofs.Wholes.{are_whole, at_most_recorded}
 use Rattle.event_queue.proofs.recorder.Recorder.drain_rest.Goals as goal

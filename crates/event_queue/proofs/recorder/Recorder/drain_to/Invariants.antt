@@ -1,5 +1,4 @@
-use Rattle.std.proofs.Common.{◌≡◌, ◌+◌, ◌≤◌, List, ◌++◌, length}
-use Rattle.rmm_spec.specs.declared.event.Event.{Event}
+use Rattle.event_queue.proofs.Common.{◌≡◌, ◌+◌, ◌≤◌, List, ◌++◌, length, Event}
 use Rattle.event_queue.proofs.recorder.Recorder.drain_to.Given as goal
 
 abbrev pub invariant-loop-look : goal.invariant-loop-look

@@ -1,6 +1,4 @@
-use Rattle.std.proofs.Common.{arith, subst}
-use Rattle.history.proofs.SubhistoryLaws.{cpu_below}
-use Rattle.event_queue.specs.View.{AreBegun, ScribeView}
+use Rattle.event_queue.proofs.Common.{arith, subst, cpu_below, AreBegun, ScribeView}
 use Rattle.event_queue.proofs.Wholes.{no_event_more}
 use Rattle.event_queue.proofs.recorder.Recorder.keeps_real_time.Goals as goal
 

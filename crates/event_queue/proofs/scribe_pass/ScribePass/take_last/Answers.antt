@@ -1,6 +1,4 @@
-use Rattle.std.proofs.Common.{ap, ◌∙◌}
-use Rattle.event_queue.specs.Pages.{Page}
-use Rattle.event_queue.specs.View.{ScribeView}
+use Rattle.event_queue.proofs.Common.{ap, ◌∙◌, Page, ScribeView}
 use Rattle.event_queue.proofs.Orders.{in_order-empty}
 use Rattle.event_queue.proofs.Steps.{takes, drains, closes}
 use Rattle.event_queue.proofs.scribe_pass.ScribePass.take_last.Goals as goal

@@ -25,7 +25,7 @@ returns-in_default c =
     let ranked = c.requires.next.ranked in
     rw c.pass.ensures (
       IsSearch-tried history wf search _ is_search refl refl is_search.machine
-          (Tried-call history wf search is_search c.args.choice c.requires.next c.requires.least (c.in_default.ensures (lines_of search.frames.items) may))
+          (Tried-call history wf search is_search c.args.choice c.requires.next c.requires.least (c.in_default.ensures.tried (lines_of search.frames.items) may))
           is_search.kept is_search.checkpoint,
       Moves-passed search (rank_of c.args.choice + 1) None c.requires.fresh (omega (arith, ranked)) (omega (arith, small)),
     )
@@ -35,7 +35,7 @@ offer-requires-clause-of_cpu c =
     let history = c.args.history.now.recorded in
     let search = c.args.self.now in
     let is_search = c.requires.is_search in
-    (c.in-Some.ensures (lines_of search.frames.items)
+    (c.in-Some.ensures.tried (lines_of search.frames.items)
     (MayTry-search history c.well_formed-2.ensures search is_search c.args.choice c.requires.next c.requires.least (state_of search.machine)
     (is_search.machine c.requires.stands) c.above_for-above.result c.above_for-above.ensures)).of_cpu
 
@@ -44,7 +44,7 @@ offer-requires-clause-numbered c =
     let history = c.args.history.now.recorded in
     let search = c.args.self.now in
     let is_search = c.requires.is_search in
-    (c.in-Some.ensures (lines_of search.frames.items)
+    (c.in-Some.ensures.tried (lines_of search.frames.items)
     (MayTry-search history c.well_formed-2.ensures search is_search c.args.choice c.requires.next c.requires.least (state_of search.machine)
     (is_search.machine c.requires.stands) c.above_for-above.result c.above_for-above.ensures)).numbered
 
@@ -53,7 +53,7 @@ offer-requires-clause-kind c =
     let history = c.args.history.now.recorded in
     let search = c.args.self.now in
     let is_search = c.requires.is_search in
-    (c.in-Some.ensures (lines_of search.frames.items)
+    (c.in-Some.ensures.tried (lines_of search.frames.items)
     (MayTry-search history c.well_formed-2.ensures search is_search c.args.choice c.requires.next c.requires.least (state_of search.machine)
     (is_search.machine c.requires.stands) c.above_for-above.result c.above_for-above.ensures)).kind
 
@@ -67,7 +67,7 @@ returns-then-given c =
     let search = c.args.self.now in
     let is_search = c.requires.is_search in
     let given = rw c.if-given.true at c.in_ok-given.ensures.given in
-    let attempt = c.in-Some.ensures (lines_of search.frames.items)
+    let attempt = c.in-Some.ensures.tried (lines_of search.frames.items)
     (MayTry-search history c.well_formed-2.ensures search is_search c.args.choice c.requires.next c.requires.least (state_of search.machine)
     (is_search.machine c.requires.stands) c.above_for-above.result c.above_for-above.ensures) in
     on_ok_weaker c.push.result (λ longer. (
@@ -83,7 +83,7 @@ returns c =
     let search = c.args.self.now in
     let is_search = c.requires.is_search in
     let refused = rw c.if-given.false at c.in_ok-given.ensures.given in
-    let attempt = c.in-Some.ensures (lines_of search.frames.items)
+    let attempt = c.in-Some.ensures.tried (lines_of search.frames.items)
     (MayTry-search history c.well_formed-2.ensures search is_search c.args.choice c.requires.next c.requires.least (state_of search.machine)
     (is_search.machine c.requires.stands) c.above_for-above.result c.above_for-above.ensures) in (
       IsSearch-refused history c.well_formed-2.ensures search is_search c.requires.stands c.args.choice _ c.requires.next c.requires.least

@@ -1,4 +1,4 @@
-use Rattle.std.proofs.Common.{refl}
+use Rattle.monitor.proofs.Common.{refl}
 use Rattle.command_core.specs.Changed.{given_of}
 use Rattle.monitor.proofs.Passes.{in_step}
 use Rattle.monitor.proofs.locked_journal.LockedJournalJournalAccess.enter.Goals as goal

@@ -1,17 +1,10 @@
-use Rattle.std.proofs.Common.{◌≡◌, ◌<◌, ◌≤◌, List, length, slice_get, sym, ap, ◌∙◌, subst, arith, inr}
-use Rattle.std.specs.Prelude.{Result, Ok, Err, IfErr}
-use Rattle.std.specs.List.{sum_by}
-use Rattle.rmm_spec.specs.declared.event.Event.{Event}
+use Rattle.monitor.proofs.Common.{◌≡◌, ◌<◌, ◌≤◌, List, length, slice_get, sym, ap, ◌∙◌, subst, arith, inr, Result, Ok, Err, IfErr, Event, JournalEntry, AreInOrder, JournalView, MonitorView, AreListed}
 use Rattle.rmm_spec.specs.HistoryText.{History}
-use Rattle.rmm_spec.specs.Run.{JournalEntry}
-use Rattle.event_queue.specs.Numbered.{AreInOrder}
 use Rattle.commit_tickets.specs.Listed.{unlisted_entries}
-use Rattle.commit_tickets.specs.View.{JournalView, TokenView}
 use Rattle.commit_tickets.proofs.Lists.{listed-below}
 use Rattle.monitor.specs.Closed.{IsShort, count_committed}
-use Rattle.monitor.specs.View.{MonitorView}
 use Rattle.monitor.specs.declared.close_fault.CloseFault.TheVariants.{NoMemory}
-use Rattle.monitor.proofs.Closes.{disagree, listed, closed}
+use Rattle.monitor.proofs.Closes.{disagree, closed}
 use Rattle.monitor.proofs.CpuLists.{cpus-seats, commits-le}
 use Rattle.monitor.proofs.monitor.Monitor.close.Goals as goal
 
@@ -23,22 +16,18 @@ drain_rest-requires-clause-passes g c cpu pass at =
 
 pub returns-in-Err-clause-cause : goal.returns-in-Err-clause-cause
 returns-in-Err-clause-cause g c unlisted is =
-    let same = sym c.config-size.ensures.config ∙ c.config-size.ensures.site
-    ∙ sym c.self.invariant.1 ∙ ap (λ (m : MonitorView). m.config) c.self.view_is in
-    let counted = ap (λ (j : JournalView). length j.entries) c.audit.ensures.journal ∙ c.audit.ensures.counted
-    ∙ ap (sum_by (λ (token : TokenView). length token.mine)) c.as_mut_slice-tokens.ensures.value in
+    let same_size = sym c.config-size.ensures.config ∙ c.config-size.ensures.site ∙ sym c.self.invariant.1 ∙ ap (λ (m : MonitorView). m.config) c.self.view_is in
+    let counted = ap (λ (j : JournalView). length j.entries) c.audit.ensures.journal ∙ c.audit.ensures.counted ∙ ap count_committed c.as_mut_slice-tokens.ensures.value in
     let same_unlisted : c.in-Err.unlisted ≡ unlisted = cc in
-    disagree c.args.self.config c.audit.new.self _ same c.books-books.ensures c.args.tokens.items c.audit.new.tokens
-    (c.audit.ensures.tokens ∙ c.as_mut_slice-tokens.ensures.value) (unlisted_entries unlisted)
-    (ap unlisted_entries (sym same_unlisted) ∙ c.in-Err.ensures.compared) counted c.in-Err.ensures.unlisted
+    disagree c.args.self.config c.audit.new.self _ same_size c.books-books.ensures c.args.tokens.items c.audit.new.tokens (c.audit.ensures.tokens ∙ c.as_mut_slice-tokens.ensures.value)
+    (unlisted_entries unlisted) (ap unlisted_entries (sym same_unlisted) ∙ c.in-Err.ensures.compared) counted c.in-Err.ensures.unlisted
 
 pub certificate_of-requires-clause-few : goal.certificate_of-requires-clause-few
 certificate_of-requires-clause-few g c =
+    let counted = ap (λ (j : JournalView). length j.entries) c.audit.ensures.journal ∙ c.audit.ensures.counted ∙ ap count_committed c.as_mut_slice-tokens.ensures.value in
     omega (
       arith,
-      ap (λ (j : JournalView). length j.entries) c.audit.ensures.journal,
-      c.audit.ensures.counted,
-      ap (sum_by (λ (token : TokenView). length token.mine)) c.as_mut_slice-tokens.ensures.value,
+      counted,
       commits-le c.args.tokens.items c.args.passes.items c.requires.cpus.pairs.same_count
           (λ k token pass at pass_at. (c.requires.cpus.pairs.each k token pass at pass_at).few),
       c.requires.room,
@@ -46,12 +35,9 @@ certificate_of-requires-clause-few g c =
 
 pub certificate_of-requires-clause-cpus : goal.certificate_of-requires-clause-cpus
 certificate_of-requires-clause-cpus g c =
-    let same = sym c.config-size.ensures.config ∙ c.config-size.ensures.site
-    ∙ sym c.self.invariant.1 ∙ ap (λ (m : MonitorView). m.config) c.self.view_is in
     let most : length c.args.tokens.items ≤ 8 = omega (arith, c.requires.cpus.count, c.cpus-cpus.ensures.limits.most_cpus, ap (λ (m : MonitorView). m.config.cpus) c.self.view_is) in
-    (listed-below c.args.tokens.items c.audit.new.self.entries 8 most
-    (listed c.args.self.config c.audit.new.self _ same c.books-books.ensures c.args.tokens.items c.audit.new.tokens
-    (c.audit.ensures.tokens ∙ c.as_mut_slice-tokens.ensures.value) c.in_default.ensures.listed))
+    listed-below c.args.tokens.items c.audit.new.self.entries 8 most
+    (subst (λ ts. AreListed ts c.audit.new.self.entries) (c.audit.ensures.tokens ∙ c.as_mut_slice-tokens.ensures.value) c.in_default.ensures.listed)
 
 pub returns-clause-whole : goal.returns-clause-whole
 returns-clause-whole g c cpu pass at =
@@ -59,11 +45,10 @@ returns-clause-whole g c cpu pass at =
 
 pub returns-clause-certificate : goal.returns-clause-certificate
 returns-clause-certificate g c =
-    let same = sym c.config-size.ensures.config ∙ c.config-size.ensures.site
-    ∙ sym c.self.invariant.1 ∙ ap (λ (m : MonitorView). m.config) c.self.view_is in
+    let same_size = sym c.config-size.ensures.config ∙ c.config-size.ensures.site ∙ sym c.self.invariant.1 ∙ ap (λ (m : MonitorView). m.config) c.self.view_is in
     let entries = c.journal.invariant.1 ∙ ap (λ (j : JournalView). j.entries) (sym c.audit.ensures.journal) in
     let events = ap (λ (h : History). h.events) (sym c.in_ok-drain_rest.ensures.history) in
-    closed c.args.self.config c.audit.new.self _ same c.books-books.ensures c.args.tokens.items c.audit.new.tokens
+    closed c.args.self.config c.audit.new.self _ same_size c.books-books.ensures c.args.tokens.items c.audit.new.tokens
     (c.audit.ensures.tokens ∙ c.as_mut_slice-tokens.ensures.value) c.drain_rest.new.history.recorded.events _
     (subst (λ (y : List Event × List JournalEntry). AreInOrder y.0 y.1) (λ i. (events i, entries i)) c.keeps_real_time.ensures.ordered)
     c.in_default.ensures.listed c.in_ok-certificate.ensures.written
@@ -77,12 +62,7 @@ any_err P (Err fault) each = each fault
 
 pub returns-in_err-certificate-clause-short : goal.returns-in_err-certificate-clause-short
 returns-in_err-certificate-clause-short g c =
-    let some : 0 < count_committed c.args.tokens.items = omega (
-      arith,
-      c.in_err-certificate.ensures.short,
-      ap (λ (j : JournalView). length j.entries) c.audit.ensures.journal,
-      c.audit.ensures.counted,
-      ap (sum_by (λ (token : TokenView). length token.mine)) c.as_mut_slice-tokens.ensures.value,
-    ) in
+    let counted = ap (λ (j : JournalView). length j.entries) c.audit.ensures.journal ∙ c.audit.ensures.counted ∙ ap count_committed c.as_mut_slice-tokens.ensures.value in
+    let some : 0 < count_committed c.args.tokens.items = omega (arith, c.in_err-certificate.ensures.short, counted) in
     any_err (λ fault. fault ≡ NoMemory → IsShort c.args.history c.args.tokens.items c.args.passes.items)
     c.from_residual-in_err-certificate.result (λ fault memory. inr some)

@@ -1,8 +1,4 @@
-use Rattle.std.proofs.Common.{◌≡◌, sym, ap, ◌∙◌, subst, rules}
-use Rattle.std.specs.Prelude.{Err}
-use Rattle.command_core.specs.Seen.{place_of}
-use Rattle.monitor.specs.Executed.{called}
-use Rattle.monitor.specs.Held.{LeavesHeld}
+use Rattle.monitor.proofs.Common.{sym, subst, rules, Err, place_of, LeavesHeld}
 use Rattle.monitor.proofs.Calls.{paired-recorded, paired-failed}
 use Rattle.monitor.proofs.Causes.{held-recorded, held-failed}
 use Rattle.monitor.proofs.monitor.Monitor.execute.Goals as goal

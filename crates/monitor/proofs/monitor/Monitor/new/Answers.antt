@@ -1,7 +1,5 @@
-use Rattle.std.proofs.Common.{◌≡◌, Some, ap, arith, ◌∙◌, subst}
-use Rattle.std.specs.Prelude.{slice_get}
-use Rattle.event_queue.specs.View.{before_calls}
-use Rattle.monitor.specs.View.{MonitorView, QueueView}
+use Rattle.monitor.proofs.Common.{◌≡◌, Some, ap, arith, ◌∙◌, subst, slice_get, before_calls, MonitorView}
+use Rattle.monitor.specs.View.{QueueView}
 use Rattle.monitor.proofs.CpuLists.{cpus-first}
 use Rattle.monitor.proofs.monitor.Monitor.new.Goals as goal
 

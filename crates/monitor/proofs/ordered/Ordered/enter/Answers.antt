@@ -1,4 +1,4 @@
-use Rattle.std.proofs.Common.{◌∙◌}
+use Rattle.monitor.proofs.Common.{◌∙◌}
 use Rattle.monitor.proofs.ordered.Ordered.enter.Goals as goal
 
 pub returns-then-is_ok-clause-entry : goal.returns-then-is_ok-clause-entry

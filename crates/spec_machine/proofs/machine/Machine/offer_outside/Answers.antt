@@ -20,8 +20,8 @@ returns-in-Err c =
     let s = state_of c.args.self.now in
     let is = sym c.in-Err.is ∙ c.answer_outside.ensures ∙ outcome-outside s c.args.cpu c.args.call.now c.requires.outside ∙ ap (outcome s c.args.cpu) c.requires.call in
     record {
-      step = λ holds. subst (λ answer. CarriesOut answer s (reply_seen c.args.reply) s) is (c.is.ensures.0 holds, refl);
-      only = λ fails next carries. false≢true (sym fails ∙ c.is.ensures.1 (subst (λ answer. CarriesOut answer s (reply_seen c.args.reply) next) (sym is) carries).0);
+      step = λ holds. subst (λ answer. CarriesOut answer s (reply_seen c.args.reply) s) is (c.is_refusal.ensures.0 holds, refl);
+      only = λ fails next carries. false≢true (sym fails ∙ c.is_refusal.ensures.1 (subst (λ answer. CarriesOut answer s (reply_seen c.args.reply) next) (sym is) carries).0);
       kept = λ _. refl;
       err = tt;
       only_tables = tt;

@@ -1,0 +1,27 @@
+-- What was found, by how a search or a look return by return ends.
+use Rattle.std.proofs.Common.{◌≡◌, ℕ, ◌+◌, [], take, refl, subst}
+use Rattle.rmm_spec.specs.declared.line.Line.{Line}
+use Rattle.rmm_spec.specs.HistoryText.{History, IsHistory}
+use Rattle.order_laws.specs.Order.{LeadsNowhere}
+use Rattle.order_laws.proofs.Nowhere.{none-from_nowhere}
+use Rattle.finding.specs.Found.{HasNone, HasNoneUpTo}
+use Rattle.finding.specs.Search.{IsSearch}
+use Rattle.finding.specs.declared.offers.Offers.{Offers}
+use Rattle.finding.specs.declared.search.Search.{Search}
+use Rattle.finding.proofs.Searches.{IsSearch-looked, IsSearch-tried}
+
+-- other offers were made
+pub IsSearch-offers : (history : History) → IsHistory history → (search : Search) (offers : Offers) → IsSearch history search
+    → IsSearch history (record search { offers = offers })
+IsSearch-offers history is_history search offers is_search =
+    IsSearch-tried history is_history search (record search { offers = offers }) is_search refl refl is_search.machine is_search.tried is_search.kept
+    is_search.checkpoint
+
+pub HasNone-nowhere : (history : History) → LeadsNowhere history [] → HasNone history
+HasNone-nowhere history nowhere = λ lines. none-from_nowhere history lines nowhere
+
+-- of a first part
+pub HasNoneUpTo-nowhere : (history part : History) (place count : ℕ) → count ≡ place + 1 → part ≡ record history { events = take count history.events }
+    → LeadsNowhere part [] → HasNoneUpTo history place
+HasNoneUpTo-nowhere history part place count counted are nowhere =
+    subst (λ (n : ℕ). HasNone (record history { events = take n history.events })) counted (subst HasNone are (HasNone-nowhere part nowhere))

@@ -1,0 +1,27 @@
+-- The machine gives the reply or refuses it.
+use Rattle.std.proofs.Common.{refl, arith}
+use Rattle.finding.proofs.Attempts.{of_a_line}
+use Rattle.finding.proofs.BegunLaws.{IsGrown-given, Stays-refused}
+use Rattle.finding.proofs.Searches.{number_of_next}
+use Rattle.finding.proofs.begun.Begun.grow.Goals as goal
+
+pub overflow_add-choice : goal.overflow_add-choice
+overflow_add-choice c =
+    let few = number_of_next c.args.history.now.recorded c.well_formed-2.ensures c.args.self.now.front.counts 0 c.args.choice c.requires.next in
+    omega (arith, few)
+
+pub set-requires-clause-cpu : goal.set-requires-clause-cpu
+set-requires-clause-cpu c = (of_a_line c.args.history.now.recorded c.well_formed-2.ensures c.args.choice c.requires.next.places).0
+
+pub returns-in_ok-push : goal.returns-in_ok-push
+returns-in_ok-push c =
+    rw c.if-given.true
+    (IsGrown-given c.args.history.now.recorded c.well_formed-2.ensures c.args.self.now _ c.args.choice c.args.line.now c.requires.next c.requires.of_cpu
+    c.requires.numbered c.requires.kind c.requires.soon (rw c.if-given.true at c.in_ok-given.ensures.given) c.set.ensures.counts c.requires.begun c.set.ensures.front)
+
+pub returns-else-given : goal.returns-else-given
+returns-else-given c =
+    rw c.if-given.false
+    (Stays-refused c.args.history.now.recorded c.well_formed-2.ensures c.args.self.now _ c.args.choice c.args.line.now c.requires.next c.requires.of_cpu
+    c.requires.numbered c.requires.kind c.requires.soon c.requires.begun (rw c.if-given.false at c.in_ok-given.ensures.given) refl
+    (c.in_ok-given.ensures.kept c.if-given.false))

@@ -1,0 +1,6 @@
+-- The lines so far.
+use Rattle.finding.specs.Search.{IsSearch}
+use Rattle.finding.proofs.guided.led.Given as goal
+
+abbrev pub invariant-lines : goal.invariant-lines
+invariant-lines l = IsSearch l.history.recorded l.search

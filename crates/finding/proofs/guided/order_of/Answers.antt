@@ -1,0 +1,13 @@
+use Rattle.std.proofs.Common.{List, subst, sym}
+use Rattle.std.proofs.lemmas.Result.{IfOk-weaker}
+use Rattle.rmm_spec.specs.declared.line.Line.{Line}
+use Rattle.rmm_spec.specs.FirstFault.{Passes}
+use Rattle.rmm_spec.specs.State.{State}
+use Rattle.finding.proofs.guided.order_of.Goals as goal
+
+pub returns : goal.returns
+returns c =
+    let search = c.in_ok-search.ensures in
+    IfOk-weaker c.certificate.result _ _ (λ order is.
+    subst (λ (lines : List Line). (state : State) × Passes c.args.history.now.recorded lines state) (sym is) (search.state, search.reached.passes))
+    c.certificate.ensures

@@ -1,0 +1,18 @@
+-- One order more.
+use Rattle.std.proofs.Common.{List, sym, subst}
+use Rattle.std.specs.List.{All}
+use Rattle.std.proofs.lemmas.List.Elements.{All-push}
+use Rattle.certificate.specs.declared.certificate.Certificate.{Certificate}
+use Rattle.rmm_spec.specs.FirstFault.{Passes}
+use Rattle.rmm_spec.specs.HistoryText.{History}
+use Rattle.rmm_spec.specs.State.{State}
+use Rattle.finding.proofs.survivors.first_orders.Goals as goal
+
+abbrev passes : History → Certificate → Type 0
+passes history order = (state : State) × Passes history order.lines state
+
+pub orders-preserved : goal.orders-preserved
+orders-preserved c =
+    let history = c.args.history.now.recorded in
+    subst (All (passes history)) (sym c.in_ok-push.ensures.items)
+    (All-push (passes history) c.orders.told.items c.in_ok-lines.lines c.orders.invariant c.in_ok-lines.ensures)

@@ -1,0 +1,8 @@
+-- The orders so far.
+use Rattle.std.specs.List.{All}
+use Rattle.rmm_spec.specs.FirstFault.{Passes}
+use Rattle.rmm_spec.specs.State.{State}
+use Rattle.finding.proofs.survivors.first_orders.Given as goal
+
+abbrev pub invariant-orders : goal.invariant-orders
+invariant-orders l = All (λ order. (state : State) × Passes l.history.recorded order.lines state) l.told.items

@@ -1,0 +1,98 @@
+-- Orders that are begun, by what is held of them: how many calls of each CPU stand there, and the state behind them.
+use Rattle.std.specs.Prelude.{◌≡◌, ℕ, List, [], ◌∷◌, ◌++◌, Option, Some, None}
+use Rattle.std.specs.List.{All}
+use Rattle.rmm_spec.specs.declared.line.Line.{Line}
+use Rattle.rmm_spec.specs.HistoryText.{History}
+use Rattle.rmm_spec.specs.Linearization.{IsOfItsKind, cpu_named, number_named}
+use Rattle.spec_machine.specs.View.{state_of}
+use Rattle.order_laws.specs.Order.{LeadsNowhere, Reaches, ReturnBehind}
+use Rattle.finding.specs.Choice.{IsNextCall}
+use Rattle.finding.specs.Counts.{AreCounts}
+use Rattle.finding.specs.Front.{IsFront}
+use Rattle.finding.specs.Tried.{Tried}
+use Rattle.finding.specs.declared.begun.Begun.{Begun}
+use Rattle.finding.specs.declared.choice.Choice.{Choice}
+use Rattle.finding.specs.declared.next_line.NextLine.{NextLine}
+use Rattle.finding.specs.declared.next_line.NextLine.TheVariants as next_line
+use Rattle.finding.specs.declared.round.Round.{Round}
+use Rattle.finding.specs.declared.search.Left.{Left}
+
+-- it is held of an order of these lines
+pub record Holds (history : History) (begun : Begun) (lines : List Line) : Type 0 where
+  pub reached : Reaches history lines (state_of begun.machine)
+  pub counts : AreCounts begun.front.counts lines
+
+-- it is held of some order
+pub record IsBegun (history : History) (begun : Begun) : Type 0 where
+  pub front : IsFront history begun.front
+  pub lines : List Line
+  pub holds : Holds history begun lines
+
+-- each order of which it is held leads nowhere
+pub record IsLost (history : History) (begun : Begun) : Type 0 where
+  pub nowhere : (lines : List Line) → Holds history begun lines → LeadsNowhere history lines
+
+-- each open call returned behind the place where this one was made
+abbrev pub IsSoon : History → Begun → Choice → Type 0
+IsSoon history begun choice = (lines : List Line) → Holds history begun lines → ReturnBehind history.events lines choice.places.called
+
+-- The new one is held of the old one's orders with the line behind them. Where the old one's lead nowhere, its own do, and where its own do,
+-- the line leads nowhere.
+pub record IsGrown (history : History) (line : Line) (old new : Begun) : Type 0 where
+  pub begun : IsBegun history new
+  pub behind : (lines : List Line) → Holds history old lines → IsLost history new → LeadsNowhere history (lines ++ line ∷ [])
+  pub before : IsLost history old → IsLost history new
+
+-- the line can't stand behind the orders, which stay
+pub record Stays (history : History) (line : Line) (old new : Begun) : Type 0 where
+  pub begun : IsBegun history new
+  pub refused : (lines : List Line) → Holds history old lines → LeadsNowhere history (lines ++ line ∷ [])
+
+-- ---- what is tried behind an order
+
+-- where each line leads nowhere that isn't left, each leads nowhere that isn't left here
+abbrev pub GoesBehind : History → Begun → Left → Left → Type 0
+GoesBehind history begun old new =
+    (lines : List Line) → Holds history begun lines → Tried history lines old.from old.above → Tried history lines new.from new.above
+
+-- the line may stand behind the order, and where it leads nowhere this is left
+pub record MayStand (history : History) (begun : Begun) (old : Left) (choice : Choice) (line : Line) (new : Left) : Type 0 where
+  pub next : IsNextCall history begun.front.counts 0 choice
+  pub of_cpu : cpu_named line ≡ choice.cpu
+  pub numbered : number_named line ≡ choice.number
+  pub kind : IsOfItsKind history.events line
+  pub soon : IsSoon history begun choice
+  pub resumes : (lines : List Line) → Holds history begun lines → LeadsNowhere history (lines ++ line ∷ [])
+      → Tried history lines old.from old.above → Tried history lines new.from new.above
+
+-- what is left behind lines, or nothing is
+abbrev pub LeavesBehind : History → Begun → Left → Option Left → Type 0
+LeavesBehind history begun old None =
+    (lines : List Line) → Holds history begun lines → Tried history lines old.from old.above → LeadsNowhere history lines
+LeavesBehind history begun old (Some new) = GoesBehind history begun old new
+
+abbrev pub IsNextLine : History → Begun → Left → NextLine → Type 0
+IsNextLine history begun left next_line.None = LeavesBehind history begun left None
+IsNextLine history begun left (next_line.Passed new) = GoesBehind history begun left new
+IsNextLine history begun left (next_line.Line choice line new) = MayStand history begun left choice line new
+
+-- ---- orders that are kept
+
+abbrev pub AllBegun : History → List Begun → Type 0
+AllBegun history orders = All (IsBegun history) orders
+
+abbrev pub AllLost : History → List Begun → Type 0
+AllLost history orders = All (IsLost history) orders
+
+pub record IsRound (history : History) (round : Round) : Type 0 where
+  pub lacking : AllBegun history round.lacking.items
+  pub next : AllBegun history round.next.items
+
+-- all orders of the round lead nowhere
+pub record RoundLost (history : History) (round : Round) : Type 0 where
+  pub lacking : AllLost history round.lacking.items
+  pub next : AllLost history round.next.items
+
+-- the new round's orders lead nowhere only where the old one's do
+abbrev pub Covers : History → Round → Round → Type 0
+Covers history old new = RoundLost history new → RoundLost history old

@@ -1,0 +1,91 @@
+//! Orders whose calls are tried first.
+
+ghost use Rattle.std.specs.Prelude.{IfOk, IfSome};
+ghost use Rattle.rmm_spec.specs.FirstFault.{Passes};
+ghost use Rattle.rmm_spec.specs.Linearization.{IsLinearization};
+ghost use Rattle.rmm_spec.specs.State.{State};
+ghost use Rattle.finding.specs.Search.{IsSearch};
+
+use crate::begun::Begun;
+use crate::earlier::Earlier;
+use crate::longest::goes_on;
+use crate::search::{Progress, Search};
+use certificate::Certificate;
+use history::History;
+use std::alloc::{AllocError, Global};
+
+/// The first order, where a search that tries its calls first comes to a linearization.
+pub(crate) fn guided(
+    alloc: Global,
+    history: &History,
+    orders: &[Begun],
+    limit: u64,
+) -> Result<Option<Certificate>, AllocError>
+    ensures { IfOk result (λ found. IfSome found (λ certificate. IsLinearization history.now.recorded certificate.lines)) }
+{
+    let Some(order) = orders.first() else {
+        return Ok(None);
+    };
+    let search = led(alloc, history, order.cpus.as_slice(), limit)?;
+    ended(alloc, history, search, limit)
+}
+
+/// The lines that a search comes to which tries the order's calls first.
+pub(crate) fn order_of(
+    alloc: Global,
+    history: &History,
+    order: &Begun,
+    limit: u64,
+) -> Result<Certificate, AllocError>
+    ensures { IfOk result (λ certificate. (state : State) × Passes history.now.recorded certificate.lines state) }
+{
+    history.well_formed();
+    let search = led(alloc, history, order.cpus.as_slice(), limit)?;
+    search.certificate(alloc, history)
+}
+
+/// A search that tried the next call of one CPU after another.
+fn led(alloc: Global, history: &History, cpus: &[u8], limit: u64) -> Result<Search, AllocError>
+    ensures { IfOk result (IsSearch history.now.recorded) }
+{
+    history.well_formed();
+    let mut search = Search::new(alloc, history)?;
+    'lines: for cpu in cpus {
+        if search.offers.count() >= limit {
+            return Ok(search);
+        }
+        search.earlier = Some(Earlier {
+            lines: search.len(),
+            cpu: *cpu,
+        });
+        if !goes_on(&mut search, alloc, history)? {
+            return Ok(search);
+        }
+    }
+    Ok(search)
+}
+
+/// The order of the search, where the next step finds that it is a linearization.
+fn ended(
+    alloc: Global,
+    history: &History,
+    search: Search,
+    limit: u64,
+) -> Result<Option<Certificate>, AllocError>
+    requires { IsSearch history.now.recorded search }
+    ensures { IfOk result (λ found. IfSome found (λ certificate. IsLinearization history.now.recorded certificate.lines)) }
+{
+    history.well_formed();
+    let mut search = search;
+    if search.offers.count() >= limit {
+        return Ok(None);
+    }
+    let progress = search.step(alloc, history)?;
+    match progress {
+        Progress::Whole => {
+            let certificate = search.certificate(alloc, history)?;
+            Ok(Some(certificate))
+        }
+        _ => Ok(None),
+    }
+}

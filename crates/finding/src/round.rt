@@ -1,0 +1,297 @@
+//! From the orders that have all calls which returned before a return to those that have its call too.
+
+ghost use Rattle.std.specs.Prelude.{IfOk, IfSome};
+ghost use Rattle.finding.specs.Begun.{AllBegun, AllLost, IsBegun, IsRound, RoundLost};
+
+use crate::alike::{has_alike, has_beginning};
+use crate::begun::Begun;
+use crate::choice::{Choice, PENDING, rank};
+use crate::next_line::{NextLine, next_line};
+use crate::offers::Offers;
+use crate::search::Left;
+use history::History;
+use rmm_spec::Line;
+use std::alloc::{AllocError, Global};
+
+/// How many lines are tried behind an order.
+const LINES: u32 = 4096;
+
+/// How many orders that lack a call are kept.
+const LACKING: usize = 512;
+
+/// How many orders that lack none are kept.
+const NEXT: usize = 64;
+
+/// How many calls may come before the one that returned, and that one.
+const DEPTH: u32 = 9;
+
+/// Orders that lack a call which returned up to the place, of one length, and those that lack none.
+#[derive(Drop)]
+pub(crate) struct Round {
+    pub(crate) place: u32,
+    pub(crate) lacking: Vec<Begun>,
+    pub(crate) next: Vec<Begun>,
+}
+
+impl Round {
+    ghost use Rattle.std.specs.Prelude.{◌<◌, List, [], ◌∷◌, ◌++◌, IfOk, IfSome, IsTrue, OnOk};
+    ghost use Rattle.rmm_spec.specs.declared.line.Line.{Line};
+    ghost use Rattle.order_laws.specs.Order.{LeadsNowhere};
+    ghost use Rattle.finding.specs.Begun.{Covers, Holds, IsBegun, IsLost, IsRound, LeavesBehind, MayStand, RoundLost};
+    ghost use Rattle.finding.specs.Choice.{IsLeast, IsNextCall, rank_of};
+    ghost use Rattle.finding.specs.declared.search.Left.{Left};
+
+    /// Takes an order, unless another stands for it.
+    fn take(
+        &mut self,
+        alloc: Global,
+        offers: &mut Offers,
+        history: &History,
+        begun: Begun,
+    ) -> Result<(), AllocError>
+        requires round { IsRound history.now.recorded self.old }
+        requires begun { IsBegun history.now.recorded begun }
+        ensures round { OnOk result (IsRound history.now.recorded self.new) }
+        ensures covers { OnOk result (Covers history.now.recorded self.old self.new) }
+        ensures taken { OnOk result (RoundLost history.now.recorded self.new → IsLost history.now.recorded begun) }
+    {
+        if is_up_to(history, &begun, self.place) {
+            self.take_next(alloc, offers, history, begun)
+        } else {
+            self.take_lacking(history, begun)
+        }
+    }
+
+    /// Takes an order that lacks no call, unless another leads to it.
+    fn take_next(
+        &mut self,
+        alloc: Global,
+        offers: &mut Offers,
+        history: &History,
+        begun: Begun,
+    ) -> Result<(), AllocError>
+        requires round { IsRound history.now.recorded self.old }
+        requires begun { IsBegun history.now.recorded begun }
+        ensures round { OnOk result (IsRound history.now.recorded self.new) }
+        ensures covers { OnOk result (Covers history.now.recorded self.old self.new) }
+        ensures taken { OnOk result (RoundLost history.now.recorded self.new → IsLost history.now.recorded begun) }
+    {
+        let stands = has_beginning(alloc, offers, history, self.next.as_slice(), &begun)?;
+        if stands {
+            return Ok(());
+        }
+        self.next.push(begun)?;
+        Ok(())
+    }
+
+    /// Takes an order that lacks a call, unless another is of the same calls to the same state.
+    fn take_lacking(&mut self, history: &History, begun: Begun) -> Result<(), AllocError>
+        requires round { IsRound history.now.recorded self.old }
+        requires begun { IsBegun history.now.recorded begun }
+        ensures round { OnOk result (IsRound history.now.recorded self.new) }
+        ensures covers { OnOk result (Covers history.now.recorded self.old self.new) }
+        ensures taken { OnOk result (RoundLost history.now.recorded self.new → IsLost history.now.recorded begun) }
+    {
+        let stands = has_alike(history, self.lacking.as_slice(), &begun)?;
+        if stands {
+            return Ok(());
+        }
+        self.lacking.push(begun)?;
+        Ok(())
+    }
+
+    /// Takes the order that is longer by a line, where the machine gives its call the reply.
+    fn take_longer(
+        &mut self,
+        alloc: Global,
+        offers: &mut Offers,
+        history: &History,
+        begun: &Begun,
+        choice: Choice,
+        line: &Line,
+    ) -> Result<(), AllocError>
+        requires round { IsRound history.now.recorded self.old }
+        requires begun { IsBegun history.now.recorded begun.now }
+        requires stands { (old new : Left) × MayStand history.now.recorded begun.now old choice line.now new }
+        ensures round { OnOk result (IsRound history.now.recorded self.new) }
+        ensures covers { OnOk result (Covers history.now.recorded self.old self.new) }
+        ensures taken { OnOk result (RoundLost history.now.recorded self.new → (lines : List Line) → Holds history.now.recorded begun.now lines
+            → LeadsNowhere history.now.recorded (lines ++ line.now ∷ [])) }
+    {
+        history.well_formed();
+        let mut longer = begun.copy(alloc)?;
+        let given = longer.grow(offers, history, choice, line)?;
+        if given {
+            self.take(alloc, offers, history, longer)?;
+            return Ok(());
+        }
+        Ok(())
+    }
+
+    /// Takes the orders that are longer by the next line, and returns what is left behind it.
+    fn take_line(
+        &mut self,
+        alloc: Global,
+        offers: &mut Offers,
+        history: &History,
+        begun: &Begun,
+        first: Choice,
+        left: Left,
+    ) -> Result<Option<Left>, AllocError>
+        requires round { IsRound history.now.recorded self.old }
+        requires begun { IsBegun history.now.recorded begun.now }
+        requires first { IsNextCall history.now.recorded begun.now.front.counts 0 first }
+        requires least { IsLeast history.now.recorded.events begun.now.front.counts 0 history.now.recorded.config.cpus (rank_of first) }
+        requires returned { rank_of first < 1000000 }
+        ensures round { OnOk result (IsRound history.now.recorded self.new) }
+        ensures covers { OnOk result (Covers history.now.recorded self.old self.new) }
+        ensures left { IfOk result (λ behind. RoundLost history.now.recorded self.new → LeavesBehind history.now.recorded begun.now left behind) }
+    {
+        match next_line(history, begun, first, left) {
+            NextLine::None => Ok(None),
+            NextLine::Passed(behind) => Ok(Some(behind)),
+            NextLine::Line {
+                choice,
+                line,
+                left: behind,
+            } => {
+                self.take_longer(alloc, offers, history, begun, choice, &line)?;
+                Ok(Some(behind))
+            }
+        }
+    }
+
+    /// Takes each order that is longer by a line, and returns whether these are all.
+    fn take_each(
+        &mut self,
+        alloc: Global,
+        offers: &mut Offers,
+        history: &History,
+        begun: &Begun,
+    ) -> Result<bool, AllocError>
+        requires round { IsRound history.now.recorded self.old }
+        requires begun { IsBegun history.now.recorded begun.now }
+        ensures round { OnOk result (IsRound history.now.recorded self.new) }
+        ensures covers { OnOk result (Covers history.now.recorded self.old self.new) }
+        ensures taken { IfOk result (λ all. IsTrue all → RoundLost history.now.recorded self.new → IsLost history.now.recorded begun.now) }
+    {
+        history.well_formed();
+        let Some(first) = begun.front.first_at(history, 0) else {
+            return Ok(false);
+        };
+        if rank(&first) >= PENDING {
+            return Ok(false);
+        }
+        let mut left = Left {
+            from: 0,
+            above: None,
+        };
+        'lines: for _line in 0..LINES {
+            let taken = self.take_line(alloc, offers, history, begun, first, left)?;
+            let Some(behind) = taken else {
+                return Ok(true);
+            };
+            left = behind;
+        }
+        Ok(false)
+    }
+
+    /// Makes the orders that lack a call longer by a line each; none where there are too many.
+    fn deeper(
+        self,
+        alloc: Global,
+        offers: &mut Offers,
+        history: &History,
+    ) -> Result<Option<Round>, AllocError>
+        requires { IsRound history.now.recorded self }
+        ensures round { IfOk result (λ deeper. IfSome deeper (IsRound history.now.recorded)) }
+        ensures covers { IfOk result (λ deeper. IfSome deeper (Covers history.now.recorded self)) }
+    {
+        history.well_formed();
+        let Round {
+            place,
+            lacking,
+            next,
+        } = self;
+        let mut left = lacking;
+        let mut round = Round {
+            place,
+            lacking: Vec::new(alloc),
+            next,
+        };
+        'orders: while let Some(begun) = left.pop() {
+            let all = round.take_each(alloc, offers, history, &begun)?;
+            if !all {
+                return Ok(None);
+            }
+            if round.lacking.len() > LACKING || round.next.len() > NEXT {
+                return Ok(None);
+            }
+        }
+        Ok(Some(round))
+    }
+}
+
+/// Whether each call that returned up to the place stands in the order.
+fn is_up_to(history: &History, begun: &Begun, place: u32) -> bool
+    requires { IsBegun history.now.recorded begun.now }
+{
+    match begun.front.first_at(history, 0) {
+        Some(first) => place < rank(&first),
+        None => true,
+    }
+}
+
+/// The orders that lack no call which returned up to the place: where they lead nowhere, those that were kept do. None where there are too
+/// many.
+pub(crate) fn next_orders(
+    alloc: Global,
+    offers: &mut Offers,
+    history: &History,
+    kept: Vec<Begun>,
+    place: u32,
+) -> Result<Option<Vec<Begun>>, AllocError>
+    requires { AllBegun history.now.recorded kept.items }
+    ensures begun { IfOk result (λ orders. IfSome orders (λ next. AllBegun history.now.recorded next.items)) }
+    ensures covers { IfOk result (λ orders. IfSome orders (λ next. AllLost history.now.recorded next.items → AllLost history.now.recorded kept.items)) }
+{
+    history.well_formed();
+    let mut round = sorted(alloc, history, kept, place)?;
+    'depths: for _depth in 0..DEPTH {
+        if round.lacking.is_empty() {
+            return Ok(Some(round.next));
+        }
+        let Some(deeper) = round.deeper(alloc, offers, history)? else {
+            return Ok(None);
+        };
+        round = deeper;
+    }
+    Ok(None)
+}
+
+/// The orders that lack a call which returned up to the place, and the others.
+fn sorted(
+    alloc: Global,
+    history: &History,
+    kept: Vec<Begun>,
+    place: u32,
+) -> Result<Round, AllocError>
+    requires { AllBegun history.now.recorded kept.items }
+    ensures round { IfOk result (IsRound history.now.recorded) }
+    ensures covers { IfOk result (λ round. RoundLost history.now.recorded round → AllLost history.now.recorded kept.items) }
+{
+    let mut left = kept;
+    let mut round = Round {
+        place,
+        lacking: Vec::new(alloc),
+        next: Vec::new(alloc),
+    };
+    'orders: while let Some(begun) = left.pop() {
+        if is_up_to(history, &begun, place) {
+            round.next.push(begun)?;
+        } else {
+            round.lacking.push(begun)?;
+        }
+    }
+    Ok(round)
+}

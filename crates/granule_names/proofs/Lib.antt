@@ -1,0 +1,3 @@
+pub mod NameLaws
+pub mod RoleLaws
+pub mod WordLaws

@@ -1,0 +1,37 @@
+//! The map of names, written as a text.
+
+ghost use Rattle.std.specs.Prelude.{◌≡◌, ◌++◌, IfOk, OnOk, string_bytes};
+ghost use Rattle.granule_names.specs.Map.{map_from, map_line};
+
+use crate::names::Names;
+use std::alloc::{AllocError, Global};
+
+/// A line for each address, with its name behind it: both in hex, in the order of first appearances.
+pub fn map_text(alloc: Global, names: &Names) -> Result<Vec<u8>, AllocError>
+    ensures { IfOk result (λ text. text.items ≡ map_from 0 names.now) }
+{
+    let mut text = Vec::new(alloc);
+    for number in 0..names.len() {
+        push_line(
+            alloc,
+            &mut text,
+            names.address(number),
+            4096 * number as u64,
+        )?;
+    }
+    Ok(text)
+}
+
+// Appends a line.
+fn push_line(alloc: Global, text: &mut Vec<u8>, address: u64, name: u64) -> Result<(), AllocError>
+    ensures { OnOk result (text.new.items ≡ text.old.items ++ map_line address name) }
+{
+    let line = line_of(alloc, address, name)?;
+    text.extend_from_slice(line.as_bytes())
+}
+
+fn line_of(alloc: Global, address: u64, name: u64) -> Result<String, AllocError>
+    ensures { IfOk result (λ line. string_bytes line ≡ map_line address name) }
+{
+    format!(in alloc; "{address:x} {name:x}\n")
+}

@@ -1,0 +1,204 @@
+//! The arguments, and what they ask for.
+
+use clap::error::ErrorKind;
+use clap::{Arg, ArgAction, ArgMatches, Command, Error, value_parser};
+use std::alloc::{AllocError, Global};
+
+const USAGE: &str =
+    "rmmmerge [--version 1|2] [--granules G] [--cpus P] [--prefix] [--rename [--memory BYTES] [--map FILE]] EVENTS HISTORY CERTIFICATE\n       \
+rmmmerge --version";
+
+const NO_FORM: &str =
+    "error: EVENTS, HISTORY and CERTIFICATE are required; --memory, a number in hex, and --map need --rename\n\n\
+For more information, try '--help'.\n";
+
+/// What is asked for.
+#[derive(Clone, Copy)]
+pub enum Asked<'a> {
+    /// Events are merged.
+    Merge(Request<'a>),
+    /// The program's version.
+    Version,
+}
+
+/// What is to be merged, and how.
+#[derive(Clone, Copy)]
+pub struct Request<'a> {
+    pub version: u64,
+    /// The sizes of the machine, where they aren't those of the header.
+    pub granules: Option<u64>,
+    pub cpus: Option<u64>,
+    pub extent: Extent,
+    /// Nothing where addresses stay as they are.
+    pub names: Option<Names<'a>>,
+    pub paths: Paths<'a>,
+}
+
+/// Which events are merged.
+#[derive(Clone, Copy)]
+pub enum Extent {
+    All,
+    /// Those before the first stamp that is missing.
+    UpToHole,
+}
+
+/// How granules are renamed.
+#[derive(Clone, Copy)]
+pub struct Names<'a> {
+    /// Where the monitor's memory ends, in bytes.
+    pub memory: Option<u64>,
+    /// The file that gets the map.
+    pub map: Option<&'a str>,
+}
+
+/// The files that are read and written.
+#[derive(Clone, Copy)]
+pub struct Paths<'a> {
+    pub events: &'a str,
+    pub history: &'a str,
+    pub certificate: &'a str,
+}
+
+/// Why nothing is asked for.
+#[derive(Clone, Copy)]
+pub enum Unasked {
+    /// The help was printed, or what is wrong with the arguments: the program ends with this status.
+    Printed(u8),
+    /// Neither could be printed.
+    CannotWrite,
+    /// The allocator refused memory.
+    NoMemory,
+}
+
+/// Reads the arguments, of which the first word is the program's name.
+pub fn request_given<'a, R: Print + Eprint + AllocGlobal>(
+    rt: &R,
+    words: &'a [String],
+) -> Result<Asked<'a>, Unasked> {
+    match asked_by(rt.alloc(), words) {
+        Ok(Some(asked)) => Ok(asked),
+        Ok(None) => match eprint!(rt; "{NO_FORM}") {
+            Ok(()) => Err(Unasked::Printed(2)),
+            Err(_) => Err(Unasked::CannotWrite),
+        },
+        Err(error) => Err(printed(rt, &error)),
+    }
+}
+
+fn asked_by<'a>(alloc: Global, words: &'a [String]) -> Result<Option<Asked<'a>>, Error> {
+    let matches = program(alloc)?.try_get_matches_from(words)?;
+    if matches.contains_id("version") && matches.get_str("version").is_none() {
+        return Ok(Some(Asked::Version));
+    }
+    Ok(merge_in(&matches))
+}
+
+// Prints what clap has to say.
+fn printed<R: Print + Eprint>(rt: &R, error: &Error) -> Unasked {
+    if let ErrorKind::OutOfMemory = error.kind() {
+        return Unasked::NoMemory;
+    }
+    match error.print(rt) {
+        Ok(()) => Unasked::Printed(if error.use_stderr() { 2 } else { 0 }),
+        Err(_) => Unasked::CannotWrite,
+    }
+}
+
+fn merge_in<'a>(matches: &ArgMatches<'a>) -> Option<Asked<'a>> {
+    let paths = Paths {
+        events: matches.get_str("EVENTS")?,
+        history: matches.get_str("HISTORY")?,
+        certificate: matches.get_str("CERTIFICATE")?,
+    };
+    Some(Asked::Merge(Request {
+        version: matches.get_one::<u64>("version").unwrap_or(1),
+        granules: matches.get_one::<u64>("granules"),
+        cpus: matches.get_one::<u64>("cpus"),
+        extent: if matches.get_flag("prefix") {
+            Extent::UpToHole
+        } else {
+            Extent::All
+        },
+        names: names_in(matches)?,
+        paths,
+    }))
+}
+
+// How granules are renamed, if at all, where the values are in order.
+fn names_in<'a>(matches: &ArgMatches<'a>) -> Option<Option<Names<'a>>> {
+    let map = matches.get_str("map");
+    let memory = match matches.get_str("memory") {
+        Some(digits) => match u64::from_str_radix(digits, 16) {
+            Ok(bytes) => Some(bytes),
+            Err(_) => return None,
+        },
+        None => None,
+    };
+    if matches.get_flag("rename") {
+        return Some(Some(Names { memory, map }));
+    }
+    if memory.is_some() || map.is_some() {
+        return None;
+    }
+    Some(None)
+}
+
+fn program<'a>(alloc: Global) -> Result<Command<'a>, AllocError> {
+    let version = "Version of the history (1). Alone it prints the program's version";
+    let granules = "Granules of the machine, at most 4096, whatever the header says";
+    let cpus = "CPUs of the machine, at most 8, whatever the header says";
+    let rename = "Give each granule the number of its first appearance, times 1000 (hex)";
+    Command::new(alloc, "rmmmerge")
+        .bin_name("rmmmerge")?
+        .disable_version_flag(true)
+        .about("Makes a history and a certificate of what a monitor's recorder wrote")
+        .override_usage(USAGE)
+        .arg(
+            count(alloc, "version", "1|2", 2, version)
+                .short('V')
+                .num_args(0..=1),
+        )?
+        .arg(count(alloc, "granules", "G", 4096, granules))?
+        .arg(count(alloc, "cpus", "P", 8, cpus))?
+        .arg(flag(
+            alloc,
+            "prefix",
+            "Take the events before the first stamp that no event has",
+        ))?
+        .arg(flag(alloc, "rename", rename))?
+        .arg(option(
+            alloc,
+            "memory",
+            "BYTES",
+            "An address from here on, in hex, is no granule",
+        ))?
+        .arg(option(
+            alloc,
+            "map",
+            "FILE",
+            "Write which granule got which name to FILE",
+        ))?
+        .arg(path(alloc, "EVENTS", "What the recorder wrote"))?
+        .arg(path(alloc, "HISTORY", "The file that gets the calls and returns"))?
+        .arg(path(alloc, "CERTIFICATE", "The file that gets the commits"))
+}
+
+fn option<'a>(alloc: Global, id: &'a str, value: &'a str, help: &'a str) -> Arg<'a> {
+    Arg::new(alloc, id).long(id).value_name(value).help(help)
+}
+
+// A number from 1 on.
+fn count<'a>(alloc: Global, id: &'a str, value: &'a str, most: i64, help: &'a str) -> Arg<'a> {
+    option(alloc, id, value, help).value_parser(value_parser!(u64).range(1..=most))
+}
+
+fn flag<'a>(alloc: Global, id: &'a str, help: &'a str) -> Arg<'a> {
+    Arg::new(alloc, id)
+        .long(id)
+        .action(ArgAction::SetTrue)
+        .help(help)
+}
+
+fn path<'a>(alloc: Global, id: &'a str, help: &'a str) -> Arg<'a> {
+    Arg::new(alloc, id).help(help)
+}
