@@ -101,7 +101,7 @@ class Explorer:
 
     def on_new_realm(self):
         width, level = self.draw.choice([(0x27, 1), (0x30, 0), (0x27, 1), (0x30, 0), (0x27, 0)])
-        algo = self.draw.randrange(3) if self.machine.version == 2 else 0
+        algo = self.draw.randrange(3) if self.machine.version != 1 else 0
         return REALM_CREATE, [*self.delegated(2), width, level, self.draw.randrange(4), algo]
 
     def on_realm(self, rd, realm):

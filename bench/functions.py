@@ -1,25 +1,19 @@
-"""The functions of docs/PROFILE.md, as its table has them: their numbers by name, the names of their words, and which are realm calls."""
+"""The functions, as the program `function_table` prints them: names by number, the names of their words, and which are realm calls."""
 import pathlib
-import re
 
-PAGE = pathlib.Path(__file__).resolve().parent.parent / "docs" / "PROFILE.md"
-ROW = re.compile(r"^\| ([0-9a-f]{8}) \| (\w+) \|([^|]*)\|", re.M)
+TABLE = pathlib.Path(__file__).resolve().parent.parent / "crates" / "function_table" / "stdout"
 
 
-def words_named(text):
-    """The words' names. `v0 .. v7` are eight."""
-    names = text.split()
-    if ".." not in names:
-        return names
-    at = names.index("..")
-    letter, first, last = names[at + 1][0], int(names[at - 1][1:]), int(names[at + 1][1:])
-    return names[:at - 1] + [f"{letter}{number}" for number in range(first, last + 1)] + names[at + 2:]
+def words_named(count, names):
+    """The words' names. The last name stands for all words that are left, which then get a number each."""
+    left = count - len(names) + 1
+    return names if left < 2 else names[:-1] + [f"{names[-1]}{number}" for number in range(left)]
 
 
-ROWS = ROW.findall(PAGE.read_text(encoding="utf-8"))
-NAMES = {number: name.upper() for number, name, _ in ROWS}
-WORDS = {number: words_named(words) for number, _, words in ROWS}
+ROWS = [line.split() for line in TABLE.read_text(encoding="ascii").splitlines()]
+NAMES = {number: name.upper() for number, _, _, name, *_ in ROWS}
+WORDS = {number: words_named(int(count), names) for number, _, count, _, *names in ROWS}
 globals().update({name: number for number, name in NAMES.items()})
 
-# Realm calls (RSI, from c4000190 on, and PSCI) and Exit are given inside a REC, and all others outside.
-REALM_CALLS = {number for number in NAMES if number >= "c4000190" or number.startswith("84")}
+# Realm calls are given inside a REC, as Exit is, and all others outside.
+REALM_CALLS = {number for number, caller, *_ in ROWS if caller == "realm"}

@@ -12,12 +12,13 @@ import sys
 
 sys.dont_write_bytecode = True
 from functions import WORDS
-from machine import Machine
+from machine import LIMITS, MARKS, Machine
 
 MOST_LINES = 1_000_000
 DECIMAL = r"(?:0|[1-9][0-9]*)"
 WORD = r"(?:0|[1-9a-f][0-9a-f]{0,15})"
-HEADER = re.compile(rf"rmh([12]) ({DECIMAL}) ({DECIMAL})\Z")
+VERSIONS = {mark: version for version, mark in MARKS.items()}
+HEADER = re.compile(rf"({'|'.join(VERSIONS)}) ({DECIMAL}) ({DECIMAL})\Z")
 CALL = re.compile(rf"c ([0-7]) ({DECIMAL}) ([0-9a-f]{{8}})((?: {WORD})*)\Z")
 REPLY = rf"(ok(?: {WORD}){{0,10}}|err {DECIMAL} {DECIMAL}|misplaced)"
 RETURN = re.compile(rf"r ([0-7]) ({DECIMAL}) {REPLY}\Z")
@@ -51,9 +52,10 @@ def read_history(text):
     for number, line in lines_of(text):
         if number == 1:
             match = HEADER.match(line)
-            if not match or not 1 <= int(match[2]) <= 4096 or not 1 <= int(match[3]) <= 8:
+            version = VERSIONS.get(match[1]) if match else None
+            if version is None or not 1 <= int(match[2]) <= LIMITS[version] or not 1 <= int(match[3]) <= 8:
                 raise BadLine(1)
-            machine, cpus = Machine(int(match[2]), int(match[1])), int(match[3])
+            machine, cpus = Machine(int(match[2]), version), int(match[3])
         elif match := CALL.match(line):
             cpu, n = int(match[1]), int(match[2])
             if cpu >= cpus or cpu in opened or n != made.get(cpu, 0):

@@ -14,8 +14,11 @@ from tables import (ASSIGNED, ASSIGNED_NS, DESTROYED, ENTRIES, FREE_NS, LAST_LEV
 UNDELEGATED, DELEGATED, RD, REC, REC_AUX, DATA, RTT = "undelegated", "delegated", "rd", "rec", "aux", "data", "rtt"
 NEW, ACTIVE, OFF = "new", "active", "off"
 SPACES = {(0x27, 1), (0x30, 0)}
-# the hashes of each version, by algo
-HASHES = {1: [hashlib.sha256], 2: [hashlib.sha256, hashlib.sha512]}
+LARGE = "large"
+# of each version the hashes by algo, the first word of a history, and how many granules there are at most
+HASHES = {1: [hashlib.sha256], 2: [hashlib.sha256, hashlib.sha512], LARGE: [hashlib.sha256, hashlib.sha512]}
+MARKS = {1: "rmh1", 2: "rmh2", LARGE: "rml1"}
+LIMITS = {1: 1 << 12, 2: 1 << 12, LARGE: 1 << 20}
 MOST_RECS = 8
 INPUT_ERROR, REALM_ERROR, SYSTEM_OFF_ERROR, REC_ERROR = "err 1 0", "err 2 0", "err 2 1", "err 3 0"
 

@@ -1,12 +1,20 @@
 #!/usr/bin/env python3
-"""Takes a history with a certificate that is a linearization of it apart into events, and merges them again by rmmmerge.
+"""Merges events by rmmmerge, in several orders of their lines and with one left out, and compares what comes of it.
 
 usage: merges.py [--program PROGRAM] [--cuts N] HISTORY CERTIFICATE
+       merges.py [--program PROGRAM] [--cuts N] EVENTS
+       merges.py [--program PROGRAM] [--cuts N] --wide FUNCTION EVENTS CPUS
+       merges.py [--program PROGRAM] --full
 
-Each commit gets its stamp right before the first return that needs it, of its own call or of a later line of the certificate. The events
-are written in the order of their stamps, CPU by CPU, and CPU by CPU with the last CPU first. Each time rmmmerge has to give both files back,
-byte for byte; its time and its peak of memory (that of /usr/bin/time -v) are printed, and those of a merge that renames. Then one event is
-left out, N times, each time another one: without --prefix rmmmerge has to name the stamp, and with it to give back what comes before.
+The events are those of a recorder's text; or a history is taken apart with a certificate that is a linearization of it, each commit right
+before the first return that needs it, of its own call or of a later line of the certificate; or they are drawn, so many, with words of 16
+digits alone, as calls of DATA_CREATE, MEASUREMENT_EXTEND, MEASUREMENT_READ or REC_CREATE on so many CPUs, with the longest replies that these
+have. No machine need give such replies.
+
+The lines are written in the order of their stamps, CPU by CPU, and CPU by CPU with the last CPU first. Each time rmmmerge has to give the same
+two files, which are made here once more; its time and its peak of memory are printed, and those of a merge that renames. Then one event is
+left out, N times: a call, a commit, a return, and so on. Without --prefix rmmmerge has to name the stamp, and with it to give back what
+comes before. With --full a history of a million lines has to be written, and the next return refused.
 """
 import argparse
 import os
@@ -21,9 +29,56 @@ PROGRAM = os.path.join(os.path.dirname(os.path.abspath(__file__)), "../crates/rm
 MEASURE = """
 import os, subprocess, sys, time
 before = time.perf_counter()
-_, _, usage = os.wait4(subprocess.Popen(sys.argv[1:]).pid, 0)
+child = subprocess.Popen(sys.argv[1:])
+_, _, usage = os.wait4(child.pid, 0)
 print(time.perf_counter() - before, usage.ru_maxrss)
 """
+
+
+# A function's number, and how many words a call and a reply have.
+WIDE = {
+    "DATA_CREATE": ("c4000153", 9, 0),
+    "MEASUREMENT_EXTEND": ("c4000193", 10, 0),
+    "MEASUREMENT_READ": ("c4000192", 1, 8),
+    "REC_CREATE": ("c400015a", 6, 0),
+}
+
+
+def wide(function, count, cpus):
+    """The header's sizes, and so many events."""
+    number, of_call, of_reply = WIDE[function]
+    words = lambda some: "".join(f" {random.randrange(2**60, 2**64):x}" for _ in range(some))
+    events, replies, stages = [], [""] * cpus, [0] * cpus
+    for _ in range(count):
+        cpu = random.randrange(cpus)
+        if stages[cpu] == 0:
+            replies[cpu] = "ok" + words(of_reply)
+        events.append((cpu, (f"call {number}{words(of_call)}", f"commit {replies[cpu]}", f"return {replies[cpu]}")[stages[cpu]]))
+        stages[cpu] = (stages[cpu] + 1) % 3
+    return ["4096", str(cpus)], events
+
+
+def recorded(text):
+    """The same of a recorder's text."""
+    header, *lines = text.splitlines()
+    by_stamp = sorted((int(stamp), int(cpu), rest) for stamp, cpu, rest in (line.split(" ", 2) for line in lines))
+    return header.split(" ")[1:], [(cpu, rest) for _, cpu, rest in by_stamp]
+
+
+def texts_of(sizes, events):
+    """The history and the certificate of events."""
+    history, commits, calls, returned = [f"rmh1 {' '.join(sizes)}"], [], {}, set()
+    for cpu, rest in events:
+        moment, what = rest.split(" ", 1)
+        calls[cpu] = calls.get(cpu, -1) + (moment == "call")
+        if moment == "commit":
+            commits.append((cpu, calls[cpu], what))
+        else:
+            history.append(f"{moment[0]} {cpu} {calls[cpu]} {what}")
+        if moment == "return":
+            returned.add((cpu, calls[cpu]))
+    lines = [f"k {cpu} {call}" if (cpu, call) in returned else f"u {cpu} {call} {reply}" for cpu, call, reply in commits]
+    return ["".join(f"{line}\n" for line in text) for text in (history, lines)]
 
 
 def events_of(history, certificate):
@@ -63,6 +118,18 @@ def merged(program, folder, sizes, lines, words=()):
     return "".join(printed), texts, float(seconds), int(kilobytes) / 1024
 
 
+def see_full(program, folder):
+    """A history that has a million lines, and one that would have more."""
+    call = ["call c4000151 0", "commit ok", "return ok"]
+    events = [(0, rest) for rest in call * 499_999 + call]
+    lines = [f"{stamp} {cpu} {rest}\n" for stamp, (cpu, rest) in enumerate(events)]
+    printed, found, _, _ = merged(program, folder, ["1", "1"], lines[:-2])
+    expect("a million lines", (printed, found), ("", texts_of(["1", "1"], events[:-2])))
+    printed, found, _, _ = merged(program, folder, ["1", "1"], lines)
+    expect("a line more", (printed, found), (f"fault events: line {len(lines) + 1}: the history or the certificate has a million lines\n", [None, None]))
+    print("a history of a million lines, and no line more")
+
+
 def expect(what, found, wanted):
     if found != wanted:
         sys.exit(f"merges.py: {what} differs")
@@ -72,11 +139,22 @@ def main():
     parser = argparse.ArgumentParser()
     parser.add_argument("--program", default=PROGRAM)
     parser.add_argument("--cuts", type=int, default=0)
-    parser.add_argument("history")
-    parser.add_argument("certificate")
+    parser.add_argument("--full", action="store_true")
+    parser.add_argument("--wide", nargs=3, metavar=("FUNCTION", "EVENTS", "CPUS"))
+    parser.add_argument("texts", nargs="*", metavar="TEXT")
     given = parser.parse_args()
-    texts = [open(given.history).read(), open(given.certificate).read()]
-    sizes, events = events_of(*(text.splitlines() for text in texts))
+    if given.full:
+        with tempfile.TemporaryDirectory() as folder:
+            return see_full(given.program, folder)
+    if given.wide:
+        sizes, events = wide(given.wide[0], int(given.wide[1]), int(given.wide[2]))
+    elif len(given.texts) == 1:
+        sizes, events = recorded(open(given.texts[0]).read())
+    else:
+        sizes, events = events_of(*(open(path).read().splitlines() for path in given.texts))
+    texts = texts_of(sizes, events)
+    if len(given.texts) == 2:
+        expect("what is taken apart", texts, [open(path).read() for path in given.texts])
     granules = int(sizes[0])
     lines = [f"{stamp} {cpu} {rest}\n" for stamp, (cpu, rest) in enumerate(events)]
     cpus = [cpu for cpu, _ in events]
@@ -92,8 +170,9 @@ def main():
         printed, found, seconds, peak = merged(given.program, folder, sizes, lines, ["--rename", "--memory", f"{granules << 12:x}"])
         expect("renamed: what is printed", printed, "")
         print(f"{len(lines)} events renamed: {seconds:.2f} s, {peak:.0f} MB, {peak * 2**20 / len(lines):.0f} bytes an event")
-        for _ in range(given.cuts):
-            hole = random.randrange(len(lines) - 1)
+        for cut in range(given.cuts):
+            moment = ("call", "commit", "return")[cut % 3]
+            hole = random.choice([at for at, (_, rest) in enumerate(events[:-1]) if rest.startswith(moment)])
             rest = [lines[at] for at in by_cpu if at != hole]
             expect("a hole", merged(given.program, folder, sizes, rest)[0], f"fault events: no event has the stamp {hole}\n")
             front = merged(given.program, folder, sizes, lines[:hole])

@@ -23,7 +23,8 @@ STEP = re.compile(r"(?:(\d): )?(\w+)((?: [0-9a-f]+)*) -> (.*)")
 
 def texts(mark, cpus, delegated, steps):
     """The history and the certificate of a script, or nothing where a step isn't a call with its reply."""
-    history, certificate, counts = [f"{mark} 16 {cpus}"], [], collections.Counter()
+    granules = 1048576 if mark == "rml1" else 16
+    history, certificate, counts = [f"{mark} {granules} {cpus}"], [], collections.Counter()
     for step in [f"GRANULE_DELEGATE {0x1000 * at:x} -> ok" for at in range(1, delegated + 1)] + steps:
         match = STEP.fullmatch(step)
         if not match:
@@ -44,7 +45,7 @@ def questions(lines):
         head, _, answer = line.partition(" => ")
         word, _, rest = head.partition(" ")
         if word == "script":
-            mark, cpus, delegated = rest.split() if rest.startswith("rmh2") else ["rmh1", *rest.split()]
+            mark, cpus, delegated = rest.split() if rest.startswith(("rmh2", "rml1")) else ["rmh1", *rest.split()]
             steps = []
             for below in lines[at + 1:]:
                 if not below.startswith("    "):

@@ -76,7 +76,7 @@ def fitting_words(machine):
         "g": host[0], "src": host[0], "pa": host[0], "rd": rd, "rec": rec, "data": free[0], "rtt": free[0], "root": free[1],
         "aux0": free[1], "aux1": free[2], "mpidr": machine.realms[rd].made_recs if rd in machine.realms else 0, "width": 0x27,
         "level": 3, "vmid": 0xFE, "top": PAGE_BYTES, "flags": 1, "ripas": 1, "i": 1, "size": 0x40,
-        **{f"c{number}": number + 1 for number in range(4)}, **{f"v{number}": number + 1 for number in range(8)},
+        **{f"digest{number}": number + 1 for number in range(4)}, **{f"values{number}": number + 1 for number in range(8)},
     }
     own = {
         GRANULE_UNDELEGATE: {"g": free[0]}, REALM_CREATE: {"rd": free[0], "level": 1}, REC_CREATE: {"rec": free[0]},

@@ -1,8 +1,9 @@
 -- What goes on from a place of a line.
 use Rattle.std.proofs.Common.{◌≡◌, ℕ, zero, suc, ◌-◌, ◌<◌, ◌≤◌, List, [], ◌∷◌, ◌++◌, length, take, drop, codes, Some, slice_get, inl, inr, refl, sym, ap, subst, arith, lit<, lit≤}
-use Rattle.std.specs.Prelude.{◌↔◌, ⊤}
+use Rattle.std.specs.Prelude.{◌↔◌, ◌⊎◌, ⊤}
 use Rattle.rmm_spec.specs.declared.function_id.FunctionId.TheVariants as function
-use Rattle.rmm_spec.specs.declared.version.Version.TheVariants.{One}
+use Rattle.rmm_spec.specs.declared.version.Version.{Version}
+use Rattle.rmm_spec.specs.declared.version.Version.TheVariants.{One, Two, Large}
 use Rattle.rmm_spec.specs.Function.{number_of, word_count}
 use Rattle.rmm_spec.specs.HistoryText.{mark}
 use Rattle.rmm_spec.specs.Text.{decimal, word, fixed_hex}
@@ -16,15 +17,15 @@ use Rattle.std.proofs.lemmas.List.{append-nil}
 -- ---- some line goes on so
 
 -- there is a CPU where one is wanted.
-abbrev IsLive : Wanted → Type 0
+abbrev pub IsLive : Wanted → Type 0
 IsLive (wanted.EventLetter cpus) = 0 < cpus
 IsLive (wanted.Cpu cpus role) = 0 < cpus
 IsLive _ = ⊤
 
 -- there is a CPU where one is wanted next
 live_after : (w next : Wanted) (part : List ℕ) → Leads w part next → IsLive next
-live_after wanted.Format next part h = subst IsLive (sym h.1) tt
-live_after wanted.Granules next part h = subst IsLive (sym h.1) tt
+live_after wanted.Format next part h = subst IsLive (sym h.2) tt
+live_after (wanted.Granules version) next part h = subst IsLive (sym h.1) tt
 live_after wanted.Cpus next part h = subst IsLive (sym h.1) tt
 live_after (wanted.EventLetter cpus) next part (some, inl h) = subst IsLive (sym h.1) some
 live_after (wanted.EventLetter cpus) next part (some, inr h) = subst IsLive (sym h.1) some
@@ -82,13 +83,15 @@ cpu_rest cpus r some = rest_behind (wanted.Cpu cpus r) (wanted.Number r) (decima
 cpus_rest : HasRest wanted.Cpus
 cpus_rest = rest_behind wanted.Cpus wanted.End (decimal 1) ((1, lit≤ tt, lit< tt, refl), refl) ([], tt)
 
-granules_rest : HasRest wanted.Granules
-granules_rest = rest_behind wanted.Granules wanted.Cpus (decimal 1) ((1, lit≤ tt, lit< tt, refl), refl) cpus_rest
+granules_rest : (version : Version) → HasRest (wanted.Granules version)
+granules_rest One = rest_behind (wanted.Granules One) wanted.Cpus (decimal 1) ((1, lit≤ tt, lit< tt, refl), refl) cpus_rest
+granules_rest Two = rest_behind (wanted.Granules Two) wanted.Cpus (decimal 1) ((1, lit≤ tt, lit< tt, refl), refl) cpus_rest
+granules_rest Large = rest_behind (wanted.Granules Large) wanted.Cpus (decimal 1) ((1, lit≤ tt, lit< tt, refl), refl) cpus_rest
 
 -- some line goes on from each place
 rest_from : (w : Wanted) → IsLive w → HasRest w
-rest_from wanted.Format live = rest_behind wanted.Format wanted.Granules (mark One) ((One, refl), refl) granules_rest
-rest_from wanted.Granules live = granules_rest
+rest_from wanted.Format live = rest_behind wanted.Format (wanted.Granules One) (mark One) (One, refl, refl) (granules_rest One)
+rest_from (wanted.Granules version) live = granules_rest version
 rest_from wanted.Cpus live = cpus_rest
 rest_from (wanted.EventLetter cpus) live = rest_behind (wanted.EventLetter cpus) (wanted.Cpu cpus role.Call) (codes "c") (live, inl (refl, refl)) (cpu_rest cpus role.Call live)
 rest_from wanted.LineLetter live = rest_behind wanted.LineLetter (wanted.Cpu 8 role.Keep) (codes "k") (inl (refl, refl)) (cpu_rest 8 role.Keep (lit< tt))
@@ -108,6 +111,15 @@ rest_from wanted.End live = ([], tt)
 pub record IsWantedAt (start : Wanted) (parts : List (List ℕ)) (index : ℕ) (w : Wanted) : Type 0 where
   pub within : index ≤ length parts
   pub goes_on : (more : List (List ℕ)) → GoesOn start (take index parts ++ more) ↔ GoesOn w more
+  pub live : (index ≡ 0) ⊎ IsLive w
+
+-- the parts so far are a front of a line, if there are some
+pub front_at : (start w : Wanted) (parts : List (List ℕ)) (index : ℕ) → IsWantedAt start parts index w
+    → (index ≡ 0) ⊎ ((more : List (List ℕ)) × GoesOn start (take index parts ++ more))
+front_at start w parts index h = elim h.live [
+  | inl none ↦ inl none
+  | inr live ↦ let rest = rest_from w live in inr (rest.0, (h.goes_on rest.0).1 rest.1)
+]
 
 -- what can stand in a place is what a line has there
 pub possible_at : (start w : Wanted) (parts : List (List ℕ)) (index : ℕ) (part : List ℕ) → IsWantedAt start parts index w
@@ -154,14 +166,14 @@ some_same w other e = cc
 
 -- the line is read from its beginning
 pub wanted_first : (start : Wanted) (parts : List (List ℕ)) → IsWantedAt start parts 0 start
-wanted_first start parts = record { within = omega arith; goes_on = λ more. (λ h. h, λ h. h) }
+wanted_first start parts = record { within = omega arith; goes_on = λ more. (λ h. h, λ h. h); live = inl refl }
 
 -- one part more is read
 pub wanted_next : (start w next : Wanted) (parts : List (List ℕ)) (index following : ℕ) (part : List ℕ) (rest : List (List ℕ))
     → IsWantedAt start parts index w → drop index parts ≡ part ∷ rest → Leads w part next → ((other : Wanted) → Leads w part other → other ≡ next)
     → following ≡ suc index → IsWantedAt start parts following next × (drop following parts ≡ rest)
 wanted_next start w next parts index following part rest h e leads only is = subst (λ k. IsWantedAt start parts k next × (drop k parts ≡ rest)) (sym is)
-    (record { within = omega (arith, inside-next parts index part rest e); goes_on = λ more. (to more, from more) }, drop-next parts index part rest e)
+    (record { within = omega (arith, inside-next parts index part rest e); goes_on = λ more. (to more, from more); live = inr (live_after w next part leads) }, drop-next parts index part rest e)
   where
     to : (more : List (List ℕ)) → GoesOn start (take (suc index) parts ++ more) → GoesOn next more
     to more goes_on =

@@ -1,5 +1,5 @@
 -- What goes on from the beginning of a line is a line of its kind.
-use Rattle.std.proofs.Common.{◌≡◌, ℕ, ◌-◌, ◌<◌, ◌≤◌, List, [], ◌∷◌, ◌++◌, map, length, take, Option, Some, None, inl, inr, refl, sym, ap, subst, ◌∙◌, arith}
+use Rattle.std.proofs.Common.{◌≡◌, ◌+◌, ℕ, ◌-◌, ◌<◌, ◌≤◌, List, [], ◌∷◌, ◌++◌, map, length, take, Option, Some, None, inl, inr, refl, sym, ap, subst, ◌∙◌, arith}
 use Rattle.std.specs.Prelude.{◌↔◌, IfSome, IfNone}
 use Rattle.rmm_spec.specs.declared.command.Command.{Command}
 use Rattle.rmm_spec.specs.declared.event.Event.{Event}
@@ -11,7 +11,8 @@ use Rattle.rmm_spec.specs.declared.reply.Reply.TheVariants as reply
 use Rattle.rmm_spec.specs.CertificateText.{IsLine, line_parts}
 use Rattle.rmm_spec.specs.CommandText.{AreWords, IsCommand, IsReply, command_parts, reply_parts}
 use Rattle.rmm_spec.specs.Function.{word_count}
-use Rattle.rmm_spec.specs.HistoryText.{Config, IsEvent, event_parts}
+use Rattle.rmm_spec.specs.declared.version.Version.{Version}
+use Rattle.rmm_spec.specs.HistoryText.{Config, IsEvent, event_parts, granule_limit}
 use Rattle.rmm_spec.specs.Text.{decimal, word}
 use Rattle.bad_lines.specs.declared.wanted.Role.{Role}
 use Rattle.bad_lines.specs.declared.wanted.Role.TheVariants as role
@@ -24,6 +25,10 @@ use Rattle.bad_lines.specs.Wrong.{IsCertificateLine, IsCommandLine, IsEventLine,
 IsWrong-same : (P Q : List (List ℕ) → Type 0) (parts : List (List ℕ)) (wrong : WrongPart) → ((line : List (List ℕ)) → P line ↔ Q line) → IsWrong P parts wrong → IsWrong Q parts wrong
 IsWrong-same P Q parts wrong same h = record {
   within = h.within;
+  front = elim h.front [
+    | inl none ↦ inl none
+    | inr more ↦ inr (more.0, (same (take wrong.index parts ++ more.0)).0 more.1)
+  ];
   possible = λ part. (
     λ can. let more = (h.possible part).0 can in (more.0, (same (take wrong.index parts ++ part ∷ more.0)).0 more.1),
     λ more. (h.possible part).1 (more.0, (same (take wrong.index parts ++ part ∷ more.0)).1 more.1),
@@ -56,9 +61,9 @@ cpus_to (part ∷ rest) h =
     let number = h.1.0 in
     (number.0, number.1, number.2, λ i. number.3 i ∷ over i)
 
-granules_to : (rest : List (List ℕ)) → GoesOn wanted.Granules rest → (g c : ℕ) × (1 ≤ g) × (g < 4097) × (1 ≤ c) × (c < 9) × (rest ≡ decimal g ∷ decimal c ∷ [])
-granules_to [] h = absurd h
-granules_to (part ∷ rest) h =
+granules_to : (version : Version) (rest : List (List ℕ)) → GoesOn (wanted.Granules version) rest → (g c : ℕ) × (1 ≤ g) × (g < granule_limit version + 1) × (1 ≤ c) × (c < 9) × (rest ≡ decimal g ∷ decimal c ∷ [])
+granules_to version [] h = absurd h
+granules_to version (part ∷ rest) h =
     let cpus = cpus_to rest (subst (λ n. GoesOn n rest) h.1.1 h.2) in
     let number = h.1.0 in
     (number.0, cpus.0, number.1, number.2, cpus.1, cpus.2, λ i. number.3 i ∷ cpus.3 i)
@@ -66,16 +71,17 @@ granules_to (part ∷ rest) h =
 header_to : (line : List (List ℕ)) → GoesOn wanted.Format line → IsHeader line
 header_to [] h = absurd h
 header_to (part ∷ rest) h =
-    let numbers = granules_to rest (subst (λ n. GoesOn n rest) h.1.1 h.2) in (
-      record { granules = numbers.0; cpus = numbers.1; version = h.1.0.0 },
+    let version = h.1.0 in
+    let numbers = granules_to version rest (subst (λ n. GoesOn n rest) h.1.2 h.2) in (
+      record { granules = numbers.0; cpus = numbers.1; version = version },
       record { some_granules = numbers.2; most_granules = omega (arith, numbers.3); some_cpus = numbers.4; most_cpus = omega (arith, numbers.5) },
-      λ i. h.1.0.1 i ∷ numbers.6 i,
+      λ i. h.1.1 i ∷ numbers.6 i,
     )
 
 header_from : (line : List (List ℕ)) → IsHeader line → GoesOn wanted.Format line
 header_from line (config, is_config, e) = subst (GoesOn wanted.Format) (sym e) (
-  wanted.Granules,
-  ((config.version, refl), refl),
+  wanted.Granules config.version,
+  (config.version, refl, refl),
   (
     wanted.Cpus,
     ((config.granules, is_config.some_granules, omega (arith, is_config.most_granules), refl), refl),

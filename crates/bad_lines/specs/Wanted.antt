@@ -1,18 +1,14 @@
 -- What can stand at a place of a line, and what is wanted behind it.
-use Rattle.std.specs.Prelude.{◌≡◌, ◌⊎◌, ⊤, ℕ, ◌-◌, ◌^◌, ◌<◌, ◌≤◌, List, [], ◌∷◌, codes}
+use Rattle.std.specs.Prelude.{◌≡◌, ◌⊎◌, ⊤, ℕ, ◌+◌, ◌-◌, ◌^◌, ◌<◌, ◌≤◌, List, [], ◌∷◌, codes}
 use Rattle.rmm_spec.specs.declared.function_id.FunctionId.{FunctionId}
 use Rattle.rmm_spec.specs.declared.version.Version.{Version}
 use Rattle.rmm_spec.specs.Function.{number_of, word_count}
-use Rattle.rmm_spec.specs.HistoryText.{mark}
+use Rattle.rmm_spec.specs.HistoryText.{granule_limit, mark}
 use Rattle.rmm_spec.specs.Text.{decimal, word, fixed_hex}
 use Rattle.bad_lines.specs.declared.wanted.Role.{Role}
 use Rattle.bad_lines.specs.declared.wanted.Role.TheVariants as role
 use Rattle.bad_lines.specs.declared.wanted.Wanted.{Wanted}
 use Rattle.bad_lines.specs.declared.wanted.Wanted.TheVariants as wanted
-
--- the name of a version's format
-abbrev pub IsFormat : List ℕ → Type 0
-IsFormat part = (version : Version) × (part ≡ mark version)
 
 -- a decimal from the least number to below the limit
 abbrev pub IsNumber : ℕ → ℕ → List ℕ → Type 0
@@ -30,8 +26,8 @@ behind_number role.Unfinished = wanted.Form
 
 -- The part can stand where the first is wanted, and the second is wanted behind it.
 abbrev pub Leads : Wanted → List ℕ → Wanted → Type 0
-Leads wanted.Format part next = IsFormat part × (next ≡ wanted.Granules)
-Leads wanted.Granules part next = IsNumber 1 4097 part × (next ≡ wanted.Cpus)
+Leads wanted.Format part next = (version : Version) × (part ≡ mark version) × (next ≡ wanted.Granules version)
+Leads (wanted.Granules version) part next = IsNumber 1 (granule_limit version + 1) part × (next ≡ wanted.Cpus)
 Leads wanted.Cpus part next = IsNumber 1 9 part × (next ≡ wanted.End)
 Leads (wanted.EventLetter cpus) part next =
     (0 < cpus) × (((part ≡ codes "c") × (next ≡ wanted.Cpu cpus role.Call)) ⊎ ((part ≡ codes "r") × (next ≡ wanted.Cpu cpus role.Return)))

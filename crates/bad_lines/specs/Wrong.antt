@@ -1,5 +1,5 @@
 -- Which part of a line is wrong.
-use Rattle.std.specs.Prelude.{◌≡◌, ◌↔◌, ℕ, ◌<◌, ◌≤◌, List, ◌∷◌, ◌++◌, length, take, slice_get, Some, MatchOption}
+use Rattle.std.specs.Prelude.{◌≡◌, ◌↔◌, ◌⊎◌, ℕ, ◌<◌, ◌≤◌, List, ◌∷◌, ◌++◌, length, take, slice_get, Some, MatchOption}
 use Rattle.rmm_spec.specs.declared.command.Command.{Command}
 use Rattle.rmm_spec.specs.declared.event.Event.{Event}
 use Rattle.rmm_spec.specs.declared.event.Event.TheVariants.{Called, Returned}
@@ -35,10 +35,11 @@ IsCertificateLine parts = (line : Line) × IsLine line × (parts ≡ line_parts 
 abbrev pub IsCommandLine : List (List ℕ) → Type 0
 IsCommandLine parts = (command : Command) × IsCommand command × (parts ≡ command_parts command)
 
--- The part of that index is wrong in the line: what is wanted there is exactly what a line of the kind has behind the parts
--- before it, and this line has none of that.
+-- The part of that index is the first wrong one in the line: the parts before it are a front of some line of the kind, what is wanted
+-- there is exactly what a line of the kind has behind them, and this line has none of that.
 pub record IsWrong (IsOfKind : List (List ℕ) → Type 0) (parts : List (List ℕ)) (wrong : WrongPart) : Type 0 where
   pub within : wrong.index ≤ length parts
+  pub front : (wrong.index ≡ 0) ⊎ ((more : List (List ℕ)) × IsOfKind (take wrong.index parts ++ more))
   pub possible : (part : List ℕ) → CanStand wrong.wanted part ↔ ((more : List (List ℕ)) × IsOfKind (take wrong.index parts ++ part ∷ more))
   pub ends : MayEnd wrong.wanted ↔ IsOfKind (take wrong.index parts)
   pub here : MatchOption wrong.part ((length parts ≡ wrong.index) × ¬ MayEnd wrong.wanted)

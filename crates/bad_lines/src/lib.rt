@@ -1,7 +1,7 @@
 //! Which field of a line is the first wrong one, and what was expected there, for the lines of histories and certificates and for
 //! the texts of commands.
-//! It promises that what is reported as expected at a place is exactly what some line of the grammar has there after the same
-//! fields, and that the line has none of it: see `specs/Wrong.antt`.
+//! It promises that the fields before the place are those of some line of the grammar, that what is reported as expected there is
+//! exactly what some such line has after them, and that the line has none of it: see `specs/Wrong.antt`.
 //! A line is read field by field, and nothing is allocated.
 //! What explains a malformed line, or a scenario's bad command, depends on it.
 #![tactic(auto)]

@@ -1,11 +1,15 @@
 //! What is wanted next of a line.
 
 ghost use Rattle.std.specs.Prelude.{◌≡◌, ◌↔◌, [], ◌∷◌, Some, false, IsTrue, IfSome, MatchOption};
+ghost use Rattle.rmm_spec.specs.declared.version.Version.{Version};
+ghost use Rattle.rmm_spec.specs.HistoryText.{mark};
 ghost use Rattle.rmm_spec.specs.Text.{parts_of};
-ghost use Rattle.bad_lines.specs.Wanted.{IsFormat, IsNumber, IsWord, Leads, MayEnd, behind_number};
+ghost use Rattle.bad_lines.specs.Wanted.{IsNumber, IsWord, Leads, MayEnd, behind_number};
 ghost use Rattle.bad_lines.specs.declared.wanted.Wanted.TheVariants as wanted;
 
+use granule_state::granule_limit;
 use rmi_codec::{Parts, decimal_from, next_word, words_of};
+use rmm_spec::Version;
 
 /// What a line says by its letter.
 #[derive(Clone, Copy)]
@@ -21,8 +25,8 @@ pub enum Role {
 pub enum Wanted {
     /// The name of the format.
     Format,
-    /// How many granules there are.
-    Granules,
+    /// How many granules a machine of the version has.
+    Granules { version: Version },
     /// How many CPUs there are.
     Cpus,
     /// An event's letter, on a machine of so many CPUs.
@@ -57,8 +61,11 @@ impl Wanted {
         ensures only { (next : Wanted) → Leads self part.now next → result ≡ Some next }
     {
         match self {
-            Wanted::Format => when(is_format(part), Wanted::Granules),
-            Wanted::Granules => when(is_number(part, 1, 4097), Wanted::Cpus),
+            Wanted::Format => format(part),
+            Wanted::Granules { version } => when(
+                is_number(part, 1, granule_limit(version) + 1),
+                Wanted::Cpus,
+            ),
             Wanted::Cpus => when(is_number(part, 1, 9), Wanted::End),
             Wanted::EventLetter { cpus } => event_letter(cpus, part),
             Wanted::LineLetter => line_letter(part),
@@ -115,11 +122,28 @@ fn when(holds: bool, next: Wanted) -> Option<Wanted>
     if holds { Some(next) } else { None }
 }
 
-// Whether a part is the name of a version's format.
-fn is_format(part: &[u8]) -> bool
-    ensures { IsTrue result ↔ IsFormat part.now }
+// What is wanted behind the name of a version's format.
+fn format(part: &[u8]) -> Option<Wanted>
+    ensures found { IfSome result (Leads wanted.Format part.now) }
+    ensures only { (next : Wanted) → Leads wanted.Format part.now next → result ≡ Some next }
 {
-    part == b"rmh1".as_slice() || part == b"rmh2".as_slice()
+    match version_of(part) {
+        Some(version) => Some(Wanted::Granules { version }),
+        None => None,
+    }
+}
+
+// The version whose format has the name.
+fn version_of(part: &[u8]) -> Option<Version>
+    ensures found { IfSome result (λ version. part.now ≡ mark version) }
+    ensures only { (version : Version) → part.now ≡ mark version → result ≡ Some version }
+{
+    match part {
+        b"rmh1" => Some(Version::One),
+        b"rmh2" => Some(Version::Two),
+        b"rml1" => Some(Version::Large),
+        _ => None,
+    }
 }
 
 // Whether a part is a decimal from the least number to below the limit.

@@ -3,13 +3,17 @@
 use crate::shown::Shown;
 use crate::wanted::Wanted;
 use crate::wrong_part::WrongPart;
+use granule_state::granule_limit;
 use std::fmt;
 
 impl fmt::Display for Wanted {
     fn fmt<W: fmt::Write>(&self, f: &mut fmt::Formatter<W>) -> fmt::Result {
         f.write_str(match *self {
-            Wanted::Format => "rmh1 or rmh2",
-            Wanted::Granules => "how many granules there are, from 1 to 4096",
+            Wanted::Format => "rmh1, rmh2 or rml1",
+            Wanted::Granules { version } => {
+                let most = granule_limit(version);
+                return write!(f, "how many granules there are, from 1 to {most}");
+            }
             Wanted::Cpus => "how many CPUs there are, from 1 to 8",
             Wanted::EventLetter { .. } => "c for a call, or r for a return",
             Wanted::LineLetter => "k for a call that returned, or u for one that didn't",

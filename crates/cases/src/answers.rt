@@ -3,7 +3,7 @@
 use anyhow::Result;
 use checker::{check, verdict_text};
 use explain::{explain, explain_run, report};
-use explain_page::append_page;
+use explain_page::{Extent, append_page};
 use std::alloc::Global;
 
 /// The verdict's line, and another one where a text that has no bad line doesn't come back byte for byte.
@@ -88,7 +88,11 @@ pub(crate) fn page_has(
 ) -> Result<String> {
     let told = explain_run(alloc, history.as_bytes(), certificate.as_bytes())?;
     let mut page = Vec::new(alloc);
-    append_page(alloc, &told, b"", &mut page)?;
+    let extent = Extent {
+        around: 100,
+        folds: &[],
+    };
+    append_page(alloc, &told, extent, b"", &mut page)?;
     let page = String::from_utf8(page)?;
     let answer = if page.as_str().contains(piece) {
         "shown\n"

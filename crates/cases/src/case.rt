@@ -4,7 +4,9 @@ use crate::answers::{
     page_has, read_certificate, read_history, reported, rewritten_certificate, rewritten_history,
     verdict, why,
 };
+use crate::causes::since;
 use crate::cuts::{cuts, empties, offers};
+use crate::outputs::{granule_steps_of, lines_of, object_has, rows_of};
 use crate::owners::owners;
 use crate::parts::{command_read, reply_read, wrong_event, wrong_header, wrong_line};
 use crate::script::Script;
@@ -53,7 +55,7 @@ impl Case {
                 run.add(alloc, statement.text(alloc)?.as_str())?;
                 self.take_run(run);
             }
-            Word::Why => {
+            Word::Why | Word::Since => {
                 let mut run = self.script_so_far(alloc)?;
                 run.claim(alloc, statement.argument)?;
                 self.take_run(run);
@@ -92,7 +94,12 @@ impl Case {
         match statement.word {
             Word::Report => reported(alloc, history, certificate),
             Word::Why => why(alloc, history, certificate),
+            Word::Since => since(alloc, history, certificate),
             Word::Page => page_has(alloc, history, certificate, part),
+            Word::Object => object_has(alloc, history, certificate, part),
+            Word::Lines => lines_of(alloc, history, certificate),
+            Word::Granule => granule_steps_of(alloc, history, certificate, part),
+            Word::Rows => rows_of(alloc, history, certificate),
             Word::Cuts => cuts(alloc, history, certificate),
             Word::Empties => empties(alloc, history, certificate, part.parse()?),
             Word::Offers => offers(alloc, history, certificate),

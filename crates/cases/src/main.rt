@@ -8,9 +8,11 @@
 mod answers;
 mod case;
 mod case_text;
+mod causes;
 mod cuts;
 mod functions;
 mod machines;
+mod outputs;
 mod owners;
 mod parts;
 mod plain;

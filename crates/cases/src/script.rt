@@ -25,11 +25,12 @@ impl Script {
         }
     }
 
-    /// `CPUS DELEGATED`, behind `rmh2 ` for version 2: so many granules, from 0x1000 on, are delegated by CPU 0.
+    /// `CPUS DELEGATED`, behind `rmh2 ` for version 2 or `rml1 ` for a large machine: so many granules, from 0x1000 on, are delegated by CPU 0.
     pub(crate) fn on(alloc: Global, machine: &str) -> Result<Script> {
-        let (mark, sizes) = match machine.strip_prefix("rmh2 ") {
-            Some(sizes) => ("rmh2", sizes),
-            None => ("rmh1", machine),
+        let (mark, granules, sizes) = match machine.split_once(' ') {
+            Some(("rmh2", sizes)) => ("rmh2", 16, sizes),
+            Some(("rml1", sizes)) => ("rml1", 1_048_576, sizes),
+            _ => ("rmh1", 16, machine),
         };
         let (cpus, delegated) = sizes
             .split_once(' ')
@@ -38,7 +39,7 @@ impl Script {
             .parse::<u8>()
             .context("no count of delegated granules")?;
         let mut script = Script::none(alloc);
-        write!(script.history, "{mark} 16 {cpus}\n")?;
+        write!(script.history, "{mark} {granules} {cpus}\n")?;
         for number in 0..delegated {
             let command = format!(in alloc; "c4000151 {:x}", (u64::from(number) + 1) * 0x1000)?;
             script.push(0, command.as_str(), "ok")?;
@@ -75,9 +76,10 @@ impl Script {
         self.answered(alloc, call, reply)
     }
 
-    /// A call that is claimed to be answered `ok`.
-    pub(crate) fn claim(&mut self, alloc: Global, call: &str) -> Result<()> {
-        self.answered(alloc, call, "ok")
+    /// A call with the reply that is claimed for it, which is `ok` where none is.
+    pub(crate) fn claim(&mut self, alloc: Global, step: &str) -> Result<()> {
+        let (call, reply) = step.split_once(" -> ").unwrap_or((step, "ok"));
+        self.answered(alloc, call, reply)
     }
 
     // The call stands behind `1: ` where CPU 1 makes it.

@@ -19,6 +19,8 @@ pub(crate) enum Word {
     Try,
     /// Why a command isn't answered `ok` behind the script, which the next statement doesn't see.
     Why,
+    /// Since which step that is so, or that the command gets another answer than its own, which the next statement doesn't see.
+    Since,
     /// The first line of a history.
     Header,
     /// The checker's line on the two texts.
@@ -33,6 +35,14 @@ pub(crate) enum Word {
     Report,
     /// Whether the page on the two texts has a text.
     Page,
+    /// Whether the object for programs on the two texts has a text.
+    Object,
+    /// The lines for editors on the two texts, whose paths are `h` and `c`.
+    Lines,
+    /// The steps of a granule.
+    Granule,
+    /// How often each condition refused.
+    Rows,
     /// Which realm each granule belongs to after the history's calls.
     Owners,
     /// What is read of one of the texts.
@@ -58,6 +68,7 @@ impl Word {
             "step" => Word::Step,
             "try" => Word::Try,
             "why" => Word::Why,
+            "since" => Word::Since,
             "header" => Word::Header,
             "verdict" => Word::Verdict,
             "cuts" => Word::Cuts,
@@ -65,6 +76,10 @@ impl Word {
             "offers" => Word::Offers,
             "report" => Word::Report,
             "page" => Word::Page,
+            "object" => Word::Object,
+            "lines" => Word::Lines,
+            "granule" => Word::Granule,
+            "rows" => Word::Rows,
             "owners" => Word::Owners,
             "read" => Word::Read,
             "rewrite" => Word::Rewrite,

@@ -25,12 +25,7 @@ IsAccounted-run config programs moves w happen =
 -- no move changes the configuration
 config-Moves : (old : World) (move : Move) (new : World) → Moves old move new → new.config ≡ old.config
 config-Moves old (world.Call cpu) new moves = ap (λ (w : World). w.config) moves.is_new
-config-Moves old (world.Take cpu granule) new moves = ap (λ (w : World). w.config) moves.is_new
-config-Moves old (world.Free cpu granule learnt) new moves = ap (λ (w : World). w.config) moves.is_new
-config-Moves old (world.Commit cpu given held) new moves = ap (λ (w : World). w.config) moves.is_new
-config-Moves old (world.GiveUp cpu) new moves = ap (λ (w : World). w.config) moves.is_new
-config-Moves old (world.Return cpu) new moves = ap (λ (w : World). w.config) moves.is_new
-config-Moves old (world.Stop cpu) new moves = ap (λ (w : World). w.config) moves.is_new
+config-Moves old _ new moves = ap (λ (w : World). w.config) moves.is_new
 
 config-HappenAll : (old : World) (moves : List Move) (last : World) → HappenAll old moves last → last.config ≡ old.config
 config-HappenAll old [] last happen = ap (λ (w : World). w.config) happen

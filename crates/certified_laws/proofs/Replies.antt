@@ -12,7 +12,7 @@ use Rattle.rmm_spec.specs.declared.call.Removal.{Removal}
 use Rattle.rmm_spec.specs.declared.call.Removal.TheVariants.{Destroy, Fold}
 use Rattle.rmm_spec.specs.declared.command.Command.{Command}
 use Rattle.rmm_spec.specs.declared.entry.Entry.{Entry}
-use Rattle.rmm_spec.specs.declared.entry.Entry.TheVariants.{Unassigned, Assigned, Table, UnassignedNs, AssignedNs}
+use Rattle.rmm_spec.specs.declared.entry.Entry.TheVariants.{Unassigned, UnassignedNs}
 use Rattle.rmm_spec.specs.declared.function_id.FunctionId.{FunctionId}
 use Rattle.rmm_spec.specs.declared.function_id.FunctionId.TheVariants as function
 use Rattle.rmm_spec.specs.declared.refusal.Refusal.{Refusal}
@@ -20,7 +20,7 @@ use Rattle.rmm_spec.specs.declared.refusal.Refusal.TheVariants as refusal
 use Rattle.rmm_spec.specs.declared.reply.Reply.{Reply}
 use Rattle.rmm_spec.specs.declared.reply.Reply.TheVariants as reply
 use Rattle.rmm_spec.specs.declared.tag.Ripas.{Ripas}
-use Rattle.rmm_spec.specs.declared.tag.Ripas.TheVariants.{Empty, Ram, Destroyed}
+use Rattle.rmm_spec.specs.declared.tag.Ripas.TheVariants.{Empty}
 use Rattle.rmm_spec.specs.CommandText.{IsReply, AreWords}
 use Rattle.rmm_spec.specs.Call.{call_from, call_of, class_of}
 use Rattle.rmm_spec.specs.declared.measurement.Measurement.{Measurement}
@@ -125,15 +125,11 @@ HasText-front s c rows accepted have =
 -- how a reply tells a RIPAS, an entry and an exit is words
 ripas_number-word : (ripas : Ripas) → ripas_number ripas < 2 ^ 64
 ripas_number-word Empty = omega arith
-ripas_number-word Ram = omega arith
-ripas_number-word Destroyed = omega arith
+ripas_number-word _ = omega arith
 
 entry_state-word : (entry : Entry) → entry_state entry < 2 ^ 64
 entry_state-word (Unassigned ripas) = omega arith
-entry_state-word (Assigned ripas granule) = omega arith
-entry_state-word (Table granule) = omega arith
-entry_state-word UnassignedNs = omega arith
-entry_state-word (AssignedNs page) = omega arith
+entry_state-word _ = omega arith
 
 IsReply-exit : (request : Request) (pending : Option Pending) → RequestFits request → EachIn PendingFits pending
     → IsReply (ok (exit_words request pending))

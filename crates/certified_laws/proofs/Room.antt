@@ -41,11 +41,9 @@ sum_below-less (suc n) f g key d within each falls = by (n == key) refl (sum_bel
 
 -- how many events a CPU may still bring: two for each command that is left, and the return of an open call
 abbrev pub events_left : Phase → List Command → ℕ
-events_left (Between number) commands = 2 * length commands
 events_left (Deciding number command learnt) commands = 2 * length commands + 1
 events_left (Decided number command given) commands = 2 * length commands + 1
-events_left GivenUp commands = 2 * length commands
-events_left Stopped commands = 2 * length commands
+events_left _ commands = 2 * length commands
 
 abbrev left_at : World → ℕ → ℕ
 left_at w cpu = events_left (w.phase cpu) (w.program cpu)
@@ -80,18 +78,12 @@ within-put bound count cpus cpu d phase p old new is_cpu others here within =
 -- what is learnt brings no events
 events_left-learnt : (learnt : Option ℕ) (p : Phase) (commands : List Command) → events_left (phase_learnt learnt p) commands ≡ events_left p commands
 events_left-learnt learnt (Between number) commands = refl
-events_left-learnt learnt (Deciding number command earlier) commands = refl
-events_left-learnt learnt (Decided number command given) commands = refl
-events_left-learnt learnt GivenUp commands = refl
-events_left-learnt learnt Stopped commands = refl
+events_left-learnt learnt _ commands = refl
 
 -- a CPU that was stopped brings no more than its commands
 events_left-stopped : (p : Phase) (commands : List Command) → 2 * length commands ≤ events_left p commands
 events_left-stopped (Between number) commands = omega arith
-events_left-stopped (Deciding number command earlier) commands = omega arith
-events_left-stopped (Decided number command given) commands = omega arith
-events_left-stopped GivenUp commands = omega arith
-events_left-stopped Stopped commands = omega arith
+events_left-stopped _ commands = omega arith
 
 -- a CPU's phase changes, and nothing is recorded
 IsWithin-phase : (bound : ℕ) (w : World) (cpu : ℕ) (p : Phase) → cpu < w.config.cpus → events_left p (w.program cpu) ≤ left_at w cpu → IsWithin bound w

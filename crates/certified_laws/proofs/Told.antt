@@ -18,7 +18,7 @@ use Rattle.rmm_spec.specs.declared.change.RecUpdate.{RecUpdate}
 use Rattle.rmm_spec.specs.declared.change.RecUpdate.TheVariants as rec_update
 use Rattle.rmm_spec.specs.declared.change.TagChange.{TagChange}
 use Rattle.rmm_spec.specs.declared.entry.Entry.{Entry}
-use Rattle.rmm_spec.specs.declared.entry.Entry.TheVariants.{Unassigned, Assigned, Table, UnassignedNs, AssignedNs}
+use Rattle.rmm_spec.specs.declared.entry.Entry.TheVariants.{Unassigned, UnassignedNs}
 use Rattle.rmm_spec.specs.declared.tag.Ripas.{Ripas}
 use Rattle.rmm_spec.specs.declared.tag.Ripas.TheVariants.{Empty}
 use Rattle.rmm_spec.specs.declared.tag.Tag.{Tag}
@@ -154,13 +154,10 @@ pub record StateFits (s : State) : Type 0 where
   pub realms : (g : ℕ) → EachIn RealmFits (s.realm g)
 
 abbrev pub RecUpdateFits : RecUpdate → Type 0
-RecUpdateFits (rec_update.Entered cpu) = ⊤
-RecUpdateFits rec_update.Exited = ⊤
 RecUpdateFits (rec_update.RipasRequested base top ripas) = (base < 2 ^ 64) × (top < 2 ^ 64)
 RecUpdateFits (rec_update.HostCalled imm) = imm < 2 ^ 64
-RecUpdateFits rec_update.TurnedOff = ⊤
-RecUpdateFits rec_update.SystemTurnedOff = ⊤
 RecUpdateFits (rec_update.RequestMoved base) = base < 2 ^ 64
+RecUpdateFits _ = ⊤
 
 abbrev pub EntryChangeFits : EntryChange → Type 0
 EntryChangeFits (Replaced number entry) = EntryFits entry
@@ -168,16 +165,12 @@ EntryChangeFits (RipasSet first last ripas) = ⊤
 
 -- what a change puts into a state fits
 abbrev pub ChangeFits : Change → Type 0
-ChangeFits Unchanged = ⊤
-ChangeFits (Retagged change) = ⊤
 ChangeFits (RealmMade rd root width level vmid algo) = (root < 2 ^ 64) × (width < 2 ^ 64) × (algo < 2 ^ 64)
-ChangeFits (RealmDestroyed rd root) = ⊤
-ChangeFits (RecMade rd rec mpidr flags aux0 aux1) = ⊤
-ChangeFits (RecDestroyed rec aux0 aux1) = ⊤
 ChangeFits (RecordsChanged realm rec) = EachIn (λ (c : RecChange). RecUpdateFits c.update) rec
 ChangeFits (TableMade rd level number rtt entry) = (rtt < 2 ^ 64) × EntryFits entry
 ChangeFits (TableDestroyed rd level number rtt entry) = EntryFits entry
 ChangeFits (EntriesChanged rd level entries page realm rec) = EntryChangeFits entries × EachIn (λ (c : RecChange). RecUpdateFits c.update) rec
+ChangeFits _ = ⊤
 
 -- ---- what is read
 
@@ -276,9 +269,8 @@ RecFits-updated (rec_update.Entered cpu) rec new fits = (tt, fits.1)
 RecFits-updated rec_update.Exited rec new fits = (fits.0, tt)
 RecFits-updated (rec_update.RipasRequested base top ripas) rec new fits = (new, tt)
 RecFits-updated (rec_update.HostCalled imm) rec new fits = (fits.0, new)
-RecFits-updated rec_update.TurnedOff rec new fits = (fits.0, omega arith)
-RecFits-updated rec_update.SystemTurnedOff rec new fits = (fits.0, omega arith)
 RecFits-updated (rec_update.RequestMoved base) rec new fits = ((new, (request_of-fits rec fits).1), fits.1)
+RecFits-updated _ rec new fits = (fits.0, omega arith)
 
 -- ---- states that change
 
@@ -351,10 +343,7 @@ StateFits-no_table s rd level number entry new fits = record {
 ripas-fits : (ripas : Ripas) (leaf : Option Entry) → EachIn EntryFits leaf → EachIn EntryFits (option_map (entry_with_ripas ripas) leaf)
 ripas-fits ripas None fits = tt
 ripas-fits ripas (Some (Unassigned old)) fits = fits
-ripas-fits ripas (Some (Assigned old granule)) fits = fits
-ripas-fits ripas (Some (Table granule)) fits = fits
-ripas-fits ripas (Some UnassignedNs) fits = fits
-ripas-fits ripas (Some (AssignedNs page)) fits = fits
+ripas-fits ripas _ fits = fits
 
 StateFits-entry_change : (s : State) (rd level : ℕ) (change : EntryChange) → EntryChangeFits change → StateFits s
     → StateFits (with_entry_change s rd level change)

@@ -31,26 +31,20 @@ abbrev pub AtStand : Phase → Option Stand → Type 0
 AtStand (Between number) stand = stand ≡ Some (record { next = number; is_open = false })
 AtStand (Deciding number command learnt) stand = stand ≡ Some (record { next = number + 1; is_open = true })
 AtStand (Decided number command given) stand = stand ≡ Some (record { next = number + 1; is_open = true })
-AtStand GivenUp stand = IsSome stand
-AtStand Stopped stand = IsSome stand
+AtStand _ stand = IsSome stand
 
 IsSome-some : (stand : Option Stand) (s : Stand) → stand ≡ Some s → IsSome stand
 IsSome-some stand s is = subst IsSome (sym is) refl
 
 -- in each phase a CPU's events are a record
 pub IsSome-AtStand : (p : Phase) (stand : Option Stand) → AtStand p stand → IsSome stand
-IsSome-AtStand (Between number) stand at = IsSome-some stand _ at
-IsSome-AtStand (Deciding number command learnt) stand at = IsSome-some stand _ at
-IsSome-AtStand (Decided number command given) stand at = IsSome-some stand _ at
 IsSome-AtStand GivenUp stand at = at
 IsSome-AtStand Stopped stand at = at
+IsSome-AtStand _ stand at = IsSome-some stand _ at
 
 AtStand-learnt : (learnt : Option ℕ) (p : Phase) (stand : Option Stand) → AtStand p stand → AtStand (phase_learnt learnt p) stand
 AtStand-learnt learnt (Between number) stand at = at
-AtStand-learnt learnt (Deciding number command earlier) stand at = at
-AtStand-learnt learnt (Decided number command given) stand at = at
-AtStand-learnt learnt GivenUp stand at = at
-AtStand-learnt learnt Stopped stand at = at
+AtStand-learnt learnt _ stand at = at
 
 abbrev stand_of : List Event → ℕ → Option Stand
 stand_of events cpu = stand_from start (subhistory_of cpu events)

@@ -1,3 +1,4 @@
+mod HistoryReads
 mod HistoryTexts
 mod CertificateTexts
 mod Judged

@@ -3,3 +3,4 @@ pub mod Faults
 pub mod Memory
 pub mod Judgement
 pub mod Taken
+pub mod HistoryRead

@@ -213,9 +213,8 @@ each-furthest config cpu command hold answer can each = record {
 }
   where
     unled : (a : Result Accepted Refusal) → CanAnswer cpu hold a → (stretch : Stretch) → a ≡ Ok (Reaches stretch) → ⊥
-    unled (Err refusal) can stretch same = cc
-    unled (Ok (Done words change)) can stretch same = cc
     unled (Ok (Reaches other)) can stretch same = can
+    unled _ can stretch same = cc
 
 pub is_answer : (config : Config) (cpu : ℕ) (command : Command) (hold : Hold) (answer : Result Accepted Refusal) → CanAnswer cpu hold answer
     → ((w : Whole config cpu hold) → outcome (state config cpu hold w) cpu (call_of command) ≡ answer)

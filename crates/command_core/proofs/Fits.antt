@@ -3,7 +3,8 @@ use Rattle.std.proofs.Common.{◌≡◌, ℕ, ◌+◌, ◌*◌, ◌/◌, ◌^◌
 use Rattle.std.specs.Prelude.{IsTrue, nat_le, nat_lt, ◌%◌, is_some}
 use Rattle.std.proofs.lemmas.Bool.{false≢true, and_parts, and_from, ltb-true}
 use Rattle.std.proofs.lemmas.Bool.Decides.{nat_tests}
-use Rattle.rmm_spec.specs.HistoryText.{Config}
+use Rattle.rmm_spec.specs.HistoryText.{Config, granule_limit}
+use Rattle.rmm_spec.specs.declared.version.Version.TheVariants.{Large}
 use Rattle.rmm_spec.specs.declared.change.Change.{Change}
 use Rattle.rmm_spec.specs.declared.change.Change.TheVariants.{Unchanged, Retagged, RealmMade, RealmDestroyed, RecMade, RecDestroyed, RecordsChanged, TableMade, TableDestroyed, EntriesChanged}
 use Rattle.rmm_spec.specs.declared.change.RealmUpdate.{RealmUpdate}
@@ -48,9 +49,7 @@ realm_update-fits (realm_update.MeasurementExtended index size values) can =
     (eq-eqb (length values) 8 can.3)
 realm_update-fits (realm_update.PageMeasured ipa flags digest) can = eq-eqb (length digest) 4 can
 realm_update-fits (realm_update.RecCounted mpidr flags) can = absurd can
-realm_update-fits realm_update.Activated can = refl
-realm_update-fits realm_update.TurnedOff can = refl
-realm_update-fits (realm_update.StretchMeasured base top) can = refl
+realm_update-fits _ can = refl
 
 rec_update-fits : (s : State) (rec : RecRecord) (u : RecUpdate) → CanUpdateRec s rec u → is_rec_update rec u ≡ true
 rec_update-fits s rec (rec_update.RequestMoved base) can = can.1
@@ -188,24 +187,24 @@ applied-fits config cpu hold w (EntriesChanged rd level entries page realm rec) 
 
 -- ---- a machine's size
 
-more-granule : (granules rd : ℕ) → granules ≤ 4096 → is_granule granules rd ≡ true → is_granule 4096 rd ≡ true
+more-granule : (granules rd : ℕ) → granules ≤ granule_limit Large → is_granule granules rd ≡ true → is_granule (granule_limit Large) rd ≡ true
 unfolding is_granule
 more-granule granules rd few is =
     let parts = and_parts (rd % 4096 == 0) (nat_lt rd (granules * 4096)) is in
     let below = ltb-true rd (granules * 4096) parts.1 in
-    let past : nat_lt rd (4096 * 4096) ≡ true = grind (arith, nat_tests) in
-    and_from (rd % 4096 == 0) (nat_lt rd (4096 * 4096)) parts.0 past
+    let past : nat_lt rd (granule_limit Large * 4096) ≡ true = grind (arith, nat_tests) in
+    and_from (rd % 4096 == 0) (nat_lt rd (granule_limit Large * 4096)) parts.0 past
 
-count-more : (granules : ℕ) (side : Side) (change : Change) → granules ≤ 4096 → can_count granules side change ≡ true → can_count 4096 side change ≡ true
+count-more : (granules : ℕ) (side : Side) (change : Change) → granules ≤ granule_limit Large → can_count granules side change ≡ true → can_count (granule_limit Large) side change ≡ true
 count-more granules side (RecMade rd rec mpidr flags aux0 aux1) few is =
     let parts = and_parts (is_granule granules rd) (nat_le (side.rec_counts rd) granules) is in
     let least = parts.1 in
-    let most : nat_le (side.rec_counts rd) 4096 ≡ true = grind (arith, nat_tests) in
-    and_from (is_granule 4096 rd) (nat_le (side.rec_counts rd) 4096) (more-granule granules rd few parts.0) most
+    let most : nat_le (side.rec_counts rd) (granule_limit Large) ≡ true = grind (arith, nat_tests) in
+    and_from (is_granule (granule_limit Large) rd) (nat_le (side.rec_counts rd) (granule_limit Large)) (more-granule granules rd few parts.0) most
 count-more granules side _ few is = refl
 
 -- what can be made on a machine can be made on a larger one
-pub makes : (config : Config) (held : List HeldCell) (side : Side) (place : CpuPlace) (change : Change) → config.granules ≤ 4096
+pub makes : (config : Config) (held : List HeldCell) (side : Side) (place : CpuPlace) (change : Change) → config.granules ≤ granule_limit Large
     → can_make config held side change ≡ true → CanMake (hold_of held side place) change
 unfolding can_make
 makes config held side place change few is =

@@ -3,7 +3,8 @@ use Rattle.std.proofs.Common.{◌≡◌, ℕ, ◌≤◌, Bool, true, false, not,
 use Rattle.std.specs.Prelude.{is_some}
 use Rattle.std.proofs.lemmas.Bool.{false≢true, and_parts}
 use Rattle.std.proofs.Math.Dec.{leb-zero}
-use Rattle.rmm_spec.specs.HistoryText.{Config}
+use Rattle.rmm_spec.specs.HistoryText.{Config, granule_limit}
+use Rattle.rmm_spec.specs.declared.version.Version.TheVariants.{Large}
 use Rattle.rmm_spec.specs.declared.accepted.Accepted.{Accepted}
 use Rattle.rmm_spec.specs.declared.accepted.Accepted.TheVariants.{Done, Reaches}
 use Rattle.rmm_spec.specs.declared.call.Call.{Call}
@@ -33,7 +34,7 @@ use Rattle.command_core.proofs.Ready.{decision, answer-makes}
 
 -- ---- the answer
 
-settled_answer-makes : (config : Config) (cpu : ℕ) (c : Call) (hold : Hold) → config.granules ≤ 4096
+settled_answer-makes : (config : Config) (cpu : ℕ) (c : Call) (hold : Hold) → config.granules ≤ granule_limit Large
     → CanMakeAnswer hold (settled_answer config cpu c hold.cells hold.side hold.place)
 unfolding settled_answer
 settled_answer-makes config cpu c hold few = by (is_unshaped config c hold.place hold.cells)
@@ -146,7 +147,7 @@ settled-borne_out config cpu c held side place told = by (is_unshaped config c p
         ∙ made_answer-borne_out config held side (rows unlisted) both.1
 
 pub foreseen-decision : (config : Config) (cpu : ℕ) (command : Command) (held : List HeldCell) (side : Side) (place : CpuPlace) (answer : Result Accepted Refusal)
-    → config.granules ≤ 4096 → is_settled config (call_of command) place held ≡ true
+    → config.granules ≤ granule_limit Large → is_settled config (call_of command) place held ≡ true
     → answer ≡ settled_answer config cpu (call_of command) held unlisted place
     → bears_out config.granules side (call_of command) (change_of answer) ≡ true
     → IsDecision config cpu command (hold_of held side place) (given_of answer) (change_of answer)

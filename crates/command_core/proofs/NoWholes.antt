@@ -255,8 +255,7 @@ unshaped-settled config c Outside held unshaped = by (class_of c)
   where
     by : (k : Class) → is_settled_outside k config c held ≡ true
     by ByHost = or_middle (not (words_fit config c) || has_wrong (named c) held) (is_unshaped_outside config c held) (is_all_held config c held (way_taken c)) unshaped
-    by ByRealm = refl
-    by ByExit = refl
+    by _ = refl
 unshaped-settled config c (Inside rec rd) held unshaped = by (class_of c)
   where
     by : (k : Class) → is_settled_inside k config c rec rd held ≡ true

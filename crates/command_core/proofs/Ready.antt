@@ -1,7 +1,8 @@
 -- Where what is held settles a command, it allows a local step, whatever the side table has and whichever CPU it is.
 use Rattle.std.proofs.Common.{◌≡◌, ℕ, ◌≤◌, Bool, true, false, not, ◌||◌, if◌then◌else◌, List, Option, Some, None, Result, Ok, Err, inl, inr, refl, sym, ap, ◌∙◌, subst, [], ◌∷◌}
 use Rattle.std.proofs.lemmas.Bool.{false≢true}
-use Rattle.rmm_spec.specs.HistoryText.{Config}
+use Rattle.rmm_spec.specs.HistoryText.{Config, granule_limit}
+use Rattle.rmm_spec.specs.declared.version.Version.TheVariants.{Large}
 use Rattle.rmm_spec.specs.declared.accepted.Accepted.{Accepted}
 use Rattle.rmm_spec.specs.declared.accepted.Accepted.TheVariants.{Done, Reaches}
 use Rattle.rmm_spec.specs.declared.call.Call.{Call}
@@ -156,7 +157,7 @@ decision config cpu command hold c given answer is settled decided_so same =
     (ap (λ (x : Call). settled_answer config cpu x hold.cells hold.side hold.place) (sym is) ∙ (sym decided_so ∙ same))
     (settled-answered config cpu command hold settled)
 
-change-makes : (config : Config) (hold : Hold) (words : List ℕ) (change : Change) → config.granules ≤ 4096
+change-makes : (config : Config) (hold : Hold) (words : List ℕ) (change : Change) → config.granules ≤ granule_limit Large
     → CanMakeAnswer hold (made_change config hold.cells hold.side (done words change) change)
 change-makes config hold words change few = by (can_make config hold.cells hold.side change) refl
   where
@@ -166,7 +167,7 @@ change-makes config hold words change few = by (can_make config hold.cells hold.
     by false unfit = tt
 
 -- an answer that stands can be made of what is held
-pub answer-makes : (config : Config) (hold : Hold) (rows : Result Accepted Refusal) → config.granules ≤ 4096
+pub answer-makes : (config : Config) (hold : Hold) (rows : Result Accepted Refusal) → config.granules ≤ granule_limit Large
     → CanMakeAnswer hold (made_answer config hold.cells hold.side rows)
 answer-makes config hold (Err refusal) few = tt
 answer-makes config hold (Ok (Done words change)) few = change-makes config hold words.items change few

@@ -22,7 +22,7 @@ use Rattle.rmm_spec.specs.Locks.{is_named, needs, needs_outside, IsRisingTake}
 use Rattle.world_laws.proofs.Members.{Contains-head, Contains-tail, Contains-from_slice_get}
 use Rattle.command_core.proofs.Walked.{taken-way}
 use Rattle.command_core.specs.declared.next.Next.{Next}
-use Rattle.command_core.specs.declared.next.Next.TheVariants.{Take, Free, Ready}
+use Rattle.command_core.specs.declared.next.Next.TheVariants.{Ready}
 use Rattle.command_core.specs.Seen.{cell_in, is_held, are_distinct}
 use Rattle.command_core.specs.Named.{has_wrong, words_fit, is_less, lesser, least_missing, is_upward, is_downward, holds_all}
 use Rattle.walk_laws.specs.SeenState.{table_held, found_or, first_held, table_behind}
@@ -365,15 +365,13 @@ unsettled-steps config c (Inside rec rd) learnt held distinct unsettled = inside
 step-planned : (config : Config) (command : Command) (place : CpuPlace) (learnt : Option ℕ) (held : List HeldCell) (n : Next)
     → IsStep config (call_of command) place (needs place learnt (call_of command)) held n → IsPlanned config command place learnt held n
 step-planned config command place learnt held Ready step = absurd step
-step-planned config command place learnt held (Take granule) step = step
-step-planned config command place learnt held (Free granule rd) step = step
+step-planned config command place learnt held _ step = step
 
 -- a step isn't ready
 step-unready : (config : Config) (c : Call) (place : CpuPlace) (names : List Needed) (held : List HeldCell) (n : Next) → IsStep config c place names held n
     → false ≡ is_ready n
 step-unready config c place names held Ready step = absurd step
-step-unready config c place names held (Take granule) step = refl
-step-unready config c place names held (Free granule rd) step = refl
+step-unready config c place names held _ step = refl
 
 pub next-planned : (config : Config) (command : Command) (place : CpuPlace) (learnt : Option ℕ) (held : List HeldCell)
     → IsTrue (are_distinct (granules_held held)) → IsPlanned config command place learnt held (next config (call_of command) place learnt held)

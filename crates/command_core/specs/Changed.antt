@@ -2,7 +2,8 @@
 -- whole, on the cells that are held. This project's own.
 use Rattle.std.specs.Prelude.{◌≡◌, ℕ, ◌+◌, ◌*◌, ◌/◌, ◌^◌, ◌≤◌, Bool, true, false, ◌&&◌, ◌==◌, nat_lt, nat_le, IsTrue, List, [], ◌∷◌, ◌++◌, length, Option, Some, None, is_some, Result, Ok, Err}
 use Rattle.std.specs.List.{AllByRecursion}
-use Rattle.rmm_spec.specs.HistoryText.{Config}
+use Rattle.rmm_spec.specs.HistoryText.{Config, granule_limit}
+use Rattle.rmm_spec.specs.declared.version.Version.TheVariants.{Large}
 use Rattle.rmm_spec.specs.declared.accepted.Accepted.{Accepted}
 use Rattle.rmm_spec.specs.declared.accepted.Accepted.TheVariants.{Done, Reaches}
 use Rattle.rmm_spec.specs.declared.accepted.Stretch.{Stretch}
@@ -199,10 +200,10 @@ can_count granules side _ = true
 unfoldable pub can_make : Config → List HeldCell → Side → Change → Bool
 can_make config held side change = fits_cells held change && can_count config.granules side change
 
--- a machine has 4096 granules at most
+-- the change fits, and its REC can be counted on a machine of any version
 pub record CanMake (hold : Hold) (change : Change) : Type 0 where
   pub fits : IsTrue (fits_cells hold.cells change)
-  pub counts : IsTrue (can_count 4096 hold.side change)
+  pub counts : IsTrue (can_count (granule_limit Large) hold.side change)
 
 -- ---- decisions
 
@@ -236,6 +237,5 @@ pub record IsAnswer (config : Config) (cpu : ℕ) (command : Command) (hold : Ho
 
 -- where it is no refusal, its change can be made of the records
 abbrev pub CanMakeAnswer : Hold → Result Accepted Refusal → Type 0
-CanMakeAnswer hold (Err refusal) = Unit {0}
 CanMakeAnswer hold (Ok (Done words change)) = CanMake hold change
-CanMakeAnswer hold (Ok (Reaches stretch)) = Unit {0}
+CanMakeAnswer hold _ = Unit {0}

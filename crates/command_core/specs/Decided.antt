@@ -7,13 +7,15 @@ use Rattle.rmm_spec.specs.declared.accepted.Accepted.{Accepted}
 use Rattle.rmm_spec.specs.declared.accepted.Accepted.TheVariants.{Done, Reaches}
 use Rattle.rmm_spec.specs.declared.call.Call.{Call}
 use Rattle.rmm_spec.specs.declared.change.Change.{Change}
+use Rattle.rmm_spec.specs.declared.command.Command.{Command}
 use Rattle.rmm_spec.specs.declared.condition.Condition.TheVariants.{OwnShape}
 use Rattle.rmm_spec.specs.declared.refusal.Refusal.{Refusal}
 use Rattle.rmm_spec.specs.declared.refusal.Refusal.TheVariants.{Misplaced}
+use Rattle.rmm_spec.specs.Call.{call_of}
 use Rattle.rmm_spec.specs.Rows.{done}
 use Rattle.rmm_spec.specs.Step.Ripas.{reached_change}
 use Rattle.rmm_spec.specs.Shape.{Side, CpuPlace, Outside, Inside}
-use Rattle.rmm_spec.specs.Local.{HeldCell}
+use Rattle.rmm_spec.specs.Local.{HeldCell, Hold}
 use Rattle.command_rows.specs.Answers.{outside_answer, inside_answer}
 use Rattle.command_core.specs.Changed.{can_make}
 use Rattle.walk_laws.specs.SeenState.{seen_state}
@@ -46,3 +48,7 @@ unfoldable pub settled_answer : Config → ℕ → Call → List HeldCell → Si
 settled_answer config cpu call held side place =
     if is_unshaped config call place held then Err misshaped
     else made_answer config held side (rows_answer config cpu call held (Some side) place)
+
+-- what is answered to the command on that hold
+abbrev pub answer_on : Config → ℕ → Command → Hold → Result Accepted Refusal
+answer_on config cpu command hold = settled_answer config cpu (call_of command) hold.cells hold.side hold.place

@@ -1,9 +1,9 @@
 -- What is answered to a command while the side table isn't at hand, as if that listed nothing, and which side tables bear it out.
 -- This project's own.
-use Rattle.std.specs.Prelude.{ℕ, Bool, true, ◌&&◌, ◌==◌, nat_le, is_none, Option, Some, None, Result, Ok, Err}
+use Rattle.std.specs.Prelude.{ℕ, Bool, true, ◌&&◌, ◌==◌, nat_le, is_none, Option, Some, None, Result, Ok}
 use Rattle.rmm_spec.specs.HistoryText.{Config}
 use Rattle.rmm_spec.specs.declared.accepted.Accepted.{Accepted}
-use Rattle.rmm_spec.specs.declared.accepted.Accepted.TheVariants.{Done, Reaches}
+use Rattle.rmm_spec.specs.declared.accepted.Accepted.TheVariants.{Done}
 use Rattle.rmm_spec.specs.declared.call.Call.{Call}
 use Rattle.rmm_spec.specs.declared.call.Call.TheVariants.{RealmCreate, RealmDestroy}
 use Rattle.rmm_spec.specs.declared.change.Change.{Change}
@@ -29,8 +29,7 @@ side_or_unlisted (Some side) = side
 -- the change of an answer: a refusal changes nothing
 abbrev pub change_of : Result Accepted Refusal → Change
 change_of (Ok (Done words change)) = change
-change_of (Ok (Reaches stretch)) = Unchanged
-change_of (Err refusal) = Unchanged
+change_of _ = Unchanged
 
 -- the reply with the change is a local step, as far as it may go, and the change can be made of what is held
 pub record IsDecision (config : Config) (cpu : ℕ) (command : Command) (hold : Hold) (given : Reply) (change : Change) : Type 0 where

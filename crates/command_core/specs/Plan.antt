@@ -58,5 +58,4 @@ IsPlanned config command place learnt held (Free granule rd) =
 
 abbrev pub is_ready : Next → Bool
 is_ready Ready = true
-is_ready (Take granule) = false
-is_ready (Free granule rd) = false
+is_ready _ = false

@@ -4,6 +4,8 @@ ghost use Rattle.std.specs.Prelude.{◌≡◌, option_map, option_copied, unwrap
 ghost use Rattle.rmm_spec.specs.Cell as whole;
 ghost use Rattle.world_laws.specs.Replaced.{replaced_all};
 ghost use Rattle.shape_laws.specs.Whole.{side_changed};
+ghost use Rattle.rmm_spec.specs.declared.version.Version.TheVariants.{Large};
+ghost use Rattle.rmm_spec.specs.HistoryText.{granule_limit};
 ghost use Rattle.command_core.specs.Changed as spec;
 ghost use Rattle.command_core.specs.Changed.{hold_of, new_cells, AreHeld, CanMake, can_count};
 ghost use Rattle.command_core.specs.Rooms.{IsRoomFor};
@@ -85,7 +87,7 @@ fn place_with_rec(cell: Option<&Cell>, place: CpuPlace, change: &RecChange) -> C
 /// Makes the change of the side table: of the VMIDs where a realm is made or destroyed, of the counts where a REC is.
 #[tactic(auto, unfolding(shape_laws::specs::Whole::side_changed, realm_desc::specs::View::realm_record, realm_desc::specs::View::rec_record))]
 pub fn apply_aside<H: Held>(held: &H, side: &mut Side, change: &Change)
-    requires { IsTrue (can_count 4096 (side_of side.old) change.now) }
+    requires { IsTrue (can_count (granule_limit Large) (side_of side.old) change.now) }
     ensures { side_of side.new ≡ side_changed (known_cell (H.cells held.now)) (side_of side.old) change.now }
 {
     match *change {

@@ -32,6 +32,10 @@ pub fn decide<H: Held>(
     side: &Side,
 ) -> (Reply, Change)
     requires settled { IsTrue (is_settled config.now (call_of command.now) (place_of place.now) (H.cells held.now)) }
+    ensures given { result.0 ≡ given_of (spec.answer_on config.now cpu command.now
+        (hold_of (H.cells held.now) (side_of side.now) (place_of place.now))) }
+    ensures change { result.1 ≡ change_of (spec.answer_on config.now cpu command.now
+        (hold_of (H.cells held.now) (side_of side.now) (place_of place.now))) }
     ensures decides { Decides config.now cpu command.now
         (hold_of (H.cells held.now) (side_of side.now) (place_of place.now)) result.0 result.1 }
     ensures furthest { IsFurthest config.now cpu command.now

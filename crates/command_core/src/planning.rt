@@ -7,6 +7,10 @@ ghost use Rattle.command_core.specs.Settled.{is_settled};
 ghost use Rattle.command_core.specs.Plan.{IsPlanned, is_ready};
 ghost use Rattle.command_core.specs.Next as spec;
 ghost use Rattle.command_core.specs.Walks as walks;
+ghost use Rattle.rmm_spec.specs.Rows.{all_allowed};
+ghost use Rattle.rmm_spec.specs.Step.Terms as terms;
+ghost use Rattle.command_words.specs.Callers.{class_from};
+ghost use Rattle.command_words.specs.Names.{names_of};
 ghost use Rattle.command_words.specs.Ways.{way_seen};
 
 use crate::held::Held;
@@ -14,8 +18,8 @@ use crate::held_sight::HeldSight;
 use crate::next::Next;
 use crate::settling::is_settled;
 use crate::taking::{is_downward, is_held, is_upward, least_missing};
-use crate::ways::{keeps_realm, way_taken};
-use command_words::{Caller, Name, Way, caller_of, named, needed, one, two};
+use crate::ways::{keeps_realm, way_given};
+use command_words::{Caller, Name, Terms, Way, needed, one, terms_of, two};
 use granule_cells::{Cell, CpuPlace};
 use granule_state::{Config, Pa};
 use realm_desc::Rec;
@@ -194,11 +198,15 @@ fn first_named(names: &[Name]) -> u64
 
 // A command that walks no table takes what it names, and then its parts.
 #[tactic(auto, unfolding(crate::specs::Next::next_with_parts))]
-fn next_with_parts<H: Held>(sight: &HeldSight<'_, H>, call: &Call, learnt: Option<Pa>) -> Next
+fn next_with_parts<H: Held>(
+    sight: &HeldSight<'_, H>,
+    call: &Call,
+    names: &[Name],
+    learnt: Option<Pa>,
+) -> Next
+    requires { names.now ≡ terms.named call.now }
     ensures { result ≡ spec.next_with_parts sight.now.config.now call.now learnt (H.cells sight.now.held.now) }
 {
-    let names = named(call);
-    let names = names.as_slice();
     match *call {
         Call::RealmDestroy { rd } => take_root(sight.config, names, sight.held, Pa::new(rd)),
         Call::RecDestroy { rec } => take_auxes(sight.config, names, sight.held, Pa::new(rec)),
@@ -208,12 +216,11 @@ fn next_with_parts<H: Held>(sight: &HeldSight<'_, H>, call: &Call, learnt: Optio
 }
 
 // A walk begins once all that is named is told.
-fn next_to_walk<H: Held>(sight: &HeldSight<'_, H>, call: &Call, way: &Way) -> Next
+fn next_to_walk<H: Held>(sight: &HeldSight<'_, H>, call: &Call, names: &[Name], way: &Way) -> Next
+    requires { names.now ≡ terms.named call.now }
     ensures { result ≡ spec.next_to_walk sight.now.config.now call.now (H.cells sight.now.held.now) (way_seen way.now) }
 {
     let keeps = keeps_realm(call);
-    let names = named(call);
-    let names = names.as_slice();
     if sight.are_told(call) {
         free_or_take(sight, call, way, names, keeps)
     } else {
@@ -221,12 +228,20 @@ fn next_to_walk<H: Held>(sight: &HeldSight<'_, H>, call: &Call, way: &Way) -> Ne
     }
 }
 
-fn next_outside<H: Held>(sight: &HeldSight<'_, H>, call: &Call, learnt: Option<Pa>) -> Next
+fn next_outside<H: Held>(
+    sight: &HeldSight<'_, H>,
+    call: &Call,
+    said: &Terms,
+    learnt: Option<Pa>,
+) -> Next
+    requires allowed { said.now.allowed ≡ all_allowed (terms.words_of call.now) }
+    requires names { names_of said.now.names ≡ terms.named call.now }
     ensures { result ≡ spec.next_outside sight.now.config.now call.now learnt (H.cells sight.now.held.now) }
 {
-    match way_taken(call) {
-        None => next_with_parts(sight, call, learnt),
-        Some(way) => next_to_walk(sight, call, &way),
+    let names = said.names.as_slice();
+    match way_given(call, said.allowed) {
+        None => next_with_parts(sight, call, names, learnt),
+        Some(way) => next_to_walk(sight, call, names, &way),
     }
 }
 
@@ -249,7 +264,14 @@ fn next_to_read<H: Held>(
 }
 
 // An exit takes the REC alone.
-fn next_inside<H: Held>(sight: &HeldSight<'_, H>, call: &Call, rec: Pa, rd: Pa) -> Next
+fn next_inside<H: Held>(
+    sight: &HeldSight<'_, H>,
+    call: &Call,
+    caller: Caller,
+    rec: Pa,
+    rd: Pa,
+) -> Next
+    requires { class_from caller ≡ class_of call.now }
     ensures { result ≡ spec.next_inside (class_of call.now) sight.now.config.now call.now rec rd (H.cells sight.now.held.now) }
 {
     let names = two(
@@ -257,7 +279,7 @@ fn next_inside<H: Held>(sight: &HeldSight<'_, H>, call: &Call, rec: Pa, rd: Pa) 
         needed(rd.address(), Tag::Rd),
     );
     let names = names.as_slice();
-    match caller_of(call) {
+    match caller {
         Caller::Host => take_least(sight, true, names, rec.address()),
         Caller::Realm => next_to_read(sight, call, rec, rd, names),
         Caller::Rec => take_named(sight.config, names, sight.held, rec.address()),
@@ -273,12 +295,13 @@ fn next_for<H: Held>(
 ) -> Next
     ensures { result ≡ spec.next sight.now.config.now call.now (place_of place.now) learnt (H.cells sight.now.held.now) }
 {
-    if is_settled(sight.config, call, place, sight.held) {
+    let said = terms_of(call);
+    if is_settled(sight.config, call, &said, place, sight.held) {
         return Next::Ready;
     }
     match *place {
-        CpuPlace::Outside => next_outside(sight, call, learnt),
-        CpuPlace::Inside { rec, rd } => next_inside(sight, call, rec, rd),
+        CpuPlace::Outside => next_outside(sight, call, &said, learnt),
+        CpuPlace::Inside { rec, rd } => next_inside(sight, call, said.caller, rec, rd),
     }
 }
 

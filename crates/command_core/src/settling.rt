@@ -4,20 +4,22 @@ ghost use Rattle.std.specs.Prelude.{◌≡◌, ◌||◌, option_map, option_copi
 ghost use Rattle.std.specs.List.{list_all};
 ghost use Rattle.rmm_spec.specs.Call.{class_of};
 ghost use Rattle.rmm_spec.specs.Lookup.{is_granule};
-ghost use Rattle.rmm_spec.specs.Rows.{Needed};
+ghost use Rattle.rmm_spec.specs.Rows.{Needed, all_allowed};
 ghost use Rattle.command_core.specs.Named as named;
 ghost use Rattle.command_core.specs.Seen.{cell_of, cell_in, place_of};
 ghost use Rattle.command_core.specs.Settled as spec;
 ghost use Rattle.command_core.specs.Unshaped.{is_unshaped_outside};
 ghost use Rattle.command_core.specs.Walks.{way_taken, way_inside};
 ghost use Rattle.rmm_spec.specs.Step.Terms as step_named;
+ghost use Rattle.command_words.specs.Callers.{class_from};
+ghost use Rattle.command_words.specs.Names.{names_of};
 
 use crate::held::Held;
 use crate::held_sight::HeldSight;
 use crate::taking::{has_wrong, holds_all, is_granule, is_held};
 use crate::unshaped::{self, is_misfit};
-use crate::ways::way_taken;
-use command_words::{Caller, Name, caller_of, named, words_allow};
+use crate::ways::way_given;
+use command_words::{Caller, Name, Terms};
 use granule_cells::{Cell, CpuPlace};
 use granule_state::{Config, Pa};
 use rmm_spec::Call;
@@ -27,15 +29,6 @@ fn are_granules(config: &Config, names: &[Name]) -> bool
     ensures { result ≡ list_all (λ (n : Needed). is_granule config.now.granules n.granule) names.now }
 {
     names.iter().all(|name| is_granule(config, name.granule))
-}
-
-// Whether the words allow it, and each granule that is named is one.
-#[tactic(auto, unfolding(crate::specs::Named::words_fit))]
-fn words_fit(config: &Config, call: &Call, names: &[Name]) -> bool
-    requires { names.now ≡ step_named.named call.now }
-    ensures { result ≡ named.words_fit config.now call.now }
-{
-    words_allow(call) && are_granules(config, names)
 }
 
 #[tactic(auto, unfolding(realm_desc::specs::View::realm_record))]
@@ -92,36 +85,47 @@ fn is_complete<H: Held>(call: &Call, names: &[Name], held: &H) -> bool
 }
 
 // Whether all is held that the rows read, and its walk is over where it walks.
-fn is_all_held<H: Held>(sight: &HeldSight<'_, H>, call: &Call, names: &[Name]) -> bool
-    requires { names.now ≡ step_named.named call.now }
+fn is_all_held<H: Held>(
+    sight: &HeldSight<'_, H>,
+    call: &Call,
+    allowed: bool,
+    names: &[Name],
+) -> bool
+    requires allowed { allowed ≡ all_allowed (step_named.words_of call.now) }
+    requires names { names.now ≡ step_named.named call.now }
     ensures { result ≡ spec.is_all_held sight.now.config.now call.now (H.cells sight.now.held.now) (way_taken call.now) }
 {
-    match way_taken(call) {
+    match way_given(call, allowed) {
         None => is_complete(call, names, sight.held),
         Some(way) => sight.is_walk_over(call, &way),
     }
 }
 
 // What settles a host's command but its words.
-fn is_met<H: Held>(sight: &HeldSight<'_, H>, call: &Call, names: &[Name]) -> bool
-    requires { names.now ≡ step_named.named call.now }
+fn is_met<H: Held>(sight: &HeldSight<'_, H>, call: &Call, allowed: bool, names: &[Name]) -> bool
+    requires allowed { allowed ≡ all_allowed (step_named.words_of call.now) }
+    requires names { names.now ≡ step_named.named call.now }
     ensures { result ≡ (named.has_wrong (step_named.named call.now) (H.cells sight.now.held.now)
         || is_unshaped_outside sight.now.config.now call.now (H.cells sight.now.held.now)
         || spec.is_all_held sight.now.config.now call.now (H.cells sight.now.held.now) (way_taken call.now)) }
 {
     has_wrong(names, sight.held)
         || unshaped::is_unshaped_outside(sight, call)
-        || is_all_held(sight, call, names)
+        || is_all_held(sight, call, allowed, names)
 }
 
-fn is_settled_outside<H: Held>(sight: &HeldSight<'_, H>, call: &Call) -> bool
+#[tactic(auto, unfolding(crate::specs::Named::words_fit))]
+fn is_settled_outside<H: Held>(sight: &HeldSight<'_, H>, call: &Call, terms: &Terms) -> bool
+    requires caller { class_from terms.now.caller ≡ class_of call.now }
+    requires allowed { terms.now.allowed ≡ all_allowed (step_named.words_of call.now) }
+    requires names { names_of terms.now.names ≡ step_named.named call.now }
     ensures { result ≡ spec.is_settled_outside (class_of call.now) sight.now.config.now call.now (H.cells sight.now.held.now) }
 {
-    match caller_of(call) {
+    match terms.caller {
         Caller::Host => {
-            let names = named(call);
-            let names = names.as_slice();
-            !words_fit(sight.config, call, names) || is_met(sight, call, names)
+            let names = terms.names.as_slice();
+            !(terms.allowed && are_granules(sight.config, names))
+                || is_met(sight, call, terms.allowed, names)
         }
         Caller::Realm | Caller::Rec => true,
     }
@@ -137,10 +141,17 @@ fn is_read_over<H: Held>(sight: &HeldSight<'_, H>, call: &Call, rec: Pa, rd: Pa)
     }
 }
 
-fn is_settled_inside<H: Held>(sight: &HeldSight<'_, H>, call: &Call, rec: Pa, rd: Pa) -> bool
+fn is_settled_inside<H: Held>(
+    sight: &HeldSight<'_, H>,
+    call: &Call,
+    caller: Caller,
+    rec: Pa,
+    rd: Pa,
+) -> bool
+    requires { class_from caller ≡ class_of call.now }
     ensures { result ≡ spec.is_settled_inside (class_of call.now) sight.now.config.now call.now rec rd (H.cells sight.now.held.now) }
 {
-    match caller_of(call) {
+    match caller {
         Caller::Host => true,
         Caller::Realm => {
             is_misfit(sight, call, rec, rd)
@@ -157,9 +168,13 @@ fn is_settled_inside<H: Held>(sight: &HeldSight<'_, H>, call: &Call, rec: Pa, rd
 pub(crate) fn is_settled<'a, H: Held>(
     config: &'a Config,
     call: &Call,
+    terms: &Terms,
     place: &CpuPlace,
     held: &'a H,
 ) -> bool
+    requires caller { class_from terms.now.caller ≡ class_of call.now }
+    requires allowed { terms.now.allowed ≡ all_allowed (step_named.words_of call.now) }
+    requires names { names_of terms.now.names ≡ step_named.named call.now }
     ensures { result ≡ spec.is_settled config.now call.now (place_of place.now) (H.cells held.now) }
 {
     let sight = HeldSight {
@@ -168,7 +183,7 @@ pub(crate) fn is_settled<'a, H: Held>(
         side: None,
     };
     match *place {
-        CpuPlace::Outside => is_settled_outside(&sight, call),
-        CpuPlace::Inside { rec, rd } => is_settled_inside(&sight, call, rec, rd),
+        CpuPlace::Outside => is_settled_outside(&sight, call, terms),
+        CpuPlace::Inside { rec, rd } => is_settled_inside(&sight, call, terms.caller, rec, rd),
     }
 }

@@ -17,5 +17,5 @@ pub use name_list::{Name, Names};
 pub use names::{is_tag, needed, one, two};
 pub use placement::misplacement;
 pub use rmm_spec::{Call, Tag};
-pub use terms::{Way, caller_for, caller_of, named, way_of, words_allow};
+pub use terms::{Terms, Way, caller_for, caller_of, named, terms_of, way_of, words_allow};
 pub use words::{algorithm_in, are_apart, is_aligned, is_host_page, is_page, is_space, is_width};

@@ -20,6 +20,7 @@ impl Names {
 }
 
 /// A name.
+#[inline(always)]
 pub fn needed(granule: u64, tag: Tag) -> Name
     ensures { result ≡ spec.needed granule tag }
 {
@@ -27,6 +28,7 @@ pub fn needed(granule: u64, tag: Tag) -> Name
 }
 
 /// No names, with one that fills the list.
+#[inline(always)]
 pub(crate) fn none() -> Names
     ensures { names_of result ≡ [] }
 {
@@ -38,6 +40,7 @@ pub(crate) fn none() -> Names
 }
 
 /// One name.
+#[inline(always)]
 pub fn one(first: Name) -> Names
     ensures { names_of result ≡ first ∷ [] }
 {
@@ -48,6 +51,7 @@ pub fn one(first: Name) -> Names
 }
 
 /// Two names.
+#[inline(always)]
 pub fn two(first: Name, second: Name) -> Names
     ensures { names_of result ≡ first ∷ second ∷ [] }
 {
@@ -58,6 +62,7 @@ pub fn two(first: Name, second: Name) -> Names
 }
 
 /// Three names.
+#[inline(always)]
 pub(crate) fn three(first: Name, second: Name, third: Name) -> Names
     ensures { names_of result ≡ first ∷ second ∷ third ∷ [] }
 {
@@ -68,6 +73,7 @@ pub(crate) fn three(first: Name, second: Name, third: Name) -> Names
 }
 
 /// Four names.
+#[inline(always)]
 pub(crate) fn four(first: Name, second: Name, third: Name, fourth: Name) -> Names
     ensures { names_of result ≡ first ∷ second ∷ third ∷ fourth ∷ [] }
 {

@@ -17,12 +17,13 @@ use rmm_spec::{Call, FunctionId, Tag};
 
 /// Who gives a command, whether its words allow it, whatever the state, and which granules it names.
 #[derive(Clone, Copy)]
-pub(crate) struct Terms {
-    pub(crate) caller: Caller,
-    pub(crate) allowed: bool,
-    pub(crate) names: Names,
+pub struct Terms {
+    pub caller: Caller,
+    pub allowed: bool,
+    pub names: Names,
 }
 
+#[inline(always)]
 fn by_host(allowed: bool, names: Names) -> Terms
     ensures caller { class_from result.caller ≡ spec.ByHost }
     ensures allowed { result.allowed ≡ allowed }
@@ -36,6 +37,7 @@ fn by_host(allowed: bool, names: Names) -> Terms
 }
 
 // A realm's call names nothing.
+#[inline(always)]
 fn by_realm(allowed: bool) -> Terms
     ensures caller { class_from result.caller ≡ spec.ByRealm }
     ensures allowed { result.allowed ≡ allowed }
@@ -49,6 +51,7 @@ fn by_realm(allowed: bool) -> Terms
 }
 
 // A host's command that names its realm, and nothing else.
+#[inline(always)]
 fn on_realm(rd: u64, allowed: bool) -> Terms
     ensures caller { class_from result.caller ≡ spec.ByHost }
     ensures allowed { result.allowed ≡ allowed }
@@ -60,7 +63,7 @@ fn on_realm(rd: u64, allowed: bool) -> Terms
 /// What a command says.
 #[inline(always)]
 #[tactic(auto, unfolding(rmm_spec::specs::Step::Terms::class_of, rmm_spec::specs::Step::Terms::words_of, rmm_spec::specs::Step::Terms::named))]
-pub(crate) fn terms_of(call: &Call) -> Terms
+pub fn terms_of(call: &Call) -> Terms
     ensures caller { class_from result.caller ≡ spec.class_of call.now }
     ensures allowed { result.allowed ≡ all_allowed (spec.words_of call.now) }
     ensures names { names_of result.names ≡ spec.named call.now }

@@ -60,7 +60,7 @@ pub fn algorithm_in(version: Version, algo: u64) -> Option<HashAlgorithm>
 {
     match (version, algo) {
         (_, 0) => Some(HashAlgorithm::Sha256),
-        (Version::Two, 1) => Some(HashAlgorithm::Sha512),
+        (Version::Two | Version::Large, 1) => Some(HashAlgorithm::Sha512),
         _ => None,
     }
 }

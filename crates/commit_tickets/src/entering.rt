@@ -3,6 +3,8 @@
 ghost use Rattle.std.specs.Prelude.{◌≡◌, ◌+◌, ◌<◌, ◌≤◌, [], ◌∷◌, ◌++◌, length, None, Err, IsTrue, IfOk, IfErr, OnOk, OnErr};
 ghost use Rattle.rmm_spec.specs.Call.{call_of};
 ghost use Rattle.shape_laws.specs.Whole.{side_changed};
+ghost use Rattle.rmm_spec.specs.declared.version.Version.TheVariants.{Large};
+ghost use Rattle.rmm_spec.specs.HistoryText.{granule_limit};
 ghost use Rattle.command_core.specs.Changed.{can_count, given_of};
 ghost use Rattle.command_core.specs.Foreseen as spec;
 ghost use Rattle.command_core.specs.Foreseen.{IsDecision};
@@ -83,7 +85,7 @@ pub(crate) fn enter<S: Site>(
 
 // The side table's part of what an answer changes.
 fn change_aside(hold: &Hold, side: &mut Side, answer: &Result<Accepted, Refusal>)
-    requires { IsTrue (can_count 4096 (side_of side.old) (spec.change_of answer.now)) }
+    requires { IsTrue (can_count (granule_limit Large) (side_of side.old) (spec.change_of answer.now)) }
     ensures { side_of side.new ≡ side_changed (known_cell (hold_cells hold.now)) (side_of side.old) (spec.change_of answer.now) }
 {
     apply_aside(hold, side, change_of(answer));

@@ -12,6 +12,7 @@ mod sink;
 mod source;
 mod taker;
 mod text;
+mod until;
 
 pub use file::FileSource;
 pub use line_sink::LineSink;
@@ -20,3 +21,4 @@ pub use sink::{Sink, WriteError, write_whole};
 pub use source::{ReadError, Source};
 pub use taker::{Taker, read_whole};
 pub use text::read_text;
+pub use until::{Sated, read_until};

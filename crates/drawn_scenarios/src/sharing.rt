@@ -1,9 +1,12 @@
 //! How the CPUs of a machine share its granules.
 
-ghost use Rattle.std.specs.Prelude.{◌<◌, ◌≤◌, ◌^◌};
+ghost use Rattle.std.specs.Prelude.{◌<◌, ◌≤◌, ◌*◌, ◌^◌};
+ghost use Rattle.rmm_spec.specs.declared.version.Version.TheVariants.{One};
+ghost use Rattle.rmm_spec.specs.HistoryText.{granule_limit};
 
 use crate::dice::Dice;
-use granule_state::Config;
+use granule_state::{Config, granule_limit};
+use rmm_spec::Version;
 
 /// Which granules a CPU draws from.
 #[derive(Clone, Copy)]
@@ -15,8 +18,8 @@ pub struct Sharing {
     strays: Strays,
     // without a look at the machine one of so many addresses is drawn
     halves: u64,
-    ghost low: { apart ≤ 4096 },
-    ghost few: { home ≤ 8192 },
+    ghost low: { apart ≤ granule_limit One },
+    ghost few: { home ≤ 2 * granule_limit One },
     ghost some: { 0 < home },
     ghost addresses: { 0 < halves },
 }
@@ -73,7 +76,7 @@ impl Sharing {
     pub fn all(config: &Config) -> Sharing {
         Sharing {
             apart: 0,
-            home: config.granules(),
+            home: drawn_from(config),
             strays: Strays::Past(0),
             halves: config.granules() * 2 + 16,
         }
@@ -117,7 +120,16 @@ impl Sharing {
 // How many granules there are for each CPU, or one.
 fn part_of(config: &Config) -> u64
     ensures some { 0 < result }
-    ensures few { result ≤ 4096 }
+    ensures few { result ≤ granule_limit One }
 {
-    (config.granules() / u64::from(config.cpus())).max(1)
+    (drawn_from(config) / u64::from(config.cpus())).max(1)
+}
+
+// How many granules a scenario can draw from.
+fn drawn_from(config: &Config) -> u64
+    ensures some { 0 < result }
+    ensures few { result ≤ granule_limit One }
+{
+    let (granules, most) = (config.granules(), granule_limit(Version::One));
+    if granules < most { granules } else { most }
 }

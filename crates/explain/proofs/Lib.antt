@@ -1,9 +1,13 @@
 pub mod Calls
 pub mod Counts
-pub mod Four
+pub mod Decisions
 pub mod GoodLines
 pub mod Lines
 pub mod Owners
+pub mod Refusals
+pub mod Replaying
+pub mod Sinces
 pub mod Tags
 pub mod TextLines
-pub mod Ways
+pub mod Tracks
+pub mod Words

@@ -1,5 +1,5 @@
 -- What an explanation says of two texts.
-use Rattle.std.specs.Prelude.{◌≡◌, ◌≢◌, ◌⊎◌, ℕ, ◌+◌, ◌-◌, ◌<◌, ◌≤◌, List, [], ◌∷◌, ◌++◌, length, take, slice_get, Some, IfSome}
+use Rattle.std.specs.Prelude.{◌≡◌, ◌≢◌, ◌⊎◌, ℕ, ◌+◌, ◌-◌, ◌<◌, ◌≤◌, List, [], ◌∷◌, ◌++◌, length, take, slice_get, Some}
 use Rattle.std.specs.List.{filter}
 use Rattle.rmm_spec.specs.declared.line.Line.{Line}
 use Rattle.rmm_spec.specs.Call.{call_of}
@@ -11,7 +11,6 @@ use Rattle.rmm_spec.specs.Step.{outcome}
 use Rattle.rmm_spec.specs.Linearization.{ReturnsBefore, IsReplyOf}
 use Rattle.rmm_spec.specs.FirstFault.{Passes}
 use Rattle.spec_machine.specs.Report.{AddsOwners}
-use Rattle.told.specs.declared.named_call.EarlierStep.{EarlierStep}
 use Rattle.told.specs.declared.explanation.Cause.{Cause}
 use Rattle.told.specs.declared.explanation.Cause.TheVariants as cause
 use Rattle.told.specs.declared.explanation.Explanation.{Explanation}
@@ -23,18 +22,16 @@ use Rattle.told.specs.declared.flaw.Misplaced.TheVariants as misplaced
 use Rattle.bad_lines.specs.Wrong.{IsCertificateLine, IsEventLine, IsHeader, IsHeaderOf, IsWrong}
 use Rattle.told.specs.declared.explanation.RefusedLine.{RefusedLine}
 use Rattle.told.specs.declared.explanation.Summary.{Summary}
-use Rattle.explain.specs.Facts.{AreFacts}
+use Rattle.explain.specs.declared.watch.Watch.{Watch}
+use Rattle.explain.specs.Deciding.{IsDecision}
 use Rattle.explain.specs.Told.{IsTold, NamesAt, is_call}
+use Rattle.explain.specs.Watch.{IsSince}
 pub use Rattle.told.specs.Verdict.{reason_of, verdict_of}
 
 -- ---- what stands behind it
 
--- the line of an earlier step names the call
-abbrev pub IsEarlier : History → List Line → ℕ → EarlierStep → Type 0
-IsEarlier history lines step earlier =
-    NamesAt lines earlier.step earlier.call.cpu earlier.call.number × IsTold history.events earlier.call × (earlier.step < step)
-
--- The line claims the reply of the call, and the specified answer is the machine's in the state that the lines before lead to.
+-- The line claims the reply of the call, and the specified answer is the machine's in the state that the lines before lead to. What decides
+-- is so there, and since the step that is told.
 pub record IsRefused (history : History) (lines : List Line) (step : ℕ) (refused : RefusedLine) : Type 0 where
   pub index : ℕ
   pub counted : step ≡ index + 1
@@ -42,10 +39,11 @@ pub record IsRefused (history : History) (lines : List Line) (step : ℕ) (refus
   pub is_line : slice_get lines index ≡ Some line
   pub claims : IsReplyOf history.events line refused.claimed
   pub old : State
-  pub before : Passes history (take index lines) old
+  pub passes : Passes history (take index lines) old
   pub specifies : refused.specified ≡ outcome old refused.call.cpu (call_of refused.call.call.command)
-  pub facts : AreFacts old refused.call.cpu (call_of refused.call.call.command) refused.specified refused.facts
-  pub changed : IfSome refused.changed (IsEarlier history lines step)
+  pub watched : Watch
+  pub decides : IsDecision old refused.call.cpu refused.call.call.command refused.specified refused.claimed refused.deciding watched
+  pub since : IsSince history lines index watched refused.since
 
 -- of the line that fails, and of the calls that it is about
 abbrev pub IsCause : Cause → History → List Line → ℕ → Type 0
@@ -124,5 +122,5 @@ IsExplained (explanation.HistoryFault bad) history certificate =
     IsLineIn history bad.line bad.bytes.now × IsHistoryFlaw bad.flaw history bad.line (parts_of bad.bytes.now)
 IsExplained (explanation.CertificateFault bad) history certificate =
     IsLineIn certificate bad.line bad.bytes.now × IsCertificateFlaw bad.flaw certificate bad.line (parts_of bad.bytes.now)
-IsExplained (explanation.Yes summary) history certificate = Explains history certificate (λ h lines. IsSummary h lines summary)
-IsExplained (explanation.No step cause) history certificate = Explains history certificate (λ h lines. IsCause cause h lines step)
+IsExplained (explanation.Yes summary unfinished) history certificate = Explains history certificate (λ h lines. IsSummary h lines summary)
+IsExplained (explanation.No step cause unfinished) history certificate = Explains history certificate (λ h lines. IsCause cause h lines step)

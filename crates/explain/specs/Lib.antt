@@ -1,4 +1,6 @@
 pub mod Told
-pub mod Facts
+pub mod Watch
+pub mod Track
+pub mod Deciding
 pub mod Explained
 pub mod Run

@@ -13,5 +13,5 @@ IsRunOf history certificate run = IsHistoryText history run.history.recorded × 
 abbrev pub has_run : Explanation → Bool
 has_run (HistoryFault flaw) = false
 has_run (CertificateFault flaw) = false
-has_run (Yes summary) = true
-has_run (No step cause) = true
+has_run (Yes summary unfinished) = true
+has_run (No step cause unfinished) = true

@@ -1,10 +1,13 @@
 -- What is told of a call, and of the lines that name it.
-use Rattle.std.specs.Prelude.{◌≡◌, ℕ, ◌+◌, ◌<◌, Bool, true, false, List, slice_get, Some}
+use Rattle.std.specs.Prelude.{◌≡◌, ℕ, ◌+◌, ◌<◌, Bool, true, false, List, take, slice_get, Some}
 use Rattle.rmm_spec.specs.declared.command.Command.{Command}
 use Rattle.rmm_spec.specs.declared.event.Event.{Event}
 use Rattle.rmm_spec.specs.declared.event.Event.TheVariants.{Called, Returned}
 use Rattle.rmm_spec.specs.declared.line.Line.{Line}
+use Rattle.rmm_spec.specs.FirstFault.{Passes}
+use Rattle.rmm_spec.specs.HistoryText.{History}
 use Rattle.rmm_spec.specs.Linearization.{IsCalled, cpu_named, number_named}
+use Rattle.rmm_spec.specs.State.{State}
 use Rattle.history.specs.Calls.{IsCallOf}
 use Rattle.told.specs.declared.named_call.NamedCall.{NamedCall}
 
@@ -43,3 +46,10 @@ NamesAt lines step cpu number = (index : ℕ) × (step ≡ index + 1) × IsLineF
 -- there is a line of the step
 abbrev pub IsStep : List Line → ℕ → Type 0
 IsStep lines step = (index : ℕ) × (line : Line) × (step ≡ index + 1) × (slice_get lines index ≡ Some line)
+
+-- some lines of the order pass, and more of them than come before the index
+pub record IsPassing (history : History) (lines : List Line) (index : ℕ) : Type 0 where
+  pub last : State
+  pub count : ℕ
+  pub below : index < count
+  pub passes : Passes history (take count lines) last

@@ -1,6 +1,6 @@
 //! Why a step fails.
 
-ghost use Rattle.std.specs.Prelude.{◌≡◌, ℕ, ◌+◌, take, slice_get, Some, IfOk};
+ghost use Rattle.std.specs.Prelude.{◌≡◌, ℕ, ◌+◌, ◌≤◌, length, take, slice_get, Some, IfOk};
 ghost use Rattle.certificate.specs.LineRef.{line_seen};
 ghost use Rattle.checker.specs.Judged.{IsLeftBy};
 ghost use Rattle.explain.specs.Explained.{IsCause, reason_of};
@@ -9,23 +9,30 @@ ghost use Rattle.rmm_spec.specs.declared.verdict.Reason.TheVariants as reason;
 ghost use Rattle.rmm_spec.specs.declared.verdict.Verdict.TheVariants as verdict;
 ghost use Rattle.rmm_spec.specs.declared.reply.Reply.{Reply};
 ghost use Rattle.rmm_spec.specs.Linearization.{IsFinished, IsKnown, IsNamed, IsOfItsKind, IsReplyOf, IsReturned, IsTooLate, NamesCall, cpu_named, number_named};
-ghost use Rattle.rmm_spec.specs.HistoryText.{History as Recorded};
-ghost use Rattle.rmm_spec.specs.FirstFault.{FirstFault, Passes};
+ghost use Rattle.rmm_spec.specs.HistoryText.{History as Recorded, IsHistory};
+ghost use Rattle.rmm_spec.specs.FirstFault.{FirstFault, IsRefused, Passes};
+ghost use Rattle.rmm_spec.specs.Call.{call_of};
+ghost use Rattle.rmm_spec.specs.State.{State};
+ghost use Rattle.rmm_spec.specs.Step.{Step, outcome};
 ghost use Rattle.spec_machine.specs.View.{state_of};
+ghost use Rattle.explain.specs.declared.watch.Watch.{Watch as Watched};
+ghost use Rattle.explain.specs.Deciding.{IsDecision};
+ghost use Rattle.explain.specs.Watch.{IsSince};
 
-use crate::changed::{last_change, part_read};
+use crate::before::state_before;
+use crate::deciding::decision_of;
 use crate::earlier::{called_by, line_made_after, line_naming};
-use crate::facts::facts_of;
 use crate::farthest::farthest_end;
 use crate::named_call::named_call;
+use crate::steps::{Steps, steps_of};
 use certificate::{Certificate, LineRef};
 use checker::Reason;
 use history::History;
 use rmi_view::copied_reply;
-use rmm_spec::Reply;
+use rmm_spec::{Accepted, Refusal, Reply};
 use spec_machine::Machine;
 use std::alloc::{AllocError, Global};
-use told::{Cause, RefusedLine};
+use told::{Cause, Deciding, NamedCall, RefusedLine, StateBefore};
 
 /// Why the step fails, with the calls that it is about. The machine is as the lines before the step leave it.
 pub(crate) fn cause_of(
@@ -56,6 +63,7 @@ pub(crate) fn cause_of(
             Ok(order(history, certificate, index, line))
         }
         Reason::Reply => {
+            history.well_formed();
             let (index, line) = failing_line(certificate, step);
             refused(alloc, history, certificate, machine, index, line)
         }
@@ -157,29 +165,87 @@ fn refused(
     index: usize,
     line: LineRef<'_>,
 ) -> Result<Cause, AllocError>
+    requires is_history { IsHistory history.now.recorded }
     requires is_line { slice_get certificate.now.lines index ≡ Some (line_seen line) }
     requires known { NamesCall history.now.recorded.events (line_seen line) }
     requires kind { IsOfItsKind history.now.recorded.events (line_seen line) }
     requires left { Passes history.now.recorded (take index certificate.now.lines) (state_of machine.now) }
+    requires refuses { IsRefused history.now.recorded.events (state_of machine.now) (line_seen line) }
     ensures reason { IfOk result (λ cause. reason_of cause ≡ reason.Reply) }
     ensures cause { IfOk result (λ cause. IsCause cause history.now.recorded certificate.now.lines (index + 1)) }
 {
     let (cpu, number) = called_by(line);
     let call = named_call(history, cpu, number);
-    let specified = machine.outcome(cpu, &call.call.command);
-    let facts = facts_of(alloc, machine, cpu, &call.call.command, &specified)?;
-    let changed = match part_read(&call.call.command, &specified, facts) {
-        Some(part) => last_change(alloc, history, certificate, index, part)?,
-        None => None,
-    };
+    let claimed = claimed_by(history, line);
+    let specified = machine.outcome(call.cpu, &call.call.command);
+    let told = told_of(
+        alloc,
+        history,
+        certificate,
+        machine,
+        index,
+        &call,
+        &specified,
+        &claimed,
+    )?;
+    let farthest = farthest_end(machine, &specified);
+    let Told {
+        deciding,
+        steps,
+        before,
+    } = told;
+    let Steps { since, put, late } = steps;
     Ok(Cause::Reply(RefusedLine {
         call,
-        claimed: claimed_by(history, line),
-        farthest: farthest_end(machine, cpu, &specified),
+        claimed,
         specified,
-        facts,
-        changed,
+        deciding,
+        since,
+        put,
+        late,
+        before,
+        farthest,
     }))
+}
+
+// What is told of a refused line besides its replies.
+#[derive(Drop)]
+struct Told {
+    deciding: Deciding,
+    steps: Steps,
+    before: StateBefore,
+}
+
+// What decides that the claimed reply isn't the specified one, with the steps that it is about and the state before.
+fn told_of(
+    alloc: Global,
+    history: &History,
+    certificate: &Certificate,
+    machine: &Machine,
+    index: usize,
+    call: &NamedCall,
+    specified: &Result<Accepted, Refusal>,
+    claimed: &Reply,
+) -> Result<Told, AllocError>
+    requires within { index ≤ length certificate.now.lines }
+    requires left { Passes history.now.recorded (take index certificate.now.lines) (state_of machine.now) }
+    requires specified { specified.now ≡ outcome (state_of machine.now) call.now.cpu (call_of call.now.call.command) }
+    requires refused { (next : State) → ¬ Step (state_of machine.now) call.now.cpu call.now.call.command claimed.now next }
+    ensures { IfOk result (λ told. (watched : Watched)
+        × IsDecision (state_of machine.now) call.now.cpu call.now.call.command specified.now claimed.now told.deciding watched
+        × IsSince history.now.recorded certificate.now.lines index watched told.steps.since) }
+{
+    let command = &call.call.command;
+    let mut owners = Vec::new(alloc);
+    machine.owner_report(&mut owners)?;
+    let rows = owners.as_slice();
+    let decision = decision_of(alloc, machine, rows, call.cpu, command, specified, claimed)?;
+    let steps = steps_of(alloc, history, certificate, machine, index, call, &decision)?;
+    Ok(Told {
+        deciding: decision.deciding,
+        steps,
+        before: state_before(machine, rows, call.cpu, &command.call()),
+    })
 }
 
 // The reply that a line of its call's kind claims.

@@ -1,8 +1,8 @@
 //! Lines of a certificate by their index, counted from 0: which call one names, and which one before another it is about.
 
-ghost use Rattle.std.specs.Prelude.{◌≡◌, ◌<◌, ◌≤◌, ◌↔◌, length, take, IsTrue};
+ghost use Rattle.std.specs.Prelude.{◌≡◌, ◌<◌, ◌≤◌, ◌↔◌, length, take, IfNone, IfSome, IsTrue};
 ghost use Rattle.certificate.specs.LineRef.{line_seen};
-ghost use Rattle.explain.specs.Told.{HasLine, IsMadeAfter, IsLineFor, Names};
+ghost use Rattle.explain.specs.Told.{HasLine, IsMadeAfter, IsLineFor, Names, NamesAt};
 ghost use Rattle.rmm_spec.specs.HistoryText.{IsHistory};
 ghost use Rattle.rmm_spec.specs.Linearization.{IsNamed, cpu_named, number_named};
 
@@ -32,6 +32,19 @@ pub(crate) fn line_naming(certificate: &Certificate, index: usize, cpu: u8, numb
         }
     }
     unreachable!()
+}
+
+/// The step of the first line that names the call, where one does.
+pub(crate) fn line_if_any(certificate: &Certificate, cpu: u8, number: u32) -> Option<u64>
+    ensures some { IfSome result (λ step. NamesAt certificate.now.lines step cpu number) }
+    ensures none { IfNone result (¬ HasLine certificate.now.lines (Names cpu number)) }
+{
+    for i in 0..certificate.len() {
+        if names(certificate.line(i), cpu, number) {
+            return Some(i as u64 + 1);
+        }
+    }
+    None
 }
 
 // Whether a line names the call.

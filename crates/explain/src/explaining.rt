@@ -1,12 +1,16 @@
 //! Explains the verdict on two texts.
 
-ghost use Rattle.std.specs.Prelude.{◌≡◌, ◌++◌, [], length, is_some, IfOk, IfSome, OnErr};
+ghost use Rattle.std.specs.Prelude.{◌≡◌, ◌++◌, ℕ, List, [], length, is_some, true, IfOk, IfSome, OnErr};
 ghost use Rattle.std.specs.List.{filter};
 ghost use Rattle.history.specs.Faults.{BeginsWith};
 ghost use Rattle.explain.specs.Explained.{IsExplained, IsFirstLine, IsLineIn, verdict_of};
 ghost use Rattle.explain.specs.Run.{IsRunOf, has_run};
 ghost use Rattle.explain.specs.Told.{is_call};
-ghost use Rattle.rmm_spec.specs.HistoryText.{History as Recorded};
+ghost use Rattle.checker.specs.Judged.{IsLeftBy};
+ghost use Rattle.rmm_spec.specs.declared.verdict.Verdict.TheVariants as verdict;
+ghost use Rattle.rmm_spec.specs.CertificateText.{IsCertificateText};
+ghost use Rattle.rmm_spec.specs.FirstFault.{FirstFault, Passes};
+ghost use Rattle.rmm_spec.specs.HistoryText.{History as Recorded, IsHistoryText};
 ghost use Rattle.rmm_spec.specs.Text.{first_lines};
 ghost use Rattle.spec_machine.specs.Report.{AddsOwners};
 ghost use Rattle.rmm_spec.specs.Judgement.{Judges};
@@ -15,8 +19,9 @@ ghost use Rattle.spec_machine.specs.View.{state_of};
 use crate::cause::cause_of;
 use crate::explained_run::{ExplainedRun, with_run, without_run};
 use crate::flaw::{bad_certificate_line, bad_history_line};
-use certificate::CertFault;
-use checker::{JudgedOrder, Verdict, judged_order};
+use crate::unfinished::unfinished_calls;
+use certificate::{CertFault, Certificate};
+use checker::{JudgedOrder, Reason, Verdict, judged_order};
 use history::{History, HistoryFault};
 use rmi_codec::next_line;
 use spec_machine::Machine;
@@ -56,15 +61,62 @@ pub fn explain_run<'a>(
     let JudgedOrder { verdict, machine } = judged_order(alloc, &recorded, &claimed)?;
     match verdict {
         Verdict::Yes(count) => {
-            let left = summary(alloc, count, &recorded, &machine)?;
-            Ok(with_run(Explanation::Yes(left), recorded, claimed))
+            let told = linearization(alloc, count, &recorded, &claimed, &machine)?;
+            Ok(with_run(told, recorded, claimed))
         }
         Verdict::No { step, reason } => {
-            let cause = cause_of(alloc, &recorded, &claimed, &machine, step, reason)?;
-            Ok(with_run(Explanation::No { step, cause }, recorded, claimed))
+            let told = failing_step(alloc, &recorded, &claimed, &machine, step, reason)?;
+            Ok(with_run(told, recorded, claimed))
         }
         Verdict::HistoryFault(_) | Verdict::CertificateFault(_) => unreachable!(),
     }
+}
+
+// A linearization of so many lines.
+fn linearization<'a>(
+    alloc: Global,
+    count: u64,
+    history: &History,
+    certificate: &Certificate,
+    machine: &Machine,
+) -> Result<Explanation<'a>, AllocError>
+    requires { Passes history.now.recorded certificate.now.lines (state_of machine.now) }
+    ensures verdict { IfOk result (λ told. verdict_of told ≡ verdict.Yes count) }
+    ensures explained { (history_bytes certificate_bytes : List ℕ) → IsHistoryText history_bytes history.now.recorded
+        → IsCertificateText certificate_bytes certificate.now.lines → IfOk result (λ told. IsExplained told history_bytes certificate_bytes) }
+    ensures run { IfOk result (λ told. has_run told ≡ true) }
+{
+    let unfinished = unfinished_calls(alloc, history, certificate)?;
+    let summary = summary(alloc, count, history, machine)?;
+    Ok(Explanation::Yes {
+        summary,
+        unfinished,
+    })
+}
+
+// The step that fails first.
+fn failing_step<'a>(
+    alloc: Global,
+    history: &History,
+    certificate: &Certificate,
+    machine: &Machine,
+    step: u64,
+    reason: Reason,
+) -> Result<Explanation<'a>, AllocError>
+    requires fault { FirstFault reason history.now.recorded certificate.now.lines step }
+    requires left { IsLeftBy (verdict.No step reason) history.now.recorded certificate.now.lines (state_of machine.now) }
+    ensures verdict { IfOk result (λ told. verdict_of told ≡ verdict.No step reason) }
+    ensures explained { (history_bytes certificate_bytes : List ℕ) → IsHistoryText history_bytes history.now.recorded
+        → IsCertificateText certificate_bytes certificate.now.lines → IfOk result (λ told. IsExplained told history_bytes certificate_bytes) }
+    ensures run { IfOk result (λ told. has_run told ≡ true) }
+{
+    let unfinished = unfinished_calls(alloc, history, certificate)?;
+    let cause = cause_of(alloc, history, certificate, machine, step, reason)?;
+    Ok(Explanation::No {
+        step,
+        cause,
+        unfinished,
+    })
 }
 
 // What a linearization of so many lines leaves.

@@ -1,27 +1,34 @@
 //! Why a certificate is a linearization of a history or isn't: the verdict with the reason for it, and a report of that.
 //! It promises that the verdict explained is the one that `Judges` names of the two texts; that a refusal called specified is the
-//! specification's after the lines before the step, so that it names the first condition that doesn't hold there; that what is shown of
-//! the state is so there; and that a report begins with the verdict's line and is appended whole or not at all. It is text for people.
+//! specification's after the lines before the step, by the first condition that fails there; that the step since which it fails is the last
+//! at which it turned, or made what it is about; that the fact shown for it is so; and that a report is appended whole or not at all.
 //! The program `rmmexplain` depends on it.
 #![tactic(auto)]
 
+mod before;
 mod cause;
-mod changed;
+mod deciding;
 mod earlier;
-mod entry;
 mod explained_run;
 mod explaining;
-mod facts;
+mod fact;
 mod farthest;
 mod flaw;
+mod late;
 mod named_call;
+mod replay;
 mod reporting;
-mod walks;
+mod since;
+mod steps;
+mod track;
+mod unfinished;
+mod watch;
 
 pub use explained_run::{ExplainedRun, Run, explain};
 pub use explaining::explain_run;
 pub use reporting::report;
 pub use told::{
-    BadLine, Cause, EarlierStep, EntryRead, Explanation, Facts, Flaw, Misplaced, NamedCall,
-    RefusedLine, Summary,
+    BadLine, Cause, Deciding, EarlierStep, EntryRead, Explanation, Fact, Flaw, GranuleBefore,
+    LateCommit, Misplaced, NamedCall, RealmBefore, RecBefore, RefusedLine, Since, StateBefore,
+    Summary, UnfinishedCall, WalkBefore, WrongWord,
 };

@@ -1,1 +1,2 @@
 mod Appended
+mod Said

@@ -3,9 +3,8 @@
 use crate::calls::{CallId, calls_in, places_of};
 use crate::focus::{Focus, Role};
 use crate::own::{Class, Own, Page, Tag};
-use crate::scale::{BAR, Scale, lane_top};
 use crate::shapes::{Area, close_words, open_words, rectangle};
-use crate::window::Window;
+use crate::window::{BAR, Window};
 use explain::NamedCall;
 use history::{History, Places};
 use std::alloc::{AllocError, Global};
@@ -13,8 +12,8 @@ use std::alloc::{AllocError, Global};
 /// How far below its lane's top a bar is.
 pub(crate) const BELOW: u64 = 20;
 
-/// Where the right part of a picture begins.
-const RIGHT_PART: u64 = 600;
+/// Where the right part of a window begins.
+const RIGHT_PART: u64 = 540;
 
 /// Draws the bars of a CPU's calls that a window touches.
 pub(crate) fn write_bars(
@@ -25,30 +24,29 @@ pub(crate) fn write_bars(
     window: Window,
     cpu: u8,
 ) -> Result<(), AllocError> {
-    let scale = Scale::of(window);
-    let calls = calls_in(history, window, cpu);
+    let calls = calls_in(history, window.stretch, cpu);
     for number in calls.first..calls.end {
         let call = CallId { cpu, number };
         let Some(places) = places_of(history, call) else {
             break;
         };
-        let area = area_of(scale, window, cpu, places);
+        let area = area_of(window, cpu, places);
         write_bar(alloc, page, history, call, focus.role(call), area)?;
     }
     Ok(())
 }
 
-// From the call to its return, or to the window's end.
-fn area_of(scale: Scale, window: Window, cpu: u8, places: Places) -> Area {
-    let left = scale.x(places.called as usize);
+/// From the call to its return, or to the window's end.
+pub(crate) fn area_of(window: Window, cpu: u8, places: Places) -> Area {
+    let left = window.x(places.called as usize);
     let end = match places.returned {
         Some(returned) => returned as usize,
-        None => window.end,
+        None => window.stretch.end,
     };
-    let right = scale.x(end.saturating_add(1));
+    let right = window.x(end.saturating_add(1));
     Area {
         x: left + 1,
-        y: lane_top(window, cpu) + BELOW,
+        y: window.lane_top(cpu) + BELOW,
         width: right.saturating_sub(left).max(4) - 2,
         height: BAR,
     }
@@ -82,13 +80,13 @@ pub(crate) fn write_name(
     let Some(places) = places_of(history, call) else {
         return Ok(());
     };
-    if !window.touches(places) {
+    if !window.stretch.touches(places) {
         return Ok(());
     }
-    let area = area_of(Scale::of(window), window, call.cpu, places);
+    let area = area_of(window, call.cpu, places);
     let text = text_of(alloc, history, call)?;
     let y = area.y.saturating_add(32);
-    if area.x < RIGHT_PART {
+    if area.x < window.left() + RIGHT_PART {
         open_words(page, Class::Name, area.x, y)?;
     } else {
         open_words(page, Class::NameAtEnd, area.x.saturating_add(area.width), y)?;

@@ -1,6 +1,6 @@
-//! The calls of a CPU that a window touches.
+//! The calls of a CPU that a stretch touches.
 
-use crate::window::Window;
+use crate::window::Stretch;
 use history::{History, MOST_LINES, Places};
 
 /// A call by its CPU and number.
@@ -34,11 +34,11 @@ enum Edge {
     Returned,
 }
 
-/// The calls of a CPU that haven't returned before a window and are made before its end.
-pub(crate) fn calls_in(history: &History, window: Window, cpu: u8) -> Calls {
+/// The calls of a CPU that haven't returned before a stretch and are made before its end.
+pub(crate) fn calls_in(history: &History, stretch: Stretch, cpu: u8) -> Calls {
     Calls {
-        first: first_from(history, cpu, Edge::Returned, window.first),
-        end: first_from(history, cpu, Edge::Called, window.end),
+        first: first_from(history, cpu, Edge::Returned, stretch.first),
+        end: first_from(history, cpu, Edge::Called, stretch.end),
     }
 }
 

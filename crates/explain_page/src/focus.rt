@@ -1,7 +1,7 @@
 //! What a picture points at.
 
 use crate::calls::CallId;
-use explain::{Cause, Explanation, NamedCall, RefusedLine};
+use explain::{Cause, Explanation, NamedCall, RefusedLine, Since};
 
 /// How a call is drawn.
 #[derive(Clone, Copy)]
@@ -26,8 +26,8 @@ impl Focus {
     pub(crate) fn of(explanation: &Explanation<'_>) -> Focus {
         match explanation {
             Explanation::HistoryFault(_) | Explanation::CertificateFault(_) => nothing(0),
-            Explanation::Yes(summary) => nothing(summary.count),
-            Explanation::No { step, cause } => of_cause(*step, cause),
+            Explanation::Yes { summary, .. } => nothing(summary.count),
+            Explanation::No { step, cause, .. } => of_cause(*step, cause),
         }
     }
 
@@ -70,9 +70,20 @@ fn of_calls(last_step: u64, failing: &NamedCall, cause: Option<CallId>) -> Focus
 }
 
 fn behind(refused: &RefusedLine) -> Option<CallId> {
-    match &refused.changed {
-        Some(earlier) => Some(id_of(&earlier.call)),
-        None => None,
+    match &refused.since {
+        Since::Turned(earlier)
+        | Since::Never {
+            set: Some(earlier),
+            ..
+        }
+        | Since::Never {
+            made: Some(earlier),
+            set: None,
+        } => Some(id_of(&earlier.call)),
+        Since::Never {
+            made: None,
+            set: None,
+        } => None,
     }
 }
 

@@ -1,29 +1,32 @@
-//! The steps whose calls a window touches.
+//! The steps whose calls a picture shows.
 
 ghost use Rattle.std.specs.Prelude.{◌≡◌};
 
 use crate::calls::{CallId, Calls, calls_in};
-use crate::window::Window;
+use crate::view::View;
+use crate::window::{Stretch, Window};
 use certificate::{Certificate, LineRef};
 use history::History;
 use std::alloc::{AllocError, Global};
 
-/// A step, counted from 1, and the call that its line names.
+/// A step, counted from 1, the call that its line names, and the window that shows it.
 #[derive(Clone, Copy)]
 pub(crate) struct Mark {
     pub(crate) step: u64,
     pub(crate) call: CallId,
+    pub(crate) window: Window,
 }
 
-/// The steps up to the last one whose calls a window touches, in the claimed order.
+/// The steps up to the last one whose calls a window touches, in the claimed order. A call that both touch is marked in the first.
 pub(crate) fn marks_in(
     alloc: Global,
     history: &History,
     certificate: &Certificate,
-    window: Window,
+    view: View,
     last_step: u64,
 ) -> Result<Vec<Mark>, AllocError> {
-    let lanes = lanes_of(history, window);
+    let first = lanes_of(history, view.first.stretch);
+    let second = lanes_of(history, view.last().stretch);
     let mut marks = Vec::new(alloc);
     for index in 0..certificate.len() {
         let step = index as u64 + 1;
@@ -31,9 +34,14 @@ pub(crate) fn marks_in(
             break;
         }
         let call = named_by(certificate.line(index));
-        if is_in(&lanes, call) {
-            marks.push(Mark { step, call })?;
-        }
+        let window = if is_in(&first, call) {
+            view.first
+        } else if is_in(&second, call) {
+            view.last()
+        } else {
+            continue;
+        };
+        marks.push(Mark { step, call, window })?;
     }
     Ok(marks)
 }
@@ -46,11 +54,11 @@ fn named_by(line: LineRef<'_>) -> CallId {
     }
 }
 
-// The calls of each CPU that the window touches.
-fn lanes_of(history: &History, window: Window) -> [Calls; 8] {
+// The calls of each CPU that the stretch touches.
+fn lanes_of(history: &History, stretch: Stretch) -> [Calls; 8] {
     let mut lanes = [Calls { first: 0, end: 0 }; 8];
     for cpu in 0..8 {
-        lanes[cpu] = calls_in(history, window, cpu as u8);
+        lanes[cpu] = calls_in(history, stretch, cpu as u8);
     }
     lanes
 }

@@ -5,6 +5,7 @@ ghost use Rattle.explain_page.specs.Own.{own_text};
 mod attribute;
 mod class;
 mod frame;
+mod head;
 mod table;
 mod tag;
 mod words;
@@ -12,12 +13,13 @@ mod words;
 pub(crate) use attribute::Attribute;
 pub(crate) use class::Class;
 pub(crate) use frame::Frame;
+pub(crate) use head::{Head, START};
 use markup::Markup;
 pub(crate) use table::Table;
 pub(crate) use tag::Tag;
 pub(crate) use words::Words;
 
-/// A page of such pieces.
+/// What stands behind the head of a page, of such pieces.
 pub(crate) type Page = markup::Page<Own>;
 
 /// A piece of markup.

@@ -1,40 +1,45 @@
 //! The picture of a run.
 
 use crate::bars::{write_bars, write_name};
+use crate::calls::CallId;
 use crate::focus::Focus;
-use crate::lanes::{write_lane, write_lines};
-use crate::marks::marks_in;
+use crate::lanes::{write_gap, write_lane, write_lines};
+use crate::marks::{Mark, marks_in};
 use crate::own::{Attribute, Frame, Own, Page, Tag, Words};
-use crate::scale::{LEFT, Scale, lane_top};
 use crate::shapes::attribute;
 use crate::steps::{write_marks, write_table};
-use crate::strip::write_strip;
-use crate::window::{Window, window_of};
+use crate::strip::{write_stretches, write_strip};
+use crate::view::{View, view_of};
+use crate::window::LEFT;
 use explain::Run;
 use history::History;
 use std::alloc::{AllocError, Global};
 
-/// Writes the picture of a run, what its shapes mean, and the table of its steps.
+/// Writes the picture of a run with at most so many events, what its shapes mean, and the table of its steps, which are returned.
 pub(crate) fn write_picture(
     alloc: Global,
     page: &mut Page,
     run: &Run,
     focus: &Focus,
-) -> Result<(), AllocError> {
+    around: usize,
+    report: &[u8],
+) -> Result<Vec<Mark>, AllocError> {
     let history = &run.history;
-    let window = window_of(history, focus);
-    let marks = marks_in(alloc, history, &run.certificate, window, focus.last_step)?;
+    let view = view_of(history, focus, around);
+    let marks = marks_in(alloc, history, &run.certificate, view, focus.last_step)?;
     let cpus = history.config().cpus();
-    open_picture(page, window, cpus)?;
-    if !window.is_whole {
-        write_strip(page, history, focus, window)?;
+    open_picture(page, view, cpus)?;
+    if !view.is_whole {
+        write_strip(page, history, focus, view)?;
     }
-    write_cpus(alloc, page, history, focus, window, cpus)?;
-    write_lines(page, window, cpus)?;
-    write_marks(alloc, page, history, focus, window, marks.as_slice())?;
-    write_names(alloc, page, history, focus, window)?;
+    write_cpus(alloc, page, history, focus, view, cpus)?;
+    write_gap(page, view, cpus)?;
+    write_lines(page, view, cpus)?;
+    write_marks(alloc, page, history, focus, marks.as_slice())?;
+    write_names(alloc, page, history, focus, view)?;
     page.say(Own::Frame(Frame::Legend))?;
-    write_table(alloc, page, history, focus, marks.as_slice())
+    write_table(alloc, page, history, focus, marks.as_slice(), report)?;
+    Ok(marks)
 }
 
 fn write_cpus(
@@ -42,12 +47,15 @@ fn write_cpus(
     page: &mut Page,
     history: &History,
     focus: &Focus,
-    window: Window,
+    view: View,
     cpus: u8,
 ) -> Result<(), AllocError> {
     for cpu in 0..cpus {
-        write_lane(page, window, cpu)?;
-        write_bars(alloc, page, history, focus, window, cpu)?;
+        write_lane(page, view, cpu)?;
+        write_bars(alloc, page, history, focus, view.first, cpu)?;
+        if let Some(second) = view.second {
+            write_bars(alloc, page, history, focus, second, cpu)?;
+        }
     }
     Ok(())
 }
@@ -57,20 +65,35 @@ fn write_names(
     page: &mut Page,
     history: &History,
     focus: &Focus,
-    window: Window,
+    view: View,
 ) -> Result<(), AllocError> {
     if let Some(call) = focus.cause {
-        write_name(alloc, page, history, window, call)?;
+        write_name_in(alloc, page, history, view, call)?;
     }
     if let Some(call) = focus.failing {
-        write_name(alloc, page, history, window, call)?;
+        write_name_in(alloc, page, history, view, call)?;
     }
     Ok(())
 }
 
-fn open_picture(page: &mut Page, window: Window, cpus: u8) -> Result<(), AllocError> {
-    let width = Scale::of(window).right() + LEFT;
-    let height = lane_top(window, cpus) + 28;
+// Under its bar in each window that has it.
+fn write_name_in(
+    alloc: Global,
+    page: &mut Page,
+    history: &History,
+    view: View,
+    call: CallId,
+) -> Result<(), AllocError> {
+    write_name(alloc, page, history, view.first, call)?;
+    match view.second {
+        Some(second) => write_name(alloc, page, history, second, call),
+        None => Ok(()),
+    }
+}
+
+fn open_picture(page: &mut Page, view: View, cpus: u8) -> Result<(), AllocError> {
+    let width = view.last().right() + LEFT;
+    let height = view.first.lane_top(cpus) + 28;
     page.say(Own::Frame(Frame::Figure))?;
     attribute(page, Attribute::Width, width)?;
     attribute(page, Attribute::Height, height)?;
@@ -79,16 +102,14 @@ fn open_picture(page: &mut Page, window: Window, cpus: u8) -> Result<(), AllocEr
     page.say(Own::Tag(Tag::Space))?;
     page.number(height)?;
     page.say(Own::Frame(Frame::FigureTitle))?;
-    write_title(page, window, cpus)?;
+    write_title(page, view, cpus)?;
     page.say(Own::Frame(Frame::Patterns))
 }
 
-fn write_title(page: &mut Page, window: Window, cpus: u8) -> Result<(), AllocError> {
+fn write_title(page: &mut Page, view: View, cpus: u8) -> Result<(), AllocError> {
     page.say(Own::Words(Words::CallsOf))?;
     page.number(u64::from(cpus))?;
     page.say(Own::Words(Words::CpusOnLines))?;
-    page.number(window.first_line())?;
-    page.say(Own::Words(Words::To))?;
-    page.number(window.last_line())?;
+    write_stretches(page, view)?;
     page.say(Own::Words(Words::OfTheHistory))
 }

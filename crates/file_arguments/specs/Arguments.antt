@@ -1,14 +1,24 @@
 -- What both command lines are made of, and why arguments are refused, over clap's own definitions.
-use Rattle.std.specs.Prelude.{◌≡◌, ◌≢◌, ◌⊎◌, ⊤, List, [], Some, true}
+use Rattle.std.specs.Prelude.{◌≡◌, ◌≢◌, ◌⊎◌, ⊤, Bool, true, false, List, [], Option, Some, None, bytes_eq, codes}
 use Rattle.file_arguments.specs.declared.parsing.Refusal.{Refusal}
 use Rattle.file_arguments.specs.declared.parsing.Refusal.TheVariants.{Shown, Arguments, NoMemory}
 use Rattle.clap.specs.Words.{App, IsAmong, Kinds, Row, Rule, Shape, Text, fault_of, matches_of, new_app, new_rule}
+use Rattle.clap.specs.declared.builder.action.ArgAction.TheVariants.{SetTrue}
 use Rattle.clap.specs.declared.error.kind.ErrorKind.{ErrorKind}
 use Rattle.clap.specs.declared.error.kind.ErrorKind.TheVariants.{DisplayHelp, DisplayVersion, OutOfMemory}
 
 -- `--NAME VALUE`
 abbrev pub option_rule : Text → Rule
 option_rule name = record (new_rule name) { long = Some name; value_names = 1 }
+
+-- `--NAME`
+abbrev pub flag_rule : Text → Rule
+flag_rule name = record (new_rule name) { long = Some name; action = Some SetTrue }
+
+-- a flag is given
+abbrev pub is_set : Option Text → Bool
+is_set None = false
+is_set (Some value) = bytes_eq value (codes "true")
 
 -- a command that has a version and these arguments
 abbrev pub command_of : Text → List Rule → App

@@ -1,3 +1,4 @@
 pub mod Arguments
+pub mod Outputs
 pub mod Reports
 pub mod Searches

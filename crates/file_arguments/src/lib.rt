@@ -5,10 +5,12 @@
 //! The programs `rmmexplain` and `rmmfind` depend on it.
 #![tactic(auto)]
 
+mod options;
 mod parsing;
 mod report;
 mod search;
 
+pub use options::{AROUND, Output};
 pub use parsing::Refusal;
 pub use report::{Report, report_asked};
 pub use search::{LIMIT, Search, search_asked};

@@ -3,11 +3,11 @@
 ghost use Rattle.std.specs.Prelude.{◌≡◌, List, [], IfErr, IfNone, IfOk, IfSome, OnOk, true, false, map, option_map, string_bytes};
 ghost use Rattle.clap.specs.Words.{App, Row, app_of, fault_of, first_of, found_of, is_simple, is_simple_and_free};
 ghost use Rattle.clap.specs.Words.{kind_of, matches_of, new_rule, rows_of, rule_of};
-ghost use Rattle.file_arguments.specs.Arguments.{AskForNothing, AsksFor, IsNoForm, IsRefusalOf, option_rule};
+ghost use Rattle.file_arguments.specs.Arguments.{AskForNothing, AsksFor, IsNoForm, IsRefusalOf, flag_rule, is_set, option_rule};
 ghost use Rattle.file_arguments.specs.declared.parsing.Refusal.TheVariants.{NoMemory};
 
 use clap::error::ErrorKind;
-use clap::{Arg, ArgMatches, Command, Error};
+use clap::{Arg, ArgAction, ArgMatches, Command, Error};
 use std::alloc::{AllocError, Global};
 
 /// Why arguments gave no request.
@@ -116,6 +116,17 @@ pub(crate) fn option_named<'a>(
         .help(help)
 }
 
+/// `--NAME`, which has no value.
+pub(crate) fn flag_named<'a>(alloc: Global, name: &'a str, help: &'a str) -> Arg<'a>
+    ensures rule { rule_of result ≡ flag_rule name.now }
+    ensures local { result.global ≡ false }
+{
+    Arg::new(alloc, name)
+        .long(name)
+        .action(ArgAction::SetTrue)
+        .help(help)
+}
+
 /// A path without a name before it, which may be left out.
 pub(crate) fn path_named<'a>(alloc: Global, name: &'a str, help: &'a str) -> Arg<'a>
     ensures rule { rule_of result ≡ new_rule name.now }
@@ -129,6 +140,16 @@ pub(crate) fn value<'a>(matches: &ArgMatches<'a>, id: &str) -> Option<&'a str>
     ensures { option_map (λ text. text.now) result ≡ first_of id.now (rows_of (found_of matches.now)) }
 {
     matches.get_str(id)
+}
+
+/// Whether a flag is given.
+pub(crate) fn is_given(matches: &ArgMatches<'_>, id: &str) -> bool
+    ensures { result ≡ is_set (first_of id.now (rows_of (found_of matches.now))) }
+{
+    match value(matches, id) {
+        Some(text) => text == "true",
+        None => false,
+    }
 }
 
 // Arguments in which `clap` finds no fault and that fill no form.

@@ -1,19 +1,24 @@
 //! The command line of `rmmexplain`.
 
-ghost use Rattle.std.specs.Prelude.{IfErr, IfOk, map, string_bytes};
-ghost use Rattle.file_arguments.specs.Reports.{AskForNoReport, AsksForReport, IsReport, report_command};
+ghost use Rattle.std.specs.Prelude.{◌≡◌, IfErr, IfOk, false, map, string_bytes};
+ghost use Rattle.clap.specs.Words.{rule_of};
+ghost use Rattle.file_arguments.specs.Reports.{AskForNoReport, AsksForReport, IsReport, around_rule, report_command};
 
-use crate::parsing::{Form, Refusal, asked, option_named, path_named, value};
-use clap::{ArgMatches, Command};
+use crate::options::{Options, Output};
+use crate::parsing::{Form, Refusal, asked, flag_named, option_named, path_named, value};
+use clap::builder::ValueParser;
+use clap::{Arg, ArgMatches, Command};
 use std::alloc::{AllocError, Global};
+
+/// The most events that a page's picture shows.
+const MOST_AROUND: u64 = 10_000;
 
 /// What is reported on.
 #[derive(Clone, Copy)]
 pub enum Report<'a> {
     /// A certificate of a history.
     Run {
-        /// The file that gets the report as a web page.
-        page: Option<&'a str>,
+        output: Output<'a>,
         history: &'a str,
         certificate: &'a str,
     },
@@ -21,10 +26,12 @@ pub enum Report<'a> {
     Scenario(&'a str),
 }
 
-const USAGE: &str = "rmmexplain [--html FILE] HISTORY CERT\n       rmmexplain --scenario FILE";
+const USAGE: &str = "rmmexplain [--html FILE [--around N]] HISTORY CERT
+       rmmexplain --json|--format gcc|--granule ADDRESS|--rows HISTORY CERT
+       rmmexplain --scenario FILE";
 
-/// Reads `[--html FILE] HISTORY CERT` or `--scenario FILE` after the program's name. A path that begins with a dash stands after
-/// `--`. `version` is the text that `--version` prints after the name.
+/// Reads what is asked after the program's name: one output at most with `HISTORY CERT`, or `--scenario FILE`. A path that begins
+/// with a dash stands after `--`. `version` is the text that `--version` prints after the name.
 pub fn report_asked<'a>(
     alloc: Global,
     version: &'a str,
@@ -42,8 +49,10 @@ impl<'a> Form<'a> for Report<'a> {
     ghost is_asked = { IsReport };
 
     const NO_FORM: &'static str =
-        "error: HISTORY and CERT are required, or --scenario FILE and nothing else\n\n\
-Usage: rmmexplain [--html FILE] HISTORY CERT\n       rmmexplain --scenario FILE\n\n\
+        "error: HISTORY and CERT are required with one output at most, or --scenario FILE and nothing else\n\n\
+Usage: rmmexplain [--html FILE [--around N]] HISTORY CERT\n       \
+rmmexplain --json|--format gcc|--granule ADDRESS|--rows HISTORY CERT\n       \
+rmmexplain --scenario FILE\n\n\
 For more information, try '--help'.\n";
 
     fn command(alloc: Global, version: &'a str) -> Result<Command<'a>, AllocError> {
@@ -53,6 +62,20 @@ For more information, try '--help'.\n";
             "FILE",
             "Write the report to FILE, as a web page with a diagram",
         );
+        let json = flag_named(alloc, "json", "Print the report as one JSON object");
+        let format = option_named(
+            alloc,
+            "format",
+            "NAME",
+            "Print the report as a line FILE:LINE: error: .. [NAME: gcc]",
+        );
+        let granule = option_named(
+            alloc,
+            "granule",
+            "ADDRESS",
+            "Print each step that changed the granule or names it",
+        );
+        let rows = flag_named(alloc, "rows", "Print how often each condition refused");
         let scenario = option_named(
             alloc,
             "scenario",
@@ -74,27 +97,45 @@ For more information, try '--help'.\n";
             .about("Prints the verdict on a history and a certificate, with the reason")
             .override_usage(USAGE)
             .arg(page)?
+            .arg(around(alloc))?
+            .arg(json)?
+            .arg(format)?
+            .arg(granule)?
+            .arg(rows)?
             .arg(scenario)?
             .arg(history)?
             .arg(certificate)
     }
 
-    // The form that the values fill.
     fn from_values(matches: &ArgMatches<'a>) -> Option<Report<'a>> {
-        let page = value(matches, "html");
+        let options = Options::of(matches);
         let history = value(matches, "HISTORY");
         let certificate = value(matches, "CERT");
         match (value(matches, "scenario"), history, certificate) {
-            (None, Some(history), Some(certificate)) => Some(Report::Run {
-                page,
-                history,
-                certificate,
-            }),
-            (Some(file), None, None) => match page {
-                None => Some(Report::Scenario(file)),
-                Some(_) => None,
+            (None, Some(history), Some(certificate)) => match options.output() {
+                Some(output) => Some(Report::Run {
+                    output,
+                    history,
+                    certificate,
+                }),
+                None => None,
             },
+            (Some(file), None, None) => {
+                if options.is_empty() {
+                    Some(Report::Scenario(file))
+                } else {
+                    None
+                }
+            }
             _ => None,
         }
     }
+}
+
+fn around<'a>(alloc: Global) -> Arg<'a>
+    ensures rule { rule_of result ≡ around_rule }
+    ensures local { result.global ≡ false }
+{
+    let help = "Show N events in the diagram [default: 100]";
+    option_named(alloc, "around", "N", help).value_parser(ValueParser::unsigned(1, MOST_AROUND))
 }

@@ -1,13 +1,13 @@
 //! The command line of `rmmfind`.
 
-ghost use Rattle.std.specs.Prelude.{◌≡◌, ℕ, IfErr, IfNone, IfOk, IfSome, codes, false, map, option_map, string_bytes};
-ghost use Rattle.clap.specs.Words.{found_of, one_of, rows_of, rule_of};
-ghost use Rattle.file_arguments.specs.Searches.{AskForNoSearch, AsksForSearch, IsFlag, IsLimit, IsSearch};
-ghost use Rattle.file_arguments.specs.Searches.{explain_rule, history_rule, limit_rule, search_command};
+ghost use Rattle.std.specs.Prelude.{◌≡◌, ℕ, IfErr, IfNone, IfOk, IfSome, false, map, option_map, string_bytes};
+ghost use Rattle.clap.specs.Words.{rule_of};
+ghost use Rattle.file_arguments.specs.Searches.{AskForNoSearch, AsksForSearch, IsLimit, IsSearch};
+ghost use Rattle.file_arguments.specs.Searches.{history_rule, limit_rule, search_command};
 
-use crate::parsing::{Form, Refusal, asked, option_named, path_named, value};
+use crate::parsing::{Form, Refusal, asked, flag_named, is_given, option_named, path_named, value};
 use clap::builder::ValueParser;
-use clap::{Arg, ArgAction, ArgMatches, Command};
+use clap::{Arg, ArgMatches, Command};
 use std::alloc::{AllocError, Global};
 
 /// How many steps are tried where no number is given.
@@ -18,12 +18,14 @@ pub const LIMIT: u64 = 10_000_000;
 pub struct Search<'a> {
     /// How many steps are tried.
     pub limit: u64,
-    /// Whether the longest order is printed where there is none of all calls.
-    pub explained: bool,
+    /// Whether it is printed, where there is no order of all calls, how far orders got and why.
+    pub has_reasons: bool,
+    /// Whether the answer is printed as an object for programs.
+    pub has_json: bool,
     pub history: &'a str,
 }
 
-/// Reads `[--limit N] [--explain] HISTORY` after the program's name. A path that begins with a dash stands after `--`. `version`
+/// Reads `[--limit N] [--explain|--json] HISTORY` after the program's name. A path that begins with a dash stands after `--`. `version`
 /// is the text that `--version` prints after the name.
 pub fn search_asked<'a>(
     alloc: Global,
@@ -42,26 +44,38 @@ impl<'a> Form<'a> for Search<'a> {
     ghost is_asked = { IsSearch };
 
     const NO_FORM: &'static str =
-        "error: HISTORY is required, and the limit is a number\n\nFor more information, try '--help'.\n";
+        "error: HISTORY is required, the limit is a number, and --explain doesn't go with --json\n\nFor more information, try '--help'.\n";
 
     fn command(alloc: Global, version: &'a str) -> Result<Command<'a>, AllocError> {
+        let explain = flag_named(
+            alloc,
+            "explain",
+            "Where there is no order, print the longest beginning of one and why no call comes next",
+        );
+        let json = flag_named(alloc, "json", "Print the answer as one JSON object");
         Command::new(alloc, "rmmfind")
             .version(version)
             .about("Searches for an order of a history's calls that is a linearization")
             .arg(limit(alloc))?
-            .arg(explain(alloc))?
+            .arg(explain)?
+            .arg(json)?
             .arg(history(alloc))
     }
 
     fn from_values(matches: &ArgMatches<'a>) -> Option<Search<'a>> {
-        let explained = flag(matches);
+        let has_reasons = is_given(matches, "explain");
+        let has_json = is_given(matches, "json");
+        if has_reasons && has_json {
+            return None;
+        }
         match (
             limit_from(value(matches, "limit")),
             value(matches, "HISTORY"),
         ) {
             (Some(limit), Some(history)) => Some(Search {
                 limit,
-                explained,
+                has_reasons,
+                has_json,
                 history,
             }),
             _ => None,
@@ -75,18 +89,6 @@ fn limit<'a>(alloc: Global) -> Arg<'a>
 {
     let help = "Give up after N tried steps [default: 10000000]";
     option_named(alloc, "limit", "N", help).value_parser(ValueParser::unsigned(0, u64::MAX))
-}
-
-fn explain<'a>(alloc: Global) -> Arg<'a>
-    ensures rule { rule_of result ≡ explain_rule }
-    ensures local { result.global ≡ false }
-{
-    Arg::new(alloc, "explain")
-        .long("explain")
-        .action(ArgAction::SetTrue)
-        .help(
-            "Where there is no order, print the longest beginning of one and why no call comes next",
-        )
 }
 
 fn history<'a>(alloc: Global) -> Arg<'a>
@@ -109,10 +111,4 @@ fn limit_from(digits: Option<&str>) -> Option<u64>
             Err(_) => None,
         },
     }
-}
-
-fn flag(matches: &ArgMatches<'_>) -> bool
-    ensures { IsFlag (one_of (codes "explain") (rows_of (found_of matches.now))) result }
-{
-    matches.get_flag("explain")
 }

@@ -16,8 +16,12 @@ pub enum Fault {
     Usage(String),
     /// The file at this path can't be opened, or not be read to its end.
     CannotRead(String),
-    /// Standard output, or a file that is written, didn't take the whole text.
-    CannotWrite,
+    /// The file at this path didn't take the whole text.
+    CannotWrite(String),
+    /// Standard output didn't take the whole text.
+    CannotPrint,
+    /// Whoever reads standard output through a pipe has closed it.
+    ClosedPipe,
     /// The allocator refused memory.
     NoMemory,
 }
@@ -36,7 +40,9 @@ impl Fault {
     {
         match self {
             Fault::Arguments | Fault::Usage(_) => 2,
-            Fault::CannotRead(_) | Fault::CannotWrite | Fault::NoMemory => 3,
+            Fault::CannotRead(_) | Fault::CannotWrite(_) => 3,
+            Fault::CannotPrint | Fault::NoMemory => 3,
+            Fault::ClosedPipe => 141,
         }
     }
 }
@@ -57,7 +63,9 @@ impl fmt::Display for Line<'_> {
             Fault::Arguments => write!(f, "{program}: arguments\n"),
             Fault::Usage(text) => f.write_str(text.as_str()),
             Fault::CannotRead(path) => write!(f, "{program}: cannot read {path}\n"),
-            Fault::CannotWrite => write!(f, "{program}: cannot write\n"),
+            Fault::CannotWrite(path) => write!(f, "{program}: cannot write {path}\n"),
+            Fault::CannotPrint => write!(f, "{program}: cannot write standard output\n"),
+            Fault::ClosedPipe => f.write_str(""),
             Fault::NoMemory => write!(f, "{program}: no memory\n"),
         }
     }

@@ -7,6 +7,7 @@ ghost use Rattle.finding.specs.Search.{IsSearch, IsSearched};
 use crate::first_part::first_part;
 use crate::forward::{Survey, forward};
 use crate::guided::guided;
+use crate::kept::cells_of;
 use crate::offers::Offers;
 use crate::search::{Progress, Search};
 use certificate::Certificate;
@@ -168,7 +169,6 @@ fn search_until(
 
 /// How many offers are made at the limit, or once so many more cells are copied.
 fn offers_near(history: &History, count: u64, cells: u64, limit: u64) -> u64 {
-    let granules = history.config().granules();
-    let more = cells.checked_div(granules).unwrap_or(cells);
+    let more = cells / cells_of(history);
     min(limit, count.saturating_add(more))
 }

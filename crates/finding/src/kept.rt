@@ -1,6 +1,6 @@
 //! Configurations that are known to lead nowhere.
 
-ghost use Rattle.std.specs.Prelude.{◌≡◌, IsTrue};
+ghost use Rattle.std.specs.Prelude.{◌≡◌, ◌<◌, IsTrue};
 ghost use Rattle.machine_cells.specs.Kept.{kept_state};
 ghost use Rattle.spec_machine.specs.View.{state_of};
 ghost use Rattle.finding.specs.Kept.{HasKept};
@@ -14,6 +14,9 @@ const HASHES: usize = 1 << 16;
 
 /// How many granules' cells are kept at most, in all configurations together.
 const MOST_CELLS: u64 = 1 << 29;
+
+/// How many granules have cells from the start.
+const FIRST_CELLS: u64 = 4096;
 
 /// Where none is in a list.
 const NOWHERE: u32 = u32::MAX;
@@ -68,9 +71,8 @@ impl Kept {
     ) -> Result<(), AllocError>
         ensures { OnOk result (Adds self.old.configurations.items self.new.configurations.items counts.now (state_of machine.now)) }
     {
-        let config = history.config();
         let count = self.configurations.len();
-        if count as u64 >= MOST_CELLS / config.granules() {
+        if count as u64 >= MOST_CELLS / cells_of(history) {
             return Ok(());
         }
         make_lists(alloc, &mut self.last)?;
@@ -85,6 +87,18 @@ impl Kept {
         set_place(&mut self.last, hash, count as u32);
         Ok(())
     }
+}
+
+/// How many cells a copy of the history's machine has, or some more: those of its first granules, and those that its events may touch.
+pub(crate) fn cells_of(history: &History) -> u64
+    ensures { 0 < result }
+{
+    let granules = history.config().granules();
+    let events = history.len() as u64;
+    if granules <= FIRST_CELLS || granules - FIRST_CELLS < events {
+        return granules;
+    }
+    FIRST_CELLS + events
 }
 
 /// Makes the lists, where there are none yet.

@@ -1,26 +1,28 @@
 //! What is kept of no granule.
 
-ghost use Rattle.std.specs.Prelude.{◌≡◌, ◌<◌, ◌/◌, IsTrue, vec_len};
+ghost use Rattle.std.specs.Prelude.{◌≡◌, ◌<◌, ◌≤◌, ◌-◌, ◌/◌, ◌++◌, IsTrue, length, replicate, vec_len, vec_capacity};
 ghost use Rattle.rmm_spec.specs.Lookup.{is_granule};
+ghost use Rattle.granule_cells.specs.declared.side.TheConstants.{GRANULES};
 
-use granule_state::{GRANULE_BYTES, Pa};
+use granule_state::{GRANULE_BYTES, MOST_GRANULES, Pa};
 use std::alloc::{AllocError, Global};
 
 /// How many VMIDs there are.
 const VMIDS: usize = 256;
 
 /// How many granules a machine has at most.
-const GRANULES: usize = 4096;
+const GRANULES: usize = MOST_GRANULES as usize;
 
 /// The realm that has each VMID, and how many RECs belong to each realm, for a machine of any size.
 #[derive(Drop)]
 pub struct Side {
     // at each VMID the descriptor of the realm that has it
     vmids: Vec<Option<Pa>>,
-    // at each granule how many RECs belong to the realm there
-    rec_counts: Vec<u64>,
+    // at each granule how many RECs belong to the realm there, up to the last that had any; room for the others is taken, and not touched
+    rec_counts: Vec<u32>,
     ghost vmids_whole: { vec_len vmids ≡ 256 },
-    ghost counts_whole: { vec_len rec_counts ≡ 4096 },
+    ghost counts_few: { vec_len rec_counts ≤ GRANULES },
+    ghost counts_room: { GRANULES ≤ vec_capacity rec_counts },
 }
 
 #[tactic(auto, unfolding(crate::specs::Sides::side_of))]
@@ -34,7 +36,7 @@ impl Side {
         ensures none { IfOk result (λ side. (rd : ℕ) → (side_of side).rec_counts rd ≡ 0) }
     {
         let vmids = vec![in alloc; None; VMIDS]?;
-        let rec_counts = vec![in alloc; 0; GRANULES]?;
+        let rec_counts = Vec::with_capacity(alloc, GRANULES)?;
         Ok(Side { vmids, rec_counts })
     }
 
@@ -44,8 +46,8 @@ impl Side {
     {
         let mut vmids = vec![in alloc; None; VMIDS]?;
         vmids.copy_from_slice(self.vmids.as_slice());
-        let mut rec_counts = vec![in alloc; 0; GRANULES]?;
-        rec_counts.copy_from_slice(self.rec_counts.as_slice());
+        let mut rec_counts = Vec::with_capacity(alloc, GRANULES)?;
+        rec_counts.extend_from_slice(self.rec_counts.as_slice())?;
         Ok(Side { vmids, rec_counts })
     }
 
@@ -61,6 +63,12 @@ impl Side {
 
     /// How many RECs belong to the realm.
     pub fn rec_count(&self, rd: Pa) -> u64
+        ensures { result ≡ (side_of self.now).rec_counts rd }
+    {
+        u64::from(self.counted(rd))
+    }
+
+    fn counted(&self, rd: Pa) -> u32
         ensures { result ≡ (side_of self.now).rec_counts rd }
     {
         let address = rd.address();
@@ -82,11 +90,11 @@ impl Side {
 
     /// The realm has one REC more.
     pub fn count_rec(&mut self, rd: Pa)
-        requires granule { IsTrue (is_granule 4096 rd) }
-        requires limit { (side_of self.old).rec_counts rd ≤ 4096 }
+        requires granule { IsTrue (is_granule GRANULES rd) }
+        requires limit { (side_of self.old).rec_counts rd ≤ GRANULES }
         ensures { side_of self.new ≡ with_count (side_of self.old) rd ((side_of self.old).rec_counts rd + 1) }
     {
-        let count = self.rec_count(rd);
+        let count = self.counted(rd);
         self.set_count(rd, count + 1);
     }
 
@@ -94,26 +102,53 @@ impl Side {
     pub fn uncount_rec(&mut self, rd: Pa)
         ensures { side_of self.new ≡ with_count (side_of self.old) rd ((side_of self.old).rec_counts rd - 1) }
     {
-        let count = self.rec_count(rd);
+        let count = self.counted(rd);
         if count > 0 {
             self.set_count(rd, count - 1);
         }
     }
 
-    fn set_count(&mut self, rd: Pa, count: u64)
-        requires { IsTrue (is_granule 4096 rd) }
+    fn set_count(&mut self, rd: Pa, count: u32)
+        requires { IsTrue (is_granule GRANULES rd) }
         ensures { side_of self.new ≡ with_count (side_of self.old) rd count }
     {
-        self.rec_counts[place_of(rd)] = count;
+        let place = place_of(rd);
+        self.reach(place);
+        self.rec_counts[place] = count;
     }
+
+    // Counts none at the granules up to a place that weren't counted yet.
+    fn reach(&mut self, place: usize)
+        requires { place < GRANULES }
+        ensures kept { side_of self.new ≡ side_of self.old }
+        ensures reached { place < vec_len self.new.rec_counts }
+    {
+        if place < self.rec_counts.len() {
+            return;
+        }
+        lengthen(&mut self.rec_counts, place + 1);
+    }
+}
+
+// Counts none at further granules, for which there is room.
+fn lengthen(counts: &mut Vec<u32>, len: usize)
+    requires more { vec_len counts.old ≤ len }
+    requires room { len ≤ vec_capacity counts.old }
+    ensures items { counts.new.items ≡ counts.old.items ++ replicate (len - length counts.old.items) 0 }
+    ensures len { vec_len counts.new ≡ len }
+    ensures capacity { vec_capacity counts.old ≤ vec_capacity counts.new }
+{
+    let Ok(()) = counts.resize(len, 0) else {
+        unreachable!()
+    };
 }
 
 // Where what is kept of a granule stands.
 #[tactic(auto, using(crate::proofs::SideTable::place_within))]
 fn place_of(granule: Pa) -> usize
-    requires { IsTrue (is_granule 4096 granule) }
+    requires { IsTrue (is_granule GRANULES granule) }
     ensures place { result ≡ granule / 4096 }
-    ensures within { result < 4096 }
+    ensures within { result < GRANULES }
 {
     (granule.address() / GRANULE_BYTES) as usize
 }

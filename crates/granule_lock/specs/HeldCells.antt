@@ -1,7 +1,7 @@
 -- What contracts see of the granules of a machine and of what a CPU holds. This project's own.
-use Rattle.std.specs.Prelude.{ℕ, ◌==◌, not, List, [], ◌∷◌, Option, Some, None}
+use Rattle.std.specs.Prelude.{◌≡◌, ℕ, ◌-◌, ◌==◌, not, List, [], ◌∷◌, length, slice_get, Option, Some, None}
 use Rattle.std.specs.List.{filter}
-use Rattle.rmm_spec.specs.Local.{HeldCell}
+use Rattle.rmm_spec.specs.Local.{HeldCell, granules_held}
 use Rattle.world_laws.specs.Replaced.{held_at}
 use Rattle.command_core.specs.Seen.{cell_of}
 use Rattle.granule_cells.specs.declared.cell.Cell.{Cell}
@@ -28,9 +28,13 @@ abbrev pub cells_freed : Option Freed → List HeldCell
 cells_freed None = []
 cells_freed (Some freed) = cells_of freed
 
--- what was freed together, as it was held then
+-- what was held as freeing began
 abbrev pub freed_cells : Hold → List HeldCell
 freed_cells hold = cells_freed hold.freed
+
+-- the granule is the last that was taken of those that are held
+abbrev pub IsLastHeld : ℕ → List HeldCell → Type 0
+IsLastHeld granule held = slice_get (granules_held held) (length (granules_held held) - 1) ≡ Some granule
 
 -- what is held but at one granule, in the same order
 abbrev pub without_cell : ℕ → List HeldCell → List HeldCell

@@ -5,7 +5,7 @@ ghost use Rattle.rmm_spec.specs.Lookup.{is_granule};
 ghost use Rattle.world_laws.specs.Replaced.{held_at};
 ghost use Rattle.command_core.specs.Seen.{cell_of, is_held};
 ghost use Rattle.granule_cells.specs.declared.cell.Cell.{Cell};
-ghost use Rattle.granule_lock.specs.HeldCells.{hold_cells, without_cell};
+ghost use Rattle.granule_lock.specs.HeldCells.{freed_cells, hold_cells, without_cell, IsLastHeld};
 
 use crate::granule::Granule;
 use crate::hold::Hold;
@@ -54,7 +54,8 @@ impl Granules {
     pub fn give<R: Wait>(&self, rt: &R, hold: &mut Hold, pa: Pa)
         requires granule { IsTrue (is_granule self.now.granules pa) }
         requires held { IsTrue (is_held pa (hold_cells hold.old)) }
-        ensures { hold_cells hold.new ≡ without_cell pa (hold_cells hold.old) }
+        ensures cells { hold_cells hold.new ≡ without_cell pa (hold_cells hold.old) }
+        ensures freed { IsLastHeld pa (hold_cells hold.old) → freed_cells hold.new ≡ freed_cells hold.old }
     {
         self.granule(pa).give(rt, hold.remove(pa));
     }

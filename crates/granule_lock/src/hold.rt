@@ -30,9 +30,9 @@ impl Away {
     }
 }
 
-/// What was held as `free_all` began. It has no bytes.
+/// What was held as freeing began. It has no bytes.
 #[derive(Drop)]
-pub(crate) struct Freed {
+struct Freed {
     granules: Snapshot<ArrayVec<Pa, 6>>,
     cells: Snapshot<ArrayVec<Cell, 6>>,
 }
@@ -41,7 +41,7 @@ impl Freed {
     ghost use Rattle.std.specs.Prelude.{◌≡◌};
     ghost use Rattle.granule_lock.specs.HeldCells.{cells_of, hold_cells};
 
-    pub(crate) fn of(hold: &Hold) -> Freed
+    fn of(hold: &Hold) -> Freed
         ensures { cells_of result ≡ hold_cells hold.now }
     {
         Freed {
@@ -57,7 +57,7 @@ impl Freed {
 pub struct Hold {
     granules: ArrayVec<Pa, 6>,
     cells: ArrayVec<Cell, 6>,
-    // set by `free_all` alone
+    // set by `begin_freeing` alone
     freed: Option<Freed>,
     ghost same_count: { length cells.items ≡ length granules.items },
     ghost few: { length granules.items ≤ 6 },
@@ -68,7 +68,7 @@ impl Hold {
     ghost use Rattle.std.specs.Prelude.{◌≡◌, ◌++◌, ◌∷◌, [], ◌<◌, ◌==◌, false, Some, length, position};
     ghost use Rattle.world_laws.specs.Replaced.{held_at};
     ghost use Rattle.command_core.specs.Seen.{cell_of, cell_in, is_held};
-    ghost use Rattle.granule_lock.specs.HeldCells.{cells_of, freed_cells, hold_cells, without_cell};
+    ghost use Rattle.granule_lock.specs.HeldCells.{freed_cells, hold_cells, without_cell, IsLastHeld};
 
     /// No cells.
     pub fn new() -> Hold
@@ -92,11 +92,13 @@ impl Hold {
         } = self;
     }
 
-    /// Keeps what was freed.
-    pub(crate) fn keep_freed(&mut self, freed: Freed)
+    /// All that is held is to be freed: it keeps, for contracts alone, what that is, as long as nothing but the cell taken last is
+    /// taken out.
+    pub(crate) fn begin_freeing(&mut self)
         ensures cells { hold_cells self.new ≡ hold_cells self.old }
-        ensures freed { freed_cells self.new ≡ cells_of freed }
+        ensures freed { freed_cells self.new ≡ hold_cells self.old }
     {
+        let freed = Freed::of(self);
         self.freed = Some(freed);
     }
 
@@ -115,6 +117,7 @@ impl Hold {
     pub(crate) fn remove(&mut self, pa: Pa) -> Away
         requires { IsTrue (is_held pa (hold_cells self.old)) }
         ensures cells { hold_cells self.new ≡ without_cell pa (hold_cells self.old) }
+        ensures freed { IsLastHeld pa (hold_cells self.old) → freed_cells self.new ≡ freed_cells self.old }
         ensures given { cell_in pa (hold_cells self.old) ≡ Some (cell_of result.cell) }
     {
         let place = self.place_of(pa);

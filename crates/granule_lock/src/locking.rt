@@ -9,7 +9,7 @@ ghost use Rattle.granule_lock.specs.HeldCells.{freed_cells, hold_cells};
 ghost use Rattle.granule_lock.specs.Locked.{AreGranules, IsPlannedStep, IsReached, locking};
 
 use crate::granules::Granules;
-use crate::hold::{Freed, Hold};
+use crate::hold::Hold;
 use command_core::{CpuPlace, Held, Next, next_lock};
 use granule_state::{Config, Pa};
 use rmm_spec::Command;
@@ -69,17 +69,16 @@ fn goes_on<R: Wait>(
     true
 }
 
-/// Frees all that is held, of which the hold keeps, for contracts alone, what it was.
+/// Frees all that is held, the cell taken last first. The hold keeps, for contracts alone, what it was.
 pub fn free_all<R: Wait>(rt: &R, granules: &Granules, hold: &mut Hold)
     requires { AreGranules granules.now.granules (hold_cells hold.old) }
     ensures none { hold_cells hold.new ≡ [] }
     ensures freed { freed_cells hold.new ≡ hold_cells hold.old }
 {
-    let freed = Freed::of(hold);
+    hold.begin_freeing();
     while let Some(last) = last_held(hold) {
         granules.give(rt, hold, last);
     }
-    hold.keep_freed(freed);
 }
 
 // The granule that was taken last, if any is held.

@@ -1,12 +1,13 @@
 -- Laws of names.
-use Rattle.std.proofs.Common.{◌≡◌, ℕ, zero, suc, ◌+◌, ◌*◌, ◌<◌, ◌≤◌, Bool, true, false, List, [], ◌∷◌, ◌++◌, length, Option, Some, None, refl, sym, ap, ◌∙◌, subst, arith, if◌then◌else◌}
+use Rattle.std.proofs.Common.{◌≡◌, ℕ, zero, suc, ◌*◌, ◌<◌, ◌≤◌, Bool, true, false, List, [], ◌∷◌, ◌++◌, length, Option, Some, None, refl, sym, ap, ◌∙◌, subst, arith, if◌then◌else◌}
 use Rattle.std.specs.Prelude.{◌==◌, is_some, IsSome, option_map, unwrap_or, slice_get}
-use Rattle.std.proofs.lemmas.Bool.{eqb-true, eqb-false, eq-eqb, ne_eqb}
+use Rattle.std.proofs.lemmas.Bool.{eqb-true, eqb-false, ne_eqb}
 use Rattle.std.proofs.lemmas.Option.{none-some}
 use Rattle.std.proofs.lemmas.List.{length_push}
+use Rattle.rmm_spec.specs.declared.version.Version.TheVariants.{Large}
+use Rattle.rmm_spec.specs.HistoryText.{granule_limit}
 use Rattle.granule_names.specs.Laws.{AreApart, AreBelow}
-use Rattle.granule_names.specs.Names.{number_in, added, names_from, called}
-use Rattle.granule_names.specs.declared.roles.Role.TheVariants.{Granule}
+use Rattle.granule_names.specs.Names.{number_in, added, names_from}
 
 -- ---- numbers behind one more name
 
@@ -60,7 +61,7 @@ pub number_in-below : (names : List ℕ) (address n : ℕ) → number_in names a
 number_in-below [] address n is = absurd (none-some n is)
 number_in-below (name ∷ names) address n is = below-test names address n (name == address) is (number_in-below names address)
 
-pub small_number : (names : List ℕ) (address n : ℕ) → length names ≤ 4096 → number_in names address ≡ Some n → n < 4096
+pub small_number : (names : List ℕ) (address n : ℕ) → length names ≤ granule_limit Large → number_in names address ≡ Some n → n < granule_limit Large
 small_number names address n few is = omega (arith, few, number_in-below names address n is)
 
 apart-test : (names : List ℕ) (name address other n : ℕ) (t u : Bool) → (name == address) ≡ t → (name == other) ≡ u

@@ -4,7 +4,7 @@ use Rattle.rmm_spec.specs.declared.function_id.FunctionId.{FunctionId}
 use Rattle.rmm_spec.specs.Call.{call_from}
 use Rattle.rmm_spec.specs.Step.Terms.{named}
 use Rattle.granule_names.specs.Roles.{command_roles}
-use Rattle.granule_names.specs.Names.{number_in, names_from, called}
+use Rattle.granule_names.specs.Names.{number_in, called}
 use Rattle.granule_names.specs.declared.roles.Role.{Role}
 use Rattle.granule_names.specs.declared.roles.Role.TheVariants.{Granule, Page, Other}
 

@@ -1,6 +1,6 @@
 //! The map of names, written as a text.
 
-ghost use Rattle.std.specs.Prelude.{◌≡◌, ◌++◌, IfOk, OnOk, string_bytes};
+ghost use Rattle.std.specs.Prelude.{◌≡◌, ◌+◌, ◌<◌, ◌++◌, drop, length, IfOk, OnOk, string_bytes};
 ghost use Rattle.granule_names.specs.Map.{map_from, map_line};
 
 use crate::names::Names;
@@ -12,14 +12,25 @@ pub fn map_text(alloc: Global, names: &Names) -> Result<Vec<u8>, AllocError>
 {
     let mut text = Vec::new(alloc);
     for number in 0..names.len() {
-        push_line(
-            alloc,
-            &mut text,
-            names.address(number),
-            4096 * number as u64,
-        )?;
+        push_next(alloc, &mut text, names, number)?;
     }
     Ok(text)
+}
+
+// Appends the line of the number that is next.
+fn push_next(
+    alloc: Global,
+    text: &mut Vec<u8>,
+    names: &Names,
+    number: usize,
+) -> Result<(), AllocError>
+    requires number { number < length names.now }
+    requires so_far { text.old.items ++ map_from number (drop number names.now) ≡ map_from 0 names.now }
+    ensures { OnOk result (text.new.items ++ map_from (number + 1) (drop (number + 1) names.now) ≡ map_from 0 names.now) }
+{
+    let _few = names.len();
+    let address = names.address(number);
+    push_line(alloc, text, address, 4096 * number as u64)
 }
 
 // Appends a line.

@@ -6,8 +6,11 @@ ghost use Rattle.rmi_view.specs.Seen.{reply_seen};
 ghost use Rattle.granule_names.specs.Names.{added, addresses_among, addresses_of, called, names_from, number_in};
 ghost use Rattle.granule_names.specs.declared.names.NameFault.TheVariants.{TooMany};
 ghost use Rattle.granule_names.specs.Renamed.{moment_addresses, reply_addresses};
+ghost use Rattle.rmm_spec.specs.declared.version.Version.TheVariants.{Large};
+ghost use Rattle.rmm_spec.specs.HistoryText.{granule_limit};
 
 use crate::roles::{Role, answer_roles, command_roles, role_at};
+use granule_state::MOST_GRANULES;
 use recorded_events::MomentRef;
 use rmi_view::ReplyRef;
 use rmm_spec::FunctionId;
@@ -16,7 +19,7 @@ use std::collections::HashMap;
 use std::marker::Model;
 
 /// How many names there are at most.
-pub const MOST_NAMES: usize = 4096;
+pub const MOST_NAMES: usize = MOST_GRANULES as usize;
 
 /// Why an address got no name.
 #[derive(Clone, Copy)]
@@ -56,13 +59,15 @@ impl Model for Names {
     ghost use Rattle.std.specs.Prelude.{◌≡◌, ℕ, ◌≤◌, List, length, nat_eq};
     ghost use Rattle.std.specs.HashMap.{get};
     ghost use Rattle.granule_names.specs.Names.{number_in};
+    ghost use Rattle.rmm_spec.specs.declared.version.Version.TheVariants.{Large};
+    ghost use Rattle.rmm_spec.specs.HistoryText.{granule_limit};
 
     ghost Value = { List ℕ };
 
     ghost view = { λ names. names.addresses.items };
 
     ghost invariant = { λ names. ((address : ℕ) → get nat_eq names.numbers address ≡ number_in names.addresses.items address)
-        × (length names.addresses.items ≤ 4096) };
+        × (length names.addresses.items ≤ granule_limit Large) };
 }
 
 impl Names {
@@ -95,7 +100,7 @@ impl Names {
     /// The law that numbers are small.
     #[tactic(auto, using(crate::proofs::NameLaws::small_number))]
     fn few(&self)
-        ensures { (address n : ℕ) → number_in self.now address ≡ Some n → n < 4096 }
+        ensures { (address n : ℕ) → number_in self.now address ≡ Some n → n < granule_limit Large }
     {
         let _addresses = &self.addresses;
     }
@@ -199,7 +204,7 @@ impl Names {
 
     /// What a word is called, on a machine of so many granules.
     pub(crate) fn called(&self, granules: u64, role: Role, word: u64) -> u64
-        requires { granules ≤ 4096 }
+        requires { granules ≤ MOST_NAMES }
         ensures { result ≡ called self.now granules role word }
     {
         self.few();

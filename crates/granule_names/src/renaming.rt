@@ -8,7 +8,7 @@ ghost use Rattle.granule_names.specs.Names.{called_words};
 ghost use Rattle.granule_names.specs.Renamed.{renamed_command, renamed_moment, renamed_reply, renamed_slot};
 ghost use Rattle.recorded_events.specs.Table.{IsHappened};
 
-use crate::names::Names;
+use crate::names::{MOST_NAMES, Names};
 use crate::roles::{Role, answer_roles, command_roles, role_at};
 use recorded_events::{HappenedRef, MomentRef};
 use rmi_view::{CommandRef, ReplyRef};
@@ -23,7 +23,7 @@ pub fn renamed_slot<'w>(
     last: Option<FunctionId>,
     slot: HappenedRef<'_>,
 ) -> HappenedRef<'w>
-    requires granules { granules ≤ 4096 }
+    requires granules { granules ≤ MOST_NAMES }
     requires few { HasFewWords (moment_seen slot.moment) }
     ensures seen { happened_seen result ≡ renamed_slot names.now granules last (happened_seen slot.entry) }
     ensures few { HasFewWords (moment_seen result.moment) }
@@ -45,7 +45,7 @@ fn renamed_moment<'w>(
     last: Option<FunctionId>,
     moment: MomentRef<'_>,
 ) -> MomentRef<'w>
-    requires granules { granules ≤ 4096 }
+    requires granules { granules ≤ MOST_NAMES }
     requires few { HasFewWords (moment_seen moment) }
     ensures seen { moment_seen result ≡ renamed_moment names.now granules last (moment_seen moment.entry) }
     ensures few { HasFewWords (moment_seen result) }
@@ -69,7 +69,7 @@ fn renamed_command<'w>(
     words: &'w mut [u64; 10],
     command: CommandRef<'_>,
 ) -> CommandRef<'w>
-    requires granules { granules ≤ 4096 }
+    requires granules { granules ≤ MOST_NAMES }
     requires few { length command.words.now ≤ 10 }
     ensures seen { command_seen result ≡ renamed_command names.now granules (command_seen command.entry) }
     ensures few { length result.words.now ≤ 10 }
@@ -93,7 +93,7 @@ fn renamed_reply<'w>(
     last: Option<FunctionId>,
     reply: ReplyRef<'_>,
 ) -> ReplyRef<'w>
-    requires granules { granules ≤ 4096 }
+    requires granules { granules ≤ MOST_NAMES }
     requires few { replied.HasFewWords (reply_seen reply) }
     ensures seen { reply_seen result ≡ renamed_reply names.now granules last (reply_seen reply.entry) }
     ensures few { replied.HasFewWords (reply_seen result) }
@@ -116,7 +116,7 @@ fn called_words<'w>(
     roles: &[Role],
     given: &[u64],
 ) -> &'w [u64]
-    requires granules { granules ≤ 4096 }
+    requires granules { granules ≤ MOST_NAMES }
     requires few { length given.now ≤ 10 }
     ensures called { result.now ≡ called_words names.now granules roles.now 0 given.now }
     ensures few { length result.now ≤ 10 }

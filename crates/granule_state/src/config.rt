@@ -1,9 +1,9 @@
 //! The size of a machine, and the version of its rules.
 
-ghost use Rattle.std.specs.Prelude.{◌≡◌, IsTrue};
+ghost use Rattle.std.specs.Prelude.{◌≡◌, ◌≤◌, IsTrue};
 ghost use Rattle.std.specs.Option.{SomeIff};
-ghost use Rattle.rmm_spec.specs.declared.version.Version.TheVariants.{One};
-ghost use Rattle.rmm_spec.specs.HistoryText.{Config, IsConfig, is_version, version_of};
+ghost use Rattle.rmm_spec.specs.declared.version.Version.TheVariants.{One, Large};
+ghost use Rattle.rmm_spec.specs.HistoryText.{Config, IsConfig, granule_limit, is_version, version_of};
 ghost use Rattle.rmm_spec.specs.Lookup.{is_granule};
 
 use crate::pa::Pa;
@@ -12,6 +12,9 @@ use std::marker::Model;
 
 /// How many bytes a granule has.
 pub const GRANULE_BYTES: u64 = 4096;
+
+/// How many granules a machine of any version has at most.
+pub const MOST_GRANULES: u64 = 1_048_576;
 
 /// How many granules and CPUs a machine has, within the limits of both, and the version of its rules.
 #[derive(Clone, Copy)]
@@ -54,11 +57,20 @@ impl Config {
         }
     }
 
-    fn of(granules: u64, cpus: u64, version: Version) -> Option<Config>
+    /// A machine of 1 to 1,048,576 granules, else with the limits and the rules of version 2, or nothing out of those limits.
+    pub fn large(granules: u64, cpus: u64) -> Option<Config>
+        ensures { let config : Config = record { granules = granules; cpus = cpus; version = Large } in
+            SomeIff result (IsConfig config) config }
+    {
+        Config::of(granules, cpus, Version::Large)
+    }
+
+    /// A machine that goes by the version, or nothing out of its limits.
+    pub fn of(granules: u64, cpus: u64, version: Version) -> Option<Config>
         ensures { let config : Config = record { granules = granules; cpus = cpus; version = version } in
             SomeIff result (IsConfig config) config }
     {
-        if granules < 1 || granules > 4096 || cpus < 1 || cpus > 8 {
+        if granules < 1 || granules > granule_limit(version) || cpus < 1 || cpus > 8 {
             return None;
         }
         Some(Config {
@@ -68,9 +80,11 @@ impl Config {
         })
     }
 
+    #[tactic(auto, using(rmm_spec::proofs::Limits::granule_limit_le))]
     pub fn granules(&self) -> u64
         ensures count { result ≡ self.now.granules }
         ensures limits { IsConfig self.now }
+        ensures most { self.now.granules ≤ MOST_GRANULES }
     {
         self.granules
     }
@@ -86,6 +100,16 @@ impl Config {
         ensures { result ≡ self.now.version }
     {
         self.version
+    }
+}
+
+/// How many granules a machine of the version has at most.
+pub fn granule_limit(version: Version) -> u64
+    ensures { result ≡ granule_limit version }
+{
+    match version {
+        Version::One | Version::Two => 4096,
+        Version::Large => MOST_GRANULES,
     }
 }
 

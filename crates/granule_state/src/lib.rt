@@ -11,7 +11,7 @@ mod pa;
 #[cfg(test)]
 mod tests;
 
-pub use config::{Config, GRANULE_BYTES, granule_at};
+pub use config::{Config, GRANULE_BYTES, MOST_GRANULES, granule_at, granule_limit};
 pub use ipa::Ipa;
 pub use pa::Pa;
 pub use rmm_spec::Tag;

@@ -50,6 +50,29 @@ fn versions(rt: HostRuntime) -> Result<(), Fail> {
 }
 
 #[test]
+fn large(rt: HostRuntime) -> Result<(), Fail> {
+    for (granules, cpus, is_allowed) in [
+        (0, 1, false),
+        (1, 1, true),
+        (4097, 1, true),
+        (1_048_576, 8, true),
+        (1_048_577, 1, false),
+        (1_048_576, 9, false),
+    ] {
+        assert_eq!(rt;
+            Config::large(granules, cpus).is_some(),
+            is_allowed,
+            "at {granules} {cpus}"
+        );
+    }
+    let config = Config::large(1_048_576, 1).ok_or("within the limits")?;
+    assert!(rt; matches!(config.version(), Version::Large));
+    assert!(rt; granule_at(&config, 0xffff_f000).is_some());
+    assert!(rt; granule_at(&config, 0x1_0000_0000).is_none());
+    Ok(())
+}
+
+#[test]
 fn four_granules(rt: HostRuntime) -> Result<(), Fail> {
     let config = Config::new(4, 2).ok_or("within the limits")?;
     assert_eq!(rt; config.granules(), 4);

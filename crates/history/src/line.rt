@@ -1,13 +1,14 @@
 //! The first line of a history.
 
-ghost use Rattle.std.specs.Prelude.{◌≡◌, IsTrue, IfSome, IfNone};
+ghost use Rattle.std.specs.Prelude.{◌≡◌, IfSome, IfNone};
 ghost use Rattle.rmm_spec.specs.declared.version.Version.{Version};
-ghost use Rattle.rmm_spec.specs.HistoryText.{is_version, mark, version_of};
+ghost use Rattle.rmm_spec.specs.HistoryText.{mark};
 ghost use Rattle.rmm_spec.specs.Text.{parts_of};
 ghost use Rattle.history.specs.Spelling.{IsHeaderOf, IsNoHeader};
 
 use granule_state::Config;
 use rmi_codec::{Parts, decimal_from};
+use rmm_spec::Version;
 
 /// The machine's size and its version that a header spells.
 pub fn header_from(bytes: &[u8]) -> Option<Config>
@@ -19,19 +20,20 @@ pub fn header_from(bytes: &[u8]) -> Option<Config>
     let granules = decimal_from(parts.next_part()?)?;
     let cpus = decimal_from(parts.next_part()?)?;
     match parts.next_part() {
-        None => Config::with_version(granules, cpus, version),
+        None => Config::of(granules, cpus, version),
         Some(_) => None,
     }
 }
 
-// The number of the version that the format's name stands for.
-fn version_from(name: &[u8]) -> Option<u64>
-    ensures found { IfSome result (λ number. IsTrue (is_version number) × (name.now ≡ mark (version_of number))) }
+// The version that the format's name stands for.
+fn version_from(name: &[u8]) -> Option<Version>
+    ensures found { IfSome result (λ version. name.now ≡ mark version) }
     ensures none { IfNone result ((version : Version) → name.now ≡ mark version → ⊥) }
 {
     match name {
-        b"rmh1" => Some(1),
-        b"rmh2" => Some(2),
+        b"rmh1" => Some(Version::One),
+        b"rmh2" => Some(Version::Two),
+        b"rml1" => Some(Version::Large),
         _ => None,
     }
 }

@@ -67,6 +67,7 @@ fn mark_of(version: Version) -> &'static [u8]
     match version {
         Version::One => b"rmh1",
         Version::Two => b"rmh2",
+        Version::Large => b"rml1",
     }
 }
 

@@ -11,12 +11,13 @@ use Rattle.rmm_spec.specs.declared.line.Line.TheVariants.{Keep, Unfinished}
 use Rattle.rmm_spec.specs.declared.reply.Reply.{Reply}
 use Rattle.rmm_spec.specs.declared.reply.Reply.TheVariants as reply
 use Rattle.rmm_spec.specs.declared.version.Version.{Version}
-use Rattle.rmm_spec.specs.declared.version.Version.TheVariants.{One, Two}
+use Rattle.rmm_spec.specs.declared.version.Version.TheVariants.{One, Two, Large}
 use Rattle.rmm_spec.specs.CertificateText.{IsLine, line_parts}
 use Rattle.rmm_spec.specs.CommandText.{AreWords, IsCommand, IsReply, command_parts, reply_parts}
 use Rattle.rmm_spec.specs.Function.{number_of}
 use Rattle.rmm_spec.specs.HistoryText.{Config, IsConfig, config_parts, event_parts, mark}
 use Rattle.rmm_spec.specs.Text.{glyph, numeral, decimal, word, line_text}
+use Rattle.rmm_spec.proofs.Limits.{granule_limit_le}
 use Rattle.rmm_spec.proofs.Texts.{numeral-zero, numeral_some, length-fixed_hex}
 
 -- a number below a power of its base has no more digits
@@ -87,16 +88,17 @@ width-returned cpu number given cpu_below below is =
 length-mark : (version : Version) → length (mark version) ≡ 4
 length-mark One = refl
 length-mark Two = refl
+length-mark Large = refl
 
 -- a header
-pub width-config : (config : Config) → IsConfig config → width (config_parts config) ≤ 12
+pub width-config : (config : Config) → IsConfig config → width (config_parts config) ≤ 15
 width-config config is =
-    let granules_below : config.granules < 10 ^ 4 = omega (arith, is.most_granules) in
+    let granules_below : config.granules < 10 ^ 7 = omega (arith, is.most_granules, granule_limit_le config.version) in
     let cpus_below : config.cpus < 10 ^ 1 = omega (arith, is.most_cpus) in
     omega (
       arith,
       length-mark config.version,
-      length-decimal 4 config.granules (lit≤ tt) granules_below,
+      length-decimal 7 config.granules (lit≤ tt) granules_below,
       length-decimal 1 config.cpus (lit≤ tt) cpus_below,
     )
 

@@ -2,6 +2,8 @@
 use Rattle.std.proofs.Common.{◌≡◌, ℕ, ◌*◌, ◌^◌, ◌<◌, ◌≤◌, zero, suc, Bool, true, false, ◌==◌, IsTrue, if◌then◌else◌, Option, Some, None, IfSome, ◌&&◌, nat_lt, ◌%◌, refl, sym, ap, ◌∙◌, subst, inl, inr, arith}
 use Rattle.std.proofs.lemmas.Bool.{and_from, and_parts, eqb-true, false_from_ne_true, ltb-true, lt-ltb}
 use Rattle.std.proofs.lemmas.Option.{none-some, same_Some}
+use Rattle.rmm_spec.specs.declared.version.Version.TheVariants.{Large}
+use Rattle.rmm_spec.proofs.Limits.{granule_limit_le}
 use Rattle.rmm_spec.specs.declared.change.EntryChange.{EntryChange}
 use Rattle.rmm_spec.specs.declared.change.EntryChange.TheVariants.{Replaced, RipasSet}
 use Rattle.rmm_spec.specs.declared.change.RealmChange.{RealmChange}
@@ -17,7 +19,7 @@ use Rattle.rmm_spec.specs.Applicable.{CanDestroyRealm, CanMakeRec, CanDestroyRec
 use Rattle.rmm_spec.specs.Cell as spec
 use Rattle.rmm_spec.specs.Cell.{put}
 use Rattle.rmm_spec.specs.Flat.{flat_state}
-use Rattle.rmm_spec.specs.HistoryText.{IsConfig}
+use Rattle.rmm_spec.specs.HistoryText.{IsConfig, granule_limit}
 use Rattle.rmm_spec.specs.Lookup.{is_granule, is_owned_by, has_tag, realm_at, rec_at, tag_number}
 use Rattle.rmm_spec.specs.Shape.{count_below}
 use Rattle.rmm_spec.specs.Sound.{IsTableOf}
@@ -103,13 +105,10 @@ realm-no_rec update (spec.Rd r) = refl
 realm-no_rec update _ = refl
 
 tag-no_rec : (to : Tag) (c : spec.Cell) (rec : RecRecord) → spec.rec_in (cell_with_tag to c) ≡ Some rec → spec.rec_in c ≡ Some rec
-tag-no_rec tag.Undelegated c rec is = absurd (none-some rec is)
-tag-no_rec tag.Delegated c rec is = absurd (none-some rec is)
 tag-no_rec tag.Rd c rec is = is
 tag-no_rec tag.Rec c rec is = is
-tag-no_rec tag.RecAux c rec is = absurd (none-some rec is)
-tag-no_rec tag.Data c rec is = absurd (none-some rec is)
 tag-no_rec tag.Rtt c rec is = is
+tag-no_rec _ c rec is = absurd (none-some rec is)
 
 -- a REC that is there once one cell is changed was there
 changed-rec : (cells : ℕ → spec.Cell) (granule : ℕ) (change : spec.Cell → spec.Cell)
@@ -179,18 +178,19 @@ counted-le (suc n) passes = by (passes n) (counted-le n passes)
     by true few = omega (arith, few)
     by false few = omega (arith, few)
 
-pub few_recs : (g : Granules) → IsShapedIn g → IsConfig g.list.config → (rd : ℕ) → (whole_of g).side.rec_counts rd ≤ 4096
+pub few_recs : (g : Granules) → IsShapedIn g → IsConfig g.list.config → (rd : ℕ) → (whole_of g).side.rec_counts rd ≤ granule_limit Large
 few_recs g shaped limits rd =
     let most = counted-le (count_of g) (λ k. is_owned_by rd (spec.recs_of (cells_of g.list) (k * 4096))) in
     let counted = shaped.realms.counted rd in
-    omega (arith, counted, most, limits.most_granules)
+    omega (arith, counted, most, limits.most_granules, granule_limit_le g.list.config.version)
 
-pub within_limit : (g : Granules) → IsConfig g.list.config → (rd : ℕ) → IsTrue (is_granule (count_of g) rd) → IsTrue (is_granule 4096 rd)
+pub within_limit : (g : Granules) → IsConfig g.list.config → (rd : ℕ) → IsTrue (is_granule (count_of g) rd) → IsTrue (is_granule (granule_limit Large) rd)
 unfolding is_granule
 within_limit g limits rd is =
     let parts = and_parts (rd % 4096 == 0) (nat_lt rd (count_of g * 4096)) is in
     let below = ltb-true rd (count_of g * 4096) parts.1 in
-    and_from (rd % 4096 == 0) (nat_lt rd (4096 * 4096)) parts.0 (lt-ltb rd (4096 * 4096) (omega (arith, below, limits.most_granules)))
+    and_from (rd % 4096 == 0) (nat_lt rd (granule_limit Large * 4096)) parts.0
+    (lt-ltb rd (granule_limit Large * 4096) (omega (arith, below, limits.most_granules, granule_limit_le g.list.config.version)))
 
 -- ---- tables that are made
 

@@ -19,10 +19,7 @@ use Rattle.machine_cells.proofs.Walkable.{with_tables-same, walkable-root, root-
 
 -- the list of tables has what lies in each granule
 pub tables_in-same : (list : CellList) (address : ℕ) → table_in (tables_in list) address ≡ tables_of (cells_of list) address
-unfolding tables_in cells_of
-tables_in-same list address =
-    let placed : length list.cells.items ≡ list.config.granules = omega (arith, list.each, list.cells.ok.0) in
-    tables-same list.config.granules list.cells.items placed address
+tables_in-same list address = tables-same list address
 
 pub sound_in : (g : Granules) → IsShapedIn g → IsSound (state_in g)
 unfolding state_in

@@ -31,11 +31,9 @@ settable : (purpose : StretchUse) (t : TableRecord) (k : ℕ) (e : Entry) → Is
 settable Init t k e free at = by e (none_at is_live t.entries k e free at)
   where
     by : (e : Entry) → is_live e ≡ false → can_be_set Init e ≡ true
-    by (entry.Unassigned ripas) dead = refl
     by (entry.Assigned ripas granule) dead = sym dead
     by (entry.Table granule) dead = sym dead
-    by entry.UnassignedNs dead = refl
-    by (entry.AssignedNs page) dead = refl
+    by _ dead = refl
 settable (Requested rec ripas) t k e free at = ap not (none_at is_table t.entries k e free at)
 
 -- a test that each number passes

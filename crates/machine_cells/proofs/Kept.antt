@@ -1,15 +1,22 @@
 -- What is kept of each granule, read and changed at its place.
-use Rattle.std.proofs.Common.{◌≡◌, ◌≢◌, ℕ, zero, suc, ◌*◌, ◌/◌, ◌%◌, ◌<◌, Bool, true, false, List, [], ◌∷◌, length, replicate, if◌then◌else◌, IsTrue, nat_lt, ◌==◌, slice_get, slice_set, refl, sym, ap, ◌∙◌, arith}
+use Rattle.std.proofs.Common.{◌≡◌, ◌≢◌, ℕ, zero, suc, ◌*◌, ◌/◌, ◌%◌, ◌<◌, ◌&&◌, Bool, true, false, inl, inr, List, [], ◌∷◌, ◌++◌, length, replicate, Option, Some, None, if◌then◌else◌, IsTrue, nat_lt, ◌==◌, slice_get, slice_set, refl, sym, ap, ◌∙◌, arith}
 use Rattle.std.specs.Prelude.{option_map, unwrap_or, slice_index_or}
 use Rattle.std.proofs.lemmas.Bool.{and_from, and_parts, eq-eqb, eqb-true, eqb-false, lt-ltb, ltb-false, ltb-true}
 use Rattle.std.proofs.lemmas.List.{get_or-replicate, get_or-set_other, get_or-set_same, get_or_default, get_or_past, length-replicate}
 use Rattle.rmm_spec.specs.Lookup.{is_granule}
 use Rattle.rmm_spec.proofs.Tests.{both_ways}
+use Rattle.std.proofs.lemmas.Option.{none-some}
+use Rattle.rmm_spec.specs.Cell as spec
 use Rattle.rmm_spec.specs.Cell.{put}
+use Rattle.granule_cells.specs.declared.cell.Cell.{Cell}
+use Rattle.granule_cells.specs.declared.cell.Cell.TheVariants.{Undelegated}
+use Rattle.granule_places.specs.declared.places.GranulePlaces.{GranulePlaces}
+use Rattle.granule_places.specs.Placed.{place_in, count_in, IsFurther}
+use Rattle.granule_places.proofs.PlaceLaws.{place-apart}
 use Rattle.granule_cells.specs.declared.cpu_place.CpuPlace.{CpuPlace}
 use Rattle.granule_cells.specs.declared.cpu_place.CpuPlace.TheVariants.{Outside}
-use Rattle.granule_cells.specs.Seen.{place_of}
-use Rattle.machine_cells.specs.Whole.{kept_at, places_in}
+use Rattle.granule_cells.specs.Seen.{cell_of, place_of}
+use Rattle.machine_cells.specs.Whole.{cells_in, placed_at, places_in}
 
 -- what is read at a place, or what is there
 pub read_or : {A B : Type 0} (f : A → B) (items : List A) (i : ℕ) (default : A) → unwrap_or (option_map f (slice_get items i)) (f default) ≡ f (slice_index_or items i default)
@@ -40,12 +47,12 @@ granule_placed granules place within =
     and_from ((place * 4096) % 4096 == 0) (nat_lt (place * 4096) (granules * 4096))
     (eq-eqb ((place * 4096) % 4096) 0 (omega arith)) (lt-ltb (place * 4096) (granules * 4096) (omega arith))
 
--- no two granules have one place
-place-apart : (granules a b : ℕ) → IsTrue (is_granule granules a) → IsTrue (is_granule granules b) → a / 4096 ≡ b / 4096 → a ≡ b
-place-apart granules a b first second same =
+-- no two granules have one number
+number-apart : (granules a b : ℕ) → IsTrue (is_granule granules a) → IsTrue (is_granule granules b) → a / 4096 ≡ b / 4096 → a ≡ b
+number-apart granules a b first second same =
     sym (place-granule granules a first) ∙ ap (λ place. place * 4096) same ∙ place-granule granules b second
 
--- ---- lists with an item for each granule
+-- ---- lists of items
 
 -- equal items are read everywhere
 pub get_or-replicate_all : {A : Type 0} → (n i : ℕ) (item : A) (b : Bool) → nat_lt i n ≡ b → slice_index_or (replicate n item) i item ≡ item
@@ -53,54 +60,94 @@ get_or-replicate_all n i item true below = get_or-replicate n i item item (ltb-t
 get_or-replicate_all n i item false past =
     get_or_past (replicate n item) i item (omega (arith, ltb-false i n past, length-replicate n item))
 
-pub kept_at-replicate : {A : Type 0} → (granules n address : ℕ) (item : A) (b : Bool) → is_granule granules address ≡ b
-    → kept_at granules (replicate n item) item address ≡ item
-kept_at-replicate granules n address item true granule = rw granule (get_or-replicate_all n (address / 4096) item (nat_lt (address / 4096) n) refl)
-kept_at-replicate granules n address item false none = rw none refl
+-- what is read past the last may as well stand there
+pub read-more : {A : Type 0} → (items : List A) (n i : ℕ) (default : A) → slice_index_or (items ++ replicate n default) i default ≡ slice_index_or items i default
+read-more [] n i default = get_or-replicate_all n i default (nat_lt i n) refl
+read-more (x ∷ items) n zero default = refl
+read-more (x ∷ items) n (suc i) default = read-more items n i default
 
--- one item is changed, seen at a granule's own address and at another
-kept_at-set_cases : {A : Type 0} → (granules : ℕ) (items : List A) (default item : A) (address other : ℕ) (granule same : Bool)
-    → length items ≡ granules → IsTrue (is_granule granules address) → is_granule granules other ≡ granule → (other == address) ≡ same
-    → kept_at granules (slice_set items (address / 4096) item) default other ≡ (if same then item else kept_at granules items default other)
-kept_at-set_cases granules items default item address other true true placed first second same =
+-- ---- cells at places
+
+-- one cell is changed, seen at a granule's own address and at another
+cells_in-set_cases : (granules : ℕ) (places : GranulePlaces) (items : List Cell) (item : Cell) (address place other : ℕ) (granule same : Bool)
+    → IsTrue (is_granule granules address) → place_in places (address / 4096) ≡ Some place → place < length items
+    → is_granule granules other ≡ granule → (other == address) ≡ same
+    → cells_in granules (place_in places) (slice_set items place item) other ≡ (if same then cell_of item else cells_in granules (place_in places) items other)
+cells_in-set_cases granules places items item address place other true true first at within second same =
     let equal : other ≡ address = eqb-true other address same in
-    let within : address / 4096 < length items = omega (arith, placed, place_within granules address first) in
-    rw (second, equal) (get_or-set_same items (address / 4096) item default within)
-kept_at-set_cases granules items default item address other true false placed first second apart =
-    let elsewhere : other / 4096 ≢ address / 4096 =
-    λ place. both_ways (eq-eqb other address (place-apart granules other address second first place)) apart in
-    rw second (get_or-set_other items (address / 4096) (other / 4096) item default elsewhere)
-kept_at-set_cases granules items default item address other false true placed first second same =
-    both_ways (rw (← eqb-true other address same) at first) second
-kept_at-set_cases granules items default item address other false false placed first second apart = rw second refl
-
-pub kept_at-set : {A : Type 0} → (granules : ℕ) (items : List A) (default item : A) (address place : ℕ)
-    → length items ≡ granules → IsTrue (is_granule granules address) → place ≡ address / 4096
-    → kept_at granules (slice_set items place item) default ≡ put (kept_at granules items default) address item
-kept_at-set granules items default item address place placed granule at = rw at (λ i. λ other.
-    kept_at-set_cases granules items default item address other (is_granule granules other) (other == address) placed granule refl refl i)
-
--- a map of what is kept goes with it
-put-map : {A B : Type 0} (f : A → B) (kept : ℕ → A) (address : ℕ) (item : A) → (λ other. f (put kept address item other)) ≡ put (λ other. f (kept other)) address (f item)
-put-map f kept address item = λ i other. by other (other == address) i
+    let here : place_in places (other / 4096) ≡ Some place = ap (λ a. place_in places (a / 4096)) equal ∙ at in
+    rw (second, here) (ap cell_of (get_or-set_same items place item Undelegated within))
+cells_in-set_cases granules places items item address place other true false first at within second apart =
+    rw second (ap cell_of (by (place_in places (other / 4096)) refl))
   where
-    by : (other : ℕ) (b : Bool) → f (if b then item else kept other) ≡ (if b then f item else f (kept other))
-    by other true = refl
-    by other false = refl
+    elsewhere : (o : ℕ) → place_in places (other / 4096) ≡ Some o → o ≢ place
+    elsewhere o is same =
+        both_ways (eq-eqb other address (number-apart granules other address second first
+        (place-apart places (other / 4096) (address / 4096) place (is ∙ ap Some same) at))) apart
 
-pub mapped-set : {A B : Type 0} → (f : A → B) (granules : ℕ) (items : List A) (default item : A) (address place : ℕ)
-    → length items ≡ granules → IsTrue (is_granule granules address) → place ≡ address / 4096
-    → (λ other. f (kept_at granules (slice_set items place item) default other)) ≡ put (λ other. f (kept_at granules items default other)) address (f item)
-mapped-set f granules items default item address place placed granule at =
-    ap (λ (kept : ℕ → _). λ other. f (kept other)) (kept_at-set granules items default item address place placed granule at)
-    ∙ put-map f (kept_at granules items default) address item
+    by : (o : Option ℕ) → place_in places (other / 4096) ≡ o → placed_at (slice_set items place item) o ≡ placed_at items o
+    by None is = refl
+    by (Some o) is = get_or-set_other items place o item Undelegated (elsewhere o is)
+cells_in-set_cases granules places items item address place other false true first at within second same =
+    both_ways (rw (← eqb-true other address same) at first) second
+cells_in-set_cases granules places items item address place other false false first at within second apart = rw second refl
 
--- what is read at a granule's place is what is kept for it
-pub kept_at-granule : {A : Type 0} → (granules address place : ℕ) (items : List A) (default read : A) → length items ≡ granules
-    → IsTrue (is_granule granules address) → place ≡ address / 4096 → read ≡ slice_index_or items place read → read ≡ kept_at granules items default address
-kept_at-granule granules address place items default read placed granule at is_read =
-    let found : read ≡ slice_index_or items (address / 4096) read = is_read ∙ ap (λ i. slice_index_or items i read) at in
-    rw granule (found ∙ get_or_default items (address / 4096) read default (omega (arith, placed, place_within granules address granule)))
+pub cells_in-set : (granules : ℕ) (places : GranulePlaces) (items : List Cell) (item : Cell) (address place : ℕ)
+    → IsTrue (is_granule granules address) → place_in places (address / 4096) ≡ Some place → place < length items
+    → cells_in granules (place_in places) (slice_set items place item) ≡ put (cells_in granules (place_in places) items) address (cell_of item)
+cells_in-set granules places items item address place granule at within = λ i other.
+    cells_in-set_cases granules places items item address place other (is_granule granules other) (other == address) granule at within refl refl i
+
+-- what is read at a granule's place is what is kept of it
+pub cells_in-granule : (granules : ℕ) (places : GranulePlaces) (items : List Cell) (address place : ℕ) (read : Cell)
+    → IsTrue (is_granule granules address) → place_in places (address / 4096) ≡ Some place → place < length items
+    → read ≡ slice_index_or items place read → cell_of read ≡ cells_in granules (place_in places) items address
+cells_in-granule granules places items address place read granule at within is_read =
+    rw (granule, at) (ap cell_of (is_read ∙ get_or_default items place read Undelegated within))
+
+-- a granule without a place is the host's, and so is what is no granule
+pub cells_in-none : (granules : ℕ) (place : ℕ → Option ℕ) (items : List Cell) (address : ℕ) → place (address / 4096) ≡ None
+    → cells_in granules place items address ≡ spec.Undelegated
+cells_in-none granules place items address none = by (is_granule granules address)
+  where
+    by : (b : Bool) → cell_of (if b then placed_at items (place (address / 4096)) else Undelegated) ≡ spec.Undelegated
+    by true = rw none refl
+    by false = refl
+
+pub cells_in-between : (granules : ℕ) (place : ℕ → Option ℕ) (items : List Cell) (address : ℕ) → (address % 4096 ≡ 0 → ⊥)
+    → cells_in granules place items address ≡ spec.Undelegated
+unfolding is_granule
+cells_in-between granules place items address between = by (address % 4096 == 0) refl
+  where
+    by : (b : Bool) → (address % 4096 == 0) ≡ b
+        → cell_of (if b && nat_lt address (granules * 4096) then placed_at items (place (address / 4096)) else Undelegated) ≡ spec.Undelegated
+    by true even = absurd (between (eqb-true (address % 4096) 0 even))
+    by false odd = refl
+
+-- a new block of the host's changes nothing
+pub cells_in-further : (granules n : ℕ) (old new : GranulePlaces) (items : List Cell) → IsFurther old new → count_in old ≡ length items
+    → cells_in granules (place_in new) (items ++ replicate n Undelegated) ≡ cells_in granules (place_in old) items
+cells_in-further granules n old new items further count = λ i address. by address (is_granule granules address) i
+  where
+    more : (o : Option ℕ) → placed_at (items ++ replicate n Undelegated) o ≡ placed_at items o
+    more None = refl
+    more (Some o) = read-more items n o Undelegated
+
+    fresh : (k : ℕ) (o : Option ℕ) → place_in old k ≡ None → place_in new k ≡ o → placed_at items o ≡ Undelegated
+    fresh k None unplaced is = refl
+    fresh k (Some o) unplaced is = elim (further.fresh k o is) [
+      | inl placed ↦ absurd (none-some o (sym unplaced ∙ placed))
+      | inr behind ↦ get_or_past items o Undelegated (omega (arith, behind, count))
+    ]
+
+    same : (k : ℕ) (o : Option ℕ) → place_in old k ≡ o → placed_at items (place_in new k) ≡ placed_at items o
+    same k None is = fresh k (place_in new k) is refl
+    same k (Some o) is = ap (placed_at items) (further.kept k o is)
+
+    by : (address : ℕ) (b : Bool) → cell_of (if b then placed_at (items ++ replicate n Undelegated) (place_in new (address / 4096)) else Undelegated)
+        ≡ cell_of (if b then placed_at items (place_in old (address / 4096)) else Undelegated)
+    by address true = ap cell_of (more (place_in new (address / 4096)) ∙ same (address / 4096) (place_in old (address / 4096)) refl)
+    by address false = refl
 
 -- ---- CPUs
 

@@ -14,3 +14,4 @@ pub mod Tagged
 pub mod CanMake
 pub mod Made
 pub mod Alike
+mod PlacedCells

@@ -1,13 +1,14 @@
 -- What is read of one granule is what the flat state tells of it.
-use Rattle.std.proofs.Common.{◌≡◌, ℕ, zero, suc, ◌+◌, ◌*◌, ◌/◌, ◌<◌, Bool, true, false, List, [], ◌∷◌, length, map, IsTrue, ◌==◌, slice_get, refl, ap, ◌∙◌, arith}
-use Rattle.std.specs.Prelude.{slice_index_or}
-use Rattle.std.proofs.lemmas.List.{length-map}
+use Rattle.std.proofs.Common.{◌≡◌, ℕ, zero, suc, ◌+◌, ◌*◌, ◌/◌, ◌<◌, Bool, true, false, List, [], ◌∷◌, ◌++◌, length, Option, Some, nat_lt, IsTrue, if◌then◌else◌, ◌==◌, slice_get, refl, ap, ◌∙◌, arith}
+use Rattle.std.proofs.lemmas.Bool.{ltb-false, ltb-true}
+use Rattle.std.proofs.lemmas.List.{length-append}
 use denote.Enum.Bare.{sameb}
 use Rattle.rmm_spec.specs.HistoryText.{Config}
 use Rattle.rmm_spec.specs.contracts.tag.Tag.{the_type}
 use Rattle.rmm_spec.specs.declared.tag.Tag.{Tag}
 use Rattle.rmm_spec.specs.Lookup.{is_granule, has_tag, tag_number}
 use Rattle.rmm_spec.specs.State.{State}
+use Rattle.rmm_spec.specs.Table.{TableRecord}
 use Rattle.rmm_spec.specs.TableCells.{table_in}
 use Rattle.rmm_spec.specs.Cell as spec
 use Rattle.rmm_spec.specs.Flat.{flat_state}
@@ -15,11 +16,12 @@ use Rattle.rmm_spec.proofs.TagLaws.{sameb-tag_number}
 use Rattle.rmm_spec.proofs.Tests.{both_ways}
 use Rattle.rtt_walk.specs.Plain.{cells_from, table_or_none}
 use Rattle.rtt_walk.specs.PlainLaws.{table_in-no_granule, table_in-cells_from}
-use Rattle.granule_cells.specs.declared.cell.Cell.{Cell}
 use Rattle.granule_cells.specs.declared.cell.Cell.TheVariants.{Undelegated}
 use Rattle.granule_cells.specs.Seen.{cell_of}
-use Rattle.machine_cells.specs.Whole.{cells_in}
-use Rattle.machine_cells.proofs.Kept.{granule_placed, place-granule}
+use Rattle.granule_places.specs.Placed.{place_in}
+use Rattle.machine_cells.specs.declared.cell_list.CellList.{CellList}
+use Rattle.machine_cells.specs.Whole.{cells_of, placed_at, table_numbered, tables_in, values_below}
+use Rattle.machine_cells.proofs.Kept.{granule_placed, place-granule, place_within}
 
 -- a granule's tag
 pub has_tag-read : (config : Config) (cells : ℕ → spec.Cell) (address : ℕ) (read tag : Tag) → IsTrue (is_granule config.granules address)
@@ -35,23 +37,53 @@ has_tag-none s address tag none = rw none refl
 
 -- ---- tables
 
-table_or_none-map : (items : List Cell) (i : ℕ) → table_or_none (slice_get (map (λ (c : Cell). spec.table_in (cell_of c)) items) i)
-    ≡ spec.table_in (cell_of (slice_index_or items i Undelegated))
-table_or_none-map [] i = refl
-table_or_none-map (x ∷ items) zero = refl
-table_or_none-map (x ∷ items) (suc i) = table_or_none-map items i
+length-values : {A : Type 0} → (n : ℕ) (f : ℕ → A) → length (values_below n f) ≡ n
+length-values zero f = refl
+length-values (suc n) f = omega (arith, length-append (values_below n f) (f n ∷ []), length-values n f)
+
+get-front : {A : Type 0} → (xs ys : List A) (i : ℕ) → i < length xs → slice_get (xs ++ ys) i ≡ slice_get xs i
+get-front [] ys i within = absurd (omega (arith, within))
+get-front (x ∷ xs) ys zero within = refl
+get-front (x ∷ xs) ys (suc i) within = get-front xs ys i (omega (arith, within))
+
+get-last : {A : Type 0} → (xs : List A) (x : A) → slice_get (xs ++ x ∷ []) (length xs) ≡ Some x
+get-last [] x = refl
+get-last (y ∷ xs) x = get-last xs x
+
+-- a table of the list is that of its number
+table_or_none-values : (n : ℕ) (f : ℕ → Option TableRecord) (i : ℕ) → i < n → table_or_none (slice_get (values_below n f) i) ≡ f i
+table_or_none-values zero f i below = absurd (omega (arith, below))
+table_or_none-values (suc n) f i below = by (nat_lt i n) refl (table_or_none-values n f i)
+  where
+    by : (b : Bool) → nat_lt i n ≡ b → (i < n → table_or_none (slice_get (values_below n f) i) ≡ f i)
+        → table_or_none (slice_get (values_below n f ++ f n ∷ []) i) ≡ f i
+    by true less before =
+        ap table_or_none (get-front (values_below n f) (f n ∷ []) i (omega (arith, ltb-true i n less, length-values n f)))
+        ∙ before (ltb-true i n less)
+    by false least before =
+        let last : i ≡ length (values_below n f) = omega (arith, ltb-false i n least, below, length-values n f) in
+        let number : n ≡ i = omega (arith, ltb-false i n least, below) in
+        ap (λ k. table_or_none (slice_get (values_below n f ++ f n ∷ []) k)) last
+        ∙ ap table_or_none (get-last (values_below n f) (f n)) ∙ ap f number
 
 -- the list of tables has what lies in each granule
-pub tables-same : (granules : ℕ) (items : List Cell) → length items ≡ granules → (address : ℕ)
-    → table_in (cells_from 0 (map (λ (c : Cell). spec.table_in (cell_of c)) items)) address ≡ spec.tables_of (cells_in granules items) address
-tables-same granules items placed address = by (is_granule granules address) refl
+pub tables-same : (list : CellList) (address : ℕ) → table_in (tables_in list) address ≡ spec.tables_of (cells_of list) address
+unfolding tables_in cells_of
+tables-same list address = by (is_granule granules address) refl
   where
-    by : (b : Bool) → is_granule granules address ≡ b
-        → table_in (cells_from 0 (map (λ (c : Cell). spec.table_in (cell_of c)) items)) address ≡ spec.tables_of (cells_in granules items) address
+    granules : ℕ
+    granules = list.config.granules
+
+    tables : List (Option TableRecord)
+    tables = values_below granules (table_numbered list)
+
+    by : (b : Bool) → is_granule granules address ≡ b → table_in (cells_from 0 tables) address
+        ≡ spec.table_in (cell_of (if is_granule granules address then placed_at list.cells.items (place_in list.places (address / 4096)) else Undelegated))
     by true is =
         let at : address ≡ (0 + address / 4096) * 4096 = omega (arith, place-granule granules address is) in
-        rw is (table_in-cells_from 0 (map (λ (c : Cell). spec.table_in (cell_of c)) items) (address / 4096) address at ∙ table_or_none-map items (address / 4096))
-    by false none = rw none (table_in-no_granule 0 (map (λ (c : Cell). spec.table_in (cell_of c)) items) address (λ i within here.
-        let below : i < granules = omega (arith, within, placed, length-map items (λ (c : Cell). spec.table_in (cell_of c))) in
+        rw is (table_in-cells_from 0 tables (address / 4096) address at
+        ∙ table_or_none-values granules (table_numbered list) (address / 4096) (place_within granules address is))
+    by false none = rw none (table_in-no_granule 0 tables address (λ i within here.
+        let below : i < granules = omega (arith, within, length-values granules (table_numbered list)) in
         let same : address ≡ i * 4096 = omega (arith, here) in
         both_ways (ap (is_granule granules) same ∙ granule_placed granules i below) none))

@@ -1,5 +1,5 @@
 -- One cell that is changed by what lies in it.
-use Rattle.std.proofs.Common.{◌≡◌, ℕ, ◌/◌, Bool, true, false, IsTrue, ◌==◌, if◌then◌else◌, List, length, Some, slice_set, refl, sym, ap, ◌∙◌, arith}
+use Rattle.std.proofs.Common.{◌≡◌, ℕ, Bool, true, false, ◌==◌, if◌then◌else◌, List, Some, slice_set, refl, sym, ap, ◌∙◌}
 use Rattle.std.specs.Prelude.{slice_index_or}
 use Rattle.std.proofs.lemmas.Bool.{eqb-true}
 use Rattle.std.proofs.lemmas.Option.{none-some, same_Some}
@@ -7,17 +7,18 @@ use Rattle.rmm_spec.specs.declared.change.RealmUpdate.{RealmUpdate}
 use Rattle.rmm_spec.specs.declared.change.RecUpdate.{RecUpdate}
 use Rattle.rmm_spec.specs.declared.entry.Entry.{Entry}
 use Rattle.rmm_spec.specs.State.{RealmRecord, RecRecord}
-use Rattle.rmm_spec.specs.Lookup.{is_granule}
 use Rattle.rmm_spec.specs.Table.{TableRecord}
 use Rattle.rmm_spec.specs.Cell as spec
 use Rattle.rmm_spec.specs.Cell.{put}
 use Rattle.shape_laws.specs.Whole.{cell_with_realm, cell_with_rec, cell_with_entries, changed_at}
 use Rattle.machine_cells.specs.declared.cell_list.CellList.{CellList}
 use Rattle.granule_cells.specs.declared.cell.Cell.{Cell}
-use Rattle.granule_cells.specs.declared.cell.Cell.TheVariants.{Undelegated, Rd, Rec, Rtt}
+use Rattle.granule_cells.specs.declared.cell.Cell.TheVariants.{Rd, Rec, Rtt}
 use Rattle.granule_cells.specs.Seen.{cell_of}
+use Rattle.granule_places.specs.Placed.{place_in}
+use Rattle.machine_cells.specs.Placed.{IsPlace}
 use Rattle.machine_cells.specs.Whole.{cells_of, cells_in}
-use Rattle.machine_cells.proofs.Kept.{mapped-set, kept_at-granule}
+use Rattle.machine_cells.proofs.Kept.{cells_in-set, cells_in-granule}
 
 -- what has a realm's record is its descriptor
 pub realm_cell : (c : spec.Cell) (r : RealmRecord) → Some r ≡ spec.realm_in c → c ≡ spec.Rd r
@@ -32,31 +33,20 @@ put-same cells granule c is = λ i other. by other (other == granule) refl i
     by other true here = ap cells (eqb-true other granule here) ∙ sym is
     by other false apart = refl
 
--- what is no granule is the host's
-outside : (list : CellList) (address : ℕ) → is_granule list.config.granules address ≡ false → cells_of list address ≡ spec.Undelegated
-unfolding cells_of
-outside list address none = rw none refl
-
--- nothing changes where there is no granule and the change leaves the host's cells
+-- nothing changes where the cell is the host's and the change leaves the host's cells
 pub outside-same : (list : CellList) (granule : ℕ) (change : spec.Cell → spec.Cell) → change spec.Undelegated ≡ spec.Undelegated
-    → (IsTrue (is_granule list.config.granules granule) → ⊥) → cells_of list ≡ changed_at (cells_of list) granule change
-outside-same list granule change kept none = by (is_granule list.config.granules granule) refl
-  where
-    by : (b : Bool) → is_granule list.config.granules granule ≡ b → cells_of list ≡ changed_at (cells_of list) granule change
-    by true at = absurd (none at)
-    by false at =
-        put-same (cells_of list) granule _ (ap change (outside list granule at) ∙ kept ∙ sym (outside list granule at))
+    → cells_of list granule ≡ spec.Undelegated → cells_of list ≡ changed_at (cells_of list) granule change
+outside-same list granule change kept none = put-same (cells_of list) granule _ (ap change none ∙ kept ∙ sym none)
 
 -- a granule's cell is set to what becomes of it
-pub set-at : (list : CellList) (granule place : ℕ) (read new : Cell) (change : spec.Cell → spec.Cell) → IsTrue (is_granule list.config.granules granule)
-    → place ≡ granule / 4096 → read ≡ slice_index_or list.cells.items place read → cell_of new ≡ change (cell_of read)
-    → cells_in list.config.granules (slice_set list.cells.items place new) ≡ changed_at (cells_of list) granule change
+pub set-at : (list : CellList) (granule place : ℕ) (read new : Cell) (change : spec.Cell → spec.Cell) → IsPlace list granule place
+    → read ≡ slice_index_or list.cells.items place read → cell_of new ≡ change (cell_of read)
+    → cells_in list.config.granules (place_in list.places) (slice_set list.cells.items place new) ≡ changed_at (cells_of list) granule change
 unfolding cells_of
-set-at list granule place read new change is at is_read after =
-    let placed : length list.cells.items ≡ list.config.granules = omega (arith, list.each, list.cells.ok.0) in
-    mapped-set cell_of list.config.granules list.cells.items Undelegated new granule place placed is at
-    ∙ ap (put (cells_in list.config.granules list.cells.items) granule)
-    (after ∙ ap (λ (x : Cell). change (cell_of x)) (kept_at-granule list.config.granules granule place list.cells.items Undelegated read placed is at is_read))
+set-at list granule place read new change is is_read after =
+    cells_in-set list.config.granules list.places list.cells.items new granule place is.granule is.at is.within
+    ∙ ap (put (cells_of list) granule)
+    (after ∙ ap change (cells_in-granule list.config.granules list.places list.cells.items granule place read is.granule is.at is.within is_read))
 
 -- only a realm's descriptor and a REC have records
 pub not_realm-same : (c : Cell) (update : RealmUpdate) → ((r : RealmRecord) → c ≡ Rd r → ⊥) → cell_with_realm update (cell_of c) ≡ cell_of c
@@ -68,20 +58,19 @@ not_rec-same (Rec r) update none = absurd (none r refl)
 not_rec-same _ update none = refl
 
 -- what is read of a cell is what lies there
-cell-read : (list : CellList) (granule place : ℕ) (read : Cell) → IsTrue (is_granule list.config.granules granule)
-    → place ≡ granule / 4096 → read ≡ slice_index_or list.cells.items place read → cells_of list granule ≡ cell_of read
+cell-read : (list : CellList) (granule place : ℕ) (read : Cell) → IsPlace list granule place
+    → read ≡ slice_index_or list.cells.items place read → cells_of list granule ≡ cell_of read
 unfolding cells_of
-cell-read list granule place read is at is_read =
-    let placed : length list.cells.items ≡ list.config.granules = omega (arith, list.each, list.cells.ok.0) in
-    ap cell_of (sym (kept_at-granule list.config.granules granule place list.cells.items Undelegated read placed is at is_read))
+cell-read list granule place read is is_read =
+    sym (cells_in-granule list.config.granules list.places list.cells.items granule place read is.granule is.at is.within is_read)
 
-pub realm-read : (list : CellList) (granule place : ℕ) (read : Cell) (r : RealmRecord) → IsTrue (is_granule list.config.granules granule)
-    → place ≡ granule / 4096 → read ≡ slice_index_or list.cells.items place read → read ≡ Rd r → spec.realms_of (cells_of list) granule ≡ Some r
-realm-read list granule place read r is at is_read realm = ap spec.realm_in (cell-read list granule place read is at is_read ∙ ap cell_of realm)
+pub realm-read : (list : CellList) (granule place : ℕ) (read : Cell) (r : RealmRecord) → IsPlace list granule place
+    → read ≡ slice_index_or list.cells.items place read → read ≡ Rd r → spec.realms_of (cells_of list) granule ≡ Some r
+realm-read list granule place read r is is_read realm = ap spec.realm_in (cell-read list granule place read is is_read ∙ ap cell_of realm)
 
-pub rec-read : (list : CellList) (granule place : ℕ) (read : Cell) (r : RecRecord) → IsTrue (is_granule list.config.granules granule)
-    → place ≡ granule / 4096 → read ≡ slice_index_or list.cells.items place read → read ≡ Rec r → spec.recs_of (cells_of list) granule ≡ Some r
-rec-read list granule place read r is at is_read rec = ap spec.rec_in (cell-read list granule place read is at is_read ∙ ap cell_of rec)
+pub rec-read : (list : CellList) (granule place : ℕ) (read : Cell) (r : RecRecord) → IsPlace list granule place
+    → read ≡ slice_index_or list.cells.items place read → read ≡ Rec r → spec.recs_of (cells_of list) granule ≡ Some r
+rec-read list granule place read r is is_read rec = ap spec.rec_in (cell-read list granule place read is is_read ∙ ap cell_of rec)
 
 -- only a table has entries
 pub not_table-same : (c : Cell) (change : List Entry → List Entry) → ((t : TableRecord) → c ≡ Rtt t → ⊥) → cell_with_entries change (cell_of c) ≡ cell_of c

@@ -1,5 +1,5 @@
 -- The granules of a new machine are all the host's.
-use Rattle.std.proofs.Common.{◌≡◌, ℕ, List, [], replicate, None, refl, sym, ap, ◌∙◌, subst}
+use Rattle.std.proofs.Common.{◌≡◌, ℕ, ◌/◌, Bool, true, false, if◌then◌else◌, List, [], replicate, Option, Some, None, slice_index_or, refl, sym, ap, ◌∙◌, subst}
 use Rattle.rmm_spec.specs.HistoryText.{Config}
 use Rattle.rmm_spec.specs.Lookup.{is_granule}
 use Rattle.rmm_spec.specs.State.{opening}
@@ -13,13 +13,20 @@ use Rattle.granule_cells.specs.declared.cell.Cell.{Cell}
 use Rattle.granule_cells.specs.declared.cell.Cell.TheVariants.{Undelegated}
 use Rattle.granule_cells.specs.declared.cpu_place.CpuPlace.TheVariants.{Outside}
 use Rattle.granule_cells.specs.Seen.{cell_of, place_of}
-use Rattle.machine_cells.specs.Whole.{cells_in, places_in}
-use Rattle.machine_cells.proofs.Kept.{kept_at-replicate, get_or-replicate_all}
+use Rattle.machine_cells.specs.Whole.{cells_in, placed_at, places_in}
+use Rattle.machine_cells.proofs.Kept.{get_or-replicate_all}
 
-pub cells-new : (granules n : ℕ) (cells : List Cell) → cells ≡ replicate n Undelegated → cells_in granules cells ≡ (λ _. spec.Undelegated)
-cells-new granules n cells is = λ i address.
-    (ap (λ (items : List Cell). cells_in granules items address) is
-    ∙ ap cell_of (kept_at-replicate granules n address Undelegated (is_granule granules address) refl)) i
+pub cells-new : (granules n : ℕ) (place : ℕ → Option ℕ) (cells : List Cell) → cells ≡ replicate n Undelegated
+    → cells_in granules place cells ≡ (λ _. spec.Undelegated)
+cells-new granules n place cells is = λ i address. by address (is_granule granules address) i
+  where
+    at : (o : Option ℕ) → placed_at cells o ≡ Undelegated
+    at None = refl
+    at (Some o) = ap (λ (items : List Cell). slice_index_or items o Undelegated) is ∙ get_or-replicate_all n o Undelegated _ refl
+
+    by : (address : ℕ) (b : Bool) → cell_of (if b then placed_at cells (place (address / 4096)) else Undelegated) ≡ spec.Undelegated
+    by address true = ap cell_of (at (place (address / 4096)))
+    by address false = refl
 
 pub places-new : (n : ℕ) → places_in (replicate n Outside) ≡ (λ _. shape.Outside)
 places-new n = λ i cpu. ap place_of (get_or-replicate_all n cpu Outside _ refl) i

@@ -4,6 +4,7 @@ use Rattle.std.specs.Rc.{rc_value}
 use Rattle.rmm_spec.specs.Flat.{flat_state}
 use Rattle.rmm_spec.specs.State.{State}
 use Rattle.granule_cells.specs.declared.cell.Cell.{Cell}
+use Rattle.granule_places.specs.Placed.{place_in}
 use Rattle.machine_cells.specs.Whole as whole
 use Rattle.machine_cells.specs.declared.keeping.Block.{Block}
 use Rattle.machine_cells.specs.declared.keeping.KeptState.{KeptState}
@@ -13,4 +14,4 @@ abbrev pub cells_in : Block → List Cell
 cells_in block = map rc_value block.cells.items
 
 unfoldable pub kept_state : KeptState → State
-kept_state kept = flat_state kept.config (whole.cells_in kept.config.granules (flat_map (λ block. cells_in (rc_value block)) kept.blocks.items))
+kept_state kept = flat_state kept.config (whole.cells_in kept.config.granules (place_in kept.places) (flat_map (λ block. cells_in (rc_value block)) kept.blocks.items))

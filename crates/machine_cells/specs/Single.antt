@@ -4,7 +4,7 @@ use mathlib.Core.Path.{sym, ◌∙◌}
 use mathlib.Core.HLevel.{is_prop→PathP}
 use Rattle.std.proofs.Props.{props}
 use Rattle.rmm_spec.specs.declared.entry.Entry.{Entry}
-use Rattle.rmm_spec.specs.declared.entry.Entry.TheVariants.{Unassigned, Assigned, Table, UnassignedNs, AssignedNs}
+use Rattle.rmm_spec.specs.declared.entry.Entry.TheVariants.{Unassigned, Table}
 use Rattle.rmm_spec.specs.declared.place.Place.{Place}
 use Rattle.rmm_spec.specs.State.{RealmRecord, RecRecord}
 use Rattle.rmm_spec.specs.Table.{TableRecord, place_number}
@@ -64,10 +64,7 @@ linked-single tables apart granule rd level number x y =
 
 fits-single : (e : Entry) (r : RealmRecord) (level number : ℕ) → IsProp (FitsPlace e r level number)
 fits-single (Unassigned ripas) r level number = hlevel props
-fits-single (Assigned ripas granule) r level number = hlevel props
-fits-single (Table granule) r level number = hlevel props
-fits-single UnassignedNs r level number = hlevel props
-fits-single (AssignedNs page) r level number = hlevel props
+fits-single _ r level number = hlevel props
 
 place-single : (realms : ℕ → Option RealmRecord) (rd : ℕ) (place : Place) → IsProp ((r : RealmRecord) × (realms rd ≡ Some r) × IsPlaceOf r place)
 place-single realms rd place = found-single (λ r. IsPlaceOf r place) (hlevel props) (λ r. hlevel props) (realms rd)

@@ -1,8 +1,9 @@
 -- The whole that the granules of a machine make, and the flat state that it stands for.
-use Rattle.std.specs.Prelude.{ℕ, ◌/◌, if◌then◌else◌, List, map, slice_index_or}
+use Rattle.std.specs.Prelude.{ℕ, zero, suc, ◌/◌, if◌then◌else◌, List, [], ◌∷◌, ◌++◌, Option, Some, None, slice_index_or}
 use Rattle.rmm_spec.specs.HistoryText.{Config}
 use Rattle.rmm_spec.specs.Lookup.{is_granule}
 use Rattle.rmm_spec.specs.State.{State}
+use Rattle.rmm_spec.specs.Table.{TableRecord}
 use Rattle.rmm_spec.specs.TableCells.{TableCell}
 use Rattle.rmm_spec.specs.Cell as spec
 use Rattle.rmm_spec.specs.Flat.{flat_state}
@@ -15,25 +16,26 @@ use Rattle.granule_cells.specs.declared.cpu_place.CpuPlace.{CpuPlace}
 use Rattle.granule_cells.specs.declared.cpu_place.CpuPlace.TheVariants.{Outside}
 use Rattle.granule_cells.specs.Seen.{cell_of, place_of}
 use Rattle.granule_cells.specs.Sides.{side_of}
+use Rattle.granule_places.specs.Placed.{place_in}
 use Rattle.machine_cells.specs.declared.cell_list.CellList.{CellList}
 use Rattle.machine_cells.specs.declared.granules.Granules.{Granules}
 use Rattle.machine_cells.specs.declared.places.Places.{Places}
 
--- what is kept for an address, with one item a granule; what is no granule has the default
-abbrev pub kept_at : {A : Type 0} → ℕ → List A → A → ℕ → A
-kept_at granules items default address =
-    if is_granule granules address then slice_index_or items (address / 4096) default else default
+-- what stands at a place, where there is one
+abbrev pub placed_at : List Cell → Option ℕ → Cell
+placed_at items None = Undelegated
+placed_at items (Some place) = slice_index_or items place Undelegated
 
--- the cell of each address
-abbrev pub cells_in : ℕ → List Cell → ℕ → spec.Cell
-cells_in granules items address = cell_of (kept_at granules items Undelegated address)
+-- the cell of each address, where the granule of a number has its place; one without a place is the host's
+abbrev pub cells_in : ℕ → (ℕ → Option ℕ) → List Cell → ℕ → spec.Cell
+cells_in granules place items address = cell_of (if is_granule granules address then placed_at items (place (address / 4096)) else Undelegated)
 
 -- where each CPU is
 abbrev pub places_in : List CpuPlace → ℕ → shape.CpuPlace
 places_in items cpu = place_of (slice_index_or items cpu Outside)
 
 unfoldable pub cells_of : CellList → ℕ → spec.Cell
-cells_of list = cells_in list.config.granules list.cells.items
+cells_of list = cells_in list.config.granules (place_in list.places) list.cells.items
 
 unfoldable pub places_of : Places → ℕ → shape.CpuPlace
 places_of p = places_in p.places.items
@@ -54,6 +56,15 @@ IsShapedIn g = IsShaped (config_of g) (whole_of g)
 unfoldable pub state_in : Granules → State
 state_in g = flat_state (config_of g) (cells_of g.list)
 
+-- the values of the first numbers
+abbrev pub values_below : {A : Type 0} → ℕ → (ℕ → A) → List A
+values_below zero f = []
+values_below (suc n) f = values_below n f ++ f n ∷ []
+
+-- the table in the granule of a number
+abbrev pub table_numbered : CellList → ℕ → Option TableRecord
+table_numbered list number = spec.table_in (cell_of (placed_at list.cells.items (place_in list.places number)))
+
 -- the tables of the granules, each in its own
 unfoldable pub tables_in : CellList → List TableCell
-tables_in list = cells_from 0 (map (λ (c : Cell). spec.table_in (cell_of c)) list.cells.items)
+tables_in list = cells_from 0 (values_below list.config.granules (table_numbered list))

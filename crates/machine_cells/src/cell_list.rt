@@ -1,52 +1,108 @@
 //! A cell for each granule.
 
-ghost use Rattle.std.specs.Prelude.{◌≡◌, ◌/◌, ◌<◌, IsTrue, vec_len};
-ghost use Rattle.std.specs.Option.{SomeIff};
-ghost use Rattle.rmm_spec.specs.Lookup.{is_granule};
+ghost use Rattle.std.specs.Prelude.{◌≡◌, ◌+◌, ◌≤◌, ◌++◌, replicate, vec_len, vec_capacity};
+ghost use Rattle.granule_cells.specs.declared.cell.Cell.TheVariants.{Undelegated};
+ghost use Rattle.granule_places.specs.Placed.{count_in, room_in};
 
 use granule_cells::Cell;
-use granule_state::{Config, GRANULE_BYTES, Pa, granule_at};
+use granule_places::GranulePlaces;
+use granule_state::{Config, GRANULE_BYTES, Pa};
 use realm_desc::Realm;
 use rtt_table::Table;
 use rtt_walk::Cells;
 use std::alloc::{AllocError, Global};
 
-/// A cell for each granule of a machine, in the order of addresses.
+/// How many granules get their cells together.
+const BLOCK: usize = 512;
+
+/// The cells of a machine's granules, each at its granule's place. A granule without a place is the host's.
 #[derive(Drop)]
 pub(crate) struct CellList {
     pub(crate) config: Config,
+    pub(crate) places: GranulePlaces,
+    // with room for all, so that no further cell takes memory
     pub(crate) cells: Vec<Cell>,
-    ghost each: { vec_len cells ≡ config.granules },
+    ghost each: { vec_len cells ≡ count_in places },
+    ghost room: { room_in places ≤ vec_capacity cells },
+    ghost granules: { places.granules ≡ config.granules },
 }
 
 impl CellList {
-    ghost use Rattle.std.specs.Prelude.{◌≡◌, ◌/◌, ◌<◌, IfOk, IsTrue, is_some, option_map, option_copied, unwrap_or, vec_len};
+    ghost use Rattle.std.specs.Prelude.{◌≡◌, ◌/◌, ◌<◌, IfOk, IfSome, IfNone, IsTrue, None, Some, option_map, option_copied, unwrap_or, vec_len};
     ghost use Rattle.rmm_spec.specs.Cell as spec;
     ghost use Rattle.rmm_spec.specs.Cell.{put, realms_of, tables_of};
     ghost use Rattle.rmm_spec.specs.Lookup.{is_granule};
     ghost use Rattle.granule_cells.specs.Seen.{cell_of};
     ghost use Rattle.machine_cells.specs.Whole.{cells_of};
+    ghost use Rattle.machine_cells.specs.Placed.{IsPlace};
+    ghost use Rattle.granule_places.specs.Placed.{place_in};
 
     /// Granules that are all the host's.
     pub(crate) fn new(alloc: Global, config: Config) -> Result<CellList, AllocError>
         ensures size { IfOk result (λ list. list.config ≡ config) }
         ensures cells { IfOk result (λ list. cells_of list ≡ (λ _. spec.Undelegated)) }
     {
-        let granules = config.granules() as usize;
-        let mut cells = Vec::with_capacity(alloc, granules)?;
-        for _ in 0..granules {
+        let places = GranulePlaces::new(alloc, config.granules() as usize)?;
+        let mut cells = Vec::with_capacity(alloc, places.room())?;
+        for _ in 0..places.count() {
             cells.push(Cell::Undelegated)?;
         }
-        Ok(CellList { config, cells })
+        Ok(CellList {
+            config,
+            places,
+            cells,
+        })
     }
 
-    /// What is kept of the granule at the address, where one is.
+    /// The place of the granule at the address, where one is and has one.
+    #[inline(always)]
+    pub(crate) fn place(&self, address: u64) -> Option<usize>
+        ensures some { IfSome result (IsPlace self.now address) }
+        ensures none { IfNone result (cells_of self.now address ≡ spec.Undelegated) }
+    {
+        if address % GRANULE_BYTES != 0 {
+            return None;
+        }
+        self.places.place((address / GRANULE_BYTES) as usize)
+    }
+
+    // The place of the granule, which it gets where it has none.
+    #[inline(always)]
+    fn made_place(&mut self, granule: u64) -> usize
+        requires { IsTrue (is_granule self.old.config.granules granule) }
+        ensures size { self.new.config ≡ self.old.config }
+        ensures cells { cells_of self.new ≡ cells_of self.old }
+        ensures place { IsPlace self.new granule result }
+    {
+        match self.places.place((granule / GRANULE_BYTES) as usize) {
+            Some(place) => place,
+            None => self.make_place(granule),
+        }
+    }
+
+    // Gives the granule a place, and cells to its block.
+    #[inline(never)]
+    fn make_place(&mut self, granule: u64) -> usize
+        requires granule { IsTrue (is_granule self.old.config.granules granule) }
+        requires none { place_in self.old.places (granule / 4096) ≡ None }
+        ensures size { self.new.config ≡ self.old.config }
+        ensures cells { cells_of self.new ≡ cells_of self.old }
+        ensures place { IsPlace self.new granule result }
+    {
+        let number = (granule / GRANULE_BYTES) as usize;
+        let place = self.places.make(number);
+        push_block(&mut self.cells);
+        place
+    }
+
+    /// What is kept of the granule at the address. Nothing is kept of what is no granule, and of one that nothing has touched.
+    #[inline(always)]
     pub(crate) fn cell(&self, address: u64) -> Option<&Cell>
-        ensures there { is_some result ≡ is_granule self.now.config.granules address }
+        ensures there { IfSome result (λ _. IsTrue (is_granule self.now.config.granules address)) }
         ensures cell { unwrap_or (option_map cell_of (option_copied result)) spec.Undelegated ≡ cells_of self.now address }
     {
-        match granule_at(&self.config, address) {
-            Some(granule) => Some(&self.cells[(granule.address() / GRANULE_BYTES) as usize]),
+        match self.place(address) {
+            Some(place) => Some(&self.cells[place]),
             None => None,
         }
     }
@@ -72,12 +128,26 @@ impl CellList {
     }
 
     /// Puts a cell in the place of a granule's.
+    #[inline(always)]
     pub(crate) fn put(&mut self, granule: u64, cell: Cell)
         requires { IsTrue (is_granule self.old.config.granules granule) }
         ensures size { self.new.config ≡ self.old.config }
         ensures cells { cells_of self.new ≡ put (cells_of self.old) granule (cell_of cell) }
     {
-        self.cells[(granule / GRANULE_BYTES) as usize] = cell;
+        let place = self.made_place(granule);
+        self.cells[place] = cell;
+    }
+}
+
+// Puts the cells of a block of granules behind the others, for which there is room.
+fn push_block(cells: &mut Vec<Cell>)
+    requires { vec_len cells.old + 512 ≤ vec_capacity cells.old }
+    ensures items { cells.new.items ≡ cells.old.items ++ replicate 512 Undelegated }
+    ensures len { vec_len cells.new ≡ vec_len cells.old + 512 }
+    ensures capacity { vec_capacity cells.new ≡ vec_capacity cells.old }
+{
+    for _ in 0..BLOCK {
+        cells.push_reserved(Cell::Undelegated);
     }
 }
 

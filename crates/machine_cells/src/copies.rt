@@ -41,12 +41,14 @@ impl CellList {
         ensures size { IfOk result (λ list. list.config ≡ self.now.config) }
         ensures cells { IfOk result (λ list. cells_of list ≡ cells_of self.now) }
     {
-        let mut cells = Vec::with_capacity(alloc, self.cells.len())?;
+        let places = self.places.copy(alloc)?;
+        let mut cells = Vec::with_capacity(alloc, self.places.room())?;
         for cell in &self.cells {
-            cells.push(copied_cell(alloc, cell)?)?;
+            cells.push_reserved(copied_cell(alloc, cell)?);
         }
         Ok(CellList {
             config: self.config,
+            places,
             cells,
         })
     }

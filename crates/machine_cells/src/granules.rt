@@ -4,7 +4,7 @@ use crate::cell_list::CellList;
 use crate::near::Near;
 use crate::places::Places;
 use granule_cells::{Cell, Side};
-use granule_state::Config;
+use granule_state::{Config, MOST_GRANULES, granule_at};
 use realm_desc::{Realm, Rec};
 use rmm_spec::{Tag, Version};
 use std::alloc::{AllocError, Global};
@@ -21,9 +21,10 @@ pub struct Granules {
 
 impl Granules {
     ghost use Rattle.std.specs.Prelude.{◌≡◌, ◌≤◌, IfOk, option_copied};
+    ghost use Rattle.rmm_spec.specs.Cell as spec;
     ghost use Rattle.rmm_spec.specs.Lookup.{has_tag};
     ghost use Rattle.rmm_spec.specs.State.{opening};
-    ghost use Rattle.machine_cells.specs.Whole.{count_of, state_in, IsShapedIn};
+    ghost use Rattle.machine_cells.specs.Whole.{cells_of, count_of, state_in, IsShapedIn};
 
     /// The granules of a machine of that size, all the host's.
     #[tactic(auto, unfolding(crate::specs::Whole::state_in))]
@@ -46,7 +47,7 @@ impl Granules {
     /// How many granules there are.
     pub fn count(&self) -> usize
         ensures is { result ≡ count_of self.now }
-        ensures most { result ≤ 4096 }
+        ensures most { result ≤ MOST_GRANULES }
     {
         self.list.config.granules() as usize
     }
@@ -71,11 +72,24 @@ impl Granules {
     }
 
     /// Whether the address is that of a granule with the tag.
+    #[inline(always)]
     pub fn has_tag(&self, address: u64, tag: Tag) -> bool
         ensures { result ≡ has_tag (state_in self.now) address tag }
     {
         match self.list.cell(address) {
             Some(cell) => cell.tag() == tag,
+            None => self.has_tag_untouched(address, tag),
+        }
+    }
+
+    // The same of an address of which nothing is kept.
+    #[inline(never)]
+    fn has_tag_untouched(&self, address: u64, tag: Tag) -> bool
+        requires { cells_of self.now.list address ≡ spec.Undelegated }
+        ensures { result ≡ has_tag (state_in self.now) address tag }
+    {
+        match granule_at(&self.list.config, address) {
+            Some(_) => Tag::Undelegated == tag,
             None => false,
         }
     }

@@ -8,6 +8,7 @@ use crate::copies::copied_cell;
 use crate::granules::Granules;
 use crate::same::{same_cell, same_config};
 use granule_cells::Cell;
+use granule_places::GranulePlaces;
 use granule_state::Config;
 use std::alloc::{AllocError, Global};
 use std::cmp::min;
@@ -26,6 +27,7 @@ pub(crate) struct Block {
 #[derive(Drop)]
 pub struct KeptState {
     pub(crate) config: Config,
+    pub(crate) places: GranulePlaces,
     pub(crate) blocks: Vec<Rc<Block>>,
 }
 
@@ -39,9 +41,11 @@ impl Granules {
     pub fn keep(&self, near: Option<&KeptState>) -> Result<KeptState, AllocError>
         ensures { IfOk result (λ kept. kept_state kept ≡ state_in self.now) }
     {
+        let places = self.list.places.copy(self.alloc)?;
         let blocks = kept_blocks(self.alloc, self.list.cells.as_slice(), near)?;
         Ok(KeptState {
             config: self.list.config,
+            places,
             blocks,
         })
     }
@@ -52,6 +56,7 @@ impl Granules {
         ensures { IsTrue result → kept_state kept.now ≡ state_in self.now }
     {
         same_config(&kept.config, &self.list.config)
+            && kept.places.is_same(&self.list.places)
             && are_same_blocks(kept.blocks.as_slice(), self.list.cells.as_slice())
     }
 }

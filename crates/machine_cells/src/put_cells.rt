@@ -8,21 +8,19 @@ ghost use Rattle.machine_cells.specs.Changes.{is_plain, fits_entries};
 
 use crate::cell_list::CellList;
 use granule_cells::Cell;
-use granule_state::{GRANULE_BYTES, granule_at};
 use rmm_spec::{EntryChange, RealmChange, RecChange, Tag, TagChange};
 use rtt_table::Table;
 
 impl CellList {
-    ghost use Rattle.std.specs.Prelude.{◌≡◌, ◌/◌, IfSome, IsTrue};
-    ghost use Rattle.std.specs.Option.{SomeIff};
+    ghost use Rattle.std.specs.Prelude.{◌≡◌, IfSome, IsTrue};
     ghost use Rattle.rmm_spec.specs.declared.change.RealmUpdate.TheVariants.{RecCounted};
     ghost use Rattle.rmm_spec.specs.Applicable.{IsRealmUpdate};
-    ghost use Rattle.rmm_spec.specs.Lookup.{is_granule};
     ghost use Rattle.shape_laws.specs.Whole.{changed_at, cell_with_realm, cells_with_tag_change, cells_with_realm_change, cells_with_rec_change, cells_with_entries, entries_changed, width_in};
     ghost use Rattle.machine_cells.specs.Changes.{CanGetTag, CanUpdate, TakesIndex, fits_entries};
     ghost use Rattle.machine_cells.specs.Whole.{cells_of};
 
     /// Gives a granule that holds nothing another tag, where one goes with a change.
+    #[inline(always)]
     pub(crate) fn change_tag(&mut self, change: Option<TagChange>)
         requires { IfSome change (CanGetTag self.old.config.granules) }
         ensures size { self.new.config ≡ self.old.config }
@@ -43,7 +41,7 @@ impl CellList {
         let Some(RealmChange { rd, update }) = change else {
             return;
         };
-        let Some(place) = self.place_of(rd) else {
+        let Some(place) = self.place(rd) else {
             return;
         };
         if let Cell::Rd(descriptor) = &mut self.cells[place] {
@@ -57,7 +55,7 @@ impl CellList {
         ensures size { self.new.config ≡ self.old.config }
         ensures cells { cells_of self.new ≡ changed_at (cells_of self.old) rd (cell_with_realm (RecCounted index flags)) }
     {
-        let Some(place) = self.place_of(rd) else {
+        let Some(place) = self.place(rd) else {
             return;
         };
         if let Cell::Rd(descriptor) = &mut self.cells[place] {
@@ -74,7 +72,7 @@ impl CellList {
         let Some(RecChange { rec, update }) = change else {
             return;
         };
-        let Some(place) = self.place_of(rec) else {
+        let Some(place) = self.place(rec) else {
             return;
         };
         if let Cell::Rec(record) = &mut self.cells[place] {
@@ -91,7 +89,7 @@ impl CellList {
         let Some(granule) = at else {
             return;
         };
-        let Some(place) = self.place_of(granule) else {
+        let Some(place) = self.place(granule) else {
             return;
         };
         if let Cell::Rtt(table) = &mut self.cells[place] {
@@ -107,14 +105,6 @@ impl CellList {
             Some(Cell::Rtt(table)) => table.place().width,
             _ => 0,
         }
-    }
-
-    // The place of the granule at the address, where one is.
-    fn place_of(&self, address: u64) -> Option<usize>
-        ensures { SomeIff result (IsTrue (is_granule self.now.config.granules address)) (address / 4096) }
-    {
-        let granule = granule_at(&self.config, address)?;
-        Some((granule.address() / GRANULE_BYTES) as usize)
     }
 }
 

@@ -27,6 +27,7 @@ fn same_version(one: Version, other: Version) -> bool
     match one {
         Version::One => matches!(other, Version::One),
         Version::Two => matches!(other, Version::Two),
+        Version::Large => matches!(other, Version::Large),
     }
 }
 

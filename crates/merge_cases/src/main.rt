@@ -1,14 +1,15 @@
 //! Merges each recording of the folder where it runs, and prints its name and what came of it: both texts, or why there are none.
 //! What should come stands in the file `stdout` beside this crate, worked out by hand from docs/RECORDING.md.
 //! It reads every `.events` there in the order of their names. A name that ends in `prefix` is merged up to its first hole, one that
-//! ends in `two` into a history of version 2, one that ends in `sizes` for a machine of 8 granules and 3 CPUs. One that begins with `rename`
+//! ends in `two` into a history of version 2, in `large` into one of a large machine, in `sizes` for 8 granules and 3 CPUs. One that begins with `rename`
 //! is merged with names for granules: of a memory that ends at 100000 (hex) where it ends in `memory`, for 2 granules where it ends in `few`.
 //! No clause says more than that it is safe. It depends on `merging`, and nothing depends on it.
 #![tactic(auto)]
 
 use anyhow::{Context, Result};
 use devices::FileSource;
-use merging::{Asked, Extent, Renaming, SourceFault, Texts, merge_source};
+use merging::{Asked, Extent, Renaming, Run, SourceFault, Version, merge_source};
+use std::alloc::Global;
 use std::fs;
 use std::rt::Files;
 
@@ -35,7 +36,7 @@ fn files<R: Files + AllocGlobal + Clone + Drop>(rt: &R) -> Result<Vec<String>> {
 fn asked(name: &str) -> Asked {
     let is_small = name.ends_with("sizes.events");
     Asked {
-        version: if name.ends_with("two.events") { 2 } else { 1 },
+        version: version(name),
         granules: granules(name),
         cpus: if is_small { Some(3) } else { None },
         extent: if name.ends_with("prefix.events") {
@@ -44,6 +45,16 @@ fn asked(name: &str) -> Asked {
             Extent::Whole
         },
         renaming: renaming(name),
+    }
+}
+
+fn version(name: &str) -> Version {
+    if name.ends_with("two.events") {
+        Version::Two
+    } else if name.ends_with("large.events") {
+        Version::Large
+    } else {
+        Version::One
     }
 }
 
@@ -75,20 +86,20 @@ fn outcome<R: Files + AllocGlobal>(rt: &R, name: &str) -> Result<String> {
     let alloc = rt.alloc();
     let mut source = FileSource::new(fs::open(rt, name).context(name)?);
     match merge_source(alloc, &mut source, asked(name)) {
-        Ok(
-            Texts {
-                history,
-                certificate,
-                map,
-                stamps,
-            },
-        ) => {
-            let calls = std::str::from_utf8(history.as_slice())?;
-            let commits = std::str::from_utf8(certificate.as_slice())?;
-            let names = std::str::from_utf8(map.as_slice())?;
-            Ok(format!(in alloc; "{stamps} stamps\n{calls}{commits}{names}")?)
-        }
+        Ok(run) => texts(alloc, &run),
         Err(SourceFault::Events(fault)) => Ok(format!(in alloc; "{fault}")?),
         Err(_) => Ok(String::from_str(alloc, "unread")?),
     }
+}
+
+fn texts(alloc: Global, run: &Run) -> Result<String> {
+    let mut history = Vec::new(alloc);
+    let mut certificate = Vec::new(alloc);
+    run.write(alloc, &mut history, &mut certificate)?;
+    let map = run.map(alloc)?;
+    let stamps = run.stamps();
+    let calls = std::str::from_utf8(history.as_slice())?;
+    let commits = std::str::from_utf8(certificate.as_slice())?;
+    let names = std::str::from_utf8(map.as_slice())?;
+    Ok(format!(in alloc; "{stamps} stamps\n{calls}{commits}{names}")?)
 }

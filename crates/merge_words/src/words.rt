@@ -5,11 +5,12 @@ use clap::{Arg, ArgAction, ArgMatches, Command, Error, value_parser};
 use std::alloc::{AllocError, Global};
 
 const USAGE: &str =
-    "rmmmerge [--version 1|2] [--granules G] [--cpus P] [--prefix] [--rename [--memory BYTES] [--map FILE]] EVENTS HISTORY CERTIFICATE\n       \
+    "rmmmerge [--version 1|2] [--large] [--granules G] [--cpus P] [--prefix] [--rename [--memory BYTES] [--map FILE]] EVENTS HISTORY CERTIFICATE\n       \
 rmmmerge --version";
 
 const NO_FORM: &str =
-    "error: EVENTS, HISTORY and CERTIFICATE are required; --memory, a number in hex, and --map need --rename\n\n\
+    "error: EVENTS, HISTORY and CERTIFICATE are required; --memory, a number in hex, and --map need --rename; \
+--large has no --version\n\n\
 For more information, try '--help'.\n";
 
 /// What is asked for.
@@ -25,6 +26,8 @@ pub enum Asked<'a> {
 #[derive(Clone, Copy)]
 pub struct Request<'a> {
     pub version: u64,
+    /// Whether the history is of a large machine, whatever its version.
+    pub large: bool,
     /// The sizes of the machine, where they aren't those of the header.
     pub granules: Option<u64>,
     pub cpus: Option<u64>,
@@ -110,8 +113,14 @@ fn merge_in<'a>(matches: &ArgMatches<'a>) -> Option<Asked<'a>> {
         history: matches.get_str("HISTORY")?,
         certificate: matches.get_str("CERTIFICATE")?,
     };
+    let version = matches.get_one::<u64>("version");
+    let large = matches.get_flag("large");
+    if large && version.is_some() {
+        return None;
+    }
     Some(Asked::Merge(Request {
-        version: matches.get_one::<u64>("version").unwrap_or(1),
+        version: version.unwrap_or(1),
+        large,
         granules: matches.get_one::<u64>("granules"),
         cpus: matches.get_one::<u64>("cpus"),
         extent: if matches.get_flag("prefix") {
@@ -145,7 +154,9 @@ fn names_in<'a>(matches: &ArgMatches<'a>) -> Option<Option<Names<'a>>> {
 
 fn program<'a>(alloc: Global) -> Result<Command<'a>, AllocError> {
     let version = "Version of the history (1). Alone it prints the program's version";
-    let granules = "Granules of the machine, at most 4096, whatever the header says";
+    let granules =
+        "Granules of the machine, at most 4096, or 1048576 with --large, whatever the header says";
+    let large = "Write the history of a machine of up to 1048576 granules, which begins with rml1";
     let cpus = "CPUs of the machine, at most 8, whatever the header says";
     let rename = "Give each granule the number of its first appearance, times 1000 (hex)";
     Command::new(alloc, "rmmmerge")
@@ -158,7 +169,8 @@ fn program<'a>(alloc: Global) -> Result<Command<'a>, AllocError> {
                 .short('V')
                 .num_args(0..=1),
         )?
-        .arg(count(alloc, "granules", "G", 4096, granules))?
+        .arg(flag(alloc, "large", large))?
+        .arg(count(alloc, "granules", "G", 1_048_576, granules))?
         .arg(count(alloc, "cpus", "P", 8, cpus))?
         .arg(flag(
             alloc,

@@ -15,22 +15,25 @@ use Rattle.rmm_spec.proofs.Records.{subhistory_of-push_same, subhistory_of-push_
 use Rattle.history.proofs.SubhistoryLaws.{goes_on}
 use Rattle.recorded_events.specs.Events.{Moment, Call, Commit, Return}
 use Rattle.recorded_events.specs.Table.{Happened}
-use Rattle.merging.specs.Merge.{open_count, AreCounted}
-use Rattle.merging.specs.Run.{Phase, Idle, Committed, Stand, Fits, phase_after, call_count, return_count, stand_after, stands_with, events_of}
+use Rattle.merging.specs.Run.{Phase, Idle, Committed, Stand, Fits, phase_after, call_count, return_count, event_count, line_count, stand_after, stands_with, events_of, lines_of}
 use Rattle.merging.specs.Run as run
 
--- how many events a moment makes
-event_count : Moment → ℕ
-event_count (Call command) = 1
-event_count (Commit given) = 0
-event_count (Return given) = 1
+-- a CPU that isn't idle has a call open
+abbrev pub open_count : Phase → ℕ
+open_count Idle = 0
+open_count run.Called = 1
+open_count (Committed given) = 1
+
+-- each CPU has called and returned as often as its part of the history says
+pub record AreCounted (events : List Event) (stands : ℕ → Stand) : Type 0 where
+  pub events_of_cpu : (cpu : ℕ) → length (subhistory_of cpu events) + open_count (stands cpu).phase ≡ (stands cpu).calls + (stands cpu).calls
+  pub returns : (cpu : ℕ) → (stands cpu).returns + open_count (stands cpu).phase ≡ (stands cpu).calls
 
 -- a moment that fits keeps the counts
 module _ (calls returns events : ℕ) where
   counts : (phase : Phase) (moment : Moment) → Fits phase moment → events + open_count phase ≡ calls + calls → returns + open_count phase ≡ calls
       → (events + event_count moment + open_count (phase_after moment) ≡ (calls + call_count moment) + (calls + call_count moment))
       × (returns + return_count moment + open_count (phase_after moment) ≡ calls + call_count moment)
-  unfolding event_count
   counts Idle (Call command) fits e f = (omega (arith, e, f), omega (arith, e, f))
   counts Idle (Commit given) fits e f = absurd fits
   counts Idle (Return given) fits e f = absurd fits
@@ -44,7 +47,6 @@ module _ (calls returns events : ℕ) where
 -- the events of a moment are its CPU's
 length-own : (events : List Event) (stand : Stand) (cpu : ℕ) (moment : Moment)
     → length (subhistory_of cpu (events ++ events_of stand cpu moment)) ≡ length (subhistory_of cpu events) + event_count moment
-unfolding event_count
 length-own events stand cpu (Call command) =
     let event = Called cpu stand.calls command in
     ap length (subhistory_of-push_same cpu events event refl) ∙ length_push (subhistory_of cpu events) event
@@ -131,3 +133,15 @@ pub IsLine-commit : (is_kept : Bool) (cpu number : ℕ) (given : Reply) → cpu 
     → IsLine (if is_kept then line.Keep cpu number else line.Unfinished cpu number given)
 IsLine-commit true cpu number given below few is_reply = (below, few)
 IsLine-commit false cpu number given below few is_reply = (below, few, is_reply)
+
+-- ---- how many events and lines a moment makes
+
+pub length-events_of : (stand : Stand) (cpu : ℕ) (moment : Moment) → length (events_of stand cpu moment) ≡ event_count moment
+length-events_of stand cpu (Call command) = refl
+length-events_of stand cpu (Commit given) = refl
+length-events_of stand cpu (Return given) = refl
+
+pub length-lines_of : (returns : ℕ) (stand : Stand) (cpu : ℕ) (moment : Moment) → length (lines_of returns stand cpu moment) ≡ line_count moment
+length-lines_of returns stand cpu (Call command) = refl
+length-lines_of returns stand cpu (Commit given) = refl
+length-lines_of returns stand cpu (Return given) = refl

@@ -1,4 +1,6 @@
-mod RunLaws
 mod CountLaws
+mod RunLaws
 mod StepLaws
 mod NamingLaws
+mod LineLaws
+mod TextLaws

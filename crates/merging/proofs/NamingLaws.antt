@@ -1,20 +1,22 @@
 -- Laws on events whose granules have names.
 use Rattle.std.proofs.Common.{◌≡◌, ℕ, zero, suc, ◌+◌, ◌<◌, ◌≤◌, List, [], ◌∷◌, ◌++◌, length, take, drop, Option, Some, if◌then◌else◌, refl, sym, ap, ◌∙◌, subst, arith, append_assoc, append-nil}
 use Rattle.std.specs.Prelude.{slice_get, ◌==◌}
-use Rattle.std.proofs.Math.Seq.{take-length}
 use Rattle.std.proofs.lemmas.Option.{none-some, slice_get_within}
 use Rattle.rmm_spec.specs.declared.function_id.FunctionId.{FunctionId}
-use Rattle.rmm_spec.specs.declared.line.Line.{Line}
-use Rattle.rmm_spec.specs.HistoryText.{Config, History}
 use Rattle.recorded_events.specs.Events.{Moment, Call, Commit, Return}
-use Rattle.recorded_events.specs.Table.{Happened}
+use Rattle.recorded_events.specs.Table.{Happened, Table}
 use Rattle.granule_names.proofs.NameLaws.{names_from-append}
 use Rattle.granule_names.specs.Names.{names_from}
 use Rattle.granule_names.specs.Renamed.{lasts_with, no_lasts, moment_addresses, renamed_moment}
 use Rattle.granule_names.specs.declared.names.Limits.{Limits}
-use Rattle.merging.specs.Merge.{AreReturns, IsMergeOf, IsWalkedTo}
-use Rattle.merging.specs.Naming.{addresses_from, names_of, named_slot, named_from, events_named, lasts_after, HasTooMany, IsUnnamed, IsUnnamedNext}
-use Rattle.merging.specs.Run.{Stand, IsRun, starts, return_count, returns_in, events_from, lines_from}
+use Rattle.rmm_spec.specs.HistoryText.{Config}
+use Rattle.recorded_events.specs.Faults.{IsTableOf}
+use Rattle.merging.specs.Merge.{Merge, AreReturns}
+use Rattle.merging.specs.Texts.{naming_asked, config_asked, IsMergedText}
+use Rattle.merging.specs.declared.texts.Asked.{Asked}
+use Rattle.merging.specs.declared.merged.Extent.TheVariants.{Whole}
+use Rattle.merging.specs.Naming.{addresses_from, names_of, named_slot, told_slot, named_from, events_named, lasts_after, HasTooMany, IsUnnamed, IsUnnamedNext}
+use Rattle.merging.specs.Run.{starts, return_count, returns_in, known_front, IsRun}
 use Rattle.merging.specs.declared.naming.NamingFault.{NamingFault}
 use Rattle.merging.specs.declared.naming.NamingFault.TheVariants as fault
 use Rattle.merging.specs.declared.naming.Naming.{Naming}
@@ -57,6 +59,21 @@ pub length-named_from : (naming : Naming) (granules : ℕ) (lasts : ℕ → Opti
     → length (named_from naming granules lasts slots) ≡ length slots
 length-named_from naming granules lasts [] = refl
 length-named_from naming granules lasts (slot ∷ slots) = ap suc (length-named_from naming granules (lasts_with lasts slot) slots)
+
+pub named_slot-cpu : (naming : Naming) (granules : ℕ) (last : Option FunctionId) (slot : Happened) → (named_slot naming granules last slot).cpu ≡ slot.cpu
+named_slot-cpu AsRecorded granules last slot = refl
+named_slot-cpu (ByNames names) granules last slot = refl
+
+pub named_slot-line : (naming : Naming) (granules : ℕ) (last : Option FunctionId) (slot : Happened) → (named_slot naming granules last slot).line ≡ slot.line
+named_slot-line AsRecorded granules last slot = refl
+named_slot-line (ByNames names) granules last slot = refl
+
+-- the events as they are told have the next one at its place
+pub told-at : (naming : Naming) (granules size : ℕ) (lasts : ℕ → Option FunctionId) (slots : List Happened) (place : ℕ) (slot : Happened)
+    → slice_get slots place ≡ Some slot → size ≡ granules → lasts ≡ lasts_after no_lasts (take place slots)
+    → slice_get (events_named naming granules slots) place ≡ Some (told_slot naming size lasts slot)
+told-at naming granules size lasts slots place slot is size_is lasts_are =
+    named_from-get naming granules no_lasts slots place slot is ∙ (λ i. Some (told_slot naming (sym size_is i) (sym lasts_are i) slot))
 
 -- ---- returns stay returns
 
@@ -129,16 +146,19 @@ IsUnnamed-next limits slots place slot names lasts fault.NoMemory is are few fun
     let within = slice_get_within slots place slot is in
     let some : 0 < length slots = omega (arith, within) in some
 
--- a walk over all events as they are told is a merge
-pub IsMergeOf-walked : (naming : Naming) (config : Config) (slots : List Happened) (history : History) (lines : List Line) (stands : List Stand)
-    → IsWalkedTo (length slots) (events_named naming config.granules slots) config (record { history = history; lines = lines; stands = stands })
-    → IsMergeOf config (events_named naming config.granules slots) history lines
-IsMergeOf-walked naming config slots history lines stands walked =
-    let events = events_named naming config.granules slots in
-    let whole : take (length slots) events ≡ events =
-    ap (λ n. take n events) (sym (length-named_from naming config.granules no_lasts slots)) ∙ take-length events in
-    record {
-      is_run = subst (IsRun config.cpus starts) whole walked.is_run;
-      is_history = walked.is_history ∙ ap (λ es. record { config = config; events = events_from starts es }) whole;
-      are_lines = walked.are_lines ∙ ap (lines_from (λ cpu. returns_in cpu events) starts) whole;
-    }
+-- what is made of a text
+pub IsMergedText-merged : (text : List ℕ) (table : Table) (asked : Asked) (config : Config) (naming : Naming) (run : Merge) → IsTableOf text table
+    → naming ≡ naming_asked asked (known_front table.slots) → config ≡ config_asked naming table asked
+    → run ≡ record { config = config; naming = naming; events = events_named naming config.granules (known_front table.slots) }
+    → IsRun config.cpus starts (events_named naming config.granules (known_front table.slots))
+    → (asked.extent ≡ Whole → length (known_front table.slots) ≡ length table.slots) → IsMergedText text asked run
+IsMergedText-merged text table asked config naming run of_text naming_is config_is run_is is_run whole =
+    subst (IsMergedText text asked) (sym run_is) (record {
+      table = table;
+      is_table = of_text;
+      is_naming = naming_is;
+      is_config = config_is;
+      are_events = refl;
+      is_run = is_run;
+      whole = λ all. length-named_from naming config.granules no_lasts (known_front table.slots) ∙ whole all;
+    })

@@ -1,19 +1,20 @@
 -- Laws on what happened, with one moment more at the end.
-use Rattle.std.proofs.Common.{◌≡◌, ℕ, zero, suc, ◌+◌, ◌<◌, ◌≤◌, Bool, true, false, List, [], ◌∷◌, ◌++◌, length, take, get_or, set, Option, Some, None, if◌then◌else◌, refl, sym, ap, ◌∙◌, subst, arith, ⊎_elim, append_assoc, append-nil, add-one}
+use Rattle.std.proofs.Common.{◌≡◌, ℕ, zero, suc, ◌+◌, ◌<◌, ◌≤◌, Bool, true, false, List, [], ◌∷◌, ◌++◌, length, take, get_or, set, Option, Some, None, if◌then◌else◌, refl, sym, ap, ◌∙◌, subst, arith, ⊎_elim, append_assoc, append-nil, add-one, length-append}
 use Rattle.std.specs.Prelude.{slice_get, slice_index, ◌==◌}
+use Rattle.std.specs.List.{AllByRecursion}
 use Rattle.std.proofs.Math.Seq.{take-suc, take-length}
 use Rattle.std.proofs.lemmas.Bool.{cases_eq, eq-eqb, ne_eqb}
 use Rattle.std.proofs.lemmas.Option.{none-some, slice_get_within, get_or_from_slice_get}
-use Rattle.std.proofs.lemmas.List.{get_or-set_same, get_or-set_other, length-set, length-map, map-set}
+use Rattle.std.proofs.lemmas.List.{get_or-set_same, get_or-set_other, length-set, length-map, length-take, map-set}
 use Rattle.rmm_spec.specs.Cell.{put}
-use Rattle.rmm_spec.specs.declared.event.Event.{Event}
+use Rattle.rmm_spec.proofs.Texts.{AllByRecursion-append}
 use Rattle.recorded_events.specs.Events.{Moment, Call, Commit, Return}
-use Rattle.recorded_events.specs.Table.{Happened, slot_at}
-use Rattle.merging.specs.Run.{Stand, start, stand_at, stands_with, stands_after, CanFollow, IsRun, starts, return_count, returns_in, events_of, events_from, lines_of, lines_from, known_front}
+use Rattle.recorded_events.specs.Table.{Happened, IsHappened, slot_at}
+use Rattle.merging.specs.Run.{Stand, start, stand_at, stand_after, stands_with, stands_after, CanFollow, IsRun, starts, call_count, return_count, returns_in, events_of, events_from, lines_of, lines_from, known_front}
 use Rattle.merging.specs.Seen.{stand_seen, stands_in}
-use Rattle.merging.specs.Merge.{Walked, IsStep, AreReturns, IsWalkedTo}
-use Rattle.rmm_spec.specs.HistoryText.{Config, History}
+use Rattle.merging.specs.Merge.{Walked, CanMerge, IsStep, AreFew, AreReturns, IsWalkedTo}
 use Rattle.merging.specs.declared.cpu.Cpu.{Cpu}
+use Rattle.merging.proofs.CountLaws.{length-events_of, length-lines_of}
 
 pub stands_after-push : (stands : ℕ → Stand) (slots : List Happened) (slot : Happened)
     → stands_after stands (slots ++ slot ∷ []) ≡ stands_with (stands_after stands slots) slot
@@ -145,43 +146,102 @@ stands_in-set cpus at cpu within = λ i other. each other i
 
 -- ---- a walk, one moment further
 
-pub IsWalkedTo-step : (stamp : ℕ) (slots : List Happened) (slot : Happened) (returns : List ℕ) (old new : Walked)
-    → IsWalkedTo stamp slots old.history.config old → slice_get slots stamp ≡ Some slot → AreReturns returns slots → slot.cpu < 8
-    → IsStep old.history.config.cpus (slice_index returns slot.cpu) old new slot → IsWalkedTo (stamp + 1) slots old.history.config new
-IsWalkedTo-step stamp slots slot returns old new walked is are below step =
+pub IsWalkedTo-next : (stamp : ℕ) (slots : List Happened) (slot : Happened) (cpus : ℕ) (old new : Walked) → IsWalkedTo stamp slots cpus old
+    → slice_get slots stamp ≡ Some slot → IsHappened slot → IsStep cpus old new slot → IsWalkedTo (stamp + 1) slots cpus new
+IsWalkedTo-next stamp slots slot cpus old new walked is happened step =
     let before = take stamp slots in
     let next : take (stamp + 1) slots ≡ before ++ slot ∷ [] = take_next slots stamp slot is in
     let all = λ (cpu : ℕ). returns_in cpu slots in
-    let stand : stand_at old.stands slot.cpu ≡ stands_after starts before slot.cpu = λ i. walked.are_stands i slot.cpu in
+    let stand : stand_at old.stands slot.cpu ≡ stands_after starts before slot.cpu = λ i. walked.stands i slot.cpu in
     record {
-      is_run = subst (IsRun old.history.config.cpus starts) (sym next)
-          (IsRun-push old.history.config.cpus starts before slot walked.is_run
-          (subst (λ s. CanFollow old.history.config.cpus s slot) stand step.can_follow));
-      is_history =
-          step.history
-          ∙ (λ i. record { config = old.history.config; events = (walked.is_history i).events ++ events_of (stand i) slot.cpu slot.moment })
-          ∙ ap (λ (es : List Event). record { config = old.history.config; events = es }) (sym (ap (events_from starts) next ∙ events_from-push starts before slot));
-      are_lines =
-          step.lines
-          ∙ (λ i. walked.are_lines i ++ lines_of (are.each slot.cpu below i) (stand i) slot.cpu slot.moment)
-          ∙ sym (ap (lines_from all starts) next ∙ lines_from-push all starts before slot);
-      are_stands =
-          step.stands ∙ ap (λ (s : ℕ → Stand). stands_with s slot) walked.are_stands
+      is_run = subst (IsRun cpus starts) (sym next)
+          (IsRun-push cpus starts before slot walked.is_run (subst (λ s. CanFollow cpus s slot) stand step.can_follow));
+      each = subst (AllByRecursion IsHappened) (sym next) (AllByRecursion-append IsHappened before (slot ∷ []) walked.each (happened, tt));
+      stands =
+          step.stands ∙ ap (λ (s : ℕ → Stand). stands_with s slot) walked.stands
           ∙ sym (ap (stands_after starts) next ∙ stands_after-push starts before slot);
+      events = omega (
+        arith,
+        step.events,
+        walked.events,
+        ap (λ ss. length (events_from starts ss)) next,
+        ap length (events_from-push starts before slot),
+        length-append (events_from starts before) (events_of (stands_after starts before slot.cpu) slot.cpu slot.moment),
+        length-events_of (stands_after starts before slot.cpu) slot.cpu slot.moment,
+      );
+      lines = omega (
+        arith,
+        step.lines,
+        walked.lines,
+        ap (λ ss. length (lines_from all starts ss)) next,
+        ap length (lines_from-push all starts before slot),
+        length-append (lines_from all starts before) (lines_of (all slot.cpu) (stands_after starts before slot.cpu) slot.cpu slot.moment),
+        length-lines_of (all slot.cpu) (stands_after starts before slot.cpu) slot.cpu slot.moment,
+      );
+      few_events = step.few_events;
+      few_lines = step.few_lines;
     }
 
--- the same of the configuration that it began with
-pub IsWalkedTo-next : (stamp : ℕ) (slots : List Happened) (slot : Happened) (returns : List ℕ) (config : Config) (old new : Walked)
-    → IsWalkedTo stamp slots config old → slice_get slots stamp ≡ Some slot → AreReturns returns slots → slot.cpu < 8
-    → IsStep old.history.config.cpus (slice_index returns slot.cpu) old new slot → IsWalkedTo (stamp + 1) slots config new
-IsWalkedTo-next stamp slots slot returns config old new walked is are below step =
-    let same : old.history.config ≡ config = ap (λ (h : History). h.config) walked.is_history in
-    subst (λ c. IsWalkedTo (stamp + 1) slots c new) same
-    (IsWalkedTo-step stamp slots slot returns old new (subst (λ c. IsWalkedTo stamp slots c old) (sym same) walked) is are below step)
+pub IsWalkedTo-begun : (slots : List Happened) (cpus : ℕ) (stands : List Stand) → stand_at stands ≡ starts
+    → IsWalkedTo 0 slots cpus (record { stands = stands; events = 0; lines = 0 })
+IsWalkedTo-begun slots cpus stands are = record {
+  is_run = tt;
+  each = tt;
+  stands = are;
+  events = refl;
+  lines = refl;
+  few_events = omega arith;
+  few_lines = omega arith;
+}
 
-pub IsWalkedTo-begun : (slots : List Happened) (config : Config) (walked : Walked) → walked.history ≡ record { config = config; events = [] } → walked.lines ≡ []
-    → stand_at walked.stands ≡ starts → IsWalkedTo 0 slots config walked
-IsWalkedTo-begun slots config walked history lines stands = record { is_run = tt; is_history = history; are_lines = lines; are_stands = stands }
+-- a walk over all
+pub CanMerge-walked : (stamp : ℕ) (slots : List Happened) (cpus : ℕ) (walked : Walked) → stamp ≡ length slots → IsWalkedTo stamp slots cpus walked
+    → CanMerge cpus slots
+CanMerge-walked stamp slots cpus walked all to =
+    let whole : take stamp slots ≡ slots = ap (λ n. take n slots) all ∙ take-length slots in
+    record {
+      is_run = subst (IsRun cpus starts) whole to.is_run;
+      each = subst (AllByRecursion IsHappened) whole to.each;
+      few_events = omega (arith, to.few_events, to.events, ap (λ ss. length (events_from starts ss)) whole);
+      few_lines = omega (arith, to.few_lines, to.lines, ap (λ ss. length (lines_from (λ cpu. returns_in cpu slots) starts ss)) whole);
+    }
+
+-- ---- how often a CPU has called and returned
+
+call_count-le : (moment : Moment) → call_count moment ≤ 1
+call_count-le (Call command) = omega arith
+call_count-le (Commit given) = omega arith
+call_count-le (Return given) = omega arith
+
+return_count-le : (moment : Moment) → return_count moment ≤ 1
+return_count-le (Call command) = omega arith
+return_count-le (Commit given) = omega arith
+return_count-le (Return given) = omega arith
+
+-- a moment more is one call and one return more at most
+one_more : (b : Bool) (own other : Stand) (slot : Happened) (bound : ℕ) → (own.calls ≤ bound) × (own.returns ≤ bound) → (other.calls ≤ bound) × (other.returns ≤ bound)
+    → ((if b then stand_after own slot else other).calls ≤ suc bound) × ((if b then stand_after own slot else other).returns ≤ suc bound)
+one_more true own other slot bound few others =
+    (omega (arith, few.0, call_count-le slot.moment), omega (arith, few.1, return_count-le slot.moment))
+one_more false own other slot bound few others = (omega (arith, others.0), omega (arith, others.1))
+
+few_after : (slots : List Happened) (stands : ℕ → Stand) (bound : ℕ) → ((cpu : ℕ) → ((stands cpu).calls ≤ bound) × ((stands cpu).returns ≤ bound))
+    → (cpu : ℕ) → ((stands_after stands slots cpu).calls ≤ bound + length slots) × ((stands_after stands slots cpu).returns ≤ bound + length slots)
+few_after [] stands bound few cpu = (omega (arith, (few cpu).0), omega (arith, (few cpu).1))
+few_after (slot ∷ slots) stands bound few cpu =
+    let rest = few_after slots (stands_with stands slot) (suc bound)
+    (λ other. one_more (other == slot.cpu) (stands slot.cpu) (stands other) slot bound (few slot.cpu) (few other)) cpu in
+    (omega (arith, rest.0), omega (arith, rest.1))
+
+-- no CPU has called or returned more often than there are stamps
+pub AreFew-walked : (events : List Happened) (stamp : ℕ) (stands : ℕ → Stand) → stands ≡ stands_after starts (take stamp events) → stamp ≤ 2000000 → AreFew stands
+AreFew-walked events stamp stands are below =
+    let few = few_after (take stamp events) starts 0 (λ cpu. (omega arith, omega arith)) in
+    let short : length (take stamp events) ≤ stamp = omega (arith, length-take stamp events) in
+    subst AreFew (sym are) (record {
+      calls = λ cpu. omega (arith, (few cpu).0, short, below);
+      returns = λ cpu. omega (arith, (few cpu).1, short, below);
+    })
 
 -- the returns of the first moments, where these are all
 pub AreReturns-whole : (returns : List ℕ) (slots : List Happened) (stamp : ℕ) → stamp ≡ length slots → AreReturns returns (take stamp slots) → AreReturns returns slots

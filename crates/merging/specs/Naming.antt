@@ -25,6 +25,10 @@ abbrev pub named_slot : Naming → ℕ → Option FunctionId → Happened → Ha
 named_slot AsRecorded granules last slot = slot
 named_slot (ByNames names) granules last slot = renamed_slot names granules last slot
 
+-- of a CPU that is one of all
+abbrev pub told_slot : Naming → ℕ → (ℕ → Option FunctionId) → Happened → Happened
+told_slot naming granules lasts slot = named_slot naming granules (lasts slot.cpu) slot
+
 abbrev pub named_from : Naming → ℕ → (ℕ → Option FunctionId) → List Happened → List Happened
 named_from naming granules lasts [] = []
 named_from naming granules lasts (slot ∷ slots) =

@@ -2,10 +2,9 @@
 use Rattle.std.specs.Prelude.{⊤, ◌≡◌, ◌≢◌, ℕ, ◌+◌, ◌<◌, ◌≤◌, List, ◌∷◌, ◌++◌, length, Option}
 use Rattle.recorded_events.specs.Events.{Moment, Call, Commit, Return}
 use Rattle.recorded_events.specs.Table.{Happened}
-use Rattle.merging.specs.Run.{Phase, Idle, Called, Committed, Stand, starts, stand_at, stands_after, IsRun, events_from, lines_from, returns_in, known_front}
-use Rattle.merging.specs.Merge.{Walked}
+use Rattle.merging.specs.Run.{Phase, Idle, Called, Committed, Stand, starts, stands_after, IsRun, events_from, lines_from, returns_in, known_front}
 use Rattle.merging.specs.declared.fault.MergeFault.{MergeFault}
-use Rattle.merging.specs.declared.fault.MergeFault.TheVariants.{Hole, Refused, NoMemory}
+use Rattle.merging.specs.declared.fault.MergeFault.TheVariants.{Hole, Refused}
 use Rattle.merging.specs.declared.fault.Refusal.{Refusal}
 use Rattle.merging.specs.declared.fault.Refusal.TheVariants.{NoSuchCpu, OutOfOrder, CallInCall, CommitOutside, CommitTwice, ReturnOutside, ReturnUncommitted, OtherReply, Full}
 
@@ -33,19 +32,6 @@ Refuses cpus events lines stand slot OutOfOrder = slot.line ≤ stand.line
 Refuses cpus events lines stand slot Full = IsFull events lines slot.moment
 Refuses cpus events lines stand slot refusal = IsMisfit refusal stand.phase slot.moment
 
--- of an entry whose text may have no room
-abbrev pub IsNoRoom : ℕ → Type 0 → MergeFault → Type 0
-IsNoRoom line full (Hole stamp) = ⊥
-IsNoRoom line full (Refused at refusal) = (at ≡ line) × (refusal ≡ Full) × full
-IsNoRoom line full NoMemory = ⊤
-
--- of the next moment, after what a walk has made
-abbrev pub IsRefusedNext : Walked → Happened → MergeFault → Type 0
-IsRefusedNext walked slot (Hole stamp) = ⊥
-IsRefusedNext walked slot (Refused line refusal) = (line ≡ slot.line)
-    × Refuses walked.history.config.cpus (length walked.history.events) (length walked.lines) (stand_at walked.stands slot.cpu) slot refusal
-IsRefusedNext walked slot NoMemory = ⊤
-
 -- Moments are a run, and the next is refused, at its line.
 pub record IsRefused (cpus : ℕ) (slots : List Happened) (line : ℕ) (refusal : Refusal) : Type 0 where
   pub before : List Happened
@@ -61,4 +47,3 @@ pub record IsRefused (cpus : ℕ) (slots : List Happened) (line : ℕ) (refusal 
 abbrev pub IsFaultOf : ℕ → List (Option Happened) → List Happened → MergeFault → Type 0
 IsFaultOf cpus slots events (Hole stamp) = (stamp ≡ length (known_front slots)) × (stamp < length slots)
 IsFaultOf cpus slots events (Refused line refusal) = IsRefused cpus events line refusal
-IsFaultOf cpus slots events NoMemory = 0 < length events

@@ -86,6 +86,17 @@ IsRun cpus stands (slot ∷ slots) = CanFollow cpus (stands slot.cpu) slot × Is
 abbrev pub starts : ℕ → Stand
 starts cpu = start
 
+-- how many events of a history a moment makes, and how many lines of a certificate
+abbrev pub event_count : Moment → ℕ
+event_count (Call command) = 1
+event_count (Commit given) = 0
+event_count (Return given) = 1
+
+abbrev pub line_count : Moment → ℕ
+line_count (Call command) = 0
+line_count (Commit given) = 1
+line_count (Return given) = 0
+
 -- ---- the history: calls and returns
 
 -- a call has the number of its CPU's calls before it, and a return that of the call before it

@@ -1,9 +1,5 @@
 //! Why no history and certificate were made.
 
-ghost use Rattle.std.specs.Prelude.{◌≡◌};
-ghost use Rattle.merging.specs.declared.fault.MergeFault.TheVariants.{NoMemory};
-
-use std::alloc::AllocError;
 use thiserror::Error;
 
 /// Why a moment can't be next on its CPU.
@@ -38,14 +34,4 @@ pub enum MergeFault {
     /// The event of this line is refused.
     #[error("line {0}: {1}")]
     Refused(u32, Refusal),
-    #[error("no memory")]
-    NoMemory,
-}
-
-impl From<AllocError> for MergeFault {
-    ghost from_gives = { λ _ e. e ≡ NoMemory };
-
-    fn from(_error: AllocError) -> MergeFault {
-        MergeFault::NoMemory
-    }
 }

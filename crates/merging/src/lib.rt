@@ -7,14 +7,19 @@
 
 mod cpu;
 mod fault;
+mod lines;
 mod merged;
 mod naming;
+mod run;
 mod source;
 mod texts;
 mod walk;
+mod writing;
 
 pub use fault::{MergeFault, Refusal};
 pub use merged::Extent;
 pub use recorded_events::EventsFault;
+pub use rmm_spec::Version;
+pub use run::Run;
 pub use source::{SourceFault, merge_source};
-pub use texts::{Asked, Renaming, TextFault, Texts};
+pub use texts::{Asked, Renaming, TextFault};

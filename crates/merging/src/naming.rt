@@ -9,9 +9,9 @@ ghost use Rattle.merging.specs.Naming.{names_of, named_slot, own_granules, IsUnn
 ghost use Rattle.merging.specs.Run.{known_front};
 ghost use Rattle.merging.specs.declared.naming.Naming.TheVariants.{ByNames};
 
-use granule_names::{Lasts, Limits, MOST_NAMES, NameFault, Names, renamed_slot};
+use granule_names::{Lasts, Limits, MOST_NAMES, NameFault, Names, map_text, renamed_slot};
 use recorded_events::{EventTable, HappenedRef};
-use std::alloc::Global;
+use std::alloc::{AllocError, Global};
 
 /// How addresses of granules are told.
 #[derive(Drop)]
@@ -99,7 +99,7 @@ pub(crate) fn named<'w>(
     lasts: &Lasts,
     slot: HappenedRef<'w>,
 ) -> HappenedRef<'w>
-    requires granules { granules ≤ 4096 }
+    requires granules { granules ≤ MOST_NAMES }
     requires happened { IsHappened (happened_seen slot) }
     requires few { HasFewWords (moment_seen slot.moment) }
     ensures seen { happened_seen result ≡ named_slot naming.now granules (lasts_in lasts.now slot.entry.cpu) (happened_seen slot.entry) }
@@ -109,5 +109,17 @@ pub(crate) fn named<'w>(
     match naming {
         Naming::AsRecorded => slot,
         Naming::ByNames(names) => renamed_slot(names, granules, words, lasts.at(slot.cpu), slot),
+    }
+}
+
+ghost use Rattle.merging.specs.Texts.{map_of};
+
+/// A line for each address with its name, and none where addresses are told as they were recorded.
+pub fn naming_map(alloc: Global, naming: &Naming) -> Result<Vec<u8>, AllocError>
+    ensures { IfOk result (λ text. text.items ≡ map_of naming.now) }
+{
+    match naming {
+        Naming::AsRecorded => Ok(Vec::new(alloc)),
+        Naming::ByNames(names) => map_text(alloc, names),
     }
 }

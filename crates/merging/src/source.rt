@@ -1,4 +1,4 @@
-//! The texts of a history and of a certificate, made of the recording that a source gives.
+//! A run, made of the recording that a source gives.
 
 ghost use Rattle.std.specs.Prelude.{◌≡◌, ℕ, ◌+◌, List, ◌++◌, Err, IfOk, IfErr};
 ghost use Rattle.devices.specs.Source.{GivesWhole, IsRefused};
@@ -7,12 +7,13 @@ ghost use Rattle.recorded_events.specs.Faults as reading;
 ghost use Rattle.merging.specs.Source.{IsFaultOfSource, IsTakenAs, IsUnread, source_failures};
 ghost use Rattle.merging.specs.Texts.{IsMergedText};
 
-use crate::texts::{Asked, TextFault, Texts, merge_table};
+use crate::run::Run;
+use crate::texts::{Asked, TextFault, merge_table};
 use devices::{ReadError, Source, Taker, read_whole};
 use recorded_events::{EventTable, EventsFault, Reader};
 use std::alloc::{AllocError, Global};
 
-/// Why no texts were made of what a source gives.
+/// Why no run was made of what a source gives.
 #[derive(Clone, Copy)]
 pub enum SourceFault {
     /// The events are no run, or memory for them was refused.
@@ -58,14 +59,14 @@ fn fed(reader: &mut Reader, fault: Option<EventsFault>, piece: &[u8]) -> Option<
     }
 }
 
-/// Makes both texts of the recording that a source gives, and the map of names. A source that can't be read to its end is left there.
+/// Makes a run of the recording that a source gives. A source that can't be read to its end is left there.
 pub fn merge_source<S: Source>(
     alloc: Global,
     source: &mut S,
     asked: Asked,
-) -> Result<Texts, SourceFault>
-    ensures merged { IfOk result (λ texts. (text : List ℕ)
-        × (GivesWhole S.gives (S.left source.old) source.old source.new text × IsMergedText text asked texts)) }
+) -> Result<Run, SourceFault>
+    ensures merged { IfOk result (λ run. (text : List ℕ)
+        × (GivesWhole S.gives (S.left source.old) source.old source.new text × IsMergedText text asked run)) }
     ensures fault { IfErr result (IsFaultOfSource (GivesWhole S.gives (S.left source.old) source.old source.new) asked) }
     ensures memory { result ≡ Err SourceFault.NoMemory → IsRefused S.gives S.refuses source.old source.new }
     ensures failures { S.failures source.new ≡ S.failures source.old + source_failures result }
@@ -75,7 +76,7 @@ pub fn merge_source<S: Source>(
         Err(fault) => return Err(fault),
     };
     match merge_table(alloc, table, asked) {
-        Ok(texts) => Ok(texts),
+        Ok(run) => Ok(run),
         Err(fault) => Err(SourceFault::Events(fault)),
     }
 }

@@ -1,32 +1,31 @@
-//! The texts of a history and of a certificate, made of a recording's table.
+//! What is asked for of a recording, and the run that is made of its table.
 
-ghost use Rattle.std.specs.Prelude.{◌≡◌, ◌≤◌, ℕ, List, length, IfOk, IfErr};
+ghost use Rattle.std.specs.Prelude.{◌≡◌, ◌≤◌, ℕ, List, length, IfOk, IfErr, OnOk};
 ghost use Rattle.std.specs.Option.{SomeIff};
-ghost use Rattle.rmm_spec.specs.CertificateText.{IsCertificateText};
-ghost use Rattle.rmm_spec.specs.HistoryText.{IsHistoryText};
 ghost use Rattle.recorded_events.specs.Faults.{IsTableOf};
-ghost use Rattle.merging.specs.Merge.{IsMergeOf};
 ghost use Rattle.merging.specs.Refusals.{IsFaultOf};
-ghost use Rattle.merging.specs.Run.{known_front};
+ghost use Rattle.merging.specs.Run.{starts, known_front, IsRun};
 ghost use Rattle.merging.specs.Naming.{events_named};
-ghost use Rattle.merging.specs.Texts.{config_asked, map_of, most_asked, naming_asked, IsAsked, IsFaultOfText, IsMergedText, IsUnnamedAsked};
+ghost use Rattle.merging.specs.Texts.{config_asked, most_asked, naming_asked, IsAsked, IsFaultOfText, IsMergedText, IsUnnamedAsked};
 ghost use Rattle.merging.specs.declared.fault.MergeFault.{MergeFault};
 
 use crate::fault::MergeFault;
-use crate::merged::{Extent, Merged, merge};
+use crate::merged::{Extent, merge};
 use crate::naming::{Naming, NamingFault, names_known};
-use certificate::Certificate;
-use granule_names::{Limits, MOST_NAMES, map_text};
-use history::{Config, History};
+use crate::run::Run;
+use granule_names::{Limits, MOST_NAMES};
+use granule_state::granule_limit;
+use history::Config;
 use recorded_events::{EventTable, EventsFault};
-use std::alloc::{AllocError, Global};
+use rmm_spec::Version;
+use std::alloc::Global;
 use thiserror::Error;
 
 /// What is to be made of a recording.
 #[derive(Clone, Copy)]
 pub struct Asked {
     /// The version of the history.
-    pub version: u64,
+    pub version: Version,
     /// The sizes of the machine, where they aren't those of the header.
     pub granules: Option<u64>,
     pub cpus: Option<u64>,
@@ -41,17 +40,7 @@ pub struct Renaming {
     pub memory: u64,
 }
 
-/// What was made of the events with the stamps below a number.
-#[derive(Drop)]
-pub struct Texts {
-    pub history: Vec<u8>,
-    pub certificate: Vec<u8>,
-    /// A line for each address with its name, and none where nothing is renamed.
-    pub map: Vec<u8>,
-    pub stamps: usize,
-}
-
-/// Why no texts were made.
+/// Why no run was made.
 #[derive(Clone, Copy, Debug, Error)]
 pub enum TextFault {
     #[error("{0}")]
@@ -68,28 +57,19 @@ pub enum TextFault {
     NoMemory,
 }
 
-impl From<AllocError> for TextFault {
-    ghost use Rattle.std.specs.Prelude.{◌≡◌};
-    ghost use Rattle.merging.specs.declared.texts.TextFault.TheVariants.{NoMemory};
-
-    ghost from_gives = { λ _ e. e ≡ NoMemory };
-
-    fn from(_error: AllocError) -> TextFault {
-        TextFault::NoMemory
-    }
-}
-
-/// Makes both texts of a recording's table. What isn't needed any more is given back as soon as it isn't.
-pub fn merge_table(alloc: Global, table: EventTable, asked: Asked) -> Result<Texts, TextFault>
-    ensures merged { IfOk result (λ texts. (text : List ℕ) → IsTableOf text table → IsMergedText text asked texts) }
+/// Makes a run of a recording's table, which it keeps.
+pub fn merge_table(alloc: Global, table: EventTable, asked: Asked) -> Result<Run, TextFault>
+    ensures merged { IfOk result (λ run. (text : List ℕ) → IsTableOf text table → IsMergedText text asked run) }
     ensures fault { IfErr result (λ fault. (text : List ℕ) → IsTableOf text table → IsFaultOfText text asked fault) }
 {
     let naming = naming_of(alloc, &table, asked)?;
     let Some(config) = config_of(&table, &naming, asked) else {
         return Err(TextFault::Sizes);
     };
-    let merged = merge_of(alloc, table, config, asked.extent, &naming)?;
-    Ok(write_out(alloc, merged, &naming)?)
+    match merge(table, config, asked.extent, naming) {
+        Ok(run) => Ok(run),
+        Err(fault) => Err(TextFault::Merge(fault)),
+    }
 }
 
 // The names that are asked for.
@@ -109,13 +89,14 @@ fn naming_of(alloc: Global, table: &EventTable, asked: Asked) -> Result<Naming, 
 }
 
 // How many granules may be renamed.
+#[tactic(auto, using(rmm_spec::proofs::Limits::granule_limit_le))]
 fn most_names(asked: Asked) -> usize
     ensures is { result ≡ most_asked asked }
     ensures most { result ≤ MOST_NAMES }
 {
     match asked.granules {
-        Some(granules) if granules < MOST_NAMES as u64 => granules as usize,
-        _ => MOST_NAMES,
+        Some(granules) if granules < granule_limit(asked.version) => granules as usize,
+        _ => granule_limit(asked.version) as usize,
     }
 }
 
@@ -127,71 +108,5 @@ fn config_of(table: &EventTable, naming: &Naming, asked: Asked) -> Option<Config
     let own = naming.granules(sizes.granules());
     let granules = asked.granules.unwrap_or(own);
     let cpus = asked.cpus.unwrap_or(u64::from(sizes.cpus()));
-    Config::with_version(granules, cpus, asked.version)
-}
-
-fn merge_of(
-    alloc: Global,
-    table: EventTable,
-    config: Config,
-    extent: Extent,
-    naming: &Naming,
-) -> Result<Merged, TextFault>
-    ensures merged { IfOk result (λ merged. IsMergeOf config (events_named naming.now config.granules (known_front table.slots))
-        merged.history.recorded merged.certificate.lines) }
-    ensures stamps { IfOk result (λ merged. merged.stamps ≡ length (known_front table.slots)) }
-    ensures whole { extent ≡ Extent.Whole → IfOk result (λ merged. merged.stamps ≡ length table.slots) }
-    ensures fault { IfErr result (λ fault. (given : MergeFault) × (fault ≡ TextFault.Merge given) × IsFaultOf config.cpus table.slots
-        (events_named naming.now config.granules (known_front table.slots)) given) }
-{
-    match merge(alloc, &table, config, extent, naming) {
-        Ok(merged) => Ok(merged),
-        Err(fault) => Err(TextFault::Merge(fault)),
-    }
-}
-
-fn write_out(alloc: Global, merged: Merged, naming: &Naming) -> Result<Texts, AllocError>
-    ensures history { IfOk result (λ texts. IsHistoryText texts.history.items merged.history.recorded) }
-    ensures certificate { IfOk result (λ texts. IsCertificateText texts.certificate.items merged.certificate.lines) }
-    ensures map { IfOk result (λ texts. texts.map.items ≡ map_of naming.now) }
-    ensures stamps { IfOk result (λ texts. texts.stamps ≡ merged.stamps) }
-{
-    let Merged {
-        history,
-        certificate,
-        stamps,
-    } = merged;
-    Ok(Texts {
-        history: history_text(alloc, history)?,
-        certificate: certificate_text(alloc, certificate)?,
-        map: naming_map(alloc, naming)?,
-        stamps,
-    })
-}
-
-fn history_text(alloc: Global, history: History) -> Result<Vec<u8>, AllocError>
-    ensures { IfOk result (λ text. IsHistoryText text.items history.recorded) }
-{
-    history.well_formed();
-    let mut text = Vec::new(alloc);
-    history::write(&history, &mut text)?;
-    Ok(text)
-}
-
-fn certificate_text(alloc: Global, certificate: Certificate) -> Result<Vec<u8>, AllocError>
-    ensures { IfOk result (λ text. IsCertificateText text.items certificate.lines) }
-{
-    let _well_formed = certificate.len();
-    let mut text = Vec::new(alloc);
-    certificate::write(&certificate, &mut text)?;
-    Ok(text)
-}
-
-fn naming_map(alloc: Global, naming: &Naming) -> Result<Vec<u8>, AllocError>
-    ensures { IfOk result (λ text. text.items ≡ map_of naming.now) }
-{
-    match naming {
-        Naming::AsRecorded => Ok(Vec::new(alloc)),
-        Naming::ByNames(names) => map_text(alloc, names),
-    }
+    Config::of(granules, cpus, asked.version)
 }

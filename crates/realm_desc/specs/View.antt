@@ -123,8 +123,7 @@ rec_fields r = record {
 exit_of-pending_of : (pending : Option PendingExit) → option_map exit_of (option_map pending_of pending) ≡ pending
 exit_of-pending_of None = refl
 exit_of-pending_of (Some (Psci number)) = refl
-exit_of-pending_of (Some RipasChange) = refl
-exit_of-pending_of (Some (HostCall number)) = refl
+exit_of-pending_of _ = refl
 
 -- a REC's record tells all of it
 pub rec_fields-rec_record : (r : rec.Inside) → rec_fields (rec_record r) ≡ r

@@ -19,10 +19,19 @@ use realm_desc::{Realm, Rec};
 use rmm_spec::{Condition, RecUpdate, Refusal, Reply};
 
 /// What is answered where the CPU, which is outside of RECs, is to enter the REC.
-#[tactic(auto, unfolding(rmm_spec::specs::Step::Rec::rec_enter, rmm_spec::specs::Step::Terms::words_of, rmm_spec::specs::Step::Terms::named))]
+#[inline(always)]
 pub fn answer_to_enter(realm: &Realm, rec: &Rec, cpu: u8) -> Result<RecStep, Refusal>
     ensures answer { (s : State) (address : ℕ) → IsHeld s address realm.now rec.now → IsTrue (has_tag s address tag.Rec)
         → answer_at rec.now.owner address result ≡ rec_enter s cpu address }
+    ensures rows { (address : ℕ) → answer_at rec.now.owner address result ≡ enter_rows realm.now rec.now cpu address }
+    ensures fits { IfOk result IsStep }
+{
+    enter_answer(realm, rec, cpu)
+}
+
+// What the two records answer.
+#[inline(always)]
+fn enter_answer(realm: &Realm, rec: &Rec, cpu: u8) -> Result<RecStep, Refusal>
     ensures rows { (address : ℕ) → answer_at rec.now.owner address result ≡ enter_rows realm.now rec.now cpu address }
     ensures fits { IfOk result IsStep }
 {

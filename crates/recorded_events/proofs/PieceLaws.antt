@@ -1,24 +1,22 @@
 -- What pieces say of a text.
-use Rattle.std.proofs.Common.{◌≡◌, ℕ, zero, suc, ◌+◌, ◌^◌, ◌<◌, ◌≤◌, List, [], ◌∷◌, ◌++◌, length, Option, Some, None, refl, sym, ap, ◌∙◌, subst, arith, lit≤, append_assoc}
+use Rattle.std.proofs.Common.{◌≡◌, ℕ, zero, suc, ◌+◌, ◌^◌, ◌<◌, ◌≤◌, List, [], ◌∷◌, ◌++◌, length, Option, Some, None, sym, ap, ◌∙◌, subst, arith, lit≤, append_assoc}
 use Rattle.std.specs.Int.Digits.{digits_of}
 use Rattle.std.proofs.lemmas.Int.Digits.{length-digits_of-le}
-use Rattle.std.proofs.lemmas.List.{length-map, append-nil}
+use Rattle.std.proofs.lemmas.List.{length-map}
 use Rattle.line_pieces.proofs.LineLengths.{width, length-line_text, width-called, width-returned, width-config}
 use Rattle.line_pieces.proofs.Pieces.{IsBadLine-too_long}
 use Rattle.rmm_spec.proofs.Texts.{numeral-zero, numeral_some}
-use Rattle.rmm_spec.specs.declared.version.Version.TheVariants.{One}
+use Rattle.rmm_spec.specs.declared.version.Version.TheVariants.{Large}
 use Rattle.rmm_spec.specs.HistoryText.{Config, event_parts}
-use Rattle.rmm_spec.specs.Text.{HasNoNewline, IsBadLine, glyph, numeral, decimal, line_text, parts_of}
+use Rattle.rmm_spec.specs.Text.{HasNoNewline, IsBadLine, glyph, decimal, line_text}
 use Rattle.recorded_events.specs.Events.{Moment, Call, Commit, Return, Recorded, Recording, IsMoment, IsRecorded, InRecordings, IsRecordingText, moment_parts, recorded_parts, sizes_parts}
-use Rattle.recorded_events.specs.Faults.{IsTableOf, IsFaultOf}
+use Rattle.recorded_events.specs.Faults.{IsFaultOf}
 use Rattle.recorded_events.specs.Pieces.{AreRead, HasRead, number_after}
-use Rattle.recorded_events.specs.Seen.{IsSizesOf, IsNoSizes}
 use Rattle.recorded_events.specs.Table.{Table}
-use Rattle.recorded_events.specs.declared.fault.EventsFault.{EventsFault}
 use Rattle.recorded_events.specs.declared.fault.EventsFault.TheVariants.{BadLine}
 use Rattle.recorded_events.specs.declared.reader.Reader.{Reader}
-use Rattle.recorded_events.proofs.GrammarLaws.{recordings_by_lines, recording_lines, recording_lines-one_line, AreRecordingLines, InRecordings-from_lines, next_event, counted, unfinished_header, bad_header}
-use Rattle.recorded_events.proofs.TableLaws.{unfinished, IsTableOf-begun}
+use Rattle.recorded_events.proofs.GrammarLaws.{recordings_by_lines, recording_lines, recording_lines-one_line, InRecordings-from_lines, next_event, counted, unfinished_header}
+use Rattle.recorded_events.proofs.TableLaws.{unfinished}
 
 -- ---- how long a line is
 
@@ -50,8 +48,8 @@ too_long_header rest more none long =
     let recording = taken.recording in
     let spelled : line ≡ sizes_parts recording.granules recording.cpus =
     (let e : line ∷ [] ≡ recording_lines recording = taken.spelled in cc) in
-    let config : Config = record { granules = recording.granules; cpus = recording.cpus; version = One } in
-    let header : width (sizes_parts recording.granules recording.cpus) ≤ 12 = width-config config taken.is_recording.config in
+    let config : Config = record { granules = recording.granules; cpus = recording.cpus; version = Large } in
+    let header : width (sizes_parts recording.granules recording.cpus) ≤ 15 = width-config config taken.is_recording.config in
     omega (arith, long, ap (λ l. length (line_text l)) spelled, length-line_text (sizes_parts recording.granules recording.cpus), header))
 
 too_long_line : (recording : Recording) (text rest more : List ℕ) → IsRecordingText text recording → HasNoNewline rest → 256 < length rest

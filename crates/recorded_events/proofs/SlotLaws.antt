@@ -1,10 +1,9 @@
 -- What one more event leaves of the slots.
 use Rattle.std.proofs.Common.{◌≡◌, ◌≢◌, ℕ, zero, suc, ◌+◌, ◌-◌, ◌<◌, ◌≤◌, List, [], ◌∷◌, ◌++◌, length, get_or, set, take, drop, replicate, Option, Some, None, refl, sym, ap, ◌∙◌, subst, arith, ⊎_elim, length-append}
-use Rattle.std.specs.Prelude.{option_map}
 use Rattle.std.specs.List.{AllByRecursion}
-use Rattle.std.proofs.Math.Seq.{drop-append_seam, take-length}
 use Rattle.std.proofs.lemmas.Bool.{cases_eq}
 use Rattle.std.proofs.lemmas.List.{take-append-le, drop-append-le, length-drop, length-map, length-set, length-replicate, map-set, map-append, get_or-set_same, get_or-set_other}
+use Rattle.std.proofs.Math.Seq.{drop-append_seam, take-length}
 use Rattle.rmm_spec.specs.declared.reply.Reply.{Reply}
 use Rattle.rmm_spec.specs.declared.reply.Reply.TheVariants as reply
 use Rattle.rmm_spec.proofs.Lines.{each-weaker}
@@ -15,9 +14,7 @@ use Rattle.rmi_view.specs.Seen as replied
 use Rattle.recorded_events.specs.Events.{Moment, Call, Commit, Return, IsMoment}
 use Rattle.recorded_events.specs.Seen.{HasFewWords}
 use Rattle.recorded_events.specs.Table.{Happened, IsHappened, IsPut, slot_at}
-use Rattle.recorded_events.specs.Slots.{words_at, given_at, moment_at, happened_in, slots_in, given_count, word_count_of, HasWordsIf, IsHeld, reply_words, given_of, moment_words, what_of, IsKept}
-use Rattle.recorded_events.specs.declared.slot.Given.{Given}
-use Rattle.recorded_events.specs.declared.slot.Given.TheVariants as given
+use Rattle.recorded_events.specs.Slots.{words_at, moment_at, happened_by, happened_in, slots_in, vacant, word_count_of, HasWords, IsHeld, reply_words, commit_what, return_what, moment_words, what_of, AreAt, IsPlaced}
 use Rattle.recorded_events.specs.declared.slot.What.{What}
 use Rattle.recorded_events.specs.declared.slot.What.TheVariants as what
 use Rattle.recorded_events.specs.declared.slot.Slot.{Slot}
@@ -31,67 +28,81 @@ words_at-append words more first count within =
     ap (λ (ws : List ℕ). record { items = ws })
     (ap (take count) (drop-append-le first words more before) ∙ take-append-le count (drop first words) more enough)
 
-given_at-append : (words more : List ℕ) (first : ℕ) (kept : Given) → first + given_count kept ≤ length words → given_at (words ++ more) first kept ≡ given_at words first kept
-given_at-append words more first (given.Ok count) within = ap reply.Ok (words_at-append words more first count within)
-given_at-append words more first (given.Err status index) within = refl
-given_at-append words more first given.Misplaced within = refl
-
 moment_at-append : (words more : List ℕ) (first : ℕ) (kept : What) → first + word_count_of kept ≤ length words → moment_at (words ++ more) first kept ≡ moment_at words first kept
+moment_at-append words more first what.Nothing within = refl
 moment_at-append words more first (what.Call function count) within =
     let same = words_at-append words more first count within in
-    λ i. Call (record { function = function; words = same i })
-moment_at-append words more first (what.Commit kept) within = ap Commit (given_at-append words more first kept within)
-moment_at-append words more first (what.Return kept) within = ap Return (given_at-append words more first kept within)
+    λ i. Some (Call (record { function = function; words = same i }))
+moment_at-append words more first (what.CommitOk count) within =
+    let same = words_at-append words more first count within in
+    λ i. Some (Commit (reply.Ok (same i)))
+moment_at-append words more first (what.CommitErr status index) within = refl
+moment_at-append words more first what.CommitMisplaced within = refl
+moment_at-append words more first (what.ReturnOk count) within =
+    let same = words_at-append words more first count within in
+    λ i. Some (Return (reply.Ok (same i)))
+moment_at-append words more first (what.ReturnErr status index) within = refl
+moment_at-append words more first what.ReturnMisplaced within = refl
 
-slots_in-append : (words more : List ℕ) (slots : List (Option Slot)) → AllByRecursion (HasWordsIf (length words)) slots
+slots_in-append : (words more : List ℕ) (slots : List Slot) → AllByRecursion (HasWords (length words)) slots
     → slots_in (words ++ more) slots ≡ slots_in words slots
 slots_in-append words more [] each = refl
-slots_in-append words more (None ∷ slots) each = ap (λ ss. None ∷ ss) (slots_in-append words more slots each.1)
-slots_in-append words more (Some slot ∷ slots) each =
-    let has = each.0 in
-    let same = moment_at-append words more slot.first slot.what has.within in
-    λ i. Some (record { line = slot.line; cpu = slot.cpu; moment = same i }) ∷ slots_in-append words more slots each.1 i
+slots_in-append words more (slot ∷ slots) each =
+    let same = moment_at-append words more slot.first slot.what each.0.within in
+    λ i. happened_by slot.line slot.cpu (same i) ∷ slots_in-append words more slots each.1 i
 
-HasWordsIf-more : (size more : ℕ) (slot : Option Slot) → HasWordsIf size slot → HasWordsIf (size + more) slot
-HasWordsIf-more size more None has = tt
-HasWordsIf-more size more (Some slot) has = record { within = omega (arith, has.within); few = has.few }
+HasWords-more : (size more : ℕ) (slot : Slot) → HasWords size slot → HasWords (size + more) slot
+HasWords-more size more slot has = record { within = omega (arith, has.within); few = has.few }
+
+-- ---- words behind all others are there
+
+pub AreAt-seam : (words own : List ℕ) → AreAt (words ++ own) own (length words)
+AreAt-seam words own = record {
+  found = ap (take (length own)) (drop-append_seam words own) ∙ take-length own;
+  within = omega (arith, length-append words own);
+}
 
 -- ---- the words of the last event
 
-words_at-seam : (words own : List ℕ) → words_at (words ++ own) (length words) (length own) ≡ record { items = own }
-words_at-seam words own = ap (λ (ws : List ℕ). record { items = ws }) (ap (take (length own)) (drop-append_seam words own) ∙ take-length own)
+commit_at : (words : List ℕ) (first : ℕ) (given : Reply) → AreAt words (reply_words given) first → moment_at words first (commit_what given) ≡ Some (Commit given)
+commit_at words first (reply.Ok ws) at = λ i. Some (Commit (reply.Ok (record { items = at.found i })))
+commit_at words first (reply.Err status index) at = refl
+commit_at words first reply.Misplaced at = refl
 
-given_at-seam : (words : List ℕ) (r : Reply) → given_at (words ++ reply_words r) (length words) (given_of r) ≡ r
-given_at-seam words (reply.Ok ws) = ap reply.Ok (words_at-seam words ws.items)
-given_at-seam words (reply.Err status index) = refl
-given_at-seam words reply.Misplaced = refl
+return_at : (words : List ℕ) (first : ℕ) (given : Reply) → AreAt words (reply_words given) first → moment_at words first (return_what given) ≡ Some (Return given)
+return_at words first (reply.Ok ws) at = λ i. Some (Return (reply.Ok (record { items = at.found i })))
+return_at words first (reply.Err status index) at = refl
+return_at words first reply.Misplaced at = refl
 
-moment_at-seam : (words : List ℕ) (moment : Moment) → moment_at (words ++ moment_words moment) (length words) (what_of moment) ≡ moment
-moment_at-seam words (Call command) =
-    let same = words_at-seam words command.words.items in
-    λ i. Call (record { function = command.function; words = same i })
-moment_at-seam words (Commit r) = ap Commit (given_at-seam words r)
-moment_at-seam words (Return r) = ap Return (given_at-seam words r)
+moment_at-own : (words : List ℕ) (first : ℕ) (moment : Moment) → AreAt words (moment_words moment) first → moment_at words first (what_of moment) ≡ Some moment
+moment_at-own words first (Call command) at = λ i. Some (Call (record { function = command.function; words = record { items = at.found i } }))
+moment_at-own words first (Commit given) at = commit_at words first given at
+moment_at-own words first (Return given) at = return_at words first given at
 
-given_count-given_of : (r : Reply) → given_count (given_of r) ≡ length (reply_words r)
-given_count-given_of (reply.Ok ws) = refl
-given_count-given_of (reply.Err status index) = refl
-given_count-given_of reply.Misplaced = refl
+word_count-commit : (given : Reply) → word_count_of (commit_what given) ≡ length (reply_words given)
+word_count-commit (reply.Ok ws) = refl
+word_count-commit (reply.Err status index) = refl
+word_count-commit reply.Misplaced = refl
+
+word_count-return : (given : Reply) → word_count_of (return_what given) ≡ length (reply_words given)
+word_count-return (reply.Ok ws) = refl
+word_count-return (reply.Err status index) = refl
+word_count-return reply.Misplaced = refl
 
 word_count_of-what_of : (moment : Moment) → word_count_of (what_of moment) ≡ length (moment_words moment)
 word_count_of-what_of (Call command) = refl
-word_count_of-what_of (Commit r) = given_count-given_of r
-word_count_of-what_of (Return r) = given_count-given_of r
+word_count_of-what_of (Commit given) = word_count-commit given
+word_count_of-what_of (Return given) = word_count-return given
 
-reply_words-few : (r : Reply) → replied.HasFewWords r → length (reply_words r) ≤ 10
+reply_words-few : (given : Reply) → replied.HasFewWords given → length (reply_words given) ≤ 10
 reply_words-few (reply.Ok ws) few = few
 reply_words-few (reply.Err status index) few = omega arith
 reply_words-few reply.Misplaced few = omega arith
 
 pub moment_words-few : (moment : Moment) → HasFewWords moment → length (moment_words moment) ≤ 10
 moment_words-few (Call command) few = few
-moment_words-few (Commit r) few = reply_words-few r few
-moment_words-few (Return r) few = reply_words-few r few
+moment_words-few (Commit given) few = reply_words-few given few
+moment_words-few (Return given) few = reply_words-few given few
 
 HasFewWords-reply : (given : Reply) → IsReply given → replied.HasFewWords given
 HasFewWords-reply (reply.Ok ws) is = is.0
@@ -115,13 +126,13 @@ slot_at-grown [] count stamp = get_or-nothing count stamp
 slot_at-grown (slot ∷ slots) count zero = refl
 slot_at-grown (slot ∷ slots) count (suc stamp) = slot_at-grown slots count stamp
 
-slots_in-nothing : (words : List ℕ) (count : ℕ) → slots_in words (replicate count None) ≡ replicate count None
-slots_in-nothing words zero = refl
-slots_in-nothing words (suc count) = ap (λ ss. None ∷ ss) (slots_in-nothing words count)
+slots_in-vacant : (words : List ℕ) (count : ℕ) → slots_in words (replicate count vacant) ≡ replicate count None
+slots_in-vacant words zero = refl
+slots_in-vacant words (suc count) = ap (λ ss. None ∷ ss) (slots_in-vacant words count)
 
-each_nothing : (size count : ℕ) → AllByRecursion (HasWordsIf size) (replicate count None)
-each_nothing size zero = tt
-each_nothing size (suc count) = (tt, each_nothing size count)
+each_vacant : (size count : ℕ) → AllByRecursion (HasWords size) (replicate count vacant)
+each_vacant size zero = tt
+each_vacant size (suc count) = (record { within = omega arith; few = omega arith }, each_vacant size count)
 
 AllByRecursion-set : {X : Type 0} (P : X → Type 0) (xs : List X) (at : ℕ) (x : X) → AllByRecursion P xs → P x → AllByRecursion P (set xs at x)
 AllByRecursion-set P [] at x each here = tt
@@ -130,44 +141,45 @@ AllByRecursion-set P (first ∷ xs) (suc at) x each here = (each.0, AllByRecursi
 
 -- ---- one more event
 
--- An event was put: its words stand behind all others, and its slot at its stamp, up to which there are slots.
-pub record IsStored (words new_words : List ℕ) (slots new_slots : List (Option Slot)) (stamp line cpu : ℕ) (moment : Moment) : Type 0 where
+-- An event was put: its words stand among all, and its slot at its stamp, up to which there are slots and of which nothing was known.
+pub record IsStored (words new_words : List ℕ) (slots new_slots : List Slot) (stamp line cpu : ℕ) (moment : Moment) : Type 0 where
   pub first : ℕ
   pub kept : What
-  pub is_kept : IsKept words new_words kept moment
-  pub is_first : first ≡ length words
-  pub is_slots : new_slots ≡ set (slots ++ replicate (stamp + 1 - length slots) None) stamp (Some (record { line = line; first = first; cpu = cpu; what = kept }))
+  pub is_kept : kept ≡ what_of moment
+  pub is_placed : IsPlaced words new_words (moment_words moment) first
+  pub is_slots : new_slots ≡ set (slots ++ replicate (stamp + 1 - length slots) vacant) stamp (record { line = line; first = first; cpu = cpu; what = kept })
+  pub free : slot_at (slots_in words slots) stamp ≡ None
 
-module _ (words new_words : List ℕ) (slots new_slots : List (Option Slot)) (stamp line cpu : ℕ) (moment : Moment)
-    (stored : IsStored words new_words slots new_slots stamp line cpu moment) (each : AllByRecursion (HasWordsIf (length words)) slots) where
+module _ (words new_words : List ℕ) (slots new_slots : List Slot) (stamp line cpu : ℕ) (moment : Moment)
+    (stored : IsStored words new_words slots new_slots stamp line cpu moment) (each : AllByRecursion (HasWords (length words)) slots) where
   grown : List (Option Happened)
   grown = slots_in words slots ++ replicate (stamp + 1 - length slots) None
 
   slot : Happened
   slot = record { line = line; cpu = cpu; moment = moment }
 
-  moment-is : moment_at new_words stored.first stored.kept ≡ moment
+  moment-is : moment_at new_words stored.first stored.kept ≡ Some moment
   moment-is =
-      (λ i. moment_at (stored.is_kept.appended i) (stored.is_first i) (stored.is_kept.is_kept i)) ∙ moment_at-seam words moment
+      ap (moment_at new_words stored.first) stored.is_kept ∙ moment_at-own new_words stored.first moment stored.is_placed.are_at
 
   seen : slots_in new_words new_slots ≡ set grown stamp (Some slot)
   unfolding grown slot
   seen =
-      let more = replicate (stamp + 1 - length slots) None in
+      let more = replicate (stamp + 1 - length slots) vacant in
       let before : slots_in new_words slots ≡ slots_in words slots =
-      ap (λ ws. slots_in ws slots) stored.is_kept.appended ∙ slots_in-append words (moment_words moment) slots each in
+      ap (λ ws. slots_in ws slots) stored.is_placed.grown ∙ slots_in-append words stored.is_placed.more slots each in
       ap (slots_in new_words) stored.is_slots
       ∙ map-set _ (slots ++ more) stamp _
-      ∙ ap (λ ss. set ss stamp (Some (happened_in new_words (record { line = line; first = stored.first; cpu = cpu; what = stored.kept }))))
-      (map-append _ slots more ∙ (λ i. before i ++ slots_in-nothing new_words (stamp + 1 - length slots) i))
-      ∙ ap (λ (m : Moment). set grown stamp (Some (record { line = line; cpu = cpu; moment = m }))) moment-is
+      ∙ ap (λ ss. set ss stamp (happened_in new_words (record { line = line; first = stored.first; cpu = cpu; what = stored.kept })))
+      (map-append _ slots more ∙ (λ i. before i ++ slots_in-vacant new_words (stamp + 1 - length slots) i))
+      ∙ ap (λ (m : Option Moment). set grown stamp (happened_by line cpu m)) moment-is
 
   length-grown : length grown ≡ length slots + (stamp + 1 - length slots)
   unfolding grown
   length-grown =
       let more : List (Option Happened) = replicate (stamp + 1 - length slots) None in
       let none : length more ≡ stamp + 1 - length slots = length-replicate {A = Option Happened} (stamp + 1 - length slots) None in
-      let mapped : length (slots_in words slots) ≡ length slots = length-map slots (option_map (happened_in words)) in
+      let mapped : length (slots_in words slots) ≡ length slots = length-map slots (happened_in words) in
       length-append (slots_in words slots) more ∙ (λ i. mapped i + none i)
 
   within : stamp < length grown
@@ -176,45 +188,46 @@ module _ (words new_words : List ℕ) (slots new_slots : List (Option Slot)) (st
   pub IsPut-stored : IsPut (slots_in words slots) (slots_in new_words new_slots) stamp (record { line = line; cpu = cpu; moment = moment })
   unfolding grown slot
   IsPut-stored = subst (λ new. IsPut (slots_in words slots) new stamp slot) (sym seen) (record {
+    free = stored.free;
     here = get_or-set_same grown stamp (Some slot) None within;
     others = λ other apart.
         get_or-set_other grown stamp other (Some slot) None apart ∙ slot_at-grown (slots_in words slots) (stamp + 1 - length slots) other;
     no_more = λ last is_last apart.
-        omega (arith, is_last, apart, length-set grown stamp (Some slot), length-grown, length-map slots (option_map (happened_in words)));
+        omega (arith, is_last, apart, length-set grown stamp (Some slot), length-grown, length-map slots (happened_in words));
   })
 
   pub IsHeld-stored : (count : ℕ) → IsHeld count words slots → HasFewWords moment → IsHappened (record { line = line; cpu = cpu; moment = moment })
       → count < 2000000 → stamp < 2000000 → IsHeld (count + 1) new_words new_slots
   unfolding slot
   IsHeld-stored count held few_own is_happened few below =
-      let own = moment_words moment in
-      let more = replicate (stamp + 1 - length slots) None in
-      let longer : length new_words ≡ length words + length own = ap length stored.is_kept.appended ∙ length-append words own in
-      let counted : word_count_of stored.kept ≡ length own = ap word_count_of stored.is_kept.is_kept ∙ word_count_of-what_of moment in
+      let placed = stored.is_placed in
+      let more = replicate (stamp + 1 - length slots) vacant in
+      let longer : length new_words ≡ length words + length placed.more = ap length placed.grown ∙ length-append words placed.more in
+      let counted : word_count_of stored.kept ≡ length (moment_words moment) = ap word_count_of stored.is_kept ∙ word_count_of-what_of moment in
       let is_few = moment_words-few moment few_own in
       let put = IsPut-stored in
       record {
-        each = subst (AllByRecursion (HasWordsIf (length new_words))) (sym stored.is_slots)
-            (AllByRecursion-set (HasWordsIf (length new_words)) (slots ++ more) stamp _
-            (AllByRecursion-append (HasWordsIf (length new_words)) slots more
-            (subst (λ size. AllByRecursion (HasWordsIf size) slots) (sym longer)
-            (each-weaker (HasWordsIf (length words)) (HasWordsIf (length words + length own)) (HasWordsIf-more (length words) (length own)) slots each))
-            (each_nothing (length new_words) (stamp + 1 - length slots)))
-            (record { within = omega (arith, stored.is_first, longer, counted); few = omega (arith, counted, is_few) }));
+        each = subst (AllByRecursion (HasWords (length new_words))) (sym stored.is_slots)
+            (AllByRecursion-set (HasWords (length new_words)) (slots ++ more) stamp _
+            (AllByRecursion-append (HasWords (length new_words)) slots more
+            (subst (λ size. AllByRecursion (HasWords size) slots) (sym longer)
+            (each-weaker (HasWords (length words)) (HasWords (length words + length placed.more)) (HasWords-more (length words) (length placed.more)) slots each))
+            (each_vacant (length new_words) (stamp + 1 - length slots)))
+            (record { within = omega (arith, placed.are_at.within, counted); few = omega (arith, counted, is_few) }));
         happened = λ at known is_known.
             ⊎_elim
             (λ (same : at ≡ stamp). let e : Some slot ≡ Some known = sym put.here ∙ ap (slot_at (slots_in new_words new_slots)) (sym same) ∙ is_known in
             let f : slot ≡ known = cc in subst IsHappened f is_happened)
             (λ (other : at ≢ stamp). held.happened at known (sym (put.others at other) ∙ is_known))
             (cases_eq at stamp);
-        few_words = omega (arith, held.few_words, longer, is_few);
+        few_words = omega (arith, held.few_words, longer, placed.few);
         few = omega arith;
         few_slots = omega (
           arith,
           held.few_slots,
           ap length stored.is_slots,
-          length-set (slots ++ more) stamp (Some (record { line = line; first = stored.first; cpu = cpu; what = stored.kept })),
+          length-set (slots ++ more) stamp (record { line = line; first = stored.first; cpu = cpu; what = stored.kept }),
           length-append slots more,
-          length-replicate {A = Option Slot} (stamp + 1 - length slots) None,
+          length-replicate {A = Slot} (stamp + 1 - length slots) vacant,
         );
       }

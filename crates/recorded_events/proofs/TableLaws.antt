@@ -33,9 +33,9 @@ slice_get-push_cases (first ∷ xs) x (suc place) y is =
 
 -- one more event is placed where none was
 pub ArePlaced-put : (events : List Recorded) (event : Recorded) (count : ℕ) (slots new : List (Option Happened)) → ArePlaced events slots → count ≡ length events
-    → slot_at slots event.stamp ≡ None → IsPut slots new event.stamp (record { line = count + 2; cpu = event.cpu; moment = event.moment })
+    → IsPut slots new event.stamp (record { line = count + 2; cpu = event.cpu; moment = event.moment })
     → ArePlaced (events ++ event ∷ []) new
-ArePlaced-put events event count slots new placed counted free put =
+ArePlaced-put events event count slots new placed counted put =
     let own : slot_at new event.stamp ≡ Some (happened (length events) event) =
     put.here ∙ ap (λ (n : ℕ). Some (record { line = n + 2; cpu = event.cpu; moment = event.moment })) counted in
     record {
@@ -43,7 +43,7 @@ ArePlaced-put events event count slots new placed counted free put =
           ⊎_elim
           (λ (earlier : slice_get events place ≡ Some e).
           let known = placed.each_event place e earlier in
-          put.others e.stamp (λ same. none-some (happened place e) (sym free ∙ ap (slot_at slots) (sym same) ∙ known)) ∙ known)
+          put.others e.stamp (λ same. none-some (happened place e) (sym put.free ∙ ap (slot_at slots) (sym same) ∙ known)) ∙ known)
           (λ (last : (place ≡ length events) × (event ≡ e)).
           subst (λ (f : Recorded). slot_at new f.stamp ≡ Some (happened place f)) last.1
           (own ∙ ap (λ (n : ℕ). Some (happened n event)) (sym last.0)))
@@ -88,14 +88,14 @@ module _ (front bytes : List ℕ) (table : Table) (event : Recorded) (of_text : 
   text_is : IsRecordingText (front ++ (bytes ++ 10 ∷ [])) (record { granules = table.granules; cpus = table.cpus; events = of_text.events ++ event ∷ [] })
   text_is = pushed table.granules table.cpus of_text.events event front bytes of_text.is_recording of_line (omega (arith, of_text.counted))
 
-  pub IsTableOf-put : (new : List (Option Happened)) → slot_at table.slots event.stamp ≡ None
+  pub IsTableOf-put : (new : List (Option Happened))
       → IsPut table.slots new event.stamp (record { line = table.count + 2; cpu = event.cpu; moment = event.moment })
       → IsTableOf (front ++ (bytes ++ 10 ∷ [])) (record { granules = table.granules; cpus = table.cpus; count = table.count + 1; slots = new })
-  IsTableOf-put new free put = record {
+  IsTableOf-put new put = record {
     events = of_text.events ++ event ∷ [];
     is_recording = text_is;
     counted = omega (arith, of_text.counted, length_push of_text.events event);
-    are_placed = ArePlaced-put of_text.events event table.count table.slots new of_text.are_placed of_text.counted free put;
+    are_placed = ArePlaced-put of_text.events event table.count table.slots new of_text.are_placed of_text.counted put;
   }
 
   begins : (more : List ℕ) → BeginsWith (front ++ (bytes ++ 10 ∷ more)) (record { granules = table.granules; cpus = table.cpus; events = of_text.events ++ event ∷ [] })

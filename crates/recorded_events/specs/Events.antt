@@ -3,7 +3,7 @@ use Rattle.std.specs.Prelude.{◌≡◌, ℕ, ◌<◌, ◌≤◌, List, [], ◌�
 use Rattle.std.specs.List.{AllByRecursion}
 use Rattle.rmm_spec.specs.declared.command.Command.{Command}
 use Rattle.rmm_spec.specs.declared.reply.Reply.{Reply}
-use Rattle.rmm_spec.specs.declared.version.Version.TheVariants.{One}
+use Rattle.rmm_spec.specs.declared.version.Version.TheVariants.{Large}
 use Rattle.rmm_spec.specs.CommandText.{IsCommand, IsReply, command_parts, reply_parts}
 use Rattle.rmm_spec.specs.HistoryText.{IsConfig}
 use Rattle.rmm_spec.specs.Text.{decimal, lines_text}
@@ -38,7 +38,7 @@ pub record IsRecorded (event : Recorded) : Type 0 where
 
 -- Each event has a text, and with its header the recording has at most 2,000,001 lines. In which order they stand isn't asked here.
 pub record IsRecording (recording : Recording) : Type 0 where
-  pub config : IsConfig (record { granules = recording.granules; cpus = recording.cpus; version = One })
+  pub config : IsConfig (record { granules = recording.granules; cpus = recording.cpus; version = Large })
   pub each : AllByRecursion IsRecorded recording.events
   pub count : length recording.events ≤ 2000000
 

@@ -5,7 +5,7 @@ use Rattle.rmi_view.specs.Seen.{command_seen, reply_seen}
 use Rattle.recorded_events.specs.Events.{Moment, Call, Commit, Return, Recorded, IsRecorded, IsMoment, moment_parts, recorded_parts, sizes_parts}
 use Rattle.recorded_events.specs.Table.{Happened}
 use Rattle.rmm_spec.specs.HistoryText.{IsConfig}
-use Rattle.rmm_spec.specs.declared.version.Version.TheVariants.{One}
+use Rattle.rmm_spec.specs.declared.version.Version.TheVariants.{Large}
 use Rattle.recorded_events.specs.declared.line.Line.{Line}
 use Rattle.recorded_events.specs.declared.moment.HappenedRef.{HappenedRef}
 use Rattle.recorded_events.specs.declared.moment.MomentRef.{MomentRef}
@@ -24,6 +24,9 @@ abbrev pub HasFewWords : Moment → Type 0
 HasFewWords (Call command) = length command.words.items ≤ 10
 HasFewWords (Commit given) = replied.HasFewWords given
 HasFewWords (Return given) = replied.HasFewWords given
+
+abbrev pub IsFewMoment : Option MomentRef → Type 0
+IsFewMoment found = IfSome found (λ moment. HasFewWords (moment_seen moment))
 
 abbrev pub AreFew : Option HappenedRef → Type 0
 AreFew found = IfSome found (λ happened. HasFewWords (moment_seen happened.moment))
@@ -47,7 +50,7 @@ line_seen line = record { stamp = line.stamp; cpu = line.cpu; moment = moment_se
 
 -- the parts are those of a header with these sizes
 pub record IsSizesOf (parts : List (List ℕ)) (granules cpus : ℕ) : Type 0 where
-  pub config : IsConfig (record { granules = granules; cpus = cpus; version = One })
+  pub config : IsConfig (record { granules = granules; cpus = cpus; version = Large })
   pub spelled : parts ≡ sizes_parts granules cpus
 
 abbrev pub IsNoSizes : List (List ℕ) → Type 0

@@ -41,8 +41,9 @@ pub record ArePlaced (events : List Recorded) (slots : List (Option Happened)) :
   pub each_slot : (stamp : ℕ) (slot : Happened) → slot_at slots stamp ≡ Some slot → IsOfEvent events stamp slot
   pub no_more : (last : ℕ) → length slots ≡ last + 1 → IsSome (slot_at slots last)
 
--- What happened at one stamp is known now, and all else is as it was.
+-- What happened at one stamp, of which nothing was known, is known now, and all else is as it was.
 pub record IsPut (old new : List (Option Happened)) (stamp : ℕ) (slot : Happened) : Type 0 where
+  pub free : slot_at old stamp ≡ None
   pub here : slot_at new stamp ≡ Some slot
   pub others : (other : ℕ) → other ≢ stamp → slot_at new other ≡ slot_at old other
   pub no_more : (last : ℕ) → length new ≡ last + 1 → (last ≡ stamp → ⊥) → length old ≡ last + 1

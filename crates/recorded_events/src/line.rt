@@ -34,7 +34,7 @@ pub fn sizes_from(bytes: &[u8]) -> Option<Config>
     let granules = decimal_from(parts.next_part()?)?;
     let cpus = decimal_from(parts.next_part()?)?;
     match parts.next_part() {
-        None => Config::new(granules, cpus),
+        None => Config::large(granules, cpus),
         Some(_) => None,
     }
 }

@@ -1,12 +1,12 @@
 //! Events by their stamps.
 
-ghost use Rattle.std.specs.Prelude.{◌≡◌, ℕ, ◌+◌, ◌<◌, ◌≤◌, [], ◌++◌, length, replicate, None, OnOk, OnErr, option_map};
+ghost use Rattle.std.specs.Prelude.{◌≡◌, ℕ, ◌+◌, ◌<◌, ◌≤◌, [], ◌++◌, length, OnOk, OnErr, None, option_map};
 ghost use Rattle.recorded_events.specs.Events.{IsMoment};
 ghost use Rattle.recorded_events.specs.Seen.{moment_seen, happened_seen, AreFew};
 ghost use Rattle.recorded_events.specs.Table.{Happened, IsHappened, IsPut, slot_at};
 
 use crate::moment::{HappenedRef, MomentRef};
-use crate::slot::{Slot, happened_at, keep};
+use crate::slot::{Slot, happened_at, place, vacant, what_of, words_of};
 use granule_state::Config;
 use std::alloc::{AllocError, Global};
 use std::marker::Model;
@@ -22,8 +22,10 @@ const MOST_WORDS: usize = 10;
 pub struct EventTable {
     sizes: Config,
     count: u32,
-    slots: Vec<Option<Slot>>,
+    slots: Vec<Slot>,
     words: Vec<u64>,
+    // where the words of each CPU's last event begin, so that a return has those of its commit
+    lasts: [u32; 8],
 }
 
 impl Model for EventTable {
@@ -52,10 +54,11 @@ impl EventTable {
             count: 0,
             slots: Vec::new(alloc),
             words: Vec::new(alloc),
+            lasts: [0; 8],
         }
     }
 
-    /// The sizes that the header names, for a machine of version 1.
+    /// The sizes that the header names, for a machine of the version of large ones.
     pub fn sizes(&self) -> Config
         ensures granules { result.granules ≡ self.now.granules }
         ensures cpus { result.cpus ≡ self.now.cpus }
@@ -85,8 +88,8 @@ impl EventTable {
         ensures few { AreFew result }
     {
         match self.slots.get(stamp) {
-            Some(Some(slot)) => Some(happened_at(&self.words, *slot)),
-            _ => None,
+            Some(slot) => happened_at(&self.words, *slot),
+            None => None,
         }
     }
 
@@ -105,6 +108,7 @@ impl EventTable {
         moment: MomentRef<'_>,
     ) -> Result<(), AllocError>
         requires stamp { stamp < MOST_EVENTS }
+        requires free { slot_at self.old.slots stamp ≡ None }
         requires cpu { cpu < 8 }
         requires moment { IsMoment (moment_seen moment) }
         requires few { self.old.count < MOST_EVENTS }
@@ -117,28 +121,31 @@ impl EventTable {
         self.words.reserve(MOST_WORDS)?;
         grow(&mut self.slots, at + 1)?;
         let line = self.count + 2;
-        let first = self.words.len() as u32;
-        let what = keep(&mut self.words, moment);
-        self.slots[at] = Some(Slot {
+        let last = self.lasts[usize::from(cpu)];
+        let first = place(&mut self.words, last, words_of(moment));
+        let what = what_of(moment);
+        self.lasts[usize::from(cpu)] = first;
+        self.slots[at] = Slot {
             line,
             first,
             cpu,
             what,
-        });
+        };
         self.count += 1;
         Ok(())
     }
 }
 
-ghost use Rattle.std.specs.Prelude.{◌-◌};
+ghost use Rattle.std.specs.Prelude.{◌-◌, replicate};
+ghost use Rattle.recorded_events.specs.Slots.{vacant};
 
 // Makes the slots at least so many.
-fn grow(slots: &mut Vec<Option<Slot>>, least: usize) -> Result<(), AllocError>
-    ensures ok { OnOk result (slots.new.items ≡ slots.old.items ++ replicate (least - length slots.old.items) None) }
+fn grow(slots: &mut Vec<Slot>, least: usize) -> Result<(), AllocError>
+    ensures ok { OnOk result (slots.new.items ≡ slots.old.items ++ replicate (least - length slots.old.items) vacant) }
     ensures err { OnErr result (slots.new.items ≡ slots.old.items) }
 {
     if least <= slots.len() {
         return Ok(());
     }
-    slots.resize(least, None)
+    slots.resize(least, vacant())
 }

@@ -9,7 +9,7 @@ use std::alloc::{AllocError, Global};
 pub const VERSION: &str = "1.0.0";
 
 /// The versions of the rules, by the first word of a history.
-pub const RULES: &str = "rmh1 and rmh2";
+pub const RULES: &str = "rmh1, rmh2 and rml1";
 
 /// The kit that all is proved with, as `rt version` prints it.
 pub const KIT: &str = "rattle-kit-13f logic dac8208d650f15bf";

@@ -7,7 +7,7 @@ use Rattle.rmm_spec.specs.declared.accepted.StretchUse.TheVariants.{Init, Reques
 use Rattle.rmm_spec.specs.declared.change.Change.{Change}
 use Rattle.rmm_spec.specs.declared.command.Command.{Command}
 use Rattle.rmm_spec.specs.declared.entry.Entry.{Entry}
-use Rattle.rmm_spec.specs.declared.entry.Entry.TheVariants.{Unassigned, Assigned, Table, UnassignedNs, AssignedNs}
+use Rattle.rmm_spec.specs.declared.entry.Entry.TheVariants.{Unassigned}
 use Rattle.rmm_spec.specs.declared.function_id.FunctionId.{FunctionId}
 use Rattle.rmm_spec.specs.declared.function_id.FunctionId.TheVariants.{RttInitRipas, RttSetRipas}
 use Rattle.rmm_spec.specs.declared.refusal.Refusal.{Refusal}
@@ -51,10 +51,7 @@ OutcomeTells s function words (Err refusal) = is_accepted (reply_of refusal) ≡
 -- an unassigned entry may be set before a realm runs
 unassigned-set : (entry : Entry) → is_unassigned entry ≡ true → can_be_set Init entry ≡ true
 unassigned-set (Unassigned ripas) is = refl
-unassigned-set (Assigned ripas granule) is = both_ways is refl
-unassigned-set (Table granule) is = both_ways is refl
-unassigned-set UnassignedNs is = both_ways is refl
-unassigned-set (AssignedNs page) is = both_ways is refl
+unassigned-set _ is = both_ways is refl
 
 -- the end of the first entry
 first_end : (s : State) (rd base top : ℕ) (purpose : StretchUse) → is_multiple base (entry_size (reach s rd base 3)) ≡ true

@@ -3,7 +3,7 @@ use Rattle.std.proofs.Common.{◌≡◌, ℕ, false, ◌++◌, List, [], ◌∷�
 use Rattle.rmm_spec.specs.declared.accepted.Accepted.{Accepted}
 use Rattle.rmm_spec.specs.declared.accepted.Accepted.TheVariants.{Done, Reaches}
 use Rattle.rmm_spec.specs.declared.change.Change.{Change}
-use Rattle.rmm_spec.specs.declared.change.Change.TheVariants.{Unchanged, Retagged, RealmMade, RealmDestroyed, RecMade, RecDestroyed, RecordsChanged, TableMade, TableDestroyed, EntriesChanged}
+use Rattle.rmm_spec.specs.declared.change.Change.TheVariants.{RealmDestroyed, RecDestroyed}
 use Rattle.rmm_spec.specs.declared.refusal.Refusal.{Refusal}
 use Rattle.rmm_spec.specs.declared.reply.Reply.{Reply}
 use Rattle.rmm_spec.specs.declared.reply.Reply.TheVariants as reply
@@ -45,14 +45,7 @@ closed-same : (earlier : List JournalEntry) (held : List Claim) (s : State) (cha
 closed-same earlier held s (RealmDestroyed rd root) a can =
     ap (λ r. claim rd Rd rd ∷ claim r Rtt rd ∷ []) (a.roots rd (realm_at s rd) (realm_there s rd a.sound can.rd_tag))
 closed-same earlier held s (RecDestroyed rec aux0 aux1) a can = ap (rec_claims rec) (a.recs rec (rec_at s rec) (rec_there s rec a.sound can.rec_tag))
-closed-same earlier held s (TableDestroyed rd level number rtt entry) a can = refl
-closed-same earlier held s (EntriesChanged rd level entries page realm rec) a can = refl
-closed-same earlier held s Unchanged a can = refl
-closed-same earlier held s (Retagged change) a can = refl
-closed-same earlier held s (RealmMade rd root width level vmid algo) a can = refl
-closed-same earlier held s (RecMade rd rec mpidr flags aux0 aux1) a can = refl
-closed-same earlier held s (RecordsChanged realm rec) a can = refl
-closed-same earlier held s (TableMade rd level number rtt entry) a can = refl
+closed-same earlier held s _ a can = refl
 
 module _ (earlier : List JournalEntry) (held : List Claim) (old : State) (entry : JournalEntry) (a : IsAccounted earlier held old) where
   -- a refusal leaves all as it is

@@ -4,6 +4,7 @@ use Rattle.std.proofs.Math.Nat.{div-add-mod, mul-mod_left, mul-div_cancel}
 use Rattle.std.proofs.lemmas.Nat.{pow_pos}
 use Rattle.std.proofs.lemmas.Bool.{and_parts, and_from, eqb-true, eq-eqb}
 use Rattle.std.proofs.lemmas.Bool.Decides.{nat_tests}
+use Rattle.std.specs.List.{AllByRecursion}
 use Rattle.std.specs.Option.{option_and_then}
 use Rattle.rmm_spec.specs.declared.accepted.Accepted.{Accepted}
 use Rattle.rmm_spec.specs.declared.accepted.Accepted.TheVariants.{Done, Reaches}
@@ -13,15 +14,17 @@ use Rattle.rmm_spec.specs.declared.reply.Reply.{Reply}
 use Rattle.rmm_spec.specs.declared.reply.Reply.TheVariants as reply
 use Rattle.rmm_spec.specs.Call.{call_of}
 use Rattle.rmm_spec.specs.Change.{changed}
+use Rattle.rmm_spec.specs.HistoryText.{Config}
 use Rattle.rmm_spec.specs.Rows.{ok, reply_of}
 use Rattle.rmm_spec.specs.Run.{JournalEntry, IsRun}
 use Rattle.rmm_spec.specs.Script.{are_same_words, is_same_reply, end_among, end_given, next_by, replay}
-use Rattle.rmm_spec.specs.State.{State}
+use Rattle.rmm_spec.specs.State.{State, opening}
 use Rattle.rmm_spec.specs.Lookup.{all_below}
 use Rattle.rmm_spec.specs.Step.{outcome, CarriesOut}
 use Rattle.rmm_spec.specs.Step.Ripas.{can_be_set, IsReached, is_reached, reached_change}
 use Rattle.rmm_spec.specs.Walk.{entry_size, table_size, entry_number, table_number, entry_at, is_multiple}
 use Rattle.rmm_spec.proofs.Tests.{both_ways}
+use Rattle.rmm_laws.specs.Worked.{AreRuns}
 use Rattle.rmm_laws.proofs.Tests.{last_or_below}
 
 -- what is chosen is there where the test holds
@@ -136,6 +139,14 @@ some_run old entries (Some last) is there = (last, replay-run entries old last i
 -- what is replayed is a run
 pub replayed-run : (old : State) (entries : List JournalEntry) → is_some (replay old entries) ≡ true → (last : State) × IsRun old entries last
 replayed-run old entries there = some_run old entries (replay old entries) refl there
+
+-- the machine gives each reply of scripts, or of none
+abbrev pub AreReplayed : Config → Bool → List (List JournalEntry) → Type 0
+AreReplayed config all scripts = AllByRecursion (λ (entries : List JournalEntry). is_some (replay (opening config) entries) ≡ all) scripts
+
+pub replayed-runs : (config : Config) (scripts : List (List JournalEntry)) → AreReplayed config true scripts → AreRuns config scripts
+replayed-runs config [] all = tt
+replayed-runs config (entries ∷ scripts) all = (replayed-run (opening config) entries all.0, replayed-runs config scripts all.1)
 
 -- ---- and a run is replayed
 

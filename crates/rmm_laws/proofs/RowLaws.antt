@@ -19,10 +19,7 @@ use Rattle.rmm_spec.proofs.Behind.{behind}
 -- no refusal accepts
 pub refusal-refuses : (refusal : Refusal) → is_accepted (reply_of refusal) ≡ false
 refusal-refuses (of.Misplaced condition) = refl
-refusal-refuses (of.Input condition) = refl
-refusal-refuses (of.Realm condition index) = refl
-refusal-refuses (of.Rec condition) = refl
-refusal-refuses (of.Rtt condition level) = refl
+refusal-refuses _ = refl
 
 -- ---- the rows that every command begins with
 

@@ -22,8 +22,7 @@ use Rattle.rmm_spec.proofs.Tests.{both_ways}
 -- the first word of a reply
 first_word : Reply → ℕ
 first_word (reply.Ok words) = slice_index words.items 0
-first_word (reply.Err status index) = 0
-first_word reply.Misplaced = 0
+first_word _ = 0
 
 -- the word of a reply of one word
 pub word_of : (a b : ℕ) → ok (a ∷ []) ≡ ok (b ∷ []) → a ≡ b

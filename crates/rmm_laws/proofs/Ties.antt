@@ -22,18 +22,13 @@ tied-tag s RecAux granule realm sound (rec, r, is, _, inl aux) = rw (← aux) (s
 tied-tag s RecAux granule realm sound (rec, r, is, _, inr aux) = rw (← aux) (sound.recs.aux1 rec r is)
 tied-tag s Rtt granule realm sound (level, number, is) = sound.tables.tagged realm level number granule is
 tied-tag s Data granule realm sound (level, number, ripas, is) = sound.leaves.pages realm level number granule ripas is
-tied-tag s Undelegated granule realm sound tied = absurd tied
-tied-tag s Delegated granule realm sound tied = absurd tied
+tied-tag s _ granule realm sound tied = absurd tied
 
 -- a role is no unused tag
 role_used : (s : State) (role : Tag) (granule realm : ℕ) → IsTied role s granule realm → IsUnused role → ⊥
-role_used s Rd granule realm tied unused = elim unused [ inl bad ↦ cc | inr bad ↦ cc ]
-role_used s Rec granule realm tied unused = elim unused [ inl bad ↦ cc | inr bad ↦ cc ]
-role_used s RecAux granule realm tied unused = elim unused [ inl bad ↦ cc | inr bad ↦ cc ]
-role_used s Rtt granule realm tied unused = elim unused [ inl bad ↦ cc | inr bad ↦ cc ]
-role_used s Data granule realm tied unused = elim unused [ inl bad ↦ cc | inr bad ↦ cc ]
 role_used s Undelegated granule realm tied unused = tied
 role_used s Delegated granule realm tied unused = tied
+role_used s _ granule realm tied unused = elim unused [ inl bad ↦ cc | inr bad ↦ cc ]
 
 -- a granule that is tied is in use
 pub tied-used : (s : State) (role : Tag) (granule realm : ℕ) → IsSound s → IsTied role s granule realm → IsUnused (s.tag granule) → ⊥

@@ -17,6 +17,7 @@ ghost use Rattle.rmm_spec.specs.Script.{script_config, version_two_config};
 ghost use Rattle.rmm_spec.specs.Footprint.{KeepsOthers, changed_parts};
 ghost use Rattle.rmm_laws.specs.Commands as commands;
 ghost use Rattle.rmm_laws.specs.Presence.{HasWhatRowsRead};
+ghost use Rattle.rmm_laws.specs.Worked.{AreRuns, worked};
 
 /// Whatever a command is answered, it keeps the maps that it isn't listed with.
 pub fn commands_keep_other_maps()
@@ -60,18 +61,8 @@ pub fn no_default_is_read()
 
 /// The worked scripts are runs: the definitions give each of their replies.
 pub fn worked_scripts_are_runs()
-    ensures table_with_data_stays { (last : State) × IsRun (opening script_config) tables.table_with_data_stays last }
-    ensures data_granule_mapped_twice { (last : State) × IsRun (opening script_config) tables.data_granule_mapped_twice last }
-    ensures ripas_change_in_two_parts { (last : State) × IsRun (opening script_config) tables.ripas_change_in_two_parts last }
-    ensures ripas_change_past_table { (last : State) × IsRun (opening script_config) tables.ripas_change_past_table last }
-    ensures life_of_a_rec { (last : State) × IsRun (opening script_config) script.life_of_a_rec last }
-    ensures off_and_out_of_range { (last : State) × IsRun (opening script_config) script.off_and_out_of_range last }
-    ensures ripas_before_a_realm_runs { (last : State) × IsRun (opening script_config) tables.ripas_before_a_realm_runs last }
-    ensures realms_and_recs_come_and_go { (last : State) × IsRun (opening script_config) script.realms_and_recs_come_and_go last }
-    ensures words_out_of_range { (last : State) × IsRun (opening script_config) tables.words_out_of_range last }
-    ensures table_folds { (last : State) × IsRun (opening script_config) tables.table_folds last }
-    ensures page_of_the_host { (last : State) × IsRun (opening script_config) tables.page_of_the_host last }
-    ensures realm_of_algo_1 { (last : State) × IsRun (opening version_two_config) script.realm_of_algo_1 last }
+    ensures version_one { AreRuns script_config worked }
+    ensures version_two { AreRuns version_two_config (script.realm_of_algo_1 ∷ []) }
 {}
 
 /// The script of a realm measured by SHA-512, a run of version 2, is none of version 1: there its 6th step, which makes the realm,

@@ -2,7 +2,7 @@
 use Rattle.std.proofs.Common.{◌≡◌, ℕ, suc, ◌+◌, ◌*◌, ◌/◌, ◌%◌, ◌<◌, Bool, true, false, if◌then◌else◌, IsTrue, Option, Some, None, is_some, nat_lt, refl, sym, ◌∙◌, ap, subst, arith, inl, inr, add-one}
 use Rattle.std.proofs.lemmas.Bool.{or_cases, lt-ltb}
 use Rattle.rmm_spec.specs.declared.entry.Entry.{Entry}
-use Rattle.rmm_spec.specs.declared.entry.Entry.TheVariants.{Unassigned, Assigned, Table, UnassignedNs, AssignedNs}
+use Rattle.rmm_spec.specs.declared.entry.Entry.TheVariants.{Assigned, Table, AssignedNs}
 use Rattle.rmm_spec.specs.State.{State, RealmRecord}
 use Rattle.rmm_spec.specs.Walk.{entry_at, linked_entry, is_table, is_live, is_in_use, has_entry}
 use Rattle.rmm_spec.specs.Sound.{IsSound, IsLeafOf}
@@ -27,19 +27,15 @@ leaf_fits s sound rd level number e at =
 
 -- a leaf is no link
 pub fitting_leaf : (e : Entry) (r : RealmRecord) (level number : ℕ) → IsLeafOf e r level number → is_table e ≡ false
-fitting_leaf (Unassigned ripas) r level number fits = refl
-fitting_leaf (Assigned ripas granule) r level number fits = refl
 fitting_leaf (Table granule) r level number fits = absurd fits
-fitting_leaf UnassignedNs r level number fits = refl
-fitting_leaf (AssignedNs page) r level number fits = refl
+fitting_leaf _ r level number fits = refl
 
 -- a leaf above the last level keeps no page
 pub vacant_above : (e : Entry) (r : RealmRecord) (level number : ℕ) → level < 3 → IsLeafOf e r level number → IsVacant e
-vacant_above (Unassigned ripas) r level number above fits = tt
 vacant_above (Assigned ripas granule) r level number above fits = absurd (omega (arith, fits.1))
 vacant_above (Table granule) r level number above fits = fits
-vacant_above UnassignedNs r level number above fits = tt
 vacant_above (AssignedNs page) r level number above fits = absurd (omega (arith, fits.1))
+vacant_above _ r level number above fits = tt
 
 -- ---- entries
 

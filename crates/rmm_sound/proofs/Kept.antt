@@ -1,7 +1,7 @@
 -- Groups of what a sound state keeps, where a change leaves alone what they speak of.
 use Rattle.std.proofs.Common.{◌≡◌, ℕ, suc, ◌/◌, IsTrue, Option, Some, is_some, length, refl, sym, ◌∙◌, ap}
 use Rattle.rmm_spec.specs.declared.entry.Entry.{Entry}
-use Rattle.rmm_spec.specs.declared.entry.Entry.TheVariants.{Unassigned, Assigned, Table, UnassignedNs, AssignedNs}
+use Rattle.rmm_spec.specs.declared.entry.Entry.TheVariants.{Assigned, Table}
 use Rattle.rmm_spec.specs.declared.tag.Ripas.{Ripas}
 use Rattle.rmm_spec.specs.declared.tag.Tag.TheVariants.{Rd, Rec, RecAux, Data, Rtt}
 use Rattle.rmm_spec.specs.State.{State, RealmRecord, RecRecord, Request}
@@ -45,11 +45,8 @@ request_of_width q r request same is = record {
 
 -- a leaf fits a realm of the same width
 pub leaf_of_width : (e : Entry) (q r : RealmRecord) (level number : ℕ) → r.width ≡ q.width → IsLeafOf e q level number → IsLeafOf e r level number
-leaf_of_width (Unassigned ripas) q r level number same is = rw same is
-leaf_of_width (Assigned ripas granule) q r level number same is = rw same is
 leaf_of_width (Table granule) q r level number same is = is
-leaf_of_width UnassignedNs q r level number same is = rw same is
-leaf_of_width (AssignedNs page) q r level number same is = rw same is
+leaf_of_width _ q r level number same is = rw same is
 
 -- a root is that of a realm like the one that had it
 pub root_of_like : (table : ℕ → ℕ → Option ℕ) (q r : RealmRecord) → IsLike q r → table q.start_level 0 ≡ Some q.root → table r.start_level 0 ≡ Some r.root

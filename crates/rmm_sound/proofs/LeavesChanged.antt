@@ -85,10 +85,7 @@ with_leaf_sound s rd level number entry sound can =
 -- another RIPAS leaves an entry its kind
 ripas_fits : (e : Entry) (ripas : Ripas) (r : RealmRecord) (level number : ℕ) → IsLeafOf e r level number → IsLeafOf (entry_with_ripas ripas e) r level number
 ripas_fits (Unassigned old) ripas r level number fits = fits
-ripas_fits (Assigned old granule) ripas r level number fits = fits
-ripas_fits (Table granule) ripas r level number fits = fits
-ripas_fits UnassignedNs ripas r level number fits = fits
-ripas_fits (AssignedNs page) ripas r level number fits = fits
+ripas_fits _ ripas r level number fits = fits
 
 -- and its page
 ripas_page : (e : Entry) (ripas new : Ripas) (granule : ℕ) → entry_with_ripas ripas e ≡ Assigned new granule → (old : Ripas) × (e ≡ Assigned old granule)

@@ -20,8 +20,6 @@ pub mod Walked
 pub mod Opening
 pub mod Applies
 pub mod Ends
-pub mod TableCommands
-pub mod PageCommands
-pub mod RipasCommands
+pub mod Unused
 pub mod Commands
 pub mod Runs

@@ -3,7 +3,7 @@ use Rattle.std.proofs.Common.{◌≡◌, ℕ, zero, suc, ◌+◌, ◌-◌, ◌*�
 use Rattle.std.proofs.lemmas.Bool.{and_parts, or_cases, eqb-true, ltb-true, ltb-false}
 use Rattle.std.proofs.Math.Nat.{mul-le-mul_left}
 use Rattle.std.proofs.lemmas.Nat.{pow_pos}
-use Rattle.rmm_spec.specs.declared.entry.Entry.TheVariants.{Unassigned, Assigned, Table, UnassignedNs, AssignedNs}
+use Rattle.rmm_spec.specs.declared.entry.Entry.TheVariants.{Unassigned, Assigned, UnassignedNs}
 use Rattle.rmm_spec.specs.declared.entry.Entry.{Entry}
 use Rattle.rmm_spec.specs.declared.tag.Ripas.TheVariants.{Empty}
 use Rattle.rmm_spec.specs.State.{RealmRecord}
@@ -135,5 +135,4 @@ copies_fit UnassignedNs r space up number n vacant above last in_table fits =
     let scaled : count.0 * 512 * entry_size (suc up) ≤ n * entry_size (suc up) = scaled_le (count.0 * 512) n (entry_size (suc up)) first in
     rw (count.1, size) (omega arith)
 copies_fit (Assigned ripas granule) r space up number n vacant above last in_table fits = absurd vacant
-copies_fit (Table granule) r space up number n vacant above last in_table fits = absurd vacant
-copies_fit (AssignedNs page) r space up number n vacant above last in_table fits = absurd vacant
+copies_fit _ r space up number n vacant above last in_table fits = absurd vacant

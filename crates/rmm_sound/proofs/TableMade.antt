@@ -2,7 +2,7 @@
 use Rattle.std.proofs.Common.{◌≡◌, ℕ, suc, ◌+◌, ◌/◌, ◌≤◌, ◌==◌, ◌||◌, Bool, true, false, if◌then◌else◌, IsTrue, Option, Some, None, is_some, refl, sym, ◌∙◌, ap, arith, subst, add-one}
 use Rattle.std.proofs.lemmas.Bool.{eq-eqb, false_from_ne_true}
 use Rattle.rmm_spec.specs.declared.entry.Entry.{Entry}
-use Rattle.rmm_spec.specs.declared.entry.Entry.TheVariants.{Unassigned, Assigned, Table, UnassignedNs, AssignedNs}
+use Rattle.rmm_spec.specs.declared.entry.Entry.TheVariants.{Unassigned, Assigned, UnassignedNs}
 use Rattle.rmm_spec.specs.declared.tag.Ripas.{Ripas}
 use Rattle.rmm_spec.specs.declared.tag.Tag.TheVariants.{Rtt}
 use Rattle.rmm_spec.specs.State.{State, RealmRecord}
@@ -18,9 +18,7 @@ use Rattle.rmm_sound.proofs.Spaces.{copies_fit}
 vacant_unassigned : (e : Entry) (ripas : Ripas) (granule : ℕ) → IsVacant e → e ≡ Assigned ripas granule → ⊥
 vacant_unassigned (Unassigned old) ripas granule vacant same = cc
 vacant_unassigned UnassignedNs ripas granule vacant same = cc
-vacant_unassigned (Assigned old page) ripas granule vacant same = vacant
-vacant_unassigned (Table page) ripas granule vacant same = vacant
-vacant_unassigned (AssignedNs page) ripas granule vacant same = vacant
+vacant_unassigned _ ripas granule vacant same = vacant
 
 -- a table that stands below another has that one above it
 parent_there : (s : State) → IsSound s → (rd level number : ℕ) (r : RealmRecord) → s.realm rd ≡ Some r → r.start_level ≤ level

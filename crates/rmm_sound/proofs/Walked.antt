@@ -3,7 +3,7 @@ use Rattle.std.proofs.Common.{◌≡◌, ℕ, ◌+◌, ◌*◌, ◌/◌, ◌%◌
 use Rattle.std.proofs.lemmas.Bool.{eqb-true}
 use Rattle.std.proofs.Math.Nat.{div-add-mod, div-div-eq-div-mul}
 use Rattle.rmm_spec.specs.declared.entry.Entry.{Entry}
-use Rattle.rmm_spec.specs.declared.entry.Entry.TheVariants.{Unassigned, Assigned, Table, UnassignedNs, AssignedNs}
+use Rattle.rmm_spec.specs.declared.entry.Entry.TheVariants.{Unassigned, Assigned, UnassignedNs, AssignedNs}
 use Rattle.rmm_spec.specs.declared.tag.Ripas.{Ripas}
 use Rattle.rmm_spec.specs.declared.tag.Tag.TheVariants.{Rd}
 use Rattle.rmm_spec.specs.State.{State, RealmRecord}
@@ -104,31 +104,19 @@ walked_protected s rd ipa sound tag below =
 -- unassigned memory is no page and no link
 pub unassigned_kind : (e : Entry) → IsTrue (is_unassigned e) → (is_assigned e ≡ false) × (is_table e ≡ false)
 unassigned_kind (Unassigned ripas) is = (refl, refl)
-unassigned_kind (Assigned ripas granule) is = both_ways is refl
-unassigned_kind (Table granule) is = both_ways is refl
-unassigned_kind UnassignedNs is = both_ways is refl
-unassigned_kind (AssignedNs page) is = both_ways is refl
+unassigned_kind _ is = both_ways is refl
 
 -- a page is no link, and names its granule
 pub assigned_kind : (e : Entry) → IsTrue (is_assigned e) → (is_table e ≡ false) × ((ripas : Ripas) × (e ≡ Assigned ripas (entry_address e)))
 assigned_kind (Assigned ripas granule) is = (refl, (ripas, refl))
-assigned_kind (Unassigned ripas) is = both_ways is refl
-assigned_kind (Table granule) is = both_ways is refl
-assigned_kind UnassignedNs is = both_ways is refl
-assigned_kind (AssignedNs page) is = both_ways is refl
+assigned_kind _ is = both_ways is refl
 
 -- an entry of the upper half that is unassigned is no page of the realm's and no link
 pub unassigned_ns_kind : (e : Entry) → IsTrue (is_unassigned_ns e) → (is_assigned e ≡ false) × (is_table e ≡ false)
 unassigned_ns_kind UnassignedNs is = (refl, refl)
-unassigned_ns_kind (Unassigned ripas) is = both_ways is refl
-unassigned_ns_kind (Assigned ripas granule) is = both_ways is refl
-unassigned_ns_kind (Table granule) is = both_ways is refl
-unassigned_ns_kind (AssignedNs page) is = both_ways is refl
+unassigned_ns_kind _ is = both_ways is refl
 
 -- a page of the host is no page of the realm's and no link
 pub assigned_ns_kind : (e : Entry) → IsTrue (is_assigned_ns e) → (is_assigned e ≡ false) × (is_table e ≡ false)
 assigned_ns_kind (AssignedNs page) is = (refl, refl)
-assigned_ns_kind (Unassigned ripas) is = both_ways is refl
-assigned_ns_kind (Assigned ripas granule) is = both_ways is refl
-assigned_ns_kind (Table granule) is = both_ways is refl
-assigned_ns_kind UnassignedNs is = both_ways is refl
+assigned_ns_kind _ is = both_ways is refl

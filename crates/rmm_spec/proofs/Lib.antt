@@ -1,5 +1,6 @@
 pub mod Tests
 pub mod Texts
+pub mod Limits
 pub mod Lines
 pub mod CertificateLines
 pub mod HistoryGrammar

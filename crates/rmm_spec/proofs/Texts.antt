@@ -21,7 +21,7 @@ use Rattle.rmm_spec.specs.CertificateText.{line_parts}
 use Rattle.rmm_spec.specs.CommandText.{command_parts, reply_parts}
 use Rattle.rmm_spec.specs.Function.{functions, number_of}
 use Rattle.rmm_spec.specs.declared.version.Version.{Version}
-use Rattle.rmm_spec.specs.declared.version.Version.TheVariants.{One, Two}
+use Rattle.rmm_spec.specs.declared.version.Version.TheVariants.{One, Two, Large}
 use Rattle.rmm_spec.specs.HistoryText.{Config, mark, config_parts, event_parts}
 use Rattle.rmm_spec.specs.Text.{glyph, numeral, decimal, word, fixed_hex, line_text, parts_of}
 
@@ -311,12 +311,18 @@ reply_parts-injective reply.Misplaced reply.Misplaced e = refl
 mark-IsPart : (version : Version) → IsPart (mark version)
 mark-IsPart One = IsPart-from_test _ _ refl
 mark-IsPart Two = IsPart-from_test _ _ refl
+mark-IsPart Large = IsPart-from_test _ _ refl
 
 mark-injective : (v w : Version) → mark v ≡ mark w → v ≡ w
 mark-injective One One e = refl
 mark-injective One Two e = absurd (bytes_apart 49 50 refl (ap (λ (bs : List ℕ). get_or bs 3 0) e))
 mark-injective Two One e = absurd (bytes_apart 50 49 refl (ap (λ (bs : List ℕ). get_or bs 3 0) e))
 mark-injective Two Two e = refl
+mark-injective One Large e = absurd (bytes_apart 104 108 refl (ap (λ (bs : List ℕ). get_or bs 2 0) e))
+mark-injective Two Large e = absurd (bytes_apart 104 108 refl (ap (λ (bs : List ℕ). get_or bs 2 0) e))
+mark-injective Large One e = absurd (bytes_apart 108 104 refl (ap (λ (bs : List ℕ). get_or bs 2 0) e))
+mark-injective Large Two e = absurd (bytes_apart 108 104 refl (ap (λ (bs : List ℕ). get_or bs 2 0) e))
+mark-injective Large Large e = refl
 
 pub config_parts-are_parts : (config : Config) → AllByRecursion IsPart (config_parts config)
 config_parts-are_parts config = (mark-IsPart config.version, (decimal-IsPart config.granules, (decimal-IsPart config.cpus, tt)))

@@ -5,7 +5,7 @@ use Rattle.std.specs.Option.{option_and_then}
 use Rattle.rmm_spec.specs.declared.event.Event.{Event}
 use Rattle.rmm_spec.specs.declared.event.Event.TheVariants.{Called, Returned}
 use Rattle.rmm_spec.specs.declared.version.Version.{Version}
-use Rattle.rmm_spec.specs.declared.version.Version.TheVariants.{One, Two}
+use Rattle.rmm_spec.specs.declared.version.Version.TheVariants.{One, Two, Large}
 use Rattle.rmm_spec.specs.Text.{decimal, lines_text}
 use Rattle.rmm_spec.specs.CommandText.{IsCommand, IsReply, command_parts, reply_parts}
 
@@ -15,9 +15,15 @@ pub record Config : Type 0 where
   pub cpus : ℕ
   pub version : Version
 
+-- how many granules a machine of a version has at most
+abbrev pub granule_limit : Version → ℕ
+granule_limit One = 4096
+granule_limit Two = 4096
+granule_limit Large = 1048576
+
 pub record IsConfig (config : Config) : Type 0 where
   pub some_granules : 1 ≤ config.granules
-  pub most_granules : config.granules ≤ 4096
+  pub most_granules : config.granules ≤ granule_limit config.version
   pub some_cpus : 1 ≤ config.cpus
   pub most_cpus : config.cpus ≤ 8
 
@@ -78,7 +84,7 @@ pub record CanFollow (history : History) (event : Event) : Type 0 where
   pub is_event : IsEvent history.config.cpus event
   pub record_goes_on : IsRecord (subhistory_of (cpu_of event) (history.events ++ event ∷ []))
 
--- the versions are numbered 1 and 2
+-- the first two versions are numbered
 abbrev pub is_version : ℕ → Bool
 is_version number = number == 1 || number == 2
 
@@ -89,6 +95,7 @@ version_of number = if number == 2 then Two else One
 abbrev pub mark : Version → List ℕ
 mark One = codes "rmh1"
 mark Two = codes "rmh2"
+mark Large = codes "rml1"
 
 abbrev pub config_parts : Config → List (List ℕ)
 config_parts config = mark config.version ∷ decimal config.granules ∷ decimal config.cpus ∷ []

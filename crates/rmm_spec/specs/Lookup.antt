@@ -8,7 +8,7 @@ use Rattle.rmm_spec.specs.declared.tag.Ripas.TheVariants.{Empty, Ram, Destroyed}
 use Rattle.rmm_spec.specs.declared.tag.Tag.{Tag}
 use Rattle.rmm_spec.specs.declared.tag.Tag.TheVariants.{Undelegated, Delegated, Rd, Rec, RecAux, Data, Rtt}
 use Rattle.rmm_spec.specs.declared.version.Version.{Version}
-use Rattle.rmm_spec.specs.declared.version.Version.TheVariants.{One, Two}
+use Rattle.rmm_spec.specs.declared.version.Version.TheVariants.{One, Two, Large}
 use Rattle.rmm_spec.specs.State.{RealmRecord, Request, RecRecord, State}
 
 abbrev pub tag_number : Tag → ℕ
@@ -34,6 +34,7 @@ is_hash algo = algo == 0 || algo == 1
 abbrev pub allows_hash : Version → ℕ → Bool
 allows_hash One algo = algo == 0
 allows_hash Two algo = is_hash algo
+allows_hash Large algo = is_hash algo
 
 -- whether a number is the address of one of so many granules
 unfoldable pub is_granule : ℕ → ℕ → Bool

@@ -1,15 +1,15 @@
 -- Scenarios: how large a machine is, what each CPU calls, who is to take which turn; and what has to be stated to give one.
 -- This project's own.
-use Rattle.std.specs.Prelude.{◌≡◌, ℕ, ◌<◌, ◌≤◌, ℤ, pos, negsuc, List, ◌++◌, [], map, length, sum, codes}
+use Rattle.std.specs.Prelude.{◌≡◌, ℕ, ◌<◌, ◌≤◌, ℤ, pos, negsuc, Bool, true, false, IsTrue, List, ◌++◌, [], map, length, sum, codes}
 use Rattle.std.specs.List.{AllByRecursion}
 use Rattle.rmm_spec.specs.declared.command.Command.{Command}
 use Rattle.rmm_spec.specs.declared.turn.Due.{Due}
 use Rattle.rmm_spec.specs.declared.turn.Will.{Will}
 use Rattle.rmm_spec.specs.declared.turn.Will.TheVariants.{Go, GiveUp, Stop}
 use Rattle.rmm_spec.specs.declared.version.Version.{Version}
-use Rattle.rmm_spec.specs.declared.version.Version.TheVariants.{One, Two}
+use Rattle.rmm_spec.specs.declared.version.Version.TheVariants.{One, Two, Large}
 use Rattle.rmm_spec.specs.CommandText.{IsCommand, command_text}
-use Rattle.rmm_spec.specs.HistoryText.{Config, IsConfig}
+use Rattle.rmm_spec.specs.HistoryText.{Config, IsConfig, granule_limit}
 use Rattle.rmm_spec.specs.Text.{decimal}
 
 -- what each CPU calls, who is to take which turn, how many events wait to be drained, and how many turns there are at most
@@ -20,9 +20,16 @@ pub record Scenario : Type 0 where
   pub turns : List Due
   pub limit : ℕ
 
+-- a scenario is of a version that has a number
+abbrev pub is_numbered : Version → Bool
+is_numbered One = true
+is_numbered Two = true
+is_numbered Large = false
+
 -- a program for each CPU, of commands that have texts, and no more in all than a history has room for
 pub record IsScenario (scenario : Scenario) : Type 0 where
   pub config : IsConfig scenario.config
+  pub version : IsTrue (is_numbered scenario.config.version)
   pub programs : length scenario.programs ≡ scenario.config.cpus
   pub commands : AllByRecursion (AllByRecursion IsCommand) scenario.programs
   pub few : sum (map length scenario.programs) ≤ 499999
@@ -49,9 +56,11 @@ IsTurnText cpus text = (turn : Due) × (turn.cpu < cpus) × (text ≡ turn_text 
 
 -- ---- what is stated
 
+-- the numbers of the versions that have one, and 0
 abbrev pub version_number : Version → ℕ
 version_number One = 1
 version_number Two = 2
+version_number Large = 0
 
 -- what a document says, before anybody asks whether the numbers and texts make sense
 pub record Stated : Type 0 where
@@ -81,7 +90,7 @@ IsBetween low high (negsuc n) = ⊥
 
 -- Each number is within its range, and there is a program for each CPU.
 pub record AreInRange (stated : Stated) : Type 0 where
-  pub granules : IsBetween 1 4096 stated.granules
+  pub granules : IsBetween 1 (granule_limit One) stated.granules
   pub cpus : IsBetween 1 8 stated.cpus
   pub programs : stated.cpus ≡ pos (length stated.programs)
   pub few : sum (map length stated.programs) ≤ 499999

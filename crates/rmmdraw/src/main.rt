@@ -30,7 +30,7 @@ fn drawn<R: Env + Print + Eprint + AllocGlobal>(rt: &R) -> Result<u8, Fault> {
             Ok(0)
         }
         Err(Unasked::Printed(status)) => Ok(status),
-        Err(Unasked::CannotWrite) => Err(Fault::CannotWrite),
+        Err(Unasked::CannotWrite) => Err(Fault::CannotPrint),
         Err(Unasked::NoMemory) => Err(Fault::NoMemory),
     }
 }

@@ -1,18 +1,18 @@
-//! `rmmmerge [--version 1|2] [--granules G] [--cpus P] [--prefix] [--rename [--memory BYTES] [--map FILE]] EVENTS HISTORY CERTIFICATE`:
+//! `rmmmerge [--version 1|2] [--large] [--granules G] [--cpus P] [--prefix] [--rename [--memory BYTES] [--map FILE]] EVENTS HISTORY CERTIFICATE`:
 //! writes the history and the certificate of what a recorder wrote: status 0. With `--prefix` it takes the events before the first
 //! stamp that is missing, and prints that stamp. With `--rename` granules are numbered as they come, and FILE gets their names.
 //! Where the events are no run it prints why, with the line: status 2, and it writes no file. So do other arguments.
 #![tactic(auto)]
 
 use devices::FileSource;
-use file_programs::{Fault, end, print};
+use file_programs::{Fault, end, print, write_file};
 use merge_words::{Asked as Words, Extent as Given, Names, Paths, Request, Unasked, request_given};
 use merging::{
-    Asked, EventsFault, Extent, MergeFault, Renaming, SourceFault, TextFault, Texts, merge_source,
+    Asked, EventsFault, Extent, Renaming, Run, SourceFault, TextFault, Version, merge_source,
 };
 use release::VERSION;
 use std::alloc::{AllocError, Global};
-use std::io::ErrorKind;
+use std::io::{BufWriter, ErrorKind, Write};
 use std::process::ExitCode;
 use std::rt::{Env, Files};
 use std::{env, fs, io};
@@ -31,7 +31,7 @@ fn served<R: Env + Files + Print + Eprint + AllocGlobal>(rt: &R) -> Result<u8, F
             Ok(0)
         }
         Err(Unasked::Printed(status)) => Ok(status),
-        Err(Unasked::CannotWrite) => Err(Fault::CannotWrite),
+        Err(Unasked::CannotWrite) => Err(Fault::CannotPrint),
         Err(Unasked::NoMemory) => Err(Fault::NoMemory),
     }
 }
@@ -51,7 +51,7 @@ fn merge<R: Files + Print + AllocGlobal>(rt: &R, request: Request<'_>) -> Result
     };
     let mut source = FileSource::new(file);
     match merge_source(rt.alloc(), &mut source, asked_by(&request)) {
-        Ok(texts) => write_out(rt, &request, texts),
+        Ok(run) => write_out(rt, &request, &run),
         Err(SourceFault::Events(fault)) => report_fault(rt, fault),
         Err(SourceFault::Device) => unread(rt, path),
         Err(SourceFault::NoMemory) => Err(Fault::NoMemory),
@@ -64,7 +64,7 @@ fn unread<R: AllocGlobal>(rt: &R, path: &str) -> Result<u8, Fault> {
 
 fn asked_by(request: &Request<'_>) -> Asked {
     Asked {
-        version: request.version,
+        version: version_by(request),
         granules: request.granules,
         cpus: request.cpus,
         extent: match request.extent {
@@ -80,31 +80,52 @@ fn asked_by(request: &Request<'_>) -> Asked {
     }
 }
 
+// The version of the history that is to be written.
+fn version_by(request: &Request<'_>) -> Version {
+    match (request.large, request.version) {
+        (true, _) => Version::Large,
+        (false, 2) => Version::Two,
+        (false, _) => Version::One,
+    }
+}
+
 fn write_out<R: Files + Print + AllocGlobal>(
     rt: &R,
     request: &Request<'_>,
-    texts: Texts,
+    run: &Run,
 ) -> Result<u8, Fault> {
-    let Paths {
-        history,
-        certificate,
-        ..
-    } = request.paths;
-    write(rt, history, &texts.history)?;
-    write(rt, certificate, &texts.certificate)?;
+    write_texts(rt, request.paths, run)?;
     if let Some(Names { map: Some(map), .. }) = request.names {
-        write(rt, map, &texts.map)?;
+        write_map(rt, map, run)?;
     }
-    report_extent(rt, request.extent, texts.stamps)?;
+    report_extent(rt, request.extent, run.stamps())?;
     Ok(0)
 }
 
-// Writes a file, in place of one that is there.
-fn write<R: Files + AllocGlobal>(rt: &R, path: &str, text: &Vec<u8>) -> Result<(), Fault> {
-    match fs::write(rt, path, text.as_slice()) {
+// Writes both files, each in place of one that is there.
+fn write_texts<R: Files + AllocGlobal>(rt: &R, paths: Paths<'_>, run: &Run) -> Result<(), Fault> {
+    match try_write_texts(rt, paths, run) {
         Ok(()) => Ok(()),
-        Err(_) => Err(Fault::CannotWrite),
+        Err(error) if error.kind() == ErrorKind::OutOfMemory => Err(Fault::NoMemory),
+        Err(_) => {
+            let (history, certificate) = (paths.history, paths.certificate);
+            let either = format!(in rt.alloc(); "{history} or {certificate}")?;
+            Err(Fault::CannotWrite(either))
+        }
     }
+}
+
+fn try_write_texts<R: Files + AllocGlobal>(rt: &R, paths: Paths<'_>, run: &Run) -> io::Result<()> {
+    let mut history = BufWriter::new(rt.alloc(), fs::create(rt, paths.history)?)?;
+    let mut certificate = BufWriter::new(rt.alloc(), fs::create(rt, paths.certificate)?)?;
+    run.write(rt.alloc(), &mut history, &mut certificate)?;
+    history.flush()?;
+    certificate.flush()
+}
+
+fn write_map<R: Files + AllocGlobal>(rt: &R, path: &str, run: &Run) -> Result<(), Fault> {
+    let map = run.map(rt.alloc())?;
+    write_file(rt, String::from_str(rt.alloc(), path)?, map.as_slice())
 }
 
 // Prints up to which stamp events were taken, where not all had to be there.
@@ -125,9 +146,7 @@ fn report_extent<R: Print + AllocGlobal>(
 // Prints why the events are no run. Refused memory is a fault of the program.
 fn report_fault<R: Print + AllocGlobal>(rt: &R, fault: TextFault) -> Result<u8, Fault> {
     match fault {
-        TextFault::Text(EventsFault::NoMemory)
-        | TextFault::Merge(MergeFault::NoMemory)
-        | TextFault::NoMemory => Err(Fault::NoMemory),
+        TextFault::Text(EventsFault::NoMemory) | TextFault::NoMemory => Err(Fault::NoMemory),
         fault => {
             let line = line_of(rt.alloc(), fault)?;
             print(&mut io::writer(rt), line.as_bytes())?;

@@ -5,7 +5,7 @@ use Rattle.std.proofs.lemmas.Bool.{lt-ltb}
 use Rattle.std.proofs.lemmas.List.{drop-drop}
 use Rattle.std.proofs.lemmas.Option.{none-some, same_Some}
 use Rattle.rmm_spec.specs.declared.entry.Entry.{Entry}
-use Rattle.rmm_spec.specs.declared.entry.Entry.TheVariants.{Unassigned, Assigned, Table, UnassignedNs, AssignedNs}
+use Rattle.rmm_spec.specs.declared.entry.Entry.TheVariants.{Unassigned}
 use Rattle.rmm_spec.specs.declared.tag.Ripas.{Ripas}
 use Rattle.rmm_spec.specs.Update.{entry_with_ripas}
 use Rattle.rmm_spec.specs.Walk.{is_live, is_table}
@@ -102,17 +102,11 @@ count-ripas test first last ripas xs same order =
 -- whether an entry is live, or a link, isn't told by its RIPAS
 pub live-ripas : (ripas : Ripas) (e : Entry) → is_live (entry_with_ripas ripas e) ≡ is_live e
 live-ripas ripas (Unassigned old) = refl
-live-ripas ripas (Assigned old granule) = refl
-live-ripas ripas (Table granule) = refl
-live-ripas ripas UnassignedNs = refl
-live-ripas ripas (AssignedNs page) = refl
+live-ripas ripas _ = refl
 
 pub link-ripas : (ripas : Ripas) (e : Entry) → is_table (entry_with_ripas ripas e) ≡ is_table e
 link-ripas ripas (Unassigned old) = refl
-link-ripas ripas (Assigned old granule) = refl
-link-ripas ripas (Table granule) = refl
-link-ripas ripas UnassignedNs = refl
-link-ripas ripas (AssignedNs page) = refl
+link-ripas ripas _ = refl
 
 -- ---- both counts
 

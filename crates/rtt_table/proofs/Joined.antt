@@ -5,9 +5,9 @@ use Rattle.std.proofs.lemmas.List.{map-append, map-set, drop-drop, length-map, g
 use Rattle.std.proofs.lemmas.Option.{slice_get-get_or}
 use borrow.Rule.Slice.PartMut.{put_mid}
 use Rattle.rmm_spec.specs.declared.entry.Entry.{Entry}
-use Rattle.rmm_spec.specs.declared.entry.Entry.TheVariants.{Unassigned, Assigned, Table, UnassignedNs, AssignedNs}
+use Rattle.rmm_spec.specs.declared.entry.Entry.TheVariants.{Unassigned, Assigned, UnassignedNs}
 use Rattle.rmm_spec.specs.declared.tag.Ripas.{Ripas}
-use Rattle.rmm_spec.specs.declared.tag.Ripas.TheVariants.{Empty, Ram, Destroyed}
+use Rattle.rmm_spec.specs.declared.tag.Ripas.TheVariants.{Empty}
 use Rattle.rmm_spec.specs.Update.{entry_with_ripas}
 use Rattle.rmm_spec.specs.Walk.{entry_address}
 use Rattle.rmm_spec.specs.Table.{entries_with_ripas}
@@ -17,14 +17,8 @@ use Rattle.rtt_table.specs.Columns.{kind_of, entry_from, kind_with_ripas, joined
 -- an entry is that of its kind and its address
 pub entry_back : (e : Entry) → entry_from (kind_of e) (entry_address e) ≡ e
 entry_back (Unassigned Empty) = refl
-entry_back (Unassigned Ram) = refl
-entry_back (Unassigned Destroyed) = refl
 entry_back (Assigned Empty granule) = refl
-entry_back (Assigned Ram granule) = refl
-entry_back (Assigned Destroyed granule) = refl
-entry_back (Table granule) = refl
-entry_back UnassignedNs = refl
-entry_back (AssignedNs page) = refl
+entry_back _ = refl
 
 -- and a list of entries that of its two columns
 joined_back : (entries : List Entry) → joined (map kind_of entries) (map entry_address entries) ≡ entries
@@ -99,22 +93,13 @@ columns-set entries kinds addresses at e columns = record {
 -- an entry's RIPAS is told by its kind alone
 kind-ripas : (ripas : Ripas) (e : Entry) → kind_of (entry_with_ripas ripas e) ≡ kind_with_ripas ripas (kind_of e)
 kind-ripas ripas (Unassigned Empty) = refl
-kind-ripas ripas (Unassigned Ram) = refl
-kind-ripas ripas (Unassigned Destroyed) = refl
 kind-ripas ripas (Assigned Empty granule) = refl
-kind-ripas ripas (Assigned Ram granule) = refl
-kind-ripas ripas (Assigned Destroyed granule) = refl
-kind-ripas ripas (Table granule) = refl
-kind-ripas ripas UnassignedNs = refl
-kind-ripas ripas (AssignedNs page) = refl
+kind-ripas ripas _ = refl
 
 -- and not by its address
 address-ripas : (ripas : Ripas) (e : Entry) → entry_address (entry_with_ripas ripas e) ≡ entry_address e
 address-ripas ripas (Unassigned old) = refl
-address-ripas ripas (Assigned old granule) = refl
-address-ripas ripas (Table granule) = refl
-address-ripas ripas UnassignedNs = refl
-address-ripas ripas (AssignedNs page) = refl
+address-ripas ripas _ = refl
 
 -- where m elements after the first n are changed, f tells of each what g makes of what it told before
 map-stretch : {X Y : Type 0} (f : X → Y) (change : X → X) (g : Y → Y) → ((x : X) → f (change x) ≡ g (f x)) → (m n : ℕ) (xs : List X)

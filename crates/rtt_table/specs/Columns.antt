@@ -41,15 +41,13 @@ entry_from AssignedNs address = entry.AssignedNs address
 
 -- a kind with another RIPAS, where it has one
 abbrev pub kind_with_ripas : Ripas → Kind → Kind
-kind_with_ripas ripas UnassignedEmpty = unassigned ripas
-kind_with_ripas ripas UnassignedRam = unassigned ripas
-kind_with_ripas ripas UnassignedDestroyed = unassigned ripas
 kind_with_ripas ripas AssignedEmpty = assigned ripas
 kind_with_ripas ripas AssignedRam = assigned ripas
 kind_with_ripas ripas AssignedDestroyed = assigned ripas
 kind_with_ripas ripas Table = Table
 kind_with_ripas ripas UnassignedNs = UnassignedNs
 kind_with_ripas ripas AssignedNs = AssignedNs
+kind_with_ripas ripas _ = unassigned ripas
 
 -- the entries that two columns stand for
 unfoldable pub joined : List Kind → List ℕ → List Entry

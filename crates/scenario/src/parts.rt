@@ -3,12 +3,12 @@
 ghost use Rattle.std.specs.Prelude.{◌≡◌, ◌↔◌, ◌<◌, ◌≤◌, IsTrue, length, map, sum};
 ghost use Rattle.std.specs.List.{AllByRecursion};
 ghost use Rattle.rmm_spec.specs.CommandText.{IsCommand};
-ghost use Rattle.rmm_spec.specs.Scenario.{IsScenario};
+ghost use Rattle.rmm_spec.specs.Scenario.{IsScenario, is_numbered};
 ghost use Rattle.scenario.specs.Seen.{seen_programs};
 
 use granule_state::Config;
 use rmi_codec::has_text;
-use rmm_spec::{Command, Due};
+use rmm_spec::{Command, Due, Version};
 
 // The most commands of all programs together: a history has room for a call and a return of each.
 const MOST_COMMANDS: usize = 499_999;
@@ -29,6 +29,9 @@ pub fn is_scenario(
       limit = limit;
     }) }
 {
+    if !is_numbered(config.version()) {
+        return false;
+    }
     let cpus = config.cpus();
     if programs.len() != usize::from(cpus) || !are_few(programs) || !have_texts(programs) {
         return false;
@@ -37,6 +40,16 @@ pub fn is_scenario(
         return false;
     }
     are_of(turns, cpus)
+}
+
+// Whether scenarios can be of the version.
+fn is_numbered(version: Version) -> bool
+    ensures { result ≡ is_numbered version }
+{
+    match version {
+        Version::One | Version::Two => true,
+        Version::Large => false,
+    }
 }
 
 // Whether a history has room for all commands.

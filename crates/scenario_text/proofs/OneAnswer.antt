@@ -11,7 +11,7 @@ use Rattle.rmm_spec.specs.Scenario.{Stated, Scenario, IsStatedBy, AreInRange, Ha
 use Rattle.rmm_spec.specs.ScenarioKeys.{States}
 use Rattle.scenario_text.specs.TomlDocument.{toml_kinds, document_of}
 use Rattle.scenario_text.specs.ScenarioText.{document_in, IsScenarioText, StatesScenario, IsValueFault, IsTableFault, IsFirstFault, HasValueFault, HasTableFault}
-use Rattle.scenario_text.proofs.Values.{IsCommandText-all, lengths-texts, version_number-between}
+use Rattle.scenario_text.proofs.Values.{IsCommandText-all, granules-between, lengths-texts, version_number-between}
 
 -- A document has one table.
 pub same_members : (bytes : List ℕ) (a b : Members) → document_in bytes ≡ Some a → document_in bytes ≡ Some b → a ≡ b
@@ -35,13 +35,13 @@ AreInRange-stated stated scenario by_it =
     let good = by_it.is_scenario in
     let count : length stated.programs ≡ scenario.config.cpus = ap length by_it.programs ∙ length-map scenario.programs _ ∙ good.programs in
     record {
-      granules = rw by_it.granules (good.config.some_granules, good.config.most_granules);
+      granules = rw by_it.granules (granules-between scenario.config good.config good.version);
       cpus = rw by_it.cpus (good.config.some_cpus, good.config.most_cpus);
       programs = by_it.cpus ∙ ap pos (sym count);
       few = rw (ap (λ programs. sum (map length programs)) by_it.programs ∙ ap sum (lengths-texts scenario.programs)) good.few;
       queue = rw by_it.queue good.queue;
       limit = rw by_it.limit good.limit;
-      version = rw by_it.version (version_number-between scenario.config.version);
+      version = rw by_it.version (version_number-between scenario.config.version good.version);
     }
 
 pub HasCommands-stated : (stated : Stated) (scenario : Scenario) → IsStatedBy stated scenario → HasCommands stated

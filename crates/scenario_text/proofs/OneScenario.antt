@@ -10,7 +10,7 @@ use Rattle.rmm_spec.specs.declared.turn.Due.{Due}
 use Rattle.rmm_spec.specs.declared.turn.Will.{Will}
 use Rattle.rmm_spec.specs.declared.turn.Will.TheVariants.{Go, GiveUp, Stop}
 use Rattle.rmm_spec.specs.declared.version.Version.{Version}
-use Rattle.rmm_spec.specs.declared.version.Version.TheVariants.{One, Two}
+use Rattle.rmm_spec.specs.declared.version.Version.TheVariants.{One, Two, Large}
 use Rattle.rmm_spec.specs.Scenario.{Stated, Scenario, IsStatedBy, turn_text, version_number, will_text}
 use Rattle.scenario_text.specs.ScenarioText.{IsScenarioText, StatesScenario}
 use Rattle.scenario_text.proofs.OneAnswer.{same_members, same_stated}
@@ -65,6 +65,11 @@ version_number-injective One One same = refl
 version_number-injective One Two same = absurd (omega (arith, same))
 version_number-injective Two One same = absurd (omega (arith, same))
 version_number-injective Two Two same = refl
+version_number-injective One Large same = absurd (omega (arith, same))
+version_number-injective Two Large same = absurd (omega (arith, same))
+version_number-injective Large One same = absurd (omega (arith, same))
+version_number-injective Large Two same = absurd (omega (arith, same))
+version_number-injective Large Large same = refl
 
 same_version : (stated : Stated) (s t : Scenario) → IsStatedBy stated s → IsStatedBy stated t → s.config.version ≡ t.config.version
 same_version stated s t by-s by-t = version_number-injective _ _ (pos-injective _ _ (sym by-s.version ∙ by-t.version))

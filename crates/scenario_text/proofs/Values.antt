@@ -1,5 +1,5 @@
 -- Lists of texts and what they are the texts of.
-use Rattle.std.proofs.Common.{◌≡◌, ◌<◌, pos, List, [], ◌∷◌, length, map, sum, refl, sym, ap, ◌∙◌, lit≤}
+use Rattle.std.proofs.Common.{◌≡◌, ◌<◌, pos, IsTrue, List, [], ◌∷◌, length, map, sum, refl, sym, ap, ◌∙◌, lit≤}
 use Rattle.std.specs.List.{AllByRecursion}
 use Rattle.std.proofs.lemmas.List.{length-map}
 use Rattle.rmm_spec.specs.declared.command.Command.{Command}
@@ -7,8 +7,10 @@ use Rattle.rmm_spec.specs.CommandText.{IsCommand, command_text}
 use Rattle.scenario_text.specs.declared.limits.Sizes.{Sizes}
 use Rattle.rmm_spec.specs.declared.turn.Due.{Due}
 use Rattle.rmm_spec.specs.declared.version.Version.{Version}
-use Rattle.rmm_spec.specs.declared.version.Version.TheVariants.{One, Two}
-use Rattle.rmm_spec.specs.Scenario.{Stated, IsStatedBy, AreInRange, IsBetween, IsCommandText, turn_text, version_number}
+use Rattle.rmm_spec.specs.declared.version.Version.TheVariants.{One, Two, Large}
+use Rattle.rmm_spec.specs.Scenario.{Stated, IsStatedBy, AreInRange, IsBetween, IsCommandText, is_numbered, turn_text, version_number}
+use Rattle.rmm_spec.specs.HistoryText.{Config, IsConfig, granule_limit}
+use Rattle.rmm_spec.proofs.Tests.{both_ways}
 use Rattle.scenario_text.specs.Sizes.{AreSizes}
 
 -- The texts of commands can be read.
@@ -25,22 +27,33 @@ pub lengths-texts : (programs : List (List Command)) → map length (map (map co
 lengths-texts [] = refl
 lengths-texts (program ∷ programs) = λ i. length-map program command_text i ∷ lengths-texts programs i
 
--- A version has one of the numbers.
-pub version_number-between : (version : Version) → IsBetween 1 2 (pos (version_number version))
-version_number-between One = (lit≤ tt, lit≤ tt)
-version_number-between Two = (lit≤ tt, lit≤ tt)
+-- A scenario's version has one of the numbers.
+pub version_number-between : (version : Version) → IsTrue (is_numbered version) → IsBetween 1 2 (pos (version_number version))
+version_number-between One is = (lit≤ tt, lit≤ tt)
+version_number-between Two is = (lit≤ tt, lit≤ tt)
+version_number-between Large is = absurd (both_ways is refl)
+
+-- Those versions have one limit of granules.
+pub numbered-limit : (version : Version) → IsTrue (is_numbered version) → granule_limit version ≡ granule_limit One
+numbered-limit One is = refl
+numbered-limit Two is = refl
+numbered-limit Large is = absurd (both_ways is refl)
+
+-- A scenario's machine is within the limit of scenarios.
+pub granules-between : (config : Config) → IsConfig config → IsTrue (is_numbered config.version) → IsBetween 1 (granule_limit One) (pos config.granules)
+granules-between config is numbered = (is.some_granules, rw (← numbered-limit config.version numbered) is.most_granules)
 
 -- Numbers that are held as they are stated are in range.
 pub AreInRange-sizes : (stated : Stated) (sizes : Sizes) → AreSizes stated sizes → stated.version ≡ pos (version_number sizes.config.version)
     → AreInRange stated
 AreInRange-sizes stated sizes are version = record {
-  granules = rw are.numbers.granules (are.numbers.config.some_granules, are.numbers.config.most_granules);
+  granules = rw are.numbers.granules (granules-between sizes.config are.numbers.config are.numbers.numbered);
   cpus = rw are.numbers.cpus (are.numbers.config.some_cpus, are.numbers.config.most_cpus);
   programs = are.numbers.cpus ∙ ap pos (sym are.programs);
   few = are.few;
   queue = rw are.numbers.queue are.numbers.queue_within;
   limit = rw are.numbers.limit are.numbers.limit_within;
-  version = rw version (version_number-between sizes.config.version);
+  version = rw version (version_number-between sizes.config.version are.numbers.numbered);
 }
 
 -- What is stated is the scenario of the numbers, commands and turns that are read from it.
@@ -51,6 +64,7 @@ pub IsStatedBy-parts : (stated : Stated) (sizes : Sizes) (programs : List (List 
 IsStatedBy-parts stated sizes programs turns are version texts commands turn_texts cpus = record {
   is_scenario = record {
     config = are.numbers.config;
+    version = are.numbers.numbered;
     programs = sym (length-map programs (map command_text)) ∙ ap length (sym texts) ∙ are.programs;
     commands = commands;
     few = rw (ap (λ lists. sum (map length lists)) texts ∙ ap sum (lengths-texts programs)) at are.few;

@@ -80,6 +80,7 @@ turn_texts-stopping = (refl, refl)
 IsScenario-stopping : IsScenario stopping
 IsScenario-stopping = record {
   config = record { some_granules = lit≤ tt; most_granules = lit≤ tt; some_cpus = lit≤ tt; most_cpus = lit≤ tt };
+  version = refl;
   programs = refl;
   commands = ((IsCommand-delegate, tt), (tt, tt));
   few = lit≤ tt;

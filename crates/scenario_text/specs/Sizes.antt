@@ -1,12 +1,13 @@
 -- The numbers of a scenario as they are held.
-use Rattle.std.specs.Prelude.{◌≡◌, ◌≤◌, pos, length, map, sum}
+use Rattle.std.specs.Prelude.{◌≡◌, ◌≤◌, pos, length, map, sum, IsTrue}
 use Rattle.rmm_spec.specs.HistoryText.{IsConfig}
-use Rattle.rmm_spec.specs.Scenario.{Stated}
+use Rattle.rmm_spec.specs.Scenario.{Stated, is_numbered}
 use Rattle.scenario_text.specs.declared.limits.Sizes.{Sizes}
 
 -- These are the numbers that are stated, within their ranges. The version has a clause of its own.
 pub record AreNumbers (stated : Stated) (sizes : Sizes) : Type 0 where
   pub config : IsConfig sizes.config
+  pub numbered : IsTrue (is_numbered sizes.config.version)
   pub granules : stated.granules ≡ pos sizes.config.granules
   pub cpus : stated.cpus ≡ pos sizes.config.cpus
   pub queue : stated.queue ≡ pos sizes.queue

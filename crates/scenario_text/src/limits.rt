@@ -1,13 +1,15 @@
 //! Whether the numbers of a scenario are within their ranges.
 
 ghost use Rattle.std.specs.Prelude.{◌≡◌, ◌↔◌, ◌≤◌, ℕ, pos, IsTrue, IfSome, IfNone, length, map, sum, vec_len};
-ghost use Rattle.rmm_spec.specs.HistoryText.{IsConfig, is_version, version_of};
-ghost use Rattle.rmm_spec.specs.Scenario.{AreInRange, IsBetween, version_number};
+ghost use Rattle.rmm_spec.specs.HistoryText.{IsConfig, granule_limit, is_version, version_of};
+ghost use Rattle.rmm_spec.specs.Scenario.{AreInRange, IsBetween, is_numbered, version_number};
+ghost use Rattle.rmm_spec.specs.declared.version.Version.TheVariants.{One};
 ghost use Rattle.scenario_text.specs.Seen.{seen_lists, stated_seen};
 ghost use Rattle.scenario_text.specs.Sizes.{AreNumbers, AreSizes};
 
 use crate::keys::Stated;
-use granule_state::Config;
+use granule_state::{Config, granule_limit};
+use rmm_spec::Version;
 
 // The most commands of all programs together: a history has room for a call and a return of each.
 const MOST_COMMANDS: usize = 499_999;
@@ -58,9 +60,10 @@ fn config_of(granules: i64, cpus: i64, version: i64) -> Option<Config>
     ensures granules { IfSome result (λ config. granules ≡ pos config.granules) }
     ensures cpus { IfSome result (λ config. cpus ≡ pos config.cpus) }
     ensures version { IfSome result (λ config. version ≡ pos (version_number config.version)) }
-    ensures none { IfNone result (¬ (IsBetween 1 4096 granules × IsBetween 1 8 cpus × IsBetween 1 2 version)) }
+    ensures numbered { IfSome result (λ config. IsTrue (is_numbered config.version)) }
+    ensures none { IfNone result (¬ (IsBetween 1 (granule_limit One) granules × IsBetween 1 8 cpus × IsBetween 1 2 version)) }
 {
-    let granules = number_between(granules, 1, 4096)?;
+    let granules = number_between(granules, 1, granule_limit(Version::One))?;
     let cpus = number_between(cpus, 1, 8)?;
     let version = version_from(version)?;
     Config::with_version(granules, cpus, version)

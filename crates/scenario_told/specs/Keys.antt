@@ -1,5 +1,7 @@
 -- The keys of a scenario: what each is called, whether it has to be there, and what it may hold.
 use Rattle.std.specs.Prelude.{ℕ, Bool, true, false, not, ◌&&◌, List, codes, is_some}
+use Rattle.rmm_spec.specs.declared.version.Version.TheVariants.{One}
+use Rattle.rmm_spec.specs.HistoryText.{granule_limit}
 use Rattle.rmm_spec.specs.ScenarioKeys.{Document, Kinds, is_key, texts, lists_of_texts}
 use Rattle.scenario_told.specs.declared.key.Key.{Key}
 use Rattle.scenario_told.specs.declared.key.Key.TheVariants as key
@@ -19,7 +21,7 @@ key_name key.Programs = codes "programs"
 key_name key.Turns = codes "turns"
 
 abbrev pub most : Number → ℕ
-most number.Granules = 4096
+most number.Granules = granule_limit One
 most number.Cpus = 8
 most number.Queue = 65536
 most number.Limit = 10000000

@@ -3,6 +3,9 @@
 ghost use Rattle.std.specs.Prelude.{◌≡◌};
 ghost use Rattle.scenario_told.specs.Keys.{is_needed, key_name, most, number_name};
 
+use granule_state::granule_limit;
+use rmm_spec::Version;
+
 /// A number that a scenario states.
 #[derive(Clone, Copy)]
 pub enum Number {
@@ -49,7 +52,7 @@ impl Number {
         ensures { result ≡ most self }
     {
         match self {
-            Number::Granules => 4096,
+            Number::Granules => granule_limit(Version::One) as u32,
             Number::Cpus => 8,
             Number::Queue => 65_536,
             Number::Limit => 10_000_000,

@@ -80,5 +80,6 @@ fn version_number(version: Version) -> u32
     match version {
         Version::One => 1,
         Version::Two => 2,
+        Version::Large => 0,
     }
 }

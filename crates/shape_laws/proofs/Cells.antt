@@ -19,30 +19,15 @@ use Rattle.rmm_sound.proofs.Cases.{both_ways, by_address}
 -- what lies in a cell tells the cell
 pub cell-realm : (c : Cell) (r : RealmRecord) → realm_in c ≡ Some r → c ≡ Rd r
 cell-realm (Rd q) r is = ap Rd (same_Some q r is)
-cell-realm Undelegated r is = absurd (none-some r is)
-cell-realm Delegated r is = absurd (none-some r is)
-cell-realm (Rec c) r is = absurd (none-some r is)
-cell-realm RecAux r is = absurd (none-some r is)
-cell-realm Data r is = absurd (none-some r is)
-cell-realm (Rtt t) r is = absurd (none-some r is)
+cell-realm _ r is = absurd (none-some r is)
 
 pub cell-rec : (c : Cell) (r : RecRecord) → rec_in c ≡ Some r → c ≡ Rec r
 cell-rec (Rec q) r is = ap Rec (same_Some q r is)
-cell-rec Undelegated r is = absurd (none-some r is)
-cell-rec Delegated r is = absurd (none-some r is)
-cell-rec (Rd q) r is = absurd (none-some r is)
-cell-rec RecAux r is = absurd (none-some r is)
-cell-rec Data r is = absurd (none-some r is)
-cell-rec (Rtt t) r is = absurd (none-some r is)
+cell-rec _ r is = absurd (none-some r is)
 
 pub cell-table : (c : Cell) (t : TableRecord) → table_in c ≡ Some t → c ≡ Rtt t
 cell-table (Rtt u) t is = ap Rtt (same_Some u t is)
-cell-table Undelegated t is = absurd (none-some t is)
-cell-table Delegated t is = absurd (none-some t is)
-cell-table (Rd q) t is = absurd (none-some t is)
-cell-table (Rec q) t is = absurd (none-some t is)
-cell-table RecAux t is = absurd (none-some t is)
-cell-table Data t is = absurd (none-some t is)
+cell-table _ t is = absurd (none-some t is)
 
 -- tags of two numbers differ
 tags_differ : {A : Type 0} {a b : Tag} → a ≡ b → (tag_number a == tag_number b) ≡ false → A
@@ -51,90 +36,45 @@ tags_differ {A} {a} {b} same apart = both_ways (eq-eqb (tag_number a) (tag_numbe
 -- and so does the tag of a cell that holds nothing
 pub cell-undelegated : (c : Cell) → tag_of c ≡ tag.Undelegated → c ≡ Undelegated
 cell-undelegated Undelegated is = refl
-cell-undelegated Delegated is = tags_differ is refl
-cell-undelegated (Rd q) is = tags_differ is refl
-cell-undelegated (Rec q) is = tags_differ is refl
-cell-undelegated RecAux is = tags_differ is refl
-cell-undelegated Data is = tags_differ is refl
-cell-undelegated (Rtt t) is = tags_differ is refl
+cell-undelegated _ is = tags_differ is refl
 
 pub cell-delegated : (c : Cell) → tag_of c ≡ tag.Delegated → c ≡ Delegated
-cell-delegated Undelegated is = tags_differ is refl
 cell-delegated Delegated is = refl
-cell-delegated (Rd q) is = tags_differ is refl
-cell-delegated (Rec q) is = tags_differ is refl
-cell-delegated RecAux is = tags_differ is refl
-cell-delegated Data is = tags_differ is refl
-cell-delegated (Rtt t) is = tags_differ is refl
+cell-delegated _ is = tags_differ is refl
 
 pub cell-aux : (c : Cell) → tag_of c ≡ tag.RecAux → c ≡ RecAux
-cell-aux Undelegated is = tags_differ is refl
-cell-aux Delegated is = tags_differ is refl
-cell-aux (Rd q) is = tags_differ is refl
-cell-aux (Rec q) is = tags_differ is refl
 cell-aux RecAux is = refl
-cell-aux Data is = tags_differ is refl
-cell-aux (Rtt t) is = tags_differ is refl
+cell-aux _ is = tags_differ is refl
 
 pub cell-data : (c : Cell) → tag_of c ≡ tag.Data → c ≡ Data
-cell-data Undelegated is = tags_differ is refl
-cell-data Delegated is = tags_differ is refl
-cell-data (Rd q) is = tags_differ is refl
-cell-data (Rec q) is = tags_differ is refl
-cell-data RecAux is = tags_differ is refl
 cell-data Data is = refl
-cell-data (Rtt t) is = tags_differ is refl
+cell-data _ is = tags_differ is refl
 
 -- what a view sees tells the tag
 pub tag-some_realm : (c : Cell) → IsTrue (is_some (realm_in c)) → tag_of c ≡ tag.Rd
 tag-some_realm (Rd q) there = refl
-tag-some_realm Undelegated there = absurd (false≢true there)
-tag-some_realm Delegated there = absurd (false≢true there)
-tag-some_realm (Rec q) there = absurd (false≢true there)
-tag-some_realm RecAux there = absurd (false≢true there)
-tag-some_realm Data there = absurd (false≢true there)
-tag-some_realm (Rtt t) there = absurd (false≢true there)
+tag-some_realm _ there = absurd (false≢true there)
 
 pub tag-aux : (c : Cell) → IsTrue (is_aux c) → tag_of c ≡ tag.RecAux
 tag-aux RecAux there = refl
-tag-aux Undelegated there = absurd (false≢true there)
-tag-aux Delegated there = absurd (false≢true there)
-tag-aux (Rd q) there = absurd (false≢true there)
-tag-aux (Rec q) there = absurd (false≢true there)
-tag-aux Data there = absurd (false≢true there)
-tag-aux (Rtt t) there = absurd (false≢true there)
+tag-aux _ there = absurd (false≢true there)
 
 pub tag-data : (c : Cell) → IsTrue (is_data c) → tag_of c ≡ tag.Data
 tag-data Data there = refl
-tag-data Undelegated there = absurd (false≢true there)
-tag-data Delegated there = absurd (false≢true there)
-tag-data (Rd q) there = absurd (false≢true there)
-tag-data (Rec q) there = absurd (false≢true there)
-tag-data RecAux there = absurd (false≢true there)
-tag-data (Rtt t) there = absurd (false≢true there)
+tag-data _ there = absurd (false≢true there)
 
 -- records stand exactly at their tags, where what is no granule is undelegated
 pub some_realm-tagged : (c : Cell) (within : Bool) → (within ≡ false → c ≡ Undelegated)
     → is_some (realm_in c) ≡ (within && tag_number (tag_of c) == tag_number tag.Rd)
 some_realm-tagged c false outside = rw (outside refl) refl
 some_realm-tagged Undelegated true outside = refl
-some_realm-tagged Delegated true outside = refl
-some_realm-tagged (Rd q) true outside = refl
-some_realm-tagged (Rec q) true outside = refl
-some_realm-tagged RecAux true outside = refl
-some_realm-tagged Data true outside = refl
-some_realm-tagged (Rtt t) true outside = refl
+some_realm-tagged _ true outside = refl
 
 pub some_rec-tagged : (c : Cell) (within : Bool) → (within ≡ false → c ≡ Undelegated)
     → is_some (rec_in c) ≡ (within && tag_number (tag_of c) == tag_number tag.Rec)
 some_rec-tagged c false outside = rw (outside refl) refl
 some_rec-tagged Undelegated true outside = refl
-some_rec-tagged Delegated true outside = refl
-some_rec-tagged (Rd q) true outside = refl
-some_rec-tagged (Rec q) true outside = refl
-some_rec-tagged RecAux true outside = refl
-some_rec-tagged Data true outside = refl
-some_rec-tagged (Rtt t) true outside = refl
+some_rec-tagged _ true outside = refl
 
 -- ---- tags of a whole
 

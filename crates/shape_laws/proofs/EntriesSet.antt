@@ -4,7 +4,7 @@ use Rattle.std.proofs.lemmas.Bool.{and_parts, and_from, cases_eq, cases_lt, ltb-
 use Rattle.std.proofs.lemmas.List.{length-append, length-map, length-take, length-drop, length-set}
 use Rattle.std.proofs.lemmas.Option.{none-some, same_Some}
 use Rattle.rmm_spec.specs.declared.entry.Entry.{Entry}
-use Rattle.rmm_spec.specs.declared.entry.Entry.TheVariants.{Unassigned, Assigned, Table, UnassignedNs, AssignedNs}
+use Rattle.rmm_spec.specs.declared.entry.Entry.TheVariants.{Table}
 use Rattle.rmm_spec.specs.declared.tag.Ripas.{Ripas}
 use Rattle.rmm_spec.specs.State.{RealmRecord}
 use Rattle.rmm_spec.specs.Update.{is_same_entry, is_same_table, entry_with_ripas}
@@ -22,11 +22,8 @@ use Rattle.shape_laws.proofs.Ties.{entry_leaf}
 
 -- a leaf is no link
 pub leaf-no_link : (e : Entry) (r : RealmRecord) (level number : ℕ) → IsLeafOf e r level number → is_table e ≡ false
-leaf-no_link (Unassigned ripas) r level number fits = refl
-leaf-no_link (Assigned ripas granule) r level number fits = refl
 leaf-no_link (Table granule) r level number fits = absurd fits
-leaf-no_link UnassignedNs r level number fits = refl
-leaf-no_link (AssignedNs page) r level number fits = refl
+leaf-no_link _ r level number fits = refl
 
 pub no_link-child : {A : Type 0} (e : Entry) (child : ℕ) → is_table e ≡ false → e ≡ Table child → A
 no_link-child e child leaf same = both_ways (ap is_table same) leaf

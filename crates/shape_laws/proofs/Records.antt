@@ -80,12 +80,7 @@ realm_change-like config cells (Some change) sound can =
 updated_owner : (update : RecUpdate) (c : RecRecord) → (rec_updated update c).owner ≡ c.owner
 unfolding rec_updated
 updated_owner (rec_update.Entered cpu) c = refl
-updated_owner rec_update.Exited c = refl
-updated_owner (rec_update.RipasRequested base top ripas) c = refl
-updated_owner (rec_update.HostCalled imm) c = refl
-updated_owner rec_update.TurnedOff c = refl
-updated_owner rec_update.SystemTurnedOff c = refl
-updated_owner (rec_update.RequestMoved base) c = refl
+updated_owner _ c = refl
 
 pub rec_change-alike : (config : Config) (cells : ℕ → Cell) (change : Option RecChange) → IsSound (flat_state config cells)
     → CanChangeRec (flat_state config cells) change → AreOwnedAlike (recs_of cells) (with_rec_change (flat_state config cells) change).rec

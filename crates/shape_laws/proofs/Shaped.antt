@@ -3,7 +3,7 @@ use Rattle.std.proofs.Common.{◌≡◌, ℕ, suc, ◌+◌, ◌*◌, ◌/◌, �
 use Rattle.std.proofs.lemmas.Option.{same_Some, slice_get_within}
 use Rattle.rmm_spec.specs.HistoryText.{Config}
 use Rattle.rmm_spec.specs.declared.entry.Entry.{Entry}
-use Rattle.rmm_spec.specs.declared.entry.Entry.TheVariants.{Unassigned, Assigned, Table, UnassignedNs, AssignedNs}
+use Rattle.rmm_spec.specs.declared.entry.Entry.TheVariants.{Assigned, Table}
 use Rattle.rmm_spec.specs.declared.tag.Ripas.{Ripas}
 use Rattle.rmm_spec.specs.declared.tag.Tag.TheVariants as tag
 use Rattle.rmm_spec.specs.State.{RealmRecord}
@@ -36,11 +36,8 @@ leaf_at granules realms tables placed g i t e held entry leaf =
 
 -- a leaf fits its place
 fits_place : (e : Entry) (r : RealmRecord) (level number : ℕ) → is_table e ≡ false → IsLeafOf e r level number → FitsPlace e r level number
-fits_place (Unassigned ripas) r level number leaf fits = fits
-fits_place (Assigned ripas granule) r level number leaf fits = fits
 fits_place (Table granule) r level number leaf fits = both_ways refl leaf
-fits_place UnassignedNs r level number leaf fits = fits
-fits_place (AssignedNs page) r level number leaf fits = fits
+fits_place _ r level number leaf fits = fits
 
 tables_shaped : (config : Config) (side : Side) (places : ℕ → CpuPlace) (cells : ℕ → Cell) → IsSound (flat_state config cells)
     → IsTied config.granules side places (views_of cells) → AreTableCells (realms_of cells) (tables_of cells)

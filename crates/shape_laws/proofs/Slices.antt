@@ -4,7 +4,7 @@ use Rattle.std.proofs.lemmas.Bool.{ltb-true, ltb-false}
 use Rattle.std.proofs.lemmas.List.{drop-drop}
 use Rattle.std.proofs.lemmas.Option.{none-some, same_Some}
 use Rattle.rmm_spec.specs.declared.entry.Entry.{Entry}
-use Rattle.rmm_spec.specs.declared.entry.Entry.TheVariants.{Unassigned, Assigned, Table, UnassignedNs, AssignedNs}
+use Rattle.rmm_spec.specs.declared.entry.Entry.TheVariants.{Unassigned, Assigned, Table}
 use Rattle.rmm_spec.specs.declared.tag.Ripas.{Ripas}
 use Rattle.rmm_spec.specs.Update.{entry_with_ripas}
 use Rattle.rmm_spec.specs.Walk.{is_table}
@@ -110,9 +110,7 @@ ripas-get first last ripas xs j order =
 pub ripas-is_link : (ripas : Ripas) (e : Entry) (child : ℕ) → entry_with_ripas ripas e ≡ Table child → e ≡ Table child
 ripas-is_link ripas (Unassigned old) child same = absurd (let bad : Unassigned ripas ≡ Table child = same in cc)
 ripas-is_link ripas (Assigned old granule) child same = absurd (let bad : Assigned ripas granule ≡ Table child = same in cc)
-ripas-is_link ripas (Table granule) child same = same
-ripas-is_link ripas UnassignedNs child same = same
-ripas-is_link ripas (AssignedNs page) child same = same
+ripas-is_link ripas _ child same = same
 
 -- ---- as leaves
 
@@ -127,10 +125,7 @@ leaf-ripas : (ripas : Ripas) (found : Option Entry)
     ≡ option_map (entry_with_ripas ripas) (option_and_then (λ e. if is_table e then None else Some e) found)
 leaf-ripas ripas None = refl
 leaf-ripas ripas (Some (Unassigned old)) = refl
-leaf-ripas ripas (Some (Assigned old granule)) = refl
-leaf-ripas ripas (Some (Table granule)) = refl
-leaf-ripas ripas (Some UnassignedNs) = refl
-leaf-ripas ripas (Some (AssignedNs page)) = refl
+leaf-ripas ripas _ = refl
 
 pub entry_leaf-ripas : (ripas : Ripas) (xs ys : List Entry) (i : ℕ) → slice_get ys i ≡ option_map (entry_with_ripas ripas) (slice_get xs i)
     → entry_leaf ys i ≡ option_map (entry_with_ripas ripas) (entry_leaf xs i)

@@ -4,7 +4,7 @@ use Rattle.std.proofs.lemmas.Bool.{false≢true, or_left, or_right}
 use Rattle.std.proofs.lemmas.Option.{none-some, same_Some, option_and_then_some, slice_get_cases}
 use Rattle.rmm_spec.specs.HistoryText.{Config}
 use Rattle.rmm_spec.specs.declared.entry.Entry.{Entry}
-use Rattle.rmm_spec.specs.declared.entry.Entry.TheVariants.{Unassigned, Assigned, Table, UnassignedNs, AssignedNs}
+use Rattle.rmm_spec.specs.declared.entry.Entry.TheVariants.{Assigned, Table}
 use Rattle.rmm_spec.specs.declared.tag.Tag.TheVariants as tag
 use Rattle.rmm_spec.specs.State.{RealmRecord, RecRecord}
 use Rattle.rmm_spec.specs.Lookup.{is_granule, has_tag, runs_on, is_cpu, is_owned_by}
@@ -232,19 +232,13 @@ tables-sound config side places cells w =
 
 -- an entry that is no link fits its place as a leaf
 fits-leaf : (e : Entry) (r : RealmRecord) (level number : ℕ) → is_table e ≡ false → FitsPlace e r level number → IsLeafOf e r level number
-fits-leaf (Unassigned ripas) r level number leaf fits = fits
-fits-leaf (Assigned ripas granule) r level number leaf fits = fits
 fits-leaf (Table granule) r level number leaf fits = both_ways refl leaf
-fits-leaf UnassignedNs r level number leaf fits = fits
-fits-leaf (AssignedNs page) r level number leaf fits = fits
+fits-leaf _ r level number leaf fits = fits
 
 -- an entry is a link, or none
 pub link_or_leaf : (e : Entry) → ((child : ℕ) × (e ≡ Table child)) ⊎ (is_table e ≡ false)
-link_or_leaf (Unassigned ripas) = inr refl
-link_or_leaf (Assigned ripas granule) = inr refl
 link_or_leaf (Table granule) = inl (granule, refl)
-link_or_leaf UnassignedNs = inr refl
-link_or_leaf (AssignedNs page) = inr refl
+link_or_leaf _ = inr refl
 
 -- a table that is held at a place has its entries there
 pub entry_there : (entries : List Entry) (i : ℕ) → length entries ≡ 512 → i < 512 → (e : Entry) × (slice_get entries i ≡ Some e)

@@ -41,11 +41,9 @@ IsShaped config w = IsWellShaped config w.side w.places w.cells
 abbrev pub cell_with_tag : Tag → Cell → Cell
 cell_with_tag tag.Undelegated cell = Undelegated
 cell_with_tag tag.Delegated cell = Delegated
-cell_with_tag tag.Rd cell = cell
-cell_with_tag tag.Rec cell = cell
 cell_with_tag tag.RecAux cell = RecAux
 cell_with_tag tag.Data cell = Data
-cell_with_tag tag.Rtt cell = cell
+cell_with_tag _ cell = cell
 
 abbrev pub cell_with_realm : RealmUpdate → Cell → Cell
 cell_with_realm update (Rd realm) = Rd (realm_updated update realm)
@@ -158,12 +156,7 @@ side_changed cells side (RealmDestroyed rd root) = side_without_vmid side (cells
 side_changed cells side (RecMade rd rec mpidr flags aux0 aux1) =
     record side { rec_counts = put side.rec_counts rd (side.rec_counts rd + 1) }
 side_changed cells side (RecDestroyed rec aux0 aux1) = side_without_rec side (cells rec)
-side_changed cells side Unchanged = side
-side_changed cells side (Retagged change) = side
-side_changed cells side (RecordsChanged realm rec) = side
-side_changed cells side (TableMade rd level number rtt entry) = side
-side_changed cells side (TableDestroyed rd level number rtt entry) = side
-side_changed cells side (EntriesChanged rd level entries page realm rec) = side
+side_changed cells side _ = side
 
 -- a CPU that was inside is outside
 abbrev pub places_left : (ℕ → CpuPlace) → Option ℕ → ℕ → CpuPlace

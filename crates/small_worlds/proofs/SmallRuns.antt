@@ -13,7 +13,7 @@ use Rattle.rmm_spec.specs.Step.Terms.{needed, named}
 use Rattle.rmm_spec.specs.Cell.{Undelegated, Delegated, put, tag_of}
 use Rattle.rmm_spec.specs.Shape.{Outside}
 use Rattle.rmm_spec.specs.Local.{HeldCell, LocalStep}
-use Rattle.rmm_spec.specs.World.{World, Phase, Between, Deciding, Decided, GivenUp, Stopped, IsGoing, opening_world, hold_of, held_cells, Happens, HappenAll, certificate_of}
+use Rattle.rmm_spec.specs.World.{World, Phase, Between, Deciding, Stopped, IsGoing, opening_world, hold_of, held_cells, Happens, HappenAll, certificate_of}
 use Rattle.rmm_spec.specs.World as move
 use Rattle.rmm_spec.specs.Locks.{needs, IsRisingTake}
 use Rattle.rmm_spec.specs.Waits.{IsRising, WaitsAt}
@@ -320,11 +320,8 @@ locks_one_each = (
 
 -- what a CPU's open call names, outside of RECs
 abbrev names_in : Phase → List Needed
-names_in (Between number) = []
 names_in (Deciding number command learnt) = needs Outside learnt (call_of command)
-names_in (Decided number command given) = []
-names_in GivenUp = []
-names_in Stopped = []
+names_in _ = []
 
 one_falls : IsRising each_holds 1 0x1000 → ⊥
 one_falls there =

@@ -21,7 +21,7 @@ pub use Rattle.rmm_laws.proofs.{ChangeWords.closed, ChangeWords.opened, ChangeWo
 pub use Rattle.rmi_view.specs.Seen.{command_seen, reply_seen}
 unfoldable pub use Rattle.machine_cells.specs.Whole.{state_in}
 unfoldable pub use Rattle.spec_machine.specs.{Report.owner_rows, View.state_of}
-pub use Rattle.machine_cells.specs.Whole.{kept_at, count_of, IsShapedIn}
+pub use Rattle.machine_cells.specs.Whole.{count_of, IsShapedIn}
 pub use Rattle.machine_cells.proofs.Found.{sound_in}
 pub use Rattle.spec_machine.specs.Memory.{makes_table, takes_memory}
 pub use Rattle.spec_machine.specs.Report.{IsOwnerOf}

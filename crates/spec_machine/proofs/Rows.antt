@@ -1,13 +1,18 @@
 -- A report has a row for each granule.
-use Rattle.spec_machine.proofs.Common.{◌≡◌, ℕ, suc, ◌+◌, ◌*◌, ◌<◌, List, [], ◌∷◌, ◌++◌, length, slice_index_or, Option, State, ap, append_assoc, arith, kept_at, owner_rows, subst, ◌∙◌}
+use Rattle.spec_machine.proofs.Common.{◌≡◌, ℕ, suc, ◌+◌, ◌*◌, ◌/◌, ◌<◌, List, [], ◌∷◌, ◌++◌, None, Option, State, ap, append_assoc, arith, owner_rows, subst, ◌∙◌}
 use Rattle.spec_machine.specs.declared.owner_report.OwnerRow.{OwnerRow}
-use Rattle.spec_machine.proofs.Places.{granule_placed, kept_at-granule}
+use Rattle.granule_places.specs.Placed.{read_at}
+use Rattle.machine_cells.proofs.Kept.{granule_placed}
+use Rattle.spec_machine.specs.Owners.{owners_of}
+use Rattle.spec_machine.specs.declared.owners.Owners.{Owners}
 
--- what is read at a place is what is kept for its granule
-pub kept_at-place : {A : Type 0} → (granules place : ℕ) (items : List A) (default read : A) → length items ≡ granules → place < granules
-    → read ≡ slice_index_or items place read → read ≡ kept_at granules items default (place * 4096)
-kept_at-place granules place items default read placed within is_read =
-    kept_at-granule granules (place * 4096) place items default read placed (granule_placed granules place within) (omega arith) is_read
+-- what is kept for a number is the owner of its granule
+pub read_at-owner : (owners : Owners) (number : ℕ) → number < owners.places.granules
+    → read_at owners.places owners.realms.items None number ≡ owners_of owners (number * 4096)
+unfolding owners_of
+read_at-owner owners number within =
+    let at : number ≡ number * 4096 / 4096 = omega arith in
+    rw (granule_placed owners.places.granules number within) (ap (read_at owners.places owners.realms.items None) at)
 
 -- one row more
 pub owner_rows-push : (s : State) (owner : ℕ → Option ℕ) (old rows : List OwnerRow) (k : ℕ) (row : OwnerRow) → rows ≡ old ++ owner_rows s owner k

@@ -1,5 +1,5 @@
 -- That a machine keeps what it keeps in one way alone, as a ghost field asks of a fact.
-use Rattle.std.specs.Prelude.{◌≡◌, ℕ, ◌⊎◌, List, Option, Some, None}
+use Rattle.std.specs.Prelude.{◌≡◌, ℕ, ◌⊎◌, Option, Some, None}
 use mathlib.Core.Path.{sym, ◌∙◌, ap}
 use Rattle.std.proofs.Common.{inl, inr}
 use Rattle.std.proofs.Props.{props}
@@ -8,7 +8,7 @@ use mathlib.Core.HLevel.{is_prop→PathP}
 use Rattle.rmm_spec.specs.declared.entry.Entry.{Entry}
 use Rattle.rmm_spec.specs.declared.entry.Entry.TheVariants.{Assigned}
 use Rattle.rmm_spec.specs.declared.tag.Tag.{Tag}
-use Rattle.rmm_spec.specs.declared.tag.Tag.TheVariants.{Undelegated, Delegated, Rd, Rec, RecAux, Data, Rtt}
+use Rattle.rmm_spec.specs.declared.tag.Tag.TheVariants.{Undelegated, Delegated, Rec, RecAux, Data, Rtt}
 use Rattle.rmm_spec.specs.Ownership.{IsTied}
 use Rattle.rmm_spec.specs.State.{State, RecRecord}
 use Rattle.rmm_spec.specs.Sound.{IsSound}
@@ -16,7 +16,7 @@ use Rattle.rmm_spec.proofs.Tests.{both_ways}
 use Rattle.rmm_laws.proofs.Ties.{aux-has_aux}
 use Rattle.spec_machine.specs.Owners.{IsOwner, AreOwners}
 use Rattle.machine_cells.specs.declared.granules.Granules.{Granules}
-use Rattle.machine_cells.specs.Whole.{kept_at, state_in, IsShapedIn}
+use Rattle.machine_cells.specs.Whole.{state_in, IsShapedIn}
 use Rattle.machine_cells.proofs.Found.{sound_in}
 
 -- what is found is one thing
@@ -84,21 +84,18 @@ page_tie-single s granule realm sound (level, number, ripas, is) (level_too, num
 
 -- a granule has one tie
 tied-single : (s : State) (role : Tag) (granule realm : ℕ) → IsSound s → IsProp (IsTied role s granule realm)
-tied-single s Undelegated granule realm sound = hlevel props
-tied-single s Delegated granule realm sound = hlevel props
-tied-single s Rd granule realm sound = hlevel props
 tied-single s Rec granule realm sound = found-single (λ (r : RecRecord). r.owner ≡ realm) (hlevel props) (λ r. hlevel props) (s.rec granule)
 tied-single s RecAux granule realm sound = aux_tie-single s granule realm sound
 tied-single s Rtt granule realm sound = table_tie-single s granule realm sound
 tied-single s Data granule realm sound = page_tie-single s granule realm sound
+tied-single s _ granule realm sound = hlevel props
 
 owner_of-single : (s : State) (granule : ℕ) (owner : Option ℕ) → IsSound s → IsProp (IsOwner s granule owner)
 owner_of-single s granule None sound =
     either-single (hlevel props) (hlevel props) (λ free lent. let bad : Undelegated ≡ Delegated = sym free ∙ lent in cc)
 owner_of-single s granule (Some realm) sound = tied-single s (s.tag granule) granule realm sound
 
-pub owners-single : (s : State) (owners : List (Option ℕ)) → IsSound s → IsProp (AreOwners s owners)
-owners-single s owners sound =
-    let each : (granule : ℕ) → IsProp (IsOwner s granule (kept_at s.config.granules owners None granule)) =
-    λ granule. owner_of-single s granule (kept_at s.config.granules owners None granule) sound in
+pub owners-single : (s : State) (granules : ℕ) (owner : ℕ → Option ℕ) → IsSound s → IsProp (AreOwners s granules owner)
+owners-single s granules owner sound =
+    let each : (granule : ℕ) → IsProp (IsOwner s granule (owner granule)) = λ granule. owner_of-single s granule (owner granule) sound in
     hlevel (props, each)

@@ -1,7 +1,10 @@
 //! Machines once more, and states that are kept to be compared with.
 
+ghost use Rattle.std.specs.Prelude.{◌≡◌, ◌≤◌, length, vec_len, vec_capacity, IfOk};
+
 use crate::machine::Machine;
 use crate::owners::Owners;
+use granule_state::Pa;
 use machine_cells::KeptState;
 use std::alloc::{AllocError, Global};
 
@@ -42,13 +45,26 @@ impl Machine {
 
 impl Owners {
     ghost use Rattle.std.specs.Prelude.{◌≡◌, IfOk};
+    ghost use Rattle.spec_machine.specs.Owners.{owners_of};
 
     /// The same once more.
     pub(crate) fn copy(&self, alloc: Global) -> Result<Owners, AllocError>
-        ensures { IfOk result (λ owners. owners.realms.items ≡ self.now.realms.items) }
+        ensures granules { IfOk result (λ owners. owners.places.granules ≡ self.now.places.granules) }
+        ensures realms { IfOk result (λ owners. owners_of owners ≡ owners_of self.now) }
     {
-        let mut realms = vec![in alloc; None; self.realms.len()]?;
-        realms.copy_from_slice(self.realms.as_slice());
-        Ok(Owners { realms })
+        let places = self.places.copy(alloc)?;
+        let realms = copied(alloc, self.realms.as_slice(), self.places.room())?;
+        Ok(Owners { places, realms })
     }
+}
+
+// The same owners once more, with room for more.
+fn copied(alloc: Global, realms: &[Option<Pa>], room: usize) -> Result<Vec<Option<Pa>>, AllocError>
+    ensures items { IfOk result (λ copy. copy.items ≡ realms.now) }
+    ensures len { IfOk result (λ copy. vec_len copy ≡ length realms.now) }
+    ensures room { IfOk result (λ copy. room ≤ vec_capacity copy) }
+{
+    let mut copy = Vec::with_capacity(alloc, room)?;
+    copy.extend_from_slice(realms)?;
+    Ok(copy)
 }

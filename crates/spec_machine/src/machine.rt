@@ -2,7 +2,7 @@
 
 ghost use Rattle.machine_cells.specs.Whole.{state_in, IsShapedIn};
 ghost use Rattle.machine_cells.specs.Single.{shaped-single};
-ghost use Rattle.spec_machine.specs.Owners.{AreOwners};
+ghost use Rattle.spec_machine.specs.Owners.{AreOwners, owners_of};
 ghost use Rattle.spec_machine.specs.Single.{owners-single, shaped-sound};
 
 use crate::lending::lending_of;
@@ -23,7 +23,7 @@ pub struct Machine {
     // how many offers were made
     pub(crate) offers: u64,
     ghost shaped: { IsShapedIn granules } by { shaped-single granules },
-    ghost owned: { AreOwners (state_in granules) owners.realms.items } by { owners-single (state_in granules) owners.realms.items (shaped-sound granules shaped) },
+    ghost owned: { AreOwners (state_in granules) owners.places.granules (owners_of owners) } by { owners-single (state_in granules) owners.places.granules (owners_of owners) (shaped-sound granules shaped) },
 }
 
 impl Machine {
@@ -128,7 +128,11 @@ impl Machine {
         let call = command.call();
         match self.rec_inside(cpu) {
             None => self.offer_outside(cpu, command, &call, reply),
-            Some(rec) => Ok(self.offer_inside(cpu, rec, &call, command, reply)),
+            Some(rec) => {
+                // a copy, so that a command from outside needs no place in memory
+                let call = call;
+                Ok(self.offer_inside(cpu, rec, &call, command, reply))
+            }
         }
     }
 

@@ -34,7 +34,7 @@ impl Machine {
             rows.push_reserved(OwnerRow {
                 granule: Pa::new(granule),
                 tag: self.granules.tag(granule),
-                realm: self.owners.realms[place],
+                realm: self.owners.owner(place),
             });
         }
         Ok(())

@@ -20,6 +20,7 @@ impl Sight for Machine {
         self.granules.version()
     }
 
+    #[inline(always)]
     #[tactic(auto, unfolding(crate::specs::View::state_of))]
     fn has_tag(&self, address: u64, tag: Tag) -> bool {
         self.granules.has_tag(address, tag)

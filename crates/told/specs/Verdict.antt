@@ -19,5 +19,5 @@ reason_of (cause.Missing call) = reason.Missing call.cpu call.number
 abbrev pub verdict_of : Explanation → Verdict
 verdict_of (explanation.HistoryFault bad) = verdict.HistoryFault bad.line
 verdict_of (explanation.CertificateFault bad) = verdict.CertificateFault bad.line
-verdict_of (explanation.Yes summary) = verdict.Yes summary.count
-verdict_of (explanation.No step cause) = verdict.No step (reason_of cause)
+verdict_of (explanation.Yes summary unfinished) = verdict.Yes summary.count
+verdict_of (explanation.No step cause unfinished) = verdict.No step (reason_of cause)

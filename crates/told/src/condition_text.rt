@@ -1,7 +1,6 @@
 //! Why a command is refused, in words: the condition by its name, what it is for it to fail, and what it read.
 
-use crate::facts::Facts;
-use crate::facts_text::RipasText;
+use crate::facts::Fact;
 use rmm_spec::{Condition, Refusal};
 use std::fmt;
 
@@ -9,28 +8,47 @@ use std::fmt;
 #[derive(Clone, Copy)]
 pub(crate) struct WhyText {
     pub(crate) refusal: Refusal,
-    pub(crate) facts: Facts,
+    pub(crate) fact: Fact,
 }
 
 impl fmt::Display for WhyText {
     fn fmt<W: fmt::Write>(&self, f: &mut fmt::Formatter<W>) -> fmt::Result {
         let condition = condition_of(self.refusal);
         let (name, fails) = texts_of(condition);
-        let facts = self.facts;
-        match (condition, facts) {
-            (_, Facts::None) => write!(f, "{name}: {fails}"),
-            (_, Facts::Tag { .. } | Facts::Vmid { .. }) => write!(f, "{name}: {facts}"),
-            (Condition::RtteRipas, Facts::Entry(read)) => {
-                let ripas = RipasText(read.ripas);
+        let fact = self.fact;
+        match (condition, fact) {
+            (Condition::VmidValid, Fact::Words) => write!(f, "{name}: vmid is above ff"),
+            (_, Fact::Words) => write!(f, "{name}: {fails}"),
+            (Condition::RtteRipas, Fact::Entry { read, .. }) => {
+                let ripas = if read.ripas == 0 {
+                    "EMPTY"
+                } else {
+                    "DESTROYED"
+                };
                 write!(f, "{name}: {fails}: it is {ripas}")
             }
-            _ => write!(f, "{name}: {fails}: {facts}"),
+            (Condition::RealmNew | Condition::SystemOff | Condition::OwnRequest, _)
+            | (
+                _,
+                Fact::Tag { .. }
+                | Fact::Vmid { .. }
+                | Fact::Runs { .. }
+                | Fact::Stopped { .. }
+                | Fact::Pending { .. }
+                | Fact::Place { .. },
+            ) => write!(f, "{name}: {fact}"),
+            _ => write!(f, "{name}: {fails}: {fact}"),
         }
     }
 }
 
-// The condition for which a command is refused.
-fn condition_of(refusal: Refusal) -> Condition {
+/// A condition's name in DEN0137, or this project's.
+pub fn condition_name(condition: Condition) -> &'static str {
+    texts_of(condition).0
+}
+
+/// The condition for which a command is refused.
+pub fn condition_of(refusal: Refusal) -> Condition {
     match refusal {
         Refusal::Misplaced(condition)
         | Refusal::Input(condition)

@@ -3,9 +3,11 @@
 ghost use Rattle.std.specs.Prelude.{◌≡◌};
 ghost use Rattle.told.specs.Verdict.{verdict_of, reason_of};
 
-use crate::facts::Facts;
+use crate::before::StateBefore;
+use crate::facts::Fact;
 use crate::flaw::Flaw;
-use crate::named_call::{EarlierStep, NamedCall};
+use crate::named_call::{EarlierStep, NamedCall, UnfinishedCall};
+use crate::since::{LateCommit, Since};
 use rmm_spec::{Accepted, Reason, Refusal, Reply, Verdict};
 use spec_machine::OwnerRow;
 
@@ -27,6 +29,26 @@ pub struct Summary {
     pub owners: Vec<OwnerRow>,
 }
 
+/// A word of a reply, counted from 0, which isn't the specification's: the one that the line claims, and the one that is specified, where
+/// each has one. Where the specification leaves the choice of an end, the least is specified.
+#[derive(Clone, Copy)]
+pub struct WrongWord {
+    pub index: u8,
+    pub claimed: Option<u64>,
+    pub specified: Option<u64>,
+}
+
+/// What decides that a line is refused.
+#[derive(Clone, Copy)]
+pub enum Deciding {
+    /// The condition of the specified refusal, which read this.
+    Condition(Fact),
+    /// Each condition of the command holds, and the line claims a refusal.
+    Accepted,
+    /// Each condition holds, and the line claims a reply with another word.
+    Word(WrongWord),
+}
+
 /// A line whose reply the specification doesn't give after the lines before.
 #[derive(Drop)]
 pub struct RefusedLine {
@@ -35,10 +57,15 @@ pub struct RefusedLine {
     pub claimed: Reply,
     /// What the specification answers there: what is done, or the condition that doesn't hold.
     pub specified: Result<Accepted, Refusal>,
-    /// What that condition read.
-    pub facts: Facts,
-    /// The last step before that changed what the condition reads.
-    pub changed: Option<EarlierStep>,
+    pub deciding: Deciding,
+    /// Since which step that is so.
+    pub since: Since,
+    /// Of a condition on all RECs of a realm or on all entries of a table: the step that made so the one that it names.
+    pub put: Option<EarlierStep>,
+    /// A later step with which the condition would hold.
+    pub late: Option<LateCommit>,
+    /// The state before the step, as far as its command names it.
+    pub before: StateBefore,
     /// The greatest end that the specification allows, where it leaves the choice of one.
     pub farthest: Option<u64>,
 }
@@ -79,10 +106,17 @@ pub enum Explanation<'a> {
     HistoryFault(BadLine<'a>),
     /// The history is in its grammar, and the certificate isn't.
     CertificateFault(BadLine<'a>),
-    /// A linearization.
-    Yes(Summary),
-    /// The first step that fails, and why.
-    No { step: u64, cause: Cause },
+    /// A linearization, with the calls that never returned.
+    Yes {
+        summary: Summary,
+        unfinished: Vec<UnfinishedCall>,
+    },
+    /// The first step that fails, and why, with the calls that never returned.
+    No {
+        step: u64,
+        cause: Cause,
+        unfinished: Vec<UnfinishedCall>,
+    },
 }
 
 impl Explanation<'_> {
@@ -93,8 +127,8 @@ impl Explanation<'_> {
         match self {
             Explanation::HistoryFault(bad) => Verdict::HistoryFault(bad.line),
             Explanation::CertificateFault(bad) => Verdict::CertificateFault(bad.line),
-            Explanation::Yes(summary) => Verdict::Yes(summary.count),
-            Explanation::No { step, cause } => Verdict::No {
+            Explanation::Yes { summary, .. } => Verdict::Yes(summary.count),
+            Explanation::No { step, cause, .. } => Verdict::No {
                 step: *step,
                 reason: reason_of(cause),
             },

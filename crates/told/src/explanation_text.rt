@@ -1,13 +1,14 @@
 //! The lines of a report behind the verdict's.
 
 use crate::condition_text::WhyText;
-use crate::explanation::{BadLine, Cause, Explanation, RefusedLine};
-use crate::facts::Facts;
-use crate::named_call::{EarlierStep, NamedCall};
+use crate::explanation::{BadLine, Cause, Deciding, Explanation, RefusedLine};
+use crate::named_call::{NamedCall, UnfinishedCall};
 use crate::reply_text::{AcceptedText, ReplyText, is_by_realm};
+use crate::since_text::SinceText;
+use crate::word_text::WrongWordText;
 use bad_lines::Shown;
 use call_text::CallText;
-use rmm_spec::{Accepted, Refusal};
+use rmm_spec::Accepted;
 use std::fmt;
 
 impl fmt::Display for Explanation<'_> {
@@ -15,8 +16,50 @@ impl fmt::Display for Explanation<'_> {
         match self {
             Explanation::HistoryFault(bad) => write!(f, "the history's {bad}"),
             Explanation::CertificateFault(bad) => write!(f, "the certificate's {bad}"),
-            Explanation::Yes(summary) => write!(f, "{summary}"),
-            Explanation::No { step, cause } => write_cause(f, *step, cause),
+            Explanation::Yes {
+                summary,
+                unfinished,
+            } => {
+                write!(f, "{summary}")?;
+                write_unfinished(f, unfinished.as_slice())
+            }
+            Explanation::No {
+                step,
+                cause,
+                unfinished,
+            } => {
+                write_cause(f, *step, cause)?;
+                write_unfinished(f, unfinished.as_slice())
+            }
+        }
+    }
+}
+
+// The calls that never returned, each with its place in the order.
+fn write_unfinished<W: fmt::Write>(
+    f: &mut fmt::Formatter<W>,
+    calls: &[UnfinishedCall],
+) -> fmt::Result {
+    for call in calls {
+        write!(f, "{call}")?;
+    }
+    Ok(())
+}
+
+impl fmt::Display for UnfinishedCall {
+    fn fmt<W: fmt::Write>(&self, f: &mut fmt::Formatter<W>) -> fmt::Result {
+        let (cpu, number, made) = (self.call.cpu, self.call.number, self.call.call.called);
+        let command = CallText {
+            function: self.call.call.command.function,
+            words: self.call.call.command.words.as_slice(),
+        };
+        write!(
+            f,
+            "never returned: call {number} of CPU {cpu}, made on line {made}, "
+        )?;
+        match self.step {
+            Some(step) => write!(f, "named by step {step}: {command}\n"),
+            None => write!(f, "named by no step: {command}\n"),
         }
     }
 }
@@ -121,25 +164,48 @@ impl fmt::Display for RefusedLine {
                 write!(f, "{reply}\n")?;
             }
         }
-        write_why(f, &self.specified, self.facts)?;
-        match &self.changed {
-            Some(EarlierStep { step, call }) => write!(f, "since step {step}, which names {call}"),
-            None => Ok(()),
-        }
+        write_deciding(f, self)?;
+        write_steps(f, self)?;
+        let before = &self.before;
+        write!(f, "{before}")
     }
 }
 
-fn write_why<W: fmt::Write>(
-    f: &mut fmt::Formatter<W>,
-    specified: &Result<Accepted, Refusal>,
-    facts: Facts,
-) -> fmt::Result {
-    match *specified {
-        Ok(_) => f.write_str("why: every condition of the command holds\n"),
-        Err(refusal) => {
-            let why = WhyText { refusal, facts };
+// What decides, in words.
+fn write_deciding<W: fmt::Write>(f: &mut fmt::Formatter<W>, line: &RefusedLine) -> fmt::Result {
+    match (line.deciding, &line.specified) {
+        (Deciding::Condition(fact), Err(refusal)) => {
+            let why = WhyText {
+                refusal: *refusal,
+                fact,
+            };
             write!(f, "why: {why}\n")
         }
+        (Deciding::Word(word), specified) => {
+            let word = WrongWordText {
+                function: line.call.call.command.function,
+                word,
+                is_choice: matches!(specified, Ok(Accepted::Reaches(_))),
+            };
+            write!(f, "why: {word}\n")
+        }
+        _ => f.write_str("why: every condition of the command holds\n"),
+    }
+}
+
+// Since which step that is so, and which later one would make it otherwise.
+fn write_steps<W: fmt::Write>(f: &mut fmt::Formatter<W>, line: &RefusedLine) -> fmt::Result {
+    let since = SinceText {
+        since: &line.since,
+        deciding: line.deciding,
+    };
+    write!(f, "{since}")?;
+    if let Some(put) = &line.put {
+        write!(f, "the one that is named is there since {put}")?;
+    }
+    match &line.late {
+        Some(late) => write!(f, "{late}"),
+        None => Ok(()),
     }
 }
 

@@ -5,6 +5,8 @@
 //! The crate `explain` depends on it.
 #![tactic(auto)]
 
+mod before;
+mod before_text;
 mod condition_text;
 mod explanation;
 mod explanation_text;
@@ -14,10 +16,18 @@ mod flaw;
 mod levels;
 mod named_call;
 mod reply_text;
+mod since;
+mod since_text;
 mod summary_text;
+mod word_text;
 
-pub use explanation::{BadLine, Cause, Explanation, RefusedLine, Summary};
-pub use facts::{EntryRead, Facts};
+pub use before::{GranuleBefore, RealmBefore, RecBefore, StateBefore, WalkBefore};
+pub use condition_text::{condition_name, condition_of};
+pub use explanation::{BadLine, Cause, Deciding, Explanation, RefusedLine, Summary, WrongWord};
+pub use facts::{EntryRead, Fact};
+pub use facts_text::{PendingText, RipasText, StateText, TagText};
 pub use flaw::{Flaw, Misplaced};
 pub use levels::entry_size;
-pub use named_call::{EarlierStep, NamedCall};
+pub use named_call::{EarlierStep, NamedCall, UnfinishedCall};
+pub use since::{LateCommit, Since};
+pub use word_text::reply_word;

@@ -1,4 +1,4 @@
-//! A call of a history by its name, and an earlier step that names one.
+//! A call of a history by its name, a step that names one, and a call that never returned.
 
 use history::Call;
 
@@ -10,9 +10,16 @@ pub struct NamedCall {
     pub call: Call,
 }
 
-/// A step before the one that fails, with the call that its line names.
+/// A step before the one that fails, with the call that its line names. The step is the line's number in the certificate.
 #[derive(Drop)]
 pub struct EarlierStep {
     pub step: u64,
     pub call: NamedCall,
+}
+
+/// A call that never returned, with the step whose line names it, where one does.
+#[derive(Drop)]
+pub struct UnfinishedCall {
+    pub call: NamedCall,
+    pub step: Option<u64>,
 }

@@ -14,7 +14,7 @@ use Rattle.rmm_spec.specs.declared.reply.Reply.TheVariants as reply
 use Rattle.rmm_spec.specs.CertificateText.{IsLine, IsCertificate, IsCertificateText, InCertificates, certificate_text, line_parts}
 use Rattle.rmm_spec.specs.CommandText.{AreWords, IsCommand, IsReply}
 use Rattle.rmm_spec.specs.Function.{word_count}
-use Rattle.rmm_spec.specs.HistoryText.{Config, History, IsConfig, IsEvent, IsHistory, IsHistoryText, InHistories, IsRecord, cpu_of, subhistory_of, start, stand_from, event_parts, history_text}
+use Rattle.rmm_spec.specs.HistoryText.{Config, History, IsConfig, IsEvent, IsHistory, IsHistoryText, InHistories, IsRecord, cpu_of, subhistory_of, start, stand_from, event_parts, granule_limit, history_text}
 use Rattle.rmm_spec.specs.Text.{line_text, lines_text, parts_of, HasNoNewline}
 use Rattle.rmm_spec.proofs.CertificateLines.{line_parts-one_line}
 use Rattle.rmm_spec.proofs.HistoryGrammar.{lines_of, lines_of-one_line}
@@ -125,7 +125,7 @@ decided_config config =
     (λ p. record { some_granules = p.0.0; most_granules = p.0.1; some_cpus = p.1.0; most_cpus = p.1.1 })
     (λ is. ((is.some_granules, is.most_granules), (is.some_cpus, is.most_cpus)))
     (decided_both
-    (decided_both (decided_le 1 config.granules) (decided_le config.granules 4096))
+    (decided_both (decided_le 1 config.granules) (decided_le config.granules (granule_limit config.version)))
     (decided_both (decided_le 1 config.cpus) (decided_le config.cpus 8)))
 
 -- whether a command has a text

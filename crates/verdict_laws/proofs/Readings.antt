@@ -16,7 +16,7 @@ use Rattle.rmm_spec.specs.CertificateText.{line_parts}
 use Rattle.rmm_spec.specs.CommandText.{command_parts, reply_parts}
 use Rattle.rmm_spec.specs.Function.{number_of}
 use Rattle.rmm_spec.specs.declared.version.Version.{Version}
-use Rattle.rmm_spec.specs.declared.version.Version.TheVariants.{One, Two}
+use Rattle.rmm_spec.specs.declared.version.Version.TheVariants.{One, Two, Large}
 use Rattle.rmm_spec.specs.HistoryText.{Config, mark, config_parts, event_parts}
 use Rattle.rmm_spec.specs.Text.{glyph, numeral, decimal, word, fixed_hex}
 use Rattle.rmm_spec.proofs.Texts.{numeral_some, numeral-zero, function_numbered}
@@ -117,12 +117,13 @@ read_reply-reply_parts reply.Misplaced = refl
 
 -- the version that a history begins with
 pub read_mark : List ℕ → Version
-read_mark bytes = if get_or bytes 3 0 == 50 then Two else One
+read_mark bytes = if get_or bytes 2 0 == 108 then Large else (if get_or bytes 3 0 == 50 then Two else One)
 
 read_mark-mark : (version : Version) → read_mark (mark version) ≡ version
 unfolding read_mark
 read_mark-mark One = refl
 read_mark-mark Two = refl
+read_mark-mark Large = refl
 
 -- the configuration of a history's first line
 pub read_config : List (List ℕ) → Config

@@ -93,107 +93,6 @@ second-told told a n names all = (and_parts (told n) (list_all told names) (and_
 and4 : (a b c d : Bool) → a ≡ true → b ≡ true → c ≡ true → d ≡ true → (a && b && c && d) ≡ true
 and4 a b c d first second third fourth = rw (first, second, third, fourth) refl
 
--- one lemma a command that changes something: its rows say where the walk ends
-rtt_create-held : (config : Config) (held : List HeldCell) (cpu rd rtt ipa level : ℕ) → are_told (call.RttCreate rd rtt ipa level) held ≡ true
-    → is_walk_held config held (way rd ipa (level - 1)) ≡ true
-    → AllHold (with_front (seen_state config held) (call.RttCreate rd rtt ipa level) (behind (seen_state config held) cpu (call.RttCreate rd rtt ipa level)).0)
-    → IsHeldChange held (behind (seen_state config held) cpu (call.RttCreate rd rtt ipa level)).1
-unfolding behind words_of named are_told holds_change
-rtt_create-held config held cpu rd rtt ipa level told walked (level_fits, (aligned, (rd_tag, (rtt_tag, (above, (below, (ends, (leaf, _)))))))) =
-    let t = seen_state config held in
-    let under : (realm_at t rd).start_level < level = ltb-true (realm_at t rd).start_level level above in
-    let last : level ≤ 3 = leb-true level 3 level_fits in
-    let keeps = keeps_realm (call.RttCreate rd rtt ipa level) in
-    and_from (is_held rtt held) (is_some (table_placed held rd (level - 1) (table_number level ipa / 512)))
-    (told-held keeps held (needed rtt tag.Delegated) refl (second-told (is_told keeps held) (needed rd tag.Rd) (needed rtt tag.Delegated) [] told))
-    (above-placed held rd ipa level (reach t rd ipa (level - 1)) (end-placed config held (way rd ipa (level - 1)) walked)
-    (eqb-true (reach t rd ipa (level - 1)) (level - 1) ends) (omega (arith, under)) last)
-
-rtt_remove-held : (config : Config) (held : List HeldCell) (cpu : ℕ) (removal : Removal) (rd ipa level : ℕ) → is_walk_held config held (way rd ipa (level - 1)) ≡ true
-    → is_part_held (part_below (call.RttRemove removal rd ipa level) (end_entry config held (way rd ipa (level - 1)))) held ≡ true
-    → AllHold (with_front (seen_state config held) (call.RttRemove removal rd ipa level) (behind (seen_state config held) cpu (call.RttRemove removal rd ipa level)).0)
-    → IsHeldChange held (behind (seen_state config held) cpu (call.RttRemove removal rd ipa level)).1
-unfolding behind words_of named holds_change
-rtt_remove-held config held cpu removal rd ipa level walked part (level_fits, (aligned, (rd_tag, (above, (below, (walks, (linked, (some, _)))))))) =
-    let t = seen_state config held in
-    let under : (realm_at t rd).start_level < level = ltb-true (realm_at t rd).start_level level above in
-    let last : level ≤ 3 = leb-true level 3 level_fits in
-    and_from (is_held (entry_address (walk t rd ipa (level - 1)).entry) held) (is_some (table_placed held rd (level - 1) (table_number level ipa / 512)))
-    (link-held removal rd ipa level held (walk t rd ipa (level - 1)).entry part linked)
-    (above-placed held rd ipa level (reach t rd ipa (level - 1)) (end-placed config held (way rd ipa (level - 1)) walked)
-    (eqb-true (reach t rd ipa (level - 1)) (level - 1) walks) (omega (arith, under)) last)
-
-data_create-held : (config : Config) (held : List HeldCell) (cpu rd granule ipa source flags : ℕ) (digest : List ℕ)
-    → are_told (call.DataCreate rd granule ipa source flags digest) held ≡ true → is_walk_held config held (way rd ipa 3) ≡ true
-    → AllHold (with_front (seen_state config held) (call.DataCreate rd granule ipa source flags digest) (behind (seen_state config held) cpu (call.DataCreate rd granule ipa source flags digest)).0)
-    → IsHeldChange held (behind (seen_state config held) cpu (call.DataCreate rd granule ipa source flags digest)).1
-unfolding behind words_of named are_told keeps_realm holds_change
-data_create-held config held cpu rd granule ipa source flags digest told walked (flags_fit, (aligned, (rd_tag, (page_tag, (source_tag, (below, (new, (ends, (free, _))))))))) =
-    let t = seen_state config held in
-    let names = needed granule tag.Delegated ∷ needed source tag.Undelegated ∷ [] in
-    and4 _ _ _ _ (told-held true held (needed granule tag.Delegated) refl
-    (second-told (is_told true held) (needed rd tag.Rd) (needed granule tag.Delegated) (needed source tag.Undelegated ∷ []) told))
-    (told-kept held (needed rd tag.Rd) (first-told (is_told true held) (needed rd tag.Rd) names told)) refl
-    (last-placed held rd ipa (reach t rd ipa 3) (end-placed config held (way rd ipa 3) walked) ends)
-
-data_create_unknown-held : (config : Config) (held : List HeldCell) (cpu rd granule ipa : ℕ)
-    → are_told (call.DataCreateUnknown rd granule ipa) held ≡ true → is_walk_held config held (way rd ipa 3) ≡ true
-    → AllHold (with_front (seen_state config held) (call.DataCreateUnknown rd granule ipa) (behind (seen_state config held) cpu (call.DataCreateUnknown rd granule ipa)).0)
-    → IsHeldChange held (behind (seen_state config held) cpu (call.DataCreateUnknown rd granule ipa)).1
-unfolding behind words_of named are_told keeps_realm holds_change
-data_create_unknown-held config held cpu rd granule ipa told walked (aligned, (rd_tag, (page_tag, (below, (ends, (free, _)))))) =
-    let t = seen_state config held in
-    and4 _ _ _ _ (told-held false held (needed granule tag.Delegated) refl
-    (second-told (is_told false held) (needed rd tag.Rd) (needed granule tag.Delegated) [] told)) refl refl
-    (last-placed held rd ipa (reach t rd ipa 3) (end-placed config held (way rd ipa 3) walked) ends)
-
-data_destroy-held : (config : Config) (held : List HeldCell) (cpu rd ipa : ℕ) → is_walk_held config held (way rd ipa 3) ≡ true
-    → is_part_held (part_below (call.DataDestroy rd ipa) (end_entry config held (way rd ipa 3))) held ≡ true
-    → AllHold (with_front (seen_state config held) (call.DataDestroy rd ipa) (behind (seen_state config held) cpu (call.DataDestroy rd ipa)).0)
-    → IsHeldChange held (behind (seen_state config held) cpu (call.DataDestroy rd ipa)).1
-unfolding behind words_of named holds_change
-data_destroy-held config held cpu rd ipa walked part (aligned, (rd_tag, (below, (ends, (taken, _))))) =
-    let t = seen_state config held in
-    and4 _ _ _ _ (page-held rd ipa held (walk t rd ipa 3).entry part taken) refl refl
-    (last-placed held rd ipa (reach t rd ipa 3) (end-placed config held (way rd ipa 3) walked) ends)
-
-rtt_map-held : (config : Config) (held : List HeldCell) (cpu rd ipa page : ℕ) → is_walk_held config held (way rd ipa 3) ≡ true
-    → AllHold (with_front (seen_state config held) (call.RttMapUnprotected rd ipa page) (behind (seen_state config held) cpu (call.RttMapUnprotected rd ipa page)).0)
-    → IsHeldChange held (behind (seen_state config held) cpu (call.RttMapUnprotected rd ipa page)).1
-unfolding behind words_of named holds_change
-rtt_map-held config held cpu rd ipa page walked (aligned, (page_fits, (rd_tag, (upper, (ends, (free, _)))))) =
-    last-placed held rd ipa (reach (seen_state config held) rd ipa 3) (end-placed config held (way rd ipa 3) walked) ends
-
-rtt_unmap-held : (config : Config) (held : List HeldCell) (cpu rd ipa : ℕ) → is_walk_held config held (way rd ipa 3) ≡ true
-    → AllHold (with_front (seen_state config held) (call.RttUnmapUnprotected rd ipa) (behind (seen_state config held) cpu (call.RttUnmapUnprotected rd ipa)).0)
-    → IsHeldChange held (behind (seen_state config held) cpu (call.RttUnmapUnprotected rd ipa)).1
-unfolding behind words_of named holds_change
-rtt_unmap-held config held cpu rd ipa walked (aligned, (rd_tag, (upper, (ends, (free, _))))) =
-    last-placed held rd ipa (reach (seen_state config held) rd ipa 3) (end-placed config held (way rd ipa 3) walked) ends
-
-init_ripas-held : (config : Config) (held : List HeldCell) (cpu rd base top : ℕ) → are_told (call.RttInitRipas rd base top) held ≡ true
-    → is_walk_held config held (way rd base 3) ≡ true → IsHeldChange held (behind (seen_state config held) cpu (call.RttInitRipas rd base top)).1
-unfolding behind words_of named are_told keeps_realm holds_change reached_change
-init_ripas-held config held cpu rd base top told walked end =
-    let t = seen_state config held in
-    and4 _ _ _ _ refl (told-kept held (needed rd tag.Rd) (first-told (is_told true held) (needed rd tag.Rd) [] told)) refl
-    (page-placed held rd base (reach t rd base 3) (end-placed config held (way rd base 3) walked) (reach-le t rd base 3))
-
-set_ripas-held : (config : Config) (held : List HeldCell) (cpu rd rec base top : ℕ) → are_told (call.RttSetRipas rd rec base top) held ≡ true
-    → is_walk_held config held (way rd base 3) ≡ true → IsHeldChange held (behind (seen_state config held) cpu (call.RttSetRipas rd rec base top)).1
-unfolding behind words_of named are_told keeps_realm holds_change reached_change
-set_ripas-held config held cpu rd rec base top told walked end =
-    let t = seen_state config held in
-    and4 _ _ _ _ refl refl
-    (and_from (is_held rec held) true
-    (told-held false held (needed rec tag.Rec) refl (second-told (is_told false held) (needed rd tag.Rd) (needed rec tag.Rec) [] told)) refl)
-    (page-placed held rd base (reach t rd base 3) (end-placed config held (way rd base 3) walked) (reach-le t rd base 3))
-
--- reading changes nothing
-read_entry-held : (config : Config) (held : List HeldCell) (cpu rd ipa level : ℕ) → IsHeldChange held (behind (seen_state config held) cpu (call.RttReadEntry rd ipa level)).1
-unfolding behind holds_change
-read_entry-held config held cpu rd ipa level = refl
-
 -- a walk's end is held, with what is taken out below it
 abbrev pub IsSettledBy : Config → Call → List HeldCell → Option Way → Type 0
 IsSettledBy config c held None = ⊥
@@ -204,21 +103,52 @@ pub settled-by : (config : Config) (c : Call) (held : List HeldCell) (o : Option
 settled-by config c held None settled = false≢true settled
 settled-by config c held (Some w) settled = and_parts (is_walk_held config held w) (is_part_held (part_below c (end_entry config held w)) held) settled
 
--- of each command whose rows all hold
+-- of each command whose rows all hold: they say where its walk ends
 rows-held : (config : Config) (held : List HeldCell) (cpu : ℕ) (c : Call) → are_told c held ≡ true → IsSettledBy config c held (way_of c)
     → AllHold (with_front (seen_state config held) c (behind (seen_state config held) cpu c).0) → IsHeldChange held (behind (seen_state config held) cpu c).1
-unfolding way_of
-rows-held config held cpu (call.RttCreate rd rtt ipa level) told settled rows = rtt_create-held config held cpu rd rtt ipa level told settled.0 rows
-rows-held config held cpu (call.RttRemove removal rd ipa level) told settled rows = rtt_remove-held config held cpu removal rd ipa level settled.0 settled.1 rows
-rows-held config held cpu (call.RttReadEntry rd ipa level) told settled rows = read_entry-held config held cpu rd ipa level
-rows-held config held cpu (call.DataCreate rd granule ipa source flags digest) told settled rows =
-    data_create-held config held cpu rd granule ipa source flags digest told settled.0 rows
-rows-held config held cpu (call.DataCreateUnknown rd granule ipa) told settled rows = data_create_unknown-held config held cpu rd granule ipa told settled.0 rows
-rows-held config held cpu (call.DataDestroy rd ipa) told settled rows = data_destroy-held config held cpu rd ipa settled.0 settled.1 rows
-rows-held config held cpu (call.RttMapUnprotected rd ipa page) told settled rows = rtt_map-held config held cpu rd ipa page settled.0 rows
-rows-held config held cpu (call.RttUnmapUnprotected rd ipa) told settled rows = rtt_unmap-held config held cpu rd ipa settled.0 rows
-rows-held config held cpu (call.RttInitRipas rd base top) told settled rows = init_ripas-held config held cpu rd base top told settled.0
-rows-held config held cpu (call.RttSetRipas rd rec base top) told settled rows = set_ripas-held config held cpu rd rec base top told settled.0
+unfolding behind words_of named way_of are_told keeps_realm holds_change reached_change
+rows-held config held cpu (call.RttCreate rd rtt ipa level) told settled (level_fits, (aligned, (rd_tag, (rtt_tag, (above, (below, (ends, (leaf, _)))))))) =
+    let t = seen_state config held in
+    let under : (realm_at t rd).start_level < level = ltb-true (realm_at t rd).start_level level above in
+    let last : level ≤ 3 = leb-true level 3 level_fits in
+    and_from (is_held rtt held) (is_some (table_placed held rd (level - 1) (table_number level ipa / 512)))
+    (told-held false held (needed rtt tag.Delegated) refl (second-told (is_told false held) (needed rd tag.Rd) (needed rtt tag.Delegated) [] told))
+    (above-placed held rd ipa level (reach t rd ipa (level - 1)) (end-placed config held (way rd ipa (level - 1)) settled.0)
+    (eqb-true (reach t rd ipa (level - 1)) (level - 1) ends) (omega (arith, under)) last)
+rows-held config held cpu (call.RttRemove removal rd ipa level) told settled (level_fits, (aligned, (rd_tag, (above, (below, (walks, (linked, (some, _)))))))) =
+    let t = seen_state config held in
+    let under : (realm_at t rd).start_level < level = ltb-true (realm_at t rd).start_level level above in
+    let last : level ≤ 3 = leb-true level 3 level_fits in
+    and_from (is_held (entry_address (walk t rd ipa (level - 1)).entry) held) (is_some (table_placed held rd (level - 1) (table_number level ipa / 512)))
+    (link-held removal rd ipa level held (walk t rd ipa (level - 1)).entry settled.1 linked)
+    (above-placed held rd ipa level (reach t rd ipa (level - 1)) (end-placed config held (way rd ipa (level - 1)) settled.0)
+    (eqb-true (reach t rd ipa (level - 1)) (level - 1) walks) (omega (arith, under)) last)
+rows-held config held cpu (call.RttReadEntry rd ipa level) told settled rows = refl
+rows-held config held cpu (call.DataCreate rd granule ipa source flags digest) told settled (flags_fit, (aligned, (rd_tag, (page_tag, (source_tag, (below, (new, (ends, (free, _))))))))) =
+    let names = needed granule tag.Delegated ∷ needed source tag.Undelegated ∷ [] in
+    and4 _ _ _ _ (told-held true held (needed granule tag.Delegated) refl
+    (second-told (is_told true held) (needed rd tag.Rd) (needed granule tag.Delegated) (needed source tag.Undelegated ∷ []) told))
+    (told-kept held (needed rd tag.Rd) (first-told (is_told true held) (needed rd tag.Rd) names told)) refl
+    (last-placed held rd ipa _ (end-placed config held (way rd ipa 3) settled.0) ends)
+rows-held config held cpu (call.DataCreateUnknown rd granule ipa) told settled (aligned, (rd_tag, (page_tag, (below, (ends, (free, _)))))) =
+    and4 _ _ _ _ (told-held false held (needed granule tag.Delegated) refl
+    (second-told (is_told false held) (needed rd tag.Rd) (needed granule tag.Delegated) [] told)) refl refl
+    (last-placed held rd ipa _ (end-placed config held (way rd ipa 3) settled.0) ends)
+rows-held config held cpu (call.DataDestroy rd ipa) told settled (aligned, (rd_tag, (below, (ends, (taken, _))))) =
+    and4 _ _ _ _ (page-held rd ipa held (walk (seen_state config held) rd ipa 3).entry settled.1 taken) refl refl
+    (last-placed held rd ipa _ (end-placed config held (way rd ipa 3) settled.0) ends)
+rows-held config held cpu (call.RttMapUnprotected rd ipa page) told settled (aligned, (page_fits, (rd_tag, (upper, (ends, (free, _)))))) =
+    last-placed held rd ipa _ (end-placed config held (way rd ipa 3) settled.0) ends
+rows-held config held cpu (call.RttUnmapUnprotected rd ipa) told settled (aligned, (rd_tag, (upper, (ends, (free, _))))) =
+    last-placed held rd ipa _ (end-placed config held (way rd ipa 3) settled.0) ends
+rows-held config held cpu (call.RttInitRipas rd base top) told settled rows = λ end.
+    and4 _ _ _ _ refl (told-kept held (needed rd tag.Rd) (first-told (is_told true held) (needed rd tag.Rd) [] told)) refl
+    (page-placed held rd base _ (end-placed config held (way rd base 3) settled.0) (reach-le (seen_state config held) rd base 3))
+rows-held config held cpu (call.RttSetRipas rd rec base top) told settled rows = λ end.
+    and4 _ _ _ _ refl refl
+    (and_from (is_held rec held) true
+    (told-held false held (needed rec tag.Rec) refl (second-told (is_told false held) (needed rd tag.Rd) (needed rec tag.Rec) [] told)) refl)
+    (page-placed held rd base _ (end-placed config held (way rd base 3) settled.0) (reach-le (seen_state config held) rd base 3))
 rows-held config held cpu _ told settled rows = absurd settled
 
 -- what a settled walk does changes what is held

@@ -11,7 +11,7 @@ use Rattle.rmm_spec.specs.HistoryText.{Config}
 use Rattle.rmm_spec.specs.declared.call.Call.{Call}
 use Rattle.rmm_spec.specs.declared.call.Call.TheVariants as call
 use Rattle.rmm_spec.specs.declared.entry.Entry.{Entry}
-use Rattle.rmm_spec.specs.declared.entry.Entry.TheVariants.{Unassigned, Assigned, Table, UnassignedNs, AssignedNs}
+use Rattle.rmm_spec.specs.declared.entry.Entry.TheVariants.{Table}
 use Rattle.rmm_spec.specs.declared.tag.Tag.TheVariants as tag
 use Rattle.rmm_spec.specs.Lookup.{tag_number}
 use Rattle.rmm_spec.specs.Rows.{Needed}
@@ -57,10 +57,7 @@ unplaced-entry held rd level number none = ap (option_and_then (λ (granule : �
 -- what has a link is a link
 link-of_table : (e : Entry) (child : ℕ) → link_of e ≡ Some child → is_table e ≡ true
 link-of_table (Table granule) child is = refl
-link-of_table (Unassigned ripas) child is = absurd (none-some child is)
-link-of_table (Assigned ripas granule) child is = absurd (none-some child is)
-link-of_table UnassignedNs child is = absurd (none-some child is)
-link-of_table (AssignedNs page) child is = absurd (none-some child is)
+link-of_table _ child is = absurd (none-some child is)
 
 -- an entry that links has a table below
 no_link : {config : Config} {side : Side} {held : List HeldCell} (w : Whole config side held) (rd ipa level g : ℕ) → level ≤ 3

@@ -243,12 +243,7 @@ names-tables s t (n ∷ names) same = ((same.0.0, by n.tag same.0.1), names-tabl
   where
     by : (asked : Tag) → SameRec s t n.granule asked → SameRec (with_tables_of s t) t n.granule asked
     by tag.Rec is = is
-    by tag.Undelegated is = tt
-    by tag.Delegated is = tt
-    by tag.Rd is = tt
-    by tag.RecAux is = tt
-    by tag.Data is = tt
-    by tag.Rtt is = tt
+    by _ is = tt
 
 -- so is all that is looked up before the walk
 front-tables : (s t : State) (c : Call) (w : Way) → SameFront s t c w → SameFront (with_tables_of s t) t c w

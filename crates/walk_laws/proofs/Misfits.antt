@@ -6,7 +6,7 @@ use Rattle.std.proofs.lemmas.Bool.{false≢true, or_cases, not-true, and_from}
 use Rattle.std.proofs.lemmas.Option.{same_Some}
 use Rattle.rmm_spec.specs.HistoryText.{Config}
 use Rattle.rmm_spec.specs.declared.entry.Entry.{Entry}
-use Rattle.rmm_spec.specs.declared.entry.Entry.TheVariants.{Unassigned, Assigned, Table, UnassignedNs, AssignedNs}
+use Rattle.rmm_spec.specs.declared.entry.Entry.TheVariants.{Unassigned, Assigned, Table}
 use Rattle.rmm_spec.specs.State.{RealmRecord}
 use Rattle.rmm_spec.specs.Lookup.{is_granule}
 use Rattle.rmm_spec.specs.Walk.{table_size}
@@ -107,9 +107,7 @@ part-none {config} {side} {held} w g t index (Some (Table child)) at entry bad =
 part-none {config} {side} {held} w g t index (Some (Assigned ripas page)) at entry bad =
     page-none w page (w.shaped.data_granules.named g index page t ripas at entry) bad
 part-none {config} {side} {held} w g t index (Some (Unassigned ripas)) at entry bad = false≢true bad
-part-none {config} {side} {held} w g t index (Some UnassignedNs) at entry bad = false≢true bad
-part-none {config} {side} {held} w g t index (Some (AssignedNs page)) at entry bad = false≢true bad
-part-none {config} {side} {held} w g t index None at entry bad = false≢true bad
+part-none {config} {side} {held} w g t index _ at entry bad = false≢true bad
 
 -- nor is what a held table names for the address
 table-none : {config : Config} {side : Side} {held : List HeldCell} (w : Whole config side held) (ipa g : ℕ) (o : Option TableRecord) → table_held held g ≡ o

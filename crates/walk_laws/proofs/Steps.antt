@@ -117,12 +117,7 @@ tags-apart cells g h t u first second apart same =
   where
     itself : (x : Tag) → (tag_number x == tag_number x) ≡ true
     itself tag.Undelegated = refl
-    itself tag.Delegated = refl
-    itself tag.Rd = refl
-    itself tag.Rec = refl
-    itself tag.RecAux = refl
-    itself tag.Data = refl
-    itself tag.Rtt = refl
+    itself _ = refl
 
 -- the granule of a page that is given or taken
 abbrev IsPage : (ℕ → Cell) → Option TagChange → Type 0

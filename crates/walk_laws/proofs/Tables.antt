@@ -6,7 +6,7 @@ use Rattle.std.proofs.lemmas.Bool.{false≢true, cases_order}
 use Rattle.std.proofs.lemmas.Bool.Decides.{nat_tests}
 use Rattle.rmm_spec.specs.HistoryText.{Config}
 use Rattle.rmm_spec.specs.declared.entry.Entry.{Entry}
-use Rattle.rmm_spec.specs.declared.entry.Entry.TheVariants.{Unassigned, Assigned, Table, UnassignedNs, AssignedNs}
+use Rattle.rmm_spec.specs.declared.entry.Entry.TheVariants.{Unassigned, Table}
 use Rattle.rmm_spec.specs.State.{State, RealmRecord}
 use Rattle.rmm_spec.specs.TableCells.{leaf_of}
 use Rattle.rmm_spec.specs.Walk.{is_table, linked_entry, entry_at, entry_for, entry_number, table_number, reach}
@@ -71,18 +71,12 @@ entry-whole {config} {side} {held} w g rd level number e holds at = elim (link_o
 -- what an entry links to, and its leaf, are the entry
 linked-own : (e : Entry) → linked_entry (link_of e) (if is_table e then None else Some e) ≡ e
 linked-own (Unassigned ripas) = refl
-linked-own (Assigned ripas granule) = refl
-linked-own (Table granule) = refl
-linked-own UnassignedNs = refl
-linked-own (AssignedNs page) = refl
+linked-own _ = refl
 
 -- so is an entry that is no link by itself
 unlinked-own : (e : Entry) → is_table e ≡ false → linked_entry None (if is_table e then None else Some e) ≡ e
 unlinked-own (Table granule) leaf = absurd (false≢true (sym leaf))
-unlinked-own (Unassigned ripas) leaf = refl
-unlinked-own (Assigned ripas granule) leaf = refl
-unlinked-own UnassignedNs leaf = refl
-unlinked-own (AssignedNs page) leaf = refl
+unlinked-own _ leaf = refl
 
 -- below a table that is held stands what it links to
 table-below : (held : List HeldCell) (rd level number : ℕ) (e : Entry) → entry_held held rd level number ≡ Some e
@@ -116,9 +110,7 @@ last-unlinked {config} {side} {held} w g i rd level number (Table child) holds a
     let test : nat_lt level 3 ≡ true = grind (arith, nat_tests, below) in
     absurd (false≢true (sym end ∙ test))
 last-unlinked {config} {side} {held} w g i rd level number (Unassigned ripas) holds at end = refl
-last-unlinked {config} {side} {held} w g i rd level number (Assigned ripas granule) holds at end = refl
-last-unlinked {config} {side} {held} w g i rd level number UnassignedNs holds at end = refl
-last-unlinked {config} {side} {held} w g i rd level number (AssignedNs page) holds at end = refl
+last-unlinked {config} {side} {held} w g i rd level number _ holds at end = refl
 
 -- the entry of a held table, as it is told and as the whole has it
 pub record HeldEntry (config : Config) (cells : ℕ → Cell) (held : List HeldCell) (rd level number : ℕ) : Type 0 where

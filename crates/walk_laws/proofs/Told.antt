@@ -86,12 +86,7 @@ named-same {config} {side} {held} w keeps n told = (told-tag w n.granule n.tag (
     by : (asked : Tag) → ((tag_number asked == tag_number tag.Rd) ≡ false → is_held n.granule held ≡ true)
         → SameRec (state w) (seen_state config held) n.granule asked
     by tag.Rec has = rec-same w n.granule (has refl)
-    by tag.Undelegated has = tt
-    by tag.Delegated has = tt
-    by tag.Rd has = tt
-    by tag.RecAux has = tt
-    by tag.Data has = tt
-    by tag.Rtt has = tt
+    by _ has = tt
 
 -- all of them
 names-same : {config : Config} {side : Side} {held : List HeldCell} (w : Whole config side held) (keeps : Bool) (names : List Needed) → list_all (is_told keeps held) names ≡ true

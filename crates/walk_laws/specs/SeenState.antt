@@ -6,7 +6,7 @@ use Rattle.std.specs.List.{fold}
 use Rattle.std.specs.Option.{option_and_then}
 use Rattle.rmm_spec.specs.HistoryText.{Config}
 use Rattle.rmm_spec.specs.declared.entry.Entry.{Entry}
-use Rattle.rmm_spec.specs.declared.entry.Entry.TheVariants.{Unassigned, Assigned, Table, UnassignedNs, AssignedNs}
+use Rattle.rmm_spec.specs.declared.entry.Entry.TheVariants.{Table}
 use Rattle.rmm_spec.specs.State.{State, RealmRecord}
 use Rattle.rmm_spec.specs.Lookup.{is_granule}
 use Rattle.rmm_spec.specs.Change.{new_realm}
@@ -88,10 +88,7 @@ entry_held held rd level number = option_and_then (λ granule. entry_in (number 
 
 abbrev pub link_of : Entry → Option ℕ
 link_of (Table granule) = Some granule
-link_of (Unassigned ripas) = None
-link_of (Assigned ripas granule) = None
-link_of UnassignedNs = None
-link_of (AssignedNs page) = None
+link_of _ = None
 
 -- what the entry above links to; a table's own place tells where that isn't held
 abbrev pub linked_or : Option Entry → Option ℕ → Option ℕ

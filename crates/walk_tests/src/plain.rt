@@ -1,6 +1,8 @@
 //! Tables by the number of their granule.
 
 ghost use Rattle.std.specs.Prelude.{◌≡◌, ◌/◌, ◌≤◌, IsTrue, IfOk, length, replicate, Some, None, slice_set, false};
+ghost use Rattle.rmm_spec.specs.declared.version.Version.TheVariants.{Large};
+ghost use Rattle.rmm_spec.specs.HistoryText.{granule_limit};
 ghost use Rattle.rmm_spec.specs.Lookup.{is_granule};
 ghost use Rattle.rtt_walk.specs.Plain.{cells_from};
 ghost use Rattle.walk_tests.specs.Walkable.{AreInGranules};
@@ -20,12 +22,14 @@ pub struct PlainCells {
 impl Model for PlainCells {
     ghost use Rattle.std.specs.Prelude.{◌≤◌, List, Option, vec_len};
     ghost use Rattle.rmm_spec.specs.Table.{TableRecord};
+    ghost use Rattle.rmm_spec.specs.declared.version.Version.TheVariants.{Large};
+    ghost use Rattle.rmm_spec.specs.HistoryText.{granule_limit};
 
     ghost Value = { List (Option TableRecord) };
 
     ghost view = { λ c. c.tables.items };
 
-    ghost invariant = { λ c. vec_len c.tables ≤ 4096 };
+    ghost invariant = { λ c. vec_len c.tables ≤ granule_limit Large };
 }
 
 impl PlainCells {
@@ -44,7 +48,7 @@ impl PlainCells {
     /// How many granules there are.
     pub fn granules(&self) -> u64
         ensures count { result ≡ length self.now }
-        ensures most { result ≤ 4096 }
+        ensures most { result ≤ granule_limit Large }
         ensures within { AreInGranules (cells_from 0 self.now) result }
     {
         self.tables.len() as u64

@@ -1,5 +1,7 @@
 //! The test of what a walk asks.
 
+ghost use Rattle.rmm_spec.specs.declared.version.Version.TheVariants.{Large};
+ghost use Rattle.rmm_spec.specs.HistoryText.{granule_limit};
 ghost use Rattle.std.specs.Prelude.{◌≡◌, ℕ, ◌≤◌, ◌↔◌, IsTrue, IfSome, IfNone, false, Some};
 ghost use Rattle.rmm_spec.specs.Table as spec;
 ghost use Rattle.rmm_spec.specs.TableCells.{LinksTo, IsWalkable};
@@ -15,7 +17,7 @@ use rtt_walk::Cells;
 /// tables of its realm that cover the address from its level on. The tables lie in the first `granules` granules.
 /// It reads every table, for each table that covers the address.
 pub fn is_walkable<C: Cells>(cells: &C, granules: u64, root: Pa, ipa: Ipa, max: u8) -> bool
-    requires count { granules ≤ 4096 }
+    requires count { granules ≤ granule_limit Large }
     requires granules { AreInGranules (C.cells cells.now) granules }
     ensures { IsTrue result ↔ IsWalkable (C.cells cells.now) root ipa max }
 {
@@ -50,7 +52,7 @@ fn is_sound_at<C: Cells>(
     ipa: Ipa,
     address: u64,
 ) -> bool
-    requires count { granules ≤ 4096 }
+    requires count { granules ≤ granule_limit Large }
     requires granules { AreInGranules (C.cells cells.now) granules }
     ensures { IsTrue result ↔ IsSoundAt (C.cells cells.now) top.now.rd top.now.level ipa root address }
 {
@@ -115,7 +117,7 @@ fn leads_down<C: Cells>(cells: &C, top: &Place, table: &Table, ipa: Ipa) -> bool
 
 // Whether a table of the path links to a granule.
 fn is_linked<C: Cells>(cells: &C, granules: u64, top: &Place, ipa: Ipa, granule: u64) -> bool
-    requires count { granules ≤ 4096 }
+    requires count { granules ≤ granule_limit Large }
     requires granules { AreInGranules (C.cells cells.now) granules }
     ensures { IsTrue result ↔ HasLink (C.cells cells.now) top.now.rd top.now.level ipa granule }
 {

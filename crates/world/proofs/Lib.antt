@@ -14,4 +14,5 @@ pub mod Lines
 pub mod Commits
 pub mod Waiting
 pub mod Goes
+pub mod TurnedWorld
 pub mod Stuck

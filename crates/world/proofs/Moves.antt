@@ -12,6 +12,7 @@ use Rattle.rmm_spec.specs.Shape.{Side}
 use Rattle.rmm_spec.specs.Local.{put_all}
 use Rattle.rmm_spec.specs.World.{Phase, Between, Deciding, Decided, GivenUp, Stopped, Commitment, Move, mover, Happens, IsDeciding, MayLearn, phase_learnt, without_granule}
 use Rattle.rmm_spec.specs.World as move
+use Rattle.rmm_spec.specs.World.{hold_of as world_hold}
 use Rattle.rmm_spec.specs.declared.turn.Will.{Will}
 use Rattle.rmm_spec.specs.declared.turn.Will.TheVariants as wills
 use Rattle.rmm_spec.specs.Waits.{Report, Did, Blocked, Idle, Turns, IsIdle, IsRising, IsWilled, MayFree, awaited, kind_of}
@@ -28,7 +29,8 @@ use Rattle.world.specs.declared.world.World as own
 use Rattle.world.specs.Cpus.{Views, views_of, is_going, is_deciding}
 use Rattle.world.specs.Granules.{cells_of, holder_of}
 use Rattle.world.specs.Kept.{AreLocks, IsFit, AreFit, IsReached, IsTurn, calls_made, freed_all}
-use Rattle.world.specs.Next.{IsNext, next_for, AreNext}
+use Rattle.command_core.specs.Decided.{answer_on}
+use Rattle.world.specs.Next.{IsNext, next_for, AreNext, with_answer, committed_in, with_committed}
 use Rattle.world.specs.Stepped.{MakesStep}
 use Rattle.world.specs.Whole.{world_with, world_from}
 use Rattle.world.specs.World.{world_of}
@@ -309,8 +311,8 @@ module _ (s : own.World) (cpu : ℕ) (within : cpu < s.history.recorded.config.c
         journal = entries;
         history = s.history.recorded;
         holder = holder_of s.locks;
-      })
-  unfolding world_of world_from
+      }) × (world_with (cells_of cells) (side_of side) (views_of cpus) entries s.history.recorded ≡ with_committed (world_of s) cpu)
+  unfolding world_of world_from with_committed
   committed cells side mid cpus reserved entries config number opened command learnt given same_config was_open same made_step is kept_journal pushed =
       let old = views_of s.cpus in
       let is_open = was_open ∙ (λ i. Deciding number (sym same i) learnt) in
@@ -332,15 +334,28 @@ module _ (s : own.World) (cpu : ℕ) (within : cpu < s.history.recorded.config.c
       let views = is ∙ ap (λ (v : Views). record v { waits = put v.waits cpu None; phase = put v.phase cpu (Decided number command given) }) step.has_views in
       let was : IsFit (Deciding number command learnt) (old.program cpu) = subst (λ p. IsFit p (old.program cpu)) is_open (s.kept.fit.each cpu) in
       let deciding : IsDeciding (world_of s) cpu = record { number = number; command = command; learnt = learnt; is_deciding = is_open } in
-      subst (IsTurnTo s cpu wills.Go (Did turn.Commit)) (sym (λ i. record {
+      let same_fields : record { cells = cells_of cells; side = side_of side; views = views_of cpus; journal = entries; history = s.history.recorded; holder = holder_of s.locks } ≡ f = λ i. record {
         cells = step.has_cells i;
         side = step.has_side i;
         views = views i;
         journal = more i;
         history = s.history.recorded;
         holder = holder_of s.locks;
-      }))
-      (move-kept s cpu wills.Go (move.Commit cpu given step.held) f refl refl refl tt
-      (record { is_cpu = within; moves = record { deciding = deciding; step = step.step; is_new = refl } })
-      s.kept.locked (AreFit-phase old.phase old.program cpu (Decided number command given)
-      (record { numbered = was.numbered }) s.kept.fit))
+      } in
+      let as_answered : world_with f.cells f.side f.views f.journal f.history
+      ≡ with_answer (world_of s) cpu number command (answer_on s.history.recorded.config cpu command (world_hold (world_of s) cpu)) =
+      λ i. record (world_of s) {
+        cells = put_all (cells_of s.cells) (step.answered.is_changed i).cells;
+        side = (step.answered.is_changed i).side;
+        place = put old.place cpu (step.answered.is_changed i).place;
+        phase = put old.phase cpu (Decided number command (step.answered.is_given i));
+        journal = s.journal.items ++ record { cpu = cpu; number = number; command = command; given = step.answered.is_given i } ∷ [];
+      } in (
+        subst (IsTurnTo s cpu wills.Go (Did turn.Commit)) (sym same_fields)
+            (move-kept s cpu wills.Go (move.Commit cpu given step.held) f refl refl refl tt
+            (record { is_cpu = within; moves = record { deciding = deciding; step = step.step; is_new = refl } })
+            s.kept.locked (AreFit-phase old.phase old.program cpu (Decided number command given)
+            (record { numbered = was.numbered }) s.kept.fit)),
+        ap (λ (g : Fields). world_with g.cells g.side g.views g.journal g.history) same_fields ∙ as_answered
+            ∙ sym (ap (committed_in (world_of s) cpu) is_open),
+      )

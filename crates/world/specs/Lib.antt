@@ -5,6 +5,7 @@ pub mod Told
 pub mod Journal
 pub mod Whole
 pub mod Next
+pub mod TurnedWorld
 pub mod Kept
 pub mod World
 pub mod Opening

@@ -1,5 +1,5 @@
 -- What comes next for a CPU of a world.
-use Rattle.std.specs.Prelude.{◌≡◌, ℕ, ◌<◌, ◌==◌, if◌then◌else◌, Bool, List, [], ◌∷◌, ◌++◌, Option, Some, None}
+use Rattle.std.specs.Prelude.{◌≡◌, ℕ, ◌<◌, ◌==◌, if◌then◌else◌, Bool, List, [], ◌∷◌, ◌++◌, Option, Some, None, Result}
 use Rattle.std.specs.List.{list_any}
 use Rattle.rmm_spec.specs.HistoryText.{Config}
 use Rattle.rmm_spec.specs.declared.command.Command.{Command}
@@ -7,12 +7,17 @@ use Rattle.rmm_spec.specs.Call.{call_of}
 use Rattle.rmm_spec.specs.Lookup.{any_below}
 use Rattle.rmm_spec.specs.Cell.{put}
 use Rattle.rmm_spec.specs.Shape.{CpuPlace}
-use Rattle.rmm_spec.specs.Local.{HeldCell}
-use Rattle.rmm_spec.specs.World.{World, Phase, Between, Deciding, Decided, GivenUp, Stopped, IsDeciding, held_cells, without_granule, phase_learnt}
+use Rattle.rmm_spec.specs.Local.{HeldCell, put_all}
+use Rattle.rmm_spec.specs.declared.accepted.Accepted.{Accepted}
+use Rattle.rmm_spec.specs.declared.refusal.Refusal.{Refusal}
+use Rattle.rmm_spec.specs.World.{World, Phase, Between, Deciding, Decided, GivenUp, Stopped, IsDeciding, hold_of, held_cells, without_granule, phase_learnt}
 use Rattle.rmm_spec.specs.Waits.{Report, Did, Blocked, Idle, awaited}
 use Rattle.rmm_spec.specs.Waits as turn
 use Rattle.command_core.specs.declared.next.Next.{Next}
 use Rattle.command_core.specs.declared.next.Next.TheVariants.{Take, Free, Ready}
+use Rattle.command_core.specs.Changed.{given_of, hold_changed}
+use Rattle.command_core.specs.Decided.{answer_on}
+use Rattle.command_core.specs.Foreseen.{change_of}
 use Rattle.command_core.specs.Settled.{is_settled}
 use Rattle.command_core.specs.Next as plan
 use Rattle.command_core.specs.Plan.{IsPlanned, is_ready}
@@ -35,13 +40,33 @@ with_freed w cpu granule learnt = record w {
   phase = put w.phase cpu (phase_learnt learnt (w.phase cpu));
 }
 
+-- the call is committed with the answer's reply, and its change is made of what is held
+abbrev pub with_answer : World → ℕ → ℕ → Command → Result Accepted Refusal → World
+with_answer w cpu number command answer =
+    let held = hold_changed (hold_of w cpu) (change_of answer) in record w {
+      cells = put_all w.cells held.cells;
+      side = held.side;
+      place = put w.place cpu held.place;
+      phase = put w.phase cpu (Decided number command (given_of answer));
+      journal = w.journal ++ record { cpu = cpu; number = number; command = command; given = given_of answer } ∷ [];
+    }
+
+-- an open call is answered on what is held
+abbrev pub committed_in : World → ℕ → Phase → World
+committed_in w cpu (Deciding number command learnt) =
+    with_answer w cpu number command (answer_on w.config cpu command (hold_of w cpu))
+committed_in w cpu _ = w
+
+unfoldable pub with_committed : World → ℕ → World
+with_committed w cpu = committed_in w cpu (w.phase cpu)
+
 -- The lock that comes next is taken, or waited for; the one that is to be freed is, with what is learnt; and who is ready
--- commits.
+-- commits the answer on what is held.
 abbrev pub DoesNext : World → ℕ → Next → Report → World → Type 0
 DoesNext old cpu (Take granule) (Did kind) new = (kind ≡ turn.Take) × (new ≡ with_taken old cpu granule)
 DoesNext old cpu (Take granule) (Blocked other) new = (other ≡ granule) × (new ≡ old)
 DoesNext old cpu (Free granule learnt) (Did kind) new = (kind ≡ turn.Free) × (new ≡ with_freed old cpu granule learnt)
-DoesNext old cpu Ready (Did kind) new = kind ≡ turn.Commit
+DoesNext old cpu Ready (Did kind) new = (kind ≡ turn.Commit) × (new ≡ with_committed old cpu)
 DoesNext old cpu _ _ new = ⊥
 
 -- A turn does what comes next.

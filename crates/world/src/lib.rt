@@ -1,6 +1,7 @@
 //! The world of turns: CPUs that carry out their programs over shared granules, one turn at a time, as a value.
-//! It promises that each turn is a step of the definitions, `specs/Waits.antt` of `rmm_spec`, that memory is refused only to
-//! a step that records something, and then changes nothing; so every world is certified, and no CPUs wait in a circle.
+//! It promises that each turn is a step of the definitions, `specs/Waits.antt` of `rmm_spec`, and to one world,
+//! `specs/TurnedWorld.antt`; that memory is refused only to a step that records something, and then changes nothing; so every
+//! world is certified, and no CPUs wait in a circle.
 //! Nothing here waits, and a turn's cost grows neither with the run nor with the machine. Addresses are in bytes.
 //! `world_runs` depends on it.
 #![tactic(auto)]

@@ -14,7 +14,7 @@ ghost use Rattle.world.specs.Cpus.{views_of};
 ghost use Rattle.world.specs.Granules.{cells_of};
 ghost use Rattle.world.specs.Lent.{cells_at};
 ghost use Rattle.world.specs.Recorded.{MakesTable};
-ghost use Rattle.world.specs.Stepped.{MakesStep};
+ghost use Rattle.world.specs.Stepped.{IsAnswered, MakesStep};
 
 use crate::cells::Cells;
 use crate::cpus::Cpus;
@@ -38,6 +38,8 @@ fn step_on<H: Held>(
     requires settled { IsTrue (is_settled config.now (call_of command.now) (place_of place.old) (H.cells held.old)) }
     ensures same { granules_held (H.cells held.new) ≡ granules_held (H.cells held.old) }
     ensures ok { IfOk result (λ reply. LocalStep config.now cpu command.now reply
+        (hold_of (H.cells held.old) (side_of side.old) (place_of place.old)) (hold_of (H.cells held.new) (side_of side.new) (place_of place.new))) }
+    ensures answered { IfOk result (λ reply. IsAnswered config.now cpu command.now reply
         (hold_of (H.cells held.old) (side_of side.old) (place_of place.old)) (hold_of (H.cells held.new) (side_of side.new) (place_of place.new))) }
     ensures err { OnErr result (hold_of (H.cells held.new) (side_of side.new) (place_of place.new)
         ≡ hold_of (H.cells held.old) (side_of side.old) (place_of place.old)) }

@@ -20,6 +20,7 @@ impl World {
     ghost use Rattle.world.specs.Next.{DoesPlanned, go_report};
     ghost use Rattle.world.specs.Recorded.{Records, IsShort, event_room, commit_room};
     ghost use Rattle.world.specs.Told.{report_of};
+    ghost use Rattle.world.specs.TurnedWorld.{turned_world};
     ghost use Rattle.world.specs.World.{world_of, waits_of};
 
     /// One turn of a CPU, which does as it is told and reports that. Where memory is refused nothing changed, and turns go on.
@@ -31,6 +32,7 @@ impl World {
         ensures planned { IfOk result (λ turned. will ≡ Go → IsDeciding (world_of self.old) cpu
             → DoesPlanned (world_of self.old) cpu (report_of turned) (world_of self.new)) }
         ensures exact { IfOk result (λ turned. will ≡ Go → report_of turned ≡ go_report (world_of self.old) cpu) }
+        ensures world { IfOk result (λ turned. world_of self.new ≡ turned_world (world_of self.old) cpu will) }
         ensures err { OnErr result (world_of self.new ≡ world_of self.old) }
         ensures err_waits { OnErr result (waits_of self.new ≡ waits_of self.old) }
         ensures only_go { OnErr result (will ≡ Go) }

@@ -1,7 +1,7 @@
 -- No chain of waits comes back to its start, and in a stuck world each ends at a CPU that was stopped.
 use Rattle.std.proofs.Common.{◌≡◌, ℕ, zero, suc, ◌+◌, ◌*◌, ◌<◌, ◌≤◌, List, [], ◌∷◌, ◌⊎◌, inl, inr, refl, sym, subst, arith, lt_irrefl}
 use Rattle.std.specs.Prelude.{Contains}
-use Rattle.rmm_spec.specs.World.{World, Phase, Between, Deciding, Decided, GivenUp, Stopped, IsGoing, IsShapedWorld}
+use Rattle.rmm_spec.specs.World.{World, Phase, Deciding, Decided, GivenUp, Stopped, IsGoing, IsShapedWorld}
 use Rattle.rmm_spec.specs.declared.turn.Will.TheVariants.{Go}
 use Rattle.rmm_spec.specs.Waits.{IsRising, WaitsFor, IsChain, HasNoCircle, IsIdle, HasReturnedAll, AreRising, WaitsBy, IsStuck, LeadsToStopped, WaitsBehindStopped}
 use Rattle.world_laws.proofs.Members.{Contains-nil}
@@ -45,11 +45,10 @@ idle_holder w freed cpu granule holds (inl ended) = by (w.phase cpu) refl
     empty none = Contains-nil granule (subst (λ held. Contains held granule) none holds)
 
     by : (p : Phase) → w.phase cpu ≡ p → p ≡ Stopped
-    by (Between number) is = absurd (empty (subst (λ p. HoldsIn p (w.taken cpu)) is (freed.each cpu)))
     by (Deciding number command learnt) is = absurd (ended (subst IsGoing (sym is) tt))
     by (Decided number command given) is = absurd (ended (subst IsGoing (sym is) tt))
-    by GivenUp is = absurd (empty (subst (λ p. HoldsIn p (w.taken cpu)) is (freed.each cpu)))
     by Stopped is = refl
+    by _ is = absurd (empty (subst (λ p. HoldsIn p (w.taken cpu)) is (freed.each cpu)))
 
 module _ (w : World) (shaped : IsShapedWorld w) (locked : IsLocked w) (freed : HoldByPhase w) (wants : ℕ → ℕ → Type 0) (rising : AreRising w wants)
     (stuck : IsStuck w wants) where
@@ -88,11 +87,9 @@ module _ (w : World) (shaped : IsShapedWorld w) (locked : IsLocked w) (freed : H
   next_on other granule holds (inr idle) = inl (idle_holder w freed other granule holds idle)
 
   ended_by : ((cpu : ℕ) → w.phase cpu ≡ Stopped → ⊥) → (cpu : ℕ) → (IsGoing (w.phase cpu) → ⊥) → (p : Phase) → w.phase cpu ≡ p → w.phase cpu ≡ GivenUp
-  ended_by none cpu ended (Between number) is = absurd (ended (subst IsGoing (sym is) tt))
-  ended_by none cpu ended (Deciding number command learnt) is = absurd (ended (subst IsGoing (sym is) tt))
-  ended_by none cpu ended (Decided number command given) is = absurd (ended (subst IsGoing (sym is) tt))
   ended_by none cpu ended GivenUp is = is
   ended_by none cpu ended Stopped is = absurd (none cpu is)
+  ended_by none cpu ended _ is = absurd (ended (subst IsGoing (sym is) tt))
 
   without : ((cpu : ℕ) → w.phase cpu ≡ Stopped → ⊥) → (cpu : ℕ) → ((other : ℕ) × WaitsBy w wants cpu other) ⊎ IsIdle w cpu Go
       → (w.phase cpu ≡ GivenUp) ⊎ HasReturnedAll w cpu

@@ -14,10 +14,8 @@ use Rattle.world_laws.proofs.Lists.{put_elim}
 -- what a phase says of the locks that its CPU holds
 abbrev pub HoldsIn : Phase → List ℕ → Type 0
 HoldsIn (Between number) taken = taken ≡ []
-HoldsIn (Deciding number command learnt) taken = Unit {0}
-HoldsIn (Decided number command given) taken = Unit {0}
 HoldsIn GivenUp taken = taken ≡ []
-HoldsIn Stopped taken = Unit {0}
+HoldsIn _ taken = Unit {0}
 
 -- each CPU holds what its phase says
 pub record HoldByPhase (w : World) : Type 0 where
@@ -47,22 +45,18 @@ each-deciding taken phase cpu number command learnt held deciding each c =
 
 -- a go frees in an open call alone
 freed-in : (w : World) (cpu granule : ℕ) (learnt : Option ℕ) (taken : List ℕ) (p : Phase) → MayFree w cpu granule p → HoldsIn (phase_learnt learnt p) taken
-freed-in w cpu granule learnt taken (Between number) may = absurd may
 freed-in w cpu granule learnt taken (Deciding number command earlier) may = tt
 freed-in w cpu granule learnt taken (Decided number command given) may = tt
-freed-in w cpu granule learnt taken GivenUp may = absurd may
-freed-in w cpu granule learnt taken Stopped may = absurd may
+freed-in w cpu granule learnt taken _ may = absurd may
 
 willed-freed : (w : World) (will : Will) (cpu granule : ℕ) (learnt : Option ℕ) → IsWilled w will (move.Free cpu granule learnt) → MayFree w cpu granule (w.phase cpu)
 willed-freed w told.Go cpu granule learnt willed = willed
-willed-freed w told.GiveUp cpu granule learnt willed = absurd willed
-willed-freed w told.Stop cpu granule learnt willed = absurd willed
+willed-freed w _ cpu granule learnt willed = absurd willed
 
 -- and returns once nothing is held
 willed-returned : (w : World) (will : Will) (cpu : ℕ) → IsWilled w will (move.Return cpu) → w.taken cpu ≡ []
 willed-returned w told.Go cpu willed = willed
-willed-returned w told.GiveUp cpu willed = absurd willed
-willed-returned w told.Stop cpu willed = absurd willed
+willed-returned w _ cpu willed = absurd willed
 
 HoldByPhase-Moves : (old : World) (will : Will) (m : Move) (new : World) → IsWilled old will m → Moves old m new → HoldByPhase old → HoldByPhase new
 HoldByPhase-Moves old will (move.Call cpu) new willed moves was = subst HoldByPhase (sym moves.is_new) (record {

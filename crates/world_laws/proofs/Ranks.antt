@@ -10,7 +10,7 @@ use Rattle.rmm_spec.specs.HistoryText.{Config}
 use Rattle.rmm_spec.specs.declared.call.Call.{Call}
 use Rattle.rmm_spec.specs.declared.call.Call.TheVariants as call
 use Rattle.rmm_spec.specs.declared.entry.Entry.{Entry}
-use Rattle.rmm_spec.specs.declared.entry.Entry.TheVariants.{Unassigned, Assigned, Table, UnassignedNs, AssignedNs}
+use Rattle.rmm_spec.specs.declared.entry.Entry.TheVariants.{Unassigned, Assigned, Table}
 use Rattle.rmm_spec.specs.declared.tag.Tag.{Tag}
 use Rattle.rmm_spec.specs.declared.tag.Tag.TheVariants as tag
 use Rattle.rmm_spec.specs.State.{RecRecord}
@@ -19,7 +19,7 @@ use Rattle.rmm_spec.specs.Table.{TableRecord}
 use Rattle.rmm_spec.specs.Rows.{Needed}
 use Rattle.rmm_spec.specs.Step.Terms.{named}
 use Rattle.rmm_spec.specs.Call.{call_of}
-use Rattle.rmm_spec.specs.Cell.{Cell, Undelegated, Delegated, Rd, Rec, RecAux, Data, Rtt, tag_of, table_in, is_data, is_aux, realms_of, recs_of, tables_of}
+use Rattle.rmm_spec.specs.Cell.{Cell, Undelegated, Rd, Rec, RecAux, Data, Rtt, tag_of, table_in, is_data, is_aux, realms_of, recs_of, tables_of}
 use Rattle.rmm_spec.specs.Sound.{has_aux}
 use Rattle.rmm_spec.specs.Shape.{Side, CpuPlace, Outside, Inside, IsWellShaped}
 use Rattle.rmm_spec.specs.Local.{HeldCell}
@@ -33,13 +33,10 @@ use Rattle.world_laws.proofs.Locked.{IsLocked}
 
 -- a granule that another one names as its part: a table, a page or an auxiliary granule
 abbrev is_part_tag : Tag → Bool
-is_part_tag tag.Undelegated = false
-is_part_tag tag.Delegated = false
-is_part_tag tag.Rd = false
-is_part_tag tag.Rec = false
 is_part_tag tag.RecAux = true
 is_part_tag tag.Data = true
 is_part_tag tag.Rtt = true
+is_part_tag _ = false
 
 abbrev AreWholes : List Needed → Type 0
 AreWholes names = list_all (λ (n : Needed). not (is_part_tag n.tag)) names ≡ true
@@ -80,30 +77,15 @@ pub data PartKind (cells : ℕ → Cell) (by : Cell) (part : ℕ) : Type 0 where
 
 is_rtt : (c : Cell) (t : TableRecord) → table_in c ≡ Some t → c ≡ Rtt t
 is_rtt (Rtt u) t is = ap Rtt (let same : u ≡ t = cc in same)
-is_rtt Undelegated t is = absurd cc
-is_rtt Delegated t is = absurd cc
-is_rtt (Rd realm) t is = absurd cc
-is_rtt (Rec rec) t is = absurd cc
-is_rtt RecAux t is = absurd cc
-is_rtt Data t is = absurd cc
+is_rtt _ t is = absurd cc
 
 is_data_cell : (c : Cell) → is_data c ≡ true → c ≡ Data
 is_data_cell Data is = refl
-is_data_cell (Rtt u) is = absurd (false≢true is)
-is_data_cell Undelegated is = absurd (false≢true is)
-is_data_cell Delegated is = absurd (false≢true is)
-is_data_cell (Rd realm) is = absurd (false≢true is)
-is_data_cell (Rec rec) is = absurd (false≢true is)
-is_data_cell RecAux is = absurd (false≢true is)
+is_data_cell _ is = absurd (false≢true is)
 
 is_aux_cell : (c : Cell) → is_aux c ≡ true → c ≡ RecAux
 is_aux_cell RecAux is = refl
-is_aux_cell (Rtt u) is = absurd (false≢true is)
-is_aux_cell Undelegated is = absurd (false≢true is)
-is_aux_cell Delegated is = absurd (false≢true is)
-is_aux_cell (Rd realm) is = absurd (false≢true is)
-is_aux_cell (Rec rec) is = absurd (false≢true is)
-is_aux_cell Data is = absurd (false≢true is)
+is_aux_cell _ is = absurd (false≢true is)
 
 -- a table's level is 3 at most
 level_within : (config : Config) (side : Side) (places : ℕ → CpuPlace) (cells : ℕ → Cell) → IsWellShaped config side places cells
@@ -142,12 +124,9 @@ part_kind config side places cells shaped g (Rtt table) part is names =
     by_entry i (Assigned ripas granule) at leads =
         page (is_data_cell (cells part) (ap (λ x. is_data (cells x)) (sym (eqb-true granule part leads)) ∙ shaped.data_granules.named g i granule table ripas of_table at))
     by_entry i (Unassigned ripas) at leads = absurd (false≢true leads)
-    by_entry i UnassignedNs at leads = absurd (false≢true leads)
-    by_entry i (AssignedNs granule) at leads = absurd (false≢true leads)
+    by_entry i _ at leads = absurd (false≢true leads)
 part_kind config side places cells shaped g Undelegated part is names = absurd (false≢true names)
-part_kind config side places cells shaped g Delegated part is names = absurd (false≢true names)
-part_kind config side places cells shaped g RecAux part is names = absurd (false≢true names)
-part_kind config side places cells shaped g Data part is names = absurd (false≢true names)
+part_kind config side places cells shaped g _ part is names = absurd (false≢true names)
 
 -- ---- ranks
 

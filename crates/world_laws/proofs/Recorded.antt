@@ -54,8 +54,7 @@ AtPhase (Between number) cpu journal events = AreBelow journal cpu number
 AtPhase (Deciding number command learnt) cpu journal events =
     AreBelow journal cpu number × ((place : ℕ) × IsCalled events place cpu number command)
 AtPhase (Decided number command given) cpu journal events = AreBelow journal cpu (suc number) × HasCommitted journal cpu number given
-AtPhase GivenUp cpu journal events = Unit {0}
-AtPhase Stopped cpu journal events = Unit {0}
+AtPhase _ cpu journal events = Unit {0}
 
 -- ---- more events
 
@@ -71,8 +70,7 @@ AtPhase-more (Between number) cpu journal events event was = was
 AtPhase-more (Deciding number command learnt) cpu journal events event was =
     (was.0, (was.1.0, slice_get-append events (event ∷ []) was.1.0 (Called cpu number command) was.1.1))
 AtPhase-more (Decided number command given) cpu journal events event was = was
-AtPhase-more GivenUp cpu journal events event was = tt
-AtPhase-more Stopped cpu journal events event was = tt
+AtPhase-more _ cpu journal events event was = tt
 
 -- a return is no call
 called-returned : (cpu number : ℕ) (command : Command) (other count : ℕ) (given : Reply) → Called cpu number command ≡ Returned other count given → ⊥
@@ -334,10 +332,7 @@ phases-put phase cpu p journal events here others other =
 AtPhase-learnt : (learnt : Option ℕ) (p : Phase) (cpu : ℕ) (journal : List Commitment) (events : List Event)
     → AtPhase p cpu journal events → AtPhase (phase_learnt learnt p) cpu journal events
 AtPhase-learnt learnt (Between number) cpu journal events was = was
-AtPhase-learnt learnt (Deciding number command earlier) cpu journal events was = was
-AtPhase-learnt learnt (Decided number command given) cpu journal events was = was
-AtPhase-learnt learnt GivenUp cpu journal events was = was
-AtPhase-learnt learnt Stopped cpu journal events was = was
+AtPhase-learnt learnt _ cpu journal events was = was
 
 -- the phase that a CPU is known to be in
 AtPhase-known : (w : World) (cpu : ℕ) (p : Phase) → IsAccounted w → w.phase cpu ≡ p → AtPhase p cpu w.journal w.events

@@ -1,3 +1,4 @@
 pub mod Turning
 pub mod Scenarios
 pub mod Printing
+pub mod One

@@ -14,7 +14,7 @@ use Rattle.rmm_spec.specs.Scenario.{Scenario}
 use Rattle.rmm_spec.specs.World.{World, opening_world, history_of, certificate_of, line_for}
 use Rattle.run_texts.specs.RunText.{run_text}
 use Rattle.world.specs.Next.{StandsStill}
-use Rattle.world_runs.specs.Played.{program_of, Plays, GoesRound, IsPlayed, IsPrinted}
+use Rattle.world_runs.specs.Played.{program_of, Plays, GoesRound, IsPlayed, IsPrinted, played_world}
 use Rattle.world_runs.specs.Schedule.{ring}
 use Rattle.world_runs.proofs.Turning.{Plays-append}
 
@@ -47,20 +47,21 @@ IsPlayed-from scenario listed opened first w is_opened is_listed few plays same 
 
 -- the texts of what is played, and their verdict
 pub IsPrinted-from : (scenario : Scenario) (w : World) (history : History) (lines : List Line) (old new : List ℕ) (answer : Result Verdict AllocError)
-    → IsPlayed scenario w → IsLinearization (history_of w) (certificate_of w) → history ≡ history_of w → lines ≡ certificate_of w
+    → w ≡ played_world scenario → IsPlayed scenario w → IsLinearization (history_of w) (certificate_of w) → history ≡ history_of w → lines ≡ certificate_of w
     → IfOk answer (λ judged. new ≡ old ++ run_text history lines judged)
     → IfOk answer (λ judged. (judged ≡ Yes (length lines)) ↔ IsLinearization history lines)
     → IfOk answer (λ judged. (text : List ℕ) × (new ≡ old ++ text) × IsPrinted scenario judged text)
-IsPrinted-from scenario w history lines old new (Ok judged) played order is_history is_lines text valid =
+IsPrinted-from scenario w history lines old new (Ok judged) one played order is_history is_lines text valid =
     let same : IsLinearization history lines =
     subst (λ h. IsLinearization h lines) (sym is_history) (subst (λ ls. IsLinearization (history_of w) ls) (sym is_lines) order) in (
       run_text history lines judged,
       text,
       record {
-        world = w;
-        is_played = played;
-        is_yes = valid.1 same ∙ ap (λ ls. Yes (length ls)) is_lines ∙ ap Yes (length-map w.journal (line_for w.events));
-        is_text = λ i. run_text (is_history i) (is_lines i) judged;
+        is_played = subst (IsPlayed scenario) one played;
+        is_yes = valid.1 same ∙ ap (λ ls. Yes (length ls)) is_lines ∙ ap Yes (length-map w.journal (line_for w.events))
+            ∙ ap (λ (v : World). Yes (length v.journal)) one;
+        is_text = (λ i. run_text (is_history i) (is_lines i) judged)
+            ∙ ap (λ v. run_text (history_of v) (certificate_of v) judged) one;
       },
     )
-IsPrinted-from scenario w history lines old new (Err refused) played order is_history is_lines text valid = tt
+IsPrinted-from scenario w history lines old new (Err refused) one played order is_history is_lines text valid = tt

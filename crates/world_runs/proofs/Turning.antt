@@ -90,7 +90,7 @@ AreStill-turned old cpu report new still none exact turned =
     by other below false apart = still other (omega (arith, below, eqb-false other cpu apart))
 
 -- so many turns of the ring and one more
-ring-more : (cpus count : ℕ) → ring cpus (count + 1) ≡ ring cpus count ++ record { cpu = count % cpus; will = told.Go } ∷ []
+pub ring-more : (cpus count : ℕ) → ring cpus (count + 1) ≡ ring cpus count ++ record { cpu = count % cpus; will = told.Go } ∷ []
 unfolding ring
 ring-more cpus count = ap (ring cpus) (sym (suc-eq-add-one count))
 

@@ -4,7 +4,7 @@ ghost use Rattle.std.specs.Prelude.{◌≡◌, ◌++◌, ℕ, List, IfOk, IfErr,
 ghost use Rattle.rmm_spec.specs.World.{opening_world};
 ghost use Rattle.run_texts.specs.declared.fault.RunFault.TheVariants.{NoMemory};
 ghost use Rattle.world.specs.World.{world_of};
-ghost use Rattle.world_runs.specs.Played.{program_of, IsPlayed, IsPrinted};
+ghost use Rattle.world_runs.specs.Played.{program_of, IsPlayed, IsPrinted, played_world};
 
 use crate::playing::{go_round, take_listed, up_to};
 use run_texts::{RunFault, Verdict, print_run};
@@ -44,7 +44,8 @@ fn print_played(
 
 // The world to which the turns lead.
 fn played(alloc: Global, scenario: &Scenario) -> Result<World, AllocError>
-    ensures { IfOk result (λ w. IsPlayed scenario.now (world_of w)) }
+    ensures played { IfOk result (λ w. IsPlayed scenario.now (world_of w)) }
+    ensures one { IfOk result (λ w. world_of w ≡ played_world scenario.now) }
 {
     let limit = scenario.limit();
     let listed = up_to(scenario.turns(), limit);

@@ -23,6 +23,8 @@ pub(crate) enum Class {
     FailingMark,
     Step,
     FailingStep,
+    Hit,
+    Gap,
 }
 
 impl Class {
@@ -47,6 +49,8 @@ impl Class {
             Class::FailingMark => b"mark failing",
             Class::Step => b"step",
             Class::FailingStep => b"step failing",
+            Class::Hit => b"hit",
+            Class::Gap => b"gap",
         }
     }
 }

@@ -22,8 +22,21 @@ pub(crate) enum Tag {
     Close,
     /// Shapes with a title.
     Group,
+    /// The title of shapes that are a link.
+    Title,
     GroupTitled,
     GroupEnd,
+    /// A bar that leads to its row, up to its own number, to that of the row, and to its shapes.
+    Bar,
+    BarRow,
+    LinkStart,
+    /// The beginning of a report's line, up to its number, and its end.
+    LineStart,
+    LineEnd,
+    /// What leads to a bar or to a row, up to its number.
+    ToBar,
+    ToRow,
+    LinkEnd,
 }
 
 impl Tag {
@@ -42,8 +55,17 @@ impl Tag {
             Tag::Quote => b"\"",
             Tag::Close => b"/>\n",
             Tag::Group => b"<g><title>",
+            Tag::Title => b"<title>",
             Tag::GroupTitled => b"</title>",
             Tag::GroupEnd => b"</g>\n",
+            Tag::Bar => b"<a id=\"b",
+            Tag::BarRow => b"\" href=\"#s",
+            Tag::LinkStart => b"\">",
+            Tag::LineStart => b"<span id=\"r",
+            Tag::LineEnd => b"</span>",
+            Tag::ToBar => b"<a href=\"#b",
+            Tag::ToRow => b"<a href=\"#s",
+            Tag::LinkEnd => b"</a>",
         }
     }
 }

@@ -14,6 +14,7 @@ pub(crate) enum Words {
     Of,
     OfTheHistory,
     ShownLines,
+    AndLines,
 }
 
 impl Words {
@@ -29,6 +30,7 @@ impl Words {
             Words::Of => b" of ",
             Words::OfTheHistory => b" of the history",
             Words::ShownLines => b"shown: lines ",
+            Words::AndLines => b" and ",
         }
     }
 }

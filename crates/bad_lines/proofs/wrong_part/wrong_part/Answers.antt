@@ -1,7 +1,7 @@
 use Rattle.std.proofs.Common.{◌≡◌, ◌+◌, length, false, true, refl, sym, subst, ◌∙◌, ap, add-one, arith}
 use Rattle.rmm_spec.specs.Text.{parts_of}
 use Rattle.bad_lines.specs.Wanted.{GoesOn}
-use Rattle.bad_lines.proofs.GoingOn.{all_read, ends_at, get-next, inside-next, possible_at, some_same, wanted_first, wanted_next}
+use Rattle.bad_lines.proofs.GoingOn.{all_read, ends_at, front_at, get-next, inside-next, possible_at, some_same, wanted_first, wanted_next}
 use Rattle.bad_lines.proofs.PlainParts.{length-parts_of, parts_of-part}
 use Rattle.bad_lines.proofs.wrong_part.wrong_part.Goals as goal
 
@@ -20,6 +20,7 @@ returns-in_default-after-clause-wrong c =
     let parts = parts_of c.args.line.now in
     record {
       within = c.loop-part.invariant.wanted.within;
+      front = front_at c.args.start c.loop-part.wanted parts c.loop-part.index c.loop-part.invariant.wanted;
       possible = λ part. possible_at c.args.start c.loop-part.wanted parts c.loop-part.index part c.loop-part.invariant.wanted;
       ends = ends_at c.args.start c.loop-part.wanted parts c.loop-part.index c.loop-part.invariant.wanted;
       here = (
@@ -58,6 +59,7 @@ returns-clause-wrong c =
     let read = all_read parts c.loop-part.index c.loop-part.invariant.wanted.within (c.loop-part.invariant.left ∙ c.in_default.ensures.over) in
     record {
       within = c.loop-part.invariant.wanted.within;
+      front = front_at c.args.start c.loop-part.wanted parts c.loop-part.index c.loop-part.invariant.wanted;
       possible = λ part. possible_at c.args.start c.loop-part.wanted parts c.loop-part.index part c.loop-part.invariant.wanted;
       ends = ends_at c.args.start c.loop-part.wanted parts c.loop-part.index c.loop-part.invariant.wanted;
       here = (read.0, λ ends. (let bad : false ≡ true = c.if-may_end.ensures.1 ends in absurd (cc)));

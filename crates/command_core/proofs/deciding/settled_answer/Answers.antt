@@ -10,4 +10,4 @@ use Rattle.command_core.proofs.deciding.settled_answer.Goals as goal
 pub returns-clause-makes : goal.returns-clause-makes
 returns-clause-makes g c =
     let hold = hold_of (g.H.Held.cells c.args.held.now) (side_or_unlisted (option_map side_of (option_copied c.args.side))) (place_of c.args.place.now) in
-    subst (CanMakeAnswer hold) (sym c.made_answer.ensures) (answer-makes c.args.config.now hold c.rows_answer-answer.result c.granules.ensures.limits.most_granules)
+    subst (CanMakeAnswer hold) (sym c.made_answer.ensures) (answer-makes c.args.config.now hold c.rows_answer-answer.result c.granules.ensures.most)

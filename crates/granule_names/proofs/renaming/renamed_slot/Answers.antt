@@ -1,4 +1,6 @@
-use Rattle.std.proofs.Common.{sym, subst, ◌∙◌, ◌≤◌, length, arith}
+use Rattle.std.proofs.Common.{sym, subst, ◌≤◌, length, arith}
+use Rattle.rmm_spec.specs.declared.version.Version.TheVariants.{Large}
+use Rattle.rmm_spec.specs.HistoryText.{granule_limit}
 use Rattle.recorded_events.specs.Events.{IsMoment}
 use Rattle.recorded_events.specs.Seen.{moment_seen}
 use Rattle.granule_names.proofs.WordLaws.{IsMoment-renamed}
@@ -9,5 +11,5 @@ returns-clause-happened c = λ is. record {
   cpu = is.cpu;
   moment = subst IsMoment (sym c.renamed_moment-moment.ensures.seen)
       (IsMoment-renamed c.args.names.now c.args.granules c.args.last (moment_seen c.args.slot.moment)
-      (let few : length c.args.names.now ≤ 4096 = omega (arith, c.len-few.ensures.len, c.len-few.ensures.most) in few) c.requires.granules is.moment);
+      (let few : length c.args.names.now ≤ granule_limit Large = omega (arith, c.len-few.ensures.len, c.len-few.ensures.most) in few) c.requires.granules is.moment);
 }

@@ -32,4 +32,7 @@ returns-clause-read c = λ front of_text.
     let room : c.args.table.now.count < 2000000 = omega (arith, c.count.ensures.count, c.count.ensures.most, c.if-count-eq-MOST_EVENTS.false) in
     subst (IsTableOf (front ++ (c.args.bytes.now ++ 10 ∷ []))) (sym c.in_ok-put.ensures.count)
     (IsTableOf-put front c.args.bytes.now c.args.table.now (line_seen c.in-Some.line) of_text c.in-Some.ensures.found room c.put.new.self.slots
-    (not_seen_known happened_seen c.slot.result _ c.slot.ensures.seen (sym c.is_some.ensures ∙ c.if-is_some.false)) c.in_ok-put.ensures.ok)
+    c.in_ok-put.ensures.ok)
+
+pub put-requires-clause-free : goal.put-requires-clause-free
+put-requires-clause-free c = not_seen_known happened_seen c.slot.result _ c.slot.ensures.seen (sym c.is_some.ensures ∙ c.if-is_some.false)

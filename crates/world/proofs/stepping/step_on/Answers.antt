@@ -1,8 +1,12 @@
-use Rattle.std.proofs.Common.{sym, ◌∙◌}
+use Rattle.std.proofs.Common.{sym, ap, ◌∙◌}
+use Rattle.rmm_spec.specs.Ownership.{is_accepted}
+use Rattle.shape_laws.specs.Whole.{side_changed}
 use Rattle.command_core.specs.Changed.{hold_of, hold_changed}
-use Rattle.command_core.specs.Seen.{place_of}
+use Rattle.command_core.specs.Decided.{answer_on}
+use Rattle.command_core.specs.Seen.{place_of, known_cell}
 use Rattle.command_core.specs.Sides.{side_of}
 use Rattle.certified_laws.proofs.Accepted.{refused-is_local}
+use Rattle.world.proofs.Commits.{refused-unchanged}
 use Rattle.world.proofs.stepping.step_on.Goals as goal
 
 -- what refuses is a local step that changes nothing
@@ -22,4 +26,25 @@ returns-in_default-clause-only g c =
       can = c.decide-reply.ensures.can;
       accepts = sym c.is_accepted.ensures ∙ c.if-not-is_accepted.false;
       is_table = c.in_default.ensures.only;
+    }
+
+-- a refusal leaves what is held as it was
+pub returns-then-not-is_accepted-clause-answered : goal.returns-then-not-is_accepted-clause-answered
+returns-then-not-is_accepted-clause-answered g c =
+    let hold = hold_of (g.H.Held.cells c.args.held.now) (side_of c.args.side.now) (place_of c.args.place.now) in
+    let given = c.decide-reply.ensures.given in
+    record {
+      is_given = given;
+      is_changed = sym (refused-unchanged hold (answer_on c.args.config.now c.args.cpu c.args.command.now hold)
+          (ap is_accepted (sym given) ∙ sym c.is_accepted.ensures ∙ c.if-not-is_accepted.true));
+    }
+
+pub returns-clause-answered : goal.returns-clause-answered
+returns-clause-answered g c =
+    let hold = hold_of (g.H.Held.cells c.args.held.now) (side_of c.args.side.now) (place_of c.args.place.now) in
+    record {
+      is_given = c.decide-reply.ensures.given;
+      is_changed = (λ i. hold_of (c.apply.ensures.cells i)
+          ((c.apply.ensures.side ∙ ap (λ side. side_changed (known_cell hold.cells) side c.decide-reply.result.1) c.room.ensures.kept) i)
+          (c.apply.ensures.place i)) ∙ ap (hold_changed hold) c.decide-reply.ensures.change;
     }

@@ -6,6 +6,7 @@ use Rattle.rmm_spec.specs.HistoryText.{Config}
 use Rattle.rmm_spec.specs.World.{World}
 use Rattle.world.specs.World.{world_of}
 use Rattle.world_runs.specs.Played.{program_of, GoesRound}
+use Rattle.world_runs.proofs.One.{one-world}
 use Rattle.world_runs.proofs.Printing.{IsPlayed-from, config-opening}
 use Rattle.world_runs.proofs.run.played.Goals as goal
 
@@ -28,8 +29,10 @@ returns c =
     let first = world_of c.take_listed.new.world in
     let w = world_of c.go_round.new.world in
     let most = c.limit-limit.ensures.most in
+    let played =
     IsPlayed-from scenario listed (world_of c.in_ok-world.world) first w c.in_ok-world.ensures
     (c.up_to-listed.ensures.first ∙ (λ i. take (most i) (c.turns.ensures.turns i)))
     (subst (λ limit. length listed ≤ limit) most c.up_to-listed.ensures.few)
     c.in_ok-take_listed.ensures.played c.in_ok-take_listed.ensures.config
-    (subst (λ limit. GoesRound first (limit - length listed) w) most c.in_ok-go_round.ensures)
+    (subst (λ limit. GoesRound first (limit - length listed) w) most c.in_ok-go_round.ensures) in
+    record { played = played; one = one-world scenario w c.turns.ensures.limits.config.some_cpus played }

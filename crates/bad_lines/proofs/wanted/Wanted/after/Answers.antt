@@ -1,5 +1,8 @@
 use Rattle.bad_lines.proofs.wanted.Wanted.after.Goals as goal
 
+pub returns-in-Format-clause-only : goal.returns-in-Format-clause-only
+returns-in-Format-clause-only c = rw c.in-Format.is c.format.ensures.only
+
 pub returns-in-EventLetter-clause-only : goal.returns-in-EventLetter-clause-only
 returns-in-EventLetter-clause-only c = rw c.in-EventLetter.is c.event_letter.ensures.only
 

@@ -9,5 +9,6 @@ returns-clause-app c =
     let named = ap app_of_fields c.about.ensures ∙ ap app_of_fields c.version.ensures
     ∙ ap (λ (a : App). let b : App = record a { top = record a.top { has_version = true } } in b) c.new.ensures.app in
     let with_limit = c.in_ok-arg.ensures.shape c.limit.ensures.local ∙ ap₂ with_rule named c.limit.ensures.rule in
-    let with_explain = c.in_ok-arg-2.ensures.shape c.explain.ensures.local ∙ ap₂ with_rule with_limit c.explain.ensures.rule in
-    IfOk-weaker c.arg-3.result _ _ (λ command h. h.shape c.history.ensures.local ∙ ap₂ with_rule with_explain c.history.ensures.rule) c.arg-3.ensures
+    let with_explain = c.in_ok-arg-2.ensures.shape c.flag_named-explain.ensures.local ∙ ap₂ with_rule with_limit c.flag_named-explain.ensures.rule in
+    let with_json = c.in_ok-arg-3.ensures.shape c.flag_named-json.ensures.local ∙ ap₂ with_rule with_explain c.flag_named-json.ensures.rule in
+    IfOk-weaker c.arg-4.result _ _ (λ command h. h.shape c.history.ensures.local ∙ ap₂ with_rule with_json c.history.ensures.rule) c.arg-4.ensures

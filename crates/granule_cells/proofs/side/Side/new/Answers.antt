@@ -1,7 +1,7 @@
-use Rattle.std.proofs.Common.{◌≡◌, None, replicate, rules, ap, ◌∙◌}
+use Rattle.std.proofs.Common.{◌≡◌, [], None, replicate, rules, ap, ◌∙◌}
 use Rattle.std.specs.Prelude.{slice_get}
 use Rattle.granule_cells.specs.Sides.{side_of, listed_at, counted_at}
-use Rattle.granule_cells.proofs.SideTable.{listed_at-replicate, counted_at-replicate}
+use Rattle.granule_cells.proofs.SideTable.{listed_at-replicate, counted_at-none}
 use Rattle.granule_cells.proofs.side.Side.new.Goals as goal
 
 pub returns-clause-unused : goal.returns-clause-unused
@@ -13,5 +13,5 @@ returns-clause-unused c =
 pub returns-clause-none : goal.returns-clause-none
 unfolding side_of
 returns-clause-none c =
-    let items : c.in_ok-rec_counts.rec_counts.items ≡ replicate 4096 0 = c.in_ok-rec_counts.ensures.items_if_clones_equal (λ a same. same) in
-    λ rd. ap (λ counts. counted_at counts rd) items ∙ counted_at-replicate 4096 rd
+    let items : c.in_ok-rec_counts.rec_counts.items ≡ [] = c.in_ok-rec_counts.ensures.items in
+    λ rd. ap (λ counts. counted_at counts rd) items ∙ counted_at-none rd

@@ -1,7 +1,9 @@
-use Rattle.std.proofs.Common.{◌≡◌, ◌≤◌, ◌++◌, ◌∷◌, [], length, false, sym, ap, ◌∙◌, arith, nat_eq}
+use Rattle.std.proofs.Common.{◌≡◌, ◌≤◌, length, false, sym, ap, ◌∙◌, arith, nat_eq}
 use Rattle.std.specs.Prelude.{is_some}
 use Rattle.std.specs.HashMap.{get}
 use Rattle.std.proofs.lemmas.List.{length_push}
+use Rattle.rmm_spec.specs.declared.version.Version.TheVariants.{Large}
+use Rattle.rmm_spec.specs.HistoryText.{granule_limit}
 use Rattle.granule_names.specs.Names.{number_in}
 use Rattle.granule_names.proofs.NameLaws.{none_number, numbers-push}
 use Rattle.granule_names.proofs.names.Names.take.Goals as goal
@@ -12,7 +14,7 @@ invariant_of-self-2 c =
     let address = c.args.address in
     let unnamed : is_some (number_in names address) ≡ false =
     ap (λ ns. is_some (number_in ns address)) c.self.view_is ∙ ap is_some (sym c.number.ensures) ∙ sym c.is_some.ensures ∙ c.if-is_some.false in
-    let longer : length c.enter.new.addresses.items ≤ 4096 =
+    let longer : length c.enter.new.addresses.items ≤ granule_limit Large =
     omega (
       arith,
       ap length c.in_ok-enter.ensures.ok,

@@ -5,25 +5,19 @@ use Rattle.granule_cells.specs.declared.cell.Cell.{Cell}
 use Rattle.granule_cells.specs.declared.cell.Cell.TheVariants.{Rec}
 use Rattle.granule_cells.specs.Seen.{cell_of}
 use Rattle.machine_cells.specs.Whole.{cells_of}
-use Rattle.machine_cells.proofs.Kept.{place_within}
 use Rattle.machine_cells.proofs.OneChanged.{outside-same, set-at, not_rec-same, rec-read}
 use Rattle.machine_cells.proofs.cell_list.CellList.change_rec.Goals as goal
 
-pub returns-in_default-place_of-clause-cells : goal.returns-in_default-place_of-clause-cells
-returns-in_default-place_of-clause-cells c =
-    rw c.in-Some.is (outside-same c.args.self.now c.in-Some.field-0.rec (cell_with_rec c.in-Some.field-0.update) refl c.in_default-place_of.ensures)
-
-pub index_mut-requires : goal.index_mut-requires
-index_mut-requires c =
-    let list = c.args.self.now in
-    omega (arith, c.in-Some-place_of.ensures.1, list.each, place_within list.config.granules c.in-Some.field-0.rec c.in-Some-place_of.ensures.0)
+pub returns-in_default-place-clause-cells : goal.returns-in_default-place-clause-cells
+returns-in_default-place-clause-cells c =
+    rw c.in-Some.is (outside-same c.args.self.now c.in-Some.field-0.rec (cell_with_rec c.in-Some.field-0.update) refl c.in_default-place.ensures.none)
 
 pub update-requires : goal.update-requires
 update-requires c =
     let list = c.args.self.now in
     let can = rw c.in-Some.is at c.requires in
-    can _ (rec-read list c.in-Some.field-0.rec c.in-Some-place_of.place c.index_mut.result.now c.in-Rec.record
-    c.in-Some-place_of.ensures.0 c.in-Some-place_of.ensures.1 c.index_mut.ensures.value c.in-Rec.is)
+    can _ (rec-read list c.in-Some.field-0.rec c.in-Some-place.place c.index_mut.result.now c.in-Rec.record
+    c.in-Some-place.ensures.some c.index_mut.ensures.value c.in-Rec.is)
 
 pub returns-in-Rec-clause-cells : goal.returns-in-Rec-clause-cells
 unfolding cells_of
@@ -31,8 +25,8 @@ returns-in-Rec-clause-cells c =
     let list = c.args.self.now in
     let update = c.in-Some.field-0.update in
     rw c.in-Some.is
-    (set-at list c.in-Some.field-0.rec c.in-Some-place_of.place c.index_mut.result.now (Rec c.update.new.self) (cell_with_rec update)
-    c.in-Some-place_of.ensures.0 c.in-Some-place_of.ensures.1 c.index_mut.ensures.value
+    (set-at list c.in-Some.field-0.rec c.in-Some-place.place c.index_mut.result.now (Rec c.update.new.self) (cell_with_rec update)
+    c.in-Some-place.ensures.some c.index_mut.ensures.value
     (ap spec.Rec c.update.ensures ∙ ap (λ (x : Cell). cell_with_rec update (cell_of x)) (sym c.in-Rec.is)))
 
 pub returns-in_default-index_mut : goal.returns-in_default-index_mut
@@ -43,7 +37,7 @@ returns-in_default-index_mut c =
     record {
       size = refl;
       cells = rw c.in-Some.is
-          (set-at list c.in-Some.field-0.rec c.in-Some-place_of.place c.index_mut.result.now c.index_mut.result.now (cell_with_rec update)
-          c.in-Some-place_of.ensures.0 c.in-Some-place_of.ensures.1 c.index_mut.ensures.value
+          (set-at list c.in-Some.field-0.rec c.in-Some-place.place c.index_mut.result.now c.index_mut.result.now (cell_with_rec update)
+          c.in-Some-place.ensures.some c.index_mut.ensures.value
           (sym (not_rec-same c.index_mut.result.now update c.in_default-index_mut.not-Rec)));
     }

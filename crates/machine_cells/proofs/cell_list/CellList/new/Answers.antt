@@ -1,7 +1,8 @@
 use Rattle.machine_cells.specs.Whole.{cells_of}
+use Rattle.granule_places.specs.Placed.{place_in}
 use Rattle.machine_cells.proofs.Opening.{cells-new}
 use Rattle.machine_cells.proofs.cell_list.CellList.new.Goals as goal
 
 pub returns-clause-cells : goal.returns-clause-cells
 unfolding cells_of
-returns-clause-cells c = cells-new c.args.config.granules c.loop.counter c.loop.cells.items c.loop.invariant
+returns-clause-cells c = cells-new c.args.config.granules c.loop.counter (place_in c.in_ok-places.places) c.loop.cells.items c.loop.invariant.cells

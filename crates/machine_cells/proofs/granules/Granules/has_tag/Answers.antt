@@ -1,7 +1,6 @@
 use Rattle.std.proofs.Common.{sym, refl}
-use Rattle.rmm_spec.specs.Flat.{flat_state}
 use Rattle.machine_cells.specs.Whole.{cells_of, state_in, config_of}
-use Rattle.machine_cells.proofs.OneCell.{has_tag-read, has_tag-none}
+use Rattle.machine_cells.proofs.OneCell.{has_tag-read}
 use Rattle.machine_cells.proofs.granules.Granules.has_tag.Goals as goal
 
 pub returns-in-Some : goal.returns-in-Some
@@ -9,8 +8,4 @@ unfolding state_in
 returns-in-Some c =
     let g = c.args.self.now in
     rw (c.eq.ensures, c.tag.ensures, c.in-Some.ensures.cell)
-    (has_tag-read (config_of g) (cells_of g.list) c.args.address _ c.args.tag (sym c.in-Some.ensures.there) refl)
-
-pub returns-in-None : goal.returns-in-None
-unfolding state_in flat_state
-returns-in-None c = has_tag-none (state_in c.args.self.now) c.args.address c.args.tag (sym c.in-None.ensures.there)
+    (has_tag-read (config_of g) (cells_of g.list) c.args.address _ c.args.tag c.in-Some.ensures.there refl)

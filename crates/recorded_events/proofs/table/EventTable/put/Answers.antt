@@ -1,29 +1,32 @@
-use Rattle.std.proofs.Common.{◌+◌, ◌++◌, set, Some, ◌∙◌, ap, arith}
+use Rattle.std.proofs.Common.{◌+◌, length, ◌≤◌, set, sym, ap, subst}
 use Rattle.recorded_events.specs.Seen.{moment_seen}
-use Rattle.recorded_events.specs.Slots.{moment_words}
-use Rattle.recorded_events.proofs.SlotLaws.{IsStored, HasFewWords-moment, IsPut-stored, IsHeld-stored}
+use Rattle.recorded_events.specs.Slots.{moment_words, IsPlaced}
+use Rattle.recorded_events.proofs.SlotLaws.{IsStored, HasFewWords-moment, moment_words-few, IsPut-stored, IsHeld-stored}
 use Rattle.recorded_events.proofs.table.EventTable.put.Goals as goal
 
-is_stored : (c : goal.After-self-2-1) → IsStored c.self.inside.words.items c.keep-what.new.words.items c.self.inside.slots.items
+is_stored : (c : goal.After-self-2-1) → IsStored c.self.inside.words.items c.place-first.new.words.items c.self.inside.slots.items
     (set c.grow.new.slots.items c.args.stamp
-    (Some (record { line = c.self.inside.count + 2; first = c.len-first.result; cpu = c.args.cpu; what = c.keep-what.result })))
+    (record { line = c.self.inside.count + 2; first = c.place-first.result; cpu = c.args.cpu; what = c.what_of-what.result }))
     c.args.stamp (c.self.inside.count + 2) c.args.cpu (moment_seen c.args.moment)
 is_stored c = record {
-  first = c.len-first.result;
-  kept = c.keep-what.result;
-  is_kept = record {
-    appended = c.keep-what.ensures.appended ∙ ap (λ ws. ws ++ moment_words (moment_seen c.args.moment)) c.reserve.ensures.items;
-    is_kept = c.keep-what.ensures.is_kept;
-  };
-  is_first = omega (arith, c.len-first.ensures, c.reserve.ensures.len, c.self.inside.words.ok.0);
+  first = c.place-first.result;
+  kept = c.what_of-what.result;
+  is_kept = c.what_of-what.ensures;
+  is_placed = subst (λ ws. IsPlaced ws c.place-first.new.words.items (moment_words (moment_seen c.args.moment)) c.place-first.result) c.reserve.ensures.items
+      (subst (λ own. IsPlaced c.reserve.new.self.items c.place-first.new.words.items own c.place-first.result) c.words_of.ensures c.place-first.ensures);
   is_slots =
       ap (λ slots. set slots c.args.stamp
-      (Some (record { line = c.self.inside.count + 2; first = c.len-first.result; cpu = c.args.cpu; what = c.keep-what.result })))
+      (record { line = c.self.inside.count + 2; first = c.place-first.result; cpu = c.args.cpu; what = c.what_of-what.result }))
       c.in_ok-grow.ensures.ok;
+  free = rw (← c.self.view_is) at c.requires.free;
 }
 
-pub keep-what-requires-clause-few : goal.keep-what-requires-clause-few
-keep-what-requires-clause-few c = HasFewWords-moment (moment_seen c.args.moment) c.requires.moment
+pub place-first-requires-clause-few : goal.place-first-requires-clause-few
+place-first-requires-clause-few c =
+    subst (λ ws. length ws ≤ 10) (sym c.words_of.ensures) (moment_words-few (moment_seen c.args.moment) (HasFewWords-moment (moment_seen c.args.moment) c.requires.moment))
+
+pub what_of-what-requires : goal.what_of-what-requires
+what_of-what-requires c = HasFewWords-moment (moment_seen c.args.moment) c.requires.moment
 
 pub invariant_of-self-2 : goal.invariant_of-self-2
 invariant_of-self-2 c =

@@ -7,5 +7,6 @@ pub invariant_of-result-clause-owned : goal.invariant_of-result-clause-owned
 invariant_of-result-clause-owned c =
     let opens = c.in_ok-granules.ensures.opening in
     let config = c.args.config in
-    let size = c.count.ensures.is ∙ opening-count c.in_ok-granules.granules config opens in
-    subst₂ AreOwners (sym opens) (sym c.in_ok-owners.ensures) (owners-opening config c.count.result size)
+    let size = c.in_ok-owners.ensures.granules ∙ c.count.ensures.is ∙ opening-count c.in_ok-granules.granules config opens in
+    subst₂ (λ s. AreOwners s c.in_ok-owners.owners.places.granules) (sym opens) (sym c.in_ok-owners.ensures.none)
+    (owners-opening config c.in_ok-owners.owners.places.granules size)

@@ -1,6 +1,6 @@
 use Rattle.std.proofs.Common.{sym, subst}
 use Rattle.rmm_spec.specs.declared.change.Change.TheVariants.{Retagged}
-use Rattle.spec_machine.specs.Owners.{AreOwners}
+use Rattle.spec_machine.specs.Owners.{AreOwners, owners_of}
 use Rattle.spec_machine.proofs.Common.{sound_in, state_in, state_of}
 use Rattle.spec_machine.proofs.Ownership.{changed_owners}
 use Rattle.spec_machine.proofs.machine.Machine.retag.Goals as goal
@@ -12,6 +12,6 @@ invariant_of-self c =
     let m = a.self.now in
     record {
       shaped = c.retag.ensures.shaped;
-      owned = subst (λ s. AreOwners s m.owners.realms.items) (sym c.retag.ensures.state)
-          (changed_owners (state_in m.granules) m.owners.realms.items (sound_in m.granules m.shaped) m.owned (Retagged (record { granule = a.granule; tag = a.tag })) c.requires);
+      owned = subst (λ s. AreOwners s m.owners.places.granules (owners_of m.owners)) (sym c.retag.ensures.state)
+          (changed_owners (state_in m.granules) m.owners.places.granules (owners_of m.owners) (sound_in m.granules m.shaped) m.owned (Retagged (record { granule = a.granule; tag = a.tag })) c.requires);
     }

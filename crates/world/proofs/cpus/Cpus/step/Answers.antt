@@ -11,6 +11,7 @@ use Rattle.command_core.specs.Sides.{side_of}
 use Rattle.world.specs.Cpus.{views_of}
 use Rattle.world.specs.Granules.{cells_of}
 use Rattle.world.specs.Recorded.{MakesTable}
+use Rattle.world.specs.Stepped.{IsAnswered}
 use Rattle.world.specs.Lent.{lent_cells, cells_at, granules_held-lent}
 use Rattle.world.proofs.Lending.{put_all-given_back, put_all-lent}
 use Rattle.world.proofs.cpus.Cpus.step.Goals as goal
@@ -53,6 +54,7 @@ returns-clause-ok c =
     record {
       held = held;
       step = subst (λ (h : Hold). LocalStep c.args.config.now c.args.cpu c.args.command.now c.in-Ok.reply h held) start c.in-Ok.ensures.ok;
+      answered = subst (λ (h : Hold). IsAnswered c.args.config.now c.args.cpu c.args.command.now c.in-Ok.reply h held) start c.in-Ok.ensures.answered;
       has_cells = c.give_back.ensures.cells ∙ put_all-lent (lent_cells lent) cells (cells_of c.lend-lent.new.cells) kept;
       has_side = refl;
       has_views = c.set_place.ensures.views;

@@ -93,7 +93,7 @@ invariant_of-self-2-clause-kept c =
     (committed s c.args.cpu c.requires.cpu c.step.new.cells c.step.new.side c.step.new.self c.come_to.new.self c.reserve.new.self.items
     c.push_reserved.new.self.items c.config-config.result _ _ c.copied_command-command.result _ c.in-Ok-step.reply
     c.config-config.ensures (sym c.phase.ensures ∙ ap phase_in c.in-Deciding.is) c.copied_command-command.ensures c.in-Ok-step.ensures.ok c.come_to.ensures.views
-    c.reserve.ensures.items c.push_reserved.ensures.items).kept
+    c.reserve.ensures.items c.push_reserved.ensures.items).0.kept
 
 pub returns-clause-turned : goal.returns-clause-turned
 unfolding world_of world_from
@@ -102,7 +102,7 @@ returns-clause-turned c =
     (committed s c.args.cpu c.requires.cpu c.step.new.cells c.step.new.side c.step.new.self c.come_to.new.self c.reserve.new.self.items
     c.push_reserved.new.self.items c.config-config.result _ _ c.copied_command-command.result _ c.in-Ok-step.reply
     c.config-config.ensures (sym c.phase.ensures ∙ ap phase_in c.in-Deciding.is) c.copied_command-command.ensures c.in-Ok-step.ensures.ok c.come_to.ensures.views
-    c.reserve.ensures.items c.push_reserved.ensures.items).turned
+    c.reserve.ensures.items c.push_reserved.ensures.items).0.turned
 
 pub returns-clause-waits : goal.returns-clause-waits
 unfolding waits_of
@@ -111,3 +111,14 @@ returns-clause-waits c =
 
 pub returns-clause-exact : goal.returns-clause-exact
 returns-clause-exact c = next-report (world_of c.args.self.now) c.args.cpu Ready c.requires.ready
+
+pub returns-clause-does : goal.returns-clause-does
+unfolding world_of world_from
+returns-clause-does c =
+    let s = c.args.self.now in (
+      refl,
+      (committed s c.args.cpu c.requires.cpu c.step.new.cells c.step.new.side c.step.new.self c.come_to.new.self c.reserve.new.self.items
+          c.push_reserved.new.self.items c.config-config.result _ _ c.copied_command-command.result _ c.in-Ok-step.reply
+          c.config-config.ensures (sym c.phase.ensures ∙ ap phase_in c.in-Deciding.is) c.copied_command-command.ensures c.in-Ok-step.ensures.ok c.come_to.ensures.views
+          c.reserve.ensures.items c.push_reserved.ensures.items).1,
+    )

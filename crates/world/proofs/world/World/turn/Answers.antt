@@ -1,13 +1,17 @@
-use Rattle.std.proofs.Common.{◌≡◌, Result, Ok, Err, Bool, true, false, sym, ap, ◌∙◌}
-use Rattle.std.specs.Prelude.{OnErr}
+use Rattle.std.proofs.Common.{◌≡◌, Result, Ok, Err, Bool, true, false, refl, sym, ap, ◌∙◌, subst}
+use Rattle.std.specs.Prelude.{ℕ, IfOk, OnErr}
 use Rattle.std.proofs.lemmas.Bool.{false≢true}
 use Rattle.std.proofs.lemmas.Result.{IfOk-weaker}
-use Rattle.rmm_spec.specs.World.{IsDeciding}
+use Rattle.rmm_spec.specs.World.{World, IsDeciding}
+use Rattle.rmm_spec.specs.Waits.{Turns}
 use Rattle.rmm_spec.specs.declared.turn.Will.{Will}
 use Rattle.rmm_spec.specs.declared.turn.Will.TheVariants.{Go, GiveUp, Stop}
 use Rattle.world.specs.Next.{DoesPlanned, go_report}
 use Rattle.world.specs.Told.{report_of}
+use Rattle.world.specs.declared.turned.Turned.{Turned}
 use Rattle.world.specs.World.{world_of}
+use Rattle.world.specs.TurnedWorld.{turned_world}
+use Rattle.world.proofs.TurnedWorld.{turned-world}
 use Rattle.world.proofs.world.World.turn.Goals as goal
 
 -- whether a CPU is told to do its next step
@@ -47,3 +51,35 @@ of_error (Err e) holds = holds
 
 pub returns-in-Go-clause-only_go : goal.returns-in-Go-clause-only_go
 returns-in-Go-clause-only_go c = of_error c.go.result c.in-Go.is
+
+-- a go that isn't refused memory makes the one world
+gone : {E : Type 0} (old new : World) (cpu : ℕ) (r : Result Turned E) → IfOk r (λ turned. Turns old cpu Go (report_of turned) new)
+    → IfOk r (λ turned. report_of turned ≡ go_report old cpu) → IfOk r (λ turned. IsDeciding old cpu → DoesPlanned old cpu (report_of turned) new)
+    → IfOk r (λ turned. new ≡ turned_world old cpu Go)
+gone old new cpu (Ok turned) turns exact planned = turned-world old cpu Go (report_of turned) new turns (λ is. exact) (λ is. planned)
+gone old new cpu (Err e) turns exact planned = tt
+
+pub returns-in-Go-clause-world : goal.returns-in-Go-clause-world
+returns-in-Go-clause-world c =
+    let old = world_of c.args.self.now in
+    let new = world_of c.go.new.self in
+    subst (λ will. IfOk c.go.result (λ turned. new ≡ turned_world old c.args.cpu will)) (sym c.in-Go.is)
+    (gone old new c.args.cpu c.go.result c.go.ensures.turned c.go.ensures.exact c.go.ensures.planned)
+
+-- no other will goes
+none_goes : (will : Will) → goes will ≡ false → {A : Type 0} → will ≡ Go → A
+none_goes will other is = absurd (false≢true (sym other ∙ ap goes is))
+
+pub returns-in-GiveUp-clause-world : goal.returns-in-GiveUp-clause-world
+returns-in-GiveUp-clause-world c =
+    let old = world_of c.args.self.now in
+    let new = world_of c.give_up.new.self in
+    subst (λ will. new ≡ turned_world old c.args.cpu will) (sym c.in-GiveUp.is)
+    (turned-world old c.args.cpu GiveUp (report_of c.give_up.result) new c.give_up.ensures.turned (none_goes GiveUp refl) (none_goes GiveUp refl))
+
+pub returns-in-Stop-clause-world : goal.returns-in-Stop-clause-world
+returns-in-Stop-clause-world c =
+    let old = world_of c.args.self.now in
+    let new = world_of c.stop.new.self in
+    subst (λ will. new ≡ turned_world old c.args.cpu will) (sym c.in-Stop.is)
+    (turned-world old c.args.cpu Stop (report_of c.stop.result) new c.stop.ensures.turned (none_goes Stop refl) (none_goes Stop refl))

@@ -1,0 +1,133 @@
+-- The first condition that fails, in a list of parts.
+use Rattle.std.proofs.Common.{◌≡◌, ℕ, zero, suc, ◌+◌, ◌≤◌, ◌++◌, ◌&&◌, Bool, true, false, List, [], ◌∷◌, map, length, take, Option, Some, None, inl, inr, refl, sym, ◌∙◌, ap, subst}
+use Rattle.std.specs.List.{slice_get}
+use Rattle.std.specs.Prelude.{MatchOption}
+use Rattle.std.proofs.lemmas.List.{take_all, take_more}
+use Rattle.std.proofs.lemmas.Option.{get_or_from_slice_get, none-some, same_Some, slice_get_within}
+use Rattle.rmm_spec.specs.declared.condition.Condition.{Condition}
+use Rattle.rmm_spec.specs.Rows.{Word, all_allowed}
+use Rattle.rmm_spec.specs.State.{State}
+use Rattle.conditions.specs.declared.asked.Asked.{Asked}
+use Rattle.conditions.specs.declared.test.Test.{Test}
+use Rattle.conditions.specs.declared.test.Test.TheVariants as test
+use Rattle.conditions.specs.Law.{AllPass, IsFirst, first_failing}
+use Rattle.conditions.specs.Lists.{word_condition}
+use Rattle.conditions.specs.Tests.{passes}
+
+-- in the first part
+pub IsFirst-left : (s : State) (front back : List Asked) (name : Condition) (test : Test) → IsFirst s front name test → IsFirst s (front ++ back) name test
+IsFirst-left s [] back name test first = absurd first
+IsFirst-left s (asked ∷ front) back name test (inl later) = inl (later.0, IsFirst-left s front back name test later.1)
+IsFirst-left s (asked ∷ front) back name test (inr here) = inr here
+
+-- in the second, where each of the first passes
+pub IsFirst-right : (s : State) (front back : List Asked) (name : Condition) (test : Test) → AllPass s front → IsFirst s back name test → IsFirst s (front ++ back) name test
+IsFirst-right s [] back name test pass first = first
+IsFirst-right s (asked ∷ front) back name test pass first = inl (pass.0, IsFirst-right s front back name test pass.1 first)
+
+pub AllPass-append : (s : State) (front back : List Asked) → AllPass s front → AllPass s back → AllPass s (front ++ back)
+AllPass-append s [] back pass also = also
+AllPass-append s (asked ∷ front) back pass also = (pass.0, AllPass-append s front back pass.1 also)
+
+-- where each passes none fails
+pub first_failing-none : (s : State) (list : List Asked) → AllPass s list → first_failing s list ≡ None
+first_failing-none s [] pass = refl
+first_failing-none s (asked ∷ list) pass = rw pass.0 (first_failing-none s list pass.1)
+
+-- the first that fails has its name
+pub first_failing-first : (s : State) (list : List Asked) (name : Condition) (test : Test) → IsFirst s list name test → first_failing s list ≡ Some name
+first_failing-first s [] name test first = absurd first
+first_failing-first s (asked ∷ list) name test (inl later) = rw later.0 (first_failing-first s list name test later.1)
+first_failing-first s (asked ∷ list) name test (inr here) = rw here.0 (ap (λ (a : Asked). Some a.condition) here.1)
+
+-- the first that fails does
+pub fails-first : (s : State) (list : List Asked) (name : Condition) (test : Test) → IsFirst s list name test → passes s test ≡ false
+fails-first s [] name test first = absurd first
+fails-first s (asked ∷ list) name test (inl later) = fails-first s list name test later.1
+fails-first s (asked ∷ list) name test (inr here) = ap (λ (a : Asked). passes s a.test) (sym here.1) ∙ here.0
+
+-- a word and the others
+if-word : (b others : Bool) → (b && others) ≡ true → (b ≡ true) × (others ≡ true)
+if-word true others all = (refl, all)
+if-word false others all = absurd cc
+
+-- allowed words pass
+pub AllPass-words : (s : State) (words : List Word) → all_allowed words ≡ true → AllPass s (map word_condition words)
+unfolding passes
+AllPass-words s [] allowed = tt
+AllPass-words s (word ∷ words) allowed =
+    let both = if-word word.allowed (all_allowed words) allowed in (both.0, AllPass-words s words both.1)
+
+-- of words that aren't allowed, one is the first
+abbrev pub HasFirst : State → List Asked → Type 0
+HasFirst s list = (name : Condition) × IsFirst s list name (test.Words false)
+
+HasFirst-next : (s : State) (condition : Condition) (b others : Bool) (rest : List Asked) → (b && others) ≡ false → (others ≡ false → HasFirst s rest)
+    → HasFirst s (record { condition = condition; test = test.Words b } ∷ rest)
+unfolding passes
+HasFirst-next s condition true others rest bad later = let found = later bad in (found.0, inl (refl, found.1))
+HasFirst-next s condition false others rest bad later = (condition, inr (refl, refl))
+
+pub HasFirst-words : (s : State) (words : List Word) → all_allowed words ≡ false → HasFirst s (map word_condition words)
+HasFirst-words s [] bad = absurd cc
+HasFirst-words s (word ∷ words) bad =
+    HasFirst-next s word.condition word.allowed (all_allowed words) (map word_condition words) bad (HasFirst-words s words)
+
+-- ---- one by one
+
+-- one more of the first passes
+pub AllPass-next : (s : State) (list : List Asked) (i : ℕ) (asked : Asked) → slice_get list i ≡ Some asked → passes s asked.test ≡ true → AllPass s (take i list)
+    → AllPass s (take (i + 1) list)
+AllPass-next s list i asked is pass below =
+    let more = take_more list i asked (slice_get_within list i asked is) in
+    let same = get_or_from_slice_get list i asked asked is in
+    subst (AllPass s) (sym (more ∙ ap (λ (x : Asked). take i list ++ x ∷ []) same)) (AllPass-append s (take i list) (asked ∷ []) below (pass, tt))
+
+-- all of them
+pub AllPass-whole : (s : State) (list : List Asked) (i : ℕ) → length list ≤ i → AllPass s (take i list) → AllPass s list
+AllPass-whole s list i whole below = subst (AllPass s) (take_all i list whole) below
+
+-- the one after those that pass
+pub IsFirst-at : (s : State) (list : List Asked) (i : ℕ) (asked : Asked) → slice_get list i ≡ Some asked → AllPass s (take i list) → passes s asked.test ≡ false
+    → IsFirst s list asked.condition asked.test
+IsFirst-at s [] i asked is below fails = none-some asked is
+IsFirst-at s (here ∷ list) zero asked is below fails =
+    let same = same_Some here asked is in inr (ap (λ (x : Asked). passes s x.test) same ∙ fails, same)
+IsFirst-at s (here ∷ list) (suc i) asked is below fails = inl (below.0, IsFirst-at s list i asked is below.1 fails)
+
+-- ---- where nothing is found
+
+pub none_found : (found : Option Asked) (Each : Type 0) (First : Asked → Type 0) → MatchOption found Each First → ((asked : Asked) → ¬ (found ≡ Some asked)) → Each
+none_found None Each First match none = match
+none_found (Some asked) Each First match none = absurd (none asked refl)
+
+-- ---- the parts of a command's conditions
+
+module _ (s : State) (places : List Asked) (words : List Word) (tags own : List Asked) where
+  abbrev pub parts : List Asked
+  parts = places ++ (map word_condition words ++ (tags ++ own))
+
+  pub first-word : AllPass s places → all_allowed words ≡ false → (name : Condition) × IsFirst s parts name (test.Words false)
+  first-word placed bad =
+      let found = HasFirst-words s words bad in (
+        found.0,
+        IsFirst-right s places (map word_condition words ++ (tags ++ own)) found.0 (test.Words false) placed
+            (IsFirst-left s (map word_condition words) (tags ++ own) found.0 (test.Words false) found.1),
+      )
+
+  after-words : AllPass s places → all_allowed words ≡ true → (name : Condition) (t : Test) → IsFirst s (tags ++ own) name t → IsFirst s parts name t
+  after-words placed allowed name t first =
+      IsFirst-right s places (map word_condition words ++ (tags ++ own)) name t placed
+      (IsFirst-right s (map word_condition words) (tags ++ own) name t (AllPass-words s words allowed) first)
+
+  pub first-tag : AllPass s places → all_allowed words ≡ true → (name : Condition) (t : Test) → IsFirst s tags name t → IsFirst s parts name t
+  first-tag placed allowed name t first = after-words placed allowed name t (IsFirst-left s tags own name t first)
+
+  pub first-own : AllPass s places → all_allowed words ≡ true → AllPass s tags → (name : Condition) (t : Test) → IsFirst s own name t → IsFirst s parts name t
+  first-own placed allowed tagged name t first = after-words placed allowed name t (IsFirst-right s tags own name t tagged first)
+
+  pub first-none : AllPass s places → all_allowed words ≡ true → AllPass s tags → AllPass s own → first_failing s parts ≡ None
+  first-none placed allowed tagged owned =
+      first_failing-none s parts
+      (AllPass-append s places (map word_condition words ++ (tags ++ own)) placed
+      (AllPass-append s (map word_condition words) (tags ++ own) (AllPass-words s words allowed) (AllPass-append s tags own tagged owned)))

@@ -1,0 +1,3 @@
+pub mod Exiting
+pub mod First
+pub mod Rows

@@ -1,0 +1,40 @@
+-- What the conditions of a command decide.
+use Rattle.std.specs.Prelude.{◌≡◌, ◌⊎◌, true, false, List, [], ◌∷◌, Option, Some, None, Result, Ok, Err, if◌then◌else◌}
+use Rattle.std.specs.List.{AllByRecursion}
+use Rattle.rmm_spec.specs.declared.accepted.Accepted.{Accepted}
+use Rattle.rmm_spec.specs.declared.condition.Condition.{Condition}
+use Rattle.rmm_spec.specs.declared.refusal.Refusal.{Refusal}
+use Rattle.rmm_spec.specs.declared.refusal.Refusal.TheVariants as refusal
+use Rattle.rmm_spec.specs.State.{State}
+use Rattle.conditions.specs.declared.asked.Asked.{Asked}
+use Rattle.conditions.specs.declared.test.Test.{Test}
+use Rattle.conditions.specs.Tests.{passes}
+
+-- the condition for which a command is refused
+abbrev pub condition_of : Refusal → Condition
+condition_of (refusal.Misplaced condition) = condition
+condition_of (refusal.Input condition) = condition
+condition_of (refusal.Realm condition index) = condition
+condition_of (refusal.Rec condition) = condition
+condition_of (refusal.Rtt condition level) = condition
+
+-- the condition for which an answer is a refusal, if it is one
+abbrev pub refused_for : Result Accepted Refusal → Option Condition
+refused_for (Ok accepted) = None
+refused_for (Err refused) = Some (condition_of refused)
+
+-- the first of the conditions that fails in the state
+abbrev pub first_failing : State → List Asked → Option Condition
+first_failing s [] = None
+first_failing s (asked ∷ others) = if passes s asked.test then first_failing s others else Some asked.condition
+
+-- the test of the first of them that fails, which has this name
+abbrev pub IsFirst : State → List Asked → Condition → Test → Type 0
+IsFirst s [] condition test = ⊥
+IsFirst s (asked ∷ others) condition test =
+    ((passes s asked.test ≡ true) × IsFirst s others condition test)
+    ⊎ ((passes s asked.test ≡ false) × (asked ≡ record { condition = condition; test = test }))
+
+-- each of them passes
+abbrev pub AllPass : State → List Asked → Type 0
+AllPass s list = AllByRecursion (λ (asked : Asked). passes s asked.test ≡ true) list

@@ -1,0 +1,143 @@
+-- The conditions of each command.
+use Rattle.std.specs.Prelude.{ℕ, ◌-◌, nat_lt, List, [], ◌∷◌, ◌++◌, map}
+use Rattle.rmm_spec.specs.declared.call.Call.{Call}
+use Rattle.rmm_spec.specs.declared.call.Call.TheVariants as call
+use Rattle.rmm_spec.specs.declared.condition.Condition.{Condition}
+use Rattle.rmm_spec.specs.declared.condition.Condition.TheVariants as condition
+use Rattle.rmm_spec.specs.Rows.{Needed, Word}
+use Rattle.rmm_spec.specs.Step.Table.{left_condition}
+use Rattle.rmm_spec.specs.Step.Terms.{Class, ByHost, ByRealm, ByExit, class_of, words_of, named, is_page}
+use Rattle.conditions.specs.declared.asked.Asked.{Asked}
+use Rattle.conditions.specs.declared.test.EntryKind.{EntryKind}
+use Rattle.conditions.specs.declared.test.EntryKind.TheVariants as kind
+use Rattle.conditions.specs.declared.test.RealmTest.{RealmTest}
+use Rattle.conditions.specs.declared.test.RealmTest.TheVariants as of_realm
+use Rattle.conditions.specs.declared.test.RecTest.{RecTest}
+use Rattle.conditions.specs.declared.test.RecTest.TheVariants as of_rec
+use Rattle.conditions.specs.declared.test.WalkTest.{WalkTest}
+use Rattle.conditions.specs.declared.test.WalkTest.TheVariants as of_walk
+use Rattle.conditions.specs.declared.test.Test.{Test}
+use Rattle.conditions.specs.declared.test.Test.TheVariants as test
+
+abbrev pub asks : Condition → Test → Asked
+asks condition test = record { condition = condition; test = test }
+
+abbrev pub on_realm : ℕ → Condition → RealmTest → Asked
+on_realm rd condition asked = asks condition (test.OfRealm rd asked)
+
+abbrev pub on_rec : ℕ → Condition → RecTest → Asked
+on_rec rec condition asked = asks condition (test.OfRec rec asked)
+
+abbrev pub on_walk : ℕ → ℕ → ℕ → Condition → WalkTest → Asked
+on_walk rd ipa level condition asked = asks condition (test.OfWalk rd ipa level asked)
+
+abbrev pub of_owner : ℕ → Condition → RealmTest → Asked
+of_owner rec condition asked = asks condition (test.OfOwner rec asked)
+
+-- a page of the protected half, whose entry is of the kind
+abbrev pub page_conditions : ℕ → ℕ → EntryKind → List Asked
+page_conditions rd ipa wanted =
+    on_realm rd condition.IpaBound (of_realm.Protected ipa)
+    ∷ on_walk rd ipa 3 condition.RttWalk of_walk.Reaches
+    ∷ on_walk rd ipa 3 condition.RtteState (of_walk.Is wanted)
+    ∷ []
+
+-- a page of the other half
+abbrev pub host_page_conditions : ℕ → ℕ → EntryKind → List Asked
+host_page_conditions rd ipa wanted =
+    on_realm rd condition.IpaBound (of_realm.Unprotected ipa)
+    ∷ on_walk rd ipa 3 condition.RttWalk of_walk.Reaches
+    ∷ on_walk rd ipa 3 condition.RtteState (of_walk.Is wanted)
+    ∷ []
+
+-- where a command of the CPU can be given, which is inside the REC if it is inside one
+abbrev pub place_conditions : Class → ℕ → ℕ → List Asked
+place_conditions ByHost cpu rec = asks condition.OwnOutside (test.Outside cpu) ∷ []
+place_conditions ByRealm cpu rec = asks condition.OwnInside (test.Inside cpu) ∷ asks condition.OwnPending (test.Idle rec) ∷ []
+place_conditions ByExit cpu rec = asks condition.OwnInside (test.Inside cpu) ∷ []
+
+abbrev pub tag_condition : Needed → Asked
+tag_condition needed = asks condition.GranState (test.Tagged needed.granule needed.tag)
+
+-- the conditions on records, tables and requests
+unfoldable pub own_conditions : ℕ → Call → List Asked
+own_conditions inside (call.DataCreate rd granule ipa source flags digest) =
+    on_realm rd condition.IpaBound (of_realm.Protected ipa)
+    ∷ on_realm rd condition.RealmState of_realm.New
+    ∷ on_walk rd ipa 3 condition.RttWalk of_walk.Reaches
+    ∷ on_walk rd ipa 3 condition.RtteState (of_walk.Is kind.Unassigned)
+    ∷ on_walk rd ipa 3 condition.RtteRipas of_walk.Ram
+    ∷ []
+own_conditions inside (call.DataCreateUnknown rd granule ipa) = page_conditions rd ipa kind.Unassigned
+own_conditions inside (call.DataDestroy rd ipa) = page_conditions rd ipa kind.Assigned
+own_conditions inside (call.RealmActivate rd) = on_realm rd condition.RealmState of_realm.New ∷ []
+own_conditions inside (call.RealmCreate rd root width level vmid algo) =
+    asks condition.ParamsSupp (test.Hash algo)
+    ∷ asks condition.VmidValid (test.VmidFree vmid)
+    ∷ []
+own_conditions inside (call.RealmDestroy rd) =
+    asks condition.RealmLive (test.NoRec rd)
+    ∷ asks condition.RealmLive (test.NoLink rd)
+    ∷ []
+own_conditions inside (call.RecCreate rd rec mpidr flags aux0 aux1) =
+    on_realm rd condition.RealmState of_realm.New
+    ∷ on_realm rd condition.MpidrIndex (of_realm.NextIndex mpidr)
+    ∷ asks condition.OwnRecCount (test.Words (nat_lt mpidr 8))
+    ∷ []
+own_conditions inside (call.RecDestroy rec) = on_rec rec condition.RecState of_rec.Ready ∷ []
+own_conditions inside (call.RecEnter rec) =
+    of_owner rec condition.RealmNew of_realm.Begun
+    ∷ of_owner rec condition.SystemOff of_realm.On
+    ∷ on_rec rec condition.RecState of_rec.Ready
+    ∷ on_rec rec condition.RecRunnable of_rec.Runnable
+    ∷ []
+own_conditions inside (call.RttCreate rd rtt ipa level) =
+    on_realm rd condition.LevelBound (of_realm.StartsAbove level)
+    ∷ on_realm rd condition.IpaBound (of_realm.Within ipa)
+    ∷ on_walk rd ipa (level - 1) condition.RttWalk of_walk.Reaches
+    ∷ on_walk rd ipa (level - 1) condition.RtteState of_walk.NoTable
+    ∷ []
+own_conditions inside (call.RttRemove removal rd ipa level) =
+    on_realm rd condition.LevelBound (of_realm.StartsAbove level)
+    ∷ on_realm rd condition.IpaBound (of_realm.Within ipa)
+    ∷ on_walk rd ipa (level - 1) condition.RttWalk of_walk.Reaches
+    ∷ on_walk rd ipa (level - 1) condition.RtteState (of_walk.Is kind.Table)
+    ∷ asks (left_condition removal) (test.Removable removal rd ipa level)
+    ∷ []
+own_conditions inside (call.RttMapUnprotected rd ipa page) = host_page_conditions rd ipa kind.UnassignedNs
+own_conditions inside (call.RttUnmapUnprotected rd ipa) = host_page_conditions rd ipa kind.AssignedNs
+own_conditions inside (call.RttReadEntry rd ipa level) =
+    on_realm rd condition.LevelBound (of_realm.StartsBy level)
+    ∷ on_realm rd condition.IpaBound (of_realm.Within ipa)
+    ∷ []
+own_conditions inside (call.RttInitRipas rd base top) =
+    on_realm rd condition.TopBound (of_realm.EndsProtected top)
+    ∷ on_realm rd condition.RealmState of_realm.New
+    ∷ on_walk rd base 3 condition.RtteState (of_walk.Is kind.Unassigned)
+    ∷ on_walk rd base 3 condition.BaseAlign (of_walk.Begins base)
+    ∷ on_walk rd base 3 condition.TopRttAlign (of_walk.EndsBy base top)
+    ∷ []
+own_conditions inside (call.RttSetRipas rd rec base top) =
+    on_rec rec condition.RecOwner (of_rec.OwnedBy rd)
+    ∷ on_rec rec condition.RecState of_rec.Ready
+    ∷ on_rec rec condition.OwnRequest of_rec.Requesting
+    ∷ on_rec rec condition.BaseBound (of_rec.From base)
+    ∷ on_rec rec condition.TopBound (of_rec.By top)
+    ∷ asks condition.SizeValid (test.Words (nat_lt base top))
+    ∷ asks condition.TopGranAlign (test.Words (is_page top))
+    ∷ on_walk rd base 3 condition.BaseAlign (of_walk.Begins base)
+    ∷ on_walk rd base 3 condition.TopRttAlign (of_walk.EndsBy base top)
+    ∷ []
+own_conditions inside (call.IpaStateSet base top ripas) = of_owner inside condition.RgnBound (of_realm.EndsProtected top) ∷ []
+own_conditions inside (call.IpaStateGet ipa) = of_owner inside condition.IpaBound (of_realm.Protected ipa) ∷ []
+own_conditions inside _ = []
+
+abbrev pub word_condition : Word → Asked
+word_condition word = asks word.condition (test.Words word.allowed)
+
+-- all conditions of a command of the CPU, which is inside the REC if it is inside one, in their order
+unfoldable pub conditions : ℕ → ℕ → Call → List Asked
+unfolding class_of words_of named
+conditions cpu rec given =
+    place_conditions (class_of given) cpu rec
+    ++ (map word_condition (words_of given) ++ (map tag_condition (named given) ++ own_conditions rec given))

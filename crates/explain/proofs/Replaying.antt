@@ -1,0 +1,120 @@
+-- Lines that pass are taken once more, and lead to one state.
+use Rattle.std.proofs.Common.{◌≡◌, ℕ, zero, suc, ◌+◌, ◌<◌, ◌≤◌, List, [], ◌∷◌, take, Some, refl, sym, ◌∙◌, ap, subst, arith}
+use Rattle.std.specs.List.{slice_get}
+use Rattle.rmm_spec.specs.declared.command.Command.{Command}
+use Rattle.rmm_spec.specs.declared.event.Event.{Event}
+use Rattle.rmm_spec.specs.declared.line.Line.{Line}
+use Rattle.rmm_spec.specs.declared.reply.Reply.{Reply}
+use Rattle.rmm_spec.specs.HistoryText.{History, IsHistory}
+use Rattle.rmm_spec.specs.State.{State, opening}
+use Rattle.rmm_spec.specs.Step.{Step}
+use Rattle.rmm_spec.specs.Run.{JournalEntry, IsRun}
+use Rattle.rmm_spec.specs.Linearization.{AreEntriesOf, IsCalled, IsNamed, IsOfItsKind, IsReplyOf, IsTooLate, NamesCall, cpu_named, number_named}
+use Rattle.rmm_spec.specs.FirstFault.{Passes}
+use Rattle.rmm_laws.proofs.StepLaws.{step-decides}
+use Rattle.checker.proofs.Calls.{HasOnePlaces, SameEntries, same_entry}
+use Rattle.checker.proofs.Elements.{slice_get-take, take-next_at}
+use Rattle.checker.proofs.Faults.{IsRefused-from_step}
+use Rattle.checker.proofs.Judging.{HasOnePlaces-from_history}
+use Rattle.checker.proofs.Progress.{Passes-push}
+use Rattle.checker.proofs.Runs.{not-IsRefused}
+use Rattle.explain.specs.Told.{IsPassing}
+
+-- ---- one state
+
+same_step : (old : State) (entry other : JournalEntry) (new next : State) → SameEntries entry other
+    → Step old entry.cpu entry.command entry.given new → Step old other.cpu other.command other.given next → new ≡ next
+same_step old entry other new next same here there =
+    let there2 : Step old entry.cpu entry.command entry.given next =
+    subst (λ (cpu : ℕ). Step old cpu entry.command entry.given next) (sym same.cpu)
+    (subst (λ (command : Command). Step old other.cpu command entry.given next) (sym same.command)
+    (subst (λ (given : Reply). Step old other.cpu other.command given next) (sym same.given) there)) in
+    step-decides old new next entry.cpu entry.command entry.given here there2
+
+same_last : (events : List Event) → HasOnePlaces events → (lines : List Line) (entries others : List JournalEntry) (start last other : State)
+    → AreEntriesOf events lines entries → IsRun start entries last → AreEntriesOf events lines others → IsRun start others other → last ≡ other
+same_last events one [] [] [] start last other claimed run also ran = run ∙ sym ran
+same_last events one [] [] (f ∷ others) start last other claimed run also ran = absurd also
+same_last events one [] (e ∷ entries) others start last other claimed run also ran = absurd claimed
+same_last events one (l ∷ lines) [] others start last other claimed run also ran = absurd claimed
+same_last events one (l ∷ lines) (e ∷ entries) [] start last other claimed run also ran = absurd also
+same_last events one (l ∷ lines) (e ∷ entries) (f ∷ others) start last other claimed run also ran =
+    let same = same_step start e f run.0 ran.0 (same_entry events one l e f claimed.0 also.0) run.1 ran.1 in
+    same_last events one lines entries others ran.0 last other claimed.1 (subst (λ (s : State). IsRun s entries last) same run.2) also.1 ran.2
+
+-- lines that pass lead to one state
+pub same_state : (history : History) → IsHistory history → (lines : List Line) (last other : State) → Passes history lines last → Passes history lines other
+    → last ≡ other
+same_state history is_history lines last other passes also =
+    same_last history.events (HasOnePlaces-from_history history is_history) lines passes.entries also.entries (opening history.config) last other
+    passes.run.claimed passes.run.run also.run.claimed also.run.run
+
+-- ---- one line more
+
+-- an element below the count is one of the front
+pub slice_get-front : {X : Type 0} (count : ℕ) (xs : List X) (i : ℕ) (x : X) → i < count → slice_get xs i ≡ Some x → slice_get (take count xs) i ≡ Some x
+slice_get-front zero xs i x below is = absurd (let bad : ⊥ = omega (arith, below) in bad)
+slice_get-front (suc count) [] i x below is = is
+slice_get-front (suc count) (y ∷ xs) zero x below is = is
+slice_get-front (suc count) (y ∷ xs) (suc i) x below is = slice_get-front count xs i x (omega (arith, below)) is
+
+-- a front of a front
+pub take-front : {X : Type 0} (n count : ℕ) (xs : List X) → n ≤ count → take n (take count xs) ≡ take n xs
+take-front zero count xs below = refl
+take-front (suc n) zero xs below = absurd (let bad : ⊥ = omega (arith, below) in bad)
+take-front (suc n) (suc count) [] below = refl
+take-front (suc n) (suc count) (y ∷ xs) below = ap (λ zs. y ∷ zs) (take-front n count xs (omega (arith, below)))
+
+-- a line of those that pass names a call
+pub known_before : (history : History) (lines : List Line) (count : ℕ) (last : State) → Passes history (take count lines) last
+    → (i : ℕ) (line : Line) → i < count → slice_get lines i ≡ Some line → NamesCall history.events line
+known_before history lines count last passes i line below is_line = passes.names.known i line (slice_get-front count lines i line below is_line)
+
+module _ (history : History) (is_history : IsHistory history) (lines : List Line) (i : ℕ) (line : Line) (is_line : slice_get lines i ≡ Some line)
+    (passing : IsPassing history lines i) (old : State) (before : Passes history (take i lines) old) where
+  here : slice_get (take passing.count lines) i ≡ Some line
+  here = slice_get-front passing.count lines i line passing.below is_line
+
+  -- it names a call of its kind
+  pub line_known : NamesCall history.events line
+  line_known = passing.passes.names.known i line here
+
+  pub line_of_its_kind : IsOfItsKind history.events line
+  line_of_its_kind = passing.passes.names.kinds i line here
+
+  unnamed : ¬ IsNamed (take i lines) (cpu_named line) (number_named line)
+  unnamed (j, other, is_other, same_cpu, same_number) =
+      let at = slice_get-take i lines j other is_other in
+      passing.passes.names.once j i other line at.0 (slice_get-front passing.count lines j other (omega (arith, at.0, passing.below)) at.1) here (same_cpu, same_number)
+
+  in_time : ¬ IsTooLate history.events (take i lines) line
+  in_time (j, other, is_other, returns) =
+      let at = slice_get-take i lines j other is_other in
+      passing.passes.real_time j i other line at.0 (slice_get-front passing.count lines j other (omega (arith, at.0, passing.below)) at.1) here returns
+
+  -- the machine isn't without an answer to it
+  pub not-refused : (called : ℕ) (command : Command) (given : Reply) → IsCalled history.events called (cpu_named line) (number_named line) command
+      → IsReplyOf history.events line given → ((new : State) → ¬ Step old (cpu_named line) command given new) → ⊥
+  not-refused called command given is_called is_given refuses =
+      let one = HasOnePlaces-from_history history is_history in
+      let front = take-front i passing.count lines (omega (arith, passing.below)) in
+      not-IsRefused history.events one (take passing.count lines) passing.passes.entries (opening history.config) passing.last
+      passing.passes.run.claimed passing.passes.run.run i line before.entries old here
+      (subst (λ (ls : List Line). AreEntriesOf history.events ls before.entries) (sym front) before.run.claimed) before.run.run
+      (IsRefused-from_step history.events one old line called command given is_called is_given refuses)
+
+  -- and with it the lines pass
+  pub Passes-taken : (called : ℕ) (command : Command) (given : Reply) (new : State) → IsCalled history.events called (cpu_named line) (number_named line) command
+      → IsReplyOf history.events line given → Step old (cpu_named line) command given new → Passes history (take (i + 1) lines) new
+  Passes-taken called command given new is_called is_given step =
+      subst (λ (ls : List Line). Passes history ls new) (sym (take-next_at lines i line is_line))
+      (Passes-push history (take i lines) old line called new before (record {
+        command = command;
+        is_called = is_called;
+        unnamed = unnamed;
+        kind = line_of_its_kind;
+        in_time = in_time;
+        given = given;
+        is_given = is_given;
+        step = step;
+      }))

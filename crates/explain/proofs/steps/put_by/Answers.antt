@@ -1,0 +1,7 @@
+-- It is so in the machine's state.
+use Rattle.std.proofs.Common.{sym}
+use Rattle.spec_machine.specs.View.{state_of}
+use Rattle.explain.proofs.steps.put_by.Goals as goal
+
+pub since_of-requires-clause-now : goal.since_of-requires-clause-now
+since_of-requires-clause-now c = (state_of c.args.machine.now, c.requires.left, sym c.if-not-is_so_now.ensures)

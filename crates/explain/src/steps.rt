@@ -1,0 +1,159 @@
+//! The other steps that a refused line is about.
+
+ghost use Rattle.std.specs.Prelude.{◌≡◌, ◌≤◌, true, length, take, IfOk};
+ghost use Rattle.rmm_spec.specs.FirstFault.{Passes};
+ghost use Rattle.spec_machine.specs.View.{state_of};
+ghost use Rattle.explain.specs.Watch.{IsSince, is_so};
+
+use crate::deciding::Decision;
+use crate::late::late_commit;
+use crate::since::since_of;
+use crate::watch::{Watch, sample_of};
+use certificate::Certificate;
+use command_rows::Sight;
+use conditions::{EntryKind, Test, WalkTest};
+use history::History;
+use rmm_spec::Tag;
+use spec_machine::Machine;
+use std::alloc::{AllocError, Global};
+use told::{Deciding, EarlierStep, Fact, LateCommit, NamedCall, Since};
+
+/// Since which step it is so, which step put there what is named, and which later one would change it.
+#[derive(Drop)]
+pub(crate) struct Steps {
+    pub(crate) since: Since,
+    pub(crate) put: Option<EarlierStep>,
+    pub(crate) late: Option<LateCommit>,
+}
+
+/// Those steps, of what is so before the failing line.
+pub(crate) fn steps_of(
+    alloc: Global,
+    history: &History,
+    certificate: &Certificate,
+    machine: &Machine,
+    index: usize,
+    call: &NamedCall,
+    decision: &Decision,
+) -> Result<Steps, AllocError>
+    requires within { index ≤ length certificate.now.lines }
+    requires left { Passes history.now.recorded (take index certificate.now.lines) (state_of machine.now) }
+    requires so { is_so (state_of machine.now) decision.now.watch ≡ true }
+    ensures { IfOk result (λ steps. IsSince history.now.recorded certificate.now.lines index decision.now.watch steps.since) }
+{
+    let since = since_of(alloc, history, certificate, index, &decision.watch)?;
+    let put = put_by(
+        alloc,
+        history,
+        certificate,
+        machine,
+        index,
+        decision.deciding,
+        &since,
+    )?;
+    let late = late_step(
+        alloc,
+        history,
+        certificate,
+        machine,
+        index,
+        call,
+        &decision.watch,
+    )?;
+    Ok(Steps { since, put, late })
+}
+
+// The later step with which the condition would hold.
+fn late_step(
+    alloc: Global,
+    history: &History,
+    certificate: &Certificate,
+    machine: &Machine,
+    index: usize,
+    call: &NamedCall,
+    watch: &Watch,
+) -> Result<Option<LateCommit>, AllocError> {
+    let Watch::Condition(test, _) = watch else {
+        return Ok(None);
+    };
+    let Some(places) = history.places_of(call.cpu, call.number) else {
+        return Ok(None);
+    };
+    late_commit(alloc, history, certificate, index, machine, *test, places)
+}
+
+// The step that put there what a fact names, one of several, where it is another step.
+fn put_by(
+    alloc: Global,
+    history: &History,
+    certificate: &Certificate,
+    machine: &Machine,
+    index: usize,
+    deciding: Deciding,
+    since: &Since,
+) -> Result<Option<EarlierStep>, AllocError>
+    requires within { index ≤ length certificate.now.lines }
+    requires left { Passes history.now.recorded (take index certificate.now.lines) (state_of machine.now) }
+{
+    let Some(test) = put_test(machine, deciding) else {
+        return Ok(None);
+    };
+    let watch = Watch::Condition(test, false);
+    if !is_so_now(machine, &watch) {
+        return Ok(None);
+    }
+    match since_of(alloc, history, certificate, index, &watch)? {
+        Since::Turned(put) => Ok(if_other(put, since)),
+        Since::Never { .. } => Ok(None),
+    }
+}
+
+// Whether it is so in the machine's state.
+fn is_so_now(machine: &Machine, watch: &Watch) -> bool
+    ensures { result ≡ is_so (state_of machine.now) watch.now }
+{
+    sample_of(machine, watch).is_so
+}
+
+// A step, if it isn't the one at which it turned.
+fn if_other(step: EarlierStep, since: &Since) -> Option<EarlierStep> {
+    if is_at(since, step.step) {
+        None
+    } else {
+        Some(step)
+    }
+}
+
+// Whether it turned at the step.
+fn is_at(since: &Since, step: u64) -> bool {
+    match since {
+        Since::Turned(earlier) => earlier.step == step,
+        Since::Never { .. } => false,
+    }
+}
+
+// The test that fails since what a fact names is there: the granule of a REC isn't delegated, and an entry is in use.
+fn put_test(machine: &Machine, deciding: Deciding) -> Option<Test> {
+    match deciding {
+        Deciding::Condition(Fact::RecLeft { rec, .. }) => Some(Test::Tagged {
+            granule: rec,
+            tag: Tag::Delegated,
+        }),
+        Deciding::Condition(Fact::InUse { rd, ipa, read }) => {
+            let realm = machine.realm(rd)?;
+            let asked = match read.state {
+                0 => return None,
+                1 if ipa < realm.protected_end() => WalkTest::Is(EntryKind::Unassigned),
+                1 => WalkTest::Is(EntryKind::UnassignedNs),
+                _ => WalkTest::NoTable,
+            };
+            Some(Test::OfWalk {
+                rd,
+                ipa,
+                level: read.level.min(3) as u8,
+                asked,
+            })
+        }
+        _ => None,
+    }
+}

@@ -1,0 +1,2 @@
+pub mod Unmade
+pub mod Placed

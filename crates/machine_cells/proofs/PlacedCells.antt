@@ -1,0 +1,31 @@
+-- What a granule's place says of its cell.
+use Rattle.std.proofs.Common.{◌≡◌, ℕ, ◌*◌, ◌/◌, ◌%◌, ◌<◌, IsTrue, Option, Some, None, sym, subst, arith}
+use Rattle.std.specs.Prelude.{IfNone, IfSome}
+use Rattle.rmm_spec.specs.Lookup.{is_granule}
+use Rattle.rmm_spec.specs.Cell as spec
+use Rattle.granule_places.specs.Placed.{place_in}
+use Rattle.granule_places.proofs.PlaceLaws.{place-granule, place-within}
+use Rattle.machine_cells.specs.declared.cell_list.CellList.{CellList}
+use Rattle.machine_cells.specs.Placed.{IsPlace}
+use Rattle.machine_cells.specs.Whole.{cells_of}
+use Rattle.machine_cells.proofs.Kept.{cells_in-none, granule_placed}
+
+-- the granule at an address has its cell where the granule of the number has its place
+pub some-place : (list : CellList) (address : ℕ) (o : Option ℕ) → address % 4096 ≡ 0 → o ≡ place_in list.places (address / 4096)
+    → IfSome o (IsPlace list address)
+some-place list address None even is = tt
+some-place list address (Some place) even is =
+    let below : address / 4096 < list.config.granules = omega (arith, place-granule list.places (address / 4096) place (sym is), list.granules) in
+    let at : (address / 4096) * 4096 ≡ address = omega (arith, even) in
+    record {
+      granule = subst (λ a. IsTrue (is_granule list.config.granules a)) at (granule_placed list.config.granules (address / 4096) below);
+      at = sym is;
+      within = omega (arith, place-within list.places (address / 4096) place (sym is), list.each, list.cells.ok.0);
+    }
+
+-- and without one it is the host's
+pub none-place : (list : CellList) (address : ℕ) (o : Option ℕ) → o ≡ place_in list.places (address / 4096)
+    → IfNone o (cells_of list address ≡ spec.Undelegated)
+unfolding cells_of
+none-place list address None is = cells_in-none list.config.granules (place_in list.places) list.cells.items address (sym is)
+none-place list address (Some place) is = tt

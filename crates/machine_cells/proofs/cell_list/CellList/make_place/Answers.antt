@@ -1,0 +1,41 @@
+use Rattle.std.proofs.Common.{◌≡◌, ◌/◌, length, ap, ◌∙◌, arith}
+use Rattle.granule_places.specs.Placed.{count_in, place_in}
+use Rattle.granule_places.proofs.PlaceLaws.{place-within}
+use Rattle.machine_cells.specs.Whole.{cells_of, cells_in}
+use Rattle.machine_cells.proofs.Kept.{cells_in-further, place_within}
+use Rattle.machine_cells.proofs.cell_list.CellList.make_place.Goals as goal
+
+pub make-place-requires-clause-within : goal.make-place-requires-clause-within
+make-place-requires-clause-within c =
+    let list = c.args.self.now in
+    omega (arith, place_within list.config.granules c.args.granule c.requires.granule, list.granules)
+
+pub push_block-requires : goal.push_block-requires
+push_block-requires c =
+    let list = c.args.self.now in
+    let further = c.make-place.ensures.further in
+    omega (arith, list.each, list.room, further.count, further.room, further.within)
+
+pub returns-clause-cells : goal.returns-clause-cells
+unfolding cells_of
+returns-clause-cells c =
+    let list = c.args.self.now in
+    let count : count_in list.places ≡ length list.cells.items = omega (arith, list.each, list.cells.ok.0) in
+    ap (λ items. cells_in list.config.granules (place_in c.make-place.new.self) items) c.push_block.ensures.items
+    ∙ cells_in-further list.config.granules 512 list.places c.make-place.new.self list.cells.items c.make-place.ensures.further count
+
+pub returns-clause-place : goal.returns-clause-place
+returns-clause-place c =
+    let list = c.args.self.now in
+    record {
+      granule = c.requires.granule;
+      at = c.make-place.ensures.place;
+      within = omega (
+        arith,
+        place-within c.make-place.new.self (c.args.granule / 4096) c.make-place.result c.make-place.ensures.place,
+        c.make-place.ensures.further.count,
+        list.each,
+        c.push_block.ensures.len,
+        c.push_block.new.cells.ok.0,
+      );
+    }

@@ -1,0 +1,18 @@
+use Rattle.std.proofs.Common.{sym, ap}
+use Rattle.std.proofs.lemmas.Bool.{false_from_ne_true}
+use Rattle.rmm_spec.specs.declared.tag.Tag.TheVariants.{Undelegated}
+use Rattle.rmm_spec.specs.Cell.{tag_of}
+use Rattle.rmm_spec.specs.Flat.{flat_state}
+use Rattle.machine_cells.specs.Whole.{cells_of, state_in, config_of}
+use Rattle.machine_cells.proofs.OneCell.{has_tag-read, has_tag-none}
+use Rattle.machine_cells.proofs.granules.Granules.has_tag_untouched.Goals as goal
+
+pub returns-in-Some : goal.returns-in-Some
+unfolding state_in
+returns-in-Some c =
+    let g = c.args.self.now in
+    rw c.eq.ensures (has_tag-read (config_of g) (cells_of g.list) c.args.address Undelegated c.args.tag c.in-Some.ensures.0 (sym (ap tag_of c.requires)))
+
+pub returns-in-None : goal.returns-in-None
+unfolding state_in flat_state
+returns-in-None c = has_tag-none (state_in c.args.self.now) c.args.address c.args.tag (false_from_ne_true _ c.in-None.ensures)

@@ -1,0 +1,19 @@
+use Rattle.std.proofs.Common.{◌≡◌, map, take}
+use Rattle.std.specs.Io.KnownBytes.{Appends}
+use Rattle.rmm_spec.specs.CertificateText.{line_parts}
+use Rattle.rmm_spec.specs.HistoryText.{event_parts}
+use Rattle.rmm_spec.specs.Text.{lines_text}
+use Rattle.granule_names.specs.Renamed.{lasts_in, no_lasts}
+use Rattle.merging.specs.Naming.{lasts_after}
+use Rattle.merging.specs.Run.{known_front, starts, stand_at, stands_after, events_from, lines_from, returns_in}
+use Rattle.merging.specs.Seen.{stands_in}
+use Rattle.merging.proofs.run.Run.write_lines.Given as goal
+
+abbrev pub invariant-loop-stamp : goal.invariant-loop-stamp
+invariant-loop-stamp g l = record {
+  history : Appends (g.H.Write.contents l.fn.history) (g.H.Write.contents l.history) (lines_text (map event_parts (events_from starts (take l.stamp l.self.events))));
+  certificate : Appends (g.C.Write.contents l.fn.certificate) (g.C.Write.contents l.certificate)
+      (lines_text (map line_parts (lines_from (λ cpu. returns_in cpu l.self.events) starts (take l.stamp l.self.events))));
+  stands : stand_at (stands_in l.cpus) ≡ stands_after starts (take l.stamp l.self.events);
+  lasts : lasts_in l.lasts ≡ lasts_after no_lasts (take l.stamp (known_front l.table.slots));
+}

@@ -1,0 +1,111 @@
+//! Why a step fails.
+
+ghost use Rattle.std.specs.Prelude.{◌≡◌};
+
+use crate::call::{call_named, call_of, put_hex, step_naming, step_of};
+use crate::fact::fact_of;
+use crate::reply::{reply_text, specified_text};
+use crate::since::{late_of, since_of};
+use json_objects::Object;
+use std::alloc::{AllocError, Global};
+use told::{Cause, Deciding, RefusedLine, WrongWord, condition_name, condition_of, reply_word};
+
+/// Puts a cause in: the call of the step that fails, and what it is about.
+pub(crate) fn put_cause(alloc: Global, object: &mut Object, cause: &Cause) -> Result<(), AllocError>
+    requires { object.old.bound ≡ 4 }
+    ensures { object.new.bound ≡ object.old.bound }
+{
+    object.text("reason", reason_of(cause))?;
+    match cause {
+        Cause::Unknown { cpu, number } => object.object("call", call_named(alloc, *cpu, *number)?),
+        Cause::Repeated { call, earlier } => {
+            object.object("call", call_of(alloc, call)?)?;
+            object.number("earlier_step", *earlier)
+        }
+        Cause::Kind { call } | Cause::Missing(call) => object.object("call", call_of(alloc, call)?),
+        Cause::Order {
+            call,
+            earlier,
+            other,
+        } => {
+            object.object("call", call_of(alloc, call)?)?;
+            object.object("earlier", step_naming(alloc, *earlier, other)?)
+        }
+        Cause::Reply(line) => put_refused(alloc, object, line),
+    }
+}
+
+fn reason_of(cause: &Cause) -> &'static str {
+    match cause {
+        Cause::Unknown { .. } => "unknown",
+        Cause::Repeated { .. } => "repeated",
+        Cause::Kind { .. } => "kind",
+        Cause::Order { .. } => "order",
+        Cause::Reply(_) => "reply",
+        Cause::Missing(_) => "missing",
+    }
+}
+
+fn put_refused(alloc: Global, object: &mut Object, line: &RefusedLine) -> Result<(), AllocError>
+    requires { object.old.bound ≡ 4 }
+    ensures { object.new.bound ≡ object.old.bound }
+{
+    object.object("call", call_of(alloc, &line.call)?)?;
+    object.text("claimed", reply_text(alloc, &line.claimed)?.as_str())?;
+    object.text(
+        "specified",
+        specified_text(alloc, &line.specified)?.as_str(),
+    )?;
+    if let Some(farthest) = line.farthest {
+        put_hex(alloc, object, "farthest", farthest)?;
+    }
+    put_deciding(alloc, object, line)?;
+    object.object("since", since_of(alloc, &line.since)?)?;
+    if let Some(put) = &line.put {
+        object.object("put", step_of(alloc, put)?)?;
+    }
+    match &line.late {
+        Some(late) => object.object("late", late_of(alloc, late)?),
+        None => Ok(()),
+    }
+}
+
+// The condition that refuses, or the word that differs; neither where each condition holds and a refusal is claimed.
+fn put_deciding(alloc: Global, object: &mut Object, line: &RefusedLine) -> Result<(), AllocError>
+    requires { object.old.bound ≡ 4 }
+    ensures { object.new.bound ≡ object.old.bound }
+{
+    match (&line.deciding, &line.specified) {
+        (Deciding::Condition(fact), Err(refusal)) => {
+            let mut condition = Object::new(alloc, 1);
+            condition.text("name", condition_name(condition_of(*refusal)))?;
+            condition.object("fact", fact_of(alloc, fact)?)?;
+            object.object("condition", condition)
+        }
+        (Deciding::Word(word), _) => put_word(alloc, object, line, *word),
+        _ => Ok(()),
+    }
+}
+
+fn put_word(
+    alloc: Global,
+    object: &mut Object,
+    line: &RefusedLine,
+    wrong: WrongWord,
+) -> Result<(), AllocError>
+    requires { object.old.bound ≡ 4 }
+    ensures { object.new.bound ≡ object.old.bound }
+{
+    let mut word = Object::new(alloc, 0);
+    word.number("index", u64::from(wrong.index))?;
+    if let Some(name) = reply_word(line.call.call.command.function, wrong.index) {
+        word.text("name", name)?;
+    }
+    if let Some(claimed) = wrong.claimed {
+        put_hex(alloc, &mut word, "claimed", claimed)?;
+    }
+    if let Some(specified) = wrong.specified {
+        put_hex(alloc, &mut word, "specified", specified)?;
+    }
+    object.object("word", word)
+}

@@ -1,0 +1,5 @@
+pub mod Taking
+pub mod Marks
+pub mod CountLaws
+pub mod PlaceLaws
+pub mod UntouchedLaws

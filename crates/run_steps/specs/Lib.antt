@@ -1,0 +1,5 @@
+pub mod Replayed
+pub mod Touched
+pub mod Granule
+pub mod Places
+pub mod Counts
