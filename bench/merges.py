@@ -12,7 +12,7 @@ digits alone, as calls of DATA_CREATE, MEASUREMENT_EXTEND, MEASUREMENT_READ or R
 have. No machine need give such replies.
 
 The lines are written in the order of their stamps, CPU by CPU, and CPU by CPU with the last CPU first. Each time rmmmerge has to give the same
-two files, which are made here once more; its time and its peak of memory are printed, and those of a merge that renames. Then one event is
+two files, which are made here once more; its processor time and its peak of memory are printed, and those of a merge that renames. Then one event is
 left out, N times: a call, a commit, a return, and so on. Without --prefix rmmmerge has to name the stamp, and with it to give back what
 comes before. With --full a history of a million lines has to be written, and the next return refused.
 """
@@ -25,13 +25,13 @@ import tempfile
 
 PROGRAM = os.path.join(os.path.dirname(os.path.abspath(__file__)), "../crates/rmmmerge/out/rmmmerge")
 
-# Runs a program, and prints its seconds and its peak of memory in KB. A child of a large process would begin with that one's peak.
+# Runs a program, and prints its seconds of a processor and its peak of memory in KB. A child of a large process would begin with that
+# one's peak.
 MEASURE = """
-import os, subprocess, sys, time
-before = time.perf_counter()
+import os, subprocess, sys
 child = subprocess.Popen(sys.argv[1:])
 _, _, usage = os.wait4(child.pid, 0)
-print(time.perf_counter() - before, usage.ru_maxrss)
+print(usage.ru_utime + usage.ru_stime, usage.ru_maxrss)
 """
 
 

@@ -373,6 +373,17 @@ step-unready : (config : Config) (c : Call) (place : CpuPlace) (names : List Nee
 step-unready config c place names held Ready step = absurd step
 step-unready config c place names held _ step = refl
 
+-- where a CPU isn't ready, what it does next is a step
+pub next-step : (config : Config) (c : Call) (place : CpuPlace) (learnt : Option ℕ) (held : List HeldCell) → IsTrue (are_distinct (granules_held held))
+    → is_ready (next config c place learnt held) ≡ false → IsStep config c place (needs place learnt c) held (next config c place learnt held)
+unfolding next
+next-step config c place learnt held distinct = by (is_settled config c place held) refl
+  where
+    by : (b : Bool) → is_settled config c place held ≡ b → is_ready (if b then Ready else next_unsettled config c place learnt held) ≡ false
+        → IsStep config c place (needs place learnt c) held (if b then Ready else next_unsettled config c place learnt held)
+    by true settled ready = absurd (false≢true (sym ready))
+    by false unsettled _ = unsettled-steps config c place learnt held distinct unsettled
+
 pub next-planned : (config : Config) (command : Command) (place : CpuPlace) (learnt : Option ℕ) (held : List HeldCell)
     → IsTrue (are_distinct (granules_held held)) → IsPlanned config command place learnt held (next config (call_of command) place learnt held)
 unfolding next

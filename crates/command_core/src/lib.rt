@@ -39,6 +39,6 @@ pub use laws::{
     unshaped_cells_have_no_whole,
 };
 pub use next::Next;
-pub use planning::next_lock;
+pub use planning::{next_lock, next_step};
 pub use rmm_spec::Change;
 pub use rooms::{room, room_for};

@@ -1,10 +1,11 @@
 //! What a CPU does next for its command, told by the cells that it holds.
 
-ghost use Rattle.std.specs.Prelude.{◌≡◌, ◌<◌};
+ghost use Rattle.std.specs.Prelude.{◌≡◌, ◌<◌, false};
 ghost use Rattle.rmm_spec.specs.Call.{call_of, class_of};
+ghost use Rattle.rmm_spec.specs.Locks.{needs};
 ghost use Rattle.command_core.specs.Seen.{cell_in, place_of};
 ghost use Rattle.command_core.specs.Settled.{is_settled};
-ghost use Rattle.command_core.specs.Plan.{IsPlanned, is_ready};
+ghost use Rattle.command_core.specs.Plan.{IsPlanned, IsStep, is_ready};
 ghost use Rattle.command_core.specs.Next as spec;
 ghost use Rattle.command_core.specs.Walks as walks;
 ghost use Rattle.rmm_spec.specs.Rows.{all_allowed};
@@ -305,14 +306,19 @@ fn next_for<H: Held>(
     }
 }
 
-fn next_held<'a, H: Held>(
+/// What a CPU at this place does next for a command's call, whatever it holds. What it has learnt is what the last free of this call
+/// learnt, and nothing before the first.
+pub fn next_step<'a, H: Held>(
     config: &'a Config,
     call: &Call,
     place: &CpuPlace,
     learnt: Option<Pa>,
     held: &'a H,
 ) -> Next
-    ensures { result ≡ spec.next config.now call.now (place_of place.now) learnt (H.cells held.now) }
+    ensures exact { result ≡ spec.next config.now call.now (place_of place.now) learnt (H.cells held.now) }
+    ensures settled { is_settled config.now call.now (place_of place.now) (H.cells held.now) ≡ is_ready result }
+    ensures step { is_ready result ≡ false
+        → IsStep config.now call.now (place_of place.now) (needs (place_of place.now) learnt call.now) (H.cells held.now) result }
 {
     let sight = HeldSight {
         config,
@@ -322,8 +328,7 @@ fn next_held<'a, H: Held>(
     next_for(&sight, call, place, learnt)
 }
 
-/// What a CPU at this place does next for a command, whatever it holds. What it has learnt is what the last free of
-/// this call learnt, and nothing before the first.
+/// The same for a command, whose call is read off it.
 pub fn next_lock<H: Held>(
     config: &Config,
     command: &Command,
@@ -335,5 +340,5 @@ pub fn next_lock<H: Held>(
     ensures settled { is_settled config.now (call_of command.now) (place_of place.now) (H.cells held.now) ≡ is_ready result }
     ensures planned { IsPlanned config.now command.now (place_of place.now) learnt (H.cells held.now) result }
 {
-    next_held(config, &command.call(), place, learnt, held)
+    next_step(config, &command.call(), place, learnt, held)
 }

@@ -10,7 +10,7 @@ use Rattle.rmm_spec.specs.State.{State}
 use Rattle.conditions.specs.declared.asked.Asked.{Asked}
 use Rattle.conditions.specs.declared.test.Test.{Test}
 use Rattle.conditions.specs.declared.test.Test.TheVariants as test
-use Rattle.conditions.specs.Law.{AllPass, IsFirst, first_failing}
+use Rattle.conditions.specs.Law.{AllPass, IsFirst, IsFound, first_failing}
 use Rattle.conditions.specs.Lists.{word_condition}
 use Rattle.conditions.specs.Tests.{passes}
 
@@ -100,6 +100,12 @@ IsFirst-at s (here ∷ list) (suc i) asked is below fails = inl (below.0, IsFirs
 pub none_found : (found : Option Asked) (Each : Type 0) (First : Asked → Type 0) → MatchOption found Each First → ((asked : Asked) → ¬ (found ≡ Some asked)) → Each
 none_found None Each First match none = match
 none_found (Some asked) Each First match none = absurd (none asked refl)
+
+-- ---- where one is
+
+pub first_found : (s : State) (list : List Asked) (found : Option Asked) (asked : Asked) → IsFound s list found → found ≡ Some asked
+    → IsFirst s list asked.condition asked.test
+first_found s list found asked match is = subst (IsFound s list) is match
 
 -- ---- the parts of a command's conditions
 

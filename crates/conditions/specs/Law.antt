@@ -1,5 +1,5 @@
 -- What the conditions of a command decide.
-use Rattle.std.specs.Prelude.{◌≡◌, ◌⊎◌, true, false, List, [], ◌∷◌, Option, Some, None, Result, Ok, Err, if◌then◌else◌}
+use Rattle.std.specs.Prelude.{◌≡◌, ◌⊎◌, true, false, List, [], ◌∷◌, Option, Some, None, MatchOption, Result, Ok, Err, if◌then◌else◌}
 use Rattle.std.specs.List.{AllByRecursion}
 use Rattle.rmm_spec.specs.declared.accepted.Accepted.{Accepted}
 use Rattle.rmm_spec.specs.declared.condition.Condition.{Condition}
@@ -38,3 +38,7 @@ IsFirst s (asked ∷ others) condition test =
 -- each of them passes
 abbrev pub AllPass : State → List Asked → Type 0
 AllPass s list = AllByRecursion (λ (asked : Asked). passes s asked.test ≡ true) list
+
+-- what is found is the first of them that fails, and nothing where each passes
+abbrev pub IsFound : State → List Asked → Option Asked → Type 0
+IsFound s list found = MatchOption found (AllPass s list) (λ (asked : Asked). IsFirst s list asked.condition asked.test)

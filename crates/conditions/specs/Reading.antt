@@ -67,6 +67,10 @@ request_read (Some request) = request.base ∷ request.top ∷ ripas_number requ
 abbrev pub walk_read : Walked → List ℕ
 walk_read end = end.level ∷ entry_state end.entry ∷ entry_address end.entry ∷ ripas_number (entry_ripas end.entry) ∷ []
 
+-- of a realm that is there
+abbrev pub walk_in : State → ℕ → ℕ → ℕ → List ℕ
+walk_in s rd ipa level = if has_tag s rd Rd then walk_read (walk s rd ipa (min level 3)) else []
+
 abbrev pub index_read : RealmRecord → List ℕ
 index_read realm = realm.next_index ∷ []
 
@@ -102,7 +106,7 @@ read s (source.Runnable rec) = of_rec runnable_read (s.rec rec)
 read s (source.Owner rec) = of_rec owner_read (s.rec rec)
 read s (source.Request rec) = of_rec asked_read (s.rec rec)
 read s (source.Leaving rec) = of_rec leaving_read (s.rec rec)
-read s (source.Walk rd ipa level) = walk_read (walk s rd ipa (min level 3))
+read s (source.Walk rd ipa level) = walk_in s rd ipa level
 read s (source.Measured rd index) = of_realm (measured_read index) (s.realm rd)
 
 -- ---- what a test is read from

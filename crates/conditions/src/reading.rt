@@ -34,7 +34,7 @@ pub fn read(machine: &Machine, source: Source) -> ArrayVec<u64, 10>
         Source::Owner { rec } => of_owner(machine.rec(rec)),
         Source::Request { rec } => of_request(machine.rec(rec)),
         Source::Leaving { rec } => of_leaving(machine.rec(rec)),
-        Source::Walk { rd, ipa, level } => of_walk(machine.walk(rd, ipa, level.min(3))),
+        Source::Walk { rd, ipa, level } => walk_in(machine, rd, ipa, level),
         Source::Measured { rd, index } => of_measurement(machine.realm(rd), index),
     }
 }
@@ -189,6 +189,16 @@ fn of_leaving(rec: Option<Rec>) -> ArrayVec<u64, 10>
         Some(rec) => answer_to_exit(&rec).words,
         None => ArrayVec::new(),
     }
+}
+
+// Where a walk ends in a realm that is there.
+fn walk_in(machine: &Machine, rd: u64, ipa: u64, level: u8) -> ArrayVec<u64, 10>
+    ensures { result.items ≡ spec.walk_in (state_of machine.now) rd ipa level }
+{
+    if !machine.has_tag(rd, Tag::Rd) {
+        return ArrayVec::new();
+    }
+    of_walk(machine.walk(rd, ipa, level.min(3)))
 }
 
 fn of_walk(end: Walked) -> ArrayVec<u64, 10>

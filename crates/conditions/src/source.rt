@@ -29,7 +29,7 @@ pub enum Source {
     Request { rec: u64 },
     /// Why the REC leaves.
     Leaving { rec: u64 },
-    /// Where a walk ends.
+    /// Where a walk ends in a realm that is there.
     Walk { rd: u64, ipa: u64, level: u8 },
     /// A measurement of the realm.
     Measured { rd: u64, index: u64 },

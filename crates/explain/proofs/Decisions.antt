@@ -17,7 +17,7 @@ use Rattle.conditions.specs.declared.test.Test.{Test}
 use Rattle.conditions.specs.Law.{IsFirst, first_failing, refused_for}
 use Rattle.conditions.specs.Lists.{conditions}
 use Rattle.conditions.specs.Tests.{passes, stands}
-use Rattle.conditions.proofs.First.{first_failing-first}
+use Rattle.conditions.proofs.First.{fails-first, first_failing-first}
 use Rattle.conditions.proofs.Rows.{refused_for-outcome}
 use Rattle.told.specs.declared.explanation.Deciding.{Deciding}
 use Rattle.told.specs.declared.explanation.Deciding.TheVariants as deciding
@@ -48,6 +48,7 @@ IsFailing-first s cpu command name t first = (
   name,
   refused_for-outcome s cpu (call_of command) ∙ first_failing-first s (conditions cpu (rec_inside s cpu) (call_of command)) name t first,
   first,
+  fails-first s (conditions cpu (rec_inside s cpu) (call_of command)) name t first,
 )
 
 pub IsDecision-condition : (s : State) (cpu : ℕ) (command : Command) (claimed : Reply) (t : Test) (d : Deciding) (w : Watch)

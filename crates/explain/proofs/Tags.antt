@@ -4,7 +4,7 @@ use Rattle.std.proofs.lemmas.Bool.Decides.{nat_tests}
 use Rattle.rmm_spec.specs.declared.tag.Tag.{Tag}
 use Rattle.rmm_spec.specs.Lookup.{has_tag, tag_number}
 use Rattle.rmm_spec.specs.State.{State}
-use Rattle.explain.specs.Deciding.{IsFound}
+use Rattle.explain.specs.Facts.{IsFound}
 
 is_same : (tag : Tag) → IsTrue (tag_number tag == tag_number tag)
 is_same tag = grind (arith, nat_tests)

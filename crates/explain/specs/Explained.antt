@@ -1,5 +1,5 @@
 -- What an explanation says of two texts.
-use Rattle.std.specs.Prelude.{◌≡◌, ◌≢◌, ◌⊎◌, ℕ, ◌+◌, ◌-◌, ◌<◌, ◌≤◌, List, [], ◌∷◌, ◌++◌, length, take, slice_get, Some}
+use Rattle.std.specs.Prelude.{◌≡◌, ◌≢◌, ◌⊎◌, ℕ, ◌+◌, ◌-◌, ◌<◌, ◌≤◌, List, [], ◌∷◌, ◌++◌, length, take, slice_get, Some, IfSome}
 use Rattle.std.specs.List.{filter}
 use Rattle.rmm_spec.specs.declared.line.Line.{Line}
 use Rattle.rmm_spec.specs.Call.{call_of}
@@ -22,10 +22,15 @@ use Rattle.told.specs.declared.flaw.Misplaced.TheVariants as misplaced
 use Rattle.bad_lines.specs.Wrong.{IsCertificateLine, IsEventLine, IsHeader, IsHeaderOf, IsWrong}
 use Rattle.told.specs.declared.explanation.RefusedLine.{RefusedLine}
 use Rattle.told.specs.declared.explanation.Summary.{Summary}
+use Rattle.told.specs.declared.named_call.UnfinishedCall.{UnfinishedCall}
 use Rattle.explain.specs.declared.watch.Watch.{Watch}
 use Rattle.explain.specs.Deciding.{IsDecision}
 use Rattle.explain.specs.Told.{IsTold, NamesAt, is_call}
 use Rattle.explain.specs.Watch.{IsSince}
+use Rattle.explain.specs.Before.{IsBefore}
+use Rattle.explain.specs.Late.{IsLateOf}
+use Rattle.explain.specs.Put.{IsPut}
+use Rattle.explain.specs.Unfinished.{AreUnfinished}
 pub use Rattle.told.specs.Verdict.{reason_of, verdict_of}
 
 -- ---- what stands behind it
@@ -44,6 +49,9 @@ pub record IsRefused (history : History) (lines : List Line) (step : ℕ) (refus
   pub watched : Watch
   pub decides : IsDecision old refused.call.cpu refused.call.call.command refused.specified refused.claimed refused.deciding watched
   pub since : IsSince history lines index watched refused.since
+  pub put : IfSome refused.put (IsPut history lines index refused.deciding)
+  pub late : IsLateOf history.events lines index refused.call watched old refused.late
+  pub before : IsBefore old refused.call.cpu (call_of refused.call.call.command) refused.before
 
 -- of the line that fails, and of the calls that it is about
 abbrev pub IsCause : Cause → History → List Line → ℕ → Type 0
@@ -117,10 +125,16 @@ IsCertificateFlaw told text line parts = IsFlawOf IsCertificateLine told text li
 
 -- ---- both texts
 
+-- of all places of the history
+abbrev pub NeverReturned : History → List Line → List UnfinishedCall → Type 0
+NeverReturned history lines unfinished = AreUnfinished history.events lines (length history.events) unfinished
+
 abbrev pub IsExplained : Explanation → List ℕ → List ℕ → Type 0
 IsExplained (explanation.HistoryFault bad) history certificate =
     IsLineIn history bad.line bad.bytes.now × IsHistoryFlaw bad.flaw history bad.line (parts_of bad.bytes.now)
 IsExplained (explanation.CertificateFault bad) history certificate =
     IsLineIn certificate bad.line bad.bytes.now × IsCertificateFlaw bad.flaw certificate bad.line (parts_of bad.bytes.now)
-IsExplained (explanation.Yes summary unfinished) history certificate = Explains history certificate (λ h lines. IsSummary h lines summary)
-IsExplained (explanation.No step cause unfinished) history certificate = Explains history certificate (λ h lines. IsCause cause h lines step)
+IsExplained (explanation.Yes summary unfinished) history certificate =
+    Explains history certificate (λ h lines. IsSummary h lines summary × NeverReturned h lines unfinished.items)
+IsExplained (explanation.No step cause unfinished) history certificate =
+    Explains history certificate (λ h lines. IsCause cause h lines step × NeverReturned h lines unfinished.items)

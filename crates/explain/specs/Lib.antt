@@ -1,6 +1,12 @@
 pub mod Told
 pub mod Watch
 pub mod Track
+pub mod Facts
 pub mod Deciding
+pub mod Before
+pub mod Late
+pub mod Put
+pub mod Unfinished
+pub mod Refused
 pub mod Explained
 pub mod Run

@@ -1,10 +1,10 @@
 //! Why a step fails.
 
-ghost use Rattle.std.specs.Prelude.{◌≡◌, ℕ, ◌+◌, ◌≤◌, length, take, slice_get, Some, IfOk};
+ghost use Rattle.std.specs.Prelude.{◌≡◌, ℕ, ◌+◌, ◌<◌, length, take, slice_get, Some, IfOk};
 ghost use Rattle.certificate.specs.LineRef.{line_seen};
 ghost use Rattle.checker.specs.Judged.{IsLeftBy};
 ghost use Rattle.explain.specs.Explained.{IsCause, reason_of};
-ghost use Rattle.explain.specs.Told.{IsStep, NamesAt};
+ghost use Rattle.explain.specs.Told.{IsStep, IsTold, NamesAt};
 ghost use Rattle.rmm_spec.specs.declared.verdict.Reason.TheVariants as reason;
 ghost use Rattle.rmm_spec.specs.declared.verdict.Verdict.TheVariants as verdict;
 ghost use Rattle.rmm_spec.specs.declared.reply.Reply.{Reply};
@@ -15,9 +15,7 @@ ghost use Rattle.rmm_spec.specs.Call.{call_of};
 ghost use Rattle.rmm_spec.specs.State.{State};
 ghost use Rattle.rmm_spec.specs.Step.{Step, outcome};
 ghost use Rattle.spec_machine.specs.View.{state_of};
-ghost use Rattle.explain.specs.declared.watch.Watch.{Watch as Watched};
-ghost use Rattle.explain.specs.Deciding.{IsDecision};
-ghost use Rattle.explain.specs.Watch.{IsSince};
+ghost use Rattle.explain.specs.Refused.{IsToldOf};
 
 use crate::before::state_before;
 use crate::deciding::decision_of;
@@ -208,12 +206,12 @@ fn refused(
     }))
 }
 
-// What is told of a refused line besides its replies.
+/// What is told of a refused line besides its replies.
 #[derive(Drop)]
-struct Told {
-    deciding: Deciding,
-    steps: Steps,
-    before: StateBefore,
+pub(crate) struct Told {
+    pub(crate) deciding: Deciding,
+    pub(crate) steps: Steps,
+    pub(crate) before: StateBefore,
 }
 
 // What decides that the claimed reply isn't the specified one, with the steps that it is about and the state before.
@@ -227,13 +225,12 @@ fn told_of(
     specified: &Result<Accepted, Refusal>,
     claimed: &Reply,
 ) -> Result<Told, AllocError>
-    requires within { index ≤ length certificate.now.lines }
+    requires within { index < length certificate.now.lines }
     requires left { Passes history.now.recorded (take index certificate.now.lines) (state_of machine.now) }
+    requires told { IsTold history.now.recorded.events call.now }
     requires specified { specified.now ≡ outcome (state_of machine.now) call.now.cpu (call_of call.now.call.command) }
     requires refused { (next : State) → ¬ Step (state_of machine.now) call.now.cpu call.now.call.command claimed.now next }
-    ensures { IfOk result (λ told. (watched : Watched)
-        × IsDecision (state_of machine.now) call.now.cpu call.now.call.command specified.now claimed.now told.deciding watched
-        × IsSince history.now.recorded certificate.now.lines index watched told.steps.since) }
+    ensures { IfOk result (IsToldOf history.now.recorded certificate.now.lines index (state_of machine.now) call.now specified.now claimed.now) }
 {
     let command = &call.call.command;
     let mut owners = Vec::new(alloc);

@@ -1,26 +1,26 @@
 //! What a test that fails reads of the state: the fact that a report has for it.
 
-ghost use Rattle.std.specs.Prelude.{◌≡◌, ◌≤◌, ◌/◌, ◌%◌, [], Some, None, IfNone, IfSome, IsTrue, false, slice_get};
-ghost use Rattle.conditions.specs.declared.test.Test.{Test as Asked};
+ghost use Rattle.std.specs.Prelude.{◌≡◌, ◌≤◌, ◌<◌, ◌/◌, ◌%◌, ◌^◌, [], Some, None, IfNone, IfSome, false, true, is_none, is_some, slice_get};
 ghost use Rattle.conditions.specs.declared.test.Test.TheVariants as test;
-ghost use Rattle.conditions.specs.Tests.{passes};
-ghost use Rattle.rmm_spec.specs.declared.tag.Tag.TheVariants as tags;
+ghost use Rattle.conditions.specs.declared.test.WalkTest.{WalkTest as WalkAsked};
+ghost use Rattle.conditions.specs.Tests as tests;
 ghost use Rattle.rmm_spec.specs.Lookup as look;
-ghost use Rattle.rmm_spec.specs.Lookup.{has_tag};
+ghost use Rattle.rmm_spec.specs.Lookup.{has_tag, rec_at, realm_at};
 ghost use Rattle.rmm_spec.specs.State.{State};
+ghost use Rattle.rmm_spec.specs.Step.Table.{ripas_left};
 ghost use Rattle.rmm_spec.specs.Walk as tables;
 ghost use Rattle.spec_machine.specs.Report.{AddsOwners};
 ghost use Rattle.spec_machine.specs.View.{state_of};
-ghost use Rattle.explain.specs.Deciding.{IsFact, IsFound, entry_seen};
+ghost use Rattle.explain.specs.Facts as spec;
+ghost use Rattle.explain.specs.Facts.{IsEntryIn, IsFact, IsFound, IsRealmFact, IsRecFact, entry_seen};
 
 use command_rows::Sight;
 use conditions::{RealmTest, RecTest, Test, rec_inside};
 use granule_state::GRANULE_BYTES;
-use rmm_spec::{Entry, Removal, Tag};
+use rmm_spec::{Entry, EntryTest, Removal, Tag};
 use spec_machine::{Machine, OwnerRow};
 use table_entries::{
-    entry_address, entry_ripas, entry_size, entry_state, is_live, is_table, ripas_number,
-    table_number,
+    entry_address, entry_ripas, entry_size, entry_state, passes, ripas_number, table_number,
 };
 use told::{EntryRead, Fact};
 
@@ -31,7 +31,7 @@ const ENTRIES: u64 = 512;
 #[tactic(auto, unfolding(conditions::specs::Tests::passes))]
 pub(crate) fn fact_of(machine: &Machine, owners: &[OwnerRow], test: Test) -> Fact
     requires owners { AddsOwners (state_of machine.now) [] owners.now }
-    requires fails { passes (state_of machine.now) test ≡ false }
+    requires fails { tests.passes (state_of machine.now) test ≡ false }
     ensures { IsFact (state_of machine.now) test result }
 {
     match test {
@@ -45,8 +45,8 @@ pub(crate) fn fact_of(machine: &Machine, owners: &[OwnerRow], test: Test) -> Fac
         Test::VmidFree { vmid } => vmid_fact(machine, owners, vmid),
         Test::OfRealm { rd, asked } => realm_fact(machine, rd, asked),
         Test::OfRec { rec, asked } => rec_fact(machine, rec, asked),
-        Test::OfOwner { rec, asked } => owner_fact(machine, rec, asked),
-        Test::NoRec { rd } => rec_left(owners, rd),
+        Test::OfOwner { rec, asked } => realm_fact(machine, owner_of(machine, rec), asked),
+        Test::NoRec { rd } => rec_left(machine, owners, rd),
         Test::NoLink { rd } => link_fact(machine, rd),
         Test::OfWalk { rd, ipa, level, .. } => walk_fact(machine, rd, ipa, level),
         Test::Removable {
@@ -95,21 +95,23 @@ pub(crate) fn owner(owners: &[OwnerRow], granule: u64) -> Option<OwnerRow>
 // Why a REC waits to leave.
 #[tactic(auto, unfolding(rmm_spec::specs::Lookup::rec_at, realm_desc::specs::View::rec_record))]
 fn pending_fact(machine: &Machine, rec: u64) -> Fact
-    ensures { (t : Asked) → IsFact (state_of machine.now) t result }
+    requires { is_none (rec_at (state_of machine.now) rec).pending ≡ false }
+    ensures { IsFact (state_of machine.now) (test.Idle rec) result }
 {
     let Some(held) = machine.rec(rec) else {
-        return Fact::Words;
+        unreachable!()
     };
-    match held.pending {
-        Some(pending) => Fact::Pending { rec, pending },
-        None => Fact::Words,
-    }
+    let Some(pending) = held.pending else {
+        unreachable!()
+    };
+    Fact::Pending { rec, pending }
 }
 
 // A realm that has the VMID.
-#[tactic(auto, unfolding(realm_desc::specs::View::realm_record))]
 fn vmid_fact(machine: &Machine, owners: &[OwnerRow], vmid: u8) -> Fact
-    ensures { (t : Asked) → IsFact (state_of machine.now) t result }
+    requires owners { AddsOwners (state_of machine.now) [] owners.now }
+    requires used { look.is_vmid_used (state_of machine.now) vmid ≡ true }
+    ensures { IsFact (state_of machine.now) (test.VmidFree vmid) result }
 {
     for i in 0..owners.len() {
         let rd = owners[i].granule.address();
@@ -120,7 +122,7 @@ fn vmid_fact(machine: &Machine, owners: &[OwnerRow], vmid: u8) -> Fact
             };
         }
     }
-    Fact::Words
+    unreachable!()
 }
 
 // Whether a realm is there and has the VMID.
@@ -137,7 +139,7 @@ fn has_vmid(machine: &Machine, rd: u64, vmid: u8) -> bool
 // What is asked of a realm.
 #[tactic(auto, unfolding(rmm_spec::specs::Lookup::realm_at, realm_desc::specs::View::realm_record))]
 fn realm_fact(machine: &Machine, rd: u64, asked: RealmTest) -> Fact
-    ensures { (t : Asked) → IsFact (state_of machine.now) t result }
+    ensures { IsRealmFact (state_of machine.now) rd asked result }
 {
     let Some(realm) = machine.realm(rd) else {
         return Fact::Words;
@@ -159,30 +161,31 @@ fn realm_fact(machine: &Machine, rd: u64, asked: RealmTest) -> Fact
     }
 }
 
-// The same of a REC's realm.
-fn owner_fact(machine: &Machine, rec: u64, asked: RealmTest) -> Fact
-    ensures { (t : Asked) → IsFact (state_of machine.now) t result }
+// The realm of a REC.
+#[tactic(auto, unfolding(rmm_spec::specs::Lookup::rec_at, realm_desc::specs::View::rec_record))]
+fn owner_of(machine: &Machine, rec: u64) -> u64
+    ensures { result ≡ (rec_at (state_of machine.now) rec).owner }
 {
     match machine.rec(rec) {
-        Some(held) => realm_fact(machine, held.owner.address(), asked),
-        None => Fact::Words,
+        Some(held) => held.owner.address(),
+        None => 0,
     }
 }
 
 // What is asked of a REC.
 #[tactic(auto, unfolding(rmm_spec::specs::Lookup::rec_at, realm_desc::specs::View::rec_record))]
 fn rec_fact(machine: &Machine, rec: u64, asked: RecTest) -> Fact
-    ensures { (t : Asked) → IsFact (state_of machine.now) t result }
+    requires { tests.rec_passes asked (rec_at (state_of machine.now) rec) ≡ false }
+    ensures { IsRecFact (state_of machine.now) rec asked result }
 {
     let Some(held) = machine.rec(rec) else {
         return Fact::Words;
     };
     match asked {
-        RecTest::Ready => match held.cpu {
-            Some(cpu) => Fact::Runs { rec, cpu },
-            None => Fact::Words,
-        },
-        RecTest::Runnable if held.runnable => Fact::Words,
+        RecTest::Ready => {
+            let Some(cpu) = held.cpu else { unreachable!() };
+            Fact::Runs { rec, cpu }
+        }
         RecTest::Runnable => Fact::Stopped { rec },
         RecTest::OwnedBy(_) => Fact::Owner {
             rec,
@@ -195,35 +198,35 @@ fn rec_fact(machine: &Machine, rec: u64, asked: RecTest) -> Fact
     }
 }
 
-// A REC of the realm that is to go, where one is left.
-fn rec_left(owners: &[OwnerRow], rd: u64) -> Fact
-    ensures { (s : State) (t : Asked) → AddsOwners s [] owners.now → IsFact s t result }
+// A REC of the realm that is to go.
+fn rec_left(machine: &Machine, owners: &[OwnerRow], rd: u64) -> Fact
+    requires owners { AddsOwners (state_of machine.now) [] owners.now }
+    requires left { look.has_rec (state_of machine.now) rd ≡ true }
+    ensures { IsFact (state_of machine.now) (test.NoRec rd) result }
 {
     for i in 0..owners.len() {
-        let row = &owners[i];
-        if is_rec_of(row, rd) {
-            return Fact::RecLeft {
-                rd,
-                rec: row.granule.address(),
-            };
+        let rec = owners[i].granule.address();
+        if is_rec_of(machine, rec, rd) {
+            return Fact::RecLeft { rd, rec };
         }
     }
-    Fact::Words
+    unreachable!()
 }
 
-// Whether a row is that of a REC of the realm.
-fn is_rec_of(row: &OwnerRow, rd: u64) -> bool
-    ensures { IsTrue result → (row.now.tag ≡ tags.Rec) × (row.now.realm ≡ Some rd) }
+// Whether a REC is there and is one of the realm.
+#[tactic(auto, unfolding(realm_desc::specs::View::rec_record))]
+fn is_rec_of(machine: &Machine, rec: u64, rd: u64) -> bool
+    ensures { result ≡ look.is_owned_by rd ((state_of machine.now).rec rec) }
 {
-    match row.realm {
-        Some(realm) => row.tag == Tag::Rec && realm.address() == rd,
+    match machine.rec(rec) {
+        Some(held) => held.owner.address() == rd,
         None => false,
     }
 }
 
 // Where a walk ends.
 fn walk_fact(machine: &Machine, rd: u64, ipa: u64, level: u8) -> Fact
-    ensures { (t : Asked) → IsFact (state_of machine.now) t result }
+    ensures { (asked : WalkAsked) → IsFact (state_of machine.now) (test.OfWalk rd ipa level asked) result }
 {
     let end = machine.walk(rd, ipa, level.min(3));
     Fact::Entry {
@@ -247,52 +250,77 @@ pub(crate) fn entry_read(level: u8, entry: Entry) -> EntryRead
 
 // A table below the realm's root.
 fn link_fact(machine: &Machine, rd: u64) -> Fact
-    ensures { (t : Asked) → IsFact (state_of machine.now) t result }
+    requires { tables.has_link (state_of machine.now) rd (realm_at (state_of machine.now) rd).start_level 0 ≡ true }
+    ensures { IsFact (state_of machine.now) (test.NoLink rd) result }
 {
-    let Some(realm) = machine.realm(rd) else {
-        return Fact::Words;
+    let Some((ipa, read)) = entry_met(machine, rd, root_level(machine, rd), 0, EntryTest::Link)
+    else {
+        unreachable!()
     };
-    let level = realm.start_level().min(3);
-    for k in 0..ENTRIES {
-        let entry = machine.entry_at(rd, level, k);
-        if is_table(entry) {
-            return in_use(rd, level, k, entry);
-        }
+    Fact::InUse { rd, ipa, read }
+}
+
+// The level of a realm's root, and 0 where no realm is.
+#[tactic(auto, unfolding(rmm_spec::specs::Lookup::realm_at, realm_desc::specs::View::realm_record))]
+fn root_level(machine: &Machine, rd: u64) -> u8
+    ensures level { result ≡ (realm_at (state_of machine.now) rd).start_level }
+    ensures within { result ≤ 3 }
+{
+    match machine.realm(rd) {
+        Some(realm) => realm.space.start_level(),
+        None => 0,
     }
-    Fact::Words
 }
 
 // An entry for which the table can't be taken out.
 fn table_fact(machine: &Machine, removal: Removal, rd: u64, ipa: u64, level: u8) -> Fact
-    ensures { (t : Asked) → IsFact (state_of machine.now) t result }
+    requires { is_some (ripas_left removal (state_of machine.now) rd level (tables.table_number level ipa)) ≡ false }
+    ensures { IsFact (state_of machine.now) (test.Removable removal rd ipa level) result }
 {
     if level > 3 {
         return Fact::Words;
     }
-    let first = table_number(level, ipa).saturating_mul(ENTRIES);
-    let alike = machine.entry_at(rd, level, first);
-    for k in 0..ENTRIES {
-        let number = first.saturating_add(k);
-        let entry = machine.entry_at(rd, level, number);
-        let is_met = match removal {
-            Removal::Destroy => is_live(entry),
-            Removal::Fold => entry != alike || is_live(entry),
-        };
-        if is_met {
-            return in_use(rd, level, number, entry);
-        }
-    }
-    Fact::Words
-}
-
-// An entry by its number at the level.
-fn in_use(rd: u64, level: u8, number: u64, entry: Entry) -> Fact
-    requires { level ≤ 3 }
-    ensures { (s : State) (t : Asked) → entry ≡ tables.entry_at s rd level number → IsFact s t result }
-{
+    let number = table_number(level, ipa);
+    let wanted = in_the_way(removal, machine.entry_at(rd, level, 512 * number));
+    let Some((first, read)) = entry_met(machine, rd, level, number, wanted) else {
+        unreachable!()
+    };
     Fact::InUse {
         rd,
-        ipa: number.wrapping_mul(entry_size(level)),
-        read: entry_read(level, entry),
+        ipa: first,
+        read,
     }
+}
+
+// What is asked of an entry that keeps a table where it is, by the table's first.
+fn in_the_way(removal: Removal, first: Entry) -> EntryTest
+    ensures { result ≡ spec.in_the_way removal first }
+{
+    match removal {
+        Removal::Destroy => EntryTest::Live,
+        Removal::Fold => EntryTest::Unlike(first),
+    }
+}
+
+// The first entry of a table of which this is met, with the first address that it covers.
+fn entry_met(
+    machine: &Machine,
+    rd: u64,
+    level: u8,
+    number: u64,
+    wanted: EntryTest,
+) -> Option<(u64, EntryRead)>
+    requires level { level ≤ 3 }
+    requires number { number < 2 ^ 52 }
+    ensures some { IfSome result (λ found. IsEntryIn (state_of machine.now) rd level number wanted found.0 found.1) }
+    ensures none { IfNone result (tables.has_entry (state_of machine.now) rd level number wanted ≡ false) }
+{
+    for k in 0..ENTRIES {
+        let at = ENTRIES * number + k;
+        let entry = machine.entry_at(rd, level, at);
+        if passes(wanted, entry) {
+            return Some((at.wrapping_mul(entry_size(level)), entry_read(level, entry)));
+        }
+    }
+    None
 }

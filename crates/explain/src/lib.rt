@@ -15,6 +15,7 @@ mod fact;
 mod farthest;
 mod flaw;
 mod late;
+mod laws;
 mod named_call;
 mod replay;
 mod reporting;
@@ -26,6 +27,7 @@ mod watch;
 
 pub use explained_run::{ExplainedRun, Run, explain};
 pub use explaining::explain_run;
+pub use laws::words_are_read;
 pub use reporting::report;
 pub use told::{
     BadLine, Cause, Deciding, EarlierStep, EntryRead, Explanation, Fact, Flaw, GranuleBefore,

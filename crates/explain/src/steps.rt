@@ -1,8 +1,11 @@
 //! The other steps that a refused line is about.
 
-ghost use Rattle.std.specs.Prelude.{◌≡◌, ◌≤◌, true, length, take, IfOk};
+ghost use Rattle.std.specs.Prelude.{◌≡◌, ◌≤◌, ◌<◌, true, length, take, IfOk, IfSome};
 ghost use Rattle.rmm_spec.specs.FirstFault.{Passes};
 ghost use Rattle.spec_machine.specs.View.{state_of};
+ghost use Rattle.explain.specs.Late.{IsLateOf};
+ghost use Rattle.explain.specs.Put.{IsPut, IsPutTest};
+ghost use Rattle.explain.specs.Told.{IsTold};
 ghost use Rattle.explain.specs.Watch.{IsSince, is_so};
 
 use crate::deciding::Decision;
@@ -36,10 +39,13 @@ pub(crate) fn steps_of(
     call: &NamedCall,
     decision: &Decision,
 ) -> Result<Steps, AllocError>
-    requires within { index ≤ length certificate.now.lines }
+    requires within { index < length certificate.now.lines }
     requires left { Passes history.now.recorded (take index certificate.now.lines) (state_of machine.now) }
+    requires told { IsTold history.now.recorded.events call.now }
     requires so { is_so (state_of machine.now) decision.now.watch ≡ true }
-    ensures { IfOk result (λ steps. IsSince history.now.recorded certificate.now.lines index decision.now.watch steps.since) }
+    ensures since { IfOk result (λ steps. IsSince history.now.recorded certificate.now.lines index decision.now.watch steps.since) }
+    ensures put { IfOk result (λ steps. IfSome steps.put (IsPut history.now.recorded certificate.now.lines index decision.now.deciding)) }
+    ensures late { IfOk result (λ steps. IsLateOf history.now.recorded.events certificate.now.lines index call.now decision.now.watch (state_of machine.now) steps.late) }
 {
     let since = since_of(alloc, history, certificate, index, &decision.watch)?;
     let put = put_by(
@@ -51,35 +57,28 @@ pub(crate) fn steps_of(
         decision.deciding,
         &since,
     )?;
-    let late = late_step(
-        alloc,
-        history,
-        certificate,
-        machine,
-        index,
-        call,
-        &decision.watch,
-    )?;
+    let late = late_step(history, certificate, machine, index, call, &decision.watch)?;
     Ok(Steps { since, put, late })
 }
 
 // The later step with which the condition would hold.
 fn late_step(
-    alloc: Global,
     history: &History,
     certificate: &Certificate,
     machine: &Machine,
     index: usize,
     call: &NamedCall,
     watch: &Watch,
-) -> Result<Option<LateCommit>, AllocError> {
-    let Watch::Condition(test, _) = watch else {
-        return Ok(None);
-    };
-    let Some(places) = history.places_of(call.cpu, call.number) else {
-        return Ok(None);
-    };
-    late_commit(alloc, history, certificate, index, machine, *test, places)
+) -> Result<Option<LateCommit>, AllocError>
+    requires within { index < length certificate.now.lines }
+    requires told { IsTold history.now.recorded.events call.now }
+    requires so { is_so (state_of machine.now) watch.now ≡ true }
+    ensures { IfOk result (IsLateOf history.now.recorded.events certificate.now.lines index call.now watch.now (state_of machine.now)) }
+{
+    match watch {
+        Watch::Condition(test, _) => late_commit(history, certificate, index, machine, call, *test),
+        Watch::Accepted(..) | Watch::Read(_) => Ok(None),
+    }
 }
 
 // The step that put there what a fact names, one of several, where it is another step.
@@ -94,6 +93,7 @@ fn put_by(
 ) -> Result<Option<EarlierStep>, AllocError>
     requires within { index ≤ length certificate.now.lines }
     requires left { Passes history.now.recorded (take index certificate.now.lines) (state_of machine.now) }
+    ensures { IfOk result (λ found. IfSome found (IsPut history.now.recorded certificate.now.lines index deciding)) }
 {
     let Some(test) = put_test(machine, deciding) else {
         return Ok(None);
@@ -116,7 +116,9 @@ fn is_so_now(machine: &Machine, watch: &Watch) -> bool
 }
 
 // A step, if it isn't the one at which it turned.
-fn if_other(step: EarlierStep, since: &Since) -> Option<EarlierStep> {
+fn if_other(step: EarlierStep, since: &Since) -> Option<EarlierStep>
+    ensures { IfSome result (λ other. other ≡ step) }
+{
     if is_at(since, step.step) {
         None
     } else {
@@ -133,7 +135,9 @@ fn is_at(since: &Since, step: u64) -> bool {
 }
 
 // The test that fails since what a fact names is there: the granule of a REC isn't delegated, and an entry is in use.
-fn put_test(machine: &Machine, deciding: Deciding) -> Option<Test> {
+fn put_test(machine: &Machine, deciding: Deciding) -> Option<Test>
+    ensures { IfSome result (IsPutTest deciding) }
+{
     match deciding {
         Deciding::Condition(Fact::RecLeft { rec, .. }) => Some(Test::Tagged {
             granule: rec,

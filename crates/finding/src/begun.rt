@@ -48,7 +48,7 @@ impl Begun {
         ensures front { IfOk result (λ begun. begun.front ≡ self.now.front) }
         ensures state { IfOk result (λ begun. state_of begun.machine ≡ state_of self.now.machine) }
     {
-        let machine = self.machine.copy(alloc)?;
+        let machine = self.machine.copy()?;
         let cpus = self.cpus.to_vec(alloc)?;
         Ok(Begun {
             front: same_front(&self.front),

@@ -57,7 +57,7 @@ pub(crate) fn earlier_place(
             checkpoint: None,
         });
     };
-    let machine = behind.machine.copy(alloc)?;
+    let machine = behind.machine.copy()?;
     let near = Checkpoint {
         lines: behind.lines,
         machine,

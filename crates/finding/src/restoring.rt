@@ -58,7 +58,7 @@ pub(crate) fn restored(
     let Some(behind) = behind else {
         return replayed_anew(alloc, history, frames);
     };
-    let copy = behind.machine.copy(alloc)?;
+    let copy = behind.machine.copy()?;
     let last = replayed(history, frames, frames.len(), behind)?;
     let Some(last) = last else {
         return replayed_anew(alloc, history, frames);

@@ -209,7 +209,7 @@ impl Search {
         ensures { OnOk result (IsStanding history.now.recorded self.old self.new) }
     {
         let lines = self.frames.len();
-        let machine = self.machine.copy(alloc)?;
+        let machine = self.machine.copy()?;
         self.checkpoint = Some(Checkpoint { lines, machine });
         Ok(())
     }
@@ -666,7 +666,7 @@ impl Search {
 fn boxed_copy(alloc: Global, machine: &Machine) -> Result<Box<Machine>, AllocError>
     ensures { IfOk result (λ (m : Box SpecMachine). state_of m.value ≡ state_of machine.now) }
 {
-    let copy = machine.copy(alloc)?;
+    let copy = machine.copy()?;
     match Box::new(alloc, copy) {
         Ok(copy) => Ok(copy),
         Err(_) => Err(AllocError),

@@ -10,9 +10,9 @@ ghost use Rattle.granule_lock.specs.Locked.{AreGranules, IsPlannedStep, IsReache
 
 use crate::granules::Granules;
 use crate::hold::Hold;
-use command_core::{CpuPlace, Held, Next, next_lock};
+use command_core::{CpuPlace, Held, Next, next_step};
 use granule_state::{Config, Pa};
-use rmm_spec::Command;
+use rmm_spec::{Call, Command};
 use std::sync::Wait;
 
 /// Takes and frees granules as the plan of a command says, from a hold of none until what is held settles it.
@@ -31,9 +31,10 @@ pub fn lock_for<R: Wait>(
     ensures planned { (learnt : Option ℕ)
         × IsReached config.now (call_of command.now) (place_of place.now) (locking (hold_cells hold.new) learnt) }
 {
+    let call = command.call();
     let mut learnt = None;
     for _step in rt.forever() {
-        if !goes_on(rt, granules, config, place, command, hold, &mut learnt) {
+        if !goes_on(rt, granules, config, place, &call, hold, &mut learnt) {
             return;
         }
     }
@@ -46,19 +47,19 @@ fn goes_on<R: Wait>(
     granules: &Granules,
     config: &Config,
     place: &CpuPlace,
-    command: &Command,
+    call: &Call,
     hold: &mut Hold,
     learnt: &mut Option<Pa>,
 ) -> bool
     requires size { granules.now.granules ≡ config.now.granules }
     requires granules { AreGranules granules.now.granules (hold_cells hold.old) }
-    ensures settled { result ≡ false → IsTrue (is_settled config.now (call_of command.now) (place_of place.now) (hold_cells hold.new)) }
+    ensures settled { result ≡ false → IsTrue (is_settled config.now call.now (place_of place.now) (hold_cells hold.new)) }
     ensures stays { result ≡ false → hold.new ≡ hold.old }
     ensures granules { AreGranules granules.now.granules (hold_cells hold.new) }
-    ensures planned { IsTrue result → IsPlannedStep config.now (call_of command.now) (place_of place.now)
+    ensures planned { IsTrue result → IsPlannedStep config.now call.now (place_of place.now)
         (locking (hold_cells hold.old) learnt.old) (locking (hold_cells hold.new) learnt.new) }
 {
-    match next_lock(config, command, place, *learnt, hold) {
+    match next_step(config, call, place, *learnt, hold) {
         Next::Take(pa) => granules.take(rt, hold, pa),
         Next::Free(pa, owner) => {
             granules.give(rt, hold, pa);

@@ -1,3 +1,4 @@
 pub mod NameLaws
 pub mod RoleLaws
 pub mod WordLaws
+mod PageLaws

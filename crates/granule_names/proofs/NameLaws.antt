@@ -11,7 +11,7 @@ use Rattle.granule_names.specs.Names.{number_in, added, names_from}
 
 -- ---- numbers behind one more name
 
-map_none : (o : Option ℕ) → option_map suc o ≡ None → o ≡ None
+pub map_none : (o : Option ℕ) → option_map suc o ≡ None → o ≡ None
 map_none None e = refl
 map_none (Some n) e = absurd (none-some (suc n) (sym e))
 
@@ -105,10 +105,10 @@ pub none_number : (o : Option ℕ) → is_some o ≡ false → o ≡ None
 none_number None e = refl
 none_number (Some n) e = absurd cc
 
-added-new : (names : List ℕ) (address : ℕ) → is_some (number_in names address) ≡ false → added names address ≡ names ++ address ∷ []
+pub added-new : (names : List ℕ) (address : ℕ) → is_some (number_in names address) ≡ false → added names address ≡ names ++ address ∷ []
 added-new names address new = ap (λ b. if b then names else names ++ address ∷ []) new
 
-added-old : (names : List ℕ) (address : ℕ) → is_some (number_in names address) ≡ true → added names address ≡ names
+pub added-old : (names : List ℕ) (address : ℕ) → is_some (number_in names address) ≡ true → added names address ≡ names
 added-old names address old = ap (λ b. if b then names else names ++ address ∷ []) old
 
 IsSome-if : (b : Bool) (n : ℕ) (o : Option ℕ) → (b ≡ false → IsSome o) → IsSome (if b then Some n else o)

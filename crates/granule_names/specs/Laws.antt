@@ -1,10 +1,11 @@
 -- What names and roles keep.
-use Rattle.std.specs.Prelude.{◌≡◌, ℕ, ◌+◌, ◌*◌, ◌<◌, ◌≤◌, List, [], ◌∷◌, length, map, slice_index, IsSome}
+use Rattle.std.specs.Prelude.{◌≡◌, ℕ, ◌+◌, ◌*◌, ◌<◌, ◌≤◌, true, List, [], ◌∷◌, length, map, slice_index, IsSome}
+use Rattle.std.specs.List.{AllByRecursion}
 use Rattle.rmm_spec.specs.declared.function_id.FunctionId.{FunctionId}
 use Rattle.rmm_spec.specs.Call.{call_from}
 use Rattle.rmm_spec.specs.Step.Terms.{named}
 use Rattle.granule_names.specs.Roles.{command_roles}
-use Rattle.granule_names.specs.Names.{number_in, called}
+use Rattle.granule_names.specs.Names.{is_granule, number_in, names_from, called}
 use Rattle.granule_names.specs.declared.roles.Role.{Role}
 use Rattle.granule_names.specs.declared.roles.Role.TheVariants.{Granule, Page, Other}
 
@@ -29,3 +30,13 @@ AreApart names granules = (address other : ℕ) → IsSome (number_in names addr
 abbrev pub AreBelow : List ℕ → ℕ → Type 0
 AreBelow names granules = (address : ℕ) → IsSome (number_in names address) → length names ≤ granules
     → called names granules Granule address < 4096 * granules
+
+-- a granule of the memory has a name
+abbrev pub IsNamedGranule : ℕ → List ℕ → ℕ → Type 0
+IsNamedGranule memory names word = is_granule memory word ≡ true → IsSome (number_in names word)
+
+-- Where granules' addresses have names, no two words for pages are called alike: one that is no granule keeps its value, which is no name.
+abbrev pub ArePagesApart : ℕ → List ℕ → ℕ → Type 0
+ArePagesApart memory addresses granules = AllByRecursion (λ a. is_granule memory a ≡ true) addresses → (word other : ℕ)
+    → IsNamedGranule memory (names_from [] addresses) word → IsNamedGranule memory (names_from [] addresses) other
+    → called (names_from [] addresses) granules Page word ≡ called (names_from [] addresses) granules Page other → word ≡ other

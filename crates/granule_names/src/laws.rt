@@ -2,7 +2,7 @@
 
 ghost use Rattle.std.specs.Prelude.{◌≡◌, ℕ, List, slice_get, Some, IsSome};
 ghost use Rattle.rmm_spec.specs.declared.function_id.FunctionId.{FunctionId};
-ghost use Rattle.granule_names.specs.Laws.{AreApart, AreBelow, NamesAtPlaces};
+ghost use Rattle.granule_names.specs.Laws.{AreApart, AreBelow, ArePagesApart, NamesAtPlaces};
 ghost use Rattle.granule_names.specs.Names.{names_from, number_in};
 
 /// The words of a command that are granules by their roles are those that the definitions name.
@@ -14,6 +14,11 @@ pub fn command_granules()
 pub fn names_differ()
     ensures apart { (names : List ℕ) (granules : ℕ) → AreApart names granules }
     ensures below { (names : List ℕ) (granules : ℕ) → AreBelow names granules }
+{}
+
+/// Nor do two pages: one that is no granule of the memory keeps its value, and no name is that.
+pub fn pages_differ()
+    ensures { (memory granules : ℕ) (addresses : List ℕ) → ArePagesApart memory addresses granules }
 {}
 
 /// Each address that appears gets a name.

@@ -1,12 +1,12 @@
 -- Places of granules: none is two granules' place, and all are below the count.
-use Rattle.std.proofs.Common.{◌≡◌, ◌≢◌, ◌⊎◌, inl, inr, ℕ, zero, suc, ◌+◌, ◌-◌, ◌*◌, ◌/◌, ◌%◌, ◌≤◌, ◌<◌, ◌==◌, Bool, true, false, List, [], ◌∷◌, ◌++◌, length, replicate, if◌then◌else◌, Option, Some, None, nat_lt, slice_set, refl, sym, ap, ◌∙◌, arith}
+use Rattle.std.proofs.Common.{◌≡◌, ◌≢◌, ◌⊎◌, inl, inr, ℕ, zero, suc, ◌+◌, ◌-◌, ◌*◌, ◌/◌, ◌%◌, ◌≤◌, ◌<◌, ◌==◌, Bool, true, false, List, [], ◌∷◌, length, replicate, Some, None, nat_lt, slice_set, refl, sym, ap, ◌∙◌, arith}
 use Rattle.std.specs.Prelude.{slice_index_or}
 use Rattle.std.proofs.lemmas.Bool.{eqb-false, eqb-true, ltb-false, ltb-true}
 use Rattle.std.proofs.lemmas.Bool.Decides.{nat_tests}
 use Rattle.std.proofs.lemmas.Option.{none-some, same_Some}
-use Rattle.std.proofs.lemmas.List.{get_or-replicate, get_or-set_other, get_or-set_same, get_or_past, length-replicate}
+use Rattle.std.proofs.lemmas.List.{get_or-set_other, get_or-set_same}
 use Rattle.granule_places.specs.Unmade.{unmade}
-use Rattle.granule_places.specs.Placed.{IsFurther, far_place, place_by, place_in, placed_at, count_in, read_at, room_in}
+use Rattle.granule_places.specs.Placed.{far_place, place_by, place_in, count_in, room_in}
 use Rattle.granule_places.specs.declared.places.GranulePlaces.{GranulePlaces}
 
 -- ---- blocks without places
@@ -196,54 +196,3 @@ place-granule places n place is = elim (placed places.near places.granules place
 pub count-room : (places : GranulePlaces) → count_in places ≤ room_in places
 unfolding count_in room_in
 count-room places = omega (arith, places.left)
-
--- ---- items at places
-
--- what is read past the last may as well stand there
-read-more : {A : Type 0} → (items : List A) (n i : ℕ) (default : A) → slice_index_or (items ++ replicate n default) i default ≡ slice_index_or items i default
-read-more [] n i default = by (nat_lt i n) refl
-  where
-    by : (b : Bool) → nat_lt i n ≡ b → slice_index_or (replicate n default) i default ≡ default
-    by true below = get_or-replicate n i default default (ltb-true i n below)
-    by false past = get_or_past (replicate n default) i default (omega (arith, ltb-false i n past, length-replicate n default))
-read-more (x ∷ items) n zero default = refl
-read-more (x ∷ items) n (suc i) default = read-more items n i default
-
--- one item is changed, seen at its own granule and at another
-pub read_at-set : {A : Type 0} → (places : GranulePlaces) (items : List A) (default item : A) (number place other : ℕ) → place_in places number ≡ Some place
-    → place < length items → read_at places (slice_set items place item) default other ≡ (if other == number then item else read_at places items default other)
-read_at-set places items default item number place other at within = by (other == number) refl
-  where
-    elsewhere : (o : Option ℕ) → place_in places other ≡ o → (other ≡ number → ⊥)
-        → placed_at (slice_set items place item) default o ≡ placed_at items default o
-    elsewhere None is apart = refl
-    elsewhere (Some o) is apart =
-        get_or-set_other items place o item default (λ same. apart (place-apart places other number place (is ∙ ap Some same) at))
-
-    by : (b : Bool) → (other == number) ≡ b
-        → read_at places (slice_set items place item) default other ≡ (if b then item else read_at places items default other)
-    by true same =
-        ap (λ n. read_at places (slice_set items place item) default n) (eqb-true other number same)
-        ∙ ap (placed_at (slice_set items place item) default) at ∙ get_or-set_same items place item default within
-    by false apart = elsewhere (place_in places other) refl (eqb-false other number apart)
-
--- items that are the same for all new granules change nothing
-pub read_at-further : {A : Type 0} → (old new : GranulePlaces) (n : ℕ) (items : List A) (default : A) → IsFurther old new
-    → count_in old ≡ length items → (other : ℕ) → read_at new (items ++ replicate n default) default other ≡ read_at old items default other
-read_at-further old new n items default further count other =
-    more (place_in new other) ∙ same (place_in old other) refl
-  where
-    more : (o : Option ℕ) → placed_at (items ++ replicate n default) default o ≡ placed_at items default o
-    more None = refl
-    more (Some o) = read-more items n o default
-
-    fresh : (o : Option ℕ) → place_in old other ≡ None → place_in new other ≡ o → placed_at items default o ≡ default
-    fresh None none is = refl
-    fresh (Some o) none is = elim (further.fresh other o is) [
-      | inl placed ↦ absurd (none-some o (sym none ∙ placed))
-      | inr behind ↦ get_or_past items o default (omega (arith, behind, count))
-    ]
-
-    same : (o : Option ℕ) → place_in old other ≡ o → placed_at items default (place_in new other) ≡ placed_at items default o
-    same None is = fresh (place_in new other) is refl
-    same (Some o) is = ap (placed_at items default) (further.kept other o is)

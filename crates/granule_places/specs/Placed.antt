@@ -24,15 +24,6 @@ count_in places = places.near + 512 * places.made
 unfoldable pub room_in : GranulePlaces → ℕ
 room_in places = places.near + 512 * length places.starts.items
 
--- what stands at a place, where there is one
-abbrev pub placed_at : {A : Type 0} → List A → A → Option ℕ → A
-placed_at items default None = default
-placed_at items default (Some place) = slice_index_or items place default
-
--- the item of a granule, and the same one for all that have no place
-abbrev pub read_at : {A : Type 0} → GranulePlaces → List A → A → ℕ → A
-read_at places items default number = placed_at items default (place_in places number)
-
 -- A block more has places, which stand behind the old ones.
 pub record IsFurther (old new : GranulePlaces) : Type 0 where
   pub kept : (n place : ℕ) → place_in old n ≡ Some place → place_in new n ≡ Some place

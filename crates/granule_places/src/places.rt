@@ -51,6 +51,14 @@ impl GranulePlaces {
         })
     }
 
+    /// How many granules, the first ones, have their numbers for places.
+    #[inline(always)]
+    pub fn near(&self) -> usize
+        ensures { (number : ℕ) → number < result → place_in self.now number ≡ Some number }
+    {
+        self.near
+    }
+
     /// The place of a granule, where it has one.
     #[inline(always)]
     pub fn place(&self, number: usize) -> Option<usize>
@@ -64,6 +72,7 @@ impl GranulePlaces {
     }
 
     // The same of a granule that isn't among the first.
+    #[cold]
     #[inline(never)]
     fn far_place(&self, number: usize) -> Option<usize>
         requires { self.now.near ≤ number }

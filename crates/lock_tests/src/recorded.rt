@@ -1,9 +1,6 @@
 //! Runs of the recorder on one thread and on five.
 
-ghost use Rattle.std.specs.Prelude.{◌≡◌, [], false, length, IfOk, IsTrue};
-ghost use Rattle.std.specs.List.{AllWithin};
-ghost use Rattle.atomic_table.specs.Seated.{TableId};
-ghost use Rattle.event_queue.specs.Stages.{Committed};
+ghost use Rattle.std.specs.Prelude.{◌≡◌, [], IfOk, IsTrue};
 ghost use Rattle.event_queue.specs.View.{CanDrain, before_calls};
 ghost use Rattle.lock_tests.specs.Called.{HasCalled};
 
@@ -11,14 +8,12 @@ use arrayvec::ArrayVec;
 use event_queue::{CpuPass, OrderPass, Recorder, ScribePass, fit_a_history};
 use granule_state::Config;
 use history::{History, Reply, write};
+use queue_runs::{Calls, record_beside};
 use rmi_codec::read_command;
 use rmi_view::ReplyRef;
 use std::alloc::{AllocError, Global};
-use std::marker::{Brand, Model, PhantomData};
-use std::sync::atomic::{AtomicU64, Ordering};
-use std::sync::{Mutex, Wait};
+use std::sync::Wait;
 use std::test::Fail;
-use std::thread;
 use std::thread::Threads;
 
 fn empty(alloc: Global, granules: u64, cpus: u64) -> Result<History, Fail>
@@ -224,156 +219,32 @@ fn drained_queue_takes_more(rt: HostRuntime) -> Result<(), Fail> {
     Ok(())
 }
 
-/// Names the queue whose commits lie behind a lock.
-trait Named {
-    ghost queue: { TableId };
-}
+/// What each CPU records.
+const THOUSAND: Calls<'_> = Calls {
+    count: 1000,
+    command: "c4000151 1000",
+    reply: "ok",
+};
 
-impl Named for Brand {
-    ghost queue = { record { words = 0; slots = 0; views_name = 0; atom = 0; block = 0; offset = 0; slot_names = [] } };
-}
-
-/// The commits of the queue that is named.
-#[derive(Drop)]
-struct Kept<N: Named> {
-    order: OrderPass,
-    named: PhantomData<N>,
-}
-
-impl<N: Named> Model for Kept<N> {
-    ghost use Rattle.event_queue.specs.View.{OrderView};
-
-    ghost Value = { OrderView };
-
-    ghost use Rattle.std.specs.Prelude.{◌≡◌};
-
-    ghost view = { λ k. k.order };
-
-    ghost invariant = { λ k. k.order.queue ≡ N.queue };
-}
-
-impl<N: Named> Kept<N> {
-    fn commit(&mut self, recorder: &Recorder, pass: &mut CpuPass, reply: &Reply)
-        requires queue { (recorder.now.queue ≡ N.queue) × (pass.old.queue ≡ recorder.now.queue) }
-        requires called { HasCalled pass.old }
-        ensures { pass.new ≡ record pass.old { stage = Committed reply.now } }
-    {
-        recorder.commit(&mut self.order, pass, ReplyRef::of(reply));
-    }
-}
-
-/// Records a call, its commit behind the lock and its return, and returns whether none was refused.
-fn record_one<N: Named, R: Wait>(
+/// What all CPUs record on threads of their own, beside one that drains.
+fn recorded_by_all<R: Threads + Wait + Sync>(
     rt: &R,
-    recorder: &Recorder,
-    kept: &Mutex<Kept<N>>,
-    pass: &mut CpuPass,
-) -> bool
-    requires { (recorder.now.queue ≡ N.queue) × (pass.old.queue ≡ recorder.now.queue) }
-    ensures { pass.new.queue ≡ pass.old.queue }
-{
-    let number = pass.next_number();
-    if !calls(rt, recorder, pass, number, "c4000151 1000") {
-        return false;
-    }
-    let reply = Reply::Ok(ArrayVec::new());
-    kept.lock(rt).commit(recorder, pass, &reply);
-    recorder.returned(rt, pass, reply).is_ok()
-}
-
-/// Records 1,000 calls and returns, or as many as aren't refused, and adds one to those that have ended.
-fn record_thousand<N: Named, R: Wait>(
-    rt: &R,
-    recorder: &Recorder,
-    kept: &Mutex<Kept<N>>,
-    pass: &mut CpuPass,
-    ended: &AtomicU64,
-)
-    requires { (recorder.now.queue ≡ N.queue) × (pass.old.queue ≡ recorder.now.queue) }
-{
-    for _round in 0..1000 {
-        if !record_one(rt, recorder, kept, pass) {
-            break;
-        }
-    }
-    ended.fetch_add(1, Ordering::SeqCst);
-}
-
-/// Drains again and again until so many have ended.
-fn drain_beside<R: Wait>(
-    rt: &R,
-    recorder: &Recorder,
-    mut scribe: ScribePass,
-    mut history: History,
-    ended: &AtomicU64,
-) -> (ScribePass, History)
-    requires { CanDrain recorder.now.queue scribe history.recorded }
-    ensures { CanDrain recorder.now.queue result.0 result.1.recorded }
-{
-    for _look in 0..10_000_000u64 {
-        if ended.load(Ordering::SeqCst) == 4
-            || recorder.drain(rt, &mut scribe, &mut history).is_err()
-        {
-            break;
-        }
-        thread::yield_now();
-    }
-    (scribe, history)
-}
-
-/// Four threads record beside one that drains.
-fn record_beside<N: Named + Send + Sync, R: Threads + Wait + Sync>(
-    rt: &R,
-    recorder: &Recorder,
-    order: OrderPass,
-    passes: &mut [CpuPass],
-    scribe: ScribePass,
-    history: History,
-) -> (ScribePass, History)
-    requires named { recorder.now.queue ≡ N.queue }
-    requires order { order.queue ≡ recorder.now.queue }
-    requires passes { AllWithin (λ pass. pass.queue ≡ recorder.now.queue) passes.old 0 (length passes.old) }
-    requires scribe { CanDrain recorder.now.queue scribe history.recorded }
-    ensures { CanDrain recorder.now.queue result.0 result.1.recorded }
-{
-    let ended = AtomicU64::new(0);
-    let kept = Mutex::new(Kept::<N> {
-        order,
-        named: PhantomData,
-    });
-    let ((), drained) = thread::join(
-        rt,
-        ||
-            requires { (recorder.now.queue ≡ N.queue) × AllWithin (λ pass. pass.queue ≡ recorder.now.queue) passes.now 0 (length passes.now) }
-        {
-            thread::for_each_mut(
-                rt,
-                passes,
-                4,
-                &|_, pass| record_thousand(rt, recorder, &kept, pass, &ended),
-            )
-        },
-        || -> (ScribePass, History)
-            requires { CanDrain recorder.now.queue scribe history.recorded }
-            ensures { CanDrain recorder.entry.now.queue result.0 result.1.recorded }
-        { drain_beside(rt, recorder, scribe, history, &ended) },
-    );
-    drained
+    alloc: Global,
+    config: Config,
+) -> Result<History, AllocError> {
+    let history = History::new(alloc, config);
+    let (recorder, mut passes, scribe, order) = Recorder::new(alloc, 65536, config.cpus())?;
+    let passes = passes.as_mut_slice();
+    let (_scribe, history) = record_beside(
+        rt, &recorder, order, passes, scribe, history, THOUSAND,
+    )?;
+    Ok(history)
 }
 
 #[test]
 fn four_threads_record_while_one_drains(rt: HostRuntime) -> Result<(), Fail> {
-    let history = empty(rt.alloc(), 4, 4)?;
-    let (recorder, mut passes, scribe, order) = Recorder::new(rt.alloc(), 65536, 4)?;
-    let (mut scribe, mut history) = record_beside::<Brand, HostRuntime>(
-        &rt,
-        &recorder,
-        order,
-        passes.as_mut_slice(),
-        scribe,
-        history,
-    );
-    recorder.drain(&rt, &mut scribe, &mut history)?;
+    let config = Config::new(4, 4).ok_or("no such machine")?;
+    let history = recorded_by_all(&rt, rt.alloc(), config)?;
     assert!(rt; line_count(rt.alloc(), &history)? == 8001);
     assert!(rt; (0..4).all(|cpu| has_thousand(&history, cpu)));
     Ok(())

@@ -58,7 +58,7 @@ not_rec-same (Rec r) update none = absurd (none r refl)
 not_rec-same _ update none = refl
 
 -- what is read of a cell is what lies there
-cell-read : (list : CellList) (granule place : ℕ) (read : Cell) → IsPlace list granule place
+pub cell-read : (list : CellList) (granule place : ℕ) (read : Cell) → IsPlace list granule place
     → read ≡ slice_index_or list.cells.items place read → cells_of list granule ≡ cell_of read
 unfolding cells_of
 cell-read list granule place read is is_read =

@@ -1,4 +1,5 @@
 pub mod Whole
+pub mod Found
 pub mod Placed
 pub mod Changes
 pub mod WholeLaws

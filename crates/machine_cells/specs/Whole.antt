@@ -56,6 +56,10 @@ IsShapedIn g = IsShaped (config_of g) (whole_of g)
 unfoldable pub state_in : Granules → State
 state_in g = flat_state (config_of g) (cells_of g.list)
 
+-- the table in each granule
+abbrev pub tables_at : Granules → ℕ → Option TableRecord
+tables_at g = spec.tables_of (cells_of g.list)
+
 -- the values of the first numbers
 abbrev pub values_below : {A : Type 0} → ℕ → (ℕ → A) → List A
 values_below zero f = []

@@ -28,7 +28,7 @@ pub(crate) struct CellList {
 }
 
 impl CellList {
-    ghost use Rattle.std.specs.Prelude.{◌≡◌, ◌/◌, ◌<◌, IfOk, IfSome, IfNone, IsTrue, None, Some, option_map, option_copied, unwrap_or, vec_len};
+    ghost use Rattle.std.specs.Prelude.{◌≡◌, ◌/◌, ◌%◌, ◌<◌, IfOk, IfSome, IfNone, IsTrue, None, Some, option_map, option_copied, unwrap_or, vec_len};
     ghost use Rattle.rmm_spec.specs.Cell as spec;
     ghost use Rattle.rmm_spec.specs.Cell.{put, realms_of, tables_of};
     ghost use Rattle.rmm_spec.specs.Lookup.{is_granule};
@@ -63,12 +63,44 @@ impl CellList {
         if address % GRANULE_BYTES != 0 {
             return None;
         }
+        let number = (address / GRANULE_BYTES) as usize;
+        if number < self.places.near() {
+            return Some(number);
+        }
+        self.far_place(address)
+    }
+
+    // The same of a granule that isn't among the first.
+    #[cold]
+    #[inline(never)]
+    fn far_place(&self, address: u64) -> Option<usize>
+        requires { address % 4096 ≡ 0 }
+        ensures some { IfSome result (IsPlace self.now address) }
+        ensures none { IfNone result (cells_of self.now address ≡ spec.Undelegated) }
+    {
         self.places.place((address / GRANULE_BYTES) as usize)
     }
 
     // The place of the granule, which it gets where it has none.
     #[inline(always)]
     fn made_place(&mut self, granule: u64) -> usize
+        requires { IsTrue (is_granule self.old.config.granules granule) }
+        ensures size { self.new.config ≡ self.old.config }
+        ensures cells { cells_of self.new ≡ cells_of self.old }
+        ensures place { IsPlace self.new granule result }
+    {
+        let number = (granule / GRANULE_BYTES) as usize;
+        if number < self.places.near() {
+            number
+        } else {
+            self.far_made_place(granule)
+        }
+    }
+
+    // The same of a granule that isn't among the first.
+    #[cold]
+    #[inline(never)]
+    fn far_made_place(&mut self, granule: u64) -> usize
         requires { IsTrue (is_granule self.old.config.granules granule) }
         ensures size { self.new.config ≡ self.old.config }
         ensures cells { cells_of self.new ≡ cells_of self.old }
@@ -81,7 +113,6 @@ impl CellList {
     }
 
     // Gives the granule a place, and cells to its block.
-    #[inline(never)]
     fn make_place(&mut self, granule: u64) -> usize
         requires granule { IsTrue (is_granule self.old.config.granules granule) }
         requires none { place_in self.old.places (granule / 4096) ≡ None }
@@ -98,6 +129,24 @@ impl CellList {
     /// What is kept of the granule at the address. Nothing is kept of what is no granule, and of one that nothing has touched.
     #[inline(always)]
     pub(crate) fn cell(&self, address: u64) -> Option<&Cell>
+        ensures there { IfSome result (λ _. IsTrue (is_granule self.now.config.granules address)) }
+        ensures cell { unwrap_or (option_map cell_of (option_copied result)) spec.Undelegated ≡ cells_of self.now address }
+    {
+        if address % GRANULE_BYTES != 0 {
+            return None;
+        }
+        let number = (address / GRANULE_BYTES) as usize;
+        if number < self.places.near() {
+            Some(&self.cells[number])
+        } else {
+            self.far_cell(address)
+        }
+    }
+
+    // The same of a granule that isn't among the first.
+    #[cold]
+    #[inline(never)]
+    fn far_cell(&self, address: u64) -> Option<&Cell>
         ensures there { IfSome result (λ _. IsTrue (is_granule self.now.config.granules address)) }
         ensures cell { unwrap_or (option_map cell_of (option_copied result)) spec.Undelegated ≡ cells_of self.now address }
     {
@@ -123,6 +172,27 @@ impl CellList {
     {
         match self.cell(address) {
             Some(Cell::Rtt(table)) => Some(table),
+            _ => None,
+        }
+    }
+
+    /// Whether the address lies in one of the first granules, which have their numbers for places.
+    #[inline(always)]
+    pub(crate) fn is_first(&self, address: u64) -> bool {
+        ((address / GRANULE_BYTES) as usize) < self.places.near()
+    }
+
+    /// The same, where the granule is among the first, so that no call is needed.
+    #[inline(always)]
+    pub(crate) fn first_table_in(&self, address: u64) -> Option<&Table>
+        ensures { IfSome result (λ table. Some table.now ≡ tables_of (cells_of self.now) address) }
+    {
+        let number = (address / GRANULE_BYTES) as usize;
+        if address % GRANULE_BYTES != 0 || number >= self.places.near() {
+            return None;
+        }
+        match &self.cells[number] {
+            Cell::Rtt(table) => Some(table),
             _ => None,
         }
     }

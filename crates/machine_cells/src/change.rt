@@ -29,6 +29,7 @@ impl Granules {
     }
 
     /// Gives a granule that holds nothing another tag.
+    #[inline(always)]
     pub fn retag(&mut self, granule: u64, tag: Tag)
         requires shaped { IsShapedIn self.old }
         requires can { CanRetag (state_in self.old) (record { granule = granule; tag = tag }) }

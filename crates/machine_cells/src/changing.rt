@@ -21,6 +21,7 @@ impl Granules {
     ghost use Rattle.shape_laws.specs.Whole.{whole_changed};
     ghost use Rattle.machine_cells.specs.Whole.{config_of, count_of, whole_of, state_in, IsShapedIn};
 
+    #[inline(always)]
     pub(crate) fn make_retag(&mut self, granule: u64, tag: Tag)
         requires { CanRetag (state_in self.old) (record { granule = granule; tag = tag }) }
         ensures size { config_of self.new ≡ config_of self.old }
@@ -148,7 +149,7 @@ impl Granules {
         };
         let entry = Entry::Table(rtt);
         self.list
-            .change_entries(Some(above), EntryChange::Replaced { number, entry });
+            .change_entries(Some(above), &EntryChange::Replaced { number, entry });
         self.list.put(rtt, Cell::Rtt(table));
         self.near.keep(rd, level, number, Some(rtt));
         Ok(())
@@ -163,7 +164,7 @@ impl Granules {
     {
         let above = self.table_at(rd, level - 1, number / 512);
         self.list
-            .change_entries(above, EntryChange::Replaced { number, entry });
+            .change_entries(above, &EntryChange::Replaced { number, entry });
         self.list.put(rtt, Cell::Delegated);
     }
 
@@ -183,13 +184,12 @@ impl Granules {
         ensures whole { whole_of self.new ≡ whole_changed (config_of self.old) (whole_of self.old) (change.EntriesChanged rd level entries page realm rec) }
     {
         let number = table_changed(entries);
-        let at = self.table_at(rd, level, number);
-        self.near.keep(rd, level, number, at);
+        let at = self.table_kept(rd, level, number);
         change_places(&self.list, &mut self.places, rec);
         self.list.change_tag(page);
         self.list.change_realm(realm);
         self.list.change_rec(rec);
-        self.list.change_entries(at, entries);
+        self.list.change_entries(at, &entries);
     }
 }
 

@@ -7,6 +7,7 @@ use granule_cells::{Cell, Side};
 use granule_state::{Config, MOST_GRANULES, granule_at};
 use realm_desc::{Realm, Rec};
 use rmm_spec::{Tag, Version};
+use rtt_table::Table;
 use std::alloc::{AllocError, Global};
 
 /// A cell for each granule of a machine, the side table, and each CPU's place. Where tables were found before is no part of the state.
@@ -24,7 +25,7 @@ impl Granules {
     ghost use Rattle.rmm_spec.specs.Cell as spec;
     ghost use Rattle.rmm_spec.specs.Lookup.{has_tag};
     ghost use Rattle.rmm_spec.specs.State.{opening};
-    ghost use Rattle.machine_cells.specs.Whole.{cells_of, count_of, state_in, IsShapedIn};
+    ghost use Rattle.machine_cells.specs.Whole.{cells_of, count_of, state_in, tables_at, IsShapedIn};
 
     /// The granules of a machine of that size, all the host's.
     #[tactic(auto, unfolding(crate::specs::Whole::state_in))]
@@ -83,6 +84,7 @@ impl Granules {
     }
 
     // The same of an address of which nothing is kept.
+    #[cold]
     #[inline(never)]
     fn has_tag_untouched(&self, address: u64, tag: Tag) -> bool
         requires { cells_of self.now.list address ≡ spec.Undelegated }
@@ -100,6 +102,13 @@ impl Granules {
         ensures { option_copied result ≡ (state_in self.now).realm rd }
     {
         self.list.realm_in(rd)
+    }
+
+    /// The table in the granule at the address, where it lies.
+    pub fn table_in(&self, address: u64) -> Option<&Table>
+        ensures { option_copied result ≡ tables_at self.now address }
+    {
+        self.list.table_in(address)
     }
 
     /// The REC whose granule is at the address, where it lies.

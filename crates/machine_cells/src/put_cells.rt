@@ -8,15 +8,17 @@ ghost use Rattle.machine_cells.specs.Changes.{is_plain, fits_entries};
 
 use crate::cell_list::CellList;
 use granule_cells::Cell;
-use rmm_spec::{EntryChange, RealmChange, RecChange, Tag, TagChange};
+use granule_state::GRANULE_BYTES;
+use rmm_spec::{EntryChange, RealmChange, RecChange, RecUpdate, Tag, TagChange};
 use rtt_table::Table;
 
 impl CellList {
     ghost use Rattle.std.specs.Prelude.{◌≡◌, IfSome, IsTrue};
     ghost use Rattle.rmm_spec.specs.declared.change.RealmUpdate.TheVariants.{RecCounted};
     ghost use Rattle.rmm_spec.specs.Applicable.{IsRealmUpdate};
-    ghost use Rattle.shape_laws.specs.Whole.{changed_at, cell_with_realm, cells_with_tag_change, cells_with_realm_change, cells_with_rec_change, cells_with_entries, entries_changed, width_in};
+    ghost use Rattle.shape_laws.specs.Whole.{changed_at, cell_with_realm, cell_with_rec, cell_with_entries, cells_with_tag_change, cells_with_realm_change, cells_with_rec_change, cells_with_entries, entries_changed, width_in};
     ghost use Rattle.machine_cells.specs.Changes.{CanGetTag, CanUpdate, TakesIndex, fits_entries};
+    ghost use Rattle.machine_cells.specs.Placed.{IsPlace};
     ghost use Rattle.machine_cells.specs.Whole.{cells_of};
 
     /// Gives a granule that holds nothing another tag, where one goes with a change.
@@ -64,34 +66,95 @@ impl CellList {
     }
 
     /// Updates the REC that is there, where one is updated.
+    #[inline(always)]
     pub(crate) fn change_rec(&mut self, change: Option<RecChange>)
         requires { IfSome change (CanUpdate (cells_of self.old)) }
         ensures size { self.new.config ≡ self.old.config }
         ensures cells { cells_of self.new ≡ cells_with_rec_change (cells_of self.old) change }
     {
-        let Some(RecChange { rec, update }) = change else {
-            return;
-        };
-        let Some(place) = self.place(rec) else {
-            return;
-        };
+        if let Some(RecChange { rec, update }) = change {
+            self.update_rec(rec, update);
+        }
+    }
+
+    // Updates the REC that is there.
+    fn update_rec(&mut self, rec: u64, update: RecUpdate)
+        requires { CanUpdate (cells_of self.old) (record { rec = rec; update = update }) }
+        ensures size { self.new.config ≡ self.old.config }
+        ensures cells { cells_of self.new ≡ changed_at (cells_of self.old) rec (cell_with_rec update) }
+    {
+        let number = (rec / GRANULE_BYTES) as usize;
+        if rec % GRANULE_BYTES == 0 && number < self.places.near() {
+            self.update_rec_at(number, rec, update);
+        } else {
+            self.update_far_rec(rec, update);
+        }
+    }
+
+    // The same in a granule that isn't among the first.
+    #[cold]
+    #[inline(never)]
+    fn update_far_rec(&mut self, rec: u64, update: RecUpdate)
+        requires { CanUpdate (cells_of self.old) (record { rec = rec; update = update }) }
+        ensures size { self.new.config ≡ self.old.config }
+        ensures cells { cells_of self.new ≡ changed_at (cells_of self.old) rec (cell_with_rec update) }
+    {
+        if let Some(place) = self.place(rec) {
+            self.update_rec_at(place, rec, update);
+        }
+    }
+
+    // The same at the granule's place.
+    #[inline(always)]
+    fn update_rec_at(&mut self, place: usize, rec: u64, update: RecUpdate)
+        requires can { CanUpdate (cells_of self.old) (record { rec = rec; update = update }) }
+        requires place { IsPlace self.old rec place }
+        ensures size { self.new.config ≡ self.old.config }
+        ensures cells { cells_of self.new ≡ changed_at (cells_of self.old) rec (cell_with_rec update) }
+    {
         if let Cell::Rec(record) = &mut self.cells[place] {
             record.update(update);
         }
     }
 
     /// Changes the entries of the table that is there, where a granule is given.
-    pub(crate) fn change_entries(&mut self, at: Option<u64>, change: EntryChange)
-        requires { IsTrue (fits_entries change) }
+    pub(crate) fn change_entries(&mut self, at: Option<u64>, change: &EntryChange)
+        requires { IsTrue (fits_entries change.now) }
         ensures size { self.new.config ≡ self.old.config }
-        ensures cells { cells_of self.new ≡ cells_with_entries (cells_of self.old) (entries_changed change) at }
+        ensures cells { cells_of self.new ≡ cells_with_entries (cells_of self.old) (entries_changed change.now) at }
     {
         let Some(granule) = at else {
             return;
         };
-        let Some(place) = self.place(granule) else {
-            return;
-        };
+        let number = (granule / GRANULE_BYTES) as usize;
+        if granule % GRANULE_BYTES == 0 && number < self.places.near() {
+            self.change_entries_at(number, granule, *change);
+        } else {
+            self.change_far_entries(granule, change);
+        }
+    }
+
+    // The same in a granule that isn't among the first.
+    #[cold]
+    #[inline(never)]
+    fn change_far_entries(&mut self, granule: u64, change: &EntryChange)
+        requires { IsTrue (fits_entries change.now) }
+        ensures size { self.new.config ≡ self.old.config }
+        ensures cells { cells_of self.new ≡ changed_at (cells_of self.old) granule (cell_with_entries (entries_changed change.now)) }
+    {
+        if let Some(place) = self.place(granule) {
+            self.change_entries_at(place, granule, *change);
+        }
+    }
+
+    // The same at the granule's place.
+    #[inline(always)]
+    fn change_entries_at(&mut self, place: usize, granule: u64, change: EntryChange)
+        requires fits { IsTrue (fits_entries change) }
+        requires place { IsPlace self.old granule place }
+        ensures size { self.new.config ≡ self.old.config }
+        ensures cells { cells_of self.new ≡ changed_at (cells_of self.old) granule (cell_with_entries (entries_changed change)) }
+    {
         if let Cell::Rtt(table) = &mut self.cells[place] {
             change_table(table, change);
         }

@@ -19,11 +19,19 @@ pub(crate) struct Start {
     pub(crate) level: u8,
 }
 
+/// A table that was found, with its granule.
+#[derive(Drop)]
+pub(crate) struct FoundTable<'a> {
+    pub(crate) granule: u64,
+    pub(crate) table: &'a Table,
+}
+
 impl Granules {
     ghost use Rattle.std.specs.Prelude.{◌≡◌, ◌≤◌, ◌<◌, IfSome, IfNone, ℕ, None, Some, IsSome};
     ghost use Rattle.rmm_spec.specs.State.{RealmRecord};
     ghost use Rattle.rmm_spec.specs.Walk.{walk, full, table_number, IsWalk};
     ghost use Rattle.machine_cells.specs.Whole.{state_in, IsShapedIn};
+    ghost use Rattle.machine_cells.specs.Found.{IsFoundIn};
     ghost use Rattle.machine_cells.specs.Walks.{StartsAt};
 
     // The root of the realm, where its address space has the address.
@@ -49,28 +57,48 @@ impl Granules {
         requires max { max ≤ 3 }
         ensures { result ≡ walk (state_in self.now) rd ipa max }
     {
-        match self.walk_near(rd, ipa, max) {
+        let near = self.table_near(rd, max, table_number(max, ipa));
+        match self.walk_found(near, rd, ipa, max) {
+            Some(end) => end,
+            None => self.walk_farther(rd, ipa, max),
+        }
+    }
+
+    // The same, where the table isn't among the first granules, or wasn't found before.
+    #[inline(never)]
+    fn walk_farther(&self, rd: u64, ipa: u64, max: u8) -> Walked
+        requires shaped { IsShapedIn self.now }
+        requires max { max ≤ 3 }
+        ensures { result ≡ walk (state_in self.now) rd ipa max }
+    {
+        let far = self.table_far(rd, max, table_number(max, ipa));
+        match self.walk_found(far, rd, ipa, max) {
             Some(end) => end,
             None => self.walk_from_root(rd, ipa, max),
         }
     }
 
-    // The same, where it ends at that level in a table that was found before: none is deeper.
-    fn walk_near(&self, rd: u64, ipa: u64, max: u8) -> Option<Walked>
+    // The same, where it ends at that level in a table that was found: none is deeper.
+    #[inline(always)]
+    fn walk_found(
+        &self,
+        found: Option<FoundTable<'_>>,
+        rd: u64,
+        ipa: u64,
+        max: u8,
+    ) -> Option<Walked>
         requires shaped { IsShapedIn self.now }
         requires max { max ≤ 3 }
+        requires found { IfSome found (IsFoundIn self.now rd max (table_number max ipa)) }
         ensures { IfSome result (λ end. end ≡ walk (state_in self.now) rd ipa max) }
     {
-        let Some(granule) = self.table_near(rd, max, table_number(max, ipa)) else {
-            return None;
-        };
-        let Some(table) = self.list.table_in(granule) else {
+        let Some(found) = found else {
             return None;
         };
         Some(Walked {
             level: max,
-            granule,
-            entry: table.entry(index_of(max, Ipa::new(ipa))),
+            granule: found.granule,
+            entry: found.table.entry(index_of(max, Ipa::new(ipa))),
         })
     }
 
@@ -108,24 +136,70 @@ impl Granules {
         ensures { result ≡ (state_in self.now).table rd level number }
     {
         match self.table_near(rd, level, number) {
-            Some(granule) => Some(granule),
+            Some(found) => Some(found.granule),
+            None => self.table_farther(rd, level, number),
+        }
+    }
+
+    /// The same, which is kept for the next time.
+    #[inline(always)]
+    pub(crate) fn table_kept(&mut self, rd: u64, level: u8, number: u64) -> Option<u64>
+        requires { IsShapedIn self.old }
+        ensures is { result ≡ (state_in self.old).table rd level number }
+        ensures list { self.new.list ≡ self.old.list }
+        ensures side { self.new.side ≡ self.old.side }
+        ensures places { self.new.places ≡ self.old.places }
+    {
+        if let Some(found) = self.table_near(rd, level, number) {
+            return Some(found.granule);
+        }
+        let at = self.table_farther(rd, level, number);
+        self.near.keep(rd, level, number, at);
+        at
+    }
+
+    // The same, where the table isn't among the first granules, or wasn't found before.
+    #[inline(never)]
+    fn table_farther(&self, rd: u64, level: u8, number: u64) -> Option<u64>
+        requires { IsShapedIn self.now }
+        ensures { result ≡ (state_in self.now).table rd level number }
+    {
+        match self.table_far(rd, level, number) {
+            Some(found) => Some(found.granule),
             None => self.table_from_root(rd, level, number),
         }
     }
 
-    // The same, where it was found before.
-    fn table_near(&self, rd: u64, level: u8, number: u64) -> Option<u64>
+    // The table itself, where it was found before among the first granules.
+    #[inline(always)]
+    fn table_near(&self, rd: u64, level: u8, number: u64) -> Option<FoundTable<'_>>
         requires { IsShapedIn self.now }
-        ensures { IfSome result (λ granule. (state_in self.now).table rd level number ≡ Some granule) }
+        ensures { IfSome result (IsFoundIn self.now rd level number) }
     {
         let granule = self.near.granule(rd, level, number);
-        let Some(table) = self.list.table_in(granule) else {
-            return None;
-        };
-        if !is_placed(table, rd, level, number) {
+        match self.list.first_table_in(granule) {
+            Some(table) if is_placed(table, rd, level, number) => {
+                Some(FoundTable { granule, table })
+            }
+            _ => None,
+        }
+    }
+
+    // The table itself, where it was found before, but not among the first granules.
+    fn table_far(&self, rd: u64, level: u8, number: u64) -> Option<FoundTable<'_>>
+        requires { IsShapedIn self.now }
+        ensures { IfSome result (IsFoundIn self.now rd level number) }
+    {
+        let granule = self.near.granule(rd, level, number);
+        if self.list.is_first(granule) {
             return None;
         }
-        Some(granule)
+        match self.list.table_in(granule) {
+            Some(table) if is_placed(table, rd, level, number) => {
+                Some(FoundTable { granule, table })
+            }
+            _ => None,
+        }
     }
 
     // The same, by links.

@@ -8,7 +8,9 @@
 
 use anyhow::{Context, Result};
 use devices::FileSource;
-use merging::{Asked, Extent, Renaming, Run, SourceFault, Version, merge_source};
+use merging::{
+    Asked, Extent, Output, Renaming, Run, SourceFault, Version, WriteFault, merge_source,
+};
 use std::alloc::Global;
 use std::fs;
 use std::rt::Files;
@@ -92,10 +94,23 @@ fn outcome<R: Files + AllocGlobal>(rt: &R, name: &str) -> Result<String> {
     }
 }
 
+fn write(
+    alloc: Global,
+    run: &Run,
+    history: &mut Vec<u8>,
+    certificate: &mut Vec<u8>,
+) -> Result<(), WriteFault> {
+    run.write(
+        alloc,
+        &mut Output::new(history),
+        &mut Output::new(certificate),
+    )
+}
+
 fn texts(alloc: Global, run: &Run) -> Result<String> {
     let mut history = Vec::new(alloc);
     let mut certificate = Vec::new(alloc);
-    run.write(alloc, &mut history, &mut certificate)?;
+    write(alloc, run, &mut history, &mut certificate)?;
     let map = run.map(alloc)?;
     let stamps = run.stamps();
     let calls = std::str::from_utf8(history.as_slice())?;

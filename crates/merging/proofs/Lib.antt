@@ -4,3 +4,5 @@ mod StepLaws
 mod NamingLaws
 mod LineLaws
 mod TextLaws
+mod CutLaws
+mod RoomLaws

@@ -5,6 +5,7 @@ use Rattle.std.specs.Io.KnownBytes.{Appends}
 use Rattle.rmm_spec.specs.CertificateText.{IsCertificateText, line_parts}
 use Rattle.rmm_spec.specs.HistoryText.{Config, History, IsHistoryText, event_parts}
 use Rattle.rmm_spec.specs.Text.{lines_text}
+use Rattle.recorded_events.specs.Events.{Moment, Call, Commit, Return}
 use Rattle.recorded_events.specs.Table.{Happened, IsHappened}
 use Rattle.merging.specs.Run.{Stand, CanFollow, IsRun, starts, stand_at, stands_with, stands_after, event_count, line_count, events_of, lines_of, events_from, lines_from, events_merged, lines_merged, returns_in, known_front}
 use Rattle.merging.specs.declared.naming.Naming.{Naming}
@@ -82,6 +83,19 @@ event_lines stands slot = lines_text (map event_parts (events_of (stands slot.cp
 
 abbrev pub commit_lines : (ℕ → ℕ) → (ℕ → Stand) → Happened → List ℕ
 commit_lines returns stands slot = lines_text (map line_parts (lines_of (returns slot.cpu) (stands slot.cpu) slot.cpu slot.moment))
+
+-- the one of them that a moment has, of a CPU that returns so often in all
+abbrev pub text_of : ℕ → Stand → ℕ → Moment → List ℕ
+text_of returns stand cpu (Call command) = lines_text (map event_parts (events_of stand cpu (Call command)))
+text_of returns stand cpu (Commit given) = lines_text (map line_parts (lines_of returns stand cpu (Commit given)))
+text_of returns stand cpu (Return given) = lines_text (map event_parts (events_of stand cpu (Return given)))
+
+abbrev pub moment_text : ℕ → Stand → Happened → List ℕ
+moment_text returns stand slot = text_of returns stand slot.cpu slot.moment
+
+-- no CPU has called so often that a call's number has no text
+abbrev pub AreNumbered : (ℕ → Stand) → Type 0
+AreNumbered stands = (cpu : ℕ) → (stands cpu).calls < 1000000
 
 -- What a writer holds, where that is known, grew by a text in the grammar.
 pub record GrowsByText (IsText : List ℕ → Type 0) (old new : Option (List ℕ)) : Type 0 where

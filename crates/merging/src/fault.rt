@@ -1,5 +1,9 @@
-//! Why no history and certificate were made.
+//! Why no history and certificate were made, or not written whole.
 
+ghost use Rattle.std.specs.Prelude.{◌≡◌};
+ghost use Rattle.merging.specs.declared.fault.WriteFault.TheVariants.{NoMemory};
+
+use std::alloc::AllocError;
 use thiserror::Error;
 
 /// Why a moment can't be next on its CPU.
@@ -34,4 +38,23 @@ pub enum MergeFault {
     /// The event of this line is refused.
     #[error("line {0}: {1}")]
     Refused(u32, Refusal),
+}
+
+/// Why both texts weren't written whole.
+#[derive(Clone, Copy, Debug, Error)]
+pub enum WriteFault {
+    #[error("the history's output failed")]
+    History,
+    #[error("the certificate's output failed")]
+    Certificate,
+    #[error("no memory")]
+    NoMemory,
+}
+
+impl From<AllocError> for WriteFault {
+    ghost from_gives = { λ _ e. e ≡ NoMemory };
+
+    fn from(_error: AllocError) -> WriteFault {
+        WriteFault::NoMemory
+    }
 }

@@ -4,15 +4,18 @@
 //! Where the events are no run it prints why, with the line: status 2, and it writes no file. So do other arguments.
 #![tactic(auto)]
 
+ghost use Rattle.std.specs.Prelude.{◌≡◌, false, IfOk};
+
 use devices::FileSource;
 use file_programs::{Fault, end, print, write_file};
 use merge_words::{Asked as Words, Extent as Given, Names, Paths, Request, Unasked, request_given};
 use merging::{
-    Asked, EventsFault, Extent, Renaming, Run, SourceFault, TextFault, Version, merge_source,
+    Asked, EventsFault, Extent, Output, Renaming, Run, SourceFault, TextFault, Version, WriteFault,
+    merge_source,
 };
 use release::VERSION;
 use std::alloc::{AllocError, Global};
-use std::io::{BufWriter, ErrorKind, Write};
+use std::io::{BufWriter, ErrorKind};
 use std::process::ExitCode;
 use std::rt::{Env, Files};
 use std::{env, fs, io};
@@ -106,21 +109,49 @@ fn write_out<R: Files + Print + AllocGlobal>(
 fn write_texts<R: Files + AllocGlobal>(rt: &R, paths: Paths<'_>, run: &Run) -> Result<(), Fault> {
     match try_write_texts(rt, paths, run) {
         Ok(()) => Ok(()),
-        Err(error) if error.kind() == ErrorKind::OutOfMemory => Err(Fault::NoMemory),
-        Err(_) => {
-            let (history, certificate) = (paths.history, paths.certificate);
-            let either = format!(in rt.alloc(); "{history} or {certificate}")?;
-            Err(Fault::CannotWrite(either))
-        }
+        Err(WriteFault::NoMemory) => Err(Fault::NoMemory),
+        Err(WriteFault::History) => unwritten(rt, paths.history),
+        Err(WriteFault::Certificate) => unwritten(rt, paths.certificate),
     }
 }
 
-fn try_write_texts<R: Files + AllocGlobal>(rt: &R, paths: Paths<'_>, run: &Run) -> io::Result<()> {
-    let mut history = BufWriter::new(rt.alloc(), fs::create(rt, paths.history)?)?;
-    let mut certificate = BufWriter::new(rt.alloc(), fs::create(rt, paths.certificate)?)?;
+fn unwritten<R: AllocGlobal>(rt: &R, path: &str) -> Result<(), Fault> {
+    Err(Fault::CannotWrite(String::from_str(rt.alloc(), path)?))
+}
+
+fn try_write_texts<R: Files + AllocGlobal>(
+    rt: &R,
+    paths: Paths<'_>,
+    run: &Run,
+) -> Result<(), WriteFault> {
+    let mut history = output_at(rt, paths.history, WriteFault::History)?;
+    let mut certificate = output_at(rt, paths.certificate, WriteFault::Certificate)?;
     run.write(rt.alloc(), &mut history, &mut certificate)?;
-    history.flush()?;
-    certificate.flush()
+    if history.flush().is_err() {
+        return Err(WriteFault::History);
+    }
+    if certificate.flush().is_err() {
+        return Err(WriteFault::Certificate);
+    }
+    Ok(())
+}
+
+// A file in place of one that is there, or the fault where it can't be made.
+fn output_at<R: Files + AllocGlobal>(
+    rt: &R,
+    path: &str,
+    fault: WriteFault,
+) -> Result<Output<BufWriter<R::File>>, WriteFault>
+    ensures { IfOk result (λ output. output.has_failed ≡ false) }
+{
+    match fs::create(rt, path) {
+        Ok(file) => match BufWriter::new(rt.alloc(), file) {
+            Ok(writer) => Ok(Output::new(writer)),
+            Err(_) => Err(WriteFault::NoMemory),
+        },
+        Err(error) if error.kind() == ErrorKind::OutOfMemory => Err(WriteFault::NoMemory),
+        Err(_) => Err(fault),
+    }
 }
 
 fn write_map<R: Files + AllocGlobal>(rt: &R, path: &str, run: &Run) -> Result<(), Fault> {

@@ -1,7 +1,6 @@
 pub mod Memory
 pub mod Owners
 pub mod Report
-pub mod Single
 pub mod View
 pub mod Lending
 pub mod Offers

@@ -1,56 +1,61 @@
--- Which realm each granule belongs to, as the state's ties say, and how that list changes.
-use Rattle.std.specs.Prelude.{◌≡◌, ◌⊎◌, ℕ, ◌/◌, ◌&&◌, ◌==◌, if◌then◌else◌, List, Option, Some, None}
-use Rattle.rmm_spec.specs.declared.change.Change.{Change}
-use Rattle.rmm_spec.specs.declared.change.Change.TheVariants.{RealmMade, RealmDestroyed, RecMade, RecDestroyed, TableMade, TableDestroyed, EntriesChanged}
-use Rattle.rmm_spec.specs.declared.change.TagChange.{TagChange}
-use Rattle.rmm_spec.specs.declared.tag.Tag.{Tag}
-use Rattle.rmm_spec.specs.declared.tag.Tag.TheVariants.{Undelegated, Delegated, Data}
-use Rattle.rmm_spec.specs.Ownership.{IsTied}
-use Rattle.rmm_spec.specs.State.{State}
+-- How the owners of granules are found: what lies in each granule gives granules to a realm.
+use Rattle.std.specs.Prelude.{◌≡◌, ◌⊎◌, ◌++◌, ◌*◌, ◌<◌, ℕ, List, Option, Some, IsTrue, is_some, length, slice_get}
+use Rattle.rmm_spec.specs.declared.entry.Entry.{Entry}
+use Rattle.rmm_spec.specs.declared.entry.Entry.TheVariants.{Assigned}
+use Rattle.rmm_spec.specs.declared.tag.Ripas.{Ripas}
 use Rattle.rmm_spec.specs.Lookup.{is_granule}
-use Rattle.granule_places.specs.Placed.{read_at}
-use Rattle.granule_places.specs.declared.places.GranulePlaces.{GranulePlaces}
-use Rattle.spec_machine.specs.declared.owners.Owners.{Owners}
+use Rattle.rmm_spec.specs.Ownership.{IsTied}
+use Rattle.rmm_spec.specs.State.{State, RealmRecord, RecRecord}
+use Rattle.rmm_spec.specs.Table.{TableRecord}
+use Rattle.spec_machine.specs.declared.owner_report.OwnerRow.{OwnerRow}
+use Rattle.spec_machine.specs.Report.{owner_rows}
 
--- the granule belongs to that realm, or to none
-abbrev pub IsOwner : State → ℕ → Option ℕ → Type 0
-IsOwner s granule None = (s.tag granule ≡ Undelegated) ⊎ (s.tag granule ≡ Delegated)
-IsOwner s granule (Some realm) = IsTied (s.tag granule) s granule realm
+-- ---- what is given
 
--- each granule of so many has the realm that it belongs to
-pub record AreOwners (s : State) (granules : ℕ) (owner : ℕ → Option ℕ) : Type 0 where
-  pub places : granules ≡ s.config.granules
-  pub each : (granule : ℕ) → IsOwner s granule (owner granule)
+-- an entry, or one of some entries, assigns the page
+abbrev pub Assigns : Entry → ℕ → Type 0
+Assigns entry page = (ripas : Ripas) × (entry ≡ Assigned ripas page)
 
--- one of so many granules belongs to another realm, or to none
-abbrev pub with_owner : ℕ → ℕ → Option ℕ → (ℕ → Option ℕ) → ℕ → Option ℕ
-with_owner granules granule given owner other = if is_granule granules granule && other == granule then given else owner other
+abbrev pub IsPageOf : List Entry → ℕ → Type 0
+IsPageOf entries page = (i : ℕ) × (ripas : Ripas) × (slice_get entries i ≡ Some (Assigned ripas page))
 
--- to which realm a page belongs once it has the tag
-abbrev pub page_owner : ℕ → Tag → Option ℕ
-page_owner rd Data = Some rd
-page_owner rd _ = None
+-- a realm's descriptor gives its own granule, a REC that and its auxiliary ones, a table that and its pages
+abbrev pub RealmGives : (ℕ → Option RealmRecord) → ℕ → ℕ → Type 0
+RealmGives realms at granule = (granule ≡ at) × IsTrue (is_some (realms at))
 
-abbrev pub with_page_owner : ℕ → ℕ → Option TagChange → (ℕ → Option ℕ) → ℕ → Option ℕ
-with_page_owner granules rd None owner = owner
-with_page_owner granules rd (Some page) owner = with_owner granules page.granule (page_owner rd page.tag) owner
+abbrev pub RecGives : (ℕ → Option RecRecord) → ℕ → ℕ → Type 0
+RecGives recs at granule = (rec : RecRecord) × (recs at ≡ Some rec) × ((granule ≡ at) ⊎ (granule ≡ rec.aux0) ⊎ (granule ≡ rec.aux1))
 
--- what a change puts in is given to its realm, and what it takes out is taken
-abbrev pub owners_changed : ℕ → Change → (ℕ → Option ℕ) → ℕ → Option ℕ
-owners_changed granules (RealmMade rd root width level vmid algo) owner = with_owner granules root (Some rd) (with_owner granules rd (Some rd) owner)
-owners_changed granules (RealmDestroyed rd root) owner = with_owner granules root None (with_owner granules rd None owner)
-owners_changed granules (RecMade rd rec mpidr flags aux0 aux1) owner =
-    with_owner granules aux1 (Some rd) (with_owner granules aux0 (Some rd) (with_owner granules rec (Some rd) owner))
-owners_changed granules (RecDestroyed rec aux0 aux1) owner = with_owner granules aux1 None (with_owner granules aux0 None (with_owner granules rec None owner))
-owners_changed granules (TableMade rd level number rtt entry) owner = with_owner granules rtt (Some rd) owner
-owners_changed granules (TableDestroyed rd level number rtt entry) owner = with_owner granules rtt None owner
-owners_changed granules (EntriesChanged rd level entries page realm rec) owner = with_page_owner granules rd page owner
-owners_changed granules _ owner = owner
+abbrev pub TableGives : (ℕ → Option TableRecord) → ℕ → ℕ → Type 0
+TableGives tables at granule = (t : TableRecord) × (tables at ≡ Some t) × ((granule ≡ at) ⊎ IsPageOf t.entries granule)
 
--- the owner of each address, of so many granules whose owners stand so
-abbrev pub owner_by : ℕ → GranulePlaces → List (Option ℕ) → ℕ → Option ℕ
-owner_by granules places items address = if is_granule granules address then read_at places items None (address / 4096) else None
+abbrev pub CellGives : State → (ℕ → Option TableRecord) → ℕ → ℕ → Type 0
+CellGives s tables at granule = RealmGives s.realm at granule ⊎ RecGives s.rec at granule ⊎ TableGives tables at granule
 
--- the realm that each granule belongs to, where it belongs to one
-unfoldable pub owners_of : Owners → ℕ → Option ℕ
-owners_of owners = owner_by owners.places.granules owners.places owners.realms.items
+-- one of the first granules gives the granule
+abbrev pub IsGivenBelow : State → (ℕ → Option TableRecord) → ℕ → ℕ → Type 0
+IsGivenBelow s tables n granule = (k : ℕ) × (k < n) × CellGives s tables (k * 4096) granule
+
+-- the granule is one, and the state ties it to the realm
+abbrev pub IsOf : State → ℕ → ℕ → Type 0
+IsOf s granule realm = IsTrue (is_granule s.config.granules granule) × IsTied (s.tag granule) s granule realm
+
+-- ---- what is written
+
+-- each owner so far is a realm to which the state ties the granule
+abbrev pub AreTied : State → (ℕ → Option ℕ) → Type 0
+AreTied s owner = (granule realm : ℕ) → owner granule ≡ Some realm → IsTied (s.tag granule) s granule realm
+
+-- After rows that were there before, the rows are of such owners, of all granules that had one and of those that were given.
+pub record AreGiven (s : State) (before : List OwnerRow) (Given : ℕ → Type 0) (owner : ℕ → Option ℕ) (rows : List OwnerRow) : Type 0 where
+  pub next : ℕ → Option ℕ
+  pub are_tied : AreTied s next
+  pub are_rows : rows ≡ before ++ owner_rows s next s.config.granules
+  pub kept : (granule : ℕ) → IsTrue (is_some (owner granule)) → IsTrue (is_some (next granule))
+  pub given : (granule : ℕ) → Given granule → IsTrue (is_some (next granule))
+
+-- from rows of such owners to rows that have the given ones too, where so many rows were there before
+abbrev pub Gives : State → ℕ → (ℕ → Type 0) → List OwnerRow → List OwnerRow → Type 0
+Gives s first Given old new =
+    (before : List OwnerRow) (owner : ℕ → Option ℕ) → length before ≡ first → AreTied s owner → old ≡ before ++ owner_rows s owner s.config.granules
+    → AreGiven s before Given owner new

@@ -1,4 +1,4 @@
-//! What an accepted command changes: the granules, and to which realm each belongs.
+//! What an accepted command changes.
 
 use crate::machine::Machine;
 use rmm_spec::{Change, RealmChange, RecChange, Tag};
@@ -20,15 +20,12 @@ impl Machine {
         ensures err { OnErr result (state_of self.new ≡ state_of self.old) }
         ensures only { OnErr result (IsTrue (takes_memory change.now)) }
     {
-        let Ok(()) = self.granules.apply(change) else {
-            return Err(AllocError);
-        };
-        self.owners.change(change);
-        Ok(())
+        self.granules.apply(change)
     }
 
     /// Gives a granule that holds nothing another tag.
     #[tactic(auto, unfolding(crate::specs::View::state_of))]
+    #[inline(always)]
     pub(crate) fn retag(&mut self, granule: u64, tag: Tag)
         requires { CanRetag (state_of self.old) (record { granule = granule; tag = tag }) }
         ensures { state_of self.new ≡ changed (state_of self.old) (Retagged (record { granule = granule; tag = tag })) }

@@ -150,7 +150,7 @@ impl Machine {
 
 // A REC's realm, by the address of its descriptor.
 #[tactic(auto, unfolding(realm_desc::specs::View::rec_record))]
-fn owner(rec: &Rec) -> u64
+pub(crate) fn owner(rec: &Rec) -> u64
     ensures { result ≡ rec.now.owner }
 {
     rec.owner.address()

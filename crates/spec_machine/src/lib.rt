@@ -12,7 +12,6 @@ mod inside;
 mod lending;
 mod machine;
 mod owner_report;
-mod owners;
 mod reaching;
 mod reply;
 mod sight;

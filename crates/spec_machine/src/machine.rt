@@ -1,12 +1,9 @@
 //! The machine, what it answers to a command, and its steps.
 
-ghost use Rattle.machine_cells.specs.Whole.{state_in, IsShapedIn};
+ghost use Rattle.machine_cells.specs.Whole.{IsShapedIn};
 ghost use Rattle.machine_cells.specs.Single.{shaped-single};
-ghost use Rattle.spec_machine.specs.Owners.{AreOwners, owners_of};
-ghost use Rattle.spec_machine.specs.Single.{owners-single, shaped-sound};
 
 use crate::lending::lending_of;
-use crate::owners::Owners;
 use crate::reply::{is_ok, is_refusal};
 use command_rows::{answer_inside, answer_outside};
 use granule_state::Config;
@@ -15,15 +12,13 @@ use rmi_view::{CommandRef, ReplyRef};
 use rmm_spec::{Accepted, Call, Command, Refusal, Reply};
 use std::alloc::{AllocError, Global};
 
-/// A state of the specification machine: all its granules, and to which realm each belongs.
+/// A state of the specification machine.
 #[derive(Drop)]
 pub struct Machine {
     pub(crate) granules: Granules,
-    pub(crate) owners: Owners,
     // how many offers were made
     pub(crate) offers: u64,
     ghost shaped: { IsShapedIn granules } by { shaped-single granules },
-    ghost owned: { AreOwners (state_in granules) owners.places.granules (owners_of owners) } by { owners-single (state_in granules) owners.places.granules (owners_of owners) (shaped-sound granules shaped) },
 }
 
 impl Machine {
@@ -44,10 +39,8 @@ impl Machine {
         ensures offers { IfOk result (λ machine. machine.offers ≡ 0) }
     {
         let granules = Granules::new(alloc, config)?;
-        let owners = Owners::new(alloc, granules.count())?;
         Ok(Machine {
             granules,
-            owners,
             offers: 0,
         })
     }

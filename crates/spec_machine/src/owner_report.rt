@@ -1,9 +1,15 @@
 //! A report of which realm each granule belongs to.
 
+use crate::inside::owner;
 use crate::machine::Machine;
 use granule_state::{GRANULE_BYTES, Pa};
-use rmm_spec::Tag;
+use realm_desc::Rec;
+use rmm_spec::{Entry, Tag};
+use rtt_table::Table;
 use std::alloc::AllocError;
+
+/// How many entries a table has.
+const ENTRIES: usize = 512;
 
 /// A granule's tag, and the realm that it belongs to, where it belongs to one.
 #[derive(Clone, Copy)]
@@ -13,30 +19,136 @@ pub struct OwnerRow {
     pub realm: Option<Pa>,
 }
 
+#[tactic(auto, unfolding(crate::specs::View::state_of))]
 impl Machine {
-    ghost use Rattle.std.specs.Prelude.{◌≡◌, ◌+◌, ◌<◌, OnOk, OnErr, vec_len, vec_capacity};
+    ghost use Rattle.std.specs.Prelude.{◌≡◌, ◌+◌, ◌++◌, ◌<◌, ◌≤◌, List, None, OnOk, OnErr, length, vec_len, vec_capacity};
+    ghost use Rattle.spec_machine.specs.declared.owner_report.OwnerRow.{OwnerRow};
+    ghost use Rattle.machine_cells.specs.Whole.{tables_at};
     ghost use Rattle.spec_machine.specs.View.{state_of};
-    ghost use Rattle.spec_machine.specs.Report.{AddsOwners};
+    ghost use Rattle.spec_machine.specs.Report.{AddsOwners, owner_rows};
+    ghost use Rattle.spec_machine.specs.Owners.{CellGives, Gives, RealmGives, RecGives, TableGives};
 
     /// Adds a row for each granule, in the order of addresses. Refused memory, it adds none.
-    #[tactic(auto, unfolding(crate::specs::View::state_of))]
     pub fn owner_report(&self, rows: &mut Vec<OwnerRow>) -> Result<(), AllocError>
         ensures ok { OnOk result (AddsOwners (state_of self.now) rows.old.items rows.new.items) }
         ensures err { OnErr result (rows.new.items ≡ rows.old.items) }
         ensures full { OnErr result (vec_capacity rows.old < vec_len rows.old + (state_of self.now).config.granules) }
     {
-        let granules = self.granules.count();
-        let Ok(()) = rows.reserve(granules) else {
+        let Ok(()) = rows.reserve(self.granules.count()) else {
             return Err(AllocError);
         };
-        for place in 0..granules {
-            let granule = place as u64 * GRANULE_BYTES;
+        let first = rows.len();
+        self.push_rows(rows);
+        self.give_all(first, rows);
+        Ok(())
+    }
+
+    // Adds rows without owners, for which there is room.
+    fn push_rows(&self, rows: &mut Vec<OwnerRow>)
+        requires { vec_len rows.old + (state_of self.now).config.granules ≤ vec_capacity rows.old }
+        ensures { rows.new.items ≡ rows.old.items ++ owner_rows (state_of self.now) (λ _. None) (state_of self.now).config.granules }
+    {
+        for number in 0..self.granules.count() {
+            let granule = number as u64 * GRANULE_BYTES;
             rows.push_reserved(OwnerRow {
                 granule: Pa::new(granule),
                 tag: self.granules.tag(granule),
-                realm: self.owners.owner(place),
+                realm: None,
             });
         }
-        Ok(())
+    }
+
+    // What lies in each granule gives granules to its realm.
+    fn give_all(&self, first: usize, rows: &mut Vec<OwnerRow>)
+        ensures { (before : List OwnerRow) → length before ≡ first
+            → rows.old.items ≡ before ++ owner_rows (state_of self.now) (λ _. None) (state_of self.now).config.granules
+            → AddsOwners (state_of self.now) before rows.new.items }
+    {
+        for number in 0..self.granules.count() {
+            let granule = number as u64 * GRANULE_BYTES;
+            self.give_realm(granule, first, rows);
+            self.give_rec(granule, first, rows);
+            self.give_table(granule, first, rows);
+        }
+    }
+
+    // A realm's descriptor there gives its granule.
+    fn give_realm(&self, granule: u64, first: usize, rows: &mut Vec<OwnerRow>)
+        ensures { Gives (state_of self.now) first (RealmGives (state_of self.now).realm granule) rows.old.items rows.new.items }
+    {
+        if self.granules.realm(granule).is_some() {
+            give(first, rows, granule, granule);
+        }
+    }
+
+    // A REC there gives its granule and its auxiliary ones.
+    fn give_rec(&self, granule: u64, first: usize, rows: &mut Vec<OwnerRow>)
+        ensures { Gives (state_of self.now) first (RecGives (state_of self.now).rec granule) rows.old.items rows.new.items }
+    {
+        if let Some(rec) = self.granules.rec(granule) {
+            give(first, rows, granule, owner(rec));
+            give(first, rows, aux0(rec), owner(rec));
+            give(first, rows, aux1(rec), owner(rec));
+        }
+    }
+
+    // A table there gives its granule and its pages.
+    fn give_table(&self, granule: u64, first: usize, rows: &mut Vec<OwnerRow>)
+        ensures { Gives (state_of self.now) first (TableGives (tables_at self.now.granules) granule) rows.old.items rows.new.items }
+    {
+        if let Some(table) = self.granules.table_in(granule) {
+            give(first, rows, granule, table.place().rd);
+            give_pages(first, rows, table);
+        }
+    }
+}
+
+ghost use Rattle.std.specs.Prelude.{◌≡◌, ℕ, length};
+ghost use Rattle.rmm_spec.specs.State.{State};
+ghost use Rattle.spec_machine.specs.Owners.{Assigns, Gives, IsOf, IsPageOf};
+
+// The first of a REC's auxiliary granules.
+#[tactic(auto, unfolding(realm_desc::specs::View::rec_record))]
+fn aux0(rec: &Rec) -> u64
+    ensures { result ≡ rec.now.aux0 }
+{
+    rec.aux0.address()
+}
+
+// The second.
+#[tactic(auto, unfolding(realm_desc::specs::View::rec_record))]
+fn aux1(rec: &Rec) -> u64
+    ensures { result ≡ rec.now.aux1 }
+{
+    rec.aux1.address()
+}
+
+// The granule belongs to the realm.
+fn give(first: usize, rows: &mut Vec<OwnerRow>, granule: u64, rd: u64)
+    ensures { (s : State) → IsOf s granule rd → Gives s first (λ other. other ≡ granule) rows.old.items rows.new.items }
+{
+    let number = (granule / GRANULE_BYTES) as usize;
+    if number < rows.len().saturating_sub(first) {
+        rows[first + number].realm = Some(Pa::new(rd));
+    }
+}
+
+// The pages of the table belong to its realm.
+fn give_pages(first: usize, rows: &mut Vec<OwnerRow>, table: &Table)
+    ensures { (s : State) → length table.now.entries ≡ 512 → ((page : ℕ) → IsPageOf table.now.entries page → IsOf s page table.now.place.rd)
+        → Gives s first (IsPageOf table.now.entries) rows.old.items rows.new.items }
+{
+    let rd = table.place().rd;
+    for index in 0..ENTRIES {
+        give_page(first, rows, table.entry(index), rd);
+    }
+}
+
+// The page of the entry, where it assigns one, belongs to the realm.
+fn give_page(first: usize, rows: &mut Vec<OwnerRow>, entry: Entry, rd: u64)
+    ensures { (s : State) → ((page : ℕ) → Assigns entry page → IsOf s page rd) → Gives s first (Assigns entry) rows.old.items rows.new.items }
+{
+    if let Entry::Assigned(_, page) = entry {
+        give(first, rows, page, rd);
     }
 }

@@ -14,7 +14,7 @@ returns-clause-settled g c =
     let held = g.H.Held.cells a.held.now in
     let place = place_of a.place.now in
     next-settled a.config.now (call_of a.command.now) place a.learnt held (g.met.H.Held.distinct a.held.now)
-    ∙ ap is_ready (sym (c.next_held.ensures ∙ ap (λ (x : Call). next a.config.now x place a.learnt held) c.call.ensures))
+    ∙ ap is_ready (sym (c.next_step.ensures.exact ∙ ap (λ (x : Call). next a.config.now x place a.learnt held) c.call.ensures))
 
 pub returns-clause-planned : goal.returns-clause-planned
 returns-clause-planned g c =
@@ -22,5 +22,5 @@ returns-clause-planned g c =
     let held = g.H.Held.cells a.held.now in
     let place = place_of a.place.now in
     subst (λ (n : Next). IsPlanned a.config.now a.command.now place a.learnt held n)
-    (sym (c.next_held.ensures ∙ ap (λ (x : Call). next a.config.now x place a.learnt held) c.call.ensures))
+    (sym (c.next_step.ensures.exact ∙ ap (λ (x : Call). next a.config.now x place a.learnt held) c.call.ensures))
     (next-planned a.config.now a.command.now place a.learnt held (g.met.H.Held.distinct a.held.now))

@@ -1,7 +1,9 @@
--- No more than levels so far.
-use Rattle.std.proofs.Common.{◌≤◌}
+-- No more than levels so far, each of the state.
+use Rattle.std.proofs.Common.{◌≤◌, All}
 use Rattle.arrayvec.specs.ArrayVec.{array_vec_len}
+use Rattle.spec_machine.specs.View.{state_of}
+use Rattle.explain.specs.Before.{IsEntryBefore}
 use Rattle.explain.proofs.before.entries_on.Given as goal
 
 abbrev pub invariant-loop-level : goal.invariant-loop-level
-invariant-loop-level l = array_vec_len l.entries ≤ l.level
+invariant-loop-level l = (array_vec_len l.entries ≤ l.level) × All (IsEntryBefore (state_of l.machine) l.rd l.ipa) l.entries.items

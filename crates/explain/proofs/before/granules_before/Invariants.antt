@@ -1,7 +1,12 @@
--- As many as were asked for.
-use Rattle.std.proofs.Common.{◌≡◌}
+-- Those of the names so far.
+use Rattle.std.proofs.Common.{◌≡◌, [], take}
 use Rattle.arrayvec.specs.ArrayVec.{array_vec_len}
+use Rattle.rmm_spec.specs.State.{State}
+use Rattle.spec_machine.specs.Report.{AddsOwners}
+use Rattle.explain.specs.Before.{AreGranulesBefore}
 use Rattle.explain.proofs.before.granules_before.Given as goal
 
 abbrev pub invariant-loop-i : goal.invariant-loop-i
-invariant-loop-i l = array_vec_len l.granules ≡ l.i
+invariant-loop-i l =
+    (array_vec_len l.granules ≡ l.i)
+    × ((s : State) → AddsOwners s [] l.owners → AreGranulesBefore s (take l.i l.names) l.granules.items)

@@ -36,8 +36,11 @@ returns-clause-cause c =
         old = state_of c.args.machine.now;
         passes = c.requires.left;
         specifies = c.outcome-specified.ensures;
-        watched = told.0;
-        decides = told.1;
-        since = told.2;
+        watched = told.watched;
+        decides = told.decides;
+        since = told.since;
+        put = told.put;
+        late = told.late;
+        before = told.before;
       },
     )

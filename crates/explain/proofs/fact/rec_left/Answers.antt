@@ -1,17 +1,24 @@
--- A row of a REC of the realm tells one.
-use Rattle.std.proofs.Common.{ℕ, Some, refl, sym, ◌∙◌, ap, subst}
+-- Granule by granule.
+use Rattle.std.proofs.Common.{◌≡◌, ℕ, ◌*◌, true, false, sym, ◌∙◌, subst}
 use Rattle.std.proofs.lemmas.Option.{slice_get-get_or}
-use Rattle.rmm_spec.specs.declared.tag.Tag.{Tag}
-use Rattle.rmm_spec.specs.declared.tag.Tag.TheVariants as tag
-use Rattle.rmm_spec.specs.Ownership.{IsTied}
-use Rattle.explain.proofs.Owners.{IsTied-owner_rows}
+use Rattle.rmm_spec.specs.Lookup.{is_owned_by, has_rec}
+use Rattle.spec_machine.specs.View.{state_of}
+use Rattle.explain.proofs.Searches.{granule-row, none_next, none_of_rows}
 use Rattle.explain.proofs.fact.rec_left.Goals as goal
 
-pub returns-then-is_rec_of : goal.returns-then-is_rec_of
-returns-then-is_rec_of c s t report =
+pub loop-i-preserved : goal.loop-i-preserved
+loop-i-preserved c =
+    let s = state_of c.args.machine.now in
     let row = c.index-owners-i.result in
-    let rd = c.args.rd in
-    let at = slice_get-get_or c.args.owners.now c.loop-i.i row c.loop-i-test.true ∙ ap Some (sym c.index-owners-i.is) in
-    let rec = c.if-is_rec_of.ensures refl in
-    let tied = IsTied-owner_rows s c.args.owners.now c.loop-i.i row rd report at rec.1 in
-    subst (λ (g : ℕ). IsTied tag.Rec s g rd) (sym c.address.ensures) (subst (λ (t : Tag). IsTied t s row.granule rd) rec.0 tied)
+    let is_row = slice_get-get_or c.args.owners.now c.loop-i.i row c.loop-i-test.true in
+    let here = c.address-rec.ensures ∙ granule-row s c.args.owners.now c.loop-i.i _ c.requires.owners is_row in
+    none_next c.loop-i.i (λ k. is_owned_by c.args.rd (s.rec (k * 4096)))
+    (subst (λ (g : ℕ). is_owned_by c.args.rd (s.rec g) ≡ false) here (sym c.if-is_rec_of.ensures)) c.loop-i.invariant
+
+pub unreachable-requires : goal.unreachable-requires
+unfolding has_rec
+unreachable-requires c =
+    let s = state_of c.args.machine.now in
+    let none = none_of_rows s c.args.owners.now c.loop-i.i (λ k. is_owned_by c.args.rd (s.rec (k * 4096))) c.requires.owners c.loop-i-test.false
+    c.loop-i.auto.i-end c.loop-i.invariant in
+    let bad : true ≡ false = sym c.requires.left ∙ none in cc

@@ -1,6 +1,13 @@
--- The entry is one of the state.
+-- An entry keeps the table where it is.
+use Rattle.std.proofs.Common.{◌≡◌, true, false, sym, ◌∙◌}
+use Rattle.rmm_spec.specs.Walk.{table_number}
 use Rattle.spec_machine.specs.View.{state_of}
+use Rattle.explain.proofs.Removals.{left_there}
 use Rattle.explain.proofs.fact.table_fact.Goals as goal
 
-pub returns-then-is_met : goal.returns-then-is_met
-returns-then-is_met c t = c.in_use.ensures (state_of c.args.machine.now) t c.entry_at-entry.ensures
+pub unreachable-requires : goal.unreachable-requires
+unreachable-requires c =
+    let none = rw c.in_default.is at c.entry_met.ensures.none in
+    let there = rw (c.in_the_way-wanted.ensures, c.entry_at.ensures, c.table_number-number.ensures.number) at none in
+    let left = left_there c.args.removal (state_of c.args.machine.now) c.args.rd c.args.level (table_number c.args.level c.args.ipa) there in
+    let bad : false ≡ true = sym c.requires ∙ left in cc

@@ -9,4 +9,4 @@ returns c =
     let s = state_of c.args.machine.now in
     let found = c.found_tag.ensures s c.requires.owners in
     let fails = c.requires.fails in
-    (refl, found, λ same. absurd (let holds = has_tag-found s c.args.granule c.args.tag c.found_tag.result found same in cc))
+    (refl, refl, found, λ same. absurd (let holds = has_tag-found s c.args.granule c.args.tag c.found_tag.result found same in cc))

@@ -1,6 +1,8 @@
-use Rattle.std.proofs.Common.{rules}
+use Rattle.std.proofs.Common.{rules, subst}
+use Rattle.rmm_spec.specs.declared.call.Call.{Call}
+use Rattle.command_core.specs.Seen.{place_of}
 use Rattle.granule_lock.specs.HeldCells.{hold_cells}
-use Rattle.granule_lock.specs.Locked.{locking}
+use Rattle.granule_lock.specs.Locked.{IsPlannedStep, locking}
 use Rattle.granule_lock.proofs.PlannedSteps.{reached-none, reached-push}
 use Rattle.granule_lock.proofs.locking.lock_for.Goals as goal
 
@@ -14,5 +16,7 @@ pub loop-step-preserved : goal.loop-step-preserved
 loop-step-preserved g c = record {
   granules = c.goes_on.ensures.granules;
   planned = reached-push _ _ _ (locking (hold_cells c.loop-step.hold) c.loop-step.learnt) (locking (hold_cells c.goes_on.new.hold) c.goes_on.new.learnt)
-      c.loop-step.invariant.planned (c.goes_on.ensures.planned (search rules));
+      c.loop-step.invariant.planned
+      (subst (λ (x : Call). IsPlannedStep c.args.config.now x (place_of c.args.place.now) (locking (hold_cells c.loop-step.hold) c.loop-step.learnt)
+      (locking (hold_cells c.goes_on.new.hold) c.goes_on.new.learnt)) c.call-call.ensures (c.goes_on.ensures.planned (search rules)));
 }

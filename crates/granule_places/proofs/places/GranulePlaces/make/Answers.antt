@@ -1,4 +1,4 @@
-use Rattle.std.proofs.Common.{◌≡◌, ℕ, ◌+◌, ◌-◌, ◌/◌, ◌<◌, length, slice_index_or, refl, arith}
+use Rattle.std.proofs.Common.{ℕ, ◌+◌, ◌-◌, ◌/◌, ◌<◌, length, slice_index_or, refl, arith}
 use Rattle.std.proofs.lemmas.List.{length-set}
 use Rattle.granule_places.specs.Placed.{place_in, count_in, room_in}
 use Rattle.granule_places.proofs.PlaceLaws.{apart-set, below-set, fresh-place, kept-place, made-place, unmade-set, unplaced}

@@ -1,14 +1,14 @@
-use Rattle.std.proofs.Common.{◌≡◌, ◌/◌, Some, sym, ◌∙◌, arith}
-use Rattle.granule_places.specs.Placed.{place_in}
+use Rattle.std.proofs.Common.{◌/◌, arith}
 use Rattle.granule_places.proofs.PlaceLaws.{place-within}
 use Rattle.machine_cells.proofs.cell_list.CellList.made_place.Goals as goal
 
-pub returns-in-Some-clause-place : goal.returns-in-Some-clause-place
-returns-in-Some-clause-place c =
+pub returns-then-number-near-clause-place : goal.returns-then-number-near-clause-place
+returns-then-number-near-clause-place c =
     let list = c.args.self.now in
-    let at : place_in list.places (c.args.granule / 4096) ≡ Some c.in-Some.place = sym c.place.ensures ∙ c.in-Some.is in
+    let number = c.args.granule / 4096 in
+    let at = c.near.ensures number c.if-number-near.true in
     record {
       granule = c.requires;
       at = at;
-      within = omega (arith, place-within list.places (c.args.granule / 4096) c.in-Some.place at, list.each, list.cells.ok.0);
+      within = omega (arith, place-within list.places number number at, list.each, list.cells.ok.0);
     }

@@ -3,6 +3,7 @@ use Rattle.std.specs.Prelude.{slice_get}
 use Rattle.std.specs.Io.KnownBytes.{Appends}
 use Rattle.std.proofs.Math.Seq.{take-length}
 use Rattle.std.proofs.lemmas.Option.{none-some}
+use Rattle.std.proofs.lemmas.Result.{err_from_is_err_and}
 use Rattle.rmm_spec.specs.CertificateText.{line_parts}
 use Rattle.rmm_spec.specs.HistoryText.{event_parts}
 use Rattle.rmm_spec.specs.Text.{lines_text}
@@ -12,17 +13,21 @@ use Rattle.recorded_events.specs.Table.{Happened}
 use Rattle.merging.specs.Merge.{Merge, event_lines, commit_lines}
 use Rattle.merging.specs.Naming.{told_slot}
 use Rattle.merging.specs.Run.{Stand, known_front, starts, stands_with, stands_after, events_from, lines_from, returns_in}
+use Rattle.merging.proofs.CutLaws.{IsCut-at}
 use Rattle.merging.proofs.LineLaws.{appends_nothing}
 use Rattle.merging.proofs.NamingLaws.{told-at, length-named_from, lasts_after-next}
 use Rattle.merging.proofs.RunLaws.{known_front-some, known_front-slot_at, length-known_front, take_next, stands_after-push, AreFew-walked}
+use Rattle.merging.proofs.RoomLaws.{AreNumbered-walked}
 use Rattle.merging.proofs.StepLaws.{stands_in-start}
 use Rattle.merging.proofs.TextLaws.{history-next, certificate-next}
 use Rattle.merging.proofs.run.Run.write_lines.Goals as goal
 
 pub loop-stamp-init : goal.loop-stamp-init
 loop-stamp-init g c = record {
-  history = appends_nothing (g.H.Write.contents c.args.history.now);
-  certificate = appends_nothing (g.C.Write.contents c.args.certificate.now);
+  history = appends_nothing c.args.history.now.contents;
+  certificate = appends_nothing c.args.certificate.now.contents;
+  going = (c.requires.history, c.requires.certificate);
+  room = c.requires.room;
   stands = stands_in-start c.idle_cpus-cpus.result
       (λ at other below. c.idle_cpus-cpus.ensures.each at other (omega (arith, below, c.idle_cpus-cpus.ensures.counted)));
   lasts = c.new-lasts.ensures;
@@ -48,6 +53,29 @@ write_told-requires-clause-few_calls g c =
     ) in
     AreFew-walked c.args.self.now.events c.loop-stamp.stamp _ c.loop-stamp.invariant.stands below
 
+pub write_told-requires-clause-numbered : goal.write_told-requires-clause-numbered
+write_told-requires-clause-numbered g c =
+    AreNumbered-walked c.args.self.now.config.cpus c.args.self.now.events c.loop-stamp.stamp _ c.loop-stamp.invariant.stands
+    (rw (← c.self.view_is) c.self.invariant.can_merge)
+
+pub returns-in_err-write_told-clause-fault : goal.returns-in_err-write_told-clause-fault
+returns-in_err-write_told-clause-fault g c =
+    let slot = happened_seen c.in-Some.slot in
+    let front = known_front c.self.inside.table.slots in
+    let stamp = c.loop-stamp.stamp in
+    let run = c.args.self.now in
+    let lasts = lasts_in c.loop-stamp.lasts in
+    let told = told_slot run.naming run.config.granules lasts slot in
+    let within : stamp ≤ length front = omega (arith, c.loop-stamp-test.true, c.self.invariant.stamps) in
+    let is : slice_get front stamp ≡ Some slot = known_front-some c.self.inside.table.slots stamp slot within (sym c.in-Some.ensures.seen) in
+    let event_is : slice_get run.events stamp ≡ Some told =
+    subst (λ (m : Merge). slice_get m.events stamp ≡ Some (told_slot m.naming m.config.granules lasts slot)) c.self.view_is
+    (told-at c.self.inside.naming c.self.inside.config.granules c.self.inside.config.granules lasts front stamp slot is refl c.loop-stamp.invariant.lasts) in
+    let p = err_from_is_err_and c.from_residual.result c.from_residual.ensures.1 in
+    rw (p.1, p.2)
+    (IsCut-at run.events stamp told event_is (λ (cpu : ℕ). returns_in cpu run.events) _ _ _ _ _ _ _ _ c.loop-stamp.invariant.stands
+    c.loop-stamp.invariant.history c.loop-stamp.invariant.certificate c.in_err-write_told.ensures.fault)
+
 pub loop-stamp-preserved : goal.loop-stamp-preserved
 loop-stamp-preserved g c =
     let slot = happened_seen c.in-Some.slot in
@@ -63,14 +91,16 @@ loop-stamp-preserved g c =
     (told-at c.self.inside.naming c.self.inside.config.granules c.self.inside.config.granules lasts front stamp slot is refl c.loop-stamp.invariant.lasts) in
     let returns = λ (cpu : ℕ). returns_in cpu run.events in
     record {
-      history = history-next (g.H.Write.contents c.args.history.now) (g.H.Write.contents c.loop-stamp.history) (g.H.Write.contents c.write_told.new.history)
+      history = history-next c.args.history.now.contents c.loop-stamp.history.contents c.write_told.new.history.contents
           run.events stamp told event_is c.loop-stamp.invariant.history
-          (subst (λ (s : ℕ → Stand). Appends (g.H.Write.contents c.loop-stamp.history) (g.H.Write.contents c.write_told.new.history) (event_lines s told))
+          (subst (λ (s : ℕ → Stand). Appends c.loop-stamp.history.contents c.write_told.new.history.contents (event_lines s told))
           c.loop-stamp.invariant.stands c.in_ok-write_told.ensures.history);
-      certificate = certificate-next (g.C.Write.contents c.args.certificate.now) (g.C.Write.contents c.loop-stamp.certificate) (g.C.Write.contents c.write_told.new.certificate)
+      certificate = certificate-next c.args.certificate.now.contents c.loop-stamp.certificate.contents c.write_told.new.certificate.contents
           run.events stamp told event_is returns c.loop-stamp.invariant.certificate
-          (subst (λ (s : ℕ → Stand). Appends (g.C.Write.contents c.loop-stamp.certificate) (g.C.Write.contents c.write_told.new.certificate) (commit_lines returns s told))
+          (subst (λ (s : ℕ → Stand). Appends c.loop-stamp.certificate.contents c.write_told.new.certificate.contents (commit_lines returns s told))
           c.loop-stamp.invariant.stands c.in_ok-write_told.ensures.certificate);
+      going = c.in_ok-write_told.ensures.going;
+      room = c.in_ok-write_told.ensures.room;
       stands = c.in_ok-write_told.ensures.cpus ∙ ap (λ (s : ℕ → Stand). stands_with s told) c.loop-stamp.invariant.stands
           ∙ sym (ap (stands_after starts) (take_next run.events stamp told event_is) ∙ stands_after-push starts (take stamp run.events) told);
       lasts = c.take.ensures ∙ ap (λ ls. lasts_with ls slot) c.loop-stamp.invariant.lasts ∙ sym (lasts_after-next front stamp slot is);
@@ -89,7 +119,7 @@ returns-clause-history g c =
       length-named_from c.self.inside.naming c.self.inside.config.granules no_lasts front,
       ap (λ (m : Merge). length m.events) c.self.view_is,
     ) in
-    subst (λ (es : List Happened). Appends (g.H.Write.contents c.args.history.now) (g.H.Write.contents c.loop-stamp.history)
+    subst (λ (es : List Happened). Appends c.args.history.now.contents c.loop-stamp.history.contents
     (lines_text (map event_parts (events_from starts es)))) (ap (λ n. take n events) all ∙ take-length events) c.loop-stamp.invariant.history
 
 pub returns-clause-certificate : goal.returns-clause-certificate
@@ -105,6 +135,6 @@ returns-clause-certificate g c =
       length-named_from c.self.inside.naming c.self.inside.config.granules no_lasts front,
       ap (λ (m : Merge). length m.events) c.self.view_is,
     ) in
-    subst (λ (es : List Happened). Appends (g.C.Write.contents c.args.certificate.now) (g.C.Write.contents c.loop-stamp.certificate)
+    subst (λ (es : List Happened). Appends c.args.certificate.now.contents c.loop-stamp.certificate.contents
     (lines_text (map line_parts (lines_from (λ cpu. returns_in cpu events) starts es)))) (ap (λ n. take n events) all ∙ take-length events)
     c.loop-stamp.invariant.certificate

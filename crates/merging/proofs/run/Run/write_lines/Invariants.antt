@@ -1,4 +1,4 @@
-use Rattle.std.proofs.Common.{◌≡◌, map, take}
+use Rattle.std.proofs.Common.{◌≡◌, ◌≤◌, false, map, take, vec_capacity}
 use Rattle.std.specs.Io.KnownBytes.{Appends}
 use Rattle.rmm_spec.specs.CertificateText.{line_parts}
 use Rattle.rmm_spec.specs.HistoryText.{event_parts}
@@ -11,9 +11,11 @@ use Rattle.merging.proofs.run.Run.write_lines.Given as goal
 
 abbrev pub invariant-loop-stamp : goal.invariant-loop-stamp
 invariant-loop-stamp g l = record {
-  history : Appends (g.H.Write.contents l.fn.history) (g.H.Write.contents l.history) (lines_text (map event_parts (events_from starts (take l.stamp l.self.events))));
-  certificate : Appends (g.C.Write.contents l.fn.certificate) (g.C.Write.contents l.certificate)
+  history : Appends l.fn.history.contents l.history.contents (lines_text (map event_parts (events_from starts (take l.stamp l.self.events))));
+  certificate : Appends l.fn.certificate.contents l.certificate.contents
       (lines_text (map line_parts (lines_from (λ cpu. returns_in cpu l.self.events) starts (take l.stamp l.self.events))));
+  going : (l.history.has_failed ≡ false) × (l.certificate.has_failed ≡ false);
+  room : 256 ≤ vec_capacity l.line;
   stands : stand_at (stands_in l.cpus) ≡ stands_after starts (take l.stamp l.self.events);
   lasts : lasts_in l.lasts ≡ lasts_after no_lasts (take l.stamp (known_front l.table.slots));
 }

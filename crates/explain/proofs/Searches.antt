@@ -1,0 +1,30 @@
+-- What a loop over numbers, or over the granules of a report, has found so far.
+use Rattle.std.proofs.Common.{◌≡◌, ℕ, suc, ◌+◌, ◌*◌, ◌≤◌, Bool, false, List, [], length, Some, refl, sym, ◌∙◌, ap, arith}
+use Rattle.std.specs.List.{slice_get}
+use Rattle.rmm_spec.specs.Lookup.{any_below}
+use Rattle.rmm_spec.specs.State.{State}
+use Rattle.spec_machine.specs.declared.owner_report.OwnerRow.{OwnerRow}
+use Rattle.spec_machine.specs.Report.{AddsOwners}
+use Rattle.explain.proofs.Owners.{is_row-owner_rows, length-owner_rows}
+
+-- none passes, with one more that doesn't
+pub none_next : (n : ℕ) (p : ℕ → Bool) → p n ≡ false → any_below n p ≡ false → any_below (n + 1) p ≡ false
+none_next n p here below = let e : n + 1 ≡ suc n = omega arith in rw e (rw (here, below) refl)
+
+-- none passes once all were looked at
+pub none_all : (n count : ℕ) (p : ℕ → Bool) → n ≡ count → any_below n p ≡ false → any_below count p ≡ false
+none_all n count p all none = ap (λ (k : ℕ). any_below k p) (sym all) ∙ none
+
+-- a report has a row for each granule
+pub length-report : (s : State) (rows : List OwnerRow) → AddsOwners s [] rows → length rows ≡ s.config.granules
+length-report s rows report = ap (λ (xs : List OwnerRow). length xs) report.2 ∙ length-owner_rows s report.0 s.config.granules
+
+-- of its place
+pub granule-row : (s : State) (rows : List OwnerRow) (k : ℕ) (row : OwnerRow) → AddsOwners s [] rows → slice_get rows k ≡ Some row → row.granule ≡ k * 4096
+granule-row s rows k row report is_row = sym (ap (λ (r : OwnerRow). r.granule) (is_row-owner_rows s rows k row report is_row).1)
+
+-- so where none of the rows' granules passes, none does
+pub none_of_rows : (s : State) (rows : List OwnerRow) (n : ℕ) (p : ℕ → Bool) → AddsOwners s [] rows → length rows ≤ n → n ≤ length rows
+    → any_below n p ≡ false → any_below s.config.granules p ≡ false
+none_of_rows s rows n p report least most none =
+    none_all n s.config.granules p (let all : n ≡ length rows = omega (arith, least, most) in all ∙ length-report s rows report) none

@@ -1,0 +1,9 @@
+-- The granules so far have their rows, and there is room for the others.
+use Rattle.spec_machine.proofs.Common.{◌≡◌, ◌+◌, ◌≤◌, ◌++◌, None, vec_len, vec_capacity, count_of, owner_rows, state_of}
+use Rattle.spec_machine.proofs.machine.Machine.push_rows.Given as goal
+
+abbrev pub invariant-loop-number : goal.invariant-loop-number
+invariant-loop-number l = record {
+  rows : l.rows.items ≡ l.fn.rows.items ++ owner_rows (state_of l.self) (λ _. None) l.number;
+  room : vec_len l.rows + count_of l.self.granules ≤ l.number + vec_capacity l.rows;
+}
