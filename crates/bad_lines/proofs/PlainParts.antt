@@ -7,7 +7,7 @@ use Rattle.std.proofs.lemmas.List.Sums.{count_by-le-length}
 use Rattle.rmm_spec.specs.declared.function_id.FunctionId.{FunctionId}
 use Rattle.rmm_spec.specs.Function.{number_of}
 use Rattle.rmm_spec.specs.Text.{fixed_hex, parts_of}
-use Rattle.rmm_spec.proofs.Texts.{fixed_hex-injective, number_of-injective, number_of-lt}
+use Rattle.spec_lemmas.proofs.Texts.{fixed_hex-injective, number_of-injective, number_of-lt}
 
 abbrev is_space : ℕ → Bool
 is_space byte = byte == 32

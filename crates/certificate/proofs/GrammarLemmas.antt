@@ -7,10 +7,10 @@ use Rattle.certificate.specs.Faults.{IsFaultOf}
 use Rattle.certificate.specs.declared.fault.CertFault.{CertFault}
 use Rattle.certificate.specs.declared.fault.CertFault.TheVariants.{BadLine, NoMemory}
 use Rattle.certificate.specs.Spelling.{IsLineOf, IsNoLine}
-use Rattle.rmm_spec.proofs.CertificateLines.{certificates_by_lines, line_parts-one_line, InCertificates-from_lines, not-IsBadLine-certificate}
-use Rattle.rmm_spec.proofs.Lines.{IsBadLine-line, IsBadLine-unfinished, IsBadLine-full, map_last, lines_text-push}
+use Rattle.spec_lemmas.proofs.CertificateLines.{certificates_by_lines, line_parts-one_line, InCertificates-from_lines, not-IsBadLine-certificate}
+use Rattle.spec_lemmas.proofs.Lines.{IsBadLine-line, IsBadLine-unfinished, IsBadLine-full, map_last, lines_text-push}
 use Rattle.rmm_spec.specs.Text.{HasNoNewline, IsBadLine, line_text, lines_text, parts_of}
-use Rattle.rmm_spec.proofs.Texts.{AllByRecursion-append}
+use Rattle.spec_lemmas.proofs.Texts.{AllByRecursion-append}
 use Rattle.rmm_spec.specs.CertificateText.{IsLine, IsCertificate, IsCertificateText, InCertificates, certificate_text, line_parts}
 use Rattle.rmm_spec.specs.declared.line.Line.{Line}
 

@@ -9,8 +9,8 @@ use Rattle.certificate.specs.declared.certificate.Named.{Named}
 use Rattle.certificate.specs.declared.certificate.Named.TheVariants as named
 use Rattle.rmm_spec.specs.CertificateText.{IsLine, IsCertificate}
 use Rattle.rmm_spec.specs.declared.line.Line.TheVariants as line
-use Rattle.rmm_spec.proofs.Lines.{each-weaker}
-use Rattle.rmm_spec.proofs.Texts.{AllByRecursion-append}
+use Rattle.spec_lemmas.proofs.Lines.{each-weaker}
+use Rattle.spec_lemmas.proofs.Texts.{AllByRecursion-append}
 
 -- a claim at the end leaves the earlier lines as they are
 line_of-push : (claims : List Claim) (claim : Claim) (name : Named) → HasClaim (length claims) name → line_of (claims ++ claim ∷ []) name ≡ line_of claims name

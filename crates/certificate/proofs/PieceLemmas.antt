@@ -5,9 +5,9 @@ use Rattle.std.proofs.lemmas.List.{append-nil, length-map, length-take-le}
 use Rattle.std.proofs.lemmas.List.Splits.{join_with_byte-slice_split}
 use Rattle.line_pieces.proofs.LineLengths.{length-line_text, width-line}
 use Rattle.line_pieces.proofs.Pieces.{IsBadLine-too_long}
-use Rattle.rmm_spec.proofs.CertificateLines.{certificates_by_lines, line_parts-one_line, InCertificates-from_lines}
-use Rattle.rmm_spec.proofs.Lines.{append-cons-not_nil, each-right, map_last}
-use Rattle.rmm_spec.proofs.Texts.{AllByRecursion-append}
+use Rattle.spec_lemmas.proofs.CertificateLines.{certificates_by_lines, line_parts-one_line, InCertificates-from_lines}
+use Rattle.spec_lemmas.proofs.Lines.{append-cons-not_nil, each-right, map_last}
+use Rattle.spec_lemmas.proofs.Texts.{AllByRecursion-append}
 use Rattle.rmm_spec.specs.CertificateText.{IsLine, IsCertificate, IsCertificateText, InCertificates, certificate_text, line_parts}
 use Rattle.rmm_spec.specs.Text.{HasNoNewline, IsBadLine, line_text, parts_of}
 use Rattle.rmm_spec.specs.declared.line.Line.{Line}

@@ -8,7 +8,7 @@ use Rattle.rmm_spec.specs.CommandText.{reply_parts, reply_text}
 use Rattle.rmm_spec.specs.Text.{line_text}
 use Rattle.rmm_spec.specs.declared.line.Line.TheVariants.{Unfinished}
 use Rattle.rmm_spec.specs.declared.reply.Reply.{Reply}
-use Rattle.rmm_spec.proofs.Texts.{reply_parts-some}
+use Rattle.spec_lemmas.proofs.Texts.{reply_parts-some}
 use Rattle.rmi_codec.specs.Head.{head_text}
 use Rattle.rmi_codec.proofs.WriteLaws.{line_text-head}
 

@@ -13,7 +13,7 @@ use Rattle.rmm_spec.specs.Step.{outcome, CarriesOut, Step}
 use Rattle.rmm_spec.specs.Flat.{flat_state}
 use Rattle.rmm_spec.specs.Local.{Hold, put_all, LocalStep}
 use Rattle.rmm_spec.specs.World.{World, hold_of, IsShapedWorld}
-use Rattle.rmm_spec.proofs.Tests.{both_ways}
+use Rattle.lemmas.proofs.Tests.{both_ways}
 use Rattle.rmm_laws.proofs.RowLaws.{outcome-leads}
 use Rattle.rmm_laws.proofs.StepLaws.{step-refuses}
 use Rattle.world_laws.proofs.Locals.{unchanged-is_local}

@@ -14,7 +14,7 @@ use Rattle.rmm_spec.specs.HistoryText.{IsConfig, IsHistory, start, stand_from, c
 use Rattle.rmm_spec.specs.CertificateText.{IsLine, IsCertificate}
 use Rattle.rmm_spec.specs.Linearization.{IsCalled}
 use Rattle.rmm_spec.specs.World.{World, Commitment, is_return_of, line_for, certificate_of, history_of}
-use Rattle.rmm_spec.proofs.Places.{below-IsKnown, call_is_event}
+use Rattle.spec_lemmas.proofs.Places.{below-IsKnown, call_is_event}
 use Rattle.world_laws.proofs.Recorded.{AreRecorded, IsAccounted}
 use Rattle.certified_laws.proofs.Written.{IsWritten, IsSome-AtStand}
 

@@ -30,14 +30,14 @@ use Rattle.rmm_spec.specs.State.{State, RealmRecord, Request, Pending, Psci, Rip
 use Rattle.rmm_spec.specs.Lookup.{is_inside, realm_at, rec_at, rec_inside, ripas_number}
 use Rattle.rmm_spec.specs.Walk.{entry_state, reach, half}
 use Rattle.rmm_spec.specs.Rows.{Row, Needed, Word, decided, inputs, reply_of, tagged, input_error, ok}
-use Rattle.rmm_spec.proofs.Behind.{behind}
+use Rattle.spec_lemmas.proofs.Behind.{behind}
 use Rattle.rmm_spec.specs.Step.{Step, CarriesOut, answer_of, outcome, is_placed, misplacement}
 use Rattle.rmm_spec.specs.Step.Front.{with_front}
 use Rattle.rmm_spec.specs.Step.Terms.{named, words_of}
 use Rattle.rmm_spec.specs.Step.Table.{entry_after_table}
 use Rattle.rmm_spec.specs.Step.Ripas.{reached_change, stretch_change}
 use Rattle.rmm_spec.specs.Step.RealmCall.{exit_words}
-use Rattle.rmm_spec.proofs.WalkLaws.{reach-le}
+use Rattle.spec_lemmas.proofs.WalkLaws.{reach-le}
 use Rattle.certified_laws.proofs.Told.{EntryFits, RequestFits, PendingFits, EachIn, ChangeFits, StateFits, either, slice_index_or-each, realm_at-fits, rec_at-fits, request_of-fits, entry_at-fits, AreWords-measurement, StateFits-changed}
 
 -- ---- what is answered has a text

@@ -8,7 +8,7 @@ use Rattle.rmm_spec.specs.HistoryText.{Config}
 use Rattle.rmm_spec.specs.Cell.{put}
 use Rattle.rmm_spec.specs.World.{World, Phase, Between, Deciding, Decided, GivenUp, Stopped, opening_world, phase_learnt, Move, Moves, Happens, HappenAll}
 use Rattle.rmm_spec.specs.World as world
-use Rattle.world_laws.proofs.Lists.{put_elim}
+use Rattle.spec_lemmas.proofs.Lists.{put_elim}
 use Rattle.certified_laws.specs.Programs.{commands_below}
 
 -- ---- sums

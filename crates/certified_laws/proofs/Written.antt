@@ -15,12 +15,12 @@ use Rattle.rmm_spec.specs.Flat.{flat_state}
 use Rattle.rmm_spec.specs.Local.{Hold, put_all}
 use Rattle.rmm_spec.specs.World.{World, Phase, Between, Deciding, Decided, GivenUp, Stopped, Commitment, opening_world, phase_learnt, without_granule, Move, Moves, Happens, HappenAll, Commits}
 use Rattle.rmm_spec.specs.World as world
-use Rattle.rmm_spec.proofs.Places.{IsEvent-slice_get}
-use Rattle.rmm_spec.proofs.Records.{subhistory_of-push_same, subhistory_of-push_other, stand_from-push_at, AllByRecursion-push}
-use Rattle.world_laws.proofs.Lists.{put_elim, slice_get-push_cases}
+use Rattle.spec_lemmas.proofs.Places.{IsEvent-slice_get}
+use Rattle.spec_lemmas.proofs.Records.{subhistory_of-push_same, subhistory_of-push_other, stand_from-push_at, AllByRecursion-push}
+use Rattle.spec_lemmas.proofs.Lists.{put_elim, slice_get-push_cases}
 use Rattle.world_laws.proofs.Recorded.{Agrees-own, IsAccounted, AtPhase, IsAccounted-HappenAll, IsAccounted-opening}
 use Rattle.certified_laws.specs.Programs.{HaveTexts}
-use Rattle.world_laws.proofs.Opening.{flat_state-opening}
+use Rattle.spec_lemmas.proofs.Opening.{flat_state-opening}
 use Rattle.certified_laws.proofs.Told.{StateFits, StateFits-opening}
 use Rattle.certified_laws.proofs.Replies.{IsReply-Step}
 

@@ -7,9 +7,9 @@ use Rattle.rmm_spec.specs.HistoryText.{History}
 use Rattle.rmm_spec.specs.State.{opening}
 use Rattle.rmm_spec.specs.Linearization.{IsLinearization}
 use Rattle.rmm_spec.specs.FirstFault.{FirstFault}
-use Rattle.checker.proofs.Elements.{slice_get-take}
-use Rattle.checker.proofs.Calls.{HasOnePlaces}
-use Rattle.checker.proofs.Runs.{not-IsRefused}
+use Rattle.lemmas.proofs.Elements.{slice_get-take}
+use Rattle.spec_lemmas.proofs.Calls.{HasOnePlaces}
+use Rattle.rmm_laws.proofs.EntryRuns.{not-IsRefused}
 
 pub not-IsLinearization : (history : History) → HasOnePlaces history.events → (why : Reason) (lines : List Line) (step : ℕ)
     → FirstFault why history lines step → IsLinearization history lines → ⊥

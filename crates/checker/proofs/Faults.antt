@@ -16,8 +16,8 @@ use Rattle.rmm_spec.specs.FirstFault.{IsRefused, FailsBy, IsFirstMissing, FirstF
 use Rattle.std.proofs.lemmas.List.{take_all}
 use Rattle.rmm_spec.specs.Judgement.{Accepts}
 use Rattle.rmm_laws.proofs.Isolation.{isolated_throughout}
-use Rattle.checker.proofs.Elements.{take-next_at}
-use Rattle.checker.proofs.Calls.{HasOnePlaces, same_command, same_reply}
+use Rattle.lemmas.proofs.Elements.{take-next_at}
+use Rattle.spec_lemmas.proofs.Calls.{HasOnePlaces, same_command, same_reply}
 use Rattle.checker.specs.Progress.{Progress, AreNamedBelow}
 
 -- the call returned at that place or above it

@@ -13,11 +13,11 @@ use Rattle.rmm_spec.specs.State.{State}
 use Rattle.rmm_spec.specs.Step.{Step}
 use Rattle.rmm_spec.specs.Linearization.{IsCalled, IsReturned, IsFinished, cpu_named, number_named, IsOfItsKind, IsTooLate, IsReplyOf}
 use Rattle.rmm_spec.specs.FirstFault.{FailsBy}
-use Rattle.rmm_spec.proofs.Places.{one_call_place, one_return_place, finished_is_known}
+use Rattle.spec_lemmas.proofs.Places.{one_call_place, one_return_place, finished_is_known}
 use Rattle.checker.specs.Progress.{Progress}
 use Rattle.checker.specs.Replay.{IsDue, IsReplayOf, NeedsMemory, IsRefusedMemory}
 use Rattle.checker.specs.declared.replay.Replay.{Replay}
-use Rattle.checker.proofs.Calls.{HasOnePlaces, told_at_call}
+use Rattle.spec_lemmas.proofs.Calls.{HasOnePlaces, told_at_call}
 use Rattle.checker.proofs.Progress.{Follows, Progress-push}
 use Rattle.checker.proofs.Faults.{IsRefused-from_step, not-IsTooLate-from_latest, not-IsTooLate-pending}
 

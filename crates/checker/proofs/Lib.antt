@@ -1,6 +1,3 @@
-pub mod Elements
-pub mod Calls
-pub mod Runs
 pub mod Progress
 pub mod Faults
 pub mod Judging

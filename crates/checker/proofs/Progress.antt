@@ -16,10 +16,10 @@ use Rattle.rmm_spec.specs.Run.{JournalEntry}
 use Rattle.rmm_spec.specs.Linearization.{IsCalled, ReturnsBefore, cpu_named, number_named, NamesCall, IsOfItsKind, IsNamed, IsTooLate, NamesCalls, KeepsRealTime, IsReplyOf, IsEntryOf}
 use Rattle.rmm_spec.specs.FirstFault.{Passes}
 use Rattle.checker.specs.Progress.{IsCallOf, Progress}
-use Rattle.checker.proofs.Elements.{slice_get-append_left, slice_get_push, slice_get_push_cases}
-use Rattle.checker.proofs.Calls.{HasOnePlaces}
+use Rattle.lemmas.proofs.Elements.{slice_get-append_left, slice_get_push, slice_get_push_cases}
+use Rattle.spec_lemmas.proofs.Calls.{HasOnePlaces}
 use Rattle.rmm_laws.proofs.RunLaws.{run-snoc}
-use Rattle.checker.proofs.Runs.{AreEntriesOf-push}
+use Rattle.rmm_laws.proofs.EntryRuns.{AreEntriesOf-push}
 
 -- a line that passes after the lines before it
 pub record Follows (history : History) (before : List Line) (old : State) (line : Line) (called : ℕ) (new : State) : Type 0 where

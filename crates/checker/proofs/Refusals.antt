@@ -4,7 +4,7 @@ use Rattle.std.specs.Prelude.{IsNone, IsOk, IfErr, IsSomeAnd}
 use Rattle.std.proofs.lemmas.List.{append-nil}
 use Rattle.certificate.proofs.PieceLemmas.{Answered, GoesOn, take_line}
 use Rattle.certificate.specs.Pieces.{Begun, Takes}
-use Rattle.rmm_spec.proofs.Texts.{push-injective}
+use Rattle.spec_lemmas.proofs.Texts.{push-injective}
 use Rattle.rmm_spec.specs.declared.line.Line.{Line}
 use Rattle.rmm_spec.specs.CertificateText.{certificate_text}
 use Rattle.rmm_spec.specs.HistoryText.{History}

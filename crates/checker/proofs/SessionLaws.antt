@@ -24,7 +24,7 @@ use Rattle.checker.specs.declared.session.Session.{Session}
 use Rattle.checker.proofs.Verdicts.{Judges-from_order}
 use Rattle.checker.specs.declared.failure.Failure.{Failure}
 use Rattle.checker.specs.declared.replay.Replay.{Replay}
-use Rattle.checker.proofs.Elements.{slice_get-append_left, slice_get_push}
+use Rattle.lemmas.proofs.Elements.{slice_get-append_left, slice_get_push}
 
 -- the first line that fails stays the first
 FailsAt-push : (history : History) (lines : List Line) (next : Line) (step : ℕ) (why : Reason) → FailsAt history lines step why

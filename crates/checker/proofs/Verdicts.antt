@@ -9,8 +9,8 @@ use Rattle.rmm_spec.specs.CertificateText.{IsCertificateText}
 use Rattle.rmm_spec.specs.Linearization.{IsLinearization}
 use Rattle.rmm_spec.specs.FirstFault.{FirstFault}
 use Rattle.rmm_spec.specs.Judgement.{Accepts, JudgesOrder, Judges, JudgesTexts}
-use Rattle.rmm_spec.proofs.HistoryGrammar.{same_history, not-IsBadLine-history}
-use Rattle.rmm_spec.proofs.CertificateLines.{same_certificate, not-IsBadLine-certificate}
+use Rattle.spec_lemmas.proofs.HistoryGrammar.{same_history, not-IsBadLine-history}
+use Rattle.spec_lemmas.proofs.CertificateLines.{same_certificate, not-IsBadLine-certificate}
 use Rattle.checker.proofs.Excludes.{not-IsLinearization}
 use Rattle.checker.proofs.Judging.{HasOnePlaces-from_history}
 

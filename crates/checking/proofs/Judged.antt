@@ -24,7 +24,7 @@ use Rattle.checking.specs.declared.takers.Recording.{Recording}
 use Rattle.checking.proofs.CertificateTexts.{RefusesLine-of}
 use Rattle.checking.proofs.HistoryTexts.{RefusesEvent-text}
 use Rattle.checker.specs.Session.{HasJudged, IsRefusedIn}
-use Rattle.rmm_spec.proofs.HistoryGrammar.{same_history}
+use Rattle.spec_lemmas.proofs.HistoryGrammar.{same_history}
 
 -- the answer that has this fault
 abbrev pub failed_by : JudgeFault → Result Verdict JudgeFault

@@ -20,8 +20,8 @@ use Rattle.rmm_spec.specs.Walk.{is_table, passes, linked_entry, entry_at, has_en
 use Rattle.rmm_spec.specs.Flat.{is_table_of}
 use Rattle.rmm_spec.specs.Local.{HeldCell, granules_held}
 use Rattle.rmm_sound.proofs.Cases.{spot_hit}
-use Rattle.world_laws.proofs.Placed.{passing_below, any_below-from}
-use Rattle.rtt_table.proofs.Searches.{search-places}
+use Rattle.spec_lemmas.proofs.Placed.{passing_below, any_below-from}
+use Rattle.spec_lemmas.proofs.TableSearches.{search-places}
 use Rattle.walk_laws.specs.SeenState.{found_or, table_held, table_placed, entry_in, entry_held, table_seen, leaf_seen, seen_state}
 use Rattle.walk_laws.proofs.Found.{placed-holds, any_below-same}
 use Rattle.walk_laws.proofs.Tables.{entry-seen}

@@ -16,7 +16,7 @@ use Rattle.rmm_spec.specs.Cell.{Cell, Undelegated, tag_of}
 use Rattle.rmm_spec.specs.Shape.{Outside}
 use Rattle.rmm_spec.specs.Local.{HeldCell, Hold, granules_held, LocalStep}
 use Rattle.world_laws.specs.Replaced.{held_at}
-use Rattle.world_laws.proofs.Members.{Contains-head, Contains-tail, slice_get-from_Contains}
+use Rattle.spec_lemmas.proofs.Members.{Contains-head, Contains-tail, slice_get-from_Contains}
 use Rattle.world_laws.proofs.Refusals.{IsInputError, IsRefusedInFront, by_words, by_tag, decided-front, answer_of-front, words-are_local, addresses-are_local, tags-are_local}
 use Rattle.command_rows.specs.Answers.{host_answer, outside_answer}
 use Rattle.command_core.specs.Seen.{cell_in, is_held}

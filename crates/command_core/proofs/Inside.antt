@@ -22,7 +22,7 @@ use Rattle.rmm_spec.specs.Step.RealmCall.{answer_to_realm, rec_exit, rec_change,
 use Rattle.rmm_spec.specs.Cell.{Cell, Rec, tag_of, Rd}
 use Rattle.rmm_spec.specs.Shape.{Inside}
 use Rattle.rmm_spec.specs.Local.{HeldCell, Hold}
-use Rattle.world_laws.proofs.Members.{Contains-head, Contains-tail}
+use Rattle.spec_lemmas.proofs.Members.{Contains-head, Contains-tail}
 use Rattle.command_rows.specs.Answers.{IsInsideBy, class_answer, inside_answer}
 use Rattle.walk_laws.specs.Walking.{way, is_walk_held, is_refused_early}
 use Rattle.walk_laws.proofs.Seen.{realm-same, rec-same}

@@ -18,7 +18,7 @@ use Rattle.rmm_spec.specs.Cell.{Cell, Rd, Rec, RecAux, Rtt, tag_of, is_aux, tabl
 use Rattle.rmm_spec.specs.Shape.{CpuPlace, Outside, Inside, HoldsTable}
 use Rattle.rmm_spec.specs.Local.{HeldCell, Hold}
 use Rattle.world_laws.proofs.Locals.{agrees-at}
-use Rattle.world_laws.proofs.Members.{each_of_two}
+use Rattle.spec_lemmas.proofs.Members.{each_of_two}
 use Rattle.command_core.specs.Seen.{cell_in, is_held}
 use Rattle.command_core.specs.Named.{has_wrong, words_fit}
 use Rattle.command_core.specs.Settled.{is_all_held, is_read_over, is_settled_outside, is_settled_inside, is_settled}

@@ -13,7 +13,7 @@ use Rattle.rmm_spec.specs.Step.Terms.{words_of, needed, named}
 use Rattle.rmm_spec.specs.Cell.{Cell, Undelegated, Rd, Rec, tag_of}
 use Rattle.rmm_spec.specs.Shape.{Outside, Inside}
 use Rattle.rmm_spec.specs.Local.{HeldCell}
-use Rattle.world_laws.proofs.Members.{each_of_one}
+use Rattle.spec_lemmas.proofs.Members.{each_of_one}
 use Rattle.command_rows.specs.Answers.{IsOwned, IsInside}
 use Rattle.command_core.specs.Seen.{cell_in}
 use Rattle.walk_laws.specs.SeenState.{realm_behind, cell_or, seen_state}

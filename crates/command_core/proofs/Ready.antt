@@ -19,7 +19,7 @@ use Rattle.rmm_spec.specs.Rows.{done, reply_of}
 use Rattle.rmm_spec.specs.Step.Terms.{named}
 use Rattle.rmm_spec.specs.Shape.{CpuPlace, Outside, Inside}
 use Rattle.rmm_spec.specs.Local.{HeldCell, Hold}
-use Rattle.world_laws.proofs.Placed.{is_inside-outside, is_inside-inside}
+use Rattle.spec_lemmas.proofs.Placed.{is_inside-outside, is_inside-inside}
 use Rattle.world_laws.proofs.Refusals.{outside-is_local}
 use Rattle.command_rows.specs.Answers.{host_answer, outside_answer, inside_answer}
 use Rattle.command_rows.proofs.Outcomes.{outcome-outside, outcome-inside}

@@ -13,9 +13,9 @@ use Rattle.rmm_spec.specs.Rows.{Needed}
 use Rattle.rmm_spec.specs.Cell.{Cell, Rd, Rec, tag_of, is_data, Rtt}
 use Rattle.rmm_spec.specs.Local.{HeldCell, granules_held}
 use Rattle.rmm_spec.specs.Locks.{is_named, leads_to, names_part, depth, IsStray, IsRisingTake}
-use Rattle.rmm_spec.proofs.TagLaws.{tag_number-injective}
+use Rattle.spec_lemmas.proofs.TagLaws.{tag_number-injective}
 use Rattle.world_laws.specs.Replaced.{held_at}
-use Rattle.world_laws.proofs.Members.{Contains-nil, Contains-head, Contains-tail}
+use Rattle.spec_lemmas.proofs.Members.{Contains-nil, Contains-head, Contains-tail}
 use Rattle.command_core.specs.Seen.{cell_in, is_held, are_distinct}
 use Rattle.command_core.specs.Named.{is_wrong_for, fits_below, is_upward, entry_leads, has_part, has_aux_part, depth_in, fits_beside, is_downward}
 

@@ -19,7 +19,7 @@ use Rattle.rmm_spec.specs.Cell.{Cell, Rd, Rec}
 use Rattle.rmm_spec.specs.Shape.{CpuPlace, Outside, Inside}
 use Rattle.rmm_spec.specs.Local.{HeldCell, granules_held}
 use Rattle.rmm_spec.specs.Locks.{is_named, needs, needs_outside, IsRisingTake}
-use Rattle.world_laws.proofs.Members.{Contains-head, Contains-tail, Contains-from_slice_get}
+use Rattle.spec_lemmas.proofs.Members.{Contains-head, Contains-tail, Contains-from_slice_get}
 use Rattle.command_core.proofs.Walked.{taken-way}
 use Rattle.command_core.specs.declared.next.Next.{Next}
 use Rattle.command_core.specs.declared.next.Next.TheVariants.{Ready}

@@ -11,7 +11,7 @@ use Rattle.rmm_spec.specs.Cell.{Cell, Undelegated, Rd, Rec, tag_of, realm_in, re
 use Rattle.rmm_spec.specs.Flat.{flat_state}
 use Rattle.rmm_spec.specs.Shape.{CpuPlace, Inside, IsWellShaped, count_below}
 use Rattle.rmm_spec.specs.Local.{Hold, Agrees}
-use Rattle.world_laws.proofs.Placed.{passing_below, any_below-from, running, runs_on-running, cell_is_granule, cell_granule, rec_granule}
+use Rattle.spec_lemmas.proofs.Placed.{passing_below, any_below-from, running, runs_on-running, cell_is_granule, cell_granule, rec_granule}
 use Rattle.shape_laws.proofs.Cells.{cell-rec}
 use Rattle.walk_laws.proofs.Wholes as walks
 use Rattle.command_core.specs.Seen.{cell_in, is_held, known_cell}

@@ -7,8 +7,8 @@ use Rattle.std.specs.List.{AllByRecursion}
 use Rattle.rmm_spec.specs.declared.function_id.FunctionId.{FunctionId}
 use Rattle.rmm_spec.specs.declared.reply.Reply.{Reply}
 use Rattle.rmm_spec.specs.declared.reply.Reply.TheVariants as reply
-use Rattle.rmm_spec.proofs.Lines.{each-weaker}
-use Rattle.rmm_spec.proofs.Texts.{AllByRecursion-append}
+use Rattle.spec_lemmas.proofs.Lines.{each-weaker}
+use Rattle.spec_lemmas.proofs.Texts.{AllByRecursion-append}
 use Rattle.rmi_view.specs.Seen.{HasFewWords}
 use Rattle.command_log.specs.Log.{words_at, count_of, given_at, given_of, words_of, logged_in, room_of, HasWords}
 use Rattle.command_log.specs.declared.line.Given.{Given}

@@ -18,7 +18,7 @@ use Rattle.rmm_spec.specs.Step.Front.{with_front}
 use Rattle.rmm_spec.specs.Step.Table.{left_condition, ripas_left}
 use Rattle.rmm_spec.specs.Step.Terms.{Class, ByHost, ByRealm, ByExit, class_of, named, words_of}
 use Rattle.rmm_spec.specs.Walk.{full, is_table, table_number, walk}
-use Rattle.rmm_spec.proofs.Behind.{behind}
+use Rattle.spec_lemmas.proofs.Behind.{behind}
 use Rattle.conditions.specs.declared.asked.Asked.{Asked}
 use Rattle.conditions.specs.Law.{condition_of, first_failing, refused_for}
 use Rattle.conditions.specs.Lists.{conditions, own_conditions, place_conditions, tag_condition, word_condition}

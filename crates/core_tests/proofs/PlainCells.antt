@@ -7,7 +7,7 @@ use Rattle.std.proofs.lemmas.Bool.Decides.{nat_tests}
 use Rattle.std.proofs.lemmas.List.Quantifiers.{position-Some}
 use Rattle.std.proofs.lemmas.List.Sums.{fails_before_first}
 use Rattle.world_laws.specs.Replaced.{replaced_cells}
-use Rattle.world_laws.proofs.Lists.{map-push}
+use Rattle.spec_lemmas.proofs.Lists.{map-push}
 use Rattle.command_core.specs.Seen.{cell_of, cell_in, is_held, are_distinct}
 use Rattle.command_core.proofs.Distinct.{either}
 use Rattle.core_tests.specs.Plain.{held_of}

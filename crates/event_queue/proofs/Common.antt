@@ -11,7 +11,7 @@ pub use Rattle.crossbeam_queue.specs.Passes.{IsPassOf, view as page_of}
 pub use Rattle.rmm_spec.specs.HistoryText.{IsEvent, IsRecord, cpu_of, subhistory_of}
 pub use Rattle.rmm_spec.specs.Run.{JournalEntry}
 pub use Rattle.rmm_spec.specs.declared.{command.Command.Command, event.Event.Event, event.Event.TheVariants.Called, event.Event.TheVariants.Returned, reply.Reply.Reply}
-pub use Rattle.rmm_spec.proofs.Records.{subhistory_of-push_same}
+pub use Rattle.spec_lemmas.proofs.Records.{subhistory_of-push_same}
 pub use Rattle.world_laws.proofs.Recorded.{AreRecorded}
 pub use Rattle.history.proofs.SubhistoryLaws.{cpu_below}
 pub use Rattle.event_queue.specs.Book.{IsAt}

@@ -4,8 +4,8 @@ use Rattle.std.proofs.Common.{◌-◌, ◌*◌}
 use Rattle.std.specs.Prelude.{is_some}
 use mir.Val.{bool_byte}
 use Rattle.rmm_spec.specs.HistoryText.{Stand, start, stand_from}
-use Rattle.rmm_spec.proofs.Places.{length-stand_from, open_count}
-use Rattle.rmm_spec.proofs.Records.{stand_from-push_at}
+use Rattle.spec_lemmas.proofs.Places.{length-stand_from, open_count}
+use Rattle.spec_lemmas.proofs.Records.{stand_from-push_at}
 use Rattle.event_queue.specs.Pages.{IsSeated, IsStage}
 use Rattle.event_queue.proofs.Orders.{IsNextEvent}
 

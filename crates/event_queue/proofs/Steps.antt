@@ -6,7 +6,7 @@ use mathlib.Core.Option.{some, some-injective, some-ne-none}
 use lib.ListN.{get_elem?}
 use Rattle.crossbeam_queue.specs.Fifo.{Pushes, Pops, Forks, Merges, Learns}
 use Rattle.crossbeam_queue.proofs.Lists.{at_set}
-use Rattle.rmm_spec.proofs.Records.{subhistory_of-push_other, IsRecord-front, AllByRecursion-push}
+use Rattle.spec_lemmas.proofs.Records.{subhistory_of-push_other, IsRecord-front, AllByRecursion-push}
 use Rattle.event_queue.specs.Records.{AreRecords}
 use Rattle.event_queue.specs.Stages.{entry_at}
 use Rattle.event_queue.specs.Pages.{Cpu, Scribe, Nobody, opening_page, nobody_page, cpu_page, journal_page, note_of, committed, entered, with_journal, without_journal, MayFindQueued, BeginsWithDrained, IsDrained}

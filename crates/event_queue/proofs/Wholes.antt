@@ -2,7 +2,7 @@
 use Rattle.event_queue.proofs.Common.{◌≡◌, ◌≢◌, ℕ, zero, suc, ◌+◌, ◌<◌, ◌≤◌, List, [], ◌∷◌, ◌++◌, length, Bool, true, false, eqb, if◌then◌else◌, get_or, Some, None, refl, arith, sym, ap, ◌∙◌, append-nil, subst, ⊎_elim, AllByRecursion, slice_get, length-append, length_push, nil_from_length, cases_eq, none-some, same_Some, IsPrefix, Event, IsEvent, cpu_of, subhistory_of, subhistory_of-push_same, cpu_below, CpuView, AreBegun, AreWhole, count_recorded}
 use Rattle.std.proofs.lemmas.List.Sums.{sum_by-cons}
 use Rattle.std.proofs.lemmas.Option.{slice_get_cases}
-use Rattle.rmm_spec.proofs.Places.{subhistory_of-same}
+use Rattle.spec_lemmas.proofs.Places.{subhistory_of-same}
 
 -- ---- the parts together
 

@@ -4,9 +4,9 @@ use Rattle.std.specs.List.{take-map}
 use Rattle.std.proofs.lemmas.List.{append-nil, append_cancel_left, length-append, length-map, length-take, map_push}
 use Rattle.std.proofs.lemmas.List.Splits.{join_with_byte-slice_split}
 use Rattle.bad_lines.specs.Wrong.{IsCertificateLine}
-use Rattle.rmm_spec.proofs.CertificateLines.{line_parts-one_line}
-use Rattle.rmm_spec.proofs.Lines.{first_lines-line, first_lines-take, lines_text-push, same_lines}
-use Rattle.rmm_spec.proofs.Texts.{AllByRecursion-append}
+use Rattle.spec_lemmas.proofs.CertificateLines.{line_parts-one_line}
+use Rattle.spec_lemmas.proofs.Lines.{first_lines-line, first_lines-take, lines_text-push, same_lines}
+use Rattle.spec_lemmas.proofs.Texts.{AllByRecursion-append}
 use Rattle.rmm_spec.specs.CertificateText.{InCertificates, IsLine, certificate_text, line_parts}
 use Rattle.rmm_spec.specs.Text.{HasNoNewline, IsBadLine, first_lines, line_text, lines_text, parts_of}
 use Rattle.rmm_spec.specs.declared.line.Line.{Line}

@@ -11,7 +11,7 @@ use Rattle.rmm_spec.specs.Linearization.{IsCalled, IsOfItsKind, IsReplyOf, IsRet
 use Rattle.rmm_spec.specs.State.{State}
 use Rattle.rmm_spec.specs.Step.{Step}
 use Rattle.conditions.specs.declared.test.Test.{Test}
-use Rattle.checker.proofs.Calls.{same_command, same_reply}
+use Rattle.spec_lemmas.proofs.Calls.{same_command, same_reply}
 use Rattle.checker.proofs.Judging.{HasOnePlaces-from_history}
 use Rattle.explain.specs.Late.{holds, IsMoved, Moves, Overlap, TakesLine}
 

@@ -4,7 +4,7 @@ use Rattle.std.specs.List.{slice_get}
 use Rattle.std.proofs.lemmas.Bool.{cases_lt}
 use Rattle.std.proofs.lemmas.Option.{same_Some}
 use Rattle.rmm_spec.specs.declared.line.Line.{Line}
-use Rattle.checker.proofs.Elements.{slice_get-take}
+use Rattle.lemmas.proofs.Elements.{slice_get-take}
 use Rattle.explain.specs.Told.{HasLine}
 
 -- of none of the first lines

@@ -4,7 +4,7 @@ use Rattle.std.specs.List.{slice_get}
 use Rattle.std.proofs.lemmas.Bool.{cases_lt, false_from_ne_true}
 use Rattle.std.proofs.lemmas.List.{length-append}
 use Rattle.std.proofs.lemmas.Option.{none-some, same_Some, slice_get_within}
-use Rattle.checker.proofs.Elements.{slice_get-append_left, slice_get_push}
+use Rattle.lemmas.proofs.Elements.{slice_get-append_left, slice_get_push}
 use Rattle.rmm_spec.specs.Lookup.{is_granule}
 use Rattle.rmm_spec.specs.Ownership.{IsTied}
 use Rattle.rmm_spec.specs.State.{State}

@@ -12,12 +12,12 @@ use Rattle.rmm_spec.specs.Run.{JournalEntry, IsRun}
 use Rattle.rmm_spec.specs.Linearization.{AreEntriesOf, IsCalled, IsNamed, IsOfItsKind, IsReplyOf, IsTooLate, NamesCall, cpu_named, number_named}
 use Rattle.rmm_spec.specs.FirstFault.{Passes}
 use Rattle.rmm_laws.proofs.StepLaws.{step-decides}
-use Rattle.checker.proofs.Calls.{HasOnePlaces, SameEntries, same_entry}
-use Rattle.checker.proofs.Elements.{slice_get-take, take-next_at}
+use Rattle.spec_lemmas.proofs.Calls.{HasOnePlaces, SameEntries, same_entry}
+use Rattle.lemmas.proofs.Elements.{slice_get-take, take-next_at}
 use Rattle.checker.proofs.Faults.{IsRefused-from_step}
 use Rattle.checker.proofs.Judging.{HasOnePlaces-from_history}
 use Rattle.checker.proofs.Progress.{Passes-push}
-use Rattle.checker.proofs.Runs.{not-IsRefused}
+use Rattle.rmm_laws.proofs.EntryRuns.{not-IsRefused}
 use Rattle.explain.specs.Told.{IsPassing}
 
 -- ---- one state

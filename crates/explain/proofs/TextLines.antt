@@ -2,7 +2,7 @@
 use Rattle.std.proofs.Common.{◌≡◌, ℕ, zero, suc, Bool, true, false, ◌==◌, List, [], ◌∷◌, ◌++◌, refl, sym, ap, ◌∙◌, append_assoc, if◌then◌else◌}
 use Rattle.std.proofs.lemmas.Bool.{ne_eqb}
 use Rattle.std.proofs.lemmas.List.{append-nil}
-use Rattle.rmm_spec.proofs.Lines.{first_lines-line}
+use Rattle.spec_lemmas.proofs.Lines.{first_lines-line}
 use Rattle.rmm_spec.specs.Text.{first_lines, HasNoNewline}
 
 -- the rest of the text stands behind some of its first lines, and so many of them are left

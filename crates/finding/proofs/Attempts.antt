@@ -22,10 +22,10 @@ use Rattle.rmm_spec.specs.State.{State}
 use Rattle.rmm_spec.specs.Step.{Step, CarriesOut, outcome}
 use Rattle.rmm_spec.specs.Step.Ripas.{IsReached}
 use Rattle.rmm_spec.specs.Linearization.{IsFinished, IsReturned, IsEntryOf}
-use Rattle.rmm_spec.proofs.Places.{call_is_event}
+use Rattle.spec_lemmas.proofs.Places.{call_is_event}
 use Rattle.spec_machine.specs.declared.machine.Machine.{Machine}
 use Rattle.history.specs.Calls.{ArePlacesOf}
-use Rattle.checker.proofs.Calls.{same_command}
+use Rattle.spec_lemmas.proofs.Calls.{same_command}
 use Rattle.checker.proofs.Judging.{HasOnePlaces-from_history}
 use Rattle.order_laws.specs.Order.{LeadsNowhere}
 use Rattle.order_laws.proofs.CallOrder.{few_calls}

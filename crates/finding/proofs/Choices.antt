@@ -10,7 +10,7 @@ use Rattle.rmm_spec.specs.HistoryText.{History, IsHistory}
 use Rattle.rmm_spec.specs.Linearization.{IsReturned, IsKnown, IsFinished}
 use Rattle.history.specs.Calls.{ArePlacesOf}
 use Rattle.history.specs.declared.history.Places.{Places}
-use Rattle.checker.proofs.Calls.{HasOnePlaces}
+use Rattle.spec_lemmas.proofs.Calls.{HasOnePlaces}
 use Rattle.finding.specs.Choice.{pending_rank, rank_at, rank_of, IsNextCall, IsLeast}
 use Rattle.finding.specs.declared.choice.Choice.{Choice}
 

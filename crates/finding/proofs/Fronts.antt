@@ -7,7 +7,7 @@ use Rattle.std.proofs.lemmas.List.{length-set}
 use Rattle.std.proofs.lemmas.Option.{get_or_from_slice_get, slice_get_within, slice_get-get_or}
 use Rattle.rmm_spec.specs.HistoryText.{History}
 use Rattle.rmm_spec.specs.Linearization.{IsKnown}
-use Rattle.checker.proofs.Calls.{HasOnePlaces}
+use Rattle.spec_lemmas.proofs.Calls.{HasOnePlaces}
 use Rattle.finding.specs.Choice.{IsLeast, IsNextCall, IsNextOf, least_of}
 use Rattle.finding.proofs.Choices.{IsLeast-lower, IsLeast-past, IsLeast-sooner}
 use Rattle.finding.specs.Front.{IsFront, IsNextAt}

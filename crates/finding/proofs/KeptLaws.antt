@@ -2,11 +2,11 @@
 use Rattle.std.proofs.Common.{◌≡◌, ℕ, ◌≤◌, List, [], ◌∷◌, ◌++◌, Some, inl, inr, sym, ◌∙◌, subst, arith}
 use Rattle.std.specs.List.{slice_get}
 use Rattle.std.proofs.lemmas.Bool.{cases_lt}
-use Rattle.rmm_spec.proofs.Places.{call_is_event}
+use Rattle.spec_lemmas.proofs.Places.{call_is_event}
 use Rattle.rmm_spec.specs.declared.line.Line.{Line}
 use Rattle.rmm_spec.specs.HistoryText.{History, IsHistory}
 use Rattle.rmm_spec.specs.State.{State}
-use Rattle.checker.proofs.Elements.{slice_get_push_cases}
+use Rattle.lemmas.proofs.Elements.{slice_get_push_cases}
 use Rattle.machine_cells.specs.Kept.{kept_state}
 use Rattle.order_laws.specs.Order.{count_of, LeadsNowhere, Reaches}
 use Rattle.order_laws.proofs.Configurations.{nowhere_alike}

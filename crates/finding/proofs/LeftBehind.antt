@@ -14,9 +14,9 @@ use Rattle.rmm_spec.specs.State.{State, opening}
 use Rattle.rmm_spec.specs.FirstFault.{FirstFault, Passes}
 use Rattle.rmm_spec.specs.Judgement.{JudgesOrder}
 use Rattle.checker.specs.Judged.{IsLeftBy}
-use Rattle.checker.proofs.Calls.{HasOnePlaces}
-use Rattle.checker.proofs.Elements.{slice_get-take, take-next_at}
-use Rattle.checker.proofs.Runs.{not-IsRefused}
+use Rattle.spec_lemmas.proofs.Calls.{HasOnePlaces}
+use Rattle.lemmas.proofs.Elements.{slice_get-take, take-next_at}
+use Rattle.rmm_laws.proofs.EntryRuns.{not-IsRefused}
 use Rattle.finding.specs.Search.{lines_of}
 use Rattle.finding.specs.declared.frame.Frame.{Frame}
 use Rattle.finding.proofs.Searches.{lines_of-push}

@@ -14,7 +14,7 @@ use Rattle.rmm_spec.specs.FirstFault.{IsRefused}
 use Rattle.rmm_spec.specs.Linearization.{IsCalled, IsReturned, IsFinished, IsReplyOf, cpu_named, number_named}
 use Rattle.history.specs.Calls.{ArePlacesOf}
 use Rattle.history.specs.declared.history.Places.{Places}
-use Rattle.checker.proofs.Calls.{HasOnePlaces, told_at_call}
+use Rattle.spec_lemmas.proofs.Calls.{HasOnePlaces, told_at_call}
 use Rattle.checker.proofs.Faults.{IsRefused-from_step}
 use Rattle.finding.specs.Search.{IsGiven}
 use Rattle.finding.specs.declared.choice.Choice.{Choice}

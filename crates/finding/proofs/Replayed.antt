@@ -7,7 +7,7 @@ use Rattle.rmm_spec.specs.HistoryText.{History, IsHistory}
 use Rattle.rmm_spec.specs.State.{State}
 use Rattle.rmm_spec.specs.Step.{Step}
 use Rattle.rmm_spec.specs.Linearization.{IsNamed, cpu_named, number_named}
-use Rattle.checker.proofs.Calls.{same_command}
+use Rattle.spec_lemmas.proofs.Calls.{same_command}
 use Rattle.checker.proofs.Judging.{HasOnePlaces-from_history}
 use Rattle.checker.proofs.Progress.{Passes-push}
 use Rattle.order_laws.specs.Order.{IsNext, Reaches}

@@ -17,7 +17,7 @@ use Rattle.rmm_spec.specs.Rows.{ok}
 use Rattle.rmm_spec.specs.State.{State, opening}
 use Rattle.rmm_spec.specs.FirstFault.{IsRefused, Passes}
 use Rattle.rmm_spec.specs.Linearization.{IsFinished, IsLinearization, IsOfItsKind, cpu_named, number_named}
-use Rattle.checker.proofs.Elements.{slice_get-append_left, slice_get_push, slice_get_push_cases}
+use Rattle.lemmas.proofs.Elements.{slice_get-append_left, slice_get_push, slice_get_push_cases}
 use Rattle.spec_machine.specs.View.{state_of}
 use Rattle.spec_machine.specs.declared.machine.Machine.{Machine}
 use Rattle.order_laws.specs.Order.{count_of, LeadsNowhere, Reaches, ReturnBehind, Grows}

@@ -13,7 +13,7 @@ use Rattle.rmm_spec.specs.HistoryText.{History, IsHistory}
 use Rattle.rmm_spec.specs.Rows.{ok}
 use Rattle.rmm_spec.specs.State.{State}
 use Rattle.rmm_spec.specs.Linearization.{IsCalled, IsReturned, IsKnown, IsFinished, IsLinearization, cpu_named, ReturnsBefore}
-use Rattle.rmm_spec.proofs.Places.{call_is_event, finished_is_known}
+use Rattle.spec_lemmas.proofs.Places.{call_is_event, finished_is_known}
 use Rattle.order_laws.specs.Order.{count_of, HasOpen, IsNext, LeadsNowhere, Reaches, ReturnBehind}
 use Rattle.order_laws.proofs.CallOrder.{finished_below, returns_in_order}
 use Rattle.order_laws.proofs.Nowhere.{nowhere_after, nowhere_past, nowhere_unless}

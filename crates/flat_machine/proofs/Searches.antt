@@ -3,8 +3,8 @@ use Rattle.std.proofs.Common.{◌≡◌, ℕ, zero, suc, ◌-◌, ◌<◌, Bool,
 use Rattle.rmm_spec.specs.Lookup.{any_below}
 use Rattle.rmm_spec.specs.State.{State}
 use Rattle.rmm_spec.specs.Walk.{reach, table_number}
-use Rattle.rmm_spec.proofs.WalkLaws.{reach-zero}
-use Rattle.world_laws.proofs.Placed.{any_below-from}
+use Rattle.spec_lemmas.proofs.WalkLaws.{reach-zero}
+use Rattle.spec_lemmas.proofs.Placed.{any_below-from}
 
 -- one entry of a table passes
 pub one_passes : (passes : ℕ → Bool) (place : ℕ) → place < 512 → true ≡ passes place → true ≡ any_below 512 passes

@@ -11,7 +11,7 @@ use Rattle.rmm_spec.specs.Lookup.{is_granule}
 use Rattle.rmm_spec.specs.Rows.{Needed}
 use Rattle.rmm_spec.specs.Shape.{CpuPlace}
 use Rattle.rmm_spec.specs.Local.{HeldCell, granules_held}
-use Rattle.world_laws.proofs.Members.{Contains-nil, Contains-from_slice_get, Contains-other, Contains-head, Contains-tail}
+use Rattle.spec_lemmas.proofs.Members.{Contains-nil, Contains-from_slice_get, Contains-other, Contains-head, Contains-tail}
 use Rattle.command_core.specs.declared.next.Next.TheVariants.{Free}
 use Rattle.command_core.specs.Plan.{IsStep}
 use Rattle.command_core.specs.Seen.{cell_in, is_held}

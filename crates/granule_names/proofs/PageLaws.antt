@@ -6,7 +6,7 @@ use Rattle.std.proofs.lemmas.Bool.{and_parts, eqb-true, eqb-false, ne_eqb, eq-eq
 use Rattle.std.proofs.lemmas.List.{length-map}
 use Rattle.std.proofs.lemmas.Map.Steps.{length-le_from_distinct_below}
 use Rattle.std.proofs.lemmas.Option.{none-some}
-use Rattle.rmm_spec.proofs.Texts.{AllByRecursion-append}
+use Rattle.spec_lemmas.proofs.Texts.{AllByRecursion-append}
 use Rattle.granule_names.specs.Laws.{ArePagesApart, IsNamedGranule}
 use Rattle.granule_names.specs.Names.{is_granule, number_in, added, names_from}
 use Rattle.granule_names.proofs.NameLaws.{added-new, added-old, none_number, map_none, number_in-below, number_in-apart}

@@ -11,9 +11,9 @@ use Rattle.rmm_spec.specs.declared.event.Event.{Event}
 use Rattle.rmm_spec.specs.declared.event.Event.TheVariants as seen
 use Rattle.rmm_spec.specs.declared.function_id.FunctionId.{FunctionId}
 use Rattle.rmm_spec.specs.declared.reply.Reply.TheVariants as reply
-use Rattle.rmm_spec.proofs.Lines.{each-weaker}
-use Rattle.rmm_spec.proofs.Texts.{AllByRecursion-append}
-use Rattle.rmm_spec.proofs.Places.{subhistory_of-same, subhistory_of-other}
+use Rattle.spec_lemmas.proofs.Lines.{each-weaker}
+use Rattle.spec_lemmas.proofs.Texts.{AllByRecursion-append}
+use Rattle.spec_lemmas.proofs.Places.{subhistory_of-same, subhistory_of-other}
 use Rattle.rmm_spec.specs.Cell.{put}
 use Rattle.rmm_spec.specs.HistoryText.{IsEvent, cpu_of, rank, subhistory_of}
 use Rattle.rmi_codec.proofs.PartLaws.{word_count-le}

@@ -13,10 +13,10 @@ use Rattle.line_pieces.proofs.Pieces.{IsBadLine-too_long, behind_good, newlines-
 use Rattle.line_pieces.specs.Newlines.{newlines}
 use Rattle.rmm_spec.specs.Text.{IsBadLine, line_text, lines_text, parts_of, HasNoNewline}
 use Rattle.rmm_spec.specs.HistoryText.{Config, History, IsHistory, IsEvent, InHistories, IsHistoryText, CanFollow, cpu_of, config_parts, event_parts, history_text, rank}
-use Rattle.rmm_spec.proofs.Lines.{AreOneLineEach, IsLineGrammar, IsBadLine-line, IsBadLine-unfinished, IsBadLine-full, append-cons-not_nil, IsOneLine-from_parts, AreOneLineEach-map, map_cut, lines_text-push, IsBadLine-end}
-use Rattle.rmm_spec.proofs.Texts.{config_parts-are_parts, config_parts-injective, event_parts-are_parts, event_parts-some, event_parts-injective}
-use Rattle.rmm_spec.proofs.Records.{CanFollow-from_push, IsHistory-push}
-use Rattle.rmm_spec.proofs.HistoryGrammar.{IsHistory-take, not-IsBadLine-history}
+use Rattle.spec_lemmas.proofs.Lines.{AreOneLineEach, IsLineGrammar, IsBadLine-line, IsBadLine-unfinished, IsBadLine-full, append-cons-not_nil, IsOneLine-from_parts, AreOneLineEach-map, map_cut, lines_text-push, IsBadLine-end}
+use Rattle.spec_lemmas.proofs.Texts.{config_parts-are_parts, config_parts-injective, event_parts-are_parts, event_parts-some, event_parts-injective}
+use Rattle.spec_lemmas.proofs.Records.{CanFollow-from_push, IsHistory-push}
+use Rattle.spec_lemmas.proofs.HistoryGrammar.{IsHistory-take, not-IsBadLine-history}
 use Rattle.history.specs.Faults.{BeginsWith, EndsWithEvent, IsFaultOf, IsFaultOfRewriting}
 use Rattle.history.specs.declared.fault.HistoryFault.{HistoryFault}
 use Rattle.history.specs.declared.fault.HistoryFault.TheVariants.{BadLine, NoMemory}

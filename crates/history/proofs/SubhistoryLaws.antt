@@ -10,8 +10,8 @@ use Rattle.rmm_spec.specs.declared.event.Event.TheVariants.{Called, Returned}
 use Rattle.rmm_spec.specs.declared.reply.Reply.{Reply}
 use Rattle.rmm_spec.specs.HistoryText.{Config, IsHistory, IsEvent, CanFollow, Stand, start, stand_after, stand_from, subhistory_of, cpu_of, IsRecord, rank}
 use Rattle.rmm_spec.specs.Linearization.{IsCalled, IsReturned, IsKnown, IsFinished}
-use Rattle.rmm_spec.proofs.Places.{open_count, stand_of_record, rank-slice_get, length-stand_from, length-subhistory_of-lt, length-subhistory_of-take, one_place, below-IsKnown, below-IsFinished}
-use Rattle.rmm_spec.proofs.Records.{subhistory_of-push_same, subhistory_of-push_other, stand_from-push_at, IsHistory-push}
+use Rattle.spec_lemmas.proofs.Places.{open_count, stand_of_record, rank-slice_get, length-stand_from, length-subhistory_of-lt, length-subhistory_of-take, one_place, below-IsKnown, below-IsFinished}
+use Rattle.spec_lemmas.proofs.Records.{subhistory_of-push_same, subhistory_of-push_other, stand_from-push_at, IsHistory-push}
 use Rattle.history.specs.declared.subhistory.Subhistory.{Subhistory}
 use Rattle.history.specs.Calls.{ArePlacesOf}
 use Rattle.history.specs.Spelling.{call_number}

@@ -6,7 +6,7 @@ use Rattle.rmm_spec.specs.Text.{line_text}
 use Rattle.rmm_spec.specs.declared.command.Command.{Command}
 use Rattle.rmm_spec.specs.declared.event.Event.TheVariants.{Called, Returned}
 use Rattle.rmm_spec.specs.declared.reply.Reply.{Reply}
-use Rattle.rmm_spec.proofs.Texts.{command_parts-some, reply_parts-some}
+use Rattle.spec_lemmas.proofs.Texts.{command_parts-some, reply_parts-some}
 use Rattle.rmi_codec.specs.Head.{head_text}
 use Rattle.rmi_codec.proofs.WriteLaws.{line_text-head}
 

@@ -17,8 +17,8 @@ use Rattle.rmm_spec.specs.CommandText.{AreWords, IsCommand, IsReply, command_par
 use Rattle.rmm_spec.specs.Function.{number_of}
 use Rattle.rmm_spec.specs.HistoryText.{Config, IsConfig, config_parts, event_parts, mark}
 use Rattle.rmm_spec.specs.Text.{glyph, numeral, decimal, word, line_text}
-use Rattle.rmm_spec.proofs.Limits.{granule_limit_le}
-use Rattle.rmm_spec.proofs.Texts.{numeral-zero, numeral_some, length-fixed_hex}
+use Rattle.spec_lemmas.proofs.Limits.{granule_limit_le}
+use Rattle.spec_lemmas.proofs.Texts.{numeral-zero, numeral_some, length-fixed_hex}
 
 -- a number below a power of its base has no more digits
 length-numeral : (base most n : ℕ) → 2 ≤ base → 1 ≤ most → n < base ^ most → length (numeral base n) ≤ most

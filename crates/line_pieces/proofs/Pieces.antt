@@ -4,7 +4,7 @@ use Rattle.std.specs.List.{flat_map}
 use Rattle.std.proofs.lemmas.Bool.{cases_lt, ne_eqb}
 use Rattle.std.proofs.lemmas.List.{append-nil}
 use Rattle.std.proofs.lemmas.List.Concat.{flat_map-append}
-use Rattle.rmm_spec.proofs.Lines.{AreOneLineEach, IsLineGrammar, IsBadLine-after, first_lines-line}
+use Rattle.spec_lemmas.proofs.Lines.{AreOneLineEach, IsLineGrammar, IsBadLine-after, first_lines-line}
 use Rattle.rmm_spec.specs.Text.{HasNoNewline, IsBadLine, first_lines, line_text, lines_text}
 use Rattle.line_pieces.specs.Newlines.{newlines}
 

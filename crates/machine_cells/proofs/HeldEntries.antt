@@ -21,7 +21,7 @@ use Rattle.rmm_sound.proofs.Entries.{entry-leaf, entry-link}
 use Rattle.rmm_sound.proofs.Spaces.{space_cases}
 use Rattle.shape_laws.proofs.Finds.{table_granule-holds, holds-found}
 use Rattle.shape_laws.proofs.Ties.{IsTied-shaped, entry_leaf-some, leaf-found, link_or_leaf, entry_there, number-again, at_place, same_table, well_shaped-is_sound}
-use Rattle.rtt_table.proofs.Searches.{search-places}
+use Rattle.spec_lemmas.proofs.TableSearches.{search-places}
 use Rattle.machine_cells.specs.declared.granules.Granules.{Granules}
 use Rattle.machine_cells.specs.Searches.{StandsAs, IsTable, has_unlisted}
 use Rattle.machine_cells.specs.Whole.{cells_of, whole_of, config_of, count_of, state_in, IsShapedIn}

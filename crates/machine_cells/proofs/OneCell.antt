@@ -12,8 +12,8 @@ use Rattle.rmm_spec.specs.Table.{TableRecord}
 use Rattle.rmm_spec.specs.TableCells.{table_in}
 use Rattle.rmm_spec.specs.Cell as spec
 use Rattle.rmm_spec.specs.Flat.{flat_state}
-use Rattle.rmm_spec.proofs.TagLaws.{sameb-tag_number}
-use Rattle.rmm_spec.proofs.Tests.{both_ways}
+use Rattle.spec_lemmas.proofs.TagLaws.{sameb-tag_number}
+use Rattle.lemmas.proofs.Tests.{both_ways}
 use Rattle.rtt_walk.specs.Plain.{cells_from, table_or_none}
 use Rattle.rtt_walk.specs.PlainLaws.{table_in-no_granule, table_in-cells_from}
 use Rattle.granule_cells.specs.declared.cell.Cell.TheVariants.{Undelegated}

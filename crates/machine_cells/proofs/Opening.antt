@@ -7,7 +7,7 @@ use Rattle.rmm_spec.specs.Cell as spec
 use Rattle.rmm_spec.specs.Flat.{flat_state}
 use Rattle.rmm_spec.specs.Shape as shape
 use Rattle.rmm_spec.specs.World.{opening_world}
-use Rattle.world_laws.proofs.Opening.{flat_state-opening, IsShapedWorld-opening}
+use Rattle.spec_lemmas.proofs.Opening.{flat_state-opening, IsShapedWorld-opening}
 use Rattle.shape_laws.specs.Whole.{Whole, IsShaped}
 use Rattle.granule_cells.specs.declared.cell.Cell.{Cell}
 use Rattle.granule_cells.specs.declared.cell.Cell.TheVariants.{Undelegated}

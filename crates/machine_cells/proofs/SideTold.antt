@@ -10,7 +10,7 @@ use Rattle.rmm_spec.specs.Flat.{flat_state}
 use Rattle.rmm_spec.specs.Shape.{Side, CpuPlace, Inside, IsWellShaped, count_below}
 use Rattle.rmm_sound.proofs.Searches.{inside_runs}
 use Rattle.shape_laws.proofs.Ties.{well_shaped-is_sound}
-use Rattle.world_laws.proofs.Placed.{passing_below, any_below-from, runs_on-running, cell_granule, is_inside-inside}
+use Rattle.spec_lemmas.proofs.Placed.{passing_below, any_below-from, runs_on-running, cell_granule, is_inside-inside}
 
 -- one is found exactly where there is one to count
 found-counted : (b rest : Bool) (count : ℕ) → rest ≡ nat_lt 0 count → (b || rest) ≡ nat_lt 0 (if b then suc count else count)

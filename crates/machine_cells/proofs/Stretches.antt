@@ -3,7 +3,7 @@ use Rattle.std.proofs.Common.{◌≡◌, ℕ, zero, suc, ◌+◌, ◌-◌, ◌*�
 use Rattle.std.proofs.Math.Nat.{div-add-mod, div-div-eq-div-mul, mul-le-mul_left}
 use Rattle.std.proofs.lemmas.Bool.{and_parts, and_left, and_right, ltb-true, leb-true, le-ltb, lt-ltb, le-leb, lt-leb, eq-eqb, ne_eqb, cases_lt}
 use Rattle.std.proofs.lemmas.Nat.{div_below, le-div}
-use Rattle.rmm_spec.proofs.WalkLaws.{table_size-entries}
+use Rattle.spec_lemmas.proofs.WalkLaws.{table_size-entries}
 use Rattle.rmm_spec.specs.declared.accepted.Stretch.{Stretch}
 use Rattle.rmm_spec.specs.declared.entry.Entry.{Entry}
 use Rattle.rmm_spec.specs.State.{State}

@@ -3,7 +3,7 @@ use Rattle.std.proofs.Common.{ℕ, IsTrue}
 use Rattle.rmm_spec.specs.declared.tag.Tag.{Tag}
 use Rattle.rmm_spec.specs.Flat.{flat_state}
 use Rattle.rmm_spec.specs.Lookup.{is_granule, has_tag}
-use Rattle.rmm_spec.proofs.TagLaws.{granule_from_tag}
+use Rattle.spec_lemmas.proofs.TagLaws.{granule_from_tag}
 use Rattle.machine_cells.specs.declared.granules.Granules.{Granules}
 use Rattle.machine_cells.specs.Whole.{count_of, state_in}
 

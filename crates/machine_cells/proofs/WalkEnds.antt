@@ -9,7 +9,7 @@ use Rattle.rmm_spec.specs.State.{State, RealmRecord}
 use Rattle.rmm_spec.specs.Step.Terms.{is_space}
 use Rattle.rmm_spec.specs.Walk.{entry_number, table_number, table_size, entry_at, entry_for, linked_entry, reach, walk, full, IsWalk}
 use Rattle.rmm_spec.specs.Sound.{IsSound}
-use Rattle.rmm_spec.proofs.WalkLaws.{table_number-suc, reach-zero, reach-le, reach-covers}
+use Rattle.spec_lemmas.proofs.WalkLaws.{table_number-suc, reach-zero, reach-le, reach-covers}
 use Rattle.rmm_sound.proofs.Entries.{entry-link}
 use Rattle.rmm_sound.proofs.Spaces.{space_cases}
 use Rattle.rmm_sound.proofs.Walked.{table_number-entry, start_above}

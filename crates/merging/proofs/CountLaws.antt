@@ -11,7 +11,7 @@ use Rattle.rmm_spec.specs.declared.event.Event.{Event}
 use Rattle.rmm_spec.specs.declared.event.Event.TheVariants.{Called, Returned}
 use Rattle.rmm_spec.specs.CommandText.{IsCommand, IsReply}
 use Rattle.rmm_spec.specs.HistoryText.{History, IsHistory, CanFollow, subhistory_of, cpu_of}
-use Rattle.rmm_spec.proofs.Records.{subhistory_of-push_same, subhistory_of-push_other}
+use Rattle.spec_lemmas.proofs.Records.{subhistory_of-push_same, subhistory_of-push_other}
 use Rattle.history.proofs.SubhistoryLaws.{goes_on}
 use Rattle.recorded_events.specs.Events.{Moment, Call, Commit, Return}
 use Rattle.recorded_events.specs.Table.{Happened}

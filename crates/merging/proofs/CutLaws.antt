@@ -6,7 +6,7 @@ use Rattle.std.proofs.lemmas.List.{take_rest}
 use Rattle.rmm_spec.specs.CertificateText.{certificate_text, line_parts}
 use Rattle.rmm_spec.specs.HistoryText.{config_parts, event_parts, history_text}
 use Rattle.rmm_spec.specs.Text.{lines_text}
-use Rattle.rmm_spec.proofs.Lines.{lines_text-append}
+use Rattle.spec_lemmas.proofs.Lines.{lines_text-append}
 use Rattle.rmm_spec.specs.declared.event.Event.{Event}
 use Rattle.rmm_spec.specs.declared.line.Line.{Line}
 use Rattle.rmm_spec.specs.declared.command.Command.{Command}

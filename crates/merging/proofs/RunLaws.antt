@@ -7,7 +7,7 @@ use Rattle.std.proofs.lemmas.Bool.{cases_eq, eq-eqb, ne_eqb}
 use Rattle.std.proofs.lemmas.Option.{none-some, slice_get_within, get_or_from_slice_get}
 use Rattle.std.proofs.lemmas.List.{get_or-set_same, get_or-set_other, length-set, length-map, length-take, map-set}
 use Rattle.rmm_spec.specs.Cell.{put}
-use Rattle.rmm_spec.proofs.Texts.{AllByRecursion-append}
+use Rattle.spec_lemmas.proofs.Texts.{AllByRecursion-append}
 use Rattle.recorded_events.specs.Events.{Moment, Call, Commit, Return}
 use Rattle.recorded_events.specs.Table.{Happened, IsHappened, slot_at}
 use Rattle.merging.specs.Run.{Stand, start, stand_at, stand_after, stands_with, stands_after, CanFollow, IsRun, starts, call_count, return_count, returns_in, events_of, events_from, lines_of, lines_from, known_front}

@@ -9,9 +9,9 @@ use Rattle.rmm_spec.specs.Text.{lines_text}
 use Rattle.rmm_spec.specs.declared.event.Event.{Event}
 use Rattle.rmm_spec.specs.declared.event.Event.TheVariants as event
 use Rattle.rmm_spec.specs.declared.line.Line.{Line}
-use Rattle.rmm_spec.proofs.Lines.{lines_text-append}
-use Rattle.rmm_spec.proofs.Records.{IsHistory-push}
-use Rattle.rmm_spec.proofs.Texts.{AllByRecursion-append}
+use Rattle.spec_lemmas.proofs.Lines.{lines_text-append}
+use Rattle.spec_lemmas.proofs.Records.{IsHistory-push}
+use Rattle.spec_lemmas.proofs.Texts.{AllByRecursion-append}
 use Rattle.recorded_events.specs.Events.{Moment, Call, Commit, Return, IsMoment}
 use Rattle.recorded_events.specs.Table.{Happened, IsHappened}
 use Rattle.merging.specs.Merge.{Merge, CanMerge, GrowsByHistory, GrowsByCertificate}

@@ -2,7 +2,7 @@
 use Rattle.monitor.proofs.Common.{◌≡◌, ℕ, suc, ◌<◌, ◌≤◌, List, [], ◌∷◌, ◌++◌, length, take, Some, refl, sym, ap, ◌∙◌, subst, arith, inl, inr, ⊎_elim, Result, Ok, Err, slice_get, length_push, sum_by, same_Some, slice_get_within, Command, Done, TokenView, CpuView, before_calls, MonitorView, Refused, Unrecorded, ArePaired}
 use Rattle.std.proofs.Common.{◌⊎◌, zero, get_or, set, drop}
 use Rattle.std.proofs.lemmas.Option.{none-some, slice_get-get_or}
-use Rattle.world_laws.proofs.Lists.{slice_get-append, slice_get-push, slice_get-push_cases}
+use Rattle.spec_lemmas.proofs.Lists.{slice_get-append, slice_get-push, slice_get-push_cases}
 use Rattle.std.proofs.lemmas.List.{length-set, take_at}
 use Rattle.std.proofs.lemmas.List.Sums.{sum_by-cons}
 use Rattle.commit_tickets.specs.View.{before_commits, first_tokens}

@@ -3,7 +3,7 @@ use Rattle.std.proofs.Common.{◌≡◌, ℕ, List, [], ◌∷◌, ◌++◌, len
 use Rattle.std.specs.Prelude.{slice_get}
 use Rattle.std.proofs.lemmas.List.{length_push}
 use Rattle.std.proofs.lemmas.Option.{slice_get_within}
-use Rattle.world_laws.proofs.Lists.{slice_get-push_cases}
+use Rattle.spec_lemmas.proofs.Lists.{slice_get-push_cases}
 use Rattle.commit_tickets.specs.View.{TokenView}
 use Rattle.event_queue.specs.View.{CpuView}
 use Rattle.monitor.specs.View.{MonitorView}

@@ -10,7 +10,7 @@ use Rattle.rmm_spec.specs.declared.event.Event.TheVariants.{Called, Returned}
 use Rattle.rmm_spec.specs.declared.reply.Reply.{Reply}
 use Rattle.rmm_spec.specs.HistoryText.{History, IsHistory, IsRecord, cpu_of, rank, subhistory_of}
 use Rattle.rmm_spec.specs.Linearization.{IsCalled, IsReturned, IsKnown, IsFinished, ReturnsBefore}
-use Rattle.rmm_spec.proofs.Places.{rank-slice_get, length-subhistory_of-lt, IsFinished-below, below-IsKnown, below-IsFinished}
+use Rattle.spec_lemmas.proofs.Places.{rank-slice_get, length-subhistory_of-lt, IsFinished-below, below-IsKnown, below-IsFinished}
 
 -- of two events of a CPU, the one of the lower rank comes first
 place_order : (cpu : ℕ) (events : List Event) → IsRecord (subhistory_of cpu events) → (place later : ℕ) (event other : Event)

@@ -8,7 +8,7 @@ use Rattle.rmm_spec.specs.State.{State, opening}
 use Rattle.rmm_spec.specs.Run.{IsRun}
 use Rattle.rmm_spec.specs.Linearization.{IsFinished, IsNamed, IsLinearization, NamesCall, NamesSame, IsOfItsKind, IsRunOf, cpu_named, number_named}
 use Rattle.rmm_laws.proofs.RunLaws.{run-append}
-use Rattle.checker.proofs.Elements.{slice_get-append_left}
+use Rattle.lemmas.proofs.Elements.{slice_get-append_left}
 use Rattle.checker.proofs.Judging.{HasOnePlaces-from_history}
 use Rattle.order_laws.specs.Order.{count_of, Reaches, LeadsNowhere}
 use Rattle.order_laws.proofs.Moves.{Each, Pairs, Each-from_places, Pairs-from_places, Pairs-at, Pairs-append, Pairs-behind}

@@ -9,8 +9,8 @@ use Rattle.rmm_spec.specs.HistoryText.{History, IsHistory}
 use Rattle.rmm_spec.specs.State.{State, opening}
 use Rattle.rmm_spec.specs.Step.{Step}
 use Rattle.rmm_spec.specs.Linearization.{IsCalled, IsFinished, IsNamed, IsTooLate, IsLinearization, ReturnsBefore, cpu_named, number_named}
-use Rattle.checker.proofs.Elements.{slice_get_push_cases}
-use Rattle.checker.proofs.Calls.{same_command}
+use Rattle.lemmas.proofs.Elements.{slice_get_push_cases}
+use Rattle.spec_lemmas.proofs.Calls.{same_command}
 use Rattle.checker.proofs.Judging.{HasOnePlaces-from_history}
 use Rattle.checker.proofs.Progress.{Follows, Passes-nil, Passes-push}
 use Rattle.order_laws.specs.Order.{count_of, Reaches, ReturnBehind, Grows}

@@ -10,10 +10,10 @@ use Rattle.rmm_spec.specs.HistoryText.{History, IsHistory}
 use Rattle.rmm_spec.specs.State.{State, opening}
 use Rattle.rmm_spec.specs.Run.{JournalEntry, IsRun}
 use Rattle.rmm_spec.specs.Linearization.{IsFinished, IsNamed, IsLinearization, ReturnsBefore, AreEntriesOf, NamesCall, IsOfItsKind, cpu_named, number_named}
-use Rattle.checker.proofs.Elements.{slice_get-append_left, slice_get_push, slice_get_push_cases}
-use Rattle.checker.proofs.Calls.{HasOnePlaces}
+use Rattle.lemmas.proofs.Elements.{slice_get-append_left, slice_get_push, slice_get_push_cases}
+use Rattle.spec_lemmas.proofs.Calls.{HasOnePlaces}
 use Rattle.checker.proofs.Judging.{HasOnePlaces-from_history}
-use Rattle.checker.proofs.Runs.{not-IsRefused}
+use Rattle.rmm_laws.proofs.EntryRuns.{not-IsRefused}
 use Rattle.order_laws.specs.Order.{count_of, Reaches, LeadsNowhere, IsNext, HasOpen, GivesNowhere}
 use Rattle.order_laws.proofs.CallOrder.{call_before_return, finished_before_call, returns_before_later}
 use Rattle.order_laws.proofs.Counts.{slice_get-append_cases}

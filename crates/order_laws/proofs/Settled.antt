@@ -20,8 +20,8 @@ use Rattle.rmm_spec.specs.Run.{JournalEntry, IsRun}
 use Rattle.rmm_spec.specs.Linearization.{IsFinished, IsLinearization, ReturnsBefore, AreEntriesOf, IsEntryOf, NamesCall, NamesSame, IsOfItsKind, cpu_named, number_named}
 use Rattle.rmm_laws.proofs.RunLaws.{run-append}
 use Rattle.rmm_laws.proofs.StepLaws.{step-decides}
-use Rattle.checker.proofs.Elements.{slice_get-append_left}
-use Rattle.checker.proofs.Calls.{HasOnePlaces, SameEntries, same_entry}
+use Rattle.lemmas.proofs.Elements.{slice_get-append_left}
+use Rattle.spec_lemmas.proofs.Calls.{HasOnePlaces, SameEntries, same_entry}
 use Rattle.checker.proofs.Judging.{HasOnePlaces-from_history}
 use Rattle.order_laws.specs.Order.{count_of, Reaches, LeadsNowhere, Grows, IsRefusal}
 use Rattle.order_laws.proofs.Moves.{Each, Pairs, Each-from_places, Each-at, Pairs-from_places, Pairs-at, Each-moved, Pairs-moved, place_moved, Around, around_place}

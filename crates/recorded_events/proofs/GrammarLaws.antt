@@ -3,9 +3,9 @@ use Rattle.std.proofs.Common.{◌≡◌, ◌≢◌, ℕ, ◌+◌, ◌<◌, List,
 use Rattle.std.specs.List.{AllByRecursion}
 use Rattle.std.proofs.lemmas.List.{length-map, map_push, length_push}
 use Rattle.std.proofs.lemmas.List.Splits.{join_with_byte-slice_split}
-use Rattle.rmm_spec.proofs.Lines.{AreOneLineEach, IsLineGrammar, IsBadLine-line, IsBadLine-unfinished, IsBadLine-full, IsBadLine-end, append-cons-not_nil, IsOneLine-from_parts, AreOneLineEach-map, map_last, lines_text-push}
-use Rattle.rmm_spec.proofs.Records.{AllByRecursion-push}
-use Rattle.rmm_spec.proofs.Texts.{IsPart, IsPart-from_test, decimal-IsPart, command_parts-are_parts, reply_parts-are_parts}
+use Rattle.spec_lemmas.proofs.Lines.{AreOneLineEach, IsLineGrammar, IsBadLine-line, IsBadLine-unfinished, IsBadLine-full, IsBadLine-end, append-cons-not_nil, IsOneLine-from_parts, AreOneLineEach-map, map_last, lines_text-push}
+use Rattle.spec_lemmas.proofs.Records.{AllByRecursion-push}
+use Rattle.spec_lemmas.proofs.Texts.{IsPart, IsPart-from_test, decimal-IsPart, command_parts-are_parts, reply_parts-are_parts}
 use Rattle.rmm_spec.specs.Text.{IsBadLine, HasNoNewline, line_text, lines_text, parts_of}
 use Rattle.recorded_events.specs.Events.{Moment, Call, Commit, Return, Recorded, Recording, IsRecorded, IsRecording, IsRecordingText, InRecordings, moment_parts, recorded_parts, sizes_parts, recording_text}
 use Rattle.recorded_events.specs.Seen.{IsLineOf, IsNoLine, IsSizesOf, IsNoSizes}

@@ -5,7 +5,7 @@ use Rattle.std.proofs.lemmas.Int.Digits.{length-digits_of-le}
 use Rattle.std.proofs.lemmas.List.{length-map}
 use Rattle.line_pieces.proofs.LineLengths.{width, length-line_text, width-called, width-returned, width-config}
 use Rattle.line_pieces.proofs.Pieces.{IsBadLine-too_long}
-use Rattle.rmm_spec.proofs.Texts.{numeral-zero, numeral_some}
+use Rattle.spec_lemmas.proofs.Texts.{numeral-zero, numeral_some}
 use Rattle.rmm_spec.specs.declared.version.Version.TheVariants.{Large}
 use Rattle.rmm_spec.specs.HistoryText.{Config, event_parts}
 use Rattle.rmm_spec.specs.Text.{HasNoNewline, IsBadLine, glyph, decimal, line_text}

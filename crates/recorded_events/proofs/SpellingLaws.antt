@@ -1,7 +1,7 @@
 -- The moment that a word and the parts behind it spell.
 use Rattle.std.proofs.Common.{◌≡◌, ℕ, List, [], ◌∷◌, get_or, refl, sym, ap, ◌∙◌}
 use Rattle.std.specs.Prelude.{codes}
-use Rattle.rmm_spec.proofs.Texts.{bytes_apart}
+use Rattle.spec_lemmas.proofs.Texts.{bytes_apart}
 use Rattle.rmm_spec.specs.declared.command.Command.{Command}
 use Rattle.rmm_spec.specs.declared.reply.Reply.{Reply}
 use Rattle.rmm_spec.specs.CommandText.{IsCommand, IsReply, command_parts, reply_parts}

@@ -6,7 +6,7 @@ use Rattle.std.proofs.lemmas.List.{get_or_at, length-append}
 use Rattle.rmm_spec.specs.declared.function_id.FunctionId.{FunctionId}
 use Rattle.rmm_spec.specs.Function.{number_of, word_count}
 use Rattle.rmm_spec.specs.Text.{decimal, word, fixed_hex}
-use Rattle.rmm_spec.proofs.Texts.{bytes_apart}
+use Rattle.spec_lemmas.proofs.Texts.{bytes_apart}
 use Rattle.rmi_codec.specs.declared.fault.CodecFault.{CodecFault}
 use Rattle.rmi_codec.specs.declared.fault.CodecFault.TheVariants.{UnknownNumber, WordCount, BadWord, BadSpacing, BadForm}
 use Rattle.rmi_codec.specs.Faults.{IsNoWord, IsNoByte, IsCommandFault, IsReplyFault, IsPartFault, IsWordsFault, IsSmallFault, IsEndFault}

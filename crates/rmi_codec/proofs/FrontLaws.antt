@@ -6,7 +6,7 @@ use Rattle.std.proofs.lemmas.Bool.Decides.{Decides-eqb}
 use Rattle.std.proofs.lemmas.List.{append-nil, take_more}
 use Rattle.std.proofs.lemmas.Slice.Eq.{slice_eq-Decides}
 use Rattle.rmm_spec.specs.Text.{decimal, glyph, line_text, numeral, word}
-use Rattle.rmm_spec.proofs.Texts.{numeral_some, numeral-zero}
+use Rattle.spec_lemmas.proofs.Texts.{numeral_some, numeral-zero}
 use Rattle.rmi_codec.specs.Head.{head_text}
 use Rattle.rmi_codec.specs.Spaced.{spaced}
 use Rattle.rmi_codec.proofs.NumberLaws.{SpellsSoFar-first}

@@ -8,7 +8,7 @@ use Rattle.rmm_spec.specs.declared.function_id.FunctionId.{FunctionId}
 use Rattle.rmm_spec.specs.declared.function_id.FunctionId.TheVariants.{GranuleDelegate}
 use Rattle.rmm_spec.specs.Function.{number_of}
 use Rattle.rmm_spec.specs.Text.{fixed_hex, parts_of}
-use Rattle.rmm_spec.proofs.Texts.{fixed_hex-plain, length-fixed_hex}
+use Rattle.spec_lemmas.proofs.Texts.{fixed_hex-plain, length-fixed_hex}
 use Rattle.rmi_codec.proofs.PrefixLaws.{IsFirstPart-from_parts, cut_at}
 use Rattle.rmi_codec.specs.FunctionText.{text_number}
 use Rattle.rmi_codec.specs.Spaced.{parts_behind}

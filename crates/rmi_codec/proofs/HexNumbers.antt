@@ -6,7 +6,7 @@ use Rattle.std.proofs.lemmas.List.{get_or-map, get_or-take, length-map}
 use Rattle.std.proofs.lemmas.Nat.{div-mul-add, pow-add}
 use Rattle.std.proofs.Math.Nat.{div-div-eq-div-mul, div-one}
 use Rattle.rmm_spec.specs.Text.{glyph, numeral}
-use Rattle.rmm_spec.proofs.Texts.{numeral_some}
+use Rattle.spec_lemmas.proofs.Texts.{numeral_some}
 use Rattle.rmi_codec.proofs.HexLanes.{low}
 use Rattle.rmi_codec.proofs.NumberLaws.{SpellsSoFar, SpellsSoFar-more, SpellsSoFar-none}
 

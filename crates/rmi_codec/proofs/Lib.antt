@@ -9,4 +9,3 @@ pub mod PrefixLaws
 pub mod WriteLaws
 mod FrontLaws
 mod FunctionLaws
-pub mod ResultLaws

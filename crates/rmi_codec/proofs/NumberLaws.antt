@@ -8,7 +8,7 @@ use Rattle.std.proofs.lemmas.List.Elements.{All-from_recursion}
 use Rattle.std.proofs.lemmas.Nat.{div-mul-add, mod-mul-add}
 use Rattle.std.proofs.Math.Nat.{le-mul_of_pos_right, pow-le-pow_right}
 use Rattle.rmm_spec.specs.Text.{glyph, numeral, fixed_hex}
-use Rattle.rmm_spec.proofs.Texts.{glyph-injective, map-glyph-injective, numeral_some, numeral-zero, fixed_hex-suc}
+use Rattle.spec_lemmas.proofs.Texts.{glyph-injective, map-glyph-injective, numeral_some, numeral-zero, fixed_hex-suc}
 
 -- the first bytes are the digits of a number, and the first of them isn't 0
 pub record SpellsSoFar (base : ℕ) (part : List ℕ) (count number : ℕ) : Type 0 where

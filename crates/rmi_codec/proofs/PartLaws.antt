@@ -17,7 +17,7 @@ use Rattle.rmm_spec.specs.declared.reply.Reply.TheVariants as reply
 use Rattle.rmm_spec.specs.CommandText.{AreWords, IsReply, reply_parts}
 use Rattle.rmm_spec.specs.Function.{word_count}
 use Rattle.rmm_spec.specs.Text.{decimal, word, line_text, parts_of}
-use Rattle.rmm_spec.proofs.Texts.{IsPart, bytes_apart, decimal-injective}
+use Rattle.spec_lemmas.proofs.Texts.{IsPart, bytes_apart, decimal-injective}
 use Rattle.rmi_codec.specs.Spaced.{parts_behind, parts_from}
 
 abbrev is_space : ℕ → Bool

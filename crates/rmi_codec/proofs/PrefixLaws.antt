@@ -9,7 +9,7 @@ use Rattle.std.proofs.lemmas.List.{get_or-take, get_or_at, length-append, length
 use Rattle.std.proofs.lemmas.List.Elements.{All-weaker, All-from_recursion}
 use Rattle.std.proofs.lemmas.List.Splits.{slice_split_none, slice_split_at, length-slice_split}
 use Rattle.rmm_spec.specs.Text.{glyph, numeral, line_text, parts_of}
-use Rattle.rmm_spec.proofs.Texts.{IsPlain, IsPart-from_test, glyph-IsPlain, map-glyph-plain, parts_of-line_text, numeral_some, numeral-zero, numeral-IsPart}
+use Rattle.spec_lemmas.proofs.Texts.{IsPlain, IsPart-from_test, glyph-IsPlain, map-glyph-plain, parts_of-line_text, numeral_some, numeral-zero, numeral-IsPart}
 use Rattle.rmi_codec.specs.Spaced.{parts_behind}
 use Rattle.rmi_codec.proofs.NumberLaws.{SpellsSoFar, SpellsSoFar-none, SpellsSoFar-first, SpellsSoFar-more, le_from_SpellsSoFar, no_numeral-at_byte, no_numeral-leading_zero}
 use Rattle.rmi_codec.proofs.PartLaws.{line_text-from_parts, parts_behind-end, parts_behind-space}

@@ -19,14 +19,14 @@ use Rattle.rmm_spec.specs.Step.{outcome, CarriesOut, Step}
 use Rattle.rmm_spec.specs.Step.Front.{with_front}
 use Rattle.rmm_spec.specs.Step.Terms.{named, is_space, words_of}
 use Rattle.rmm_spec.specs.Sound.{IsSound}
-use Rattle.rmm_spec.proofs.TagLaws.{tag-has_tag, with_tag-restored}
+use Rattle.spec_lemmas.proofs.TagLaws.{tag-has_tag, with_tag-restored}
 use Rattle.rmm_sound.proofs.Cases.{spot_itself}
 use Rattle.rmm_laws.specs.Commands.{command}
 use Rattle.rmm_laws.proofs.Facts.{root_covers}
 use Rattle.rmm_sound.proofs.ByRows.{AllHold}
-use Rattle.rmm_spec.proofs.Behind.{behind}
+use Rattle.spec_lemmas.proofs.Behind.{behind}
 use Rattle.rmm_laws.proofs.RowLaws.{Leads, front-rest, outcome-leads}
-use Rattle.rmm_spec.proofs.Tests.{both_ways}
+use Rattle.lemmas.proofs.Tests.{both_ways}
 
 -- what leads to a reply that accepts
 leads-accepted : (s : State) (cpu : ℕ) (c : Call) (found : Result Accepted Refusal) (given : Reply) (next : State) → Leads s cpu c found → is_accepted given ≡ true

@@ -22,7 +22,7 @@ use Rattle.rmm_spec.specs.State.{State, RealmRecord, RecRecord}
 use Rattle.rmm_spec.specs.Update.{with_tag, with_leaf, with_ripas, entry_with_ripas, is_same_entry}
 use Rattle.rmm_spec.specs.Lookup.{has_tag, realm_at, rec_at}
 use Rattle.rmm_spec.specs.Walk.{is_table, is_assigned, entry_at}
-use Rattle.rmm_spec.proofs.TagLaws.{tag-has_tag}
+use Rattle.spec_lemmas.proofs.TagLaws.{tag-has_tag}
 use Rattle.rmm_sound.proofs.Cases.{spot_itself}
 use Rattle.rmm_sound.proofs.Searches.{realm_there, rec_there}
 use Rattle.rmm_laws.proofs.ChangeWords.{of_page, page_opened, page_closed, opened, closed}
@@ -30,7 +30,7 @@ use Rattle.rmm_laws.proofs.Claims.{IsAmong}
 use Rattle.rmm_laws.proofs.Facts.{waits_not, entry_at-table, page-last, page-entry, entry-page, page-in_use, root_covers, unlinked-root}
 use Rattle.rmm_laws.proofs.Keeps.{IsRecLike, IsPage, keeps-kept, keeps-all, same-realms, same-recs, same-tables, same-pages, with_records, records-kept, records-tag, records-leaf}
 use Rattle.rmm_laws.proofs.Owners.{IsKept, Accounts}
-use Rattle.rmm_spec.proofs.Tests.{both_ways}
+use Rattle.lemmas.proofs.Tests.{both_ways}
 use Rattle.rmm_laws.proofs.Tests.{kept_unless, some_value, there, same_value, spot_parts, moved}
 use Rattle.rmm_laws.proofs.Ties.{IsUnused}
 

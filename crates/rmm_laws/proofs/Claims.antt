@@ -4,7 +4,7 @@ use Rattle.std.proofs.lemmas.Bool.{cases_eq, and_parts, and_from, eqb-true, eq-e
 use Rattle.std.specs.List.{AllByRecursion}
 use Rattle.rmm_spec.specs.Lookup.{tag_number}
 use Rattle.rmm_spec.specs.Ownership.{Claim, is_same_claim, without_claim, without_claims}
-use Rattle.rmm_spec.proofs.Tests.{both_ways}
+use Rattle.lemmas.proofs.Tests.{both_ways}
 
 -- the open claims on a granule, repeats kept
 abbrev pub claims_on : ℕ → List Claim → List Claim

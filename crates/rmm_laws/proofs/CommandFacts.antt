@@ -21,12 +21,12 @@ use Rattle.rmm_spec.specs.Lookup.{rec_at, request_of}
 use Rattle.rmm_spec.specs.Walk.{entry_size, entry_for, is_multiple, reach, is_unassigned}
 use Rattle.rmm_spec.specs.Step.{outcome}
 use Rattle.rmm_spec.specs.Step.Ripas.{can_be_set, IsReached, reached_change}
-use Rattle.rmm_spec.proofs.WalkLaws.{reach-le, walk_ends_unlinked, first_reached}
+use Rattle.spec_lemmas.proofs.WalkLaws.{reach-le, walk_ends_unlinked, first_reached}
 use Rattle.rmm_laws.proofs.ChangeWords.{is_within, opened, closed, root_of, rec_of}
 use Rattle.rmm_sound.proofs.ByRows.{AllHold}
-use Rattle.rmm_spec.proofs.Behind.{behind}
+use Rattle.spec_lemmas.proofs.Behind.{behind}
 use Rattle.rmm_laws.proofs.RowLaws.{Leads, front-rest, outcome-leads}
-use Rattle.rmm_spec.proofs.Tests.{both_ways}
+use Rattle.lemmas.proofs.Tests.{both_ways}
 
 -- The change says what the function does to claims with these words and reply words, and is within the function's maps.
 pub record Tells (function : FunctionId) (words given : List ℕ) (change : Change) : Type 0 where

@@ -14,8 +14,8 @@ use Rattle.rmm_spec.specs.Lookup.{has_tag}
 use Rattle.rmm_spec.specs.Walk.{table_size, full, is_table, linked_entry, entry_at, is_live, is_in_use, has_link, has_entry}
 use Rattle.rmm_spec.specs.Step.Terms.{is_space}
 use Rattle.rmm_spec.specs.Sound.{IsSound}
-use Rattle.rmm_spec.proofs.TagLaws.{tag-has_tag}
-use Rattle.rmm_spec.proofs.Tests.{both_ways}
+use Rattle.spec_lemmas.proofs.TagLaws.{tag-has_tag}
+use Rattle.lemmas.proofs.Tests.{both_ways}
 use Rattle.rmm_sound.proofs.Searches.{any_below-false}
 use Rattle.rmm_laws.proofs.Tests.{some_value, there}
 

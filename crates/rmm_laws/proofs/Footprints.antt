@@ -13,7 +13,7 @@ use Rattle.rmm_spec.specs.Function.{Part, Tags, Realms, Recs, Tables, Leaves}
 use Rattle.rmm_spec.specs.Footprint.{is_listed, KeepsOthers}
 use Rattle.rmm_spec.specs.State.{State}
 use Rattle.rmm_laws.proofs.ChangeWords.{is_listed_for, is_within}
-use Rattle.rmm_spec.proofs.Tests.{both_ways}
+use Rattle.lemmas.proofs.Tests.{both_ways}
 
 -- nothing changes
 pub same-keeps : (parts : List Part) (s : State) → KeepsOthers parts s s

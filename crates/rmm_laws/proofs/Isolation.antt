@@ -30,7 +30,7 @@ use Rattle.rmm_laws.proofs.ChangeWords.{opened, closed}
 use Rattle.rmm_laws.proofs.CommandFacts.{Tells, OutcomeTells, outcome-tells}
 use Rattle.rmm_laws.proofs.Owners.{AreOwned, changed-owned, owned-isolated}
 use Rattle.rmm_laws.proofs.Recorded.{IsRecorded, root_in, parts_in, roots-after, recs-after}
-use Rattle.rmm_spec.proofs.Tests.{both_ways}
+use Rattle.lemmas.proofs.Tests.{both_ways}
 
 -- Of the commits so far (latest first), the open claims and the state.
 pub record IsAccounted (earlier : List JournalEntry) (held : List Claim) (s : State) : Type 0 where

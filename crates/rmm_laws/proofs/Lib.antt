@@ -17,3 +17,4 @@ pub mod Footprints
 pub mod Recorded
 pub mod Isolation
 pub mod Presence
+pub mod EntryRuns

@@ -6,7 +6,7 @@ use Rattle.rmm_spec.specs.Run.{JournalEntry}
 use Rattle.rmm_spec.specs.Sound.{IsSound}
 use Rattle.rmm_spec.specs.State.{State}
 use Rattle.rmm_spec.specs.Ownership.{Claim, claim, claims, without_claims, owners, IsTied, Spot, IsIsolated}
-use Rattle.rmm_spec.proofs.TagLaws.{tag-has_tag}
+use Rattle.spec_lemmas.proofs.TagLaws.{tag-has_tag}
 use Rattle.rmm_laws.proofs.Claims.{claims_on, among-Contains, Contains-among, among-on, on-among, AreElsewhere, AreApart, IsAmong, elsewhere-among, opened_on, none_closed, closed_on}
 use Rattle.rmm_laws.proofs.Ties.{IsUnused, tied-tag, tied-used, tied-once}
 

@@ -9,8 +9,8 @@ use Rattle.rmm_spec.specs.Run.{JournalEntry, IsRun}
 use Rattle.rmm_spec.specs.Sound.{has_aux, IsSound}
 use Rattle.rmm_spec.specs.State.{State, RealmRecord, opening}
 use Rattle.rmm_spec.specs.Walk.{full, reach, table_number}
-use Rattle.rmm_spec.proofs.TagLaws.{tag-has_tag}
-use Rattle.rmm_spec.proofs.WalkLaws.{reach-is_walk}
+use Rattle.spec_lemmas.proofs.TagLaws.{tag-has_tag}
+use Rattle.spec_lemmas.proofs.WalkLaws.{reach-is_walk}
 use Rattle.rmm_sound.proofs.Entries.{value_there, leaf_fits, fitting_leaf, entry-leaf, entry-link}
 use Rattle.rmm_sound.proofs.Searches.{rec_there, inside_runs}
 use Rattle.rmm_laws.specs.Presence.{HasEntry, HasWhatRowsRead}

@@ -19,7 +19,7 @@ use Rattle.rmm_sound.proofs.Records.{updated_like}
 use Rattle.rmm_sound.proofs.Searches.{realm_at-is, realm_there, rec_at-is, rec_there}
 use Rattle.rmm_laws.proofs.ChangeWords.{root_of, rec_of}
 use Rattle.rmm_laws.proofs.Keeps.{with_records, rec_updated-like, tag_change-rest, realm_change-rest, rec_change-rest}
-use Rattle.rmm_spec.proofs.Tests.{both_ways}
+use Rattle.lemmas.proofs.Tests.{both_ways}
 use Rattle.rmm_laws.proofs.Tests.{chosen}
 
 -- each value of the map is recorded: this is read from it

@@ -23,7 +23,7 @@ use Rattle.rmm_spec.specs.Lookup.{all_below}
 use Rattle.rmm_spec.specs.Step.{outcome, CarriesOut}
 use Rattle.rmm_spec.specs.Step.Ripas.{can_be_set, IsReached, is_reached, reached_change}
 use Rattle.rmm_spec.specs.Walk.{entry_size, table_size, entry_number, table_number, entry_at, is_multiple}
-use Rattle.rmm_spec.proofs.Tests.{both_ways}
+use Rattle.lemmas.proofs.Tests.{both_ways}
 use Rattle.rmm_laws.specs.Worked.{AreRuns}
 use Rattle.rmm_laws.proofs.Tests.{last_or_below}
 

@@ -14,7 +14,7 @@ use Rattle.rmm_spec.specs.Step.{is_placed, misplacement, answer_of, outcome}
 use Rattle.rmm_spec.specs.Step.Front.{with_front}
 use Rattle.rmm_spec.specs.Step.Terms.{named, words_of}
 use Rattle.rmm_sound.proofs.ByRows.{AllHold, decided-accepted}
-use Rattle.rmm_spec.proofs.Behind.{behind}
+use Rattle.spec_lemmas.proofs.Behind.{behind}
 
 -- no refusal accepts
 pub refusal-refuses : (refusal : Refusal) → is_accepted (reply_of refusal) ≡ false

@@ -17,7 +17,7 @@ use Rattle.rmm_spec.specs.Step.{outcome, CarriesOut, Step}
 use Rattle.rmm_spec.specs.Step.Ripas.{reached_change}
 use Rattle.rmm_laws.proofs.CommandFacts.{OutcomeTells, outcome-tells}
 use Rattle.rmm_laws.proofs.Footprints.{same-keeps, changed-keeps}
-use Rattle.rmm_spec.proofs.Tests.{both_ways}
+use Rattle.lemmas.proofs.Tests.{both_ways}
 
 -- the first word of a reply
 first_word : Reply → ℕ

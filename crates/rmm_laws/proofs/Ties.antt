@@ -7,7 +7,7 @@ use Rattle.rmm_spec.specs.State.{State, RecRecord}
 use Rattle.rmm_spec.specs.Lookup.{has_tag}
 use Rattle.rmm_spec.specs.Sound.{has_aux, IsSound}
 use Rattle.rmm_spec.specs.Ownership.{IsTied}
-use Rattle.rmm_spec.proofs.TagLaws.{tag-has_tag}
+use Rattle.spec_lemmas.proofs.TagLaws.{tag-has_tag}
 use Rattle.rmm_laws.proofs.Tests.{there, same_value}
 
 -- a tag that no realm's granule has

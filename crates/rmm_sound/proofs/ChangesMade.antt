@@ -12,7 +12,7 @@ use Rattle.rmm_spec.specs.Lookup.{has_tag, realm_at, rec_at}
 use Rattle.rmm_spec.specs.Change.{changed, new_realm, new_rec, realm_updated}
 use Rattle.rmm_spec.specs.Sound.{IsSound, has_aux}
 use Rattle.rmm_spec.specs.Applicable.{CanRetag, CanMakeRealm, CanDestroyRealm, CanMakeRec, CanDestroyRec}
-use Rattle.rmm_spec.proofs.TagLaws.{tag-has_tag, granule_from_tag}
+use Rattle.spec_lemmas.proofs.TagLaws.{tag-has_tag, granule_from_tag}
 use Rattle.rmm_sound.proofs.Cases.{by_address, both_ways, left_of}
 use Rattle.rmm_sound.proofs.Retagged.{IsUnnamed, IsPlain, unnamed_by_tag, retagged_sound, free_retagged_sound}
 use Rattle.rmm_sound.proofs.RealmMade.{put_realm_sound, taken_realm_sound}

@@ -18,7 +18,7 @@ use Rattle.rmm_spec.specs.Walk.{half, entry_size, entry_number, table_number, en
 use Rattle.rmm_spec.specs.Sound.{IsSound, IsRequest}
 use Rattle.rmm_spec.specs.Step.{is_placed, misplacement, answer_of, outcome}
 use Rattle.rmm_spec.specs.Step.Terms.{words_of, named, is_page}
-use Rattle.rmm_spec.proofs.Behind.{behind}
+use Rattle.spec_lemmas.proofs.Behind.{behind}
 use Rattle.rmm_sound.proofs.ByRows.{row_holds}
 use Rattle.rmm_sound.proofs.Applies.{Applies, Follows, IsRunning, answer_applies, inside_running, idle_awaits_nothing, request_there}
 use Rattle.rmm_spec.specs.declared.entry.Entry.TheVariants.{Unassigned, UnassignedNs, Assigned, AssignedNs}

@@ -17,7 +17,7 @@ use Rattle.rmm_spec.specs.Step.Table.{entry_after_table}
 use Rattle.rmm_spec.specs.Step.Ripas.{can_be_set, IsReached}
 use Rattle.rmm_spec.specs.Sound.{IsSound, IsLeafOf}
 use Rattle.rmm_spec.specs.Applicable.{IsVacant, CanReplace, CanSetRipas}
-use Rattle.rmm_spec.proofs.WalkLaws.{table_size-entries, table_number-suc}
+use Rattle.spec_lemmas.proofs.WalkLaws.{table_size-entries, table_number-suc}
 use Rattle.rmm_sound.proofs.Cases.{choice}
 use Rattle.rmm_sound.proofs.Spaces.{entry_size-pos, unscaled_le}
 use Rattle.rmm_sound.proofs.Walked.{IsWalked, walked, space_there, start_above, entry_starts, entry_begins, table_number-entry}

@@ -17,7 +17,7 @@ use Rattle.rmm_spec.specs.Walk.{entry_at, is_table, is_assigned}
 use Rattle.rmm_spec.specs.Change.{realm_updated, with_realm_change, with_rec_change, with_tag_change, with_entry_change}
 use Rattle.rmm_spec.specs.Sound.{IsSound, IsLeafOf}
 use Rattle.rmm_spec.specs.Applicable.{CanMakeTable, CanDestroyTable, CanReplace, CanChangeEntries, CanChangeRealm, CanChangeRec}
-use Rattle.rmm_spec.proofs.TagLaws.{tag-has_tag, granule_from_tag}
+use Rattle.spec_lemmas.proofs.TagLaws.{tag-has_tag, granule_from_tag}
 use Rattle.rmm_sound.proofs.Cases.{by_address, by_spot, both_ways, nothing_there, spot_itself}
 use Rattle.rmm_sound.proofs.Entries.{leaf_there, leaf_fits, childless_unused, vacant_above}
 use Rattle.rmm_sound.proofs.Kept.{leaf_of_width}

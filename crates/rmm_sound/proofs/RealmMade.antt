@@ -13,7 +13,7 @@ use Rattle.rmm_spec.specs.Lookup.{has_tag, has_vmid, is_owned_by}
 use Rattle.rmm_spec.specs.Change.{new_realm}
 use Rattle.rmm_spec.specs.Step.Terms.{is_space}
 use Rattle.rmm_spec.specs.Sound.{IsSound, IsTableOf, IsLeafOf}
-use Rattle.rmm_spec.proofs.TagLaws.{tag-has_tag, granule_from_tag}
+use Rattle.spec_lemmas.proofs.TagLaws.{tag-has_tag, granule_from_tag}
 use Rattle.rmm_sound.proofs.Cases.{by_address, by_spot, both_ways, nothing_there, spot_itself, spot_other, spot_level, at_itself, some_either, none_of, left_of, left_at}
 use Rattle.rmm_sound.proofs.Kept.{recs_kept}
 use Rattle.rmm_sound.proofs.Spaces.{root_is_table, root_leaf}

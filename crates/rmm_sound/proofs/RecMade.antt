@@ -7,7 +7,7 @@ use Rattle.rmm_spec.specs.State.{State, RecRecord, RipasChange}
 use Rattle.rmm_spec.specs.Update.{with_tag, with_rec, without_rec}
 use Rattle.rmm_spec.specs.Lookup.{has_tag, runs_on}
 use Rattle.rmm_spec.specs.Sound.{IsRequest, IsSound, has_aux}
-use Rattle.rmm_spec.proofs.TagLaws.{tag-has_tag, granule_from_tag}
+use Rattle.spec_lemmas.proofs.TagLaws.{tag-has_tag, granule_from_tag}
 use Rattle.rmm_sound.proofs.Cases.{by_address, both_ways, nothing_there}
 use Rattle.rmm_sound.proofs.Kept.{same_realms, realms_kept, tables_kept, leaves_kept}
 use Rattle.rmm_sound.proofs.Tags.{AreOther, has_tag-here, has_tag-elsewhere, has_tag-beside, has_tag-gone}

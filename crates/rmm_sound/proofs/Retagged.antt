@@ -8,7 +8,7 @@ use Rattle.rmm_spec.specs.State.{State, RecRecord}
 use Rattle.rmm_spec.specs.Update.{with_tag}
 use Rattle.rmm_spec.specs.Lookup.{is_granule, has_tag}
 use Rattle.rmm_spec.specs.Sound.{IsSound}
-use Rattle.rmm_spec.proofs.TagLaws.{tag-has_tag, granule_from_tag}
+use Rattle.spec_lemmas.proofs.TagLaws.{tag-has_tag, granule_from_tag}
 use Rattle.rmm_sound.proofs.Cases.{by_address, both_ways}
 use Rattle.rmm_sound.proofs.Tags.{AreOther, has_tag-elsewhere, has_tag-beside, tags_apart}
 

@@ -11,7 +11,7 @@ use Rattle.rmm_spec.specs.Lookup.{has_tag, realm_at}
 use Rattle.rmm_spec.specs.Walk.{entry_size, table_size, entry_number, table_number, full, half, is_multiple, is_table, is_assigned, is_unassigned, is_unassigned_ns, is_assigned_ns, entry_address, reach}
 use Rattle.rmm_spec.specs.Step.Terms.{is_space}
 use Rattle.rmm_spec.specs.Sound.{IsSound}
-use Rattle.rmm_spec.proofs.WalkLaws.{reach-le, reach-covers, table_size-entries}
+use Rattle.spec_lemmas.proofs.WalkLaws.{reach-le, reach-covers, table_size-entries}
 use Rattle.rmm_sound.proofs.Cases.{both_ways}
 use Rattle.rmm_sound.proofs.Searches.{realm_there}
 use Rattle.rmm_sound.proofs.Spaces.{space_cases}

@@ -9,9 +9,9 @@ use Rattle.rmm_spec.specs.State.{State}
 use Rattle.rmm_spec.specs.Walk.{entry_number, table_number, entry_size, table_size, is_table, entry_at, entry_for, IsWalk}
 use Rattle.rmm_spec.specs.Table.{TableRecord, entry_index}
 use Rattle.rmm_spec.specs.TableCells.{TableCell, is_table_at, flat_table, flat_leaf, with_tables, LinksTo, ArePlaced, IsWalkable}
-use Rattle.rmm_spec.proofs.WalkLaws.{table_number-suc, table_size-entries}
-use Rattle.rtt_walk.proofs.Flat.{found_at_spot, spot_is_found, flat_table-found, on_path_from_spot, spot_from_on_path}
-use Rattle.rtt_walk.proofs.Paths.{OnPath, same_on_path, link_of_deeper}
+use Rattle.spec_lemmas.proofs.WalkLaws.{table_number-suc, table_size-entries}
+use Rattle.spec_lemmas.proofs.FlatTables.{found_at_spot, spot_is_found, flat_table-found, on_path_from_spot, spot_from_on_path}
+use Rattle.spec_lemmas.proofs.WalkPaths.{OnPath, same_on_path, link_of_deeper}
 
 -- a table of the path is what the cells have at its level
 record IsFoundAt (cells : List TableCell) (rd level ipa granule : ℕ) (table : TableRecord) : Type 0 where

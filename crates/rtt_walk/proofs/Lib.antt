@@ -1,5 +1,2 @@
-pub mod Finds
-pub mod Flat
-pub mod Paths
 pub mod Ends
 pub mod Steps

@@ -8,7 +8,7 @@ use Rattle.rmm_spec.specs.Walk.{IsWalk}
 use Rattle.rmm_spec.specs.Table.{TableRecord, entry_index}
 use Rattle.rmm_spec.specs.TableCells.{TableCell, table_in, with_tables, LinksTo, ArePlaced, IsWalkable}
 use Rattle.rtt_walk.specs.Read.{IsRead}
-use Rattle.rtt_walk.proofs.Paths.{OnPath, same_table}
+use Rattle.spec_lemmas.proofs.WalkPaths.{OnPath, same_table}
 use Rattle.rtt_walk.proofs.Ends.{walk_from_end}
 
 -- a table of the path up to max was reached, and its entry read

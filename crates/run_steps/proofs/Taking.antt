@@ -3,7 +3,7 @@ use Rattle.std.proofs.Common.{◌≡◌, ℕ, ◌+◌, ◌≤◌, List, [], ◌�
 use Rattle.std.specs.List.{slice_get}
 use Rattle.std.proofs.lemmas.List.{length-append}
 use Rattle.std.proofs.lemmas.Option.{same_Some, slice_get_within}
-use Rattle.checker.proofs.Elements.{take-next_at}
+use Rattle.lemmas.proofs.Elements.{take-next_at}
 use Rattle.history.specs.Calls.{IsCallOf}
 use Rattle.history.specs.declared.history.Call.{Call}
 use Rattle.rmm_spec.specs.declared.accepted.Accepted.{Accepted}

@@ -5,7 +5,7 @@ use Rattle.toml.specs.Data.{Members}
 use Rattle.rmm_spec.specs.declared.command.Command.{Command}
 use Rattle.rmm_spec.specs.CommandText.{IsCommand, command_parts, command_text}
 use Rattle.rmm_spec.specs.Text.{parts_of}
-use Rattle.rmm_spec.proofs.Texts.{parts_of-line_text, command_parts-are_parts, command_parts-some, command_parts-injective, bytes_apart}
+use Rattle.spec_lemmas.proofs.Texts.{parts_of-line_text, command_parts-are_parts, command_parts-some, command_parts-injective, bytes_apart}
 use Rattle.rmm_spec.specs.declared.turn.Due.{Due}
 use Rattle.rmm_spec.specs.declared.turn.Will.{Will}
 use Rattle.rmm_spec.specs.declared.turn.Will.TheVariants.{Go, GiveUp, Stop}

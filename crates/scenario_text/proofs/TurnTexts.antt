@@ -5,7 +5,7 @@ use Rattle.std.proofs.lemmas.Int.Digits.{digits_of_step}
 use Rattle.std.proofs.lemmas.Bool.Decides.{nat_tests}
 use Rattle.std.proofs.Math.Nat.{mod-eq_of_lt, div-eq_of_lt}
 use Rattle.rmm_spec.specs.Text.{glyph, decimal}
-use Rattle.rmm_spec.proofs.Texts.{numeral_some, numeral-zero}
+use Rattle.spec_lemmas.proofs.Texts.{numeral_some, numeral-zero}
 use Rattle.rmm_spec.specs.declared.turn.Due.{Due}
 use Rattle.rmm_spec.specs.Scenario.{turn_text, will_text}
 

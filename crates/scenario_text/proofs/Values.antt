@@ -10,7 +10,7 @@ use Rattle.rmm_spec.specs.declared.version.Version.{Version}
 use Rattle.rmm_spec.specs.declared.version.Version.TheVariants.{One, Two, Large}
 use Rattle.rmm_spec.specs.Scenario.{Stated, IsStatedBy, AreInRange, IsBetween, IsCommandText, is_numbered, turn_text, version_number}
 use Rattle.rmm_spec.specs.HistoryText.{Config, IsConfig, granule_limit}
-use Rattle.rmm_spec.proofs.Tests.{both_ways}
+use Rattle.lemmas.proofs.Tests.{both_ways}
 use Rattle.scenario_text.specs.Sizes.{AreSizes}
 
 -- The texts of commands can be read.

@@ -14,7 +14,7 @@ use Rattle.rmm_spec.specs.CommandText.{command_parts, command_text}
 use Rattle.rmm_spec.specs.Function.{number_of}
 use Rattle.rmm_spec.specs.Scenario.{turn_text, will_text}
 use Rattle.rmm_spec.specs.Text.{glyph, numeral, decimal, word, fixed_hex, line_text}
-use Rattle.rmm_spec.proofs.Texts.{AllByRecursion-append}
+use Rattle.spec_lemmas.proofs.Texts.{AllByRecursion-append}
 
 -- a byte of ASCII
 abbrev pub IsLow : ℕ → Type 0

@@ -11,7 +11,7 @@ use Rattle.rmm_spec.specs.Table.{TableRecord}
 use Rattle.rmm_spec.specs.Cell.{Cell, Undelegated, Delegated, Rd, Rec, RecAux, Data, Rtt, put, tag_of, realm_in, rec_in, table_in, is_aux, is_data, tags_of, realms_of, recs_of, tables_of}
 use Rattle.rmm_spec.specs.Flat.{flat_state, table_granule, leaf_in_tables}
 use Rattle.rmm_spec.specs.Shape.{AreOutside}
-use Rattle.rmm_spec.proofs.TagLaws.{tag-has_tag}
+use Rattle.spec_lemmas.proofs.TagLaws.{tag-has_tag}
 use Rattle.rmm_sound.proofs.Cases.{both_ways, by_address}
 
 -- ---- one cell

@@ -18,7 +18,7 @@ use Rattle.rmm_spec.specs.Sound.{IsSound}
 use Rattle.rmm_spec.specs.Applicable.{CanMakeRealm, CanDestroyRealm}
 use Rattle.rmm_spec.specs.Cell.{Delegated, Rd, Rtt, put, realm_in, rec_in, table_in, tags_of, realms_of, recs_of, tables_of}
 use Rattle.rmm_spec.specs.Flat.{flat_state, table_granule, leaf_in_tables}
-use Rattle.rmm_spec.proofs.TagLaws.{granule_from_tag}
+use Rattle.spec_lemmas.proofs.TagLaws.{granule_from_tag}
 use Rattle.rmm_sound.proofs.Cases.{both_ways, nothing_there, by_address, choice, spot_hit, spot_other, left_of}
 use Rattle.rmm_sound.proofs.Entries.{entry-link, value_there}
 use Rattle.rmm_sound.proofs.Searches.{any_below-false, realm_there, none_has_vmid}

@@ -13,7 +13,7 @@ use Rattle.rmm_spec.specs.Applicable.{CanMakeRec, CanDestroyRec}
 use Rattle.rmm_spec.specs.Cell.{Cell, Delegated, Rd, Rec, RecAux, put, tag_of, realm_in, rec_in, table_in, tags_of, realms_of, recs_of}
 use Rattle.rmm_spec.specs.Flat.{flat_state}
 use Rattle.rmm_spec.specs.Shape.{CpuPlace, RunsOn, count_below}
-use Rattle.rmm_spec.proofs.TagLaws.{granule_from_tag}
+use Rattle.spec_lemmas.proofs.TagLaws.{granule_from_tag}
 use Rattle.rmm_sound.proofs.Cases.{both_ways, by_address}
 use Rattle.rmm_sound.proofs.Records.{updated_like}
 use Rattle.rmm_sound.proofs.Searches.{realm_there, rec_there}

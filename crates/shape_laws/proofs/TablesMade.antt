@@ -18,7 +18,7 @@ use Rattle.rmm_spec.specs.Change.{changed}
 use Rattle.rmm_spec.specs.Applicable.{CanMakeTable, CanDestroyTable}
 use Rattle.rmm_spec.specs.Cell.{Cell, Delegated, Rtt, put, realm_in, rec_in, table_in, tags_of, realms_of, recs_of, tables_of}
 use Rattle.rmm_spec.specs.Flat.{flat_state, table_granule, leaf_in_tables}
-use Rattle.rmm_spec.proofs.TagLaws.{granule_from_tag}
+use Rattle.spec_lemmas.proofs.TagLaws.{granule_from_tag}
 use Rattle.rmm_sound.proofs.Cases.{both_ways, by_address, choice, spot_hit, left_of}
 use Rattle.rmm_sound.proofs.Entries.{leaf_there, value_there}
 use Rattle.rmm_sound.proofs.Searches.{realm_there}

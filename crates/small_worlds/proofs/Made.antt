@@ -28,7 +28,7 @@ use Rattle.rmm_spec.specs.Shape.{Outside, IsWellShaped}
 use Rattle.rmm_spec.specs.World.{opening_world}
 use Rattle.shape_laws.specs.Whole.{Whole, IsShaped, cells_changed, side_changed, places_changed, whole_changed}
 use Rattle.shape_laws.proofs.Accepted.{done-keeps_shape}
-use Rattle.world_laws.proofs.Opening.{IsShapedWorld-opening}
+use Rattle.spec_lemmas.proofs.Opening.{IsShapedWorld-opening}
 use Rattle.small_worlds.specs.SmallWholes.{eight_granules, lent, one_realm, one_vmid, realm_with_root, table_at, beginning, linked_root, linked_middle, bare_table, one_page, two_realms, two_vmids, one_rec, the_rec, one_owned}
 
 abbrev given : FunctionId → List ℕ → Command

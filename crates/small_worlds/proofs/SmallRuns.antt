@@ -18,7 +18,7 @@ use Rattle.rmm_spec.specs.World as move
 use Rattle.rmm_spec.specs.Locks.{needs, IsRisingTake}
 use Rattle.rmm_spec.specs.Waits.{IsRising, WaitsAt}
 use Rattle.world_laws.specs.Replaced.{held_at}
-use Rattle.world_laws.proofs.Members.{Contains-nil, Contains-head, cells_at, each_of_one, each_of_two}
+use Rattle.spec_lemmas.proofs.Members.{Contains-nil, Contains-head, cells_at, each_of_one, each_of_two}
 use Rattle.world_laws.proofs.Refusals.{tags-are_local}
 use Rattle.world_laws.proofs.Retagged.{delegate-is_local}
 use Rattle.small_worlds.specs.SmallWorlds.{HappenBy, WaitForEachOther, IsWordTake, two_cpus, delegate, both_delegate, holding_at, delegates, in_order, stopped_after_commit, both_called, realm_of, both_make_realms, one_lock_each}

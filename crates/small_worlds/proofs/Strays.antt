@@ -26,8 +26,8 @@ use Rattle.rmm_spec.specs.World.{World, Phase, Between, Deciding, Decided, Commi
 use Rattle.rmm_spec.specs.World as move
 use Rattle.rmm_spec.specs.Locks.{names_part, depth}
 use Rattle.world_laws.specs.Replaced.{held_at}
-use Rattle.world_laws.proofs.Members.{Contains-nil, Contains-head, Contains-tail, each_of_one, each_of_two}
-use Rattle.world_laws.proofs.Opening.{IsShapedWorld-opening}
+use Rattle.spec_lemmas.proofs.Members.{Contains-nil, Contains-head, Contains-tail, each_of_one, each_of_two}
+use Rattle.spec_lemmas.proofs.Opening.{IsShapedWorld-opening}
 use Rattle.shape_laws.specs.Whole.{Whole, IsShaped, cells_changed, side_changed, places_changed, whole_changed}
 use Rattle.shape_laws.proofs.Accepted.{done-keeps_shape}
 use Rattle.shape_laws.proofs.Cells.{put-same}

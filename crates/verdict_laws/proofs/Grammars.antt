@@ -16,10 +16,10 @@ use Rattle.rmm_spec.specs.CommandText.{AreWords, IsCommand, IsReply}
 use Rattle.rmm_spec.specs.Function.{word_count}
 use Rattle.rmm_spec.specs.HistoryText.{Config, History, IsConfig, IsEvent, IsHistory, IsHistoryText, InHistories, IsRecord, cpu_of, subhistory_of, start, stand_from, event_parts, granule_limit, history_text}
 use Rattle.rmm_spec.specs.Text.{line_text, lines_text, parts_of, HasNoNewline}
-use Rattle.rmm_spec.proofs.CertificateLines.{line_parts-one_line}
-use Rattle.rmm_spec.proofs.HistoryGrammar.{lines_of, lines_of-one_line}
-use Rattle.rmm_spec.proofs.Lines.{AreOneLineEach}
-use Rattle.rmm_spec.proofs.Places.{subhistory_of-other}
+use Rattle.spec_lemmas.proofs.CertificateLines.{line_parts-one_line}
+use Rattle.spec_lemmas.proofs.HistoryGrammar.{lines_of, lines_of-one_line}
+use Rattle.spec_lemmas.proofs.Lines.{AreOneLineEach}
+use Rattle.spec_lemmas.proofs.Places.{subhistory_of-other}
 use Rattle.verdict_laws.proofs.Decisions.{Decided, decided_as, decided_both, decided_not, decided_lt, decided_le, decided_true, decided_same, decided_each, holds_surely, first_below}
 use Rattle.verdict_laws.proofs.Readings.{map-read, read_config, read_config-config_parts, read_event, read_event-event_parts, read_line, read_line-line_parts}
 

@@ -15,7 +15,7 @@ use Rattle.rmm_spec.specs.Run.{JournalEntry}
 use Rattle.rmm_spec.specs.Script.{replay}
 use Rattle.rmm_spec.specs.Linearization.{IsKnown, IsFinished, ReturnsBefore, cpu_named, number_named, NamesCall, IsOfItsKind, IsNamed, IsTooLate, IsReplyOf}
 use Rattle.rmm_spec.specs.FirstFault.{Passes, FailsBy}
-use Rattle.rmm_spec.proofs.Places.{IsKnown-below, below-IsKnown, IsFinished-below, below-IsFinished}
+use Rattle.spec_lemmas.proofs.Places.{IsKnown-below, below-IsKnown, IsFinished-below, below-IsFinished}
 use Rattle.rmm_laws.proofs.Replays.{replayed-run, no_replay-no_run}
 use Rattle.checker.proofs.Faults.{IsRefused-from_step}
 use Rattle.checker.proofs.Judging.{HasOnePlaces-from_history}

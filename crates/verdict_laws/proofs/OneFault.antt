@@ -11,9 +11,9 @@ use Rattle.rmm_spec.specs.declared.verdict.Reason.TheVariants as reason
 use Rattle.rmm_spec.specs.HistoryText.{History}
 use Rattle.rmm_spec.specs.State.{State, opening}
 use Rattle.rmm_spec.specs.FirstFault.{Passes, FailsBy, FailsAt, IsFirstMissing, IsMissing, FirstFault}
-use Rattle.checker.proofs.Elements.{slice_get-take}
-use Rattle.checker.proofs.Calls.{HasOnePlaces}
-use Rattle.checker.proofs.Runs.{not-IsRefused}
+use Rattle.lemmas.proofs.Elements.{slice_get-take}
+use Rattle.spec_lemmas.proofs.Calls.{HasOnePlaces}
+use Rattle.rmm_laws.proofs.EntryRuns.{not-IsRefused}
 
 -- ---- reasons
 

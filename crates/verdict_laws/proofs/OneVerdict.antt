@@ -8,8 +8,8 @@ use Rattle.rmm_spec.specs.HistoryText.{History, InHistories}
 use Rattle.rmm_spec.specs.CertificateText.{InCertificates}
 use Rattle.rmm_spec.specs.FirstFault.{FirstFault}
 use Rattle.rmm_spec.specs.Judgement.{Judges, JudgesTexts}
-use Rattle.rmm_spec.proofs.HistoryGrammar.{same_history, not-IsBadLine-history}
-use Rattle.rmm_spec.proofs.CertificateLines.{same_certificate, not-IsBadLine-certificate}
+use Rattle.spec_lemmas.proofs.HistoryGrammar.{same_history, not-IsBadLine-history}
+use Rattle.spec_lemmas.proofs.CertificateLines.{same_certificate, not-IsBadLine-certificate}
 use Rattle.checker.proofs.Judging.{HasOnePlaces-from_history}
 use Rattle.checker.proofs.Verdicts.{Judges-valid}
 use Rattle.verdict_laws.proofs.BadLines.{one_bad_line}

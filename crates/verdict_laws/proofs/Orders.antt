@@ -16,7 +16,7 @@ use Rattle.rmm_spec.specs.State.{State, opening}
 use Rattle.rmm_spec.specs.Linearization.{IsCalled, IsFinished, IsNamed}
 use Rattle.rmm_spec.specs.FirstFault.{Passes, FirstFault}
 use Rattle.rmm_spec.specs.Judgement.{JudgesOrder}
-use Rattle.checker.proofs.Elements.{take-next_at}
+use Rattle.lemmas.proofs.Elements.{take-next_at}
 use Rattle.checker.proofs.Faults.{FirstFault-from_FailsBy, FirstFault-missing, Accepts-from_Passes}
 use Rattle.checker.proofs.Judging.{HasOnePlaces-from_history}
 use Rattle.checker.proofs.Progress.{Passes-nil}

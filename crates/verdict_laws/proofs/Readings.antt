@@ -19,7 +19,7 @@ use Rattle.rmm_spec.specs.declared.version.Version.{Version}
 use Rattle.rmm_spec.specs.declared.version.Version.TheVariants.{One, Two, Large}
 use Rattle.rmm_spec.specs.HistoryText.{Config, mark, config_parts, event_parts}
 use Rattle.rmm_spec.specs.Text.{glyph, numeral, decimal, word, fixed_hex}
-use Rattle.rmm_spec.proofs.Texts.{numeral_some, numeral-zero, function_numbered}
+use Rattle.spec_lemmas.proofs.Texts.{numeral_some, numeral-zero, function_numbered}
 
 -- what is read back from each image is read back from the list of images
 pub map-read : {X Y : Type 0} (f : X → Y) (read : Y → X) → ((x : X) → read (f x) ≡ x) → (xs : List X) → map read (map f xs) ≡ xs

@@ -20,8 +20,8 @@ use Rattle.rmm_spec.specs.Step.Front.{with_front}
 use Rattle.rmm_spec.specs.Step.Terms.{words_of, needed, named}
 use Rattle.rmm_spec.specs.Step.Ripas.{reached_change}
 use Rattle.rmm_spec.specs.Local.{HeldCell}
-use Rattle.rmm_spec.proofs.Behind.{behind}
-use Rattle.rmm_spec.proofs.WalkLaws.{reach-le}
+use Rattle.spec_lemmas.proofs.Behind.{behind}
+use Rattle.spec_lemmas.proofs.WalkLaws.{reach-le}
 use Rattle.rmm_sound.proofs.ByRows.{AllHold, decided-accepted}
 use Rattle.rmm_sound.proofs.Ends.{table_number-above}
 use Rattle.rmm_sound.proofs.Walked.{table_number-entry}

@@ -21,7 +21,7 @@ use Rattle.rmm_spec.specs.Cell.{tables_of}
 use Rattle.rmm_spec.specs.Flat.{flat_state}
 use Rattle.rmm_spec.specs.Shape.{Side}
 use Rattle.rmm_spec.specs.Local.{HeldCell}
-use Rattle.rmm_spec.proofs.WalkLaws.{table_number-suc, reach-le, reach-covers, reach-deepest}
+use Rattle.spec_lemmas.proofs.WalkLaws.{table_number-suc, reach-le, reach-covers, reach-deepest}
 use Rattle.rmm_sound.proofs.Cases.{nothing_there}
 use Rattle.rmm_sound.proofs.Entries.{entry-link, link_there}
 use Rattle.rmm_sound.proofs.Walked.{table_number-entry}

@@ -11,7 +11,7 @@ use Rattle.rmm_spec.specs.Flat.{is_table_of}
 use Rattle.rmm_spec.specs.Shape.{HoldsTable}
 use Rattle.rmm_spec.specs.Local.{HeldCell, granules_held}
 use Rattle.rmm_sound.proofs.Cases.{spot_hit}
-use Rattle.world_laws.proofs.Members.{Contains-nil, Contains-other}
+use Rattle.spec_lemmas.proofs.Members.{Contains-nil, Contains-other}
 use Rattle.walk_laws.specs.SeenState.{found_or, table_held, is_of_realm, table_behind, table_placed}
 
 -- what is found passes

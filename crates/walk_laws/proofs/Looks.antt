@@ -26,7 +26,7 @@ use Rattle.rmm_spec.specs.Step.Front.{with_front}
 use Rattle.rmm_spec.specs.Step.Terms.{words_of, named}
 use Rattle.rmm_spec.specs.Step.Table.{rtt_remove, entry_after_table, left_condition, ripas_left}
 use Rattle.rmm_spec.specs.Step.RealmCall.{ipa_state_get}
-use Rattle.rmm_spec.proofs.Behind.{behind}
+use Rattle.spec_lemmas.proofs.Behind.{behind}
 use Rattle.walk_laws.specs.Same.{SameSpace, SameWalk}
 use Rattle.walk_laws.specs.Walking.{Way, way, way_of, keeps_realm, is_table_error}
 

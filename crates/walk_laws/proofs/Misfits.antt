@@ -14,8 +14,8 @@ use Rattle.rmm_spec.specs.Table.{TableRecord, entry_index, place_number}
 use Rattle.rmm_spec.specs.Cell.{Cell, Undelegated, Delegated, Rd, Rec, RecAux, Data, Rtt, is_data, realm_in, table_in, tables_of, realms_of}
 use Rattle.rmm_spec.specs.Shape.{Side, HoldsTable}
 use Rattle.rmm_spec.specs.Local.{HeldCell, granules_held}
-use Rattle.world_laws.proofs.Members.{passing_member}
-use Rattle.world_laws.proofs.Placed.{cell_is_granule}
+use Rattle.spec_lemmas.proofs.Members.{passing_member}
+use Rattle.spec_lemmas.proofs.Placed.{cell_is_granule}
 use Rattle.shape_laws.proofs.Cells.{cell-table}
 use Rattle.walk_laws.specs.Held.{cell_in}
 use Rattle.walk_laws.specs.SeenState.{table_held}

@@ -20,11 +20,11 @@ use Rattle.rmm_spec.specs.Cell.{Cell, Undelegated, Rd, tag_of, realm_in, rec_in,
 use Rattle.rmm_spec.specs.Flat.{flat_state, is_table_of}
 use Rattle.rmm_spec.specs.Shape.{Side, HoldsTable}
 use Rattle.rmm_spec.specs.Local.{HeldCell}
-use Rattle.rmm_spec.proofs.WalkLaws.{reach-le}
+use Rattle.spec_lemmas.proofs.WalkLaws.{reach-le}
 use Rattle.rmm_sound.proofs.Entries.{value_there}
 use Rattle.rmm_sound.proofs.Spaces.{space_cases}
 use Rattle.rmm_sound.proofs.Walked.{table_number-entry}
-use Rattle.world_laws.proofs.Placed.{cell_is_granule}
+use Rattle.spec_lemmas.proofs.Placed.{cell_is_granule}
 use Rattle.shape_laws.proofs.Cells.{cell-realm}
 use Rattle.shape_laws.proofs.Finds.{holds-is_table_of}
 use Rattle.walk_laws.specs.Held.{cell_in, is_held}

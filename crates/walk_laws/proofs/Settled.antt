@@ -27,8 +27,8 @@ use Rattle.rmm_spec.specs.Cell.{Cell}
 use Rattle.rmm_spec.specs.Flat.{flat_state}
 use Rattle.rmm_spec.specs.Shape.{Side, CpuPlace, Outside, IsWellShaped}
 use Rattle.rmm_spec.specs.Local.{HeldCell, Hold, Agrees, LocalStep}
-use Rattle.rmm_spec.proofs.Behind.{behind}
-use Rattle.rmm_spec.proofs.WalkLaws.{reach-le, walk_ends_unlinked, first_reached, table_size-entries}
+use Rattle.spec_lemmas.proofs.Behind.{behind}
+use Rattle.spec_lemmas.proofs.WalkLaws.{reach-le, walk_ends_unlinked, first_reached, table_size-entries}
 use Rattle.rmm_sound.proofs.ByRows.{AllHold, decided-accepted}
 use Rattle.rmm_sound.proofs.Entries.{value_there}
 use Rattle.rmm_sound.proofs.Spaces.{entry_size-pos, unscaled_le}

@@ -15,7 +15,7 @@ use Rattle.rmm_spec.specs.Cell.{Cell, tables_of}
 use Rattle.rmm_spec.specs.Flat.{flat_state, table_granule}
 use Rattle.rmm_spec.specs.Shape.{Side, HoldsTable}
 use Rattle.rmm_spec.specs.Local.{HeldCell}
-use Rattle.rmm_spec.proofs.WalkLaws.{table_number-suc, reach-covers, reach-le}
+use Rattle.spec_lemmas.proofs.WalkLaws.{table_number-suc, reach-covers, reach-le}
 use Rattle.rmm_sound.proofs.Cases.{both_ways}
 use Rattle.rmm_sound.proofs.Entries.{value_there, entry-leaf, entry-link}
 use Rattle.rmm_sound.proofs.Walked.{table_number-entry}

@@ -22,7 +22,7 @@ use Rattle.rmm_spec.specs.Shape.{Side, HoldsTable}
 use Rattle.rmm_spec.specs.Step.{answer_of}
 use Rattle.rmm_spec.specs.Step.Terms.{needed, named, Terms, OfWalk, terms_of, names_in, walk_in}
 use Rattle.rmm_spec.specs.Local.{HeldCell}
-use Rattle.rmm_spec.proofs.WalkLaws.{table_number-suc}
+use Rattle.spec_lemmas.proofs.WalkLaws.{table_number-suc}
 use Rattle.rmm_sound.proofs.Cases.{both_ways}
 use Rattle.rmm_sound.proofs.Entries.{link_there}
 use Rattle.rmm_sound.proofs.Walked.{table_number-entry}

@@ -11,7 +11,7 @@ use Rattle.rmm_spec.specs.Cell.{Cell, Undelegated, table_in, tables_of}
 use Rattle.rmm_spec.specs.Flat.{flat_state}
 use Rattle.rmm_spec.specs.Shape.{Side, CpuPlace, IsWellShaped}
 use Rattle.rmm_spec.specs.Local.{HeldCell, granules_held, Agrees}
-use Rattle.world_laws.proofs.Members.{Contains-head, Contains-tail}
+use Rattle.spec_lemmas.proofs.Members.{Contains-head, Contains-tail}
 use Rattle.shape_laws.proofs.Ties.{well_shaped-is_sound}
 use Rattle.walk_laws.specs.Held.{cell_in, is_held, known_cell}
 use Rattle.walk_laws.specs.SeenState.{table_held}

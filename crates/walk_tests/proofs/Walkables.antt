@@ -7,7 +7,7 @@ use Rattle.rmm_spec.specs.Table.{TableRecord, covers}
 use Rattle.rmm_spec.specs.TableCells.{TableCell, table_in, IsWalkable}
 use Rattle.walk_tests.specs.Walkable.{IsLinkedFrom, HasLink, IsSoundAt, AreInGranules}
 use Rattle.walk_tests.proofs.PlainReads.{granule_within}
-use Rattle.rtt_walk.proofs.Paths.{same_table}
+use Rattle.spec_lemmas.proofs.WalkPaths.{same_table}
 
 -- a granule's address is its number times its size
 granule_number : (granules address : ℕ) → IsTrue (is_granule granules address) → address / 4096 * 4096 ≡ address

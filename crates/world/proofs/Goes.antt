@@ -11,8 +11,8 @@ use Rattle.rmm_spec.specs.Lookup.{any_below, is_cpu}
 use Rattle.rmm_spec.specs.World.{World, Phase, Between, Deciding, Decided, GivenUp, Stopped, IsGoing, held_cells}
 use Rattle.rmm_spec.specs.Waits.{Did, Blocked, Idle}
 use Rattle.rmm_spec.specs.Waits as turn
-use Rattle.world_laws.proofs.Members.{Contains-nil}
-use Rattle.world_laws.proofs.Placed.{any_below-from}
+use Rattle.spec_lemmas.proofs.Members.{Contains-nil}
+use Rattle.spec_lemmas.proofs.Placed.{any_below-from}
 use Rattle.command_core.specs.declared.next.Next.{Next}
 use Rattle.command_core.specs.declared.next.Next.TheVariants.{Take}
 use Rattle.command_core.specs.Next as plan

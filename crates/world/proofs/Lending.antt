@@ -8,11 +8,11 @@ use Rattle.std.proofs.lemmas.List.Elements.{Contains-append_left, Contains-push}
 use Rattle.std.proofs.lemmas.List.Folds.{list_any_at}
 use Rattle.rmm_spec.specs.Cell as whole
 use Rattle.rmm_spec.specs.Cell.{put}
-use Rattle.rmm_spec.proofs.Tests.{both_ways}
+use Rattle.lemmas.proofs.Tests.{both_ways}
 use Rattle.rmm_spec.specs.Local.{HeldCell, granules_held, put_all}
-use Rattle.world_laws.proofs.Lists.{put-other}
+use Rattle.spec_lemmas.proofs.Lists.{put-other}
 use Rattle.world_laws.proofs.Locals.{put_all-agrees}
-use Rattle.world_laws.proofs.Members.{Contains-nil, Contains-other, granules_held-cells_at}
+use Rattle.spec_lemmas.proofs.Members.{Contains-nil, Contains-other, granules_held-cells_at}
 use Rattle.world_laws.proofs.Recorded.{Agrees-own}
 use Rattle.command_core.specs.Seen.{cell_of, are_distinct}
 use Rattle.granule_cells.specs.declared.cell.Cell.{Cell}

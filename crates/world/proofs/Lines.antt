@@ -14,7 +14,7 @@ use Rattle.rmm_spec.specs.HistoryText.{Config, IsConfig}
 use Rattle.rmm_spec.specs.CertificateText.{IsLine, IsCertificate}
 use Rattle.rmm_spec.specs.Linearization.{IsKnown}
 use Rattle.rmm_spec.specs.World.{World, Commitment, line_for, certificate_of, opening_world}
-use Rattle.world_laws.proofs.Lists.{slice_get-map_to}
+use Rattle.spec_lemmas.proofs.Lists.{slice_get-map_to}
 use Rattle.world_laws.proofs.Turned.{moves_of_turns}
 use Rattle.world_laws.proofs.Recorded.{IsAccounted-HappenAll, IsAccounted-opening}
 use Rattle.world.specs.Kept.{IsReached}

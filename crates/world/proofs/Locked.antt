@@ -10,9 +10,9 @@ use Rattle.std.proofs.lemmas.List.Folds.{list_any-append, list_any_at}
 use Rattle.rmm_spec.specs.Lookup.{is_granule, is_cpu}
 use Rattle.rmm_spec.specs.Cell.{put}
 use Rattle.rmm_spec.specs.World.{without_granule}
-use Rattle.rmm_spec.proofs.Tests.{both_ways}
-use Rattle.world_laws.proofs.Lists.{put_elim}
-use Rattle.world_laws.proofs.Members.{Contains-head, Contains-tail}
+use Rattle.lemmas.proofs.Tests.{both_ways}
+use Rattle.spec_lemmas.proofs.Lists.{put_elim}
+use Rattle.spec_lemmas.proofs.Members.{Contains-head, Contains-tail}
 use Rattle.command_core.specs.Seen.{are_distinct}
 use Rattle.command_core.proofs.Distinct.{distinct-push}
 use Rattle.world.specs.Kept.{AreLocks, has_taken, freed_all}

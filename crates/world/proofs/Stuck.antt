@@ -8,8 +8,8 @@ use Rattle.rmm_spec.specs.World.{World, Phase, Between, Deciding, Decided, Given
 use Rattle.rmm_spec.specs.declared.turn.Will.TheVariants.{Go}
 use Rattle.rmm_spec.specs.Waits.{Did, Blocked, Idle, IsRising, IsIdle, AreRising, Wants, WaitsBy, IsStuck, awaited}
 use Rattle.rmm_spec.specs.Waits as turn
-use Rattle.world_laws.proofs.Members.{granules_held-cells_at}
-use Rattle.world_laws.proofs.Placed.{passing_below}
+use Rattle.spec_lemmas.proofs.Members.{granules_held-cells_at}
+use Rattle.spec_lemmas.proofs.Placed.{passing_below}
 use Rattle.command_core.specs.declared.next.Next.{Next}
 use Rattle.command_core.specs.declared.next.Next.TheVariants.{Take, Free, Ready}
 use Rattle.command_core.specs.Seen.{are_distinct}

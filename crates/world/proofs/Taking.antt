@@ -13,7 +13,7 @@ use Rattle.rmm_spec.specs.Shape.{CpuPlace}
 use Rattle.rmm_spec.specs.Local.{HeldCell}
 use Rattle.rmm_spec.specs.World.{World, Phase, Between, Deciding, Decided, GivenUp, Stopped, MayLearn, held_cells}
 use Rattle.rmm_spec.specs.Waits.{IsRising, MayFree}
-use Rattle.world_laws.proofs.Members.{granules_held-cells_at}
+use Rattle.spec_lemmas.proofs.Members.{granules_held-cells_at}
 use Rattle.command_core.specs.declared.next.Next.{Next}
 use Rattle.command_core.specs.declared.next.Next.TheVariants as next
 use Rattle.command_core.specs.Seen.{cell_in}

@@ -7,7 +7,7 @@ use Rattle.rmm_spec.specs.declared.turn.Will.{Will}
 use Rattle.rmm_spec.specs.declared.turn.Will.TheVariants as wills
 use Rattle.rmm_spec.specs.Waits.{Report, Turns, awaited}
 use Rattle.rmm_spec.specs.Waits as turn
-use Rattle.world_laws.proofs.Lists.{put_elim, keys_apart}
+use Rattle.spec_lemmas.proofs.Lists.{put_elim, keys_apart}
 use Rattle.world_laws.proofs.Turned.{LeavesAlone, LeavesAlone-Moves}
 use Rattle.command_core.specs.declared.next.Next.TheVariants.{Take}
 use Rattle.world.specs.Kept.{AreLocks}

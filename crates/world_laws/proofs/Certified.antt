@@ -11,7 +11,7 @@ use Rattle.rmm_spec.specs.declared.reply.Reply.{Reply}
 use Rattle.rmm_spec.specs.Linearization.{IsReturned, IsFinished, IsOfItsKind, IsReplyOf, IsEntryOf, AreEntriesOf, IsOrderOf, cpu_named, number_named, IsNamed}
 use Rattle.rmm_spec.specs.Flat.{flat_state}
 use Rattle.rmm_spec.specs.World.{World, Commitment, is_return_of, line_for, IsCertified}
-use Rattle.world_laws.proofs.Lists.{slice_get-map_from, slice_get-map_to}
+use Rattle.spec_lemmas.proofs.Lists.{slice_get-map_from, slice_get-map_to}
 use Rattle.world_laws.proofs.Recorded.{AreCommitsOf, entry_of, IsAccounted}
 
 -- ---- whether a return is recorded

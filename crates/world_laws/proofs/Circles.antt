@@ -4,7 +4,7 @@ use Rattle.std.specs.Prelude.{Contains}
 use Rattle.rmm_spec.specs.World.{World, Phase, Deciding, Decided, GivenUp, Stopped, IsGoing, IsShapedWorld}
 use Rattle.rmm_spec.specs.declared.turn.Will.TheVariants.{Go}
 use Rattle.rmm_spec.specs.Waits.{IsRising, WaitsFor, IsChain, HasNoCircle, IsIdle, HasReturnedAll, AreRising, WaitsBy, IsStuck, LeadsToStopped, WaitsBehindStopped}
-use Rattle.world_laws.proofs.Members.{Contains-nil}
+use Rattle.spec_lemmas.proofs.Members.{Contains-nil}
 use Rattle.world_laws.proofs.Locked.{IsLocked}
 use Rattle.world_laws.proofs.Holding.{HoldsIn, HoldByPhase}
 use Rattle.world_laws.proofs.Ranks.{rank, rank-rises, rank-bounded}

@@ -1,15 +1,10 @@
-pub mod Lists
-pub mod Opening
 pub mod Recorded
 pub mod Certified
-pub mod Members
 pub mod Locked
 pub mod Ranks
 pub mod Circles
 pub mod Turned
 pub mod Holding
-pub mod Placed
 pub mod Locals
 pub mod Refusals
 pub mod Retagged
-pub mod LineOf

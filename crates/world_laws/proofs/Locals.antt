@@ -11,8 +11,8 @@ use Rattle.rmm_spec.specs.Flat.{flat_state}
 use Rattle.rmm_spec.specs.Shape.{Side, CpuPlace, IsWellShaped}
 use Rattle.rmm_spec.specs.Local.{HeldCell, Hold, granules_held, Agrees, put_all, LocalStep}
 use Rattle.world_laws.specs.Replaced.{replaced_cells, replaced, replaced_all}
-use Rattle.world_laws.proofs.Lists.{put_elim, keys_apart}
-use Rattle.world_laws.proofs.Members.{Contains-nil, Contains-other, Contains-head, Contains-tail}
+use Rattle.spec_lemmas.proofs.Lists.{put_elim, keys_apart}
+use Rattle.spec_lemmas.proofs.Members.{Contains-nil, Contains-other, Contains-head, Contains-tail}
 
 -- what is there already changes nothing
 pub put-same : {A : Type 0} (values : ℕ → A) (key : ℕ) (value : A) → values key ≡ value → put values key value ≡ values

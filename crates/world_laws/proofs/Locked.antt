@@ -7,8 +7,8 @@ use Rattle.rmm_spec.specs.HistoryText.{Config}
 use Rattle.rmm_spec.specs.Cell.{put}
 use Rattle.rmm_spec.specs.World.{World, Move, mover, Moves, Happens, HappenAll, without_granule, opening_world, Takes}
 use Rattle.rmm_spec.specs.World as world
-use Rattle.world_laws.proofs.Lists.{put_elim}
-use Rattle.world_laws.proofs.Members.{Contains-nil, Contains-filter}
+use Rattle.spec_lemmas.proofs.Lists.{put_elim}
+use Rattle.spec_lemmas.proofs.Members.{Contains-nil, Contains-filter}
 
 pub record AreLocked (cpus : ℕ) (taken : ℕ → List ℕ) : Type 0 where
   pub one : (cpu other granule : ℕ) → Contains (taken cpu) granule → Contains (taken other) granule → cpu ≡ other

@@ -26,7 +26,7 @@ use Rattle.rmm_spec.specs.Local.{HeldCell}
 use Rattle.rmm_spec.specs.World.{World, IsShapedWorld, held_cells}
 use Rattle.rmm_spec.specs.Locks.{needs, needs_outside, is_named, leads_to, names_part, depth, IsNextNamed, IsNextPart, IsRisingTake}
 use Rattle.rmm_spec.specs.Waits.{IsRising, WaitsAt}
-use Rattle.world_laws.proofs.Members.{Contains-from_slice_get, passing_member, held_cell, cell_held}
+use Rattle.spec_lemmas.proofs.Members.{Contains-from_slice_get, passing_member, held_cell, cell_held}
 use Rattle.world_laws.proofs.Locked.{IsLocked}
 
 -- ---- what commands name is never a part

@@ -20,14 +20,14 @@ use Rattle.rmm_spec.specs.Rows.{Row, Needed, Word, decided, inputs, reply_of, ta
 use Rattle.rmm_spec.specs.Step.Front.{with_front}
 use Rattle.rmm_spec.specs.Step.Terms.{words_of, named}
 use Rattle.rmm_spec.specs.Step.{Step, CarriesOut, answer_of, outcome, is_placed, misplacement}
-use Rattle.rmm_spec.proofs.Behind.{behind}
+use Rattle.spec_lemmas.proofs.Behind.{behind}
 use Rattle.rmm_spec.specs.Cell.{Cell, tag_of}
 use Rattle.rmm_spec.specs.Flat.{flat_state}
 use Rattle.rmm_spec.specs.Shape.{Side, CpuPlace, Outside, Inside, IsWellShaped}
 use Rattle.rmm_spec.specs.Local.{HeldCell, Hold, Agrees, LocalStep}
 use Rattle.world_laws.proofs.Locals.{unchanged-is_local, agrees-at}
-use Rattle.world_laws.proofs.Members.{slice_get-from_Contains}
-use Rattle.world_laws.proofs.Placed.{is_inside-outside, is_inside-inside}
+use Rattle.spec_lemmas.proofs.Members.{slice_get-from_Contains}
+use Rattle.spec_lemmas.proofs.Placed.{is_inside-outside, is_inside-inside}
 
 -- ---- rows
 

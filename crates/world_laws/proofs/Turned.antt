@@ -13,8 +13,8 @@ use Rattle.rmm_spec.specs.declared.turn.Will.{Will}
 use Rattle.rmm_spec.specs.declared.turn.Will.TheVariants as told
 use Rattle.rmm_spec.specs.Waits.{IsRising, Report, Turns, Turn, TurnAll, awaited, waits_after, KeepsWaiting}
 use Rattle.rmm_spec.specs.Waits as turn
-use Rattle.world_laws.proofs.Lists.{put_elim, put-other, keys_apart}
-use Rattle.world_laws.proofs.Members.{cells_at, put_all-other, granules_held-cells_at, cells_at-same}
+use Rattle.spec_lemmas.proofs.Lists.{put_elim, put-other, keys_apart}
+use Rattle.spec_lemmas.proofs.Members.{cells_at, put_all-other, granules_held-cells_at, cells_at-same}
 use Rattle.world_laws.proofs.Locked.{IsLocked, IsLocked-Happens}
 
 -- a move leaves a CPU's phase, place and held cells as they were

@@ -2,7 +2,7 @@ use Rattle.std.proofs.Common.{◌≡◌, ℕ, Bor, List, [], ◌∷◌, get_or, 
 use Rattle.std.specs.Prelude.{IfSome, IfNone}
 use Rattle.rmm_spec.specs.HistoryText.{Config, mark}
 use Rattle.rmm_spec.specs.Text.{decimal}
-use Rattle.rmm_spec.proofs.Texts.{decimal-injective}
+use Rattle.spec_lemmas.proofs.Texts.{decimal-injective}
 use Rattle.bad_lines.specs.Wrong.{IsHeaderOf}
 use Rattle.bad_lines.proofs.lines.cpus_of.Goals as goal
 

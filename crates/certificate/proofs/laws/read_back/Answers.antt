@@ -1,6 +1,6 @@
 use Rattle.std.proofs.Common.{ap, length, arith}
 use Rattle.std.proofs.lemmas.Result.{err_from_is_err_and}
-use Rattle.rmm_spec.proofs.CertificateLines.{same_certificate, not-IsBadLine-certificate}
+use Rattle.spec_lemmas.proofs.CertificateLines.{same_certificate, not-IsBadLine-certificate}
 use Rattle.certificate.proofs.GrammarLemmas.{IsCertificateText-written, some_line, some_text}
 use Rattle.certificate.proofs.laws.read_back.Goals as goal
 

@@ -1,6 +1,6 @@
 use Rattle.std.proofs.Common.{rules, sym, ◌∙◌}
 use Rattle.rmm_spec.specs.declared.line.Line.TheVariants.{Unfinished}
-use Rattle.rmi_codec.proofs.ResultLaws.{IsOkAnd-not_Ok}
+use Rattle.lemmas.proofs.ResultLaws.{IsOkAnd-not_Ok}
 use Rattle.rmi_view.specs.Seen.{reply_seen}
 use Rattle.certificate.proofs.SpellingLemmas.{IsNoLine-head, IsNoUnfinished-letter, IsNoLine-unfinished, IsLineOf-unfinished}
 use Rattle.certificate.proofs.spelled.claimed_from.Goals as goal

@@ -6,7 +6,7 @@ use Rattle.rmi_view.specs.Seen.{command_seen, reply_seen}
 use Rattle.rmm_spec.specs.declared.event.Event.TheVariants.{Called}
 use Rattle.rmm_spec.specs.Linearization.{cpu_named, number_named}
 use Rattle.spec_machine.specs.View.{state_of}
-use Rattle.checker.proofs.Calls.{told_at_call}
+use Rattle.spec_lemmas.proofs.Calls.{told_at_call}
 use Rattle.explain.proofs.Lates.{moves_ok, not_taken}
 use Rattle.explain.proofs.late.takes.Goals as goal
 

@@ -3,7 +3,7 @@ use Rattle.certificate.specs.LineRef.{line_seen}
 use Rattle.rmi_view.specs.Seen.{command_seen, reply_seen}
 use Rattle.rmm_spec.specs.Linearization.{cpu_named, number_named}
 use Rattle.spec_machine.specs.View.{state_of}
-use Rattle.checker.proofs.Calls.{told_at_call}
+use Rattle.spec_lemmas.proofs.Calls.{told_at_call}
 use Rattle.explain.proofs.Replaying.{Passes-taken, line_of_its_kind, not-refused}
 use Rattle.explain.proofs.replay.take_line.Goals as goal
 

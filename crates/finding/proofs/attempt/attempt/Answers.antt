@@ -1,5 +1,5 @@
 use Rattle.rmi_view.specs.Seen.{command_seen}
-use Rattle.checker.proofs.Calls.{told_at_call}
+use Rattle.spec_lemmas.proofs.Calls.{told_at_call}
 use Rattle.finding.proofs.OfferLaws.{called_place}
 use Rattle.finding.proofs.attempt.attempt.Goals as goal
 

@@ -2,7 +2,7 @@
 use Rattle.std.proofs.Common.{List, [], ◌∷◌, ◌++◌, sym, ap, ◌∙◌}
 use Rattle.rmm_spec.specs.declared.event.Event.{Event}
 use Rattle.rmm_spec.specs.HistoryText.{History}
-use Rattle.checker.proofs.Elements.{take-next_at}
+use Rattle.lemmas.proofs.Elements.{take-next_at}
 use Rattle.finding.proofs.first_part.first_part.Goals as goal
 
 pub places-preserved : goal.places-preserved

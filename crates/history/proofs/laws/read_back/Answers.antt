@@ -1,6 +1,6 @@
 use Rattle.std.proofs.Common.{◌++◌, ap, ◌∙◌}
 use Rattle.rmm_spec.specs.HistoryText.{IsHistoryText, history_text}
-use Rattle.rmm_spec.proofs.HistoryGrammar.{same_history, not-IsBadLine-history}
+use Rattle.spec_lemmas.proofs.HistoryGrammar.{same_history, not-IsBadLine-history}
 use Rattle.history.proofs.laws.read_back.Goals as goal
 
 pub returns-in-Ok : goal.returns-in-Ok

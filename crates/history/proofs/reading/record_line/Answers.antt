@@ -1,7 +1,7 @@
 use Rattle.std.proofs.Common.{rules}
 use Rattle.std.proofs.lemmas.Result.{IfOk-weaker, on_err_weaker}
 use Rattle.rmm_spec.specs.Text.{parts_of}
-use Rattle.rmi_codec.proofs.ResultLaws.{IsOkAnd-not_Ok}
+use Rattle.lemmas.proofs.ResultLaws.{IsOkAnd-not_Ok}
 use Rattle.rmi_view.specs.Seen.{command_seen, reply_seen}
 use Rattle.history.proofs.GrammarLaws.{no_event, no_continuation, HasNext-continues}
 use Rattle.history.proofs.SpellingLaws.{IsNoEvent-head, IsNoEvent-letter, IsNoEvent-call, IsNoEvent-return, IsEventOf-call, IsEventOf-return}

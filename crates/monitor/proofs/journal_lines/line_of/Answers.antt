@@ -2,7 +2,7 @@ use Rattle.monitor.proofs.Common.{sym, ap, ◌∙◌, Commitment}
 use Rattle.std.proofs.lemmas.Bool.{iff_false}
 use Rattle.rmi_view.specs.Seen.{command_seen, reply_seen}
 use Rattle.rmm_spec.specs.declared.line.Line.TheVariants.{Unfinished}
-use Rattle.world_laws.proofs.LineOf.{line_for-returned, line_for-unfinished}
+use Rattle.spec_lemmas.proofs.LineOf.{line_for-returned, line_for-unfinished}
 use Rattle.monitor.proofs.journal_lines.line_of.Goals as goal
 
 pub returns-then-has_returned-clause-line : goal.returns-then-has_returned-clause-line

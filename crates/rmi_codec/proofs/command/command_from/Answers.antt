@@ -2,7 +2,7 @@ use Rattle.std.proofs.Common.{◌≡◌, ◌≤◌, refl, ap, sym, ◌∙◌, le
 use Rattle.rmm_spec.specs.CommandText.{command_parts}
 use Rattle.rmm_spec.specs.Function.{number_of, word_count}
 use Rattle.rmm_spec.specs.Text.{word, fixed_hex}
-use Rattle.rmm_spec.proofs.Texts.{fixed_hex-injective, number_of-injective, number_of-lt, map-word-injective}
+use Rattle.spec_lemmas.proofs.Texts.{fixed_hex-injective, number_of-injective, number_of-lt, map-word-injective}
 use Rattle.std.proofs.lemmas.Result.{err_from_is_err_and}
 use Rattle.std.proofs.lemmas.List.{length-map}
 use Rattle.rmi_codec.proofs.FaultLaws.{IsCommandFault-from_words, WordCount-from}

@@ -1,7 +1,7 @@
 use Rattle.std.proofs.Common.{arith, sym, ap, ◌∙◌}
 use Rattle.std.proofs.lemmas.Grind.{pow_more}
 use Rattle.rmm_spec.specs.Text.{glyph}
-use Rattle.rmm_spec.proofs.Texts.{numeral_some}
+use Rattle.spec_lemmas.proofs.Texts.{numeral_some}
 use Rattle.rmi_codec.proofs.FrontLaws.{zero_front}
 use Rattle.rmi_codec.proofs.NumberLaws.{SpellsSoFar-first, SpellsSoFar-more, decimal_below}
 use Rattle.rmi_codec.proofs.front.digits_front.Goals as goal

@@ -1,6 +1,6 @@
 use Rattle.std.proofs.Common.{◌∷◌, ◌∙◌, [], arith, take}
 use Rattle.std.proofs.lemmas.List.{take_more_set, length-set}
-use Rattle.rmm_spec.proofs.Texts.{AllByRecursion-append}
+use Rattle.spec_lemmas.proofs.Texts.{AllByRecursion-append}
 use Rattle.rmi_codec.proofs.FrontLaws.{words_more}
 use Rattle.rmi_codec.proofs.front.words_at.Goals as goal
 

@@ -1,6 +1,6 @@
 use Rattle.std.proofs.Common.{rules, arith, sym, ap, ◌∙◌}
 use Rattle.rmm_spec.specs.Text.{glyph}
-use Rattle.rmm_spec.proofs.Texts.{numeral_some}
+use Rattle.spec_lemmas.proofs.Texts.{numeral_some}
 use Rattle.rmi_codec.proofs.FrontLaws.{zero_front}
 use Rattle.rmi_codec.proofs.HexNumbers.{numeral-lanes}
 use Rattle.rmi_codec.proofs.NumberLaws.{SpellsSoFar-first}

@@ -1,5 +1,5 @@
 use Rattle.std.proofs.Common.{arith, ◌∙◌}
-use Rattle.rmm_spec.proofs.Texts.{glyph-IsPlain}
+use Rattle.spec_lemmas.proofs.Texts.{glyph-IsPlain}
 use Rattle.rmi_codec.proofs.NumberLaws.{SpellsSoFar-first, SpellsSoFar-more}
 use Rattle.rmi_codec.proofs.PrefixLaws.{digits_read, no_numeral-at_other, no_numeral-below}
 use Rattle.rmi_codec.proofs.numeral.longer_prefix.Goals as goal

@@ -1,5 +1,5 @@
 use Rattle.std.proofs.Common.{[], Some, sym, ap, ◌∙◌, arith}
-use Rattle.rmm_spec.proofs.Texts.{numeral-injective}
+use Rattle.spec_lemmas.proofs.Texts.{numeral-injective}
 use Rattle.rmi_codec.proofs.PrefixLaws.{numeral_alone, parts_of-numeral, no_parts_behind}
 use Rattle.rmi_codec.proofs.numeral.numeral_from.Goals as goal
 

@@ -1,7 +1,7 @@
 use Rattle.std.proofs.Common.{◌∷◌, ap, sym, ◌∙◌, codes}
 use Rattle.rmm_spec.specs.declared.reply.Reply.TheVariants as reply
 use Rattle.rmm_spec.specs.CommandText.{reply_parts}
-use Rattle.rmm_spec.proofs.Texts.{map-word-injective}
+use Rattle.spec_lemmas.proofs.Texts.{map-word-injective}
 use Rattle.std.proofs.lemmas.Result.{err_from_is_err_and}
 use Rattle.rmi_codec.proofs.FaultLaws.{IsReplyFault-from_words}
 use Rattle.rmi_codec.proofs.PartLaws.{reply_parts-ok}

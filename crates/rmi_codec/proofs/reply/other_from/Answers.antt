@@ -2,7 +2,7 @@ use Rattle.std.proofs.Common.{◌∷◌, ◌∙◌, sym, ap, length, arith}
 use Rattle.std.proofs.lemmas.Bool.Decides.{Decides-eqb, not_from_Decides}
 use Rattle.std.proofs.lemmas.Slice.Eq.{slice_eq-Decides}
 use Rattle.rmm_spec.specs.CommandText.{reply_parts}
-use Rattle.rmm_spec.proofs.Texts.{reply_parts-some, reply_parts-are_parts}
+use Rattle.spec_lemmas.proofs.Texts.{reply_parts-some, reply_parts-are_parts}
 use Rattle.rmi_codec.proofs.PartLaws.{no_empty_first_part, no_other_form}
 use Rattle.rmi_codec.proofs.reply.other_from.Goals as goal
 

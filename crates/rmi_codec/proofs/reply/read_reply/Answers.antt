@@ -2,7 +2,7 @@ use Rattle.std.proofs.Common.{◌≡◌, ℕ, List, Ok, ap, ◌∙◌, sym}
 use Rattle.rmm_spec.specs.declared.reply.Reply.{Reply}
 use Rattle.rmm_spec.specs.Text.{parts_of}
 use Rattle.rmm_spec.specs.CommandText.{reply_parts, reply_text}
-use Rattle.rmm_spec.proofs.Texts.{parts_of-line_text, reply_parts-some, reply_parts-are_parts}
+use Rattle.spec_lemmas.proofs.Texts.{parts_of-line_text, reply_parts-some, reply_parts-are_parts}
 use Rattle.rmi_codec.proofs.PartLaws.{line_text-from_parts}
 use Rattle.rmi_codec.proofs.reply.read_reply.Goals as goal
 

@@ -4,7 +4,7 @@ use Rattle.rmm_spec.specs.declared.reply.Reply.{Reply}
 use Rattle.rmm_spec.specs.declared.line.Line.TheVariants.{Unfinished}
 use Rattle.rmm_spec.specs.Linearization.{IsReturned, IsFinished}
 use Rattle.command_log.specs.Log.{logged_seen}
-use Rattle.world_laws.proofs.LineOf.{line_for-returned, line_for-unfinished}
+use Rattle.spec_lemmas.proofs.LineOf.{line_for-returned, line_for-unfinished}
 use Rattle.world.specs.Journal.{commitment_of}
 use Rattle.world.proofs.telling.line_for.Goals as goal
 

@@ -2,7 +2,7 @@
 use Rattle.std.proofs.Common.{sym, ◌∙◌}
 use Rattle.std.proofs.lemmas.Result.{IfOk-weaker, on_err_weaker}
 use Rattle.rmm_spec.specs.declared.line.Line.TheVariants.{Keep, Unfinished}
-use Rattle.checker.proofs.Calls.{told_at_return}
+use Rattle.spec_lemmas.proofs.Calls.{told_at_return}
 use Rattle.checker.specs.Replay.{IsDue}
 use Rattle.rmi_view.specs.Seen.{reply_seen}
 use Rattle.checker.proofs.Judging.{IsDue-kept, IsDue-unfinished, MatchOption-at_not_some}

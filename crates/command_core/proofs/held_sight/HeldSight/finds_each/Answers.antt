@@ -1,7 +1,7 @@
 use Rattle.std.proofs.Common.{◌≡◌, ℕ, ◌+◌, ◌*◌, Bool, false, sym, subst, arith}
 use Rattle.rmm_spec.specs.Lookup.{any_below}
 use Rattle.rmm_spec.specs.Walk.{passes, entry_at, has_entry}
-use Rattle.world_laws.proofs.Placed.{any_below-from}
+use Rattle.spec_lemmas.proofs.Placed.{any_below-from}
 use Rattle.walk_laws.specs.SeenState.{seen_state}
 use Rattle.command_core.proofs.held_sight.HeldSight.finds_each.Goals as goal
 

@@ -1,5 +1,5 @@
 -- A call that isn't there hasn't returned.
-use Rattle.rmm_spec.proofs.Places.{finished_is_known}
+use Rattle.spec_lemmas.proofs.Places.{finished_is_known}
 use Rattle.history.proofs.history.History.has_returned.Goals as goal
 
 pub returns-in-None : goal.returns-in-None

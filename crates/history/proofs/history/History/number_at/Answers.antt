@@ -2,7 +2,7 @@
 use Rattle.std.proofs.Common.{◌==◌, ap, sym, ◌∙◌, arith, subst}
 use Rattle.std.proofs.lemmas.List.Sums.{length-filter, count_by-le-length}
 use Rattle.rmm_spec.specs.HistoryText.{cpu_of}
-use Rattle.rmm_spec.proofs.Places.{IsEvent-slice_get}
+use Rattle.spec_lemmas.proofs.Places.{IsEvent-slice_get}
 use Rattle.history.specs.Entry.{event_of}
 use Rattle.history.specs.Index.{HasRank}
 use Rattle.history.proofs.EntryLaws.{IsEntryAt-read, cpu_of-event_of, within_entries}

@@ -1,6 +1,6 @@
 use Rattle.spec_machine.proofs.Common.{ap, arith, state_in}
 use Rattle.rmm_spec.specs.declared.walked.Walked.{Walked}
-use Rattle.rmm_spec.proofs.WalkLaws.{reach-le}
+use Rattle.spec_lemmas.proofs.WalkLaws.{reach-le}
 use Rattle.spec_machine.proofs.sight.MachineSight.walk.Goals as goal
 
 pub returns-clause-within : goal.returns-clause-within

@@ -1,6 +1,6 @@
 use Rattle.std.proofs.Common.{◌≡◌, ◌<◌, ◌-◌, Some, length, slice_get, List, ℕ, sym, ap, ◌∙◌, subst}
 use Rattle.std.specs.Prelude.{option_copied}
-use Rattle.world_laws.proofs.Members.{Contains-from_slice_get}
+use Rattle.spec_lemmas.proofs.Members.{Contains-from_slice_get}
 use Rattle.world.specs.Whole.{world_from}
 use Rattle.world.specs.World.{world_of}
 use Rattle.world.proofs.Taking.{no_last, last-of, nothing_learnt, free-last}

@@ -5,7 +5,7 @@ use Rattle.std.proofs.lemmas.Bool.Decides.{nat_tests}
 use Rattle.rmm_spec.specs.Walk.{table_number}
 use Rattle.rmm_spec.specs.Table.{TableRecord, place_number, covers}
 use Rattle.rmm_spec.specs.TableCells.{TableCell, table_in, is_table_at, flat_table, ArePlaced, IsOnPath}
-use Rattle.rtt_walk.proofs.Finds.{find_is, find_some, option_map_some}
+use Rattle.lemmas.proofs.Finds.{find_is, find_some, option_map_some}
 
 -- the table of a realm, level and number
 pub record IsAtSpot (cells : List TableCell) (rd level number granule : ℕ) (table : TableRecord) : Type 0 where

@@ -1,4 +1,3 @@
-pub mod Tests
 pub mod Texts
 pub mod Limits
 pub mod Lines
@@ -9,3 +8,12 @@ pub mod Places
 pub mod TagLaws
 pub mod WalkLaws
 pub mod Behind
+pub mod Calls
+pub mod Lists
+pub mod Members
+pub mod Placed
+pub mod Opening
+pub mod LineOf
+pub mod TableSearches
+pub mod FlatTables
+pub mod WalkPaths

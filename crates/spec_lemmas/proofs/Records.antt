@@ -8,7 +8,7 @@ use Rattle.std.proofs.lemmas.List.{length_push}
 use Rattle.std.proofs.lemmas.List.Elements.{filter-append}
 use Rattle.rmm_spec.specs.declared.event.Event.{Event}
 use Rattle.rmm_spec.specs.HistoryText.{Config, History, IsHistory, IsEvent, CanFollow, Stand, start, stand_after, stand_from, subhistory_of, cpu_of, IsRecord}
-use Rattle.rmm_spec.proofs.Places.{subhistory_of-same, subhistory_of-other}
+use Rattle.spec_lemmas.proofs.Places.{subhistory_of-same, subhistory_of-other}
 
 -- the event belongs to the CPU, and goes to the end of its part
 pub subhistory_of-push_same : (cpu : ℕ) (events : List Event) (event : Event) → cpu_of event ≡ cpu → subhistory_of cpu (events ++ event ∷ []) ≡ subhistory_of cpu events ++ event ∷ []

@@ -7,7 +7,7 @@ use Rattle.rmm_spec.specs.declared.entry.Entry.TheVariants.{Unassigned, Assigned
 use Rattle.rmm_spec.specs.State.{State}
 use Rattle.rmm_spec.specs.declared.accepted.Stretch.{Stretch}
 use Rattle.rmm_spec.specs.Step.Ripas.{can_be_set, IsReached}
-use Rattle.rmm_spec.proofs.Tests.{both_ways}
+use Rattle.lemmas.proofs.Tests.{both_ways}
 use Rattle.rmm_spec.specs.Walk.{entry_size, table_size, entry_number, table_number, is_multiple, is_table, linked_entry, entry_at, entry_for, reach, IsWalk}
 
 -- ---- sizes

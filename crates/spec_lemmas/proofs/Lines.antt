@@ -3,7 +3,7 @@ use Rattle.std.proofs.Common.{◌≡◌, ◌≢◌, ℕ, zero, suc, ◌+◌, ◌
 use Rattle.std.proofs.lemmas.Bool.{ne_eqb}
 use Rattle.std.proofs.lemmas.List.{append-nil}
 use Rattle.std.specs.List.{AllByRecursion}
-use Rattle.rmm_spec.proofs.Texts.{IsPart, line_text-has_no_newline, parts_of-line_text}
+use Rattle.spec_lemmas.proofs.Texts.{IsPart, line_text-has_no_newline, parts_of-line_text}
 use Rattle.rmm_spec.specs.Text.{line_text, lines_text, parts_of, first_lines, IsBadLine, HasNoNewline}
 
 -- The parts are one line: their text has no newline, and its parts are these.

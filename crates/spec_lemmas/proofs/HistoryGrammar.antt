@@ -5,8 +5,8 @@ use Rattle.std.specs.List.{AllByRecursion}
 use Rattle.std.specs.Option.{option_and_then}
 use Rattle.std.proofs.lemmas.List.{take-map}
 use Rattle.std.proofs.lemmas.List.Elements.{filter-append}
-use Rattle.rmm_spec.proofs.Lines.{AreOneLineEach, AreOneLineEach-map, IsOneLine-from_parts, IsLineGrammar, not-IsBadLine, same_lines}
-use Rattle.rmm_spec.proofs.Texts.{config_parts-are_parts, config_parts-injective, event_parts-some, event_parts-are_parts, event_parts-injective}
+use Rattle.spec_lemmas.proofs.Lines.{AreOneLineEach, AreOneLineEach-map, IsOneLine-from_parts, IsLineGrammar, not-IsBadLine, same_lines}
+use Rattle.spec_lemmas.proofs.Texts.{config_parts-are_parts, config_parts-injective, event_parts-some, event_parts-are_parts, event_parts-injective}
 use Rattle.rmm_spec.specs.HistoryText.{History, IsHistory, IsEvent, Stand, start, stand_after, stand_from, subhistory_of, cpu_of, IsRecord, config_parts, event_parts, IsHistoryText, InHistories}
 use Rattle.rmm_spec.specs.Text.{IsBadLine, lines_text}
 use Rattle.rmm_spec.specs.declared.event.Event.{Event}

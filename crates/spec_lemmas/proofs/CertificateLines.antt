@@ -2,8 +2,8 @@
 use Rattle.std.proofs.Common.{◌≡◌, ℕ, zero, suc, List, [], ◌∷◌, map, take, refl, sym, ap, ◌∙◌, subst, arith, length-take}
 use Rattle.std.proofs.lemmas.List.{take-map}
 use Rattle.std.specs.List.{AllByRecursion}
-use Rattle.rmm_spec.proofs.Lines.{AreOneLineEach, AreOneLineEach-map, IsLineGrammar, not-IsBadLine, same_lines}
-use Rattle.rmm_spec.proofs.Texts.{line_parts-some, line_parts-are_parts, line_parts-injective}
+use Rattle.spec_lemmas.proofs.Lines.{AreOneLineEach, AreOneLineEach-map, IsLineGrammar, not-IsBadLine, same_lines}
+use Rattle.spec_lemmas.proofs.Texts.{line_parts-some, line_parts-are_parts, line_parts-injective}
 use Rattle.rmm_spec.specs.CertificateText.{IsLine, IsCertificate, IsCertificateText, InCertificates, certificate_text, line_parts}
 use Rattle.rmm_spec.specs.Text.{IsBadLine, lines_text}
 use Rattle.rmm_spec.specs.declared.line.Line.{Line}

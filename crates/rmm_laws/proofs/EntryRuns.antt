@@ -12,7 +12,7 @@ use Rattle.rmm_spec.specs.Run.{JournalEntry, IsRun}
 use Rattle.rmm_laws.proofs.StepLaws.{step-decides}
 use Rattle.rmm_spec.specs.Linearization.{IsEntryOf, AreEntriesOf}
 use Rattle.rmm_spec.specs.FirstFault.{IsRefused}
-use Rattle.checker.proofs.Calls.{HasOnePlaces, SameEntries, same_entry}
+use Rattle.spec_lemmas.proofs.Calls.{HasOnePlaces, SameEntries, same_entry}
 
 -- one more line claims one more commit
 pub AreEntriesOf-push : (events : List Event) (lines : List Line) (entries : List JournalEntry) (line : Line) (entry : JournalEntry)

@@ -1,0 +1,4 @@
+pub mod Tests
+pub mod Elements
+pub mod ResultLaws
+pub mod Finds
