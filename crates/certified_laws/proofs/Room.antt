@@ -8,7 +8,7 @@ use Rattle.rmm_spec.specs.HistoryText.{Config}
 use Rattle.rmm_spec.specs.Cell.{put}
 use Rattle.rmm_spec.specs.World.{World, Phase, Between, Deciding, Decided, GivenUp, Stopped, opening_world, phase_learnt, Move, Moves, Happens, HappenAll}
 use Rattle.rmm_spec.specs.World as world
-use Rattle.spec_lemmas.proofs.Lists.{put_elim}
+use Rattle.spec_lemmas.proofs.Maps.{put_elim, put-here}
 use Rattle.certified_laws.specs.Programs.{commands_below}
 
 -- ---- sums
@@ -53,9 +53,6 @@ abbrev IsWithin : ℕ → World → Type 0
 IsWithin bound w = length w.events + sum_below w.config.cpus (left_at w) ≤ bound
 
 -- ---- moves
-
-put-here : {A : Type 0} (values : ℕ → A) (key : ℕ) (value : A) → put values key value key ≡ value
-put-here values key value = rw (eq-eqb key key refl) refl
 
 -- a CPU goes on, and brings so many events
 within-put : (bound count cpus cpu d : ℕ) (phase : ℕ → Phase) (p : Phase) (old new : ℕ → List Command) → cpu < cpus

@@ -17,12 +17,13 @@ use Rattle.rmm_spec.specs.World.{World, Phase, Between, Deciding, Decided, Given
 use Rattle.rmm_spec.specs.World as world
 use Rattle.spec_lemmas.proofs.Places.{IsEvent-slice_get}
 use Rattle.spec_lemmas.proofs.Records.{subhistory_of-push_same, subhistory_of-push_other, stand_from-push_at, AllByRecursion-push}
-use Rattle.spec_lemmas.proofs.Lists.{put_elim, slice_get-push_cases}
+use Rattle.spec_lemmas.proofs.Maps.{put_elim}
 use Rattle.world_laws.proofs.Recorded.{Agrees-own, IsAccounted, AtPhase, IsAccounted-HappenAll, IsAccounted-opening}
 use Rattle.certified_laws.specs.Programs.{HaveTexts}
 use Rattle.spec_lemmas.proofs.Opening.{flat_state-opening}
 use Rattle.certified_laws.proofs.Told.{StateFits, StateFits-opening}
 use Rattle.certified_laws.proofs.Replies.{IsReply-Step}
+use Rattle.lemmas.proofs.Elements.{slice_get-push_cases}
 
 -- ---- where each CPU stands
 

@@ -7,5 +7,4 @@ pub mod Verdicts
 pub mod SessionLaws
 pub mod Refusals
 pub mod Offers
-pub mod Cuts
 pub mod Decimals

@@ -16,7 +16,7 @@ use Rattle.rmm_spec.specs.Run.{JournalEntry}
 use Rattle.rmm_spec.specs.Linearization.{IsCalled, ReturnsBefore, cpu_named, number_named, NamesCall, IsOfItsKind, IsNamed, IsTooLate, NamesCalls, KeepsRealTime, IsReplyOf, IsEntryOf}
 use Rattle.rmm_spec.specs.FirstFault.{Passes}
 use Rattle.checker.specs.Progress.{IsCallOf, Progress}
-use Rattle.lemmas.proofs.Elements.{slice_get-append_left, slice_get_push, slice_get_push_cases}
+use Rattle.lemmas.proofs.Elements.{slice_get_push_cases, slice_get-append, slice_get-push}
 use Rattle.spec_lemmas.proofs.Calls.{HasOnePlaces}
 use Rattle.rmm_laws.proofs.RunLaws.{run-snoc}
 use Rattle.rmm_laws.proofs.EntryRuns.{AreEntriesOf-push}
@@ -142,11 +142,11 @@ module _ (history : History) (one : HasOnePlaces history.events) (lines : List L
     | inl same ↦
         let same_call = same_cpu history.events called (cpu_named line) (number_named line) cpu number follows.command command follows.is_called
         (subst (λ (p : ℕ). IsCalled history.events p cpu number command) same is) in
-        (length lines, line, slice_get_push lines line, same_call.0, same_call.1)
+        (length lines, line, slice_get-push lines line, same_call.0, same_call.1)
     | inr other ↦
         let old_flag : get_or named place false ≡ true = sym (get_or-set_other named called place true false other) ∙ set_there in
         let is_named = progress.flagged place cpu number command is old_flag in
-        (is_named.0, is_named.1, slice_get-append_left lines (line ∷ []) is_named.0 is_named.1 is_named.2, is_named.3, is_named.4)
+        (is_named.0, is_named.1, slice_get-append lines (line ∷ []) is_named.0 is_named.1 is_named.2, is_named.3, is_named.4)
   ]
 
   unflagged_push : Progress history lines named latest old → Follows history lines old line called new → (place cpu number : ℕ) (command : Command)
@@ -185,7 +185,7 @@ module _ (history : History) (one : HasOnePlaces history.events) (lines : List L
           is.0,
           is.1,
           is.2,
-          slice_get-append_left lines (line ∷ []) is.0 is.1 is.3,
+          slice_get-append lines (line ∷ []) is.0 is.1 is.3,
           subst (λ (p : ℕ). IsCalled history.events p (cpu_named is.1) (number_named is.1) is.2) (sym same) is.4,
         )
     | inr above ↦
@@ -193,7 +193,7 @@ module _ (history : History) (one : HasOnePlaces history.events) (lines : List L
           length lines,
           line,
           follows.command,
-          slice_get_push lines line,
+          slice_get-push lines line,
           subst (λ (p : ℕ). IsCalled history.events p (cpu_named line) (number_named line) follows.command) (sym same) follows.is_called,
         )
   ]

@@ -24,7 +24,7 @@ use Rattle.checker.specs.declared.session.Session.{Session}
 use Rattle.checker.proofs.Verdicts.{Judges-from_order}
 use Rattle.checker.specs.declared.failure.Failure.{Failure}
 use Rattle.checker.specs.declared.replay.Replay.{Replay}
-use Rattle.lemmas.proofs.Elements.{slice_get-append_left, slice_get_push}
+use Rattle.lemmas.proofs.Elements.{slice_get-append, slice_get-push}
 
 -- the first line that fails stays the first
 FailsAt-push : (history : History) (lines : List Line) (next : Line) (step : ℕ) (why : Reason) → FailsAt history lines step why
@@ -36,7 +36,7 @@ FailsAt-push history lines next step why fails =
       index = fails.index;
       counted = fails.counted;
       line = fails.line;
-      is_line = slice_get-append_left lines (next ∷ []) fails.index fails.line fails.is_line;
+      is_line = slice_get-append lines (next ∷ []) fails.index fails.line fails.is_line;
       old = fails.old;
       before = subst (λ (ls : List Line). Passes history ls fails.old) (sym same) fails.before;
       fails = subst (λ (ls : List Line). FailsBy why history.events ls fails.old fails.line) (sym same) fails.fails;
@@ -58,7 +58,7 @@ FailsAt-last history lines next step why old counted passes fails =
       index = length lines;
       counted = counted;
       line = next;
-      is_line = slice_get_push lines next;
+      is_line = slice_get-push lines next;
       old = old;
       before = subst (λ (ls : List Line). Passes history ls old) (sym front) passes;
       fails = subst (λ (ls : List Line). FailsBy why history.events ls old next) (sym front) fails;

@@ -28,8 +28,8 @@ use Rattle.rmm_spec.specs.Flat.{flat_state}
 use Rattle.rmm_spec.specs.Shape.{Outside, Inside, IsWellShaped, CpuPlace}
 use Rattle.rmm_spec.specs.Local.{HeldCell, Hold, granules_held, put_all}
 use Rattle.rmm_sound.proofs.Runs.{done_applies}
-use Rattle.world_laws.proofs.Locals.{unchanged-is_local, step-is_local, put-same}
-use Rattle.spec_lemmas.proofs.Lists.{put-other}
+use Rattle.world_laws.proofs.Locals.{unchanged-is_local, step-is_local}
+use Rattle.spec_lemmas.proofs.Maps.{put-other, put-same}
 use Rattle.world_laws.proofs.Refusals.{Step-refused}
 use Rattle.shape_laws.specs.Whole.{cells_changed, side_changed, side_without_vmid, side_without_rec, places_changed, places_of_rec, places_with_rec_change, table_changed, cell_with_tag, cell_with_realm, cell_with_rec}
 use Rattle.shape_laws.proofs.Accepted.{done-keeps_shape}

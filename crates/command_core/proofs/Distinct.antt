@@ -5,11 +5,7 @@ use Rattle.std.specs.List.{list_any}
 use Rattle.std.proofs.lemmas.Bool.{false≢true, and_parts, and_from, not-true}
 use Rattle.std.proofs.lemmas.Bool.Decides.{nat_tests}
 use Rattle.command_core.specs.Seen.{are_distinct}
-
--- where neither of two tests passes
-pub either : (b c : Bool) → (b || c) ≡ false → (b ≡ false) × (c ≡ false)
-either true c is = absurd (false≢true (sym is))
-either false c is = (refl, is)
+use Rattle.lemmas.proofs.Tests.{either}
 
 -- none is the granule, so with one more none is
 any-push : (gs : List ℕ) (g x : ℕ) → list_any (λ other. other == x) gs ≡ false → (g == x) ≡ false → list_any (λ other. other == x) (gs ++ g ∷ []) ≡ false

@@ -7,13 +7,13 @@ use Rattle.std.proofs.lemmas.Bool.Decides.{nat_tests}
 use Rattle.std.proofs.lemmas.List.Quantifiers.{position-Some}
 use Rattle.std.proofs.lemmas.List.Sums.{fails_before_first}
 use Rattle.world_laws.specs.Replaced.{replaced_cells}
-use Rattle.spec_lemmas.proofs.Lists.{map-push}
 use Rattle.command_core.specs.Seen.{cell_of, cell_in, is_held, are_distinct}
-use Rattle.command_core.proofs.Distinct.{either}
 use Rattle.core_tests.specs.Plain.{held_of}
 use Rattle.granule_cells.specs.declared.cell.Cell.{Cell}
 use Rattle.granule_cells.specs.declared.cell.Cell.TheVariants.{Undelegated}
 use Rattle.core_tests.specs.declared.plain_held.PlainCell.{PlainCell}
+use Rattle.lemmas.proofs.Elements.{map-push}
+use Rattle.lemmas.proofs.Tests.{either, no_place}
 
 abbrev pub granules_of : List PlainCell → List ℕ
 granules_of entries = map (λ (e : PlainCell). e.granule) entries
@@ -40,10 +40,6 @@ pub cell_in-place : (entries : List PlainCell) (g i : ℕ) (e : PlainCell) → p
 cell_in-place entries g i e is at =
     let place = position-Some (λ (x : PlainCell). x.granule == g) entries i e is in
     found-at entries g i e place.0 place.1 place.2 ∙ ap (λ (x : PlainCell). Some (cell_of x.cell)) (sym at)
-
-no_place : (b : Bool) (n : ℕ) → cond b (Some n) None ≡ None → b ≡ false
-no_place true n is = absurd cc
-no_place false n is = refl
 
 pub cell_in-no_place : (entries : List PlainCell) (g : ℕ) → position (λ (x : PlainCell). x.granule == g) entries ≡ None → cell_in g (map held_of entries) ≡ None
 cell_in-no_place entries g is =

@@ -1,7 +1,7 @@
 -- Passes that hear of what was drained, one after the other.
 use Rattle.event_queue.proofs.Common.{◌≡◌, ℕ, zero, suc, List, [], ◌∷◌, ◌++◌, map, take, Some, refl, subst, slice_get, Event, CpuView, hearing}
 use Rattle.std.proofs.Common.{drop}
-use Rattle.spec_lemmas.proofs.Lists.{slice_get-map_from}
+use Rattle.lemmas.proofs.Elements.{slice_get-map_from}
 
 -- a list of which the first so many elements were replaced
 abbrev pub replaced_before : {X : Type 0} → (X → X) → ℕ → List X → List X

@@ -6,11 +6,11 @@ use Rattle.crossbeam_queue.specs.Fifo.{Held}
 use Rattle.rmm_spec.specs.Cell.{put}
 use Rattle.rmm_spec.specs.Linearization.{AreEntriesOf, IsCalled}
 use Rattle.rmm_spec.specs.World.{Commitment}
-use Rattle.spec_lemmas.proofs.Lists.{slice_get-append, slice_get-push}
 use Rattle.world_laws.proofs.Recorded.{AreBelow, HasCommitted, entry_of, AreRecorded-called, AreRecorded-returned, AreRecorded-committed}
 use Rattle.world_laws.proofs.Certified.{commit_of, IsOrderOf-line_for, AreEntriesOf-commits}
 use Rattle.event_queue.specs.Numbered.{AreInOrder, lines_for, numbered_from}
 use Rattle.event_queue.specs.Stages.{stage_after}
+use Rattle.lemmas.proofs.Elements.{slice_get-append, slice_get-push}
 
 -- ---- numbers
 

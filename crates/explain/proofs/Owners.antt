@@ -4,13 +4,13 @@ use Rattle.std.specs.List.{slice_get}
 use Rattle.std.proofs.lemmas.Bool.{cases_lt, false_from_ne_true}
 use Rattle.std.proofs.lemmas.List.{length-append}
 use Rattle.std.proofs.lemmas.Option.{none-some, same_Some, slice_get_within}
-use Rattle.lemmas.proofs.Elements.{slice_get-append_left, slice_get_push}
 use Rattle.rmm_spec.specs.Lookup.{is_granule}
 use Rattle.rmm_spec.specs.Ownership.{IsTied}
 use Rattle.rmm_spec.specs.State.{State}
 use Rattle.spec_machine.specs.declared.owner_report.OwnerRow.{OwnerRow}
 use Rattle.spec_machine.specs.Report.{AddsOwners, owner_rows}
 use Rattle.machine_cells.proofs.Kept.{granule_placed, place_within, place-granule}
+use Rattle.lemmas.proofs.Elements.{slice_get-append, slice_get-push}
 
 -- the row of a place
 abbrev pub owner_row : State → (ℕ → Option ℕ) → ℕ → OwnerRow
@@ -29,12 +29,12 @@ unfolding owner_rows
 slice_get-owner_rows s owner zero k within = absurd (let bad : ⊥ = omega (arith, within) in bad)
 slice_get-owner_rows s owner (suc n) k within = elim (cases_lt k n) [
   | inl before ↦
-      slice_get-append_left (owner_rows s owner n) (owner_row s owner n ∷ []) k (owner_row s owner k) (slice_get-owner_rows s owner n k before)
+      slice_get-append (owner_rows s owner n) (owner_row s owner n ∷ []) k (owner_row s owner k) (slice_get-owner_rows s owner n k before)
   | inr after ↦
       let same : n ≡ k = omega (arith, within, after) in
       let place : length (owner_rows s owner n) ≡ k = length-owner_rows s owner n ∙ same in
       subst (λ (x : ℕ). slice_get (owner_rows s owner n ++ (owner_row s owner n ∷ [])) x ≡ Some (owner_row s owner k)) place
-      (slice_get_push (owner_rows s owner n) (owner_row s owner n) ∙ ap (λ (x : ℕ). Some (owner_row s owner x)) same)
+      (slice_get-push (owner_rows s owner n) (owner_row s owner n) ∙ ap (λ (x : ℕ). Some (owner_row s owner x)) same)
 ]
 
 -- a row is that of its place

@@ -17,7 +17,7 @@ use Rattle.rmm_spec.specs.Rows.{ok}
 use Rattle.rmm_spec.specs.State.{State, opening}
 use Rattle.rmm_spec.specs.FirstFault.{IsRefused, Passes}
 use Rattle.rmm_spec.specs.Linearization.{IsFinished, IsLinearization, IsOfItsKind, cpu_named, number_named}
-use Rattle.lemmas.proofs.Elements.{slice_get-append_left, slice_get_push, slice_get_push_cases}
+use Rattle.lemmas.proofs.Elements.{slice_get_push_cases, slice_get-append, slice_get-push}
 use Rattle.spec_machine.specs.View.{state_of}
 use Rattle.spec_machine.specs.declared.machine.Machine.{Machine}
 use Rattle.order_laws.specs.Order.{count_of, LeadsNowhere, Reaches, ReturnBehind, Grows}
@@ -129,12 +129,12 @@ pub AreFrames-pop : (history : History) (frames : List Frame) (frame : Frame) �
 AreFrames-pop history frames frame are = λ i one is.
     let within = slice_get_within frames i one is in
     subst (λ (fs : List Frame). StandsAt history (lines_of fs) one) (take-append-le i frames (frame ∷ []) (omega (arith, within)))
-    (are i one (slice_get-append_left frames (frame ∷ []) i one is))
+    (are i one (slice_get-append frames (frame ∷ []) i one is))
 
 pub last_frame : (history : History) (frames : List Frame) (frame : Frame) → AreFrames history (frames ++ frame ∷ []) → StandsAt history (lines_of frames) frame
 last_frame history frames frame are =
     subst (λ (fs : List Frame). StandsAt history (lines_of fs) frame) (take-append_seam frames (frame ∷ []))
-    (are (length frames) frame (slice_get_push frames frame))
+    (are (length frames) frame (slice_get-push frames frame))
 
 -- ---- checkpoints
 

@@ -16,16 +16,7 @@ use Rattle.history.specs.declared.subhistory.Subhistory.{Subhistory}
 use Rattle.history.specs.Calls.{ArePlacesOf}
 use Rattle.history.specs.Spelling.{call_number}
 use Rattle.history.specs.Index.{HasRank, IsSubhistory, IsIndexed}
-
--- what stands at a place stays there
-pub slice_get-append : {X : Type 0} (xs ys : List X) (place : ℕ) (x : X) → slice_get xs place ≡ Some x → slice_get (xs ++ ys) place ≡ Some x
-slice_get-append [] ys place x is = absurd (none-some x is)
-slice_get-append (first ∷ xs) ys zero x is = is
-slice_get-append (first ∷ xs) ys (suc place) x is = slice_get-append xs ys place x is
-
-pub slice_get-push : {X : Type 0} (xs : List X) (x : X) → slice_get (xs ++ x ∷ []) (length xs) ≡ Some x
-slice_get-push [] x = refl
-slice_get-push (first ∷ xs) x = slice_get-push xs x
+use Rattle.lemmas.proofs.Elements.{slice_get-append, slice_get-push}
 
 -- ---- which event is a CPU's next
 

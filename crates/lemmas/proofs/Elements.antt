@@ -1,18 +1,7 @@
--- Elements of a list that has one more at its end, and of a list's front.
-use Rattle.std.proofs.Common.{◌≡◌, ℕ, zero, suc, ◌+◌, ◌<◌, List, [], ◌∷◌, ◌++◌, ◌⊎◌, inl, inr, length, take, Some, refl, ap, arith, add-one}
+-- Elements of a list that has more at its end, of a list's front, and of one that is mapped.
+use Rattle.std.proofs.Common.{◌≡◌, ℕ, zero, suc, ◌+◌, ◌<◌, List, [], ◌∷◌, ◌++◌, ◌⊎◌, inl, inr, length, take, Some, refl, ap, arith, add-one, map, sym}
 use Rattle.std.specs.List.{slice_get}
 use Rattle.std.proofs.lemmas.Option.{none-some, same_Some}
-
--- an element stays where it is when more follow
-pub slice_get-append_left : {X : Type 0} (xs ys : List X) (i : ℕ) (x : X) → slice_get xs i ≡ Some x → slice_get (xs ++ ys) i ≡ Some x
-slice_get-append_left [] ys i x is = absurd (none-some x is)
-slice_get-append_left (y ∷ xs) ys zero x is = is
-slice_get-append_left (y ∷ xs) ys (suc i) x is = slice_get-append_left xs ys i x is
-
--- the element at the end
-pub slice_get_push : {X : Type 0} (xs : List X) (y : X) → slice_get (xs ++ y ∷ []) (length xs) ≡ Some y
-slice_get_push [] y = refl
-slice_get_push (x ∷ xs) y = slice_get_push xs y
 
 -- an element of the longer list is an old one or the one at the end
 pub slice_get_push_cases : {X : Type 0} (xs : List X) (y : X) (i : ℕ) (x : X) → slice_get (xs ++ y ∷ []) i ≡ Some x
@@ -38,3 +27,42 @@ take-suc_at (y ∷ xs) (suc i) x is = ap (λ zs. y ∷ zs) (take-suc_at xs i x i
 
 pub take-next_at : {X : Type 0} (xs : List X) (i : ℕ) (x : X) → slice_get xs i ≡ Some x → take (i + 1) xs ≡ take i xs ++ x ∷ []
 take-next_at xs i x is = rw add-one (take-suc_at xs i x is)
+
+-- an element keeps its place when others are put behind
+pub slice_get-append : {X : Type 0} (xs ys : List X) (i : ℕ) (x : X) → slice_get xs i ≡ Some x → slice_get (xs ++ ys) i ≡ Some x
+slice_get-append [] ys i x is = absurd (none-some x is)
+slice_get-append (first ∷ xs) ys zero x is = is
+slice_get-append (first ∷ xs) ys (suc i) x is = slice_get-append xs ys i x is
+
+-- one that is put behind has the next place
+pub slice_get-push : {X : Type 0} (xs : List X) (y : X) → slice_get (xs ++ y ∷ []) (length xs) ≡ Some y
+slice_get-push [] y = refl
+slice_get-push (first ∷ xs) y = slice_get-push xs y
+
+-- an element is an earlier one, or the one that was put behind
+pub slice_get-push_cases : {X : Type 0} (xs : List X) (y : X) (i : ℕ) (x : X) → slice_get (xs ++ y ∷ []) i ≡ Some x
+    → (slice_get xs i ≡ Some x) ⊎ ((i ≡ length xs) × (y ≡ x))
+slice_get-push_cases [] y zero x is = inr (refl, same_Some y x is)
+slice_get-push_cases [] y (suc i) x is = absurd (none-some x is)
+slice_get-push_cases (first ∷ xs) y zero x is = inl is
+slice_get-push_cases (first ∷ xs) y (suc i) x is = next (slice_get-push_cases xs y i x is)
+  where
+    next : (slice_get xs i ≡ Some x) ⊎ ((i ≡ length xs) × (y ≡ x)) → (slice_get xs i ≡ Some x) ⊎ ((suc i ≡ suc (length xs)) × (y ≡ x))
+    next (inl earlier) = inl earlier
+    next (inr last) = inr (ap suc last.0, last.1)
+
+-- what a mapped list has at a place comes from an element there
+pub slice_get-map_from : {X Y : Type 0} (f : X → Y) (xs : List X) (i : ℕ) (y : Y) → slice_get (map f xs) i ≡ Some y
+    → (x : X) × (slice_get xs i ≡ Some x) × (f x ≡ y)
+slice_get-map_from f [] i y is = absurd (none-some y is)
+slice_get-map_from f (x ∷ xs) zero y is = (x, refl, same_Some (f x) y is)
+slice_get-map_from f (x ∷ xs) (suc i) y is = slice_get-map_from f xs i y is
+
+pub slice_get-map_to : {X Y : Type 0} (f : X → Y) (xs : List X) (i : ℕ) (x : X) → slice_get xs i ≡ Some x → slice_get (map f xs) i ≡ Some (f x)
+slice_get-map_to f [] i x is = absurd (none-some x is)
+slice_get-map_to f (first ∷ xs) zero x is = ap (λ z. Some (f z)) (same_Some first x is)
+slice_get-map_to f (first ∷ xs) (suc i) x is = slice_get-map_to f xs i x is
+
+pub map-push : {X Y : Type 0} (f : X → Y) (xs : List X) (x : X) → map f (xs ++ x ∷ []) ≡ map f xs ++ f x ∷ []
+map-push f [] x = refl
+map-push f (first ∷ xs) x = ap (λ zs. f first ∷ zs) (map-push f xs x)

@@ -27,7 +27,7 @@ length-numeral base most (suc n) h some below =
     rw (numeral_some base (suc n) (let e : 0 < suc n = omega arith in e))
     (omega (arith, length-map (digits_of base (suc n)) glyph, length-digits_of-le base most (suc n) h below))
 
-length-decimal : (most n : ℕ) → 1 ≤ most → n < 10 ^ most → length (decimal n) ≤ most
+pub length-decimal : (most n : ℕ) → 1 ≤ most → n < 10 ^ most → length (decimal n) ≤ most
 unfolding decimal
 length-decimal most n some below = length-numeral 10 most n (lit≤ tt) some below
 

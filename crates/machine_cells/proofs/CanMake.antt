@@ -25,7 +25,6 @@ use Rattle.rmm_spec.specs.Shape.{count_below}
 use Rattle.rmm_spec.specs.Sound.{IsTableOf}
 use Rattle.rmm_spec.specs.State.{State, RealmRecord, RecRecord}
 use Rattle.rmm_spec.specs.Walk.{is_table, table_size}
-use Rattle.rmm_sound.proofs.Cases.{both_ways}
 use Rattle.rmm_sound.proofs.Entries.{leaf_there}
 use Rattle.rmm_sound.proofs.Searches.{realm_there, rec_there}
 use Rattle.rmm_sound.proofs.Spaces.{space_cases}
@@ -37,6 +36,7 @@ use Rattle.machine_cells.specs.Changes.{CanGetTag, CanUpdate, TakesIndex}
 use Rattle.machine_cells.specs.Whole.{cells_of, count_of, whole_of, state_in, IsShapedIn}
 use Rattle.machine_cells.proofs.Found.{sound_in}
 use Rattle.machine_cells.proofs.Tagged.{granule_tagged}
+use Rattle.lemmas.proofs.Tests.{both_ways}
 
 -- ---- granules that are freed
 

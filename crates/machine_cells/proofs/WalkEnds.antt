@@ -9,7 +9,7 @@ use Rattle.rmm_spec.specs.State.{State, RealmRecord}
 use Rattle.rmm_spec.specs.Step.Terms.{is_space}
 use Rattle.rmm_spec.specs.Walk.{entry_number, table_number, table_size, entry_at, entry_for, linked_entry, reach, walk, full, IsWalk}
 use Rattle.rmm_spec.specs.Sound.{IsSound}
-use Rattle.spec_lemmas.proofs.WalkLaws.{table_number-suc, reach-zero, reach-le, reach-covers}
+use Rattle.spec_lemmas.proofs.WalkLaws.{table_number-suc, reach-zero, reach-le, reach-covers, reach-below}
 use Rattle.rmm_sound.proofs.Entries.{entry-link}
 use Rattle.rmm_sound.proofs.Spaces.{space_cases}
 use Rattle.rmm_sound.proofs.Walked.{table_number-entry, start_above}
@@ -70,11 +70,6 @@ elsewhere-none s sound rd ipa level elsewhere (Some granule) at =
     let owner = sound.tables.owned rd level (table_number level ipa) granule at in
     absurd (elsewhere owner.0 owner.1
     (covered-inside owner.0 (sound.realms.spaces rd owner.0 owner.1) level ipa owner.2.below_root owner.2.last owner.2.inside))
-
--- no table of the level covers the address: the walk ends above it
-reach-below : (s : State) (rd ipa l : ℕ) → is_some (s.table rd (suc l) (table_number (suc l) ipa)) ≡ false → reach s rd ipa (suc l) ≡ reach s rd ipa l
-unfolding reach
-reach-below s rd ipa l nothing = rw nothing refl
 
 reach-none : (s : State) (rd ipa max : ℕ) → ((level : ℕ) → s.table rd level (table_number level ipa) ≡ None) → reach s rd ipa max ≡ 0
 reach-none s rd ipa zero none = reach-zero s rd ipa

@@ -2,7 +2,6 @@
 use Rattle.monitor.proofs.Common.{◌≡◌, ℕ, suc, ◌<◌, ◌≤◌, List, [], ◌∷◌, ◌++◌, length, take, Some, refl, sym, ap, ◌∙◌, subst, arith, inl, inr, ⊎_elim, Result, Ok, Err, slice_get, length_push, sum_by, same_Some, slice_get_within, Command, Done, TokenView, CpuView, before_calls, MonitorView, Refused, Unrecorded, ArePaired}
 use Rattle.std.proofs.Common.{◌⊎◌, zero, get_or, set, drop}
 use Rattle.std.proofs.lemmas.Option.{none-some, slice_get-get_or}
-use Rattle.spec_lemmas.proofs.Lists.{slice_get-append, slice_get-push, slice_get-push_cases}
 use Rattle.std.proofs.lemmas.List.{length-set, take_at}
 use Rattle.std.proofs.lemmas.List.Sums.{sum_by-cons}
 use Rattle.commit_tickets.specs.View.{before_commits, first_tokens}
@@ -10,6 +9,7 @@ use Rattle.event_queue.specs.View.{AreSeats, count_recorded}
 use Rattle.monitor.specs.declared.refused.Refused.TheVariants.{Full, NoMemory, Stopped, Disagrees}
 use Rattle.monitor.specs.Executed.{Leaves}
 use Rattle.monitor.specs.Cpus.{ArePairs, AreCpus}
+use Rattle.lemmas.proofs.Elements.{slice_get-append, slice_get-push, slice_get-push_cases}
 
 -- ---- as they are made
 

@@ -3,12 +3,12 @@ use Rattle.std.proofs.Common.{◌≡◌, ℕ, List, [], ◌∷◌, ◌++◌, len
 use Rattle.std.specs.Prelude.{slice_get}
 use Rattle.std.proofs.lemmas.List.{length_push}
 use Rattle.std.proofs.lemmas.Option.{slice_get_within}
-use Rattle.spec_lemmas.proofs.Lists.{slice_get-push_cases}
 use Rattle.commit_tickets.specs.View.{TokenView}
 use Rattle.event_queue.specs.View.{CpuView}
 use Rattle.monitor.specs.View.{MonitorView}
 use Rattle.monitor.specs.Executed.{ArePaired}
 use Rattle.monitor.specs.Cpus.{ArePairs}
+use Rattle.lemmas.proofs.Elements.{slice_get-push_cases}
 
 -- each token has the number of its place
 abbrev pub AreNumbered : List TokenView → Type 0

@@ -12,13 +12,13 @@ use Rattle.rmm_spec.specs.CommandText.{IsCommand}
 use Rattle.rmm_spec.specs.HistoryText.{Config}
 use Rattle.rmm_spec.specs.Scenario.{Scenario, IsScenario}
 use Rattle.scenario.specs.Seen.{seen_programs}
-use Rattle.spec_lemmas.proofs.Lists.{slice_get-append, slice_get-push, slice_get-push_cases, map-push}
 use Rattle.commit_tickets.specs.View.{TokenView, before_commits, first_tokens}
 use Rattle.event_queue.specs.View.{CpuView, before_calls, count_recorded}
 use Rattle.monitor.specs.Cpus.{AreCpus}
 use Rattle.monitor.specs.View.{MonitorView}
 use Rattle.monitor.proofs.CpuLists.{pairs-popped}
 use Rattle.monitor_runs.specs.Worked.{HasWorked, AreWaiting, IsLast, HaveWorked, promised}
+use Rattle.lemmas.proofs.Elements.{slice_get-append, slice_get-push, slice_get-push_cases, map-push}
 
 -- ---- what a scenario says of its programs
 

@@ -8,11 +8,11 @@ use Rattle.rmm_spec.specs.State.{State, opening}
 use Rattle.rmm_spec.specs.Run.{IsRun}
 use Rattle.rmm_spec.specs.Linearization.{IsFinished, IsNamed, IsLinearization, NamesCall, NamesSame, IsOfItsKind, IsRunOf, cpu_named, number_named}
 use Rattle.rmm_laws.proofs.RunLaws.{run-append}
-use Rattle.lemmas.proofs.Elements.{slice_get-append_left}
 use Rattle.checker.proofs.Judging.{HasOnePlaces-from_history}
 use Rattle.order_laws.specs.Order.{count_of, Reaches, LeadsNowhere}
 use Rattle.order_laws.proofs.Moves.{Each, Pairs, Each-from_places, Pairs-from_places, Pairs-at, Pairs-append, Pairs-behind}
 use Rattle.order_laws.proofs.Settled.{Apart, behind, in_either, claimed-append, same_state, split_run}
+use Rattle.lemmas.proofs.Elements.{slice_get-append}
 
 module _ (history : History) (is_history : IsHistory history) (one other : List Line) (state : State) (reached : Reaches history one state) (also : Reaches history other state) (counts : (cpu : ℕ) → count_of cpu one ≡ count_of cpu other) where
   -- the one order names what the other does
@@ -34,7 +34,7 @@ module _ (history : History) (is_history : IsHistory history) (one other : List 
   further more valid j line is named =
       let within = slice_get_within other named.0 named.1 named.2 in
       valid.order.names.once named.0 (length other + j) named.1 line (omega (arith, within))
-      (slice_get-append_left other more named.0 named.1 named.2) (behind other more j line is) (named.3, named.4)
+      (slice_get-append other more named.0 named.1 named.2) (behind other more j line is) (named.3, named.4)
 
   apart : (more : List Line) → IsLinearization history (other ++ more) → Pairs (Apart history.events) (one ++ more)
   apart more valid =
@@ -65,7 +65,7 @@ module _ (history : History) (is_history : IsHistory history) (one other : List 
       elim (in_either other more at.0 at.1 at.2) [
         | inl among ↦
             let named = back cpu number (at.0, at.1, among, at.3, at.4) in
-            (named.0, named.1, slice_get-append_left one more named.0 named.1 named.2, named.3, named.4)
+            (named.0, named.1, slice_get-append one more named.0 named.1 named.2, named.3, named.4)
         | inr later ↦ (length one + later.0, at.1, behind one more later.0 at.1 later.1, at.3, at.4)
       ]
 

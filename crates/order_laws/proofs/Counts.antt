@@ -4,7 +4,7 @@ use Rattle.std.specs.List.{slice_get}
 use Rattle.std.proofs.lemmas.Bool.{eqb-true, eq-eqb, cases_Bool}
 use Rattle.rmm_spec.specs.declared.line.Line.{Line}
 use Rattle.rmm_spec.specs.Linearization.{cpu_named, number_named, IsNamed}
-use Rattle.lemmas.proofs.Elements.{slice_get-append_left, slice_get_push, slice_get_push_cases}
+use Rattle.lemmas.proofs.Elements.{slice_get_push_cases, slice_get-append, slice_get-push}
 use Rattle.order_laws.specs.Order.{count_of}
 
 -- one line more counts for its own CPU
@@ -40,12 +40,12 @@ count_of-nil cpu = refl
 -- a name among the lines is one with a further line
 pub IsNamed-push : (lines : List Line) (line : Line) (cpu number : ℕ) → IsNamed lines cpu number → IsNamed (lines ++ line ∷ []) cpu number
 IsNamed-push lines line cpu number named =
-    (named.0, named.1, slice_get-append_left lines (line ∷ []) named.0 named.1 named.2, named.3, named.4)
+    (named.0, named.1, slice_get-append lines (line ∷ []) named.0 named.1 named.2, named.3, named.4)
 
 -- and so is the further line's
 pub IsNamed-last : (lines : List Line) (line : Line) (cpu number : ℕ) → cpu_named line ≡ cpu → number_named line ≡ number
     → IsNamed (lines ++ line ∷ []) cpu number
-IsNamed-last lines line cpu number of_cpu numbered = (length lines, line, slice_get_push lines line, of_cpu, numbered)
+IsNamed-last lines line cpu number of_cpu numbered = (length lines, line, slice_get-push lines line, of_cpu, numbered)
 
 -- there is no other
 pub IsNamed-push_cases : (lines : List Line) (line : Line) (cpu number : ℕ) → IsNamed (lines ++ line ∷ []) cpu number

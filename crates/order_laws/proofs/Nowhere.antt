@@ -10,7 +10,7 @@ use Rattle.rmm_spec.specs.HistoryText.{History, IsHistory}
 use Rattle.rmm_spec.specs.State.{State, opening}
 use Rattle.rmm_spec.specs.Run.{JournalEntry, IsRun}
 use Rattle.rmm_spec.specs.Linearization.{IsFinished, IsNamed, IsLinearization, ReturnsBefore, AreEntriesOf, NamesCall, IsOfItsKind, cpu_named, number_named}
-use Rattle.lemmas.proofs.Elements.{slice_get-append_left, slice_get_push, slice_get_push_cases}
+use Rattle.lemmas.proofs.Elements.{slice_get_push_cases, slice_get-append, slice_get-push}
 use Rattle.spec_lemmas.proofs.Calls.{HasOnePlaces}
 use Rattle.checker.proofs.Judging.{HasOnePlaces-from_history}
 use Rattle.rmm_laws.proofs.EntryRuns.{not-IsRefused}
@@ -24,7 +24,7 @@ none-from_nowhere history lines nowhere = nowhere.none lines
 
 -- the line stands behind the lines, whatever follows
 line_stands : (lines : List Line) (line : Line) (more : List Line) → slice_get ((lines ++ line ∷ []) ++ more) (length lines) ≡ Some line
-line_stands lines line more = slice_get-append_left (lines ++ line ∷ []) more (length lines) line (slice_get_push lines line)
+line_stands lines line more = slice_get-append (lines ++ line ∷ []) more (length lines) line (slice_get-push lines line)
 
 -- the lines come before it
 lines_before : (lines : List Line) (line : Line) (more : List Line) → take (length lines) ((lines ++ line ∷ []) ++ more) ≡ lines
@@ -70,7 +70,7 @@ module _ (history : History) (is_history : IsHistory history) (lines : List Line
             | inl below ↦
                 let named = reached.first (cpu_named line) (number_named line) below in
                 let stands : slice_get ((lines ++ line ∷ []) ++ more) named.0 ≡ Some named.1 =
-                slice_get-append_left (lines ++ line ∷ []) more named.0 named.1 (slice_get-append_left lines (line ∷ []) named.0 named.1 named.2) in
+                slice_get-append (lines ++ line ∷ []) more named.0 named.1 (slice_get-append lines (line ∷ []) named.0 named.1 named.2) in
                 valid.order.names.once named.0 (length lines) named.1 line (slice_get_within lines named.0 named.1 named.2) stands
                 (line_stands lines line more) (named.3, named.4)
             | inr above ↦

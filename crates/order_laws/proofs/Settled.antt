@@ -20,11 +20,11 @@ use Rattle.rmm_spec.specs.Run.{JournalEntry, IsRun}
 use Rattle.rmm_spec.specs.Linearization.{IsFinished, IsLinearization, ReturnsBefore, AreEntriesOf, IsEntryOf, NamesCall, NamesSame, IsOfItsKind, cpu_named, number_named}
 use Rattle.rmm_laws.proofs.RunLaws.{run-append}
 use Rattle.rmm_laws.proofs.StepLaws.{step-decides}
-use Rattle.lemmas.proofs.Elements.{slice_get-append_left}
 use Rattle.spec_lemmas.proofs.Calls.{HasOnePlaces, SameEntries, same_entry}
 use Rattle.checker.proofs.Judging.{HasOnePlaces-from_history}
 use Rattle.order_laws.specs.Order.{count_of, Reaches, LeadsNowhere, Grows, IsRefusal}
 use Rattle.order_laws.proofs.Moves.{Each, Pairs, Each-from_places, Each-at, Pairs-from_places, Pairs-at, Each-moved, Pairs-moved, place_moved, Around, around_place}
+use Rattle.lemmas.proofs.Elements.{slice_get-append}
 
 -- ---- runs
 
@@ -174,7 +174,7 @@ module _ (history : History) (is_history : IsHistory history) (lines : List Line
         let earlier = reached.first (cpu_named other) (number_named other) named in
         let within = slice_get_within lines earlier.0 earlier.1 earlier.2 in
         absurd (valid.order.names.once earlier.0 (length lines + i) earlier.1 other (omega (arith, within))
-        (slice_get-append_left lines more earlier.0 earlier.1 earlier.2) (behind lines more i other is) (earlier.3, earlier.4))
+        (slice_get-append lines more earlier.0 earlier.1 earlier.2) (behind lines more i other is) (earlier.3, earlier.4))
   ]
 
   -- so that it may come behind the refused one
@@ -183,12 +183,12 @@ module _ (history : History) (is_history : IsHistory history) (lines : List Line
     λ same.
         let within = slice_get_within front i other is in
         let more = front ++ Keep cpu number ∷ back in
-        let here = behind lines more i other (slice_get-append_left front (Keep cpu number ∷ back) i other is) in
+        let here = behind lines more i other (slice_get-append front (Keep cpu number ∷ back) i other is) in
         let there = behind lines more (length front + 0) (Keep cpu number) (behind front (Keep cpu number ∷ back) 0 (Keep cpu number) refl) in
         valid.order.names.once (length lines + i) (length lines + (length front + 0)) other (Keep cpu number) (omega (arith, within)) here there
         (sym same.0, sym same.1),
     λ returns.
-        let is_open = names_open (front ++ Keep cpu number ∷ back) valid i other (slice_get-append_left front (Keep cpu number ∷ back) i other is) in
+        let is_open = names_open (front ++ Keep cpu number ∷ back) valid i other (slice_get-append front (Keep cpu number ∷ back) i other is) in
         let late = grows.soon (cpu_named other) (number_named other) returns.returned returns.given returns.is_returned is_open in
         let one = HasOnePlaces-from_history history is_history in
         let at = one.one_call grows.called returns.called cpu number grows.command returns.command grows.is_called returns.is_called in

@@ -3,7 +3,7 @@ use Rattle.std.proofs.Common.{◌≡◌, ℕ, zero, suc, ◌+◌, ◌^◌, ◌<�
 use Rattle.std.specs.Int.Digits.{digits_of}
 use Rattle.std.proofs.lemmas.Int.Digits.{length-digits_of-le}
 use Rattle.std.proofs.lemmas.List.{length-map}
-use Rattle.line_pieces.proofs.LineLengths.{width, length-line_text, width-called, width-returned, width-config}
+use Rattle.line_pieces.proofs.LineLengths.{width, length-line_text, width-called, width-returned, width-config, length-decimal}
 use Rattle.line_pieces.proofs.Pieces.{IsBadLine-too_long}
 use Rattle.spec_lemmas.proofs.Texts.{numeral-zero, numeral_some}
 use Rattle.rmm_spec.specs.declared.version.Version.TheVariants.{Large}
@@ -19,13 +19,6 @@ use Rattle.recorded_events.proofs.GrammarLaws.{recordings_by_lines, recording_li
 use Rattle.recorded_events.proofs.TableLaws.{unfinished}
 
 -- ---- how long a line is
-
-length-decimal : (most n : ℕ) → 1 ≤ most → n < 10 ^ most → length (decimal n) ≤ most
-unfolding decimal
-length-decimal most zero some below = rw (numeral-zero 10) some
-length-decimal most (suc n) some below =
-    rw (numeral_some 10 (suc n) (let e : 0 < suc n = omega arith in e))
-    (omega (arith, length-map (digits_of 10 (suc n)) glyph, length-digits_of-le 10 most (suc n) (lit≤ tt) below))
 
 width-moment : (moment : Moment) → IsMoment moment → width (moment_parts moment) ≤ 200
 unfolding moment_parts event_parts

@@ -11,15 +11,7 @@ use Rattle.recorded_events.specs.Seen.{IsLineOf, IsNoLine, IsSizesOf}
 use Rattle.recorded_events.specs.Table.{Happened, Table, slot_at, happened, ArePlaced, IsPut}
 use Rattle.recorded_events.specs.declared.fault.EventsFault.TheVariants.{NoMemory}
 use Rattle.recorded_events.proofs.GrammarLaws.{begun, pushed, bad_line, line_too_many, unfinished_line}
-
-slice_get-append : {X : Type 0} (xs ys : List X) (place : ℕ) (x : X) → slice_get xs place ≡ Some x → slice_get (xs ++ ys) place ≡ Some x
-slice_get-append [] ys place x is = absurd (none-some x is)
-slice_get-append (first ∷ xs) ys zero x is = is
-slice_get-append (first ∷ xs) ys (suc place) x is = slice_get-append xs ys place x is
-
-slice_get-push : {X : Type 0} (xs : List X) (x : X) → slice_get (xs ++ x ∷ []) (length xs) ≡ Some x
-slice_get-push [] x = refl
-slice_get-push (first ∷ xs) x = slice_get-push xs x
+use Rattle.lemmas.proofs.Elements.{slice_get-append, slice_get-push}
 
 -- an element of a list with one more is an earlier one, or that one
 slice_get-push_cases : {X : Type 0} (xs : List X) (x : X) (place : ℕ) (y : X) → slice_get (xs ++ x ∷ []) place ≡ Some y

@@ -13,8 +13,8 @@ use Rattle.rmm_spec.specs.Step.{answer_of}
 use Rattle.rmm_spec.specs.Step.Front.{with_front}
 use Rattle.spec_lemmas.proofs.Behind.{behind}
 use Rattle.rmm_sound.proofs.ByRows.{AllHold, decided-accepted}
-use Rattle.rmm_sound.proofs.Cases.{both_ways}
 use Rattle.rmm_sound.proofs.Searches.{inside_runs, realm_there, rec_there, rec_at-is}
+use Rattle.lemmas.proofs.Tests.{both_ways}
 
 -- what is done can be applied, and so can each end that a stretch may reach
 abbrev pub Applies : State → Accepted → Type 0

@@ -2,10 +2,7 @@
 use Rattle.std.proofs.Common.{◌≡◌, ℕ, ◌==◌, ◌&&◌, Bool, true, false, if◌then◌else◌, IsTrue, Option, Some, None, is_some, refl, sym, ◌∙◌}
 use Rattle.std.proofs.lemmas.Bool.{and_parts, eqb-true, eq-eqb, false_from_ne_true}
 use Rattle.rmm_spec.specs.Update.{is_same_entry}
-
--- a test can't have both results
-pub both_ways : {A : Type 0} {b : Bool} → IsTrue b → b ≡ false → A
-both_ways holds fails = absurd (let bad : true ≡ false = sym holds ∙ fails in cc)
+use Rattle.lemmas.proofs.Tests.{both_ways}
 
 -- what is not there has no value
 pub nothing_there : {A X : Type 0} {x : X} {found : Option X} → found ≡ None → found ≡ Some x → A

@@ -13,13 +13,14 @@ use Rattle.rmm_spec.specs.Change.{changed, new_realm, new_rec, realm_updated}
 use Rattle.rmm_spec.specs.Sound.{IsSound, has_aux}
 use Rattle.rmm_spec.specs.Applicable.{CanRetag, CanMakeRealm, CanDestroyRealm, CanMakeRec, CanDestroyRec}
 use Rattle.spec_lemmas.proofs.TagLaws.{tag-has_tag, granule_from_tag}
-use Rattle.rmm_sound.proofs.Cases.{by_address, both_ways, left_of}
+use Rattle.rmm_sound.proofs.Cases.{by_address, left_of}
 use Rattle.rmm_sound.proofs.Retagged.{IsUnnamed, IsPlain, unnamed_by_tag, retagged_sound, free_retagged_sound}
 use Rattle.rmm_sound.proofs.RealmMade.{put_realm_sound, taken_realm_sound}
 use Rattle.rmm_sound.proofs.RecMade.{put_rec_sound, taken_rec_sound, tags_swapped}
 use Rattle.rmm_sound.proofs.Records.{realm_updated_sound}
 use Rattle.rmm_sound.proofs.Searches.{none_owned, none_has_vmid, realm_there, rec_there}
 use Rattle.rmm_sound.proofs.Tags.{has_tag-here, has_tag-elsewhere, has_tag-beside, tags_apart}
+use Rattle.lemmas.proofs.Tests.{both_ways}
 
 -- ---- granules
 

@@ -7,8 +7,8 @@ use Rattle.rmm_spec.specs.State.{State, RealmRecord}
 use Rattle.rmm_spec.specs.Walk.{entry_at, linked_entry, is_table, is_live, is_in_use, has_entry}
 use Rattle.rmm_spec.specs.Sound.{IsSound, IsLeafOf}
 use Rattle.rmm_spec.specs.Applicable.{IsVacant}
-use Rattle.rmm_sound.proofs.Cases.{both_ways}
 use Rattle.rmm_sound.proofs.Searches.{any_below-false}
+use Rattle.lemmas.proofs.Tests.{both_ways}
 
 -- ---- what stands above a leaf or a link
 

@@ -18,7 +18,7 @@ use Rattle.rmm_spec.specs.Change.{realm_updated, with_realm_change, with_rec_cha
 use Rattle.rmm_spec.specs.Sound.{IsSound, IsLeafOf}
 use Rattle.rmm_spec.specs.Applicable.{CanMakeTable, CanDestroyTable, CanReplace, CanChangeEntries, CanChangeRealm, CanChangeRec}
 use Rattle.spec_lemmas.proofs.TagLaws.{tag-has_tag, granule_from_tag}
-use Rattle.rmm_sound.proofs.Cases.{by_address, by_spot, both_ways, nothing_there, spot_itself}
+use Rattle.rmm_sound.proofs.Cases.{by_address, by_spot, nothing_there, spot_itself}
 use Rattle.rmm_sound.proofs.Entries.{leaf_there, leaf_fits, childless_unused, vacant_above}
 use Rattle.rmm_sound.proofs.Kept.{leaf_of_width}
 use Rattle.rmm_sound.proofs.ChangesMade.{lent_retagged}
@@ -28,6 +28,7 @@ use Rattle.rmm_sound.proofs.Retagged.{IsUnnamed, unnamed_by_tag, retagged_sound}
 use Rattle.rmm_sound.proofs.Searches.{realm_there, realm_at-is}
 use Rattle.rmm_sound.proofs.TableMade.{put_table_sound, taken_table_sound}
 use Rattle.rmm_sound.proofs.Tags.{has_tag-here, tags_apart}
+use Rattle.lemmas.proofs.Tests.{both_ways}
 
 -- ---- tables
 

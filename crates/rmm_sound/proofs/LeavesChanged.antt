@@ -8,8 +8,9 @@ use Rattle.rmm_spec.specs.State.{State, RealmRecord}
 use Rattle.rmm_spec.specs.Update.{with_leaf, with_ripas, entry_with_ripas, is_same_entry}
 use Rattle.rmm_spec.specs.Lookup.{has_tag}
 use Rattle.rmm_spec.specs.Sound.{IsSound, IsLeafOf}
-use Rattle.rmm_sound.proofs.Cases.{by_spot, both_ways, nothing_there}
+use Rattle.rmm_sound.proofs.Cases.{by_spot, nothing_there}
 use Rattle.rmm_sound.proofs.Kept.{same_realms, realms_kept, recs_kept, tables_kept}
+use Rattle.lemmas.proofs.Tests.{both_ways}
 
 -- What new leaves must be: each stands where one stood, fits its place, and names a page that is named by it alone.
 pub record CanTakePlaces (s t : State) : Type 0 where

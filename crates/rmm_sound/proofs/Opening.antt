@@ -7,8 +7,9 @@ use Rattle.rmm_spec.specs.HistoryText.{Config}
 use Rattle.rmm_spec.specs.State.{opening}
 use Rattle.rmm_spec.specs.Lookup.{is_granule, has_tag}
 use Rattle.rmm_spec.specs.Sound.{IsSound}
-use Rattle.rmm_sound.proofs.Cases.{both_ways, nothing_there}
+use Rattle.rmm_sound.proofs.Cases.{nothing_there}
 use Rattle.rmm_sound.proofs.Tags.{AreOther}
+use Rattle.lemmas.proofs.Tests.{both_ways}
 
 -- no granule has another tag than the host's
 opening-tags : (config : Config) (g : ℕ) (tag : Tag) → AreOther Undelegated tag → has_tag (opening config) g tag ≡ false

@@ -14,10 +14,11 @@ use Rattle.rmm_spec.specs.Change.{new_realm}
 use Rattle.rmm_spec.specs.Step.Terms.{is_space}
 use Rattle.rmm_spec.specs.Sound.{IsSound, IsTableOf, IsLeafOf}
 use Rattle.spec_lemmas.proofs.TagLaws.{tag-has_tag, granule_from_tag}
-use Rattle.rmm_sound.proofs.Cases.{by_address, by_spot, both_ways, nothing_there, spot_itself, spot_other, spot_level, at_itself, some_either, none_of, left_of, left_at}
+use Rattle.rmm_sound.proofs.Cases.{by_address, by_spot, nothing_there, spot_itself, spot_other, spot_level, at_itself, some_either, none_of, left_of, left_at}
 use Rattle.rmm_sound.proofs.Kept.{recs_kept}
 use Rattle.rmm_sound.proofs.Spaces.{root_is_table, root_leaf}
 use Rattle.rmm_sound.proofs.Tags.{AreOther, has_tag-here, has_tag-elsewhere, has_tag-beside, has_tag-gone, has_tag-other, tags_apart}
+use Rattle.lemmas.proofs.Tests.{both_ways}
 
 -- What has no realm has no tables and leaves, so who has one is another.
 pub record IsElsewhere (s : State) (rd : ℕ) : Type 0 where

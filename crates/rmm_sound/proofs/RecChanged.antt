@@ -5,8 +5,9 @@ use Rattle.rmm_spec.specs.State.{State, RealmRecord, RecRecord, Request, Pending
 use Rattle.rmm_spec.specs.Update.{with_rec}
 use Rattle.rmm_spec.specs.Lookup.{has_tag, runs_on}
 use Rattle.rmm_spec.specs.Sound.{IsRequest, IsSound, has_aux}
-use Rattle.rmm_sound.proofs.Cases.{by_address, both_ways}
+use Rattle.rmm_sound.proofs.Cases.{by_address}
 use Rattle.rmm_sound.proofs.Kept.{same_realms, realms_kept, tables_kept, leaves_kept}
+use Rattle.lemmas.proofs.Tests.{both_ways}
 
 -- What a REC's record must say where it is put in the place of another: it is of the same realm, with the same auxiliary
 -- granules, and alone on its CPU.

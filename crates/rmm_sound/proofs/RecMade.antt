@@ -8,9 +8,10 @@ use Rattle.rmm_spec.specs.Update.{with_tag, with_rec, without_rec}
 use Rattle.rmm_spec.specs.Lookup.{has_tag, runs_on}
 use Rattle.rmm_spec.specs.Sound.{IsRequest, IsSound, has_aux}
 use Rattle.spec_lemmas.proofs.TagLaws.{tag-has_tag, granule_from_tag}
-use Rattle.rmm_sound.proofs.Cases.{by_address, both_ways, nothing_there}
+use Rattle.rmm_sound.proofs.Cases.{by_address, nothing_there}
 use Rattle.rmm_sound.proofs.Kept.{same_realms, realms_kept, tables_kept, leaves_kept}
 use Rattle.rmm_sound.proofs.Tags.{AreOther, has_tag-here, has_tag-elsewhere, has_tag-beside, has_tag-gone}
+use Rattle.lemmas.proofs.Tests.{both_ways}
 
 -- What a REC must be where it is put in: one of a realm, idle, and with two auxiliary granules that no other has.
 pub record CanBePut (s : State) (a : ℕ) (c : RecRecord) : Type 0 where

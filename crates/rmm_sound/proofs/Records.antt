@@ -17,11 +17,12 @@ use Rattle.rmm_spec.specs.Lookup.{has_tag, runs_on, realm_at, rec_at}
 use Rattle.rmm_spec.specs.Change.{realm_updated, rec_updated, with_realm_change, with_rec_change}
 use Rattle.rmm_spec.specs.Sound.{IsRequest, IsSound}
 use Rattle.rmm_spec.specs.Applicable.{CanUpdateRec, CanChangeRealm, CanChangeRec}
-use Rattle.rmm_sound.proofs.Cases.{both_ways, nothing_there}
+use Rattle.rmm_sound.proofs.Cases.{nothing_there}
 use Rattle.rmm_sound.proofs.Kept.{IsLike}
 use Rattle.rmm_sound.proofs.RealmChanged.{with_realm_sound}
 use Rattle.rmm_sound.proofs.RecChanged.{CanStandFor, with_rec_sound}
 use Rattle.rmm_sound.proofs.Searches.{none_runs, realm_there, rec_there, realm_at-is}
+use Rattle.lemmas.proofs.Tests.{both_ways}
 
 -- ---- realms
 

@@ -9,8 +9,9 @@ use Rattle.rmm_spec.specs.Update.{with_tag}
 use Rattle.rmm_spec.specs.Lookup.{is_granule, has_tag}
 use Rattle.rmm_spec.specs.Sound.{IsSound}
 use Rattle.spec_lemmas.proofs.TagLaws.{tag-has_tag, granule_from_tag}
-use Rattle.rmm_sound.proofs.Cases.{by_address, both_ways}
+use Rattle.rmm_sound.proofs.Cases.{by_address}
 use Rattle.rmm_sound.proofs.Tags.{AreOther, has_tag-elsewhere, has_tag-beside, tags_apart}
+use Rattle.lemmas.proofs.Tests.{both_ways}
 
 -- no REC, table or leaf names the granule
 pub record IsUnnamed (s : State) (a : ℕ) : Type 0 where

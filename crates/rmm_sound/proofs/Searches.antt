@@ -7,7 +7,7 @@ use Rattle.rmm_spec.specs.State.{State, RealmRecord, RecRecord}
 use Rattle.rmm_spec.specs.Lookup.{is_granule, has_tag, any_below, greatest_below, is_inside, rec_inside, runs_on, is_vmid_used, has_vmid, has_rec, is_owned_by, realm_at, rec_at}
 use Rattle.rmm_spec.specs.Sound.{IsSound}
 use Rattle.spec_lemmas.proofs.TagLaws.{granule_from_tag}
-use Rattle.rmm_sound.proofs.Cases.{both_ways}
+use Rattle.lemmas.proofs.Tests.{both_ways}
 
 -- ---- searches
 

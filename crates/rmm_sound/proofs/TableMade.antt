@@ -10,9 +10,10 @@ use Rattle.rmm_spec.specs.Update.{with_table, without_table, is_same_entry}
 use Rattle.rmm_spec.specs.Lookup.{has_tag}
 use Rattle.rmm_spec.specs.Sound.{IsSound, IsTableOf, IsLeafOf}
 use Rattle.rmm_spec.specs.Applicable.{IsVacant}
-use Rattle.rmm_sound.proofs.Cases.{by_spot, both_ways, nothing_there, spot_hit, spot_level, some_either, none_of, left_of, by_two}
+use Rattle.rmm_sound.proofs.Cases.{by_spot, nothing_there, spot_hit, spot_level, some_either, none_of, left_of, by_two}
 use Rattle.rmm_sound.proofs.Kept.{realms_kept, recs_kept}
 use Rattle.rmm_sound.proofs.Spaces.{copies_fit}
+use Rattle.lemmas.proofs.Tests.{both_ways}
 
 -- an entry that keeps no table in use names no page
 vacant_unassigned : (e : Entry) (ripas : Ripas) (granule : ℕ) → IsVacant e → e ≡ Assigned ripas granule → ⊥

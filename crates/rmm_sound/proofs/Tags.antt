@@ -6,7 +6,8 @@ use Rattle.rmm_spec.specs.State.{State}
 use Rattle.rmm_spec.specs.Update.{with_tag}
 use Rattle.rmm_spec.specs.Lookup.{tag_number, is_granule, has_tag}
 use Rattle.spec_lemmas.proofs.TagLaws.{tag-has_tag}
-use Rattle.rmm_sound.proofs.Cases.{by_address, both_ways}
+use Rattle.rmm_sound.proofs.Cases.{by_address}
+use Rattle.lemmas.proofs.Tests.{both_ways}
 
 -- the two tags differ
 abbrev pub AreOther : Tag → Tag → Type 0

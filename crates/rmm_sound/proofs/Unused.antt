@@ -11,7 +11,7 @@ use Rattle.rmm_spec.specs.State.{State}
 use Rattle.rmm_spec.specs.Lookup.{any_below}
 use Rattle.rmm_spec.specs.Walk.{entry_at, is_live, is_unlike, has_entry, is_in_use, entry_ripas}
 use Rattle.rmm_spec.specs.Step.Table.{ripas_left}
-use Rattle.rmm_sound.proofs.Cases.{both_ways}
+use Rattle.lemmas.proofs.Tests.{both_ways}
 
 -- what is there only where a test fails
 fails_there : (test : Bool) (ripas : Ripas) → IsTrue (is_some (if test then None else Some ripas)) → test ≡ false

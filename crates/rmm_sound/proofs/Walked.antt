@@ -12,9 +12,9 @@ use Rattle.rmm_spec.specs.Walk.{entry_size, table_size, entry_number, table_numb
 use Rattle.rmm_spec.specs.Step.Terms.{is_space}
 use Rattle.rmm_spec.specs.Sound.{IsSound}
 use Rattle.spec_lemmas.proofs.WalkLaws.{reach-le, reach-covers, table_size-entries}
-use Rattle.rmm_sound.proofs.Cases.{both_ways}
 use Rattle.rmm_sound.proofs.Searches.{realm_there}
 use Rattle.rmm_sound.proofs.Spaces.{space_cases}
+use Rattle.lemmas.proofs.Tests.{both_ways}
 
 -- ---- addresses and numbers
 

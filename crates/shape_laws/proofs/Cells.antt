@@ -12,7 +12,8 @@ use Rattle.rmm_spec.specs.Cell.{Cell, Undelegated, Delegated, Rd, Rec, RecAux, D
 use Rattle.rmm_spec.specs.Flat.{flat_state, table_granule, leaf_in_tables}
 use Rattle.rmm_spec.specs.Shape.{AreOutside}
 use Rattle.spec_lemmas.proofs.TagLaws.{tag-has_tag}
-use Rattle.rmm_sound.proofs.Cases.{both_ways, by_address}
+use Rattle.rmm_sound.proofs.Cases.{by_address}
+use Rattle.lemmas.proofs.Tests.{both_ways}
 
 -- ---- one cell
 
@@ -142,19 +143,6 @@ views_of-put cells address c = λ i. record {
   recs = seen-put rec_in cells address c i;
   tables = seen-put table_in cells address c i;
 }
-
--- what is there already changes nothing
-pub put-same : {A : Type 0} (values : ℕ → A) (key : ℕ) (value : A) → values key ≡ value → put values key value ≡ values
-put-same {A} values key value is = λ i other. at other i
-  where
-    at : (other : ℕ) → put values key value other ≡ values other
-    at other = by_address (λ v. v ≡ values other) other key value (values other) (λ same. sym is ∙ ap values (sym same)) (λ apart. refl)
-
-pub put-elsewhere : {A : Type 0} (values : ℕ → A) (key : ℕ) (value : A) (other : ℕ) → (other == key) ≡ false → put values key value other ≡ values other
-put-elsewhere values key value other apart = rw apart refl
-
-pub put-here : {A : Type 0} (values : ℕ → A) (key : ℕ) (value : A) → put values key value key ≡ value
-put-here values key value = rw (eq-eqb key key refl) refl
 
 -- the maps have at the address what they see of the cell
 pub record IsAt (v : Views) (address : ℕ) (c : Cell) : Type 0 where

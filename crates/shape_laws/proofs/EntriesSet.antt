@@ -14,11 +14,12 @@ use Rattle.rmm_spec.specs.TableCells.{leaf_of}
 use Rattle.rmm_spec.specs.Sound.{IsLeafOf}
 use Rattle.rmm_spec.specs.Cell.{put}
 use Rattle.rmm_spec.specs.Flat.{leaf_in_tables}
-use Rattle.rmm_sound.proofs.Cases.{both_ways, choice, spot_hit}
+use Rattle.rmm_sound.proofs.Cases.{choice, spot_hit}
 use Rattle.shape_laws.proofs.Finds.{AreFound, IsPlaced, same_place}
 use Rattle.shape_laws.proofs.Leaves.{leaf-entries_here, leaf-table_here, leaf-entries_elsewhere}
 use Rattle.shape_laws.proofs.Slices.{slice_get-set_same, slice_get-set_other, IsStretch, ripas-get, ripas-is_link, entry_leaf-of, entry_leaf-ripas}
 use Rattle.shape_laws.proofs.Ties.{entry_leaf}
+use Rattle.lemmas.proofs.Tests.{both_ways}
 
 -- a leaf is no link
 pub leaf-no_link : (e : Entry) (r : RealmRecord) (level number : ℕ) → IsLeafOf e r level number → is_table e ≡ false

@@ -9,8 +9,9 @@ use Rattle.rmm_spec.specs.Table.{TableRecord, place_number}
 use Rattle.rmm_spec.specs.Cell.{put}
 use Rattle.rmm_spec.specs.Flat.{found_below, is_table_of, table_granule}
 use Rattle.rmm_spec.specs.Shape.{HoldsTable}
-use Rattle.rmm_sound.proofs.Cases.{both_ways, nothing_there, by_address, spot_hit, spot_itself}
-use Rattle.shape_laws.proofs.Cells.{put-here, put-elsewhere}
+use Rattle.rmm_sound.proofs.Cases.{nothing_there, by_address, spot_hit, spot_itself}
+use Rattle.spec_lemmas.proofs.Maps.{put-elsewhere, put-here}
+use Rattle.lemmas.proofs.Tests.{both_ways}
 
 -- ---- searches
 

@@ -18,9 +18,10 @@ use Rattle.rmm_sound.proofs.Changes.{changed_sound}
 use Rattle.rmm_sound.proofs.Kept.{IsLike, like_itself}
 use Rattle.rmm_sound.proofs.Searches.{realm_there, rec_there}
 use Rattle.shape_laws.specs.Whole.{Whole, IsShaped, cells_changed, side_changed, places_changed, whole_changed}
-use Rattle.shape_laws.proofs.Cells.{Views, views_of, flat_views, flat_state-views, views_put, IsAt, put-same, tag-cell, cell-delegated, cell-undelegated, cell-realm, cell-rec}
+use Rattle.shape_laws.proofs.Cells.{Views, views_of, flat_views, flat_state-views, views_put, IsAt, tag-cell, cell-delegated, cell-undelegated, cell-realm, cell-rec}
 use Rattle.shape_laws.proofs.Ties.{IsTied, AreListed, ArePlaced, AreInside, well_shaped-is_sound}
 use Rattle.shape_laws.proofs.Shaped.{IsWellShaped-tied}
+use Rattle.spec_lemmas.proofs.Maps.{put-same}
 
 -- the whole that the change makes is well shaped, and stands for the changed state
 abbrev pub IsChangedShape : Config → Whole → Change → Type 0

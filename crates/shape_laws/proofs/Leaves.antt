@@ -10,10 +10,11 @@ use Rattle.rmm_spec.specs.Table.{TableRecord, place_number}
 use Rattle.rmm_spec.specs.Cell.{put}
 use Rattle.rmm_spec.specs.Flat.{table_granule, leaf_in_tables}
 use Rattle.rmm_spec.specs.Shape.{HoldsTable}
-use Rattle.rmm_sound.proofs.Cases.{both_ways, by_address, spot_hit}
-use Rattle.shape_laws.proofs.Cells.{put-here, put-elsewhere}
+use Rattle.rmm_sound.proofs.Cases.{by_address, spot_hit}
 use Rattle.shape_laws.proofs.Finds.{AreFound, IsPlaced, holds-found, same_place, table_granule-holds, table_granule-kept, table_granule-put, table_granule-taken}
 use Rattle.shape_laws.proofs.Ties.{entry_leaf, leaf-found, same_table, ArePlaced}
+use Rattle.spec_lemmas.proofs.Maps.{put-elsewhere, put-here}
+use Rattle.lemmas.proofs.Tests.{both_ways}
 
 -- ---- leaves by the table that is found
 

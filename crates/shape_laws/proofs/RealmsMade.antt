@@ -19,17 +19,19 @@ use Rattle.rmm_spec.specs.Applicable.{CanMakeRealm, CanDestroyRealm}
 use Rattle.rmm_spec.specs.Cell.{Delegated, Rd, Rtt, put, realm_in, rec_in, table_in, tags_of, realms_of, recs_of, tables_of}
 use Rattle.rmm_spec.specs.Flat.{flat_state, table_granule, leaf_in_tables}
 use Rattle.spec_lemmas.proofs.TagLaws.{granule_from_tag}
-use Rattle.rmm_sound.proofs.Cases.{both_ways, nothing_there, by_address, choice, spot_hit, spot_other, left_of}
+use Rattle.rmm_sound.proofs.Cases.{nothing_there, by_address, choice, spot_hit, spot_other, left_of}
 use Rattle.rmm_sound.proofs.Entries.{entry-link, value_there}
 use Rattle.rmm_sound.proofs.Searches.{any_below-false, realm_there, none_has_vmid}
 use Rattle.rmm_sound.proofs.Spaces.{space_cases}
 use Rattle.shape_laws.specs.Whole.{Whole, IsShaped, root_table, side_without_vmid, cells_changed, side_changed, places_changed}
-use Rattle.shape_laws.proofs.Cells.{views_put, views_of-put, put-same, put-elsewhere, put-here, cell-table}
+use Rattle.shape_laws.proofs.Cells.{views_put, views_of-put, cell-table}
 use Rattle.shape_laws.proofs.Finds.{IsPlaced, same_place, table_granule-holds, table_granule-taken}
 use Rattle.shape_laws.proofs.Kept.{Makes, delegated_there, rd_there}
 use Rattle.shape_laws.proofs.Leaves.{CanPutIn, table-put, leaf-put, table-put_keeps, ArePlaced-put, ArePlaced-realms, leaf-none, leaf-taken, ArePlaced-taken}
 use Rattle.shape_laws.proofs.Slices.{halves, halves-all}
 use Rattle.shape_laws.proofs.Ties.{entry_leaf, AreListed, IsTied-shaped, well_shaped-is_sound}
+use Rattle.spec_lemmas.proofs.Maps.{put-same, put-elsewhere, put-here}
+use Rattle.lemmas.proofs.Tests.{both_ways}
 
 -- ---- a new root
 

@@ -16,13 +16,15 @@ use Rattle.rmm_spec.specs.Applicable.{CanChangeRealm, CanChangeRec, CanUpdateRec
 use Rattle.rmm_spec.specs.Cell.{Cell, Rd, Rec, put, realms_of, recs_of}
 use Rattle.rmm_spec.specs.Flat.{flat_state}
 use Rattle.rmm_spec.specs.Shape.{CpuPlace, Outside, Inside, RunsOn}
-use Rattle.rmm_sound.proofs.Cases.{both_ways, by_address}
+use Rattle.rmm_sound.proofs.Cases.{by_address}
 use Rattle.rmm_sound.proofs.Records.{updated_like}
 use Rattle.rmm_sound.proofs.Searches.{none_runs, realm_there, rec_there}
 use Rattle.shape_laws.specs.Whole.{Whole, IsShaped, cell_with_realm, cell_with_rec, cells_with_realm_change, cells_with_rec_change, places_left, places_of_rec, places_with_rec_change, cells_changed, side_changed, places_changed}
-use Rattle.shape_laws.proofs.Cells.{Views, views_of, views_of-put, IsAt-cell, put-elsewhere, put-here}
+use Rattle.shape_laws.proofs.Cells.{Views, views_of, views_of-put, IsAt-cell}
 use Rattle.shape_laws.proofs.Ties.{AreInside, IsTied-shaped, well_shaped-is_sound}
 use Rattle.shape_laws.proofs.Kept.{Makes, AreLike, AreOwnedAlike, like_put, like_same, alike_put, IsTied-records, rd_there, rec_cell_there, views_put-realm, views_put-rec}
+use Rattle.spec_lemmas.proofs.Maps.{put-elsewhere, put-here}
+use Rattle.lemmas.proofs.Tests.{both_ways}
 
 -- ---- cells
 

@@ -14,15 +14,17 @@ use Rattle.rmm_spec.specs.Cell.{Cell, Delegated, Rd, Rec, RecAux, put, tag_of, r
 use Rattle.rmm_spec.specs.Flat.{flat_state}
 use Rattle.rmm_spec.specs.Shape.{CpuPlace, RunsOn, count_below}
 use Rattle.spec_lemmas.proofs.TagLaws.{granule_from_tag}
-use Rattle.rmm_sound.proofs.Cases.{both_ways, by_address}
+use Rattle.rmm_sound.proofs.Cases.{by_address}
 use Rattle.rmm_sound.proofs.Records.{updated_like}
 use Rattle.rmm_sound.proofs.Searches.{realm_there, rec_there}
 use Rattle.shape_laws.specs.Whole.{Whole, IsShaped, cell_with_realm, side_without_rec, cells_changed, side_changed, places_changed}
-use Rattle.shape_laws.proofs.Cells.{views_of, views_put, views_of-put, IsAt-cell, put-same, put-elsewhere, put-here, tag-cell, cell-aux}
+use Rattle.shape_laws.proofs.Cells.{views_of, views_put, views_of-put, IsAt-cell, tag-cell, cell-aux}
 use Rattle.shape_laws.proofs.Counts.{count_below-same, count_below-one}
 use Rattle.shape_laws.proofs.Finds.{granule-number}
 use Rattle.shape_laws.proofs.Kept.{Makes, AreLike, like_put, ArePlaced-like, IsPlain, plain-delegated, plain-aux, views_put-plain, views_put-realm, delegated_there, rd_there, rec_cell_there}
 use Rattle.shape_laws.proofs.Ties.{AreListed, AreInside, IsTied-shaped, well_shaped-is_sound}
+use Rattle.spec_lemmas.proofs.Maps.{put-same, put-elsewhere, put-here}
+use Rattle.lemmas.proofs.Tests.{both_ways}
 
 -- ---- granules that hold nothing
 

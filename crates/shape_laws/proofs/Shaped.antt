@@ -13,11 +13,12 @@ use Rattle.rmm_spec.specs.Sound.{IsSound, IsLeafOf}
 use Rattle.rmm_spec.specs.Cell.{Cell, is_aux, is_data, realms_of, recs_of, tables_of, auxes_of, datas_of}
 use Rattle.rmm_spec.specs.Flat.{flat_state, table_granule, leaf_in_tables}
 use Rattle.rmm_spec.specs.Shape.{Side, CpuPlace, HoldsTable, IsPlaceOf, IsLinked, FitsPlace, AreTableCells, AreDataCells, AreRecCells, IsWellShaped}
-use Rattle.rmm_sound.proofs.Cases.{both_ways, nothing_there}
+use Rattle.rmm_sound.proofs.Cases.{nothing_there}
 use Rattle.rmm_sound.proofs.Entries.{value_there}
 use Rattle.shape_laws.proofs.Cells.{cell-undelegated, cell-aux, cell-data, tag-cell, views_of}
 use Rattle.shape_laws.proofs.Finds.{table_granule-holds, holds-found}
 use Rattle.shape_laws.proofs.Ties.{leaf-found, entry_leaf-some, link_or_leaf, entry_there, number-again, at_place, ArePlaced, IsTied}
+use Rattle.lemmas.proofs.Tests.{both_ways}
 
 -- an entry's number, its table's and its place there
 number_in : (number i : ℕ) → i < 512 → ((512 * number + i) / 512 ≡ number) × ((512 * number + i) % 512 ≡ i)

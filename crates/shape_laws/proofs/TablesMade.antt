@@ -19,17 +19,19 @@ use Rattle.rmm_spec.specs.Applicable.{CanMakeTable, CanDestroyTable}
 use Rattle.rmm_spec.specs.Cell.{Cell, Delegated, Rtt, put, realm_in, rec_in, table_in, tags_of, realms_of, recs_of, tables_of}
 use Rattle.rmm_spec.specs.Flat.{flat_state, table_granule, leaf_in_tables}
 use Rattle.spec_lemmas.proofs.TagLaws.{granule_from_tag}
-use Rattle.rmm_sound.proofs.Cases.{both_ways, by_address, choice, spot_hit, left_of}
+use Rattle.rmm_sound.proofs.Cases.{by_address, choice, spot_hit, left_of}
 use Rattle.rmm_sound.proofs.Entries.{leaf_there, value_there}
 use Rattle.rmm_sound.proofs.Searches.{realm_there}
 use Rattle.shape_laws.specs.Whole.{Whole, IsShaped, cell_with_entries, cells_with_entries, cells_with_table, changed_at, width_in, copied_table, cells_changed, side_changed, places_changed}
-use Rattle.shape_laws.proofs.Cells.{views_of, views_put, views_of-put, IsAt-cell, put-same, put-elsewhere, cell-table}
+use Rattle.shape_laws.proofs.Cells.{views_of, views_put, views_of-put, IsAt-cell, cell-table}
 use Rattle.shape_laws.proofs.EntriesSet.{with_entries, leaf-no_link, no_link-child, set_links, leaf-set_here, leaf-set_elsewhere}
 use Rattle.shape_laws.proofs.Finds.{AreFound, IsPlaced, same_place, table_granule-holds, table_granule-kept, table_granule-taken}
 use Rattle.shape_laws.proofs.Kept.{Makes, delegated_there, views_put-table}
 use Rattle.shape_laws.proofs.Leaves.{CanPutIn, table-put, leaf-put, table-put_keeps, AreFound-entries, ArePlaced-entries, ArePlaced-put, leaf-taken, table-taken_keeps, ArePlaced-taken}
 use Rattle.shape_laws.proofs.Slices.{slice_get-set_same, slice_get-set_other, slice_get-copies, copies-all, entry_leaf-of, entry_leaf-link}
 use Rattle.shape_laws.proofs.Ties.{entry_leaf, number-again, ArePlaced, IsTied-shaped, well_shaped-is_sound}
+use Rattle.spec_lemmas.proofs.Maps.{put-same, put-elsewhere}
+use Rattle.lemmas.proofs.Tests.{both_ways}
 
 -- ---- the table above
 

@@ -15,10 +15,10 @@ use Rattle.rmm_spec.specs.Sound.{IsSound, AreRealms, AreRecs, AreTables, AreLeav
 use Rattle.rmm_spec.specs.Cell.{Cell, tag_of, table_in, realms_of, recs_of, tables_of}
 use Rattle.rmm_spec.specs.Flat.{flat_state, table_granule, leaf_in_tables}
 use Rattle.rmm_spec.specs.Shape.{Side, CpuPlace, Inside, HoldsTable, IsPlaceOf, IsLinked, FitsPlace, AreOutside, RunsOn, IsWellShaped, count_below}
-use Rattle.rmm_sound.proofs.Cases.{both_ways}
 use Rattle.rmm_sound.proofs.Entries.{value_there}
 use Rattle.shape_laws.proofs.Cells.{cell-table, tag-some_realm, tag-aux, tag-data, some_realm-tagged, some_rec-tagged, has_tag-cell, Views, views_of}
 use Rattle.shape_laws.proofs.Finds.{table_granule-holds, table_granule-some, AreFound, holds-found}
+use Rattle.lemmas.proofs.Tests.{both_ways}
 
 -- ---- leaves
 

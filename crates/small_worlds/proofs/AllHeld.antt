@@ -13,15 +13,16 @@ use Rattle.rmm_spec.specs.Flat.{flat_state}
 use Rattle.rmm_spec.specs.Shape.{CpuPlace, Outside, IsWellShaped}
 use Rattle.rmm_spec.specs.Local.{put_all, LocalStep}
 use Rattle.world_laws.specs.Replaced.{held_at}
-use Rattle.spec_lemmas.proofs.Lists.{keys_apart, slice_get-append}
 use Rattle.world_laws.proofs.Locals.{agrees-at}
 use Rattle.spec_lemmas.proofs.Members.{Contains-nil, Contains-other, Contains-from_slice_get, slice_get-from_Contains, cells_at, cell_held, granules_held-cells_at}
 use Rattle.shape_laws.specs.Whole.{Whole, IsShaped, cells_changed, side_changed, places_changed, whole_changed}
 use Rattle.shape_laws.proofs.Accepted.{done-keeps_shape}
-use Rattle.shape_laws.proofs.Cells.{put-same}
 use Rattle.shape_laws.proofs.Finds.{granule-number}
 use Rattle.small_worlds.specs.Strays.{granules_below, hold_all}
 use Rattle.small_worlds.proofs.Serving.{Contains-last}
+use Rattle.lemmas.proofs.Elements.{slice_get-append}
+use Rattle.lemmas.proofs.Tests.{keys_apart}
+use Rattle.spec_lemmas.proofs.Maps.{put-same}
 
 Contains-before : {X : Type 0} (xs ys : List X) (x : X) → Contains xs x → Contains (xs ++ ys) x
 Contains-before xs ys x has =

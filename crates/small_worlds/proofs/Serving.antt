@@ -12,10 +12,10 @@ use Rattle.rmm_spec.specs.Cell.{put}
 use Rattle.rmm_spec.specs.Local.{Hold, put_all, LocalStep}
 use Rattle.rmm_spec.specs.World.{World, Phase, Between, Deciding, Decided, Move, Happens, HappenAll, without_granule}
 use Rattle.rmm_spec.specs.World as move
-use Rattle.spec_lemmas.proofs.Lists.{put_elim, keys_apart}
+use Rattle.spec_lemmas.proofs.Maps.{put_elim, put-same, put-here}
 use Rattle.spec_lemmas.proofs.Members.{Contains-nil, Contains-other, Contains-tail, Contains-head, cells_at}
-use Rattle.shape_laws.proofs.Cells.{put-same, put-here}
 use Rattle.small_worlds.specs.SmallWorlds.{HappenBy, freeing, served_by}
+use Rattle.lemmas.proofs.Tests.{keys_apart}
 
 -- ---- maps and lists
 

@@ -30,12 +30,12 @@ use Rattle.spec_lemmas.proofs.Members.{Contains-nil, Contains-head, Contains-tai
 use Rattle.spec_lemmas.proofs.Opening.{IsShapedWorld-opening}
 use Rattle.shape_laws.specs.Whole.{Whole, IsShaped, cells_changed, side_changed, places_changed, whole_changed}
 use Rattle.shape_laws.proofs.Accepted.{done-keeps_shape}
-use Rattle.shape_laws.proofs.Cells.{put-same}
 use Rattle.small_worlds.specs.SmallWorlds.{HappenBy, WaitForEachOther, IsUnguardedTake, IsUnguarded, served_by}
 use Rattle.small_worlds.specs.Strays.{Accepted, granules_below, hold_all, all_accepted, untouched, nine_granules, two_recs_made, destroys, each_destroys, strays_taken}
 use Rattle.small_worlds.proofs.Serving.{HappenAll-from_by, HappenBy-append, MayTakeAll, can_take, serve}
 use Rattle.small_worlds.proofs.AllHeld.{accepted-is_local, put_all-every}
 use Rattle.small_worlds.proofs.SmallRuns.{anything, called, happens-call, took, happens-take}
+use Rattle.spec_lemmas.proofs.Maps.{put-same}
 
 -- ---- one command after another
 

@@ -9,7 +9,7 @@ pub mod TagLaws
 pub mod WalkLaws
 pub mod Behind
 pub mod Calls
-pub mod Lists
+pub mod Maps
 pub mod Members
 pub mod Placed
 pub mod Opening

@@ -1,5 +1,5 @@
 -- How large machines may be.
-use Rattle.std.proofs.Common.{ℕ, ◌≤◌, lit≤}
+use Rattle.std.proofs.Common.{◌≤◌, lit≤}
 use Rattle.rmm_spec.specs.declared.version.Version.{Version}
 use Rattle.rmm_spec.specs.declared.version.Version.TheVariants.{One, Two, Large}
 use Rattle.rmm_spec.specs.HistoryText.{granule_limit}

@@ -16,7 +16,6 @@ use Rattle.rmm_spec.specs.Flat.{flat_state, table_granule}
 use Rattle.rmm_spec.specs.Shape.{Side, HoldsTable}
 use Rattle.rmm_spec.specs.Local.{HeldCell}
 use Rattle.spec_lemmas.proofs.WalkLaws.{table_number-suc, reach-covers, reach-le}
-use Rattle.rmm_sound.proofs.Cases.{both_ways}
 use Rattle.rmm_sound.proofs.Entries.{value_there, entry-leaf, entry-link}
 use Rattle.rmm_sound.proofs.Walked.{table_number-entry}
 use Rattle.shape_laws.proofs.Finds.{holds-found}
@@ -24,6 +23,7 @@ use Rattle.shape_laws.proofs.Ties.{entry_leaf-some, leaf-found, link_or_leaf, en
 use Rattle.walk_laws.specs.SeenState.{table_held, table_placed, entry_in, entry_held, link_of, table_seen, leaf_seen, seen_state}
 use Rattle.walk_laws.proofs.Found.{placed-holds}
 use Rattle.walk_laws.proofs.Wholes.{Whole, state, sound, whole_table}
+use Rattle.lemmas.proofs.Tests.{both_ways}
 
 -- ---- tables
 

@@ -23,7 +23,6 @@ use Rattle.rmm_spec.specs.Step.{answer_of}
 use Rattle.rmm_spec.specs.Step.Terms.{needed, named, Terms, OfWalk, terms_of, names_in, walk_in}
 use Rattle.rmm_spec.specs.Local.{HeldCell}
 use Rattle.spec_lemmas.proofs.WalkLaws.{table_number-suc}
-use Rattle.rmm_sound.proofs.Cases.{both_ways}
 use Rattle.rmm_sound.proofs.Entries.{link_there}
 use Rattle.rmm_sound.proofs.Walked.{table_number-entry}
 use Rattle.shape_laws.proofs.Finds.{table_granule-holds}
@@ -34,6 +33,7 @@ use Rattle.walk_laws.proofs.Looks.{SameRec, SameNamed, SameFront, SameUse, Front
 use Rattle.walk_laws.proofs.Seen.{WalkEnd, realm-same, rec-same, told-tag, told-space, walk-end, held-placed, left-same}
 use Rattle.walk_laws.proofs.Tables.{placed-found}
 use Rattle.walk_laws.proofs.Wholes.{Whole, state, sound}
+use Rattle.lemmas.proofs.Tests.{both_ways}
 
 -- ---- named granules
 

@@ -10,7 +10,7 @@ use Rattle.rmm_spec.specs.Cell as whole
 use Rattle.rmm_spec.specs.Cell.{put}
 use Rattle.lemmas.proofs.Tests.{both_ways}
 use Rattle.rmm_spec.specs.Local.{HeldCell, granules_held, put_all}
-use Rattle.spec_lemmas.proofs.Lists.{put-other}
+use Rattle.spec_lemmas.proofs.Maps.{put-other}
 use Rattle.world_laws.proofs.Locals.{put_all-agrees}
 use Rattle.spec_lemmas.proofs.Members.{Contains-nil, Contains-other, granules_held-cells_at}
 use Rattle.world_laws.proofs.Recorded.{Agrees-own}

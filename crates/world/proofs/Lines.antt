@@ -14,11 +14,11 @@ use Rattle.rmm_spec.specs.HistoryText.{Config, IsConfig}
 use Rattle.rmm_spec.specs.CertificateText.{IsLine, IsCertificate}
 use Rattle.rmm_spec.specs.Linearization.{IsKnown}
 use Rattle.rmm_spec.specs.World.{World, Commitment, line_for, certificate_of, opening_world}
-use Rattle.spec_lemmas.proofs.Lists.{slice_get-map_to}
 use Rattle.world_laws.proofs.Turned.{moves_of_turns}
 use Rattle.world_laws.proofs.Recorded.{IsAccounted-HappenAll, IsAccounted-opening}
 use Rattle.world.specs.Kept.{IsReached}
 use Rattle.world.proofs.Reached.{written-reached}
+use Rattle.lemmas.proofs.Elements.{slice_get-map_to}
 
 -- what holds of all elements holds of the one at a place
 at_place : {X : Type 0} (P : X → Type 0) (xs : List X) (place : ℕ) (x : X) → AllByRecursion P xs → slice_get xs place ≡ Some x → P x

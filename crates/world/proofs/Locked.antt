@@ -11,7 +11,7 @@ use Rattle.rmm_spec.specs.Lookup.{is_granule, is_cpu}
 use Rattle.rmm_spec.specs.Cell.{put}
 use Rattle.rmm_spec.specs.World.{without_granule}
 use Rattle.lemmas.proofs.Tests.{both_ways}
-use Rattle.spec_lemmas.proofs.Lists.{put_elim}
+use Rattle.spec_lemmas.proofs.Maps.{put_elim}
 use Rattle.spec_lemmas.proofs.Members.{Contains-head, Contains-tail}
 use Rattle.command_core.specs.Seen.{are_distinct}
 use Rattle.command_core.proofs.Distinct.{distinct-push}

@@ -18,7 +18,7 @@ use Rattle.rmm_spec.specs.declared.turn.Will.TheVariants as wills
 use Rattle.rmm_spec.specs.Waits.{Report, Did, Blocked, Idle, Turns, IsIdle, IsRising, IsWilled, MayFree, awaited, kind_of}
 use Rattle.rmm_spec.specs.Waits as turn
 use Rattle.lemmas.proofs.Tests.{both_ways}
-use Rattle.spec_lemmas.proofs.Lists.{put_elim}
+use Rattle.spec_lemmas.proofs.Maps.{put_elim}
 use Rattle.command_core.specs.declared.next.Next.TheVariants.{Take}
 use Rattle.command_core.specs.Sides.{side_of}
 use Rattle.granule_cells.specs.declared.side.Side as own_side

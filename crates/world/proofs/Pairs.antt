@@ -11,6 +11,7 @@ use Rattle.world_laws.specs.Replaced.{replaced_cells, held_at}
 use Rattle.command_core.specs.Seen.{cell_of, cell_in, are_distinct}
 use Rattle.granule_cells.specs.declared.cell.Cell.{Cell}
 use Rattle.world.specs.Lent.{pairs, cells_at}
+use Rattle.lemmas.proofs.Tests.{either, no_place}
 
 -- ---- finding
 
@@ -36,10 +37,6 @@ cell_in-place gs cs g i c few is at =
     let place = position-Some (λ (x : ℕ). x == g) gs i 0 is in
     found-at gs cs g i c place.0 few place.1 place.2 ∙ ap (λ (x : Cell). Some (cell_of x)) (sym at)
 
-no_place : (b : Bool) (n : ℕ) → cond b (Some n) None ≡ None → b ≡ false
-no_place true n is = absurd cc
-no_place false n is = refl
-
 pub cell_in-no_place : (gs : List ℕ) (cs : List Cell) (g : ℕ) → position (λ (x : ℕ). x == g) gs ≡ None → cell_in g (pairs gs cs) ≡ None
 cell_in-no_place gs cs g is =
     let p : ℕ → Bool = λ x. x == g in
@@ -48,10 +45,6 @@ cell_in-no_place gs cs g is =
     not_found gs cs g (λ k less. fails_before_first p gs k 0 (omega (arith, past, less)))
 
 -- ---- another in its place
-
-either : (b c : Bool) → (b || c) ≡ false → (b ≡ false) × (c ≡ false)
-either true c is = absurd (false≢true (sym is))
-either false c is = (refl, is)
 
 none_replaced : (gs : List ℕ) (cs : List Cell) (g : ℕ) (c : Cell) → list_any (λ other. other == g) gs ≡ false
     → replaced_cells (pairs gs cs) g (cell_of c) ≡ pairs gs cs

@@ -8,8 +8,8 @@ use Rattle.command_core.specs.Seen.{place_of}
 use Rattle.world.specs.Cpus.{Views, views_at, phase_in, of_each}
 use Rattle.world.specs.declared.cpus.Cpu.{Cpu}
 use Rattle.world.specs.declared.cpus.Cpus.{Cpus}
-use Rattle.world_laws.proofs.Locals.{put-same}
 use Rattle.world.proofs.Listed.{of_each-set, of_each-read}
+use Rattle.spec_lemmas.proofs.Maps.{put-same}
 
 -- what a list tells with all that a CPU tells in one place
 abbrev pub with_cpu : List Cpu → ℕ → Cpu → Views

@@ -7,12 +7,13 @@ use Rattle.rmm_spec.specs.declared.turn.Will.{Will}
 use Rattle.rmm_spec.specs.declared.turn.Will.TheVariants as wills
 use Rattle.rmm_spec.specs.Waits.{Report, Turns, awaited}
 use Rattle.rmm_spec.specs.Waits as turn
-use Rattle.spec_lemmas.proofs.Lists.{put_elim, keys_apart}
+use Rattle.spec_lemmas.proofs.Maps.{put_elim}
 use Rattle.world_laws.proofs.Turned.{LeavesAlone, LeavesAlone-Moves}
 use Rattle.command_core.specs.declared.next.Next.TheVariants.{Take}
 use Rattle.world.specs.Kept.{AreLocks}
 use Rattle.world.specs.Next.{next_in, next_for, AreNext}
 use Rattle.world.proofs.Locked.{contains-taken, held_by}
+use Rattle.lemmas.proofs.Tests.{keys_apart}
 
 -- a lock has one holder
 pub HasOneHolder-locks : (granules : ℕ) (w : World) (holder : ℕ → Option ℕ) → AreLocks granules w.taken holder → HasOneHolder w

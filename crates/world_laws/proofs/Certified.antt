@@ -11,8 +11,8 @@ use Rattle.rmm_spec.specs.declared.reply.Reply.{Reply}
 use Rattle.rmm_spec.specs.Linearization.{IsReturned, IsFinished, IsOfItsKind, IsReplyOf, IsEntryOf, AreEntriesOf, IsOrderOf, cpu_named, number_named, IsNamed}
 use Rattle.rmm_spec.specs.Flat.{flat_state}
 use Rattle.rmm_spec.specs.World.{World, Commitment, is_return_of, line_for, IsCertified}
-use Rattle.spec_lemmas.proofs.Lists.{slice_get-map_from, slice_get-map_to}
 use Rattle.world_laws.proofs.Recorded.{AreCommitsOf, entry_of, IsAccounted}
+use Rattle.lemmas.proofs.Elements.{slice_get-map_from, slice_get-map_to}
 
 -- ---- whether a return is recorded
 

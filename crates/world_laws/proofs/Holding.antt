@@ -9,7 +9,7 @@ use Rattle.rmm_spec.specs.declared.turn.Will.{Will}
 use Rattle.rmm_spec.specs.declared.turn.Will.TheVariants as told
 use Rattle.rmm_spec.specs.Waits.{Report, IsWilled, MayFree, Turns, Turn, TurnAll}
 use Rattle.rmm_spec.specs.Waits as turn
-use Rattle.spec_lemmas.proofs.Lists.{put_elim}
+use Rattle.spec_lemmas.proofs.Maps.{put_elim}
 
 -- what a phase says of the locks that its CPU holds
 abbrev pub HoldsIn : Phase → List ℕ → Type 0

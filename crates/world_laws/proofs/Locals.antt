@@ -11,15 +11,9 @@ use Rattle.rmm_spec.specs.Flat.{flat_state}
 use Rattle.rmm_spec.specs.Shape.{Side, CpuPlace, IsWellShaped}
 use Rattle.rmm_spec.specs.Local.{HeldCell, Hold, granules_held, Agrees, put_all, LocalStep}
 use Rattle.world_laws.specs.Replaced.{replaced_cells, replaced, replaced_all}
-use Rattle.spec_lemmas.proofs.Lists.{put_elim, keys_apart}
+use Rattle.spec_lemmas.proofs.Maps.{put_elim, put-same}
 use Rattle.spec_lemmas.proofs.Members.{Contains-nil, Contains-other, Contains-head, Contains-tail}
-
--- what is there already changes nothing
-pub put-same : {A : Type 0} (values : ℕ → A) (key : ℕ) (value : A) → values key ≡ value → put values key value ≡ values
-put-same {A} values key value is = λ i other. at other i
-  where
-    at : (other : ℕ) → put values key value other ≡ values other
-    at other = put_elim (λ v. v ≡ values other) values key value other (λ same. sym is ∙ ap values (sym same)) (λ apart. refl)
+use Rattle.lemmas.proofs.Tests.{keys_apart}
 
 pub put_all-agrees : (held : List HeldCell) (cells : ℕ → Cell) → Agrees cells held → put_all cells held ≡ cells
 put_all-agrees [] cells agrees = refl

@@ -7,7 +7,7 @@ use Rattle.rmm_spec.specs.HistoryText.{Config}
 use Rattle.rmm_spec.specs.Cell.{put}
 use Rattle.rmm_spec.specs.World.{World, Move, mover, Moves, Happens, HappenAll, without_granule, opening_world, Takes}
 use Rattle.rmm_spec.specs.World as world
-use Rattle.spec_lemmas.proofs.Lists.{put_elim}
+use Rattle.spec_lemmas.proofs.Maps.{put_elim}
 use Rattle.spec_lemmas.proofs.Members.{Contains-nil, Contains-filter}
 
 pub record AreLocked (cpus : ℕ) (taken : ℕ → List ℕ) : Type 0 where

@@ -16,8 +16,10 @@ use Rattle.rmm_spec.specs.Flat.{flat_state}
 use Rattle.rmm_spec.specs.Local.{Hold, Agrees, put_all}
 use Rattle.rmm_spec.specs.World.{World, Phase, Between, Deciding, Decided, GivenUp, Stopped, Commitment, opening_world, held_cells, phase_learnt, without_granule, Move, Moves, Happens, HappenAll, IsShapedWorld, IsDeciding, Calls, Takes, Frees, Commits, GivesUp, Returns, Stops}
 use Rattle.rmm_spec.specs.World as world
-use Rattle.spec_lemmas.proofs.Lists.{slice_get-append, slice_get-push, slice_get-push_cases, map-push, put_elim, keys_apart}
+use Rattle.spec_lemmas.proofs.Maps.{put_elim}
 use Rattle.spec_lemmas.proofs.Opening.{flat_state-opening, IsShapedWorld-opening}
+use Rattle.lemmas.proofs.Elements.{slice_get-append, slice_get-push, slice_get-push_cases, map-push}
+use Rattle.lemmas.proofs.Tests.{keys_apart}
 
 -- ---- journal and events
 

@@ -21,7 +21,7 @@ use Rattle.rmm_spec.specs.Flat.{flat_state, table_granule, leaf_in_tables}
 use Rattle.rmm_spec.specs.Shape.{Side, CpuPlace, Outside, AreRealmCells, AreTableCells, AreDataCells, AreRecCells, IsWellShaped}
 use Rattle.rmm_spec.specs.Local.{HeldCell, Hold, granules_held, LocalStep}
 use Rattle.world_laws.specs.Replaced.{held_at, replaced}
-use Rattle.spec_lemmas.proofs.Lists.{put_elim}
+use Rattle.spec_lemmas.proofs.Maps.{put_elim}
 use Rattle.spec_lemmas.proofs.Members.{Contains-map}
 use Rattle.world_laws.proofs.Locals.{agrees-at, one_cell-is_local}
 use Rattle.world_laws.proofs.Refusals.{outcome-host}

@@ -13,9 +13,10 @@ use Rattle.rmm_spec.specs.declared.turn.Will.{Will}
 use Rattle.rmm_spec.specs.declared.turn.Will.TheVariants as told
 use Rattle.rmm_spec.specs.Waits.{IsRising, Report, Turns, Turn, TurnAll, awaited, waits_after, KeepsWaiting}
 use Rattle.rmm_spec.specs.Waits as turn
-use Rattle.spec_lemmas.proofs.Lists.{put_elim, put-other, keys_apart}
+use Rattle.spec_lemmas.proofs.Maps.{put_elim, put-other}
 use Rattle.spec_lemmas.proofs.Members.{cells_at, put_all-other, granules_held-cells_at, cells_at-same}
 use Rattle.world_laws.proofs.Locked.{IsLocked, IsLocked-Happens}
+use Rattle.lemmas.proofs.Tests.{keys_apart}
 
 -- a move leaves a CPU's phase, place and held cells as they were
 pub record LeavesAlone (old new : World) (cpu : ℕ) : Type 0 where

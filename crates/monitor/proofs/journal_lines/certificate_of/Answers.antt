@@ -1,7 +1,7 @@
 use Rattle.monitor.proofs.Common.{◌≡◌, ℕ, ◌+◌, ◌≤◌, List, [], ◌∷◌, ◌++◌, length, take, subst, sym, ap, ◌∙◌, arith, Some, slice_get, slice_get_within, line_for, slice_get-map_to, numbers_of, count_of, lines_for, numbered, commitment, numbered-at, entries-numbered_from}
 use Rattle.std.proofs.lemmas.List.{length-map, take_all, take_more}
 use Rattle.std.proofs.lemmas.Option.{get_or_from_slice_get}
-use Rattle.spec_lemmas.proofs.Lists.{put_elim}
+use Rattle.spec_lemmas.proofs.Maps.{put_elim}
 use Rattle.world_laws.proofs.Recorded.{entry_of as entry_for}
 use Rattle.command_log.specs.Log.{logged_seen}
 use Rattle.commit_tickets.specs.Entries.{entry_of}
