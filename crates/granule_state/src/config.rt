@@ -80,7 +80,7 @@ impl Config {
         })
     }
 
-    #[tactic(auto, using(rmm_spec::proofs::Limits::granule_limit_le))]
+    #[tactic(auto, using(spec_lemmas::proofs::Limits::granule_limit_le))]
     pub fn granules(&self) -> u64
         ensures count { result ≡ self.now.granules }
         ensures limits { IsConfig self.now }

@@ -89,7 +89,7 @@ fn naming_of(alloc: Global, table: &EventTable, asked: Asked) -> Result<Naming, 
 }
 
 // How many granules may be renamed.
-#[tactic(auto, using(rmm_spec::proofs::Limits::granule_limit_le))]
+#[tactic(auto, using(spec_lemmas::proofs::Limits::granule_limit_le))]
 fn most_names(asked: Asked) -> usize
     ensures is { result ≡ most_asked asked }
     ensures most { result ≤ MOST_NAMES }
