@@ -22,7 +22,7 @@ sys.path.append(os.path.join(HERE, "../tests"))
 from compare import changed_reply
 from functions import (DATA_CREATE, DATA_DESTROY, EXIT, GRANULE_DELEGATE, GRANULE_UNDELEGATE, MEASUREMENT_EXTEND, MEASUREMENT_READ,
                        REALM_ACTIVATE, REALM_CREATE, REC_CREATE, REC_ENTER, RTT_CREATE, RTT_INIT_RIPAS)
-from loads import CPUS, GRANULES
+from lives import CPUS, GRANULES
 from machine import Machine
 from tables import ENTRIES, LAST_LEVEL, PAGE_BYTES
 

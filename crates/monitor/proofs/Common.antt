@@ -9,7 +9,7 @@ pub use Rattle.rmm_spec.specs.Run.{IsRun, JournalEntry}
 pub use Rattle.rmm_spec.specs.State.{State, opening}
 pub use Rattle.rmm_spec.specs.World.{Commitment, line_for}
 pub use Rattle.rmm_spec.specs.declared.{command.Command.Command, event.Event.Event, line.Line.Line}
-pub use Rattle.spec_lemmas.proofs.Maps.{slice_get-map_to}
+pub use Rattle.lemmas.proofs.Elements.{slice_get-map_to}
 pub use Rattle.command_core.specs.Seen.{place_of}
 pub use Rattle.granule_lock.specs.HeldCells.{hold_cells}
 pub use Rattle.granule_lock.specs.Locked.{AreGranules}

@@ -15,7 +15,8 @@ pub use Rattle.rmm_spec.specs.Sound.{IsSound}
 pub use Rattle.rmm_spec.specs.State.{RealmRecord, RecRecord, State}
 pub use Rattle.rmm_spec.specs.Step.{CarriesOut, outcome}
 pub use Rattle.rmm_spec.specs.Step.Ripas.{is_reached, stretch_change}
-pub use Rattle.rmm_spec.proofs.{TagLaws.granule_from_tag, TagLaws.sameb-tag_number, TagLaws.tag-has_tag, Tests.both_ways}
+pub use Rattle.spec_lemmas.proofs.{TagLaws.granule_from_tag, TagLaws.sameb-tag_number, TagLaws.tag-has_tag}
+pub use Rattle.lemmas.proofs.Tests.{both_ways}
 pub use Rattle.rmm_sound.proofs.{Cases.none_of, Cases.spot_itself, Changes.changed_sound, Runs.done_applies, Runs.reached_applies, Searches.inside_runs, Searches.realm_granule, Searches.realm_there, Searches.rec_granule, Searches.rec_there}
 pub use Rattle.rmm_laws.proofs.{ChangeWords.closed, ChangeWords.opened, ChangeWords.page_closed, ChangeWords.page_opened, Replays.is_reached-reached, Replays.reached-is_reached}
 pub use Rattle.rmi_view.specs.Seen.{command_seen, reply_seen}
