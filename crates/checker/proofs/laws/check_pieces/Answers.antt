@@ -24,7 +24,7 @@ loop-piece-preserved c =
     let bytes = λ (piece : Bor (List ℕ)). piece.now in
     let so_far = c.loop-piece.invariant in
     let next = flat_map-next bytes c.args.certificate.now c.loop-piece.piece-index _ c.loop-piece-test.true in (
-      subst (HasJudged c.feed.new.self) (sym next) (c.in_ok-feed.ensures.judged _ so_far.0),
+      subst (HasJudged c.feed.new.self) next (c.in_ok-feed.ensures.judged _ so_far.0),
       subst (IsHistoryText (flat_map bytes c.args.history.now)) (sym c.feed.ensures.history) so_far.1,
     )
 
