@@ -1,12 +1,14 @@
 //! Orders found from a history alone.
 
-ghost use Rattle.std.specs.Prelude.{IfOk, IfSome};
+ghost use Rattle.std.specs.Prelude.{ℕ, [], IfOk, IfSome};
+ghost use Rattle.rmm_spec.specs.Linearization.{IsLinearization};
+ghost use Rattle.order_laws.specs.Order.{LeadsNowhere};
 ghost use Rattle.finding.specs.Found.{HasNoneUpTo, IsFound};
-ghost use Rattle.finding.specs.Search.{IsSearch, IsSearched};
+ghost use Rattle.finding.specs.Search.{IsSearch, IsSearched, lines_of};
 
 use crate::first_part::first_part;
 use crate::forward::{Survey, forward};
-use crate::guided::guided;
+use crate::guided::{guessed, guided};
 use crate::kept::cells_of;
 use crate::offers::Offers;
 use crate::search::{Progress, Search};
@@ -14,6 +16,9 @@ use certificate::Certificate;
 use history::History;
 use std::alloc::{AllocError, Global};
 use std::cmp::min;
+
+/// How many offers the search makes at first, beside one an event.
+const FIRST_OFFERS: u64 = 1_000;
 
 /// How many cells may be copied to name a return once it is known that there is no order.
 const TO_NAME: u64 = 2_000_000;
@@ -38,20 +43,61 @@ pub fn find(alloc: Global, history: &History, limit: u64) -> Result<Found, Alloc
 {
     history.well_formed();
     let mut search = Search::new(alloc, history)?;
-    let soon = limit / 2;
-    let progress = search_until(&mut search, alloc, history, soon)?;
+    let progress = search_until(&mut search, alloc, history, offers_at_first(history, limit))?;
+    match progress {
+        Progress::Going => find_guessed(alloc, history, search, limit),
+        Progress::Whole => order_found(alloc, history, &search),
+        Progress::Exhausted => none_found(alloc, history, search, limit),
+    }
+}
+
+/// Tries the order that is guessed, and then goes on with the search.
+fn find_guessed(
+    alloc: Global,
+    history: &History,
+    search: Search,
+    limit: u64,
+) -> Result<Found, AllocError>
+    requires { IsSearch history.now.recorded search }
+    ensures { IfOk result (IsFound history.now.recorded limit) }
+{
+    history.well_formed();
+    if let Some(certificate) = guessed(alloc, history, limit)? {
+        return Ok(Found::Order(certificate));
+    }
+    let mut search = search;
+    let progress = search_until(&mut search, alloc, history, limit / 2)?;
     match progress {
         Progress::Going => find_forward(alloc, history, search, limit),
-        Progress::Whole => {
-            let certificate = search.certificate(alloc, history)?;
-            Ok(Found::Order(certificate))
-        }
-        Progress::Exhausted => {
-            let near = offers_near(history, search.offers.count(), TO_NAME, limit);
-            let told = lost_place(alloc, &mut search.offers, history, near)?;
-            Ok(Found::None(told))
-        }
+        Progress::Whole => order_found(alloc, history, &search),
+        Progress::Exhausted => none_found(alloc, history, search, limit),
     }
+}
+
+/// The order of a search that came to a linearization.
+fn order_found(alloc: Global, history: &History, search: &Search) -> Result<Found, AllocError>
+    requires is_search { IsSearch history.now.recorded search.now }
+    requires whole { IsLinearization history.now.recorded (lines_of search.now.frames.items) }
+    ensures { (limit : ℕ) → IfOk result (IsFound history.now.recorded limit) }
+{
+    let certificate = search.certificate(alloc, history)?;
+    Ok(Found::Order(certificate))
+}
+
+/// That there is no order, with the return that none survives, where it is found within the limit.
+fn none_found(
+    alloc: Global,
+    history: &History,
+    search: Search,
+    limit: u64,
+) -> Result<Found, AllocError>
+    requires { LeadsNowhere history.now.recorded [] }
+    ensures { IfOk result (IsFound history.now.recorded limit) }
+{
+    let mut offers = search.offers;
+    let near = offers_near(history, offers.count(), TO_NAME, limit);
+    let told = lost_place(alloc, &mut offers, history, near)?;
+    Ok(Found::None(told))
 }
 
 /// Looks for an order return by return, and then as the search does.
@@ -99,10 +145,7 @@ fn find_rest(
     let progress = search_until(&mut search, alloc, history, limit)?;
     match progress {
         Progress::Going => Ok(Found::GaveUp(search.offers)),
-        Progress::Whole => {
-            let certificate = search.certificate(alloc, history)?;
-            Ok(Found::Order(certificate))
-        }
+        Progress::Whole => order_found(alloc, history, &search),
         Progress::Exhausted => Ok(Found::None(None)),
     }
 }
@@ -165,6 +208,12 @@ fn search_until(
         }
     }
     Ok(Progress::Going)
+}
+
+/// How many offers the search makes before an order is guessed: more than it needs where it seldom takes a line back.
+fn offers_at_first(history: &History, limit: u64) -> u64 {
+    let offers = history.len() as u64;
+    min(limit / 2, offers.saturating_add(FIRST_OFFERS))
 }
 
 /// How many offers are made at the limit, or once so many more cells are copied.

@@ -11,6 +11,7 @@ use crate::earlier::Earlier;
 use crate::longest::goes_on;
 use crate::search::{Progress, Search};
 use certificate::Certificate;
+use guessing::guess;
 use history::History;
 use std::alloc::{AllocError, Global};
 
@@ -23,10 +24,36 @@ pub(crate) fn guided(
 ) -> Result<Option<Certificate>, AllocError>
     ensures { IfOk result (λ found. IfSome found (λ certificate. IsLinearization history.now.recorded certificate.lines)) }
 {
-    let Some(order) = orders.first() else {
-        return Ok(None);
-    };
-    let search = led(alloc, history, order.cpus.as_slice(), limit)?;
+    match orders.first() {
+        Some(order) => led_to_end(alloc, history, order.cpus.as_slice(), limit),
+        None => Ok(None),
+    }
+}
+
+/// The order that is guessed, where a search that tries its calls first comes to a linearization.
+pub(crate) fn guessed(
+    alloc: Global,
+    history: &History,
+    limit: u64,
+) -> Result<Option<Certificate>, AllocError>
+    ensures { IfOk result (λ found. IfSome found (λ certificate. IsLinearization history.now.recorded certificate.lines)) }
+{
+    match guess(alloc, history)? {
+        Some(cpus) => led_to_end(alloc, history, cpus.as_slice(), limit),
+        None => Ok(None),
+    }
+}
+
+/// The order of a search that tried the next call of one CPU after another, where it is a linearization.
+fn led_to_end(
+    alloc: Global,
+    history: &History,
+    cpus: &[u8],
+    limit: u64,
+) -> Result<Option<Certificate>, AllocError>
+    ensures { IfOk result (λ found. IfSome found (λ certificate. IsLinearization history.now.recorded certificate.lines)) }
+{
+    let search = led(alloc, history, cpus, limit)?;
     ended(alloc, history, search, limit)
 }
 

@@ -1,15 +1,13 @@
-use Rattle.finding.proofs.Finds.{HasNone-nowhere}
 use Rattle.finding.proofs.finding.find.Goals as goal
 
-pub find_forward-requires : goal.find_forward-requires
-find_forward-requires c = (rw c.in-Going.is at c.in_ok-progress.ensures).0
+pub find_guessed-requires : goal.find_guessed-requires
+find_guessed-requires c = (rw c.in-Going.is at c.in_ok-progress.ensures).0
 
-pub certificate-requires : goal.certificate-requires
-certificate-requires c = (rw c.in-Whole.is at c.in_ok-progress.ensures).0
+pub order_found-requires-is_search : goal.order_found-requires-is_search
+order_found-requires-is_search c = (rw c.in-Whole.is at c.in_ok-progress.ensures).0
 
-pub returns-in_ok-certificate-in-Whole : goal.returns-in_ok-certificate-in-Whole
-returns-in_ok-certificate-in-Whole c = rw c.in_ok-certificate-in-Whole.ensures ((rw c.in-Whole.is at c.in_ok-progress.ensures).1)
+pub order_found-requires-whole : goal.order_found-requires-whole
+order_found-requires-whole c = (rw c.in-Whole.is at c.in_ok-progress.ensures).1
 
-pub returns-in_ok-told-in-Exhausted : goal.returns-in_ok-told-in-Exhausted
-returns-in_ok-told-in-Exhausted c =
-    (HasNone-nowhere c.args.history.now.recorded (rw c.in-Exhausted.is at c.in_ok-progress.ensures), c.in_ok-told-in-Exhausted.ensures)
+pub none_found-requires : goal.none_found-requires
+none_found-requires c = rw c.in-Exhausted.is at c.in_ok-progress.ensures

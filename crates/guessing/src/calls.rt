@@ -1,0 +1,85 @@
+//! Calls that are open at an event.
+
+ghost use Rattle.rmi_view.specs.Seen.{HasFewWords, reply_seen};
+ghost use Rattle.std.specs.Prelude.{◌≤◌, length, IfSome};
+
+use history::History;
+use rmi_view::{CommandRef, ReplyRef};
+use rmm_spec::FunctionId;
+
+/// A call that returns at a later event.
+#[derive(Clone, Copy)]
+pub(crate) struct OpenCall {
+    pub(crate) cpu: u8,
+    /// The places of its two events.
+    pub(crate) called: usize,
+    pub(crate) returned: usize,
+    /// Whether it stands in the order already.
+    pub(crate) is_placed: bool,
+    /// The measurement that it reads or extends, where it stands in the order.
+    pub(crate) register: Option<usize>,
+}
+
+/// The command of the call at a place.
+pub(crate) fn command_at(history: &History, place: usize) -> Option<CommandRef<'_>>
+    ensures few { IfSome result (λ command. length command.words.now ≤ 10) }
+{
+    if place >= history.len() {
+        return None;
+    }
+    history.command_at(place)
+}
+
+/// The reply of the return at a place.
+pub(crate) fn reply_at(history: &History, place: usize) -> Option<ReplyRef<'_>>
+    ensures few { IfSome result (λ reply. HasFewWords (reply_seen reply)) }
+{
+    if place >= history.len() {
+        return None;
+    }
+    history.reply_at(place)
+}
+
+/// Whether a call with that reply changes nothing.
+pub(crate) fn is_look(command: CommandRef<'_>, reply: ReplyRef<'_>) -> bool {
+    match reply {
+        ReplyRef::Err(_, _) | ReplyRef::Misplaced => true,
+        ReplyRef::Ok(_) => matches!(
+            command.function,
+            FunctionId::RttReadEntry
+                | FunctionId::MeasurementRead
+                | FunctionId::RealmConfig
+                | FunctionId::IpaStateGet
+        ),
+    }
+}
+
+/// The extensible measurement that a call reads or extends, counted from 0, where it does.
+pub(crate) fn measured(command: CommandRef<'_>, reply: ReplyRef<'_>) -> Option<usize> {
+    let ReplyRef::Ok(_) = reply else {
+        return None;
+    };
+    if !matches!(
+        command.function,
+        FunctionId::MeasurementRead | FunctionId::MeasurementExtend
+    ) {
+        return None;
+    }
+    match command.words.first() {
+        Some(1) => Some(0),
+        Some(2) => Some(1),
+        Some(3) => Some(2),
+        Some(4) => Some(3),
+        _ => None,
+    }
+}
+
+/// Whether two calls name one word.
+pub(crate) fn shares_word(one: CommandRef<'_>, other: CommandRef<'_>) -> bool {
+    for word in one.words {
+        if other.words.contains(word) {
+            return true;
+        }
+    }
+    false
+}

@@ -1,0 +1,285 @@
+//! An order that is put together event by event.
+
+use crate::calls::{OpenCall, command_at, is_look, measured, reply_at, shares_word};
+use crate::registers::{Registers, Use};
+use command_rows::Sight;
+use history::History;
+use rmi_view::{CommandRef, ReplyRef};
+use rmm_spec::FunctionId;
+use spec_machine::Machine;
+use std::alloc::{AllocError, Global};
+
+/// How many CPUs there are at most.
+const CPUS: usize = 8;
+
+/// A call of the order, by its CPU, and the place of the event at which it was put in.
+#[derive(Clone, Copy)]
+pub(crate) struct Placed {
+    pub(crate) cpu: u8,
+    pub(crate) at: usize,
+}
+
+/// The calls that were put in so far, but those on extensible measurements, with the machine after all of them.
+#[derive(Drop)]
+pub(crate) struct Draft {
+    machine: Machine,
+    open: [Option<OpenCall>; CPUS],
+    pub(crate) placed: Vec<Placed>,
+    pub(crate) registers: Registers,
+}
+
+impl Draft {
+    ghost use Rattle.std.specs.Prelude.{◌<◌, ◌≤◌, length};
+
+    /// No call yet.
+    pub(crate) fn new(alloc: Global, history: &History) -> Result<Draft, AllocError> {
+        Ok(Draft {
+            machine: Machine::new(alloc, history.config())?,
+            open: [None; CPUS],
+            placed: Vec::new(alloc),
+            registers: Registers::new(alloc),
+        })
+    }
+
+    /// Takes the event at the place. Whether the order goes on: a call that returns has to stand in it.
+    pub(crate) fn take(&mut self, history: &History, place: usize) -> Result<bool, AllocError>
+        requires { place < length history.now.recorded.events }
+    {
+        match history.called_at(place) {
+            Some((cpu, number)) => {
+                self.open_call(history, cpu, number);
+                self.place_looks(history, place)?;
+                Ok(true)
+            }
+            None => self.take_return(history, place),
+        }
+    }
+
+    // The call of that number of the CPU is open, where it returns ever.
+    fn open_call(&mut self, history: &History, cpu: u8, number: u32) {
+        let Some(places) = history.places_of(cpu, number) else {
+            return;
+        };
+        let Some(returned) = places.returned else {
+            return;
+        };
+        if let Some(open) = self.open.get_mut(usize::from(cpu)) {
+            *open = Some(OpenCall {
+                cpu,
+                called: places.called as usize,
+                returned: returned as usize,
+                is_placed: false,
+                register: None,
+            });
+        }
+    }
+
+    fn take_return(&mut self, history: &History, place: usize) -> Result<bool, AllocError> {
+        let Some(cpu) = self.returning(place) else {
+            return Ok(true);
+        };
+        if !self.is_placed(cpu) && !self.place_with_others(history, cpu, place)? {
+            return Ok(false);
+        }
+        self.close(cpu)?;
+        Ok(true)
+    }
+
+    // The CPU whose call returns at the place.
+    fn returning(&self, place: usize) -> Option<usize> {
+        for cpu in 0..CPUS {
+            if let Some(call) = self.open[cpu] {
+                if call.returned == place {
+                    return Some(cpu);
+                }
+            }
+        }
+        None
+    }
+
+    fn is_placed(&self, cpu: usize) -> bool {
+        match self.open.get(cpu) {
+            Some(Some(call)) => call.is_placed,
+            _ => true,
+        }
+    }
+
+    // The CPU's call is open no longer.
+    fn close(&mut self, cpu: usize) -> Result<(), AllocError> {
+        let Some(open) = self.open.get_mut(cpu) else {
+            return Ok(());
+        };
+        let Some(call) = open.take() else {
+            return Ok(());
+        };
+        let Some(register) = call.register else {
+            return Ok(());
+        };
+        let used = Use {
+            cpu: call.cpu,
+            called: call.called,
+            returned: call.returned,
+        };
+        self.registers.add(register, used)
+    }
+
+    // Puts in the CPU's call, after others that are open where it isn't given its reply without them.
+    fn place_with_others(
+        &mut self,
+        history: &History,
+        cpu: usize,
+        place: usize,
+    ) -> Result<bool, AllocError> {
+        if self.place_call(history, cpu, place)? {
+            self.place_looks(history, place)?;
+            return Ok(true);
+        }
+        for related in [true, false] {
+            if self.place_after(history, cpu, place, related)? {
+                return Ok(true);
+            }
+        }
+        Ok(false)
+    }
+
+    // The same, after those that share a word with it, or that share none.
+    fn place_after(
+        &mut self,
+        history: &History,
+        cpu: usize,
+        place: usize,
+        related: bool,
+    ) -> Result<bool, AllocError> {
+        for other in 0..CPUS {
+            if other == cpu || self.are_related(history, cpu, other) != related {
+                continue;
+            }
+            if self.is_placed(other) || !self.place_call(history, other, place)? {
+                continue;
+            }
+            self.place_looks(history, place)?;
+            if self.is_placed(cpu) || self.place_call(history, cpu, place)? {
+                self.place_looks(history, place)?;
+                return Ok(true);
+            }
+        }
+        Ok(false)
+    }
+
+    // Whether the open calls of two CPUs share a word.
+    fn are_related(&self, history: &History, one: usize, other: usize) -> bool {
+        match (self.command(history, one), self.command(history, other)) {
+            (Some(one), Some(other)) => shares_word(one, other),
+            _ => false,
+        }
+    }
+
+    // The command of the CPU's open call.
+    fn command<'h>(&self, history: &'h History, cpu: usize) -> Option<CommandRef<'h>> {
+        match self.open.get(cpu) {
+            Some(Some(call)) => command_at(history, call.called),
+            _ => None,
+        }
+    }
+
+    // Puts in each open call that changes nothing and is given its reply now.
+    fn place_looks(&mut self, history: &History, place: usize) -> Result<(), AllocError> {
+        for cpu in 0..CPUS {
+            if !self.is_placed(cpu) && self.is_look(history, cpu) {
+                self.place_call(history, cpu, place)?;
+            }
+        }
+        Ok(())
+    }
+
+    fn is_look(&self, history: &History, cpu: usize) -> bool {
+        let Some(Some(call)) = self.open.get(cpu) else {
+            return false;
+        };
+        match (
+            command_at(history, call.called),
+            reply_at(history, call.returned),
+        ) {
+            (Some(command), Some(reply)) => is_look(command, reply),
+            _ => false,
+        }
+    }
+
+    // Puts in the CPU's call, where it is given its reply now.
+    fn place_call(
+        &mut self,
+        history: &History,
+        cpu: usize,
+        place: usize,
+    ) -> Result<bool, AllocError> {
+        let Some(Some(call)) = self.open.get(cpu).copied() else {
+            return Ok(false);
+        };
+        let Some(command) = command_at(history, call.called) else {
+            return Ok(false);
+        };
+        let Some(reply) = reply_at(history, call.returned) else {
+            return Ok(false);
+        };
+        let register = match measured(command, reply) {
+            Some(number) => self.registers.register(call.cpu, number),
+            None => None,
+        };
+        if !self.gives(call.cpu, command, reply, register.is_some())? {
+            return Ok(false);
+        }
+        self.note(call, command, reply, register, place)?;
+        Ok(true)
+    }
+
+    // Whether the machine gives the reply. What is read of a measurement is looked at later.
+    fn gives(
+        &mut self,
+        cpu: u8,
+        command: CommandRef<'_>,
+        reply: ReplyRef<'_>,
+        is_measured: bool,
+    ) -> Result<bool, AllocError>
+        requires { length command.words.now ≤ 10 }
+    {
+        if is_measured && matches!(command.function, FunctionId::MeasurementRead) {
+            return Ok(self.machine.outcome(cpu, &command.to_command()).is_ok());
+        }
+        self.machine.offer_seen(cpu, command, reply)
+    }
+
+    // Notes that the call stands in the order.
+    fn note(
+        &mut self,
+        call: OpenCall,
+        command: CommandRef<'_>,
+        reply: ReplyRef<'_>,
+        register: Option<usize>,
+        place: usize,
+    ) -> Result<(), AllocError> {
+        if let Some(open) = self.open.get_mut(usize::from(call.cpu)) {
+            *open = Some(OpenCall {
+                is_placed: true,
+                register,
+                ..call
+            });
+        }
+        if register.is_none() {
+            self.placed.push(Placed {
+                cpu: call.cpu,
+                at: place,
+            })?;
+        }
+        let owner = self.owner(command);
+        self.registers.note(call.cpu, command, reply, owner)
+    }
+
+    // The realm of the REC that a command enters.
+    fn owner(&self, command: CommandRef<'_>) -> Option<u64> {
+        if !matches!(command.function, FunctionId::RecEnter) {
+            return None;
+        }
+        let rec = self.machine.rec(*command.words.first()?)?;
+        Some(rec.owner.address())
+    }
+}

@@ -1,0 +1,109 @@
+//! Extensible measurements, and the calls that read and extend them.
+
+use measure::Rem;
+use rmi_view::{CommandRef, ReplyRef};
+use rmm_spec::FunctionId;
+use std::alloc::{AllocError, Global};
+use std::collections::HashMap;
+
+/// How many extensible measurements a realm has.
+const REMS: usize = 4;
+
+/// How many CPUs there are at most.
+const CPUS: usize = 8;
+
+/// A call that reads or extends a measurement, with the places of its two events.
+#[derive(Clone, Copy)]
+pub(crate) struct Use {
+    pub(crate) cpu: u8,
+    pub(crate) called: usize,
+    pub(crate) returned: usize,
+}
+
+/// A measurement of one realm, with the calls that read and extend it, in the order of their returns.
+#[derive(Drop)]
+pub(crate) struct Register {
+    pub(crate) start: Rem,
+    pub(crate) uses: Vec<Use>,
+}
+
+/// The measurements of all realms that were made, four of each in a row.
+#[derive(Drop)]
+pub(crate) struct Registers {
+    alloc: Global,
+    pub(crate) all: Vec<Register>,
+    // by the address of its descriptor where the measurements of the realm stand that was made there last
+    firsts: HashMap<u64, usize>,
+    // the same for the realm whose REC runs on each CPU
+    inside: [Option<usize>; CPUS],
+}
+
+impl Registers {
+    /// No realm was made.
+    pub(crate) fn new(alloc: Global) -> Registers {
+        Registers {
+            alloc,
+            all: Vec::new(alloc),
+            firsts: HashMap::new(alloc),
+            inside: [None; CPUS],
+        }
+    }
+
+    /// A realm is made at the address.
+    pub(crate) fn make_realm(&mut self, rd: u64, algo: u64) -> Result<(), AllocError> {
+        let first = self.all.len();
+        for _ in 0..REMS {
+            self.all.push(Register {
+                start: Rem::start(algo),
+                uses: Vec::new(self.alloc),
+            })?;
+        }
+        self.firsts.insert(rd, first)?;
+        Ok(())
+    }
+
+    /// A REC of the realm runs on the CPU.
+    pub(crate) fn enter(&mut self, cpu: u8, rd: u64) {
+        if let Some(inside) = self.inside.get_mut(usize::from(cpu)) {
+            *inside = self.firsts.get(&rd).copied();
+        }
+    }
+
+    /// The measurement of that number, counted from 0, of the realm whose REC runs on the CPU.
+    pub(crate) fn register(&self, cpu: u8, number: usize) -> Option<usize> {
+        let Some(Some(first)) = self.inside.get(usize::from(cpu)) else {
+            return None;
+        };
+        first.checked_add(number)
+    }
+
+    /// A call that reads or extends the measurement returns.
+    pub(crate) fn add(&mut self, register: usize, used: Use) -> Result<(), AllocError> {
+        match self.all.get_mut(register) {
+            Some(register) => register.uses.push(used)?,
+            None => {}
+        }
+        Ok(())
+    }
+
+    /// Notes what a call does to a realm that was made, or that it makes. `owner` is the realm of a REC that is entered.
+    pub(crate) fn note(
+        &mut self,
+        cpu: u8,
+        command: CommandRef<'_>,
+        reply: ReplyRef<'_>,
+        owner: Option<u64>,
+    ) -> Result<(), AllocError> {
+        let ReplyRef::Ok(_) = reply else {
+            return Ok(());
+        };
+        match (command.function, command.words, owner) {
+            (FunctionId::RealmCreate, [rd, _, _, _, _, algo], _) => self.make_realm(*rd, *algo),
+            (FunctionId::RecEnter, _, Some(rd)) => {
+                self.enter(cpu, rd);
+                Ok(())
+            }
+            _ => Ok(()),
+        }
+    }
+}
