@@ -45,28 +45,20 @@ pub fn find(alloc: Global, history: &History, limit: u64) -> Result<Found, Alloc
     let mut search = Search::new(alloc, history)?;
     let progress = search_until(&mut search, alloc, history, offers_at_first(history, limit))?;
     match progress {
-        Progress::Going => find_guessed(alloc, history, search, limit),
+        Progress::Going => find_guessed(alloc, history, limit),
         Progress::Whole => order_found(alloc, history, &search),
         Progress::Exhausted => none_found(alloc, history, search, limit),
     }
 }
 
-/// Tries the order that is guessed, and then goes on with the search.
-fn find_guessed(
-    alloc: Global,
-    history: &History,
-    search: Search,
-    limit: u64,
-) -> Result<Found, AllocError>
-    requires { IsSearch history.now.recorded search }
+/// Begins anew with a guess, and searches on from where that leads.
+fn find_guessed(alloc: Global, history: &History, limit: u64) -> Result<Found, AllocError>
     ensures { IfOk result (IsFound history.now.recorded limit) }
 {
     history.well_formed();
-    if let Some(certificate) = guessed(alloc, history, limit)? {
-        return Ok(Found::Order(certificate));
-    }
-    let mut search = search;
-    let progress = search_until(&mut search, alloc, history, limit / 2)?;
+    let soon = limit / 2;
+    let mut search = guessed(alloc, history, soon)?;
+    let progress = search_until(&mut search, alloc, history, soon)?;
     match progress {
         Progress::Going => find_forward(alloc, history, search, limit),
         Progress::Whole => order_found(alloc, history, &search),

@@ -24,37 +24,19 @@ pub(crate) fn guided(
 ) -> Result<Option<Certificate>, AllocError>
     ensures { IfOk result (λ found. IfSome found (λ certificate. IsLinearization history.now.recorded certificate.lines)) }
 {
-    match orders.first() {
-        Some(order) => led_to_end(alloc, history, order.cpus.as_slice(), limit),
-        None => Ok(None),
-    }
-}
-
-/// The order that is guessed, where a search that tries its calls first comes to a linearization.
-pub(crate) fn guessed(
-    alloc: Global,
-    history: &History,
-    limit: u64,
-) -> Result<Option<Certificate>, AllocError>
-    ensures { IfOk result (λ found. IfSome found (λ certificate. IsLinearization history.now.recorded certificate.lines)) }
-{
-    match guess(alloc, history)? {
-        Some(cpus) => led_to_end(alloc, history, cpus.as_slice(), limit),
-        None => Ok(None),
-    }
-}
-
-/// The order of a search that tried the next call of one CPU after another, where it is a linearization.
-fn led_to_end(
-    alloc: Global,
-    history: &History,
-    cpus: &[u8],
-    limit: u64,
-) -> Result<Option<Certificate>, AllocError>
-    ensures { IfOk result (λ found. IfSome found (λ certificate. IsLinearization history.now.recorded certificate.lines)) }
-{
-    let search = led(alloc, history, cpus, limit)?;
+    let Some(order) = orders.first() else {
+        return Ok(None);
+    };
+    let search = led(alloc, history, order.cpus.as_slice(), limit)?;
     ended(alloc, history, search, limit)
+}
+
+/// A search that tried the calls of a guess first.
+pub(crate) fn guessed(alloc: Global, history: &History, limit: u64) -> Result<Search, AllocError>
+    ensures { IfOk result (IsSearch history.now.recorded) }
+{
+    let cpus = guess(alloc, history)?;
+    led(alloc, history, cpus.as_slice(), limit)
 }
 
 /// The lines that a search comes to which tries the order's calls first.

@@ -6,28 +6,22 @@ use crate::solving::solved;
 use history::History;
 use std::alloc::{AllocError, Global};
 
-/// The CPUs of an order's calls, one after another, where one is put together. Calls that never return aren't in it.
-pub fn guess(alloc: Global, history: &History) -> Result<Option<Vec<u8>>, AllocError> {
+/// The CPUs of an order's calls, one after another: of all calls that return, or of those up to a return that the guess doesn't explain.
+pub fn guess(alloc: Global, history: &History) -> Result<Vec<u8>, AllocError> {
     let mut draft = Draft::new(alloc, history)?;
     for place in 0..history.len() {
         if !draft.take(history, place)? {
-            return Ok(None);
+            break;
         }
     }
     with_uses(alloc, history, draft)
 }
 
 // The order with the calls on measurements put in.
-fn with_uses(
-    alloc: Global,
-    history: &History,
-    draft: Draft,
-) -> Result<Option<Vec<u8>>, AllocError> {
+fn with_uses(alloc: Global, history: &History, draft: Draft) -> Result<Vec<u8>, AllocError> {
     let mut placed = draft.placed;
     for register in &draft.registers.all {
-        let Some(order) = solved(alloc, history, register)? else {
-            return Ok(None);
-        };
+        let order = solved(alloc, history, register)?;
         place_uses(
             alloc,
             &mut placed,
@@ -35,6 +29,5 @@ fn with_uses(
             order.as_slice(),
         )?;
     }
-    let cpus = cpus_in_order(alloc, placed.as_slice(), history.len())?;
-    Ok(Some(cpus))
+    cpus_in_order(alloc, placed.as_slice(), history.len())
 }

@@ -47,12 +47,13 @@ enum Next {
     Nothing,
 }
 
-/// An order of the measurement's calls in which each reads what it read, where one is found soon: their places in the order of returns.
+/// An order of the measurement's calls, by their places in the order of returns: one in which each reads what it read, where that is
+/// found soon. Else the last calls stand as they return.
 pub(crate) fn solved(
     alloc: Global,
     history: &History,
     register: &Register,
-) -> Result<Option<Vec<usize>>, AllocError> {
+) -> Result<Vec<usize>, AllocError> {
     let uses = register.uses.as_slice();
     let mut solver = Solver {
         steps: Vec::with_capacity(alloc, uses.len())?,
@@ -63,14 +64,11 @@ pub(crate) fn solved(
     };
     for _ in 0..uses.len().saturating_mul(TRIED_A_CALL) {
         solver.pass_done();
-        if solver.first >= uses.len() {
-            return Ok(Some(solver.order(alloc)?));
-        }
-        if !solver.step(history, uses)? {
-            return Ok(None);
+        if solver.first >= uses.len() || !solver.step(history, uses)? {
+            break;
         }
     }
-    Ok(None)
+    solver.order(alloc)
 }
 
 impl Solver {
@@ -85,13 +83,23 @@ impl Solver {
         self.first = self.done.len();
     }
 
-    // The calls that were put in, in their order.
+    // The calls that were put in, in their order, and then those that are left.
     fn order(&self, alloc: Global) -> Result<Vec<usize>, AllocError> {
-        let mut order = Vec::with_capacity(alloc, self.steps.len())?;
+        let mut order = Vec::with_capacity(alloc, self.done.len())?;
         for step in &self.steps {
             order.push(step.place)?;
         }
+        self.append_left(&mut order)?;
         Ok(order)
+    }
+
+    fn append_left(&self, order: &mut Vec<usize>) -> Result<(), AllocError> {
+        for place in self.first..self.done.len() {
+            if !self.is_done(place) {
+                order.push(place)?;
+            }
+        }
+        Ok(())
     }
 
     // Puts in one call, or takes some out. Whether there is more to try.
