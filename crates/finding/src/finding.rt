@@ -17,8 +17,8 @@ use history::History;
 use std::alloc::{AllocError, Global};
 use std::cmp::min;
 
-/// How many offers the search makes at first, beside one an event.
-const FIRST_OFFERS: u64 = 1_000;
+/// How many configurations that lead nowhere the search finds before an order is guessed.
+const FIRST_KEPT: usize = 8;
 
 /// How many cells may be copied to name a return once it is known that there is no order.
 const TO_NAME: u64 = 2_000_000;
@@ -43,7 +43,7 @@ pub fn find(alloc: Global, history: &History, limit: u64) -> Result<Found, Alloc
 {
     history.well_formed();
     let mut search = Search::new(alloc, history)?;
-    let progress = search_until(&mut search, alloc, history, offers_at_first(history, limit))?;
+    let progress = search_at_first(&mut search, alloc, history, limit / 2)?;
     match progress {
         Progress::Going => find_guessed(alloc, history, limit),
         Progress::Whole => order_found(alloc, history, &search),
@@ -182,6 +182,26 @@ fn told_place(
     }
 }
 
+/// Searches as long as few configurations lead nowhere, until so many offers are made.
+fn search_at_first(
+    search: &mut Search,
+    alloc: Global,
+    history: &History,
+    limit: u64,
+) -> Result<Progress, AllocError>
+    requires { IsSearch history.now.recorded search.old }
+    ensures { IfOk result (λ progress. IsSearched progress history.now.recorded 0 search.new) }
+{
+    history.well_formed();
+    'going: while search.offers.count() < limit && search.kept.len() < FIRST_KEPT {
+        match search.step(alloc, history)? {
+            Progress::Going => {}
+            ended => return Ok(ended),
+        }
+    }
+    Ok(Progress::Going)
+}
+
 /// Searches until so many offers are made.
 fn search_until(
     search: &mut Search,
@@ -200,12 +220,6 @@ fn search_until(
         }
     }
     Ok(Progress::Going)
-}
-
-/// How many offers the search makes before an order is guessed: more than it needs where it seldom takes a line back.
-fn offers_at_first(history: &History, limit: u64) -> u64 {
-    let offers = history.len() as u64;
-    min(limit / 2, offers.saturating_add(FIRST_OFFERS))
 }
 
 /// How many offers are made at the limit, or once so many more cells are copied.

@@ -53,6 +53,11 @@ impl Kept {
         }
     }
 
+    /// How many are kept.
+    pub(crate) fn len(&self) -> usize {
+        self.configurations.len()
+    }
+
     /// Whether a configuration is kept. One that is may be missed, and none is taken for another.
     pub(crate) fn has(&self, counts: &[u32; 8], machine: &Machine) -> bool
         ensures { IsTrue result → HasKept self.now.configurations.items counts.now (state_of machine.now) }
