@@ -1,14 +1,14 @@
 -- Orders that are begun, as they grow by a line and stand for others.
-use Rattle.std.proofs.Common.{◌≡◌, ℕ, ◌+◌, ◌^◌, ◌<◌, ◌≤◌, inl, inr, List, [], ◌∷◌, ◌++◌, set, Option, Some, None, refl, sym, ◌∙◌, ap, subst, arith, append_assoc}
+use Rattle.std.proofs.Common.{◌≡◌, ℕ, ◌+◌, inl, inr, List, [], ◌∷◌, ◌++◌, set, Option, Some, sym, ◌∙◌, ap, subst, arith, append_assoc}
 use Rattle.rmm_spec.specs.declared.line.Line.{Line}
-use Rattle.rmm_spec.specs.declared.line.Line.TheVariants.{Keep, Unfinished}
+use Rattle.rmm_spec.specs.declared.line.Line.TheVariants.{Unfinished}
 use Rattle.rmm_spec.specs.HistoryText.{History, IsHistory}
 use Rattle.rmm_spec.specs.FirstFault.{IsRefused}
 use Rattle.rmm_spec.specs.Rows.{ok}
 use Rattle.rmm_spec.specs.State.{State, opening}
-use Rattle.rmm_spec.specs.Linearization.{IsFinished, IsLinearization, IsOfItsKind, cpu_named, number_named}
+use Rattle.rmm_spec.specs.Linearization.{IsLinearization, IsOfItsKind, cpu_named, number_named}
 use Rattle.spec_machine.specs.View.{state_of}
-use Rattle.order_laws.specs.Order.{count_of, LeadsNowhere, Reaches, ReturnBehind}
+use Rattle.order_laws.specs.Order.{count_of, LeadsNowhere, Reaches}
 use Rattle.order_laws.proofs.Growth.{Reaches-nil, Reaches-push}
 use Rattle.order_laws.proofs.Nowhere.{nowhere_by, nowhere_unless}
 use Rattle.finding.specs.Attempt.{IsAttempt, MayTry}
@@ -17,7 +17,7 @@ use Rattle.finding.specs.Choice.{rank_of, IsNextCall, IsLeast}
 use Rattle.finding.specs.Counts.{AreCounts}
 use Rattle.finding.specs.Front.{IsFront}
 use Rattle.finding.specs.Search.{IsGiven}
-use Rattle.finding.specs.Tried.{Tried, CallLeadsNowhere}
+use Rattle.finding.specs.Tried.{Tried}
 use Rattle.finding.specs.declared.begun.Begun.{Begun}
 use Rattle.finding.specs.declared.choice.Choice.{Choice}
 use Rattle.finding.specs.declared.frame.Frame.{Frame}

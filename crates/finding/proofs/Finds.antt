@@ -1,6 +1,5 @@
 -- What was found, by how a search or a look return by return ends.
 use Rattle.std.proofs.Common.{◌≡◌, ℕ, ◌+◌, [], take, refl, subst}
-use Rattle.rmm_spec.specs.declared.line.Line.{Line}
 use Rattle.rmm_spec.specs.HistoryText.{History, IsHistory}
 use Rattle.order_laws.specs.Order.{LeadsNowhere}
 use Rattle.order_laws.proofs.Nowhere.{none-from_nowhere}
@@ -8,7 +7,7 @@ use Rattle.finding.specs.Found.{HasNone, HasNoneUpTo}
 use Rattle.finding.specs.Search.{IsSearch}
 use Rattle.finding.specs.declared.offers.Offers.{Offers}
 use Rattle.finding.specs.declared.search.Search.{Search}
-use Rattle.finding.proofs.Searches.{IsSearch-looked, IsSearch-tried}
+use Rattle.finding.proofs.Searches.{IsSearch-tried}
 
 -- other offers were made
 pub IsSearch-offers : (history : History) → IsHistory history → (search : Search) (offers : Offers) → IsSearch history search

@@ -1,14 +1,13 @@
 -- What is left behind the next line of an order that is begun.
-use Rattle.std.proofs.Common.{◌≡◌, ℕ, ◌+◌, ◌^◌, ◌<◌, ◌≤◌, List, [], ◌∷◌, ◌++◌, Option, Some, None, refl, sym, ap, subst, arith}
+use Rattle.std.proofs.Common.{◌≡◌, ℕ, ◌+◌, ◌^◌, ◌<◌, ◌≤◌, List, Option, Some, None, refl, sym, ap, subst}
 use Rattle.rmm_spec.specs.declared.line.Line.{Line}
 use Rattle.rmm_spec.specs.declared.line.Line.TheVariants.{Keep, Unfinished}
 use Rattle.rmm_spec.specs.declared.reply.Reply.{Reply}
 use Rattle.rmm_spec.specs.HistoryText.{History, IsHistory}
 use Rattle.rmm_spec.specs.Linearization.{IsFinished, IsOfItsKind, cpu_named, number_named}
 use Rattle.spec_machine.specs.View.{state_of}
-use Rattle.order_laws.specs.Order.{LeadsNowhere}
-use Rattle.finding.specs.Attempt.{IsAttempt, IsTriedNext, MayTry}
-use Rattle.finding.specs.Begun.{GoesBehind, Holds, IsNextLine, IsSoon, MayStand}
+use Rattle.finding.specs.Attempt.{IsTriedNext, MayTry}
+use Rattle.finding.specs.Begun.{GoesBehind, IsNextLine, IsSoon, MayStand}
 use Rattle.finding.specs.Choice.{rank_of, IsNextCall, IsLeast}
 use Rattle.finding.specs.Tried.{Tried}
 use Rattle.finding.specs.declared.begun.Begun.{Begun}

@@ -1,7 +1,7 @@
 //! Finds an order of a history's calls that is a linearization, from the history alone, or that there is none.
 //! It promises that the order found is a linearization, and that where none is told no certificate at all is one, nor of the events up to
-//! the place that is told. It tries depth first, and what isn't found so is looked for return by return, with all orders that are
-//! possible still; it gives up only where it has made as many offers as it may.
+//! the place that is told. It tries depth first, begins anew with a guess where that leads nowhere a few times, and at last looks return
+//! by return at all orders that are possible still; it gives up only where it has made as many offers as it may.
 //! The program `rmmfind` depends on it.
 #![tactic(auto)]
 

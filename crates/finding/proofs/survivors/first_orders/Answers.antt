@@ -1,5 +1,5 @@
 -- One order more.
-use Rattle.std.proofs.Common.{List, sym, subst}
+use Rattle.std.proofs.Common.{sym, subst}
 use Rattle.std.specs.List.{All}
 use Rattle.std.proofs.lemmas.List.Elements.{All-push}
 use Rattle.certificate.specs.declared.certificate.Certificate.{Certificate}
