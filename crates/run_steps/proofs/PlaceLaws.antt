@@ -2,6 +2,9 @@
 use Rattle.std.proofs.Common.{◌≡◌, ℕ, ◌+◌, ◌*◌, ◌-◌, ◌<◌, length, Option, Some, None, refl, sym, ap, ◌∙◌, arith, lit<}
 use Rattle.std.specs.List.{slice_get}
 use Rattle.std.proofs.lemmas.Option.{same_Some, slice_get_within}
+use denote.Enum.Declared.{tag_of}
+use Rattle.rmm_spec.specs.contracts.condition.Condition.{the_type as condition_type}
+use Rattle.rmm_spec.specs.contracts.function_id.FunctionId.{the_type as function_type}
 use Rattle.rmm_spec.specs.declared.condition.Condition.{Condition}
 use Rattle.rmm_spec.specs.declared.condition.Condition.TheVariants as condition
 use Rattle.rmm_spec.specs.declared.function_id.FunctionId.{FunctionId}
@@ -15,16 +18,26 @@ unfolding function_place number_of
 function_here function.GranuleDelegate = refl
 function_here _ = refl
 
+-- which is where it is declared
+pub function_declared : (called : FunctionId) → tag_of function_type called ≡ function_place called
+unfolding function_place number_of
+function_declared function.GranuleDelegate = refl
+function_declared _ = refl
+
 condition_here : (failing : Condition) → slice_get conditions (condition_place failing - 1) ≡ Some failing
 condition_here condition.Alias = refl
 condition_here _ = refl
+
+pub condition_declared : (failing : Condition) → tag_of condition_type failing + 1 ≡ condition_place failing
+condition_declared condition.Alias = refl
+condition_declared _ = refl
 
 -- conditions count from 1
 condition_within : (failing : Condition) → (0 < condition_place failing) × (condition_place failing < 44)
 condition_within condition.Alias = (lit< tt, lit< tt)
 condition_within _ = (lit< tt, lit< tt)
 
-pub function_within : (called : FunctionId) → function_place called < length functions
+function_within : (called : FunctionId) → function_place called < length functions
 function_within called = slice_get_within functions (function_place called) called (function_here called)
 
 refused_within : (refused : Option Condition) → refused_place refused < 44
@@ -54,9 +67,12 @@ same_place called other refused failed same =
     by f g r q same within below = let first : f ≡ g = omega arith in (first, omega arith)
 
 -- each answer has a place
-pub place_within : (called : FunctionId) (refused : Option Condition) → place_of called refused < place_count
+pub place_below : (f r : ℕ) → f < length functions → r < 44 → f * 44 + r < place_count
 unfolding place_count
-place_within called refused = by (function_place called) (refused_place refused) (length functions) (function_within called) (refused_within refused)
+place_below f r within below = by (length functions) within
   where
-    by : (f r count : ℕ) → f < count → r < 44 → f * 44 + r < count * 44
-    by f r count within below = omega arith
+    by : (count : ℕ) → f < count → f * 44 + r < count * 44
+    by count within = omega arith
+
+pub place_within : (called : FunctionId) (refused : Option Condition) → place_of called refused < place_count
+place_within called refused = place_below (function_place called) (refused_place refused) (function_within called) (refused_within refused)

@@ -7,6 +7,7 @@ ghost use Rattle.run_steps.specs.Places.{condition_place, function_place, place_
 use rmm_spec::{Condition, FunctionId};
 
 /// How many places there are: for each function one for each condition, and one for what is accepted.
+#[tactic(auto, unfolding(crate::specs::Places::place_count))]
 pub(crate) fn place_count() -> usize
     ensures { result ≡ place_count }
 {
@@ -80,6 +81,7 @@ fn refused_place(refused: Option<Condition>) -> usize
 }
 
 // Functions are declared in the order in which they are listed.
+#[tactic(auto, using(crate::proofs::PlaceLaws::function_declared))]
 fn function_place(function: FunctionId) -> usize
     ensures place { result ≡ function_place function }
     ensures within { result < length functions }
@@ -88,6 +90,7 @@ fn function_place(function: FunctionId) -> usize
 }
 
 // So are conditions.
+#[tactic(auto, using(crate::proofs::PlaceLaws::condition_declared))]
 fn condition_place(condition: Condition) -> usize
     ensures place { result ≡ condition_place condition }
     ensures within { result < 44 }
