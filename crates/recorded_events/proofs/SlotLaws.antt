@@ -54,14 +54,6 @@ slots_in-append words more (slot ∷ slots) each =
 HasWords-more : (size more : ℕ) (slot : Slot) → HasWords size slot → HasWords (size + more) slot
 HasWords-more size more slot has = record { within = omega (arith, has.within); few = has.few }
 
--- ---- words behind all others are there
-
-pub AreAt-seam : (words own : List ℕ) → AreAt (words ++ own) own (length words)
-AreAt-seam words own = record {
-  found = ap (take (length own)) (drop-append_seam words own) ∙ take-length own;
-  within = omega (arith, length-append words own);
-}
-
 -- ---- the words of the last event
 
 commit_at : (words : List ℕ) (first : ℕ) (given : Reply) → AreAt words (reply_words given) first → moment_at words first (commit_what given) ≡ Some (Commit given)
