@@ -14,7 +14,8 @@ use Rattle.run_steps.proofs.counting.count_conditions.Goals as goal
 
 pub loop-i-init : goal.loop-i-init
 loop-i-init c =
-    let zeros : c.in_ok-counts.counts.items ≡ replicate place_count 0 = c.in_ok-counts.ensures.items_if_clones_equal (λ count same. same) in
+    let zeros : c.in_ok-counts.counts.items ≡ replicate place_count 0 =
+    c.in_ok-counts.ensures.items_if_clones_equal (λ count same. same) ∙ ap (λ (n : ℕ). replicate {A = ℕ} n 0) c.place_count.ensures in
     record {
       told = [];
       first = AreFirst-none c.args.history.now.recorded c.args.certificate.now.lines (state_of c.in_ok-machine.machine) c.in_ok-machine.ensures;
