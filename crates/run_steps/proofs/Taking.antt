@@ -13,7 +13,7 @@ use Rattle.rmm_spec.specs.declared.refusal.Refusal.{Refusal}
 use Rattle.rmm_spec.specs.declared.reply.Reply.{Reply}
 use Rattle.rmm_spec.specs.Call.{call_of}
 use Rattle.rmm_spec.specs.HistoryText.{History}
-use Rattle.rmm_spec.specs.Linearization.{IsCalled, IsKnown, IsReplyOf, cpu_named, number_named}
+use Rattle.rmm_spec.specs.Linearization.{IsReplyOf, cpu_named, number_named}
 use Rattle.rmm_spec.specs.State.{State, opening}
 use Rattle.rmm_spec.specs.Step.{Step, outcome}
 use Rattle.run_steps.specs.Replayed.{AreReplayed, AreTaken, StopsAt, TakesLine, Told}
