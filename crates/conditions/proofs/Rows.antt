@@ -1,5 +1,5 @@
 -- The rows of a command ask what its conditions ask.
-use Rattle.std.proofs.Common.{◌≡◌, ℕ, ◌-◌, ◌≤◌, ◌++◌, ◌&&◌, ◌==◌, Bool, true, false, not, nat_lt, nat_le, min, List, [], ◌∷◌, map, Option, Some, None, Result, Ok, Err, IsTrue, is_some, is_none, if◌then◌else◌, refl, sym, ◌∙◌, ap, subst, arith}
+use Rattle.std.proofs.Common.{◌≡◌, ℕ, ◌-◌, ◌≤◌, ◌++◌, ◌&&◌, ◌==◌, Bool, true, false, not, nat_lt, nat_le, min, List, [], ◌∷◌, map, Option, Some, None, Result, Err, is_some, is_none, if◌then◌else◌, refl, sym, ◌∙◌, ap, arith}
 use Rattle.std.specs.List.{AllByRecursion}
 use Rattle.std.proofs.lemmas.Bool.Decides.{nat_tests}
 use Rattle.rmm_spec.specs.declared.accepted.Accepted.{Accepted}
@@ -10,7 +10,7 @@ use Rattle.rmm_spec.specs.declared.condition.Condition.{Condition}
 use Rattle.rmm_spec.specs.declared.condition.Condition.TheVariants as condition
 use Rattle.rmm_spec.specs.declared.refusal.Refusal.{Refusal}
 use Rattle.rmm_spec.specs.declared.refusal.Refusal.TheVariants as refusal
-use Rattle.rmm_spec.specs.Lookup.{has_rec, has_tag, is_inside, realm_at, rec_at, rec_inside}
+use Rattle.rmm_spec.specs.Lookup.{has_tag, is_inside, realm_at, rec_at, rec_inside}
 use Rattle.rmm_spec.specs.Rows.{Needed, Row, Word, all_allowed, decided, inputs, tagged}
 use Rattle.rmm_spec.specs.State.{State}
 use Rattle.rmm_spec.specs.Step.{answer_of, is_placed, misplacement, outcome}
