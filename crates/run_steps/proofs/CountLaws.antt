@@ -25,7 +25,8 @@ count_here : (told : List Told) (here : Told) (place : ℕ) (is : Bool) → plac
 count_here told here place is same = count_push told here place
     ∙ ap (λ (b : Bool). count_by (λ (line : Told). place_told line == place) told + cond b 1 0) same
 
-pub AreCounted-next : (counts : List ℕ) (told : List Told) (here : Told) → length counts ≡ place_count → place_told here < place_count → AreCounted counts told
+pub AreCounted-next : (counts : List ℕ) (told : List Told) (here : Told) → length counts ≡ place_count → place_told here < place_count
+    → AreCounted counts told
     → AreCounted (set counts (place_told here) (get_or counts (place_told here) 0 + 1)) (told ++ here ∷ [])
 AreCounted-next counts told here whole within counted place below = by (place_told here == place) refl
   where
@@ -44,7 +45,8 @@ AreCounted-next counts told here whole within counted place below = by (place_to
         = omega (arith, count_here told here place false same) in none)
 
 -- no count passes that of the lines
-pub counted_few : (counts : List ℕ) (told : List Told) (place : ℕ) → place < place_count → AreCounted counts told → get_or counts place 0 ≤ length told
+pub counted_few : (counts : List ℕ) (told : List Told) (place : ℕ) → place < place_count → AreCounted counts told
+    → get_or counts place 0 ≤ length told
 counted_few counts told place below counted =
     let most = count_by-le-length (λ (line : Told). place_told line == place) told in
     omega (arith, counted place below, most)
