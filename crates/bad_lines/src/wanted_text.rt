@@ -22,7 +22,7 @@ impl fmt::Display for Wanted {
                 return write!(f, "the number of a CPU, from 0 to {last}");
             }
             Wanted::Number { .. } => "the number of a call, from 0 to 999999",
-            Wanted::Function => "the number of one of the 28 functions, in 8 lower-case hex digits",
+            Wanted::Function => "the number of a function, in 8 lower-case hex digits",
             Wanted::Form => "ok, err or misplaced",
             Wanted::Words { left: 0 } | Wanted::MoreWords { left: 0 } | Wanted::End => {
                 "nothing, since the line has to end"

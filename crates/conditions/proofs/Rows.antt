@@ -1,5 +1,5 @@
 -- The rows of a command ask what its conditions ask.
-use Rattle.std.proofs.Common.{◌≡◌, ℕ, ◌-◌, ◌≤◌, ◌++◌, ◌&&◌, ◌==◌, Bool, true, false, not, nat_lt, nat_le, min, List, [], ◌∷◌, map, Option, Some, None, Result, Ok, Err, IsTrue, is_some, is_none, if◌then◌else◌, refl, sym, ◌∙◌, ap, subst, arith}
+use Rattle.std.proofs.Common.{◌≡◌, ℕ, ◌-◌, ◌≤◌, ◌++◌, ◌&&◌, ◌==◌, Bool, true, false, not, nat_lt, nat_le, min, List, [], ◌∷◌, map, Option, Some, None, Result, Err, is_some, is_none, if◌then◌else◌, refl, sym, ◌∙◌, ap, arith}
 use Rattle.std.specs.List.{AllByRecursion}
 use Rattle.std.proofs.lemmas.Bool.Decides.{nat_tests}
 use Rattle.rmm_spec.specs.declared.accepted.Accepted.{Accepted}
@@ -10,7 +10,7 @@ use Rattle.rmm_spec.specs.declared.condition.Condition.{Condition}
 use Rattle.rmm_spec.specs.declared.condition.Condition.TheVariants as condition
 use Rattle.rmm_spec.specs.declared.refusal.Refusal.{Refusal}
 use Rattle.rmm_spec.specs.declared.refusal.Refusal.TheVariants as refusal
-use Rattle.rmm_spec.specs.Lookup.{has_rec, has_tag, is_inside, realm_at, rec_at, rec_inside}
+use Rattle.rmm_spec.specs.Lookup.{has_tag, is_inside, realm_at, rec_at, rec_inside}
 use Rattle.rmm_spec.specs.Rows.{Needed, Row, Word, all_allowed, decided, inputs, tagged}
 use Rattle.rmm_spec.specs.State.{State}
 use Rattle.rmm_spec.specs.Step.{answer_of, is_placed, misplacement, outcome}
@@ -117,33 +117,10 @@ realm_destroy-same s cpu rd tags = rw tags.0 refl
 first_row-behind : (s : State) (cpu : ℕ) (c : Call) → all_allowed (words_of c) ≡ true → HaveTags s (named c)
     → first_row (behind s cpu c).0 ≡ first_failing s (own_conditions (rec_inside s cpu) c)
 unfolding behind own_conditions passes
-first_row-behind s cpu (call.GranuleDelegate granule) allowed tags = refl
-first_row-behind s cpu (call.GranuleUndelegate granule) allowed tags = refl
-first_row-behind s cpu (call.DataCreate rd granule ipa source flags digest) allowed tags = refl
-first_row-behind s cpu (call.DataCreateUnknown rd granule ipa) allowed tags = refl
-first_row-behind s cpu (call.DataDestroy rd ipa) allowed tags = refl
-first_row-behind s cpu (call.RealmActivate rd) allowed tags = refl
-first_row-behind s cpu (call.RealmCreate rd root width level vmid algo) allowed tags = refl
 first_row-behind s cpu (call.RealmDestroy rd) allowed tags = realm_destroy-same s cpu rd tags
-first_row-behind s cpu (call.RecCreate rd rec mpidr flags aux0 aux1) allowed tags = refl
-first_row-behind s cpu (call.RecDestroy rec) allowed tags = refl
-first_row-behind s cpu (call.RecEnter rec) allowed tags = refl
 first_row-behind s cpu (call.RttCreate rd rtt ipa level) allowed tags = rtt_create-same s cpu rd rtt ipa level allowed
 first_row-behind s cpu (call.RttRemove removal rd ipa level) allowed tags = rtt_remove-same s cpu removal rd ipa level allowed
-first_row-behind s cpu (call.RttMapUnprotected rd ipa page) allowed tags = refl
-first_row-behind s cpu (call.RttReadEntry rd ipa level) allowed tags = refl
-first_row-behind s cpu (call.RttUnmapUnprotected rd ipa) allowed tags = refl
-first_row-behind s cpu (call.RttInitRipas rd base top) allowed tags = refl
-first_row-behind s cpu (call.RttSetRipas rd rec base top) allowed tags = refl
-first_row-behind s cpu (call.MeasurementRead index) allowed tags = refl
-first_row-behind s cpu (call.MeasurementExtend index size values) allowed tags = refl
-first_row-behind s cpu call.RealmConfig allowed tags = refl
-first_row-behind s cpu (call.IpaStateSet base top ripas) allowed tags = refl
-first_row-behind s cpu (call.IpaStateGet ipa) allowed tags = refl
-first_row-behind s cpu (call.HostCall imm) allowed tags = refl
-first_row-behind s cpu call.CpuOff allowed tags = refl
-first_row-behind s cpu call.SystemOff allowed tags = refl
-first_row-behind s cpu call.Exit allowed tags = refl
+first_row-behind s cpu _ allowed tags = refl
 
 -- ---- where it is placed
 

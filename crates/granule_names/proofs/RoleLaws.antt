@@ -17,33 +17,7 @@ use Rattle.granule_names.proofs.NameLaws.{names_from-append}
 pub NamesAtPlaces-each : (f : FunctionId) (words : List ℕ) → NamesAtPlaces f words
 unfolding call_from named command_roles
 NamesAtPlaces-each function.GranuleDelegate words = refl
-NamesAtPlaces-each function.GranuleUndelegate words = refl
-NamesAtPlaces-each function.DataCreate words = refl
-NamesAtPlaces-each function.DataCreateUnknown words = refl
-NamesAtPlaces-each function.DataDestroy words = refl
-NamesAtPlaces-each function.RealmActivate words = refl
-NamesAtPlaces-each function.RealmCreate words = refl
-NamesAtPlaces-each function.RealmDestroy words = refl
-NamesAtPlaces-each function.RecCreate words = refl
-NamesAtPlaces-each function.RecDestroy words = refl
-NamesAtPlaces-each function.RecEnter words = refl
-NamesAtPlaces-each function.RttCreate words = refl
-NamesAtPlaces-each function.RttDestroy words = refl
-NamesAtPlaces-each function.RttMapUnprotected words = refl
-NamesAtPlaces-each function.RttReadEntry words = refl
-NamesAtPlaces-each function.RttUnmapUnprotected words = refl
-NamesAtPlaces-each function.RttFold words = refl
-NamesAtPlaces-each function.RttInitRipas words = refl
-NamesAtPlaces-each function.RttSetRipas words = refl
-NamesAtPlaces-each function.MeasurementRead words = refl
-NamesAtPlaces-each function.MeasurementExtend words = refl
-NamesAtPlaces-each function.RealmConfig words = refl
-NamesAtPlaces-each function.IpaStateSet words = refl
-NamesAtPlaces-each function.IpaStateGet words = refl
-NamesAtPlaces-each function.HostCall words = refl
-NamesAtPlaces-each function.CpuOff words = refl
-NamesAtPlaces-each function.SystemOff words = refl
-NamesAtPlaces-each function.Exit words = refl
+NamesAtPlaces-each _ words = refl
 
 -- one word further
 pub names_from-next : (names : List ℕ) (memory : ℕ) (roles : List Role) (words : List ℕ) (place : ℕ) → place < length words

@@ -1,7 +1,7 @@
 -- Which words of commands and replies are addresses of granules.
 use Rattle.std.specs.Prelude.{ℕ, ◌||◌, ◌==◌, if◌then◌else◌, List, [], ◌∷◌, Option, Some, None, slice_index, slice_index_or}
 use Rattle.rmm_spec.specs.declared.function_id.FunctionId.{FunctionId}
-use Rattle.rmm_spec.specs.declared.function_id.FunctionId.TheVariants.{DataCreate, DataCreateUnknown, DataDestroy, MeasurementRead, MeasurementExtend, RealmConfig, IpaStateSet, IpaStateGet, HostCall, CpuOff, SystemOff, Exit, RealmCreate, RecCreate, RttCreate, RttDestroy, RttMapUnprotected, RttReadEntry, RttFold, RttSetRipas}
+use Rattle.rmm_spec.specs.declared.function_id.FunctionId.TheVariants.{GranuleDelegate, GranuleUndelegate, DataCreate, DataCreateUnknown, DataDestroy, RealmActivate, RealmCreate, RealmDestroy, RecCreate, RecDestroy, RecEnter, RttCreate, RttDestroy, RttMapUnprotected, RttReadEntry, RttUnmapUnprotected, RttFold, RttInitRipas, RttSetRipas}
 use Rattle.granule_names.specs.declared.roles.Role.{Role}
 use Rattle.granule_names.specs.declared.roles.Role.TheVariants.{Granule, Page, Other}
 
@@ -9,7 +9,7 @@ use Rattle.granule_names.specs.declared.roles.Role.TheVariants.{Granule, Page, O
 abbrev pub role_at : List Role → ℕ → Role
 role_at roles place = slice_index_or roles place Other
 
--- A command's words, as far as some are addresses: granules, and the host's page that is mapped.
+-- A command's words, as far as some are addresses: granules, and the host's page that is mapped. A realm's call names none.
 unfoldable pub command_roles : FunctionId → List Role
 command_roles DataCreate = Granule ∷ Granule ∷ Other ∷ Granule ∷ []
 command_roles DataCreateUnknown = Granule ∷ Granule ∷ []
@@ -18,16 +18,19 @@ command_roles RecCreate = Granule ∷ Granule ∷ Other ∷ Other ∷ Granule �
 command_roles RttCreate = Granule ∷ Granule ∷ []
 command_roles RttMapUnprotected = Granule ∷ Other ∷ Page ∷ []
 command_roles RttSetRipas = Granule ∷ Granule ∷ []
-command_roles MeasurementRead = []
-command_roles MeasurementExtend = []
-command_roles RealmConfig = []
-command_roles IpaStateSet = []
-command_roles IpaStateGet = []
-command_roles HostCall = []
-command_roles CpuOff = []
-command_roles SystemOff = []
-command_roles Exit = []
-command_roles _ = Granule ∷ []
+command_roles GranuleDelegate = Granule ∷ []
+command_roles GranuleUndelegate = Granule ∷ []
+command_roles DataDestroy = Granule ∷ []
+command_roles RealmActivate = Granule ∷ []
+command_roles RealmDestroy = Granule ∷ []
+command_roles RecDestroy = Granule ∷ []
+command_roles RecEnter = Granule ∷ []
+command_roles RttDestroy = Granule ∷ []
+command_roles RttReadEntry = Granule ∷ []
+command_roles RttUnmapUnprotected = Granule ∷ []
+command_roles RttFold = Granule ∷ []
+command_roles RttInitRipas = Granule ∷ []
+command_roles _ = []
 
 -- Level, state, address and RIPAS of an entry: it has an address where it is assigned (1) or a table (2). The reply doesn't tell a
 -- data granule from the host's page.

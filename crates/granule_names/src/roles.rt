@@ -50,16 +50,19 @@ pub(crate) fn command_roles(function: FunctionId) -> &'static [Role]
         | FunctionId::RealmCreate
         | FunctionId::RttCreate
         | FunctionId::RttSetRipas => FIRST_TWO.as_slice(),
-        FunctionId::MeasurementRead
-        | FunctionId::MeasurementExtend
-        | FunctionId::RealmConfig
-        | FunctionId::IpaStateSet
-        | FunctionId::IpaStateGet
-        | FunctionId::HostCall
-        | FunctionId::CpuOff
-        | FunctionId::SystemOff
-        | FunctionId::Exit => NONE.as_slice(),
-        _ => FIRST.as_slice(),
+        FunctionId::GranuleDelegate
+        | FunctionId::GranuleUndelegate
+        | FunctionId::DataDestroy
+        | FunctionId::RealmActivate
+        | FunctionId::RealmDestroy
+        | FunctionId::RecDestroy
+        | FunctionId::RecEnter
+        | FunctionId::RttDestroy
+        | FunctionId::RttReadEntry
+        | FunctionId::RttUnmapUnprotected
+        | FunctionId::RttFold
+        | FunctionId::RttInitRipas => FIRST.as_slice(),
+        _ => NONE.as_slice(),
     }
 }
 

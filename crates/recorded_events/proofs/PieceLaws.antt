@@ -1,14 +1,10 @@
 -- What pieces say of a text.
-use Rattle.std.proofs.Common.{◌≡◌, ℕ, zero, suc, ◌+◌, ◌^◌, ◌<◌, ◌≤◌, List, [], ◌∷◌, ◌++◌, length, Option, Some, None, sym, ap, ◌∙◌, subst, arith, lit≤, append_assoc}
-use Rattle.std.specs.Int.Digits.{digits_of}
-use Rattle.std.proofs.lemmas.Int.Digits.{length-digits_of-le}
-use Rattle.std.proofs.lemmas.List.{length-map}
+use Rattle.std.proofs.Common.{◌≡◌, ℕ, ◌+◌, ◌^◌, ◌<◌, ◌≤◌, List, [], ◌∷◌, ◌++◌, length, Option, Some, None, sym, ap, ◌∙◌, subst, arith, lit≤, append_assoc}
 use Rattle.line_pieces.proofs.LineLengths.{width, length-line_text, width-called, width-returned, width-config, length-decimal}
 use Rattle.line_pieces.proofs.Pieces.{IsBadLine-too_long}
-use Rattle.spec_lemmas.proofs.Texts.{numeral-zero, numeral_some}
 use Rattle.rmm_spec.specs.declared.version.Version.TheVariants.{Large}
 use Rattle.rmm_spec.specs.HistoryText.{Config, event_parts}
-use Rattle.rmm_spec.specs.Text.{HasNoNewline, IsBadLine, glyph, decimal, line_text}
+use Rattle.rmm_spec.specs.Text.{HasNoNewline, IsBadLine, line_text}
 use Rattle.recorded_events.specs.Events.{Moment, Call, Commit, Return, Recorded, Recording, IsMoment, IsRecorded, InRecordings, IsRecordingText, moment_parts, recorded_parts, sizes_parts}
 use Rattle.recorded_events.specs.Faults.{IsFaultOf}
 use Rattle.recorded_events.specs.Pieces.{AreRead, HasRead, number_after}

@@ -3,7 +3,6 @@ use Rattle.std.proofs.Common.{◌≡◌, ◌≢◌, ℕ, zero, suc, ◌+◌, ◌
 use Rattle.std.specs.List.{AllByRecursion}
 use Rattle.std.proofs.lemmas.Bool.{cases_eq}
 use Rattle.std.proofs.lemmas.List.{take-append-le, drop-append-le, length-drop, length-map, length-set, length-replicate, map-set, map-append, get_or-set_same, get_or-set_other}
-use Rattle.std.proofs.Math.Seq.{drop-append_seam, take-length}
 use Rattle.rmm_spec.specs.declared.reply.Reply.{Reply}
 use Rattle.rmm_spec.specs.declared.reply.Reply.TheVariants as reply
 use Rattle.spec_lemmas.proofs.Lines.{each-weaker}
@@ -53,14 +52,6 @@ slots_in-append words more (slot ∷ slots) each =
 
 HasWords-more : (size more : ℕ) (slot : Slot) → HasWords size slot → HasWords (size + more) slot
 HasWords-more size more slot has = record { within = omega (arith, has.within); few = has.few }
-
--- ---- words behind all others are there
-
-pub AreAt-seam : (words own : List ℕ) → AreAt (words ++ own) own (length words)
-AreAt-seam words own = record {
-  found = ap (take (length own)) (drop-append_seam words own) ∙ take-length own;
-  within = omega (arith, length-append words own);
-}
 
 -- ---- the words of the last event
 

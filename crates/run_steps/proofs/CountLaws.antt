@@ -7,11 +7,11 @@ use Rattle.std.proofs.lemmas.Grind.{get_or-set_at}
 use Rattle.std.proofs.lemmas.List.{get_or-replicate, get_or-set_other}
 use Rattle.std.proofs.lemmas.List.Sums.{count_by-le-length, sum_by-append}
 use Rattle.run_steps.specs.Replayed.{Told}
-use Rattle.run_steps.specs.Places.{place_told}
+use Rattle.run_steps.specs.Places.{place_count, place_told}
 
 -- each place has the count of the lines that are told so
 abbrev pub AreCounted : List ℕ → List Told → Type 0
-AreCounted counts told = (place : ℕ) → place < 1232 → get_or counts place 0 ≡ count_by (λ (line : Told). place_told line == place) told
+AreCounted counts told = (place : ℕ) → place < place_count → get_or counts place 0 ≡ count_by (λ (line : Told). place_told line == place) told
 
 count_push : (told : List Told) (here : Told) (place : ℕ) → count_by (λ (line : Told). place_told line == place) (told ++ here ∷ [])
     ≡ count_by (λ (line : Told). place_told line == place) told + cond (place_told here == place) 1 0
@@ -25,7 +25,8 @@ count_here : (told : List Told) (here : Told) (place : ℕ) (is : Bool) → plac
 count_here told here place is same = count_push told here place
     ∙ ap (λ (b : Bool). count_by (λ (line : Told). place_told line == place) told + cond b 1 0) same
 
-pub AreCounted-next : (counts : List ℕ) (told : List Told) (here : Told) → length counts ≡ 1232 → place_told here < 1232 → AreCounted counts told
+pub AreCounted-next : (counts : List ℕ) (told : List Told) (here : Told) → length counts ≡ place_count → place_told here < place_count
+    → AreCounted counts told
     → AreCounted (set counts (place_told here) (get_or counts (place_told here) 0 + 1)) (told ++ here ∷ [])
 AreCounted-next counts told here whole within counted place below = by (place_told here == place) refl
   where
@@ -44,14 +45,15 @@ AreCounted-next counts told here whole within counted place below = by (place_to
         = omega (arith, count_here told here place false same) in none)
 
 -- no count passes that of the lines
-pub counted_few : (counts : List ℕ) (told : List Told) (place : ℕ) → place < 1232 → AreCounted counts told → get_or counts place 0 ≤ length told
+pub counted_few : (counts : List ℕ) (told : List Told) (place : ℕ) → place < place_count → AreCounted counts told
+    → get_or counts place 0 ≤ length told
 counted_few counts told place below counted =
     let most = count_by-le-length (λ (line : Told). place_told line == place) told in
     omega (arith, counted place below, most)
 
 -- at first nothing is counted
-pub AreCounted-none : (counts : List ℕ) → counts ≡ replicate 1232 0 → AreCounted counts []
-AreCounted-none counts same place below = ap (λ (xs : List ℕ). get_or xs place 0) same ∙ get_or-replicate 1232 place 0 0 below
+pub AreCounted-none : (counts : List ℕ) → counts ≡ replicate place_count 0 → AreCounted counts []
+AreCounted-none counts same place below = ap (λ (xs : List ℕ). get_or xs place 0) same ∙ get_or-replicate place_count place 0 0 below
 
 -- an element that is there is the same whatever stands for one that isn't
 pub get_or-other : (xs : List ℕ) (i d e : ℕ) → i < length xs → get_or xs i d ≡ get_or xs i e

@@ -13,7 +13,7 @@ use Rattle.rmm_spec.specs.declared.refusal.Refusal.{Refusal}
 use Rattle.rmm_spec.specs.declared.reply.Reply.{Reply}
 use Rattle.rmm_spec.specs.Call.{call_of}
 use Rattle.rmm_spec.specs.HistoryText.{History}
-use Rattle.rmm_spec.specs.Linearization.{IsCalled, IsKnown, IsReplyOf, cpu_named, number_named}
+use Rattle.rmm_spec.specs.Linearization.{IsReplyOf, cpu_named, number_named}
 use Rattle.rmm_spec.specs.State.{State, opening}
 use Rattle.rmm_spec.specs.Step.{Step, outcome}
 use Rattle.run_steps.specs.Replayed.{AreReplayed, AreTaken, StopsAt, TakesLine, Told}
@@ -86,18 +86,7 @@ TakesLine-of events old line cpu number call given answer new same_cpu same_numb
       step = step;
     }
 
--- no such call is made
-pub StopsAt-unknown : (events : List Event) (old : State) (line : Line) (cpu number : ℕ) → cpu ≡ cpu_named line → number ≡ number_named line
-    → ¬ IsKnown events cpu number → StopsAt events old line
-StopsAt-unknown events old line cpu number same_cpu same_number unknown =
-    inl (λ entry is. unknown (
-      is.called,
-      entry.command,
-      subst (λ (c : ℕ). IsCalled events is.called c number entry.command) (sym same_cpu)
-          (subst (λ (n : ℕ). IsCalled events is.called (cpu_named line) n entry.command) (sym same_number) is.is_called),
-    ))
-
--- or it claims no reply
+-- the line claims no reply
 pub StopsAt-unclaimed : (events : List Event) (old : State) (line : Line) (cpu number : ℕ) (call : Call) → cpu ≡ cpu_named line → number ≡ number_named line
     → IsCallOf events cpu number call
     → ((all : List Event) (given : Reply) → IsCallOf all (cpu_named line) (number_named line) call → ¬ IsReplyOf all line given) → StopsAt events old line

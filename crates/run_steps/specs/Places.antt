@@ -1,44 +1,22 @@
 -- Where a function and a condition are counted.
-use Rattle.std.specs.Prelude.{ℕ, ◌+◌, ◌*◌, List, [], ◌∷◌, Option, Some, None, Result, Ok, Err}
+use Rattle.std.specs.Prelude.{ℕ, suc, ◌+◌, ◌*◌, ◌==◌, if◌then◌else◌, List, [], ◌∷◌, length, Option, Some, None, Result, Ok, Err}
 use Rattle.rmm_spec.specs.declared.accepted.Accepted.{Accepted}
 use Rattle.rmm_spec.specs.declared.condition.Condition.{Condition}
 use Rattle.rmm_spec.specs.declared.condition.Condition.TheVariants as condition
 use Rattle.rmm_spec.specs.declared.function_id.FunctionId.{FunctionId}
-use Rattle.rmm_spec.specs.declared.function_id.FunctionId.TheVariants as function
 use Rattle.rmm_spec.specs.declared.refusal.Refusal.{Refusal}
 use Rattle.rmm_spec.specs.declared.refusal.Refusal.TheVariants as refusal
+use Rattle.rmm_spec.specs.Function.{functions, number_of}
 use Rattle.run_steps.specs.Replayed.{Told}
 
--- each function has a number of its own
-abbrev pub function_place : FunctionId → ℕ
-function_place function.GranuleDelegate = 0
-function_place function.GranuleUndelegate = 1
-function_place function.DataCreate = 2
-function_place function.DataCreateUnknown = 3
-function_place function.DataDestroy = 4
-function_place function.RealmActivate = 5
-function_place function.RealmCreate = 6
-function_place function.RealmDestroy = 7
-function_place function.RecCreate = 8
-function_place function.RecDestroy = 9
-function_place function.RecEnter = 10
-function_place function.RttCreate = 11
-function_place function.RttDestroy = 12
-function_place function.RttMapUnprotected = 13
-function_place function.RttReadEntry = 14
-function_place function.RttUnmapUnprotected = 15
-function_place function.RttFold = 16
-function_place function.RttInitRipas = 17
-function_place function.RttSetRipas = 18
-function_place function.MeasurementRead = 19
-function_place function.MeasurementExtend = 20
-function_place function.RealmConfig = 21
-function_place function.IpaStateSet = 22
-function_place function.IpaStateGet = 23
-function_place function.HostCall = 24
-function_place function.CpuOff = 25
-function_place function.SystemOff = 26
-function_place function.Exit = 27
+-- the place of the first function that has the number
+abbrev pub place_among : List FunctionId → ℕ → ℕ
+place_among [] number = 0
+place_among (called ∷ others) number = if number_of called == number then 0 else suc (place_among others number)
+
+-- each function has a place of its own, as they are listed
+unfoldable pub function_place : FunctionId → ℕ
+function_place called = place_among functions (number_of called)
 
 -- and so has each condition, from 1 on
 abbrev pub condition_place : Condition → ℕ
@@ -105,6 +83,10 @@ refused_place (Some failing) = condition_place failing
 -- what is accepted, or refused for a condition, by the function
 abbrev pub place_of : FunctionId → Option Condition → ℕ
 place_of called refused = function_place called * 44 + refused_place refused
+
+-- how many places there are
+unfoldable pub place_count : ℕ
+place_count = length functions * 44
 
 -- the condition for which a command is refused
 abbrev pub condition_of : Refusal → Condition

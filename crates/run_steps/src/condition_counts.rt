@@ -1,6 +1,7 @@
 //! How often each condition of each command refused.
 
 ghost use Rattle.std.specs.Prelude.{◌≡◌, length};
+ghost use Rattle.run_steps.specs.Places.{place_count};
 
 use crate::places::place_of;
 use rmm_spec::{Condition, FunctionId};
@@ -10,7 +11,7 @@ use rmm_spec::{Condition, FunctionId};
 pub struct ConditionCounts {
     pub replayed: u64,
     pub(crate) counts: Vec<u64>,
-    ghost whole: { length counts.items ≡ 1232 },
+    ghost whole: { length counts.items ≡ place_count },
 }
 
 impl ConditionCounts {

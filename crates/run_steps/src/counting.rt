@@ -5,7 +5,7 @@ ghost use Rattle.run_steps.specs.Counts.{AreCountsOf};
 ghost use Rattle.run_steps.specs.Places.{condition_in, condition_of};
 
 use crate::condition_counts::ConditionCounts;
-use crate::places::{PLACES, place_of};
+use crate::places::{place_count, place_of};
 use crate::replay::{machine_of, take_line};
 use certificate::Certificate;
 use history::History;
@@ -21,7 +21,7 @@ pub fn count_conditions(
     ensures { IfOk result (AreCountsOf history.now.recorded certificate.now.lines) }
 {
     let mut machine = machine_of(alloc, history)?;
-    let mut counts = vec![in alloc; 0; PLACES]?;
+    let mut counts = vec![in alloc; 0; place_count()]?;
     for i in 0..certificate.len() {
         let Some(taken) = take_line(&mut machine, history, certificate.line(i))? else {
             return Ok(ConditionCounts {

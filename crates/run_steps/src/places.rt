@@ -1,12 +1,19 @@
 //! Where a function and a condition are counted.
 
-ghost use Rattle.std.specs.Prelude.{◌≡◌, ◌<◌};
-ghost use Rattle.run_steps.specs.Places.{condition_place, function_place, place_of, refused_place};
+ghost use Rattle.std.specs.Prelude.{◌≡◌, ◌<◌, length};
+ghost use Rattle.rmm_spec.specs.Function.{functions};
+ghost use Rattle.run_steps.specs.Places.{condition_place, function_place, place_count, place_of, refused_place};
 
 use rmm_spec::{Condition, FunctionId};
 
-/// How many places there are: as many for each function as conditions have, and one for what is accepted.
-pub(crate) const PLACES: usize = 28 * 44;
+/// How many places there are: for each function one for each condition, and one for what is accepted.
+#[tactic(auto, unfolding(crate::specs::Places::place_count))]
+pub(crate) fn place_count() -> usize
+    ensures { result ≡ place_count }
+{
+    let functions = FunctionId::all();
+    functions.len() * 44
+}
 
 /// The conditions, in the order of their places.
 pub(crate) const CONDITIONS: [Condition; 43] = [
@@ -58,7 +65,7 @@ pub(crate) const CONDITIONS: [Condition; 43] = [
 /// The place of what is accepted, or of a refusal for a condition.
 pub(crate) fn place_of(function: FunctionId, refused: Option<Condition>) -> usize
     ensures place { result ≡ place_of function refused }
-    ensures within { result < 1232 }
+    ensures within { result < place_count }
 {
     function_place(function) * 44 + refused_place(refused)
 }
@@ -73,89 +80,20 @@ fn refused_place(refused: Option<Condition>) -> usize
     }
 }
 
+// Functions are declared in the order in which they are listed.
+#[tactic(auto, using(crate::proofs::PlaceLaws::function_declared))]
 fn function_place(function: FunctionId) -> usize
     ensures place { result ≡ function_place function }
-    ensures within { result < 28 }
+    ensures within { result < length functions }
 {
-    match function {
-        FunctionId::GranuleDelegate => 0,
-        FunctionId::GranuleUndelegate => 1,
-        FunctionId::DataCreate => 2,
-        FunctionId::DataCreateUnknown => 3,
-        FunctionId::DataDestroy => 4,
-        FunctionId::RealmActivate => 5,
-        FunctionId::RealmCreate => 6,
-        FunctionId::RealmDestroy => 7,
-        FunctionId::RecCreate => 8,
-        FunctionId::RecDestroy => 9,
-        FunctionId::RecEnter => 10,
-        FunctionId::RttCreate => 11,
-        FunctionId::RttDestroy => 12,
-        FunctionId::RttMapUnprotected => 13,
-        FunctionId::RttReadEntry => 14,
-        FunctionId::RttUnmapUnprotected => 15,
-        FunctionId::RttFold => 16,
-        FunctionId::RttInitRipas => 17,
-        FunctionId::RttSetRipas => 18,
-        FunctionId::MeasurementRead => 19,
-        FunctionId::MeasurementExtend => 20,
-        FunctionId::RealmConfig => 21,
-        FunctionId::IpaStateSet => 22,
-        FunctionId::IpaStateGet => 23,
-        FunctionId::HostCall => 24,
-        FunctionId::CpuOff => 25,
-        FunctionId::SystemOff => 26,
-        FunctionId::Exit => 27,
-    }
+    function as usize
 }
 
+// So are conditions.
+#[tactic(auto, using(crate::proofs::PlaceLaws::condition_declared))]
 fn condition_place(condition: Condition) -> usize
     ensures place { result ≡ condition_place condition }
     ensures within { result < 44 }
 {
-    match condition {
-        Condition::Alias => 1,
-        Condition::AuxAlias => 2,
-        Condition::BaseAlign => 3,
-        Condition::BaseBound => 4,
-        Condition::GranState => 5,
-        Condition::IndexBound => 6,
-        Condition::IpaAlign => 7,
-        Condition::IpaBound => 8,
-        Condition::LevelBound => 9,
-        Condition::MpidrIndex => 10,
-        Condition::ParamsSupp => 11,
-        Condition::RealmLive => 12,
-        Condition::RealmNew => 13,
-        Condition::RealmState => 14,
-        Condition::RecOwner => 15,
-        Condition::RecRunnable => 16,
-        Condition::RecState => 17,
-        Condition::RgnBound => 18,
-        Condition::RipasValid => 19,
-        Condition::RttLive => 20,
-        Condition::RttNumLevel => 21,
-        Condition::RttWalk => 22,
-        Condition::RtteRipas => 23,
-        Condition::RtteState => 24,
-        Condition::SizeBound => 25,
-        Condition::SizeValid => 26,
-        Condition::SystemOff => 27,
-        Condition::TopAlign => 28,
-        Condition::TopBound => 29,
-        Condition::TopGranAlign => 30,
-        Condition::TopRttAlign => 31,
-        Condition::VmidValid => 32,
-        Condition::OwnAlike => 33,
-        Condition::OwnBase => 34,
-        Condition::OwnFlags => 35,
-        Condition::OwnImm => 36,
-        Condition::OwnInside => 37,
-        Condition::OwnOutside => 38,
-        Condition::OwnPage => 39,
-        Condition::OwnPending => 40,
-        Condition::OwnRecCount => 41,
-        Condition::OwnRequest => 42,
-        Condition::OwnShape => 43,
-    }
+    condition as usize + 1
 }

@@ -6,7 +6,7 @@ use Rattle.std.proofs.lemmas.List.{length-replicate, length-set}
 use Rattle.certificate.specs.LineRef.{line_seen}
 use Rattle.spec_machine.specs.View.{state_of}
 use Rattle.run_steps.specs.Granule.{told_of}
-use Rattle.run_steps.specs.Places.{place_of, place_told}
+use Rattle.run_steps.specs.Places.{place_count, place_of, place_told}
 use Rattle.run_steps.proofs.CountLaws.{AreCounted, AreCounted-next, AreCounted-none, counted_few, get_or-other}
 use Rattle.run_steps.proofs.PlaceLaws.{place_within}
 use Rattle.run_steps.proofs.Taking.{AreFirst, AreFirst-next, AreFirst-none, AreReplayed-all, AreReplayed-stopped}
@@ -14,12 +14,13 @@ use Rattle.run_steps.proofs.counting.count_conditions.Goals as goal
 
 pub loop-i-init : goal.loop-i-init
 loop-i-init c =
-    let zeros : c.in_ok-counts.counts.items ≡ replicate 1232 0 = c.in_ok-counts.ensures.items_if_clones_equal (λ count same. same) in
+    let zeros : c.in_ok-counts.counts.items ≡ replicate place_count 0 =
+    c.in_ok-counts.ensures.items_if_clones_equal (λ count same. same) ∙ ap (λ (n : ℕ). replicate {A = ℕ} n 0) c.place_count.ensures in
     record {
       told = [];
       first = AreFirst-none c.args.history.now.recorded c.args.certificate.now.lines (state_of c.in_ok-machine.machine) c.in_ok-machine.ensures;
       counted = AreCounted-none c.in_ok-counts.counts.items zeros;
-      whole = ap length zeros ∙ length-replicate {A = ℕ} 1232 0;
+      whole = ap length zeros ∙ length-replicate {A = ℕ} place_count 0;
     }
 
 pub overflow_add-index_mut : goal.overflow_add-index_mut
@@ -58,7 +59,7 @@ loop-i-preserved c =
     let count : c.index_mut.result.now ≡ get_or c.loop-i.counts.items (place_told here) 0 =
     c.index_mut.ensures.value ∙ get_or-other c.loop-i.counts.items c.place_of-place.result c.index_mut.result.now 0 (omega (arith, c.loop-i.invariant.whole, c.place_of-place.ensures.within))
     ∙ ap (λ (p : ℕ). get_or c.loop-i.counts.items p 0) place in
-    let within : place_told here < 1232 = subst (λ (p : ℕ). p < 1232) place c.place_of-place.ensures.within in
+    let within : place_told here < place_count = subst (λ (p : ℕ). p < place_count) place c.place_of-place.ensures.within in
     let set_there : set c.loop-i.counts.items c.place_of-place.result (c.index_mut.result.now + 1)
     ≡ set c.loop-i.counts.items (place_told here) (get_or c.loop-i.counts.items (place_told here) 0 + 1) =
     ap (λ (p : ℕ). set c.loop-i.counts.items p (c.index_mut.result.now + 1)) place ∙ ap (λ (n : ℕ). set c.loop-i.counts.items (place_told here) (n + 1)) count in

@@ -4,6 +4,7 @@ use Rattle.rmm_spec.specs.declared.line.Line.{Line}
 use Rattle.rmm_spec.specs.HistoryText.{History}
 use Rattle.rmm_spec.specs.State.{State}
 use Rattle.spec_machine.specs.View.{state_of}
+use Rattle.run_steps.specs.Places.{place_count}
 use Rattle.run_steps.specs.Replayed.{Told}
 use Rattle.run_steps.proofs.CountLaws.{AreCounted}
 use Rattle.run_steps.proofs.Taking.{AreFirst}
@@ -13,7 +14,7 @@ pub record AreCountedSoFar (history : History) (lines : List Line) (count : ℕ)
   pub told : List Told
   pub first : AreFirst history lines count told state
   pub counted : AreCounted counts told
-  pub whole : length counts ≡ 1232
+  pub whole : length counts ≡ place_count
 
 abbrev pub invariant-loop-i : goal.invariant-loop-i
 invariant-loop-i l = AreCountedSoFar l.history.recorded l.certificate.lines l.i l.counts.items (state_of l.machine)
