@@ -6,7 +6,7 @@ ghost use Rattle.rmm_spec.specs.Step.Terms.{named};
 ghost use Rattle.conditions.specs.Lists as spec;
 
 use crate::asked::Asked;
-use crate::test::{RealmTest, RecTest, Test, WalkTest};
+use crate::test::{RealmTest, RecTest, Test, WalkTest, WordTest};
 use command_words::{Caller, Name, named};
 use rmm_spec::{Call, Condition};
 use std::alloc::{AllocError, Global};
@@ -30,6 +30,13 @@ pub(crate) fn on_rec(rec: u64, condition: Condition, asked: RecTest) -> Asked
     ensures { result ≡ spec.on_rec rec condition asked }
 {
     asks(condition, Test::OfRec { rec, asked })
+}
+
+/// A condition on the word at a place.
+pub(crate) fn of_word(index: u8, word: u64, condition: Condition, asked: WordTest) -> Asked
+    ensures { result ≡ spec.of_word index word condition asked }
+{
+    asks(condition, Test::OfWord { index, word, asked })
 }
 
 /// A condition on where a walk ends.

@@ -9,9 +9,8 @@ ghost use Rattle.conditions.specs.declared.test.Test.TheVariants as test;
 ghost use Rattle.conditions.specs.Lists as spec;
 
 use crate::asked::Asked;
-use crate::lists::{asks, on_realm, on_rec, on_walk};
-use crate::test::{EntryKind, RealmTest, RecTest, Test, WalkTest};
-use command_words::is_page;
+use crate::lists::{asks, of_word, on_realm, on_rec, on_walk};
+use crate::test::{EntryKind, RealmTest, RecTest, Test, WalkTest, WordTest};
 use rmm_spec::{Call, Condition, Removal};
 use std::alloc::{AllocError, Global};
 
@@ -135,7 +134,7 @@ fn rec_create(alloc: Global, rd: u64, mpidr: u64) -> Result<Vec<Asked>, AllocErr
 {
     let new = on_realm(rd, Condition::RealmState, RealmTest::New);
     let index = on_realm(rd, Condition::MpidrIndex, RealmTest::NextIndex(mpidr));
-    let count = asks(Condition::OwnRecCount, Test::Words(mpidr < 8));
+    let count = of_word(2, mpidr, Condition::OwnRecCount, WordTest::Below(8));
     Ok(vec![in alloc; new, index, count]?)
 }
 
@@ -245,8 +244,12 @@ fn rtt_set_ripas(
     let request = on_rec(rec, Condition::OwnRequest, RecTest::Requesting);
     let from = on_rec(rec, Condition::BaseBound, RecTest::From(base));
     let by = on_rec(rec, Condition::TopBound, RecTest::By(top));
-    let size = asks(Condition::SizeValid, Test::Words(base < top));
-    let page = asks(Condition::TopGranAlign, Test::Words(is_page(top)));
+    let end = WordTest::BelowWord {
+        index: 3,
+        word: top,
+    };
+    let size = of_word(2, base, Condition::SizeValid, end);
+    let page = of_word(3, top, Condition::TopGranAlign, WordTest::Page);
     let begins = on_walk(rd, base, 3, Condition::BaseAlign, WalkTest::Begins(base));
     let ends = on_walk(
         rd,
