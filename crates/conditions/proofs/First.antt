@@ -74,9 +74,9 @@ IsFirst-at s (here ∷ list) (suc i) asked is below fails = inl (below.0, IsFirs
 
 -- ---- where nothing is found
 
-pub none_found : (found : Option Asked) (Each : Type 0) (First : Asked → Type 0) → MatchOption found Each First → ((asked : Asked) → ¬ (found ≡ Some asked)) → Each
-none_found None Each First match none = match
-none_found (Some asked) Each First match none = absurd (none asked refl)
+pub none_found : {X : Type 0} (found : Option X) (Otherwise : Type 0) (Says : X → Type 0) → MatchOption found Otherwise Says → ((x : X) → ¬ (found ≡ Some x)) → Otherwise
+none_found None Otherwise Says match none = match
+none_found (Some x) Otherwise Says match none = absurd (none x refl)
 
 -- ---- where one is
 

@@ -80,7 +80,3 @@ IsApart-refused s cpu command (Reaches stretch) items is refused = tt
 
 pub some_found : {X : Type 0} (found : Option X) (Otherwise : Type 0) (P : X → Type 0) (x : X) → MatchOption found Otherwise P → found ≡ Some x → P x
 some_found found Otherwise P x match is = subst (λ f. MatchOption f Otherwise P) is match
-
-pub nothing_found : {X : Type 0} (found : Option X) (Otherwise : Type 0) (P : X → Type 0) → MatchOption found Otherwise P → ((x : X) → ¬ (found ≡ Some x)) → Otherwise
-nothing_found None Otherwise P match none = match
-nothing_found (Some x) Otherwise P match none = absurd (none x refl)

@@ -1,5 +1,8 @@
 //! Why a command is refused, in words: the condition by its name, what it is for it to fail, and what it read.
 
+ghost use Rattle.std.specs.Prelude.{◌≡◌};
+ghost use Rattle.told.specs.Names.{condition_name};
+
 use crate::asked_text::WordText;
 use crate::facts::Fact;
 use rmm_spec::{Condition, FunctionId, Refusal};
@@ -69,7 +72,10 @@ pub fn condition_of(refusal: Refusal) -> Condition {
 }
 
 /// A condition's name in DEN0137, or this project's.
-pub fn condition_name(condition: Condition) -> &'static str {
+#[tactic(auto, unfolding(crate::specs::Names::condition_name))]
+pub fn condition_name(condition: Condition) -> &'static str
+    ensures { result.now ≡ condition_name condition }
+{
     match condition {
         Condition::Alias => "alias",
         Condition::AuxAlias => "aux_alias",

@@ -2,14 +2,14 @@
 use Rattle.spec_machine.specs.View.{state_of}
 use Rattle.rmm_spec.specs.Lookup.{rec_inside}
 use Rattle.conditions.specs.Law.{IsOfWords}
-use Rattle.conditions.proofs.First.{fails-first, first-has}
-use Rattle.explain.proofs.Decisions.{IsDecision-condition, IsFailing-first, is_so-condition, nothing_found, refused-none, some_found}
+use Rattle.conditions.proofs.First.{fails-first, first-has, none_found}
+use Rattle.explain.proofs.Decisions.{IsDecision-condition, IsFailing-first, is_so-condition, refused-none, some_found}
 use Rattle.explain.proofs.deciding.failing_condition.Goals as goal
 
 pub unreachable-requires : goal.unreachable-requires
 unreachable-requires c =
     refused-none (state_of c.args.machine.now) c.args.cpu c.args.command.now c.requires.refused.0 c.requires.refused.1
-    (rw c.call.ensures at (nothing_found c.in_ok-found.found _ _ c.in_ok-found.ensures c.in_default.not-Some))
+    (rw c.call.ensures at (none_found c.in_ok-found.found _ _ c.in_ok-found.ensures c.in_default.not-Some))
 
 pub condition_decision-requires-clause-fails : goal.condition_decision-requires-clause-fails
 condition_decision-requires-clause-fails c =
