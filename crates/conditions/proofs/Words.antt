@@ -1,5 +1,5 @@
 -- The conditions on words ask what its words have to say.
-use Rattle.std.proofs.Common.{◌≡◌, ℕ, ◌+◌, ◌-◌, ◌*◌, ◌^◌, ◌++◌, ◌&&◌, Bool, true, false, nat_le, min, List, [], ◌∷◌, Option, Some, None, if◌then◌else◌, refl, sym, ◌∙◌, ap, arith}
+use Rattle.std.proofs.Common.{◌≡◌, ℕ, ◌+◌, ◌-◌, ◌*◌, ◌^◌, ◌++◌, ◌&&◌, ◌==◌, Bool, true, false, not, nat_le, min, List, [], ◌∷◌, Option, Some, None, if◌then◌else◌, refl, sym, ◌∙◌, ap, arith}
 use Rattle.rmm_spec.specs.declared.call.Call.{Call}
 use Rattle.rmm_spec.specs.declared.call.Call.TheVariants as call
 use Rattle.rmm_spec.specs.declared.condition.Condition.{Condition}
@@ -48,7 +48,8 @@ first_failing-words s (call.DataCreate rd granule ipa source flags digest) rest 
 first_failing-words s (call.DataCreateUnknown rd granule ipa) rest = refl
 first_failing-words s (call.DataDestroy rd ipa) rest = refl
 first_failing-words s (call.RealmCreate rd root width level vmid algo) rest = refl
-first_failing-words s (call.RecCreate rd rec mpidr flags aux0 aux1) rest = if-three _ _ _ _ (Some condition.AuxAlias)
+first_failing-words s (call.RecCreate rd rec mpidr flags aux0 aux1) rest =
+    if-three (not (rec == aux0)) (not (rec == aux1)) (not (aux0 == aux1)) _ (Some condition.AuxAlias)
 first_failing-words s (call.RttCreate rd rtt ipa level) rest = level-same level (level - 1) ipa (first_failing s rest)
 first_failing-words s (call.RttRemove removal rd ipa level) rest = level-same level (level - 1) ipa (first_failing s rest)
 first_failing-words s (call.RttMapUnprotected rd ipa page) rest =
@@ -66,11 +67,12 @@ first_failing-words s _ rest = refl
 -- where none is found, each is allowed
 allowed-none : (words : List Word) → first_word words None ≡ None → all_allowed words ≡ true
 allowed-none [] none = refl
-allowed-none (word ∷ words) none = by word.allowed none
+allowed-none (word ∷ words) none = by word.allowed (allowed-none words) none
   where
-    by : (b : Bool) → (if b then first_word words None else Some word.condition) ≡ None → (b && all_allowed words) ≡ true
-    by true none = allowed-none words none
-    by false none = absurd cc
+    by : (b : Bool) → (first_word words None ≡ None → all_allowed words ≡ true) → (if b then first_word words None else Some word.condition) ≡ None
+        → (b && all_allowed words) ≡ true
+    by true others none = others none
+    by false others none = absurd cc
 
 -- where each condition on them passes, its words are allowed
 pub allowed-pass : (s : State) (c : Call) → AllPass s (word_conditions c) → all_allowed (words_of c) ≡ true
