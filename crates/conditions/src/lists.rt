@@ -1,6 +1,6 @@
 //! The conditions of each command.
 
-ghost use Rattle.std.specs.Prelude.{◌≡◌, map, IfOk};
+ghost use Rattle.std.specs.Prelude.{◌≡◌, ◌∷◌, [], map, IfOk};
 ghost use Rattle.command_words.specs.Callers.{class_from};
 ghost use Rattle.rmm_spec.specs.Step.Terms.{named};
 ghost use Rattle.conditions.specs.Lists as spec;
@@ -54,6 +54,20 @@ pub(crate) fn on_walk(rd: u64, ipa: u64, level: u8, condition: Condition, asked:
     )
 }
 
+/// A condition on a REC's realm.
+pub(crate) fn of_owner(rec: u64, condition: Condition, asked: RealmTest) -> Asked
+    ensures { result ≡ spec.of_owner rec condition asked }
+{
+    asks(condition, Test::OfOwner { rec, asked })
+}
+
+/// One condition alone.
+pub(crate) fn one(alloc: Global, asked: Asked) -> Result<Vec<Asked>, AllocError>
+    ensures { IfOk result (λ list. list.items ≡ asked ∷ []) }
+{
+    Ok(vec![in alloc; asked]?)
+}
+
 /// Where a command can be given.
 pub(crate) fn place_conditions(
     alloc: Global,
@@ -66,7 +80,7 @@ pub(crate) fn place_conditions(
     match caller {
         Caller::Host => {
             let outside = asks(Condition::OwnOutside, Test::Outside { cpu });
-            Ok(vec![in alloc; outside]?)
+            one(alloc, outside)
         }
         Caller::Realm => {
             let inside = asks(Condition::OwnInside, Test::Inside { cpu });
@@ -75,7 +89,7 @@ pub(crate) fn place_conditions(
         }
         Caller::Rec => {
             let inside = asks(Condition::OwnInside, Test::Inside { cpu });
-            Ok(vec![in alloc; inside]?)
+            one(alloc, inside)
         }
     }
 }

@@ -1,11 +1,10 @@
 //! The conditions of each command on its words alone.
 
-ghost use Rattle.std.specs.Prelude.{◌≡◌, ℕ, List, IfOk};
-ghost use Rattle.rmm_spec.specs.declared.call.Call.TheVariants as call;
+ghost use Rattle.std.specs.Prelude.{◌≡◌, IfOk};
 ghost use Rattle.conditions.specs.Lists as spec;
 
 use crate::asked::Asked;
-use crate::lists::of_word;
+use crate::lists::{of_word, one};
 use crate::test::WordTest;
 use rmm_spec::{Call, Condition};
 use std::alloc::{AllocError, Global};
@@ -20,10 +19,10 @@ pub(crate) fn word_conditions_of(alloc: Global, call: &Call) -> Result<Vec<Asked
 {
     match *call {
         Call::DataCreate { ipa, flags, .. } => data_create(alloc, ipa, flags),
-        Call::DataCreateUnknown { ipa, .. } => page(alloc, 2, ipa),
-        Call::DataDestroy { ipa, .. } | Call::RttUnmapUnprotected { ipa, .. } => page(
-            alloc, 1, ipa,
-        ),
+        Call::DataCreateUnknown { ipa, .. } => one(alloc, page(2, ipa)),
+        Call::DataDestroy { ipa, .. } | Call::RttUnmapUnprotected { ipa, .. } => {
+            one(alloc, page(1, ipa))
+        }
         Call::RealmCreate {
             rd,
             root,
@@ -48,21 +47,26 @@ pub(crate) fn word_conditions_of(alloc: Global, call: &Call) -> Result<Vec<Asked
         Call::RttReadEntry { ipa, level, .. } => on_level(alloc, 2, level, 1, ipa, level),
         Call::RttMapUnprotected { ipa, page, .. } => map_unprotected(alloc, ipa, page),
         Call::RttInitRipas { base, top, .. } => init_ripas(alloc, base, top),
-        Call::MeasurementRead { index } => measurement_read(alloc, index),
+        Call::MeasurementRead { index } => one(
+            alloc,
+            of_word(0, index, Condition::IndexBound, WordTest::AtMost(4)),
+        ),
         Call::MeasurementExtend { index, size, .. } => measurement_extend(alloc, index, size),
         Call::IpaStateSet { base, top, ripas } => ipa_state_set(alloc, base, top, ripas),
-        Call::IpaStateGet { ipa } => page(alloc, 0, ipa),
-        Call::HostCall { imm } => host_call(alloc, imm),
+        Call::IpaStateGet { ipa } => one(alloc, page(0, ipa)),
+        Call::HostCall { imm } => one(
+            alloc,
+            of_word(0, imm, Condition::OwnImm, WordTest::Below(0x10000)),
+        ),
         _ => Ok(Vec::new(alloc)),
     }
 }
 
 // An address at which a page begins.
-fn page(alloc: Global, index: u8, ipa: u64) -> Result<Vec<Asked>, AllocError>
-    ensures { IfOk result (λ list. list.items ≡ spec.page_words index ipa) }
+fn page(index: u8, ipa: u64) -> Asked
+    ensures { result ≡ spec.of_page index ipa }
 {
-    let aligned = of_word(index, ipa, Condition::IpaAlign, WordTest::Page);
-    Ok(vec![in alloc; aligned]?)
+    of_word(index, ipa, Condition::IpaAlign, WordTest::Page)
 }
 
 // A level, and an address at which an entry of another level begins.
@@ -81,16 +85,14 @@ fn on_level(
     Ok(vec![in alloc; bound, aligned]?)
 }
 
-#[tactic(auto, unfolding(crate::specs::Lists::word_conditions))]
 fn data_create(alloc: Global, ipa: u64, flags: u64) -> Result<Vec<Asked>, AllocError>
-    ensures { (rd granule source : ℕ) (digest : List ℕ) → IfOk result (λ list. list.items ≡ spec.word_conditions (call.DataCreate rd granule ipa source flags digest)) }
+    ensures { IfOk result (λ list. list.items ≡ spec.data_create_words ipa flags) }
 {
     let flags = of_word(4, flags, Condition::OwnFlags, WordTest::AtMost(1));
-    let aligned = of_word(2, ipa, Condition::IpaAlign, WordTest::Page);
+    let aligned = page(2, ipa);
     Ok(vec![in alloc; flags, aligned]?)
 }
 
-#[tactic(auto, unfolding(crate::specs::Lists::word_conditions))]
 fn realm_create(
     alloc: Global,
     rd: u64,
@@ -99,7 +101,7 @@ fn realm_create(
     level: u64,
     vmid: u64,
 ) -> Result<Vec<Asked>, AllocError>
-    ensures { (algo : ℕ) → IfOk result (λ list. list.items ≡ spec.word_conditions (call.RealmCreate rd root width level vmid algo)) }
+    ensures { IfOk result (λ list. list.items ≡ spec.realm_create_words rd root width level vmid) }
 {
     let other = WordTest::Apart { index: 0, word: rd };
     let apart = of_word(1, root, Condition::Alias, other);
@@ -109,7 +111,6 @@ fn realm_create(
     Ok(vec![in alloc; apart, wide, begins, few]?)
 }
 
-#[tactic(auto, unfolding(crate::specs::Lists::word_conditions))]
 fn rec_create(
     alloc: Global,
     rec: u64,
@@ -117,7 +118,7 @@ fn rec_create(
     aux0: u64,
     aux1: u64,
 ) -> Result<Vec<Asked>, AllocError>
-    ensures { (rd mpidr : ℕ) → IfOk result (λ list. list.items ≡ spec.word_conditions (call.RecCreate rd rec mpidr flags aux0 aux1)) }
+    ensures { IfOk result (λ list. list.items ≡ spec.rec_create_words rec flags aux0 aux1) }
 {
     let apart = WordTest::Apart {
         index: 1,
@@ -134,19 +135,17 @@ fn rec_create(
     Ok(vec![in alloc; first, second, third, flags]?)
 }
 
-#[tactic(auto, unfolding(crate::specs::Lists::word_conditions))]
-fn map_unprotected(alloc: Global, ipa: u64, page: u64) -> Result<Vec<Asked>, AllocError>
-    ensures { (rd : ℕ) → IfOk result (λ list. list.items ≡ spec.word_conditions (call.RttMapUnprotected rd ipa page)) }
+fn map_unprotected(alloc: Global, ipa: u64, address: u64) -> Result<Vec<Asked>, AllocError>
+    ensures { IfOk result (λ list. list.items ≡ spec.rtt_map_unprotected_words ipa address) }
 {
-    let aligned = of_word(1, ipa, Condition::IpaAlign, WordTest::Page);
-    let begins = of_word(2, page, Condition::OwnPage, WordTest::Page);
-    let below = of_word(2, page, Condition::OwnPage, WordTest::Below(HOST_END));
+    let aligned = page(1, ipa);
+    let begins = of_word(2, address, Condition::OwnPage, WordTest::Page);
+    let below = of_word(2, address, Condition::OwnPage, WordTest::Below(HOST_END));
     Ok(vec![in alloc; aligned, begins, below]?)
 }
 
-#[tactic(auto, unfolding(crate::specs::Lists::word_conditions))]
 fn init_ripas(alloc: Global, base: u64, top: u64) -> Result<Vec<Asked>, AllocError>
-    ensures { (rd : ℕ) → IfOk result (λ list. list.items ≡ spec.word_conditions (call.RttInitRipas rd base top)) }
+    ensures { IfOk result (λ list. list.items ≡ spec.rtt_init_ripas_words base top) }
 {
     let end = WordTest::BelowWord {
         index: 2,
@@ -158,26 +157,16 @@ fn init_ripas(alloc: Global, base: u64, top: u64) -> Result<Vec<Asked>, AllocErr
     Ok(vec![in alloc; first, last, below]?)
 }
 
-#[tactic(auto, unfolding(crate::specs::Lists::word_conditions))]
-fn measurement_read(alloc: Global, index: u64) -> Result<Vec<Asked>, AllocError>
-    ensures { IfOk result (λ list. list.items ≡ spec.word_conditions (call.MeasurementRead index)) }
-{
-    let bound = of_word(0, index, Condition::IndexBound, WordTest::AtMost(4));
-    Ok(vec![in alloc; bound]?)
-}
-
-#[tactic(auto, unfolding(crate::specs::Lists::word_conditions))]
 fn measurement_extend(alloc: Global, index: u64, size: u64) -> Result<Vec<Asked>, AllocError>
-    ensures { (values : List ℕ) → IfOk result (λ list. list.items ≡ spec.word_conditions (call.MeasurementExtend index size values)) }
+    ensures { IfOk result (λ list. list.items ≡ spec.measurement_extend_words index size) }
 {
     let bound = of_word(0, index, Condition::IndexBound, WordTest::Between(1, 4));
     let few = of_word(1, size, Condition::SizeBound, WordTest::Between(1, 0x40));
     Ok(vec![in alloc; bound, few]?)
 }
 
-#[tactic(auto, unfolding(crate::specs::Lists::word_conditions))]
 fn ipa_state_set(alloc: Global, base: u64, top: u64, ripas: u64) -> Result<Vec<Asked>, AllocError>
-    ensures { IfOk result (λ list. list.items ≡ spec.word_conditions (call.IpaStateSet base top ripas)) }
+    ensures { IfOk result (λ list. list.items ≡ spec.ipa_state_set_words base top ripas) }
 {
     let end = WordTest::BelowWord {
         index: 1,
@@ -188,12 +177,4 @@ fn ipa_state_set(alloc: Global, base: u64, top: u64, ripas: u64) -> Result<Vec<A
     let below = of_word(0, base, Condition::SizeValid, end);
     let valid = of_word(2, ripas, Condition::RipasValid, WordTest::AtMost(1));
     Ok(vec![in alloc; first, last, below, valid]?)
-}
-
-#[tactic(auto, unfolding(crate::specs::Lists::word_conditions))]
-fn host_call(alloc: Global, imm: u64) -> Result<Vec<Asked>, AllocError>
-    ensures { IfOk result (λ list. list.items ≡ spec.word_conditions (call.HostCall imm)) }
-{
-    let below = of_word(0, imm, Condition::OwnImm, WordTest::Below(0x10000));
-    Ok(vec![in alloc; below]?)
 }
