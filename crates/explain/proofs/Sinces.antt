@@ -12,7 +12,7 @@ use Rattle.explain.specs.declared.track.Track.{Track}
 use Rattle.explain.specs.declared.watch.Watch.{Watch}
 use Rattle.explain.specs.declared.watch.Watch.TheVariants as watch
 use Rattle.explain.specs.Track.{IsTrack, since_told}
-use Rattle.explain.specs.Watch.{IsEarlier, IsFrom, IsOfLife, IsSince, Throughout, is_so, is_there, shown}
+use Rattle.explain.specs.Watch.{IsEarlier, IsFrom, IsOfLife, IsSince, Throughout, is_so, is_there, showing, shown}
 use Rattle.explain.proofs.Replaying.{same_state}
 
 -- the step after which so many lines were taken, where there is one
@@ -56,7 +56,7 @@ module _ (history : History) (is_history : IsHistory history) (lines : List Line
   from_start count none at other from upto = is.turn.so other (omega (arith, none, at)) (omega (arith, upto))
 
   from_set : (set : Option EarlierStep) → IsStepOf history lines index track.kept.set set
-      → IsFrom history lines index set (λ s. shown s w ≢ (track.kept.there, track.kept.read.items)) (λ s. shown s w ≡ (track.kept.there, track.kept.read.items))
+      → IsFrom history lines index set (λ s. shown s w ≢ showing track.kept.there track.kept.read.items) (λ s. shown s w ≡ showing track.kept.there track.kept.read.items)
   from_set None told = λ count from upto. is.kept.read count (omega (arith, told.none)) (omega (arith, upto))
   from_set (Some earlier) told =
       let is_earlier = told.some.1 in
@@ -96,11 +96,11 @@ module _ (history : History) (is_history : IsHistory history) (lines : List Line
       → IsSince history lines index w (since_told (Some made) set there)
   by_there made set true was told also = from_turn made told.0 told.1 true was
   by_there made set false was told also =
-      (from_turn made told.0 told.1 false was, (track.kept.there, track.kept.read.items), from_set set also, of_life made told.0 told.1 was set also)
+      (from_turn made told.0 told.1 false was, showing track.kept.there track.kept.read.items, from_set set also, of_life made told.0 told.1 was set also)
 
   -- so it is told
   pub IsSince-told : (made set : Option EarlierStep) → IsStepOf history lines index track.turn.since made → IsStepOf history lines index track.kept.set set
       → IsSince history lines index w (since_told made set track.turn.was_there)
   IsSince-told None set told also =
-      (from_start track.turn.since told.none refl, (track.kept.there, track.kept.read.items), from_set set also, tt)
+      (from_start track.turn.since told.none refl, showing track.kept.there track.kept.read.items, from_set set also, tt)
   IsSince-told (Some made) set told also = by_there made set track.turn.was_there refl told.some also

@@ -11,7 +11,7 @@ use Rattle.explain.specs.declared.track.Track.{Track}
 use Rattle.explain.specs.declared.track.Turn.{Turn}
 use Rattle.explain.specs.declared.watch.Sample.{Sample}
 use Rattle.explain.specs.declared.watch.Watch.{Watch}
-use Rattle.explain.specs.Watch.{At, has, is_so, is_there, shown}
+use Rattle.explain.specs.Watch.{At, has, is_so, is_there, showing, shown}
 
 -- a sample is of the state
 pub record IsSampleOf (s : State) (w : Watch) (sample : Sample) : Type 0 where
@@ -27,8 +27,8 @@ pub record IsTurn (history : History) (lines : List Line) (w : Watch) (seen : �
 
 -- from one count of lines on this is seen, and right before that it wasn't
 pub record IsKept (history : History) (lines : List Line) (w : Watch) (seen : ℕ) (kept : Kept) : Type 0 where
-  pub read : (count : ℕ) → kept.set ≤ count → count < seen → At history lines count (λ s. shown s w ≡ (kept.there, kept.read.items))
-  pub changed : (before : ℕ) → kept.set ≡ before + 1 → At history lines before (λ s. shown s w ≢ (kept.there, kept.read.items))
+  pub read : (count : ℕ) → kept.set ≤ count → count < seen → At history lines count (λ s. shown s w ≡ showing kept.there kept.read.items)
+  pub changed : (before : ℕ) → kept.set ≡ before + 1 → At history lines before (λ s. shown s w ≢ showing kept.there kept.read.items)
   pub within : kept.set ≤ seen - 1
 
 pub record IsTrack (history : History) (lines : List Line) (w : Watch) (seen : ℕ) (track : Track) : Type 0 where

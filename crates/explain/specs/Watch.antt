@@ -42,9 +42,13 @@ has s (watch.Condition test standing) = read s (source_of test)
 has s (watch.Accepted cpu command) = []
 has s (watch.Read source) = read s source
 
--- whether what it is about is there, and what it is read from
+-- whether something is there, and what is read of it
+abbrev pub showing : Bool → List ℕ → Bool × List ℕ
+showing there words = (there, words)
+
+-- of what it is about
 abbrev pub shown : State → Watch → Bool × List ℕ
-shown s w = (is_there s w, has s w)
+shown s w = showing (is_there s w) (has s w)
 
 -- ---- along the lines
 

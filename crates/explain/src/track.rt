@@ -7,7 +7,7 @@ ghost use Rattle.rmm_spec.specs.HistoryText.{History as Recorded};
 ghost use Rattle.rmm_spec.specs.State.{State};
 ghost use Rattle.explain.specs.declared.watch.Watch.{Watch as Watched};
 ghost use Rattle.explain.specs.Track.{IsKept, IsSampleOf, IsTrack, IsTurn};
-ghost use Rattle.explain.specs.Watch.{is_so, is_there, shown};
+ghost use Rattle.explain.specs.Watch.{is_so, is_there, showing, shown};
 
 use crate::watch::Sample;
 use arrayvec::ArrayVec;
@@ -84,7 +84,7 @@ fn turn_with(turn: Turn, count: usize, so: bool, there: bool) -> Turn
 }
 
 fn kept_with(kept: Kept, count: usize, there: bool, read: ArrayVec<u64, 10>) -> Kept
-    ensures { (history : Recorded) (lines : List Line) (w : Watched) (s : State) → Passes history (take count lines) s → (there, read.items) ≡ shown s w
+    ensures { (history : Recorded) (lines : List Line) (w : Watched) (s : State) → Passes history (take count lines) s → shown s w ≡ showing there read.items
         → IsKept history lines w count kept → IsKept history lines w (count + 1) result }
 {
     if is_seen(&kept, there, &read) {
@@ -99,7 +99,7 @@ fn kept_with(kept: Kept, count: usize, there: bool, read: ArrayVec<u64, 10>) -> 
 
 // Whether this was kept.
 fn is_seen(kept: &Kept, there: bool, read: &ArrayVec<u64, 10>) -> bool
-    ensures { IsTrue result ↔ ((there, read.now.items) ≡ (kept.now.there, kept.now.read.items)) }
+    ensures { IsTrue result ↔ (showing kept.now.there kept.now.read.items ≡ showing there read.now.items) }
 {
     there == kept.there && is_same(read, &kept.read)
 }
