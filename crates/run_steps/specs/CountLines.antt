@@ -24,7 +24,7 @@ answer_lines command counts called (answer ∷ others) =
     count_line command (answer_name answer) (counts_at counts called answer) ++ answer_lines command counts called others
 
 -- of a function: what is accepted, and then each condition
-abbrev pub function_lines : List ℕ → ConditionCounts → FunctionId → List ℕ
+unfoldable pub function_lines : List ℕ → ConditionCounts → FunctionId → List ℕ
 function_lines command counts called = answer_lines command counts called (None ∷ map Some conditions)
 
 -- of some functions, each with a name of its own

@@ -63,12 +63,7 @@ fn append_refused(
 }
 
 // One line, where the count isn't 0.
-fn append_line(
-    command: &str,
-    answer: &str,
-    count: u64,
-    out: &mut Vec<u8>,
-) -> Result<(), AllocError>
+fn append_line(command: &str, answer: &str, count: u64, out: &mut Vec<u8>) -> Result<(), AllocError>
     ensures { OnOk result (out.new.items ≡ out.old.items ++ count_line command.now answer.now count) }
 {
     if count == 0 {
@@ -79,5 +74,6 @@ fn append_line(
     out.extend_from_slice(answer.as_bytes())?;
     out.push(b' ')?;
     push_decimal(out, count)?;
-    out.push(b'\n')
+    out.push(b'\n')?;
+    Ok(())
 }
