@@ -5,10 +5,11 @@ usage: causes.py [--program PATH] [--jobs COUNT] [RUNS [SEED]]
 
 A run is one of explore.py in which one reply is changed, or one line of the certificate is moved. Each condition of PROFILE.md is written
 here once more, as a test of the machine of machine.py. That machine takes the lines before the one that fails, and the test is asked after
-each. It turned at the last step before which it held. One on a realm or a REC is asked of the one that stands there now: where it never
-held of that one, the step that made it is the cause, and the last step that changed what it is read from is told too. The state before
-the line, the calls that never returned, the later step of an overlapping call and what `--rows` counts are compared as well. It prints
-how often each condition decided, and how its cause was told. Status 1 at a run on which the two differ.
+each. It turned at the last step before which it held. One on a realm or a REC is asked of the one that stands there now: where it never held
+of that one, the step that made it is the cause, and the last step that changed what it is read from is told too, which is no earlier. One on
+a word alone is told by that word. The state before the line, the calls that never returned, the later step of an overlapping call and what
+`--rows` counts are compared as well. It prints how often each condition decided, and how its cause was told. Status 1 at a run on which the
+two differ.
 """
 import argparse
 import collections
@@ -37,8 +38,8 @@ PROGRAM = built("rmmexplain")
 RUNS_A_TASK = 50
 
 # `about` says whether what the condition speaks of is there, `holds` whether it holds, and `reads` what it is read from.
-# A condition on a tag has its granule, and one on words alone says so.
-Condition = namedtuple("Condition", "name holds reads about granule is_word", defaults=[lambda machine: (), lambda machine: True, None, False])
+# A condition on a tag has its granule, and one on a word alone that word by its name.
+Condition = namedtuple("Condition", "name holds reads about granule word", defaults=[lambda machine: (), lambda machine: True, None, None])
 Sample = namedtuple("Sample", "is_there holds read")
 
 
@@ -50,8 +51,9 @@ def sampled(machine, condition):
 
 # ---- the conditions
 
-def word(name, holds):
-    return Condition(name, lambda machine: holds, is_word=True)
+def word(name, holds, **named):
+    """The word is the one that is named."""
+    return Condition(name, lambda machine: holds, word=next(iter(named.items())))
 
 
 def tag(granule, wanted):
@@ -120,6 +122,10 @@ def page_of(rd, ipa, wanted):
             on_walk("rtte_state", rd, ipa, 3, lambda level, entry: entry.state == wanted)]
 
 
+def aligned(ipa):
+    return word("ipa_align", is_page(ipa), ipa=ipa)
+
+
 def host_page(rd, ipa, wanted):
     return [tag(rd, RD), on_realm("ipa_bound", rd, lambda realm: realm.half <= ipa < realm.full, space), *page_of(rd, ipa, wanted)]
 
@@ -130,7 +136,7 @@ def room(rd, base, top):
 
 
 def level_words(ipa, level, unit):
-    return [word("level_bound", level <= LAST_LEVEL), word("ipa_align", ipa % entry_bytes(min(unit, LAST_LEVEL)) == 0)]
+    return [word("level_bound", level <= LAST_LEVEL, level=level), word("ipa_align", ipa % entry_bytes(min(unit, LAST_LEVEL)) == 0, ipa=ipa)]
 
 
 def level_in(rd, ipa, holds):
@@ -138,9 +144,10 @@ def level_in(rd, ipa, holds):
 
 
 def realm_create(rd, root, width, level, vmid, algo):
-    return [word("alias", rd != root), word("params_supp", width in dict(SPACES)), word("rtt_num_level", (width, level) in SPACES),
-            word("vmid_valid", vmid <= 0xFF), tag(rd, DELEGATED), tag(root, DELEGATED),
-            Condition("params_supp", lambda machine: algo < len(HASHES[machine.version])),
+    return [word("alias", rd != root, root=root), word("params_supp", width in dict(SPACES), width=width),
+            word("rtt_num_level", (width, level) in SPACES, level=level), word("vmid_valid", vmid <= 0xFF, vmid=vmid),
+            tag(rd, DELEGATED), tag(root, DELEGATED),
+            Condition("params_supp", lambda machine: algo < len(HASHES[machine.version]), word=("algo", algo)),
             Condition("vmid_valid", lambda machine: vmid not in machine.vmids)]
 
 
@@ -150,10 +157,11 @@ def realm_destroy(rd):
 
 
 def rec_create(rd, rec, mpidr, flags, aux0, aux1):
-    return [word("aux_alias", len({rec, aux0, aux1}) == 3), word("own_flags", flags <= 1), tag(rd, RD),
+    alike = {"aux0": aux0} if aux0 == rec else {"aux1": aux1}
+    return [word("aux_alias", len({rec, aux0, aux1}) == 3, **alike), word("own_flags", flags <= 1, flags=flags), tag(rd, RD),
             *(tag(granule, DELEGATED) for granule in (rec, aux0, aux1)), is_new(rd),
             on_realm("mpidr_index", rd, lambda realm: mpidr == realm.made_recs, lambda realm: realm.made_recs),
-            word("own_rec_count", mpidr < MOST_RECS)]
+            word("own_rec_count", mpidr < MOST_RECS, mpidr=mpidr)]
 
 
 def is_ready(rec):
@@ -199,13 +207,14 @@ def rtt_read_entry(rd, ipa, level):
 
 
 def data_create(rd, data, ipa, src, flags, *_):
-    return [word("own_flags", flags <= 1), word("ipa_align", is_page(ipa)), tag(rd, RD), tag(data, DELEGATED), tag(src, UNDELEGATED),
+    return [word("own_flags", flags <= 1, flags=flags), aligned(ipa), tag(rd, RD), tag(data, DELEGATED), tag(src, UNDELEGATED),
             is_protected(rd, ipa), is_new(rd), *page_of(rd, ipa, UNASSIGNED),
             on_walk("rtte_ripas", rd, ipa, 3, lambda level, entry: entry.ripas == RAM)]
 
 
 def rtt_init_ripas(rd, base, top):
-    return [word("own_base", is_page(base)), word("top_gran_align", is_page(top)), word("size_valid", base < top), tag(rd, RD),
+    return [word("own_base", is_page(base), base=base), word("top_gran_align", is_page(top), top=top), word("size_valid", base < top, base=base),
+            tag(rd, RD),
             on_realm("top_bound", rd, lambda realm: top <= realm.half, space), is_new(rd),
             on_walk("rtte_state", rd, base, 3, lambda level, entry: entry.state == UNASSIGNED), *room(rd, base, top)]
 
@@ -222,21 +231,21 @@ def rtt_set_ripas(rd, rec, base, top):
             on_rec("own_request", rec, lambda it: it.request is not None, request),
             on_rec("base_bound", rec, lambda it: base == asked(it)[0], request),
             on_rec("top_bound", rec, lambda it: top <= asked(it)[1], request),
-            word("size_valid", base < top), word("top_gran_align", is_page(top)), *room(rd, base, top)]
+            word("size_valid", base < top, base=base), word("top_gran_align", is_page(top), top=top), *room(rd, base, top)]
 
 
 def ipa_state_set(rec, base, top, ripas):
-    return [word("base_align", is_page(base)), word("top_align", is_page(top)), word("size_valid", base < top),
-            word("ripas_valid", ripas <= 1), on_owner("rgn_bound", rec, lambda realm: top <= realm.half, space)]
+    return [word("base_align", is_page(base), base=base), word("top_align", is_page(top), top=top), word("size_valid", base < top, base=base),
+            word("ripas_valid", ripas <= 1, ripas=ripas), on_owner("rgn_bound", rec, lambda realm: top <= realm.half, space)]
 
 
 CONDITIONS = {
     "GRANULE_DELEGATE": lambda g: [tag(g, UNDELEGATED)],
     "GRANULE_UNDELEGATE": lambda g: [tag(g, DELEGATED)],
     "DATA_CREATE": data_create,
-    "DATA_CREATE_UNKNOWN": lambda rd, data, ipa: [word("ipa_align", is_page(ipa)), tag(rd, RD), tag(data, DELEGATED), is_protected(rd, ipa),
+    "DATA_CREATE_UNKNOWN": lambda rd, data, ipa: [aligned(ipa), tag(rd, RD), tag(data, DELEGATED), is_protected(rd, ipa),
                                                   *page_of(rd, ipa, UNASSIGNED)],
-    "DATA_DESTROY": lambda rd, ipa: [word("ipa_align", is_page(ipa)), tag(rd, RD), is_protected(rd, ipa), *page_of(rd, ipa, ASSIGNED)],
+    "DATA_DESTROY": lambda rd, ipa: [aligned(ipa), tag(rd, RD), is_protected(rd, ipa), *page_of(rd, ipa, ASSIGNED)],
     "REALM_ACTIVATE": lambda rd: [tag(rd, RD), is_new(rd)],
     "REALM_CREATE": realm_create,
     "REALM_DESTROY": realm_destroy,
@@ -246,17 +255,17 @@ CONDITIONS = {
     "RTT_CREATE": rtt_create,
     "RTT_DESTROY": lambda rd, ipa, level: rtt_remove(rd, ipa, level, "rtt_live", is_idle),
     "RTT_FOLD": lambda rd, ipa, level: rtt_remove(rd, ipa, level, "own_alike", are_alike),
-    "RTT_MAP_UNPROTECTED": lambda rd, ipa, pa: [word("ipa_align", is_page(ipa)), word("own_page", is_page(pa) and pa < 1 << 48),
+    "RTT_MAP_UNPROTECTED": lambda rd, ipa, pa: [aligned(ipa), word("own_page", is_page(pa) and pa < 1 << 48, pa=pa),
                                                 *host_page(rd, ipa, UNASSIGNED_NS)],
-    "RTT_UNMAP_UNPROTECTED": lambda rd, ipa: [word("ipa_align", is_page(ipa)), *host_page(rd, ipa, ASSIGNED_NS)],
+    "RTT_UNMAP_UNPROTECTED": lambda rd, ipa: [aligned(ipa), *host_page(rd, ipa, ASSIGNED_NS)],
     "RTT_READ_ENTRY": rtt_read_entry,
     "RTT_INIT_RIPAS": rtt_init_ripas,
     "RTT_SET_RIPAS": rtt_set_ripas,
-    "MEASUREMENT_READ": lambda rec, i: [word("index_bound", i <= 4)],
-    "MEASUREMENT_EXTEND": lambda rec, i, size, *_: [word("index_bound", 1 <= i <= 4), word("size_bound", 1 <= size <= 0x40)],
+    "MEASUREMENT_READ": lambda rec, i: [word("index_bound", i <= 4, i=i)],
+    "MEASUREMENT_EXTEND": lambda rec, i, size, *_: [word("index_bound", 1 <= i <= 4, i=i), word("size_bound", 1 <= size <= 0x40, size=size)],
     "IPA_STATE_SET": ipa_state_set,
-    "IPA_STATE_GET": lambda rec, ipa: [word("ipa_align", is_page(ipa)), on_owner("ipa_bound", rec, lambda realm: ipa < realm.half, space)],
-    "HOST_CALL": lambda rec, imm: [word("own_imm", imm < 0x10000)],
+    "IPA_STATE_GET": lambda rec, ipa: [aligned(ipa), on_owner("ipa_bound", rec, lambda realm: ipa < realm.half, space)],
+    "HOST_CALL": lambda rec, imm: [word("own_imm", imm < 0x10000, imm=imm)],
 }
 
 
@@ -302,7 +311,7 @@ def words_read(machine, cpu, function, words):
         return entry_read(named["rd"], named.get("ipa", named.get("base")), deepest)
     return {
         "IPA_STATE_GET": lambda: entry_read(rd, named.get("ipa"), 3),
-        "REC_ENTER": lambda: lambda it: it.recs[words[0]].request if words[0] in it.recs else None,
+        "REC_ENTER": lambda: lambda it: (it.recs[words[0]].request,) if words[0] in it.recs else None,
         "MEASUREMENT_READ": lambda: lambda it: ([it.realms[rd].rim, *it.realms[rd].rems][words[0]] if rd in it.realms else None),
         "REALM_CONFIG": lambda: lambda it: space(it.realms[rd]) if rd in it.realms else None,
         "EXIT": lambda: lambda it: leaving(it.recs[rec]) if rec in it.recs else None,
@@ -336,7 +345,7 @@ def before(machine, cpu, function, words):
         yield rec_before(rec, machine.recs[rec])
     named = dict(zip(WORDS[function], words))
     ipa = named.get("ipa", named.get("base"))
-    are_allowed = NAMES[function] == "RTT_SET_RIPAS" or all(it.holds(machine) for it in asked if it.is_word)
+    are_allowed = NAMES[function] == "RTT_SET_RIPAS" or all(it.holds(machine) for it in asked if it.word)
     if function not in REALM_CALLS and ipa is not None and are_allowed:
         is_above = NAMES[function] in ("RTT_CREATE", "RTT_DESTROY", "RTT_FOLD")
         yield from walk_before(machine, named["rd"], ipa, max(named.get("level", 3) - is_above, 0))
@@ -400,7 +409,7 @@ def since_of(samples):
         began -= 1
     if began and samples[began - 1].is_there:
         return {"turned": began}
-    reads = [sample.read for sample in samples[max(began - 1, 0):]]
+    reads = [(sample.is_there, sample.read) for sample in samples[max(began - 1, 0):]]
     changed = last_change(reads)
     return steps(made=began, set=changed + max(began - 1, 0) if changed else None)
 
@@ -494,7 +503,7 @@ class Replay:
         return {"word": self.wrong_word(), "since": steps(set=last_change(reads))}
 
     def refused_for(self, condition):
-        found = {"condition": condition.name, "since": since_of(self.asked(lambda machine: sampled(machine, condition)))}
+        found = {"condition": condition.name, "of": condition.word, "since": since_of(self.asked(lambda machine: sampled(machine, condition)))}
         put = put_condition(self.machine, condition.name, self.command[2])
         if put:
             turned = since_of(self.asked(lambda machine: sampled(machine, put))).get("turned")
@@ -539,6 +548,8 @@ def found_in(told):
     found = {"since": {name: it["step"] for name, it in told["since"].items()}}
     if "condition" in told:
         found["condition"] = told["condition"]["name"]
+        fact = told["condition"]["fact"]
+        found["of"] = (fact["name"], int(fact["word"], 16)) if fact["kind"] == "word" else None
     if "word" in told:
         found["word"] = told["word"]["index"]
     return found | {name: told[name]["step"] for name in ("put", "late") if name in told}

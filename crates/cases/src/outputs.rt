@@ -4,7 +4,7 @@ use anyhow::{Result, bail};
 use explain::{ExplainedRun, Run, explain_run};
 use program_reports::{Paths, append_json, append_lines};
 use rmi_codec::{Parts, next_word};
-use run_steps::{count_conditions, granule_steps};
+use run_steps::{append_counts, count_conditions, granule_steps};
 use std::alloc::Global;
 
 const PATHS: Paths<'static> = Paths {
@@ -72,5 +72,7 @@ pub(crate) fn rows_of(alloc: Global, history: &str, certificate: &str) -> Result
     let told = explained(alloc, history, certificate)?;
     let run = run_of(&told)?;
     let counts = count_conditions(alloc, &run.history, &run.certificate)?;
-    Ok(format!(in alloc; "{counts}")?)
+    let mut lines = Vec::new(alloc);
+    append_counts(&counts, &mut lines)?;
+    Ok(String::from_utf8(lines)?)
 }

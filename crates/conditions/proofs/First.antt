@@ -1,17 +1,14 @@
 -- The first condition that fails, in a list of parts.
-use Rattle.std.proofs.Common.{◌≡◌, ℕ, zero, suc, ◌+◌, ◌≤◌, ◌++◌, ◌&&◌, Bool, true, false, List, [], ◌∷◌, map, length, take, Option, Some, None, inl, inr, refl, sym, ◌∙◌, ap, subst}
-use Rattle.std.specs.List.{slice_get}
+use Rattle.std.proofs.Common.{◌≡◌, ℕ, zero, suc, ◌+◌, ◌≤◌, ◌++◌, true, false, List, [], ◌∷◌, length, take, Option, Some, None, inl, inr, refl, sym, ◌∙◌, ap, subst}
+use Rattle.std.specs.List.{AllByRecursion, slice_get}
 use Rattle.std.specs.Prelude.{MatchOption}
 use Rattle.std.proofs.lemmas.List.{take_all, take_more}
 use Rattle.std.proofs.lemmas.Option.{get_or_from_slice_get, none-some, same_Some, slice_get_within}
 use Rattle.rmm_spec.specs.declared.condition.Condition.{Condition}
-use Rattle.rmm_spec.specs.Rows.{Word, all_allowed}
 use Rattle.rmm_spec.specs.State.{State}
 use Rattle.conditions.specs.declared.asked.Asked.{Asked}
 use Rattle.conditions.specs.declared.test.Test.{Test}
-use Rattle.conditions.specs.declared.test.Test.TheVariants as test
 use Rattle.conditions.specs.Law.{AllPass, IsFirst, IsFound, first_failing}
-use Rattle.conditions.specs.Lists.{word_condition}
 use Rattle.conditions.specs.Tests.{passes}
 
 -- in the first part
@@ -46,32 +43,12 @@ fails-first s [] name test first = absurd first
 fails-first s (asked ∷ list) name test (inl later) = fails-first s list name test later.1
 fails-first s (asked ∷ list) name test (inr here) = ap (λ (a : Asked). passes s a.test) (sym here.1) ∙ here.0
 
--- a word and the others
-if-word : (b others : Bool) → (b && others) ≡ true → (b ≡ true) × (others ≡ true)
-if-word true others all = (refl, all)
-if-word false others all = absurd cc
-
--- allowed words pass
-pub AllPass-words : (s : State) (words : List Word) → all_allowed words ≡ true → AllPass s (map word_condition words)
-unfolding passes
-AllPass-words s [] allowed = tt
-AllPass-words s (word ∷ words) allowed =
-    let both = if-word word.allowed (all_allowed words) allowed in (both.0, AllPass-words s words both.1)
-
--- of words that aren't allowed, one is the first
-abbrev pub HasFirst : State → List Asked → Type 0
-HasFirst s list = (name : Condition) × IsFirst s list name (test.Words false)
-
-HasFirst-next : (s : State) (condition : Condition) (b others : Bool) (rest : List Asked) → (b && others) ≡ false → (others ≡ false → HasFirst s rest)
-    → HasFirst s (record { condition = condition; test = test.Words b } ∷ rest)
-unfolding passes
-HasFirst-next s condition true others rest bad later = let found = later bad in (found.0, inl (refl, found.1))
-HasFirst-next s condition false others rest bad later = (condition, inr (refl, refl))
-
-pub HasFirst-words : (s : State) (words : List Word) → all_allowed words ≡ false → HasFirst s (map word_condition words)
-HasFirst-words s [] bad = absurd cc
-HasFirst-words s (word ∷ words) bad =
-    HasFirst-next s word.condition word.allowed (all_allowed words) (map word_condition words) bad (HasFirst-words s words)
+-- what is said of each is said of the first that fails
+pub first-has : (s : State) (list : List Asked) (name : Condition) (test : Test) (Says : Test → Type 0)
+    → AllByRecursion (λ (a : Asked). Says a.test) list → IsFirst s list name test → Says test
+first-has s [] name test Says each first = absurd first
+first-has s (asked ∷ list) name test Says each (inl later) = first-has s list name test Says each.1 later.1
+first-has s (asked ∷ list) name test Says each (inr here) = subst (λ (a : Asked). Says a.test) here.1 each.0
 
 -- ---- one by one
 
@@ -97,9 +74,9 @@ IsFirst-at s (here ∷ list) (suc i) asked is below fails = inl (below.0, IsFirs
 
 -- ---- where nothing is found
 
-pub none_found : (found : Option Asked) (Each : Type 0) (First : Asked → Type 0) → MatchOption found Each First → ((asked : Asked) → ¬ (found ≡ Some asked)) → Each
-none_found None Each First match none = match
-none_found (Some asked) Each First match none = absurd (none asked refl)
+pub none_found : {X : Type 0} (found : Option X) (Otherwise : Type 0) (Says : X → Type 0) → MatchOption found Otherwise Says → ((x : X) → ¬ (found ≡ Some x)) → Otherwise
+none_found None Otherwise Says match none = match
+none_found (Some x) Otherwise Says match none = absurd (none x refl)
 
 -- ---- where one is
 
@@ -109,31 +86,26 @@ first_found s list found asked match is = subst (IsFound s list) is match
 
 -- ---- the parts of a command's conditions
 
-module _ (s : State) (places : List Asked) (words : List Word) (tags own : List Asked) where
+module _ (s : State) (places words tags own : List Asked) where
   abbrev pub parts : List Asked
-  parts = places ++ (map word_condition words ++ (tags ++ own))
+  parts = places ++ (words ++ (tags ++ own))
 
-  pub first-word : AllPass s places → all_allowed words ≡ false → (name : Condition) × IsFirst s parts name (test.Words false)
-  first-word placed bad =
-      let found = HasFirst-words s words bad in (
-        found.0,
-        IsFirst-right s places (map word_condition words ++ (tags ++ own)) found.0 (test.Words false) placed
-            (IsFirst-left s (map word_condition words) (tags ++ own) found.0 (test.Words false) found.1),
-      )
+  pub first-word : AllPass s places → (name : Condition) (t : Test) → IsFirst s words name t → IsFirst s parts name t
+  first-word placed name t first =
+      IsFirst-right s places (words ++ (tags ++ own)) name t placed (IsFirst-left s words (tags ++ own) name t first)
 
-  after-words : AllPass s places → all_allowed words ≡ true → (name : Condition) (t : Test) → IsFirst s (tags ++ own) name t → IsFirst s parts name t
+  after-words : AllPass s places → AllPass s words → (name : Condition) (t : Test) → IsFirst s (tags ++ own) name t → IsFirst s parts name t
   after-words placed allowed name t first =
-      IsFirst-right s places (map word_condition words ++ (tags ++ own)) name t placed
-      (IsFirst-right s (map word_condition words) (tags ++ own) name t (AllPass-words s words allowed) first)
+      IsFirst-right s places (words ++ (tags ++ own)) name t placed (IsFirst-right s words (tags ++ own) name t allowed first)
 
-  pub first-tag : AllPass s places → all_allowed words ≡ true → (name : Condition) (t : Test) → IsFirst s tags name t → IsFirst s parts name t
+  pub first-tag : AllPass s places → AllPass s words → (name : Condition) (t : Test) → IsFirst s tags name t → IsFirst s parts name t
   first-tag placed allowed name t first = after-words placed allowed name t (IsFirst-left s tags own name t first)
 
-  pub first-own : AllPass s places → all_allowed words ≡ true → AllPass s tags → (name : Condition) (t : Test) → IsFirst s own name t → IsFirst s parts name t
+  pub first-own : AllPass s places → AllPass s words → AllPass s tags → (name : Condition) (t : Test) → IsFirst s own name t → IsFirst s parts name t
   first-own placed allowed tagged name t first = after-words placed allowed name t (IsFirst-right s tags own name t tagged first)
 
-  pub first-none : AllPass s places → all_allowed words ≡ true → AllPass s tags → AllPass s own → first_failing s parts ≡ None
+  pub first-none : AllPass s places → AllPass s words → AllPass s tags → AllPass s own → first_failing s parts ≡ None
   first-none placed allowed tagged owned =
       first_failing-none s parts
-      (AllPass-append s places (map word_condition words ++ (tags ++ own)) placed
-      (AllPass-append s (map word_condition words) (tags ++ own) (AllPass-words s words allowed) (AllPass-append s tags own tagged owned)))
+      (AllPass-append s places (words ++ (tags ++ own)) placed
+      (AllPass-append s words (tags ++ own) allowed (AllPass-append s tags own tagged owned)))

@@ -1,3 +1,5 @@
 pub mod Exiting
 pub mod First
 pub mod Rows
+pub mod Words
+pub mod WordsAsked

@@ -21,8 +21,9 @@ use Rattle.rmm_spec.specs.Walk.{full, is_table, table_number, walk}
 use Rattle.spec_lemmas.proofs.Behind.{behind}
 use Rattle.conditions.specs.declared.asked.Asked.{Asked}
 use Rattle.conditions.specs.Law.{condition_of, first_failing, refused_for}
-use Rattle.conditions.specs.Lists.{conditions, own_conditions, place_conditions, tag_condition, word_condition}
+use Rattle.conditions.specs.Lists.{conditions, own_conditions, place_conditions, tag_condition, word_conditions}
 use Rattle.conditions.specs.Tests.{passes}
+use Rattle.conditions.proofs.Words.{first_failing-words, first_word}
 
 -- the condition of the first row that fails
 abbrev pub first_row : List Row → Option Condition
@@ -50,13 +51,12 @@ if-both true here there other same = same refl
 if-both false here there other same = refl
 
 -- words are asked first, and what is asked after them is asked where they are allowed
-first_row-inputs : (s : State) (words : List Word) (rows : List Row) (rest : List Asked) → (all_allowed words ≡ true → first_row rows ≡ first_failing s rest)
-    → first_row (inputs words rows) ≡ first_failing s (map word_condition words ++ rest)
-unfolding passes
-first_row-inputs s [] rows rest same = same refl
-first_row-inputs s (word ∷ words) rows rest same =
-    if-both word.allowed (first_row (inputs words rows)) (first_failing s (map word_condition words ++ rest)) word.condition
-    (λ here. first_row-inputs s words rows rest (λ others. same (rw here others)))
+first_row-inputs : (words : List Word) (rows : List Row) (later : Option Condition) → (all_allowed words ≡ true → first_row rows ≡ later)
+    → first_row (inputs words rows) ≡ first_word words later
+first_row-inputs [] rows later same = same refl
+first_row-inputs (word ∷ words) rows later same =
+    if-both word.allowed (first_row (inputs words rows)) (first_word words later) word.condition
+    (λ here. first_row-inputs words rows later (λ others. same (rw here others)))
 
 -- each granule has its tag
 abbrev pub HaveTags : State → List Needed → Type 0
@@ -126,13 +126,14 @@ first_row-behind s cpu _ allowed tags = refl
 
 -- what a command is refused for where it is placed
 refused_for-answer : (s : State) (cpu : ℕ) (c : Call)
-    → refused_for (answer_of s cpu c) ≡ first_failing s (map word_condition (words_of c) ++ (map tag_condition (named c) ++ own_conditions (rec_inside s cpu) c))
+    → refused_for (answer_of s cpu c) ≡ first_failing s (word_conditions c ++ (map tag_condition (named c) ++ own_conditions (rec_inside s cpu) c))
 refused_for-answer s cpu c =
     let rest = behind s cpu c in
     let own = own_conditions (rec_inside s cpu) c in
     ap refused_for rest.2 ∙ refused_for-decided (with_front s c rest.0) rest.1
-    ∙ first_row-inputs s (words_of c) (tagged s (named c) rest.0) (map tag_condition (named c) ++ own)
+    ∙ first_row-inputs (words_of c) (tagged s (named c) rest.0) (first_failing s (map tag_condition (named c) ++ own))
     (λ allowed. first_row-tagged s (named c) rest.0 own (first_row-behind s cpu c allowed))
+    ∙ sym (first_failing-words s c (map tag_condition (named c) ++ own))
 
 realm-placed : (inside idle : Bool) (answer : Result Accepted Refusal) (here : Option Condition) → refused_for answer ≡ here
     → refused_for (if inside && idle then answer else Err (refusal.Misplaced (if inside then condition.OwnPending else condition.OwnInside)))
@@ -163,5 +164,5 @@ pub refused_for-outcome : (s : State) (cpu : ℕ) (given : Call) → refused_for
 unfolding outcome conditions
 refused_for-outcome s cpu given =
     refused_for-placed (class_of given) (answer_of s cpu given) s cpu
-    (map word_condition (words_of given) ++ (map tag_condition (named given) ++ own_conditions (rec_inside s cpu) given))
+    (word_conditions given ++ (map tag_condition (named given) ++ own_conditions (rec_inside s cpu) given))
     (refused_for-answer s cpu given)

@@ -1,5 +1,5 @@
 -- What the conditions of a command decide.
-use Rattle.std.specs.Prelude.{◌≡◌, ◌⊎◌, true, false, List, [], ◌∷◌, Option, Some, None, MatchOption, Result, Ok, Err, if◌then◌else◌}
+use Rattle.std.specs.Prelude.{◌≡◌, ◌⊎◌, ℕ, true, false, List, [], ◌∷◌, slice_index, Option, Some, None, MatchOption, Result, Ok, Err, if◌then◌else◌}
 use Rattle.std.specs.List.{AllByRecursion}
 use Rattle.rmm_spec.specs.declared.accepted.Accepted.{Accepted}
 use Rattle.rmm_spec.specs.declared.condition.Condition.{Condition}
@@ -8,6 +8,9 @@ use Rattle.rmm_spec.specs.declared.refusal.Refusal.TheVariants as refusal
 use Rattle.rmm_spec.specs.State.{State}
 use Rattle.conditions.specs.declared.asked.Asked.{Asked}
 use Rattle.conditions.specs.declared.test.Test.{Test}
+use Rattle.conditions.specs.declared.test.Test.TheVariants as test
+use Rattle.conditions.specs.declared.test.WordTest.{WordTest}
+use Rattle.conditions.specs.declared.test.WordTest.TheVariants as of_words
 use Rattle.conditions.specs.Tests.{passes}
 
 -- the condition for which a command is refused
@@ -42,3 +45,21 @@ AllPass s list = AllByRecursion (λ (asked : Asked). passes s asked.test ≡ tru
 -- what is found is the first of them that fails, and nothing where each passes
 abbrev pub IsFound : State → List Asked → Option Asked → Type 0
 IsFound s list found = MatchOption found (AllPass s list) (λ (asked : Asked). IsFirst s list asked.condition asked.test)
+
+-- ---- which words are asked
+
+-- a word that is compared with another one is compared with the word at that place
+abbrev pub IsWithOther : List ℕ → WordTest → Type 0
+IsWithOther words (of_words.RootOf width) = slice_index words 2 ≡ width
+IsWithOther words (of_words.BelowWord index other) = slice_index words index ≡ other
+IsWithOther words (of_words.Apart index other) = slice_index words index ≡ other
+IsWithOther words _ = Unit {0}
+
+-- what is asked of a word is asked of the word at its place; a hash is asked of REALM_CREATE's last
+abbrev pub IsOfWords : List ℕ → Test → Type 0
+IsOfWords words (test.OfWord index word asked) = (slice_index words index ≡ word) × IsWithOther words asked
+IsOfWords words (test.Hash algo) = slice_index words 5 ≡ algo
+IsOfWords words _ = Unit {0}
+
+abbrev pub AreOfWords : List ℕ → List Asked → Type 0
+AreOfWords words list = AllByRecursion (λ (asked : Asked). IsOfWords words asked.test) list

@@ -1,5 +1,5 @@
 -- What a source has in a state, as numbers.
-use Rattle.std.specs.Prelude.{ℕ, min, if◌then◌else◌, List, [], ◌∷◌, Option, Some, None}
+use Rattle.std.specs.Prelude.{ℕ, min, Bool, true, if◌then◌else◌, List, [], ◌∷◌, Option, Some, None}
 use Rattle.rmm_spec.specs.declared.tag.RealmState.{RealmState}
 use Rattle.rmm_spec.specs.declared.tag.RealmState.TheVariants.{New, Active, SystemOff}
 use Rattle.rmm_spec.specs.declared.tag.Tag.TheVariants.{Undelegated, Delegated, Rd, Rec, RecAux, Data}
@@ -140,3 +140,22 @@ source_of (test.OfRec rec asked) = source_of_rec rec asked
 source_of (test.OfOwner rec asked) = source_of_owner rec asked
 source_of (test.OfWalk rd ipa level asked) = source.Walk rd ipa level
 source_of _ = source.Nothing
+
+-- ---- whether the realm or the REC that it is of is there
+
+unfoldable pub stands_for : State → Source → Bool
+stands_for s source.Nothing = true
+stands_for s (source.Place cpu) = true
+stands_for s (source.Tag granule) = true
+stands_for s (source.State rd) = has_tag s rd Rd
+stands_for s (source.OwnerState rec) = has_tag s rec Rec
+stands_for s (source.NextIndex rd) = has_tag s rd Rd
+stands_for s (source.Space rd) = has_tag s rd Rd
+stands_for s (source.OwnerSpace rec) = has_tag s rec Rec
+stands_for s (source.Running rec) = has_tag s rec Rec
+stands_for s (source.Runnable rec) = has_tag s rec Rec
+stands_for s (source.Owner rec) = has_tag s rec Rec
+stands_for s (source.Request rec) = has_tag s rec Rec
+stands_for s (source.Leaving rec) = has_tag s rec Rec
+stands_for s (source.Walk rd ipa level) = has_tag s rd Rd
+stands_for s (source.Measured rd index) = has_tag s rd Rd

@@ -9,6 +9,7 @@ use Rattle.rmm_spec.specs.declared.tag.Tag.TheVariants.{Rd, Rec}
 use Rattle.rmm_spec.specs.declared.walked.Walked.{Walked}
 use Rattle.rmm_spec.specs.Lookup.{allows_hash, has_tag, is_inside, is_vmid_used, has_rec, realm_at, rec_at, request_of, is_new, is_system_off}
 use Rattle.rmm_spec.specs.State.{State, RealmRecord, RecRecord}
+use Rattle.rmm_spec.specs.Step.Terms.{is_page, is_space, is_width}
 use Rattle.rmm_spec.specs.Step.Table.{ripas_left}
 use Rattle.rmm_spec.specs.Walk.{entry_size, table_number, walk, full, half, is_multiple, has_link, is_table, is_unassigned, is_assigned, is_unassigned_ns, is_assigned_ns, is_ram, entry_ripas}
 use Rattle.conditions.specs.declared.test.EntryKind.{EntryKind}
@@ -17,12 +18,25 @@ use Rattle.conditions.specs.declared.test.RealmTest.{RealmTest}
 use Rattle.conditions.specs.declared.test.RealmTest.TheVariants as of_realm
 use Rattle.conditions.specs.declared.test.RecTest.{RecTest}
 use Rattle.conditions.specs.declared.test.RecTest.TheVariants as of_rec
+use Rattle.conditions.specs.declared.test.WordTest.{WordTest}
+use Rattle.conditions.specs.declared.test.WordTest.TheVariants as of_words
 use Rattle.conditions.specs.declared.test.WalkTest.{WalkTest}
 use Rattle.conditions.specs.declared.test.WalkTest.TheVariants as of_walk
 use Rattle.conditions.specs.declared.test.Test.{Test}
 use Rattle.conditions.specs.declared.test.Test.TheVariants as test
 
 -- ---- whether it passes
+
+abbrev pub word_passes : WordTest → ℕ → Bool
+word_passes (of_words.AtMost most) word = nat_le word most
+word_passes (of_words.Below limit) word = nat_lt word limit
+word_passes (of_words.Between least most) word = nat_le least word && nat_le word most
+word_passes of_words.Page word = is_page word
+word_passes (of_words.Entry level) word = is_multiple word (entry_size (min level 3))
+word_passes of_words.Width word = is_width word
+word_passes (of_words.RootOf width) word = is_space width word
+word_passes (of_words.BelowWord index other) word = nat_lt word other
+word_passes (of_words.Apart index other) word = not (other == word)
 
 abbrev pub realm_passes : RealmTest → RealmRecord → Bool
 realm_passes of_realm.New realm = is_new realm
@@ -61,7 +75,7 @@ walk_passes (of_walk.EndsBy base top) level end = nat_le (base + entry_size end.
 
 -- a level past 3 is read as 3: words that are allowed have none
 unfoldable pub passes : State → Test → Bool
-passes s (test.Words allowed) = allowed
+passes s (test.OfWord index word asked) = word_passes asked word
 passes s (test.Outside cpu) = not (is_inside s cpu)
 passes s (test.Inside cpu) = is_inside s cpu
 passes s (test.Idle rec) = is_none (rec_at s rec).pending
@@ -79,7 +93,7 @@ passes s (test.Removable removal rd ipa level) = is_some (ripas_left removal s r
 -- ---- whether the realm or the REC that it is about is there
 
 unfoldable pub stands : State → Test → Bool
-stands s (test.Words allowed) = true
+stands s (test.OfWord index word asked) = true
 stands s (test.Outside cpu) = true
 stands s (test.Inside cpu) = true
 stands s (test.Idle rec) = has_tag s rec Rec

@@ -17,13 +17,13 @@ use crate::own_lists::own_conditions_of;
 use crate::passing::passes;
 use crate::place::rec_inside_or_none;
 use crate::test::Test;
-use command_words::{caller_of, words_allow};
+use crate::word_lists::word_conditions_of;
+use command_words::caller_of;
 use rmm_spec::Call;
 use spec_machine::Machine;
 use std::alloc::{AllocError, Global};
 
-/// The test of the first condition of the CPU's command that fails on the machine, and nothing where each passes. Of conditions on words
-/// it is `Words`.
+/// The test of the first condition of the CPU's command that fails on the machine, and nothing where each passes.
 pub fn failing_test(
     alloc: Global,
     machine: &Machine,
@@ -37,8 +37,8 @@ pub fn failing_test(
     if let Some(asked) = failing_place(alloc, machine, cpu, call)? {
         return Ok(Some(asked.test));
     }
-    if !words_allow(call) {
-        return Ok(Some(Test::Words(false)));
+    if let Some(asked) = failing_word(alloc, machine, call)? {
+        return Ok(Some(asked.test));
     }
     if let Some(asked) = failing_tag(alloc, machine, call)? {
         return Ok(Some(asked.test));
@@ -61,6 +61,14 @@ fn failing_place(
     let rec = rec_inside_or_none(machine, cpu);
     let places = place_conditions(alloc, caller_of(call), cpu, rec)?;
     Ok(first_of(machine, places.as_slice()))
+}
+
+// The first of those on its words.
+fn failing_word(alloc: Global, machine: &Machine, call: &Call) -> Result<Option<Asked>, AllocError>
+    ensures { IfOk result (IsFound (state_of machine.now) (spec.word_conditions call.now)) }
+{
+    let words = word_conditions_of(alloc, call)?;
+    Ok(first_of(machine, words.as_slice()))
 }
 
 // The first of the tags that it needs.

@@ -1,12 +1,12 @@
 //! The conditions of each command.
 
-ghost use Rattle.std.specs.Prelude.{◌≡◌, map, IfOk};
+ghost use Rattle.std.specs.Prelude.{◌≡◌, ◌∷◌, [], map, IfOk};
 ghost use Rattle.command_words.specs.Callers.{class_from};
 ghost use Rattle.rmm_spec.specs.Step.Terms.{named};
 ghost use Rattle.conditions.specs.Lists as spec;
 
 use crate::asked::Asked;
-use crate::test::{RealmTest, RecTest, Test, WalkTest};
+use crate::test::{RealmTest, RecTest, Test, WalkTest, WordTest};
 use command_words::{Caller, Name, named};
 use rmm_spec::{Call, Condition};
 use std::alloc::{AllocError, Global};
@@ -32,6 +32,13 @@ pub(crate) fn on_rec(rec: u64, condition: Condition, asked: RecTest) -> Asked
     asks(condition, Test::OfRec { rec, asked })
 }
 
+/// A condition on the word at a place.
+pub(crate) fn of_word(index: u8, word: u64, condition: Condition, asked: WordTest) -> Asked
+    ensures { result ≡ spec.of_word index word condition asked }
+{
+    asks(condition, Test::OfWord { index, word, asked })
+}
+
 /// A condition on where a walk ends.
 pub(crate) fn on_walk(rd: u64, ipa: u64, level: u8, condition: Condition, asked: WalkTest) -> Asked
     ensures { result ≡ spec.on_walk rd ipa level condition asked }
@@ -47,6 +54,20 @@ pub(crate) fn on_walk(rd: u64, ipa: u64, level: u8, condition: Condition, asked:
     )
 }
 
+/// A condition on a REC's realm.
+pub(crate) fn of_owner(rec: u64, condition: Condition, asked: RealmTest) -> Asked
+    ensures { result ≡ spec.of_owner rec condition asked }
+{
+    asks(condition, Test::OfOwner { rec, asked })
+}
+
+/// One condition alone.
+pub(crate) fn one(alloc: Global, asked: Asked) -> Result<Vec<Asked>, AllocError>
+    ensures { IfOk result (λ list. list.items ≡ asked ∷ []) }
+{
+    Ok(vec![in alloc; asked]?)
+}
+
 /// Where a command can be given.
 pub(crate) fn place_conditions(
     alloc: Global,
@@ -59,7 +80,7 @@ pub(crate) fn place_conditions(
     match caller {
         Caller::Host => {
             let outside = asks(Condition::OwnOutside, Test::Outside { cpu });
-            Ok(vec![in alloc; outside]?)
+            one(alloc, outside)
         }
         Caller::Realm => {
             let inside = asks(Condition::OwnInside, Test::Inside { cpu });
@@ -68,7 +89,7 @@ pub(crate) fn place_conditions(
         }
         Caller::Rec => {
             let inside = asks(Condition::OwnInside, Test::Inside { cpu });
-            Ok(vec![in alloc; inside]?)
+            one(alloc, inside)
         }
     }
 }

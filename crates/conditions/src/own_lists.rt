@@ -1,7 +1,6 @@
 //! The conditions of each command on records, tables and requests.
 
-ghost use Rattle.std.specs.Prelude.{◌≡◌, ◌≤◌, ℕ, List, IfOk, IsTrue};
-ghost use Rattle.rmm_spec.specs.declared.call.Call.TheVariants as call;
+ghost use Rattle.std.specs.Prelude.{◌≡◌, ◌≤◌, IfOk, IsTrue};
 ghost use Rattle.rmm_spec.specs.Rows.{all_allowed};
 ghost use Rattle.rmm_spec.specs.Step.Table.{left_condition};
 ghost use Rattle.rmm_spec.specs.Step.Terms.{words_of};
@@ -9,9 +8,8 @@ ghost use Rattle.conditions.specs.declared.test.Test.TheVariants as test;
 ghost use Rattle.conditions.specs.Lists as spec;
 
 use crate::asked::Asked;
-use crate::lists::{asks, on_realm, on_rec, on_walk};
-use crate::test::{EntryKind, RealmTest, RecTest, Test, WalkTest};
-use command_words::is_page;
+use crate::lists::{asks, of_owner, of_word, on_realm, on_rec, on_walk, one};
+use crate::test::{EntryKind, RealmTest, RecTest, Test, WalkTest, WordTest};
 use rmm_spec::{Call, Condition, Removal};
 use std::alloc::{AllocError, Global};
 
@@ -29,11 +27,13 @@ pub(crate) fn own_conditions_of(
         Call::DataCreate { rd, ipa, .. } => data_create(alloc, rd, ipa),
         Call::DataCreateUnknown { rd, ipa, .. } => data(alloc, rd, ipa, EntryKind::Unassigned),
         Call::DataDestroy { rd, ipa } => data(alloc, rd, ipa, EntryKind::Assigned),
-        Call::RealmActivate { rd } => realm_activate(alloc, rd),
+        Call::RealmActivate { rd } => {
+            one(alloc, on_realm(rd, Condition::RealmState, RealmTest::New))
+        }
         Call::RealmCreate { vmid, algo, .. } => realm_create(alloc, vmid, algo),
         Call::RealmDestroy { rd } => realm_destroy(alloc, rd),
         Call::RecCreate { rd, mpidr, .. } => rec_create(alloc, rd, mpidr),
-        Call::RecDestroy { rec } => rec_destroy(alloc, rec),
+        Call::RecDestroy { rec } => { one(alloc, on_rec(rec, Condition::RecState, RecTest::Ready)) }
         Call::RecEnter { rec } => rec_enter(alloc, rec),
         Call::RttCreate { rd, ipa, level, .. } => rtt_create(alloc, rd, ipa, level),
         Call::RttRemove {
@@ -49,8 +49,14 @@ pub(crate) fn own_conditions_of(
         Call::RttReadEntry { rd, ipa, level } => rtt_read_entry(alloc, rd, ipa, level),
         Call::RttInitRipas { rd, base, top } => rtt_init_ripas(alloc, rd, base, top),
         Call::RttSetRipas { rd, rec, base, top } => rtt_set_ripas(alloc, rd, rec, base, top),
-        Call::IpaStateSet { top, .. } => ipa_state_set(alloc, inside, top),
-        Call::IpaStateGet { ipa } => ipa_state_get(alloc, inside, ipa),
+        Call::IpaStateSet { top, .. } => one(
+            alloc,
+            of_owner(inside, Condition::RgnBound, RealmTest::EndsProtected(top)),
+        ),
+        Call::IpaStateGet { ipa } => one(
+            alloc,
+            of_owner(inside, Condition::IpaBound, RealmTest::Protected(ipa)),
+        ),
         Call::GranuleDelegate { .. }
         | Call::GranuleUndelegate { .. }
         | Call::MeasurementRead { .. }
@@ -63,9 +69,8 @@ pub(crate) fn own_conditions_of(
     }
 }
 
-#[tactic(auto, unfolding(crate::specs::Lists::own_conditions))]
 fn data_create(alloc: Global, rd: u64, ipa: u64) -> Result<Vec<Asked>, AllocError>
-    ensures { (inside granule source flags : ℕ) (digest : List ℕ) → IfOk result (λ list. list.items ≡ spec.own_conditions inside (call.DataCreate rd granule ipa source flags digest)) }
+    ensures { IfOk result (λ list. list.items ≡ spec.data_create_conditions rd ipa) }
 {
     let bound = on_realm(rd, Condition::IpaBound, RealmTest::Protected(ipa));
     let new = on_realm(rd, Condition::RealmState, RealmTest::New);
@@ -81,7 +86,6 @@ fn data_create(alloc: Global, rd: u64, ipa: u64) -> Result<Vec<Asked>, AllocErro
     Ok(vec![in alloc; bound, new, walk, unassigned, ram]?)
 }
 
-#[tactic(auto, unfolding(crate::specs::Lists::own_conditions))]
 fn data(alloc: Global, rd: u64, ipa: u64, kind: EntryKind) -> Result<Vec<Asked>, AllocError>
     ensures { IfOk result (λ list. list.items ≡ spec.page_conditions rd ipa kind) }
 {
@@ -91,7 +95,6 @@ fn data(alloc: Global, rd: u64, ipa: u64, kind: EntryKind) -> Result<Vec<Asked>,
     Ok(vec![in alloc; bound, walk, state]?)
 }
 
-#[tactic(auto, unfolding(crate::specs::Lists::own_conditions))]
 fn unprotected(alloc: Global, rd: u64, ipa: u64, kind: EntryKind) -> Result<Vec<Asked>, AllocError>
     ensures { IfOk result (λ list. list.items ≡ spec.host_page_conditions rd ipa kind) }
 {
@@ -101,18 +104,9 @@ fn unprotected(alloc: Global, rd: u64, ipa: u64, kind: EntryKind) -> Result<Vec<
     Ok(vec![in alloc; bound, walk, state]?)
 }
 
-#[tactic(auto, unfolding(crate::specs::Lists::own_conditions))]
-fn realm_activate(alloc: Global, rd: u64) -> Result<Vec<Asked>, AllocError>
-    ensures { (inside : ℕ) → IfOk result (λ list. list.items ≡ spec.own_conditions inside (call.RealmActivate rd)) }
-{
-    let new = on_realm(rd, Condition::RealmState, RealmTest::New);
-    Ok(vec![in alloc; new]?)
-}
-
-#[tactic(auto, unfolding(crate::specs::Lists::own_conditions))]
 fn realm_create(alloc: Global, vmid: u64, algo: u64) -> Result<Vec<Asked>, AllocError>
     requires { vmid ≤ 0xff }
-    ensures { (inside rd root width level : ℕ) → IfOk result (λ list. list.items ≡ spec.own_conditions inside (call.RealmCreate rd root width level vmid algo)) }
+    ensures { IfOk result (λ list. list.items ≡ spec.realm_create_conditions vmid algo) }
 {
     let hash = asks(Condition::ParamsSupp, Test::Hash { algo });
     let vmid = vmid as u8;
@@ -120,36 +114,25 @@ fn realm_create(alloc: Global, vmid: u64, algo: u64) -> Result<Vec<Asked>, Alloc
     Ok(vec![in alloc; hash, free]?)
 }
 
-#[tactic(auto, unfolding(crate::specs::Lists::own_conditions))]
 fn realm_destroy(alloc: Global, rd: u64) -> Result<Vec<Asked>, AllocError>
-    ensures { (inside : ℕ) → IfOk result (λ list. list.items ≡ spec.own_conditions inside (call.RealmDestroy rd)) }
+    ensures { IfOk result (λ list. list.items ≡ spec.realm_destroy_conditions rd) }
 {
     let rec = asks(Condition::RealmLive, Test::NoRec { rd });
     let link = asks(Condition::RealmLive, Test::NoLink { rd });
     Ok(vec![in alloc; rec, link]?)
 }
 
-#[tactic(auto, unfolding(crate::specs::Lists::own_conditions))]
 fn rec_create(alloc: Global, rd: u64, mpidr: u64) -> Result<Vec<Asked>, AllocError>
-    ensures { (inside rec flags aux0 aux1 : ℕ) → IfOk result (λ list. list.items ≡ spec.own_conditions inside (call.RecCreate rd rec mpidr flags aux0 aux1)) }
+    ensures { IfOk result (λ list. list.items ≡ spec.rec_create_conditions rd mpidr) }
 {
     let new = on_realm(rd, Condition::RealmState, RealmTest::New);
     let index = on_realm(rd, Condition::MpidrIndex, RealmTest::NextIndex(mpidr));
-    let count = asks(Condition::OwnRecCount, Test::Words(mpidr < 8));
+    let count = of_word(2, mpidr, Condition::OwnRecCount, WordTest::Below(8));
     Ok(vec![in alloc; new, index, count]?)
 }
 
-#[tactic(auto, unfolding(crate::specs::Lists::own_conditions))]
-fn rec_destroy(alloc: Global, rec: u64) -> Result<Vec<Asked>, AllocError>
-    ensures { (inside : ℕ) → IfOk result (λ list. list.items ≡ spec.own_conditions inside (call.RecDestroy rec)) }
-{
-    let ready = on_rec(rec, Condition::RecState, RecTest::Ready);
-    Ok(vec![in alloc; ready]?)
-}
-
-#[tactic(auto, unfolding(crate::specs::Lists::own_conditions))]
 fn rec_enter(alloc: Global, rec: u64) -> Result<Vec<Asked>, AllocError>
-    ensures { (inside : ℕ) → IfOk result (λ list. list.items ≡ spec.own_conditions inside (call.RecEnter rec)) }
+    ensures { IfOk result (λ list. list.items ≡ spec.rec_enter_conditions rec) }
 {
     let begun = of_owner(rec, Condition::RealmNew, RealmTest::Begun);
     let on = of_owner(rec, Condition::SystemOff, RealmTest::On);
@@ -158,10 +141,9 @@ fn rec_enter(alloc: Global, rec: u64) -> Result<Vec<Asked>, AllocError>
     Ok(vec![in alloc; begun, on, ready, runnable]?)
 }
 
-#[tactic(auto, unfolding(crate::specs::Lists::own_conditions))]
 fn rtt_create(alloc: Global, rd: u64, ipa: u64, level: u64) -> Result<Vec<Asked>, AllocError>
     requires { level ≤ 3 }
-    ensures { (inside rtt : ℕ) → IfOk result (λ list. list.items ≡ spec.own_conditions inside (call.RttCreate rd rtt ipa level)) }
+    ensures { IfOk result (λ list. list.items ≡ spec.rtt_create_conditions rd ipa level) }
 {
     let above = (level as u8).saturating_sub(1);
     let starts = on_realm(rd, Condition::LevelBound, RealmTest::StartsAbove(level));
@@ -171,7 +153,6 @@ fn rtt_create(alloc: Global, rd: u64, ipa: u64, level: u64) -> Result<Vec<Asked>
     Ok(vec![in alloc; starts, bound, walk, state]?)
 }
 
-#[tactic(auto, unfolding(crate::specs::Lists::own_conditions))]
 fn rtt_remove(
     alloc: Global,
     removal: Removal,
@@ -180,7 +161,7 @@ fn rtt_remove(
     level: u64,
 ) -> Result<Vec<Asked>, AllocError>
     requires { level ≤ 3 }
-    ensures { (inside : ℕ) → IfOk result (λ list. list.items ≡ spec.own_conditions inside (call.RttRemove removal rd ipa level)) }
+    ensures { IfOk result (λ list. list.items ≡ spec.rtt_remove_conditions removal rd ipa level) }
 {
     let above = (level as u8).saturating_sub(1);
     let starts = on_realm(rd, Condition::LevelBound, RealmTest::StartsAbove(level));
@@ -197,18 +178,16 @@ fn rtt_remove(
     Ok(vec![in alloc; starts, bound, walk, state, left]?)
 }
 
-#[tactic(auto, unfolding(crate::specs::Lists::own_conditions))]
 fn rtt_read_entry(alloc: Global, rd: u64, ipa: u64, level: u64) -> Result<Vec<Asked>, AllocError>
-    ensures { (inside : ℕ) → IfOk result (λ list. list.items ≡ spec.own_conditions inside (call.RttReadEntry rd ipa level)) }
+    ensures { IfOk result (λ list. list.items ≡ spec.rtt_read_entry_conditions rd ipa level) }
 {
     let starts = on_realm(rd, Condition::LevelBound, RealmTest::StartsBy(level));
     let bound = on_realm(rd, Condition::IpaBound, RealmTest::Within(ipa));
     Ok(vec![in alloc; starts, bound]?)
 }
 
-#[tactic(auto, unfolding(crate::specs::Lists::own_conditions))]
 fn rtt_init_ripas(alloc: Global, rd: u64, base: u64, top: u64) -> Result<Vec<Asked>, AllocError>
-    ensures { (inside : ℕ) → IfOk result (λ list. list.items ≡ spec.own_conditions inside (call.RttInitRipas rd base top)) }
+    ensures { IfOk result (λ list. list.items ≡ spec.rtt_init_ripas_conditions rd base top) }
 {
     let bound = on_realm(rd, Condition::TopBound, RealmTest::EndsProtected(top));
     let new = on_realm(rd, Condition::RealmState, RealmTest::New);
@@ -230,7 +209,6 @@ fn rtt_init_ripas(alloc: Global, rd: u64, base: u64, top: u64) -> Result<Vec<Ask
     Ok(vec![in alloc; bound, new, state, begins, ends]?)
 }
 
-#[tactic(auto, unfolding(crate::specs::Lists::own_conditions))]
 fn rtt_set_ripas(
     alloc: Global,
     rd: u64,
@@ -238,15 +216,19 @@ fn rtt_set_ripas(
     base: u64,
     top: u64,
 ) -> Result<Vec<Asked>, AllocError>
-    ensures { (inside : ℕ) → IfOk result (λ list. list.items ≡ spec.own_conditions inside (call.RttSetRipas rd rec base top)) }
+    ensures { IfOk result (λ list. list.items ≡ spec.rtt_set_ripas_conditions rd rec base top) }
 {
     let owner = on_rec(rec, Condition::RecOwner, RecTest::OwnedBy(rd));
     let ready = on_rec(rec, Condition::RecState, RecTest::Ready);
     let request = on_rec(rec, Condition::OwnRequest, RecTest::Requesting);
     let from = on_rec(rec, Condition::BaseBound, RecTest::From(base));
     let by = on_rec(rec, Condition::TopBound, RecTest::By(top));
-    let size = asks(Condition::SizeValid, Test::Words(base < top));
-    let page = asks(Condition::TopGranAlign, Test::Words(is_page(top)));
+    let end = WordTest::BelowWord {
+        index: 3,
+        word: top,
+    };
+    let size = of_word(2, base, Condition::SizeValid, end);
+    let page = of_word(3, top, Condition::TopGranAlign, WordTest::Page);
     let begins = on_walk(rd, base, 3, Condition::BaseAlign, WalkTest::Begins(base));
     let ends = on_walk(
         rd,
@@ -256,29 +238,6 @@ fn rtt_set_ripas(
         WalkTest::EndsBy { base, top },
     );
     Ok(vec![in alloc; owner, ready, request, from, by, size, page, begins, ends]?)
-}
-
-#[tactic(auto, unfolding(crate::specs::Lists::own_conditions))]
-fn ipa_state_set(alloc: Global, inside: u64, top: u64) -> Result<Vec<Asked>, AllocError>
-    ensures { (base ripas : ℕ) → IfOk result (λ list. list.items ≡ spec.own_conditions inside (call.IpaStateSet base top ripas)) }
-{
-    let bound = of_owner(inside, Condition::RgnBound, RealmTest::EndsProtected(top));
-    Ok(vec![in alloc; bound]?)
-}
-
-#[tactic(auto, unfolding(crate::specs::Lists::own_conditions))]
-fn ipa_state_get(alloc: Global, inside: u64, ipa: u64) -> Result<Vec<Asked>, AllocError>
-    ensures { IfOk result (λ list. list.items ≡ spec.own_conditions inside (call.IpaStateGet ipa)) }
-{
-    let bound = of_owner(inside, Condition::IpaBound, RealmTest::Protected(ipa));
-    Ok(vec![in alloc; bound]?)
-}
-
-// A condition on a REC's realm.
-fn of_owner(rec: u64, condition: Condition, asked: RealmTest) -> Asked
-    ensures { result ≡ spec.of_owner rec condition asked }
-{
-    asks(condition, Test::OfOwner { rec, asked })
 }
 
 // That the table can be taken out.

@@ -10,9 +10,9 @@ ghost use Rattle.spec_machine.specs.View.{state_of};
 ghost use Rattle.conditions.specs.Tests as spec;
 
 use crate::place::rec_inside;
-use crate::test::{EntryKind, RealmTest, RecTest, Test, WalkTest};
+use crate::test::{EntryKind, RealmTest, RecTest, Test, WalkTest, WordTest};
 use command_rows::Sight;
-use command_words::{algorithm_in, is_aligned};
+use command_words::{algorithm_in, is_aligned, is_page, is_space, is_width};
 use realm_desc::{Realm, Rec};
 use rmm_spec::{Entry, EntryTest, Removal, Tag, Walked};
 use spec_machine::Machine;
@@ -27,7 +27,7 @@ pub fn passes(machine: &Machine, test: Test) -> bool
     ensures { result ≡ spec.passes (state_of machine.now) test }
 {
     match test {
-        Test::Words(allowed) => allowed,
+        Test::OfWord { word, asked, .. } => word_passes(word, asked),
         Test::Outside { cpu } => rec_inside(machine, cpu).is_none(),
         Test::Inside { cpu } => rec_inside(machine, cpu).is_some(),
         Test::Idle { rec } => is_idle(machine.rec(rec)),
@@ -51,6 +51,23 @@ pub fn passes(machine: &Machine, test: Test) -> bool
             ipa,
             level,
         } => is_removable(machine, removal, rd, ipa, level),
+    }
+}
+
+// What is asked of a word.
+fn word_passes(word: u64, asked: WordTest) -> bool
+    ensures { result ≡ spec.word_passes asked word }
+{
+    match asked {
+        WordTest::AtMost(most) => word <= most,
+        WordTest::Below(limit) => word < limit,
+        WordTest::Between(least, most) => least <= word && word <= most,
+        WordTest::Page => is_page(word),
+        WordTest::Entry(level) => is_aligned(word, level.min(3) as u8),
+        WordTest::Width => is_width(word),
+        WordTest::RootOf(width) => is_space(width, word),
+        WordTest::BelowWord { word: other, .. } => word < other,
+        WordTest::Apart { word: other, .. } => other != word,
     }
 }
 
@@ -240,7 +257,7 @@ pub fn is_standing(machine: &Machine, test: Test) -> bool
     ensures { result ≡ spec.stands (state_of machine.now) test }
 {
     match test {
-        Test::Words(_)
+        Test::OfWord { .. }
         | Test::Outside { .. }
         | Test::Inside { .. }
         | Test::Tagged { .. }

@@ -1,4 +1,4 @@
-//! What a source has on a machine.
+//! What a source has on a machine, and whether what it is of is there.
 
 ghost use Rattle.std.specs.Prelude.{◌≡◌, ◌≤◌, ◌∷◌, [], length};
 ghost use Rattle.spec_machine.specs.View.{state_of};
@@ -36,6 +36,28 @@ pub fn read(machine: &Machine, source: Source) -> ArrayVec<u64, 10>
         Source::Leaving { rec } => of_leaving(machine.rec(rec)),
         Source::Walk { rd, ipa, level } => walk_in(machine, rd, ipa, level),
         Source::Measured { rd, index } => of_measurement(machine.realm(rd), index),
+    }
+}
+
+/// Whether the realm or the REC that the source is of is there.
+#[tactic(auto, unfolding(crate::specs::Reading::stands_for))]
+pub fn is_there(machine: &Machine, source: Source) -> bool
+    ensures { result ≡ spec.stands_for (state_of machine.now) source }
+{
+    match source {
+        Source::Nothing | Source::Place { .. } | Source::Tag { .. } => true,
+        Source::State { rd }
+        | Source::NextIndex { rd }
+        | Source::Space { rd }
+        | Source::Walk { rd, .. }
+        | Source::Measured { rd, .. } => machine.has_tag(rd, Tag::Rd),
+        Source::OwnerState { rec }
+        | Source::OwnerSpace { rec }
+        | Source::Running { rec }
+        | Source::Runnable { rec }
+        | Source::Owner { rec }
+        | Source::Request { rec }
+        | Source::Leaving { rec } => machine.has_tag(rec, Tag::Rec),
     }
 }
 

@@ -41,7 +41,7 @@ pub fn source_of(test: Test) -> Source
     ensures { result ≡ spec.source_of test }
 {
     match test {
-        Test::Words(_)
+        Test::OfWord { .. }
         | Test::Hash { .. }
         | Test::VmidFree { .. }
         | Test::NoRec { .. }

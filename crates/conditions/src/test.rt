@@ -2,6 +2,27 @@
 
 use rmm_spec::{Removal, Tag};
 
+/// What is asked of a word of the command, whatever the state.
+#[derive(Clone, Copy)]
+pub enum WordTest {
+    AtMost(u64),
+    Below(u64),
+    /// From the first to the second.
+    Between(u64, u64),
+    /// A page begins there.
+    Page,
+    /// An entry of the level begins there; past level 3 one of that.
+    Entry(u64),
+    /// A realm's addresses can have so many bits.
+    Width,
+    /// The tables of a realm with so many bits begin at the level.
+    RootOf(u64),
+    /// It is below another word, which stands at this place.
+    BelowWord { index: u8, word: u64 },
+    /// It is another one than the word at this place.
+    Apart { index: u8, word: u64 },
+}
+
 /// What is asked of a realm. Addresses are in bytes.
 #[derive(Clone, Copy)]
 pub enum RealmTest {
@@ -72,8 +93,12 @@ pub enum WalkTest {
 /// One test of a state.
 #[derive(Clone, Copy)]
 pub enum Test {
-    /// Nothing of the state: the words alone.
-    Words(bool),
+    /// Nothing of the state: the word at the place among the command's alone.
+    OfWord {
+        index: u8,
+        word: u64,
+        asked: WordTest,
+    },
     /// The CPU is outside of RECs.
     Outside {
         cpu: u8,

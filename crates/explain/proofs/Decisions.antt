@@ -14,7 +14,7 @@ use Rattle.rmm_spec.specs.Lookup.{rec_inside}
 use Rattle.rmm_spec.specs.State.{State}
 use Rattle.rmm_spec.specs.Step.{CarriesOut, Step, outcome}
 use Rattle.conditions.specs.declared.test.Test.{Test}
-use Rattle.conditions.specs.Law.{IsFirst, first_failing, refused_for}
+use Rattle.conditions.specs.Law.{IsFirst, IsOfWords, first_failing, refused_for}
 use Rattle.conditions.specs.Lists.{conditions}
 use Rattle.conditions.specs.Tests.{passes, stands}
 use Rattle.conditions.proofs.First.{fails-first, first_failing-first}
@@ -52,15 +52,15 @@ IsFailing-first s cpu command name t first = (
 )
 
 pub IsDecision-condition : (s : State) (cpu : ℕ) (command : Command) (claimed : Reply) (t : Test) (d : Deciding) (w : Watch)
-    → IsFailing s cpu (call_of command) (outcome s cpu (call_of command)) t → IsConditionOf s t d w
+    → IsFailing s cpu (call_of command) (outcome s cpu (call_of command)) t → IsOfWords command.words.items t → IsConditionOf s t d w
     → IsDecision s cpu command (outcome s cpu (call_of command)) claimed d w
-IsDecision-condition s cpu command claimed t (deciding.Condition read) (watch.Condition other standing) failing (is_same, is_standing, is_fact) =
+IsDecision-condition s cpu command claimed t (deciding.Condition read) (watch.Condition other standing) failing asked (is_same, is_standing, is_fact) =
     subst (λ (x : Test). IsDecision s cpu command (outcome s cpu (call_of command)) claimed (deciding.Condition read) (watch.Condition x standing)) (sym is_same)
-    (failing, is_standing, is_fact)
-IsDecision-condition s cpu command claimed t (deciding.Condition read) (watch.Accepted other given) failing is = absurd is
-IsDecision-condition s cpu command claimed t (deciding.Condition read) (watch.Read source) failing is = absurd is
-IsDecision-condition s cpu command claimed t deciding.Accepted w failing is = absurd is
-IsDecision-condition s cpu command claimed t (deciding.Word word) w failing is = absurd is
+    (failing, asked, is_standing, is_fact)
+IsDecision-condition s cpu command claimed t (deciding.Condition read) (watch.Accepted other given) failing asked is = absurd is
+IsDecision-condition s cpu command claimed t (deciding.Condition read) (watch.Read source) failing asked is = absurd is
+IsDecision-condition s cpu command claimed t deciding.Accepted w failing asked is = absurd is
+IsDecision-condition s cpu command claimed t (deciding.Word word) w failing asked is = absurd is
 
 -- a refusal has a condition
 pub refused-none : (s : State) (cpu : ℕ) (command : Command) (refused : Refusal) → outcome s cpu (call_of command) ≡ Err refused
@@ -80,7 +80,3 @@ IsApart-refused s cpu command (Reaches stretch) items is refused = tt
 
 pub some_found : {X : Type 0} (found : Option X) (Otherwise : Type 0) (P : X → Type 0) (x : X) → MatchOption found Otherwise P → found ≡ Some x → P x
 some_found found Otherwise P x match is = subst (λ f. MatchOption f Otherwise P) is match
-
-pub nothing_found : {X : Type 0} (found : Option X) (Otherwise : Type 0) (P : X → Type 0) → MatchOption found Otherwise P → ((x : X) → ¬ (found ≡ Some x)) → Otherwise
-nothing_found None Otherwise P match none = match
-nothing_found (Some x) Otherwise P match none = absurd (none x refl)

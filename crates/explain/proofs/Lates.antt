@@ -27,11 +27,6 @@ pub moved_next : (events : List Event) (lines : List Line) (cpu number : ℕ) (t
     → holds new t ≡ false → IsMoved events lines cpu number t first (suc count) old new
 moved_next events lines cpu number t first count old mid new line taken moved is_line moves fails = (mid, moved, fails, (line, is_line, (taken, moves)))
 
--- a line that isn't taken leaves the condition as it fails
-pub fails_kept : (events : List Event) (cpu number : ℕ) (line : Line) (old new : State) (t : Test) → Moves events cpu number line old false new
-    → holds old t ≡ false → holds new t ≡ false
-fails_kept events cpu number line old new t moves fails = ap (λ (s : State). holds s t) (moves.kept refl) ∙ fails
-
 -- ---- one line
 
 -- a line of another kind, or of a call that doesn't overlap, isn't taken
@@ -102,10 +97,6 @@ not_if false none = refl
 pub match_both : {X : Type 0} (found : Option X) (Otherwise : Type 0) (P : X → Type 0) → IfNone found Otherwise → IfSome found P → MatchOption found Otherwise P
 match_both None Otherwise P none some = none
 match_both (Some x) Otherwise P none some = some
-
-pub none_said : {X : Type 0} (found : Option X) (Otherwise : Type 0) → IfNone found Otherwise → ((x : X) → ¬ (found ≡ Some x)) → Otherwise
-none_said None Otherwise none others = none
-none_said (Some x) Otherwise none others = absurd (others x refl)
 
 -- what fails is so
 pub fails_so : (there holds : Bool) → (there && not holds) ≡ true → holds ≡ false

@@ -5,7 +5,6 @@ use Rattle.std.proofs.lemmas.Bool.{cases_lt, false_from_ne_true}
 use Rattle.std.proofs.lemmas.List.{length-append}
 use Rattle.std.proofs.lemmas.Option.{none-some, same_Some, slice_get_within}
 use Rattle.rmm_spec.specs.Lookup.{is_granule}
-use Rattle.rmm_spec.specs.Ownership.{IsTied}
 use Rattle.rmm_spec.specs.State.{State}
 use Rattle.spec_machine.specs.declared.owner_report.OwnerRow.{OwnerRow}
 use Rattle.spec_machine.specs.Report.{AddsOwners, owner_rows}
@@ -48,14 +47,6 @@ is_row-owner_rows s rows k row report is_row =
     let here : Some (owner_row s owner k) ≡ Some row =
     sym (slice_get-owner_rows s owner s.config.granules k within) ∙ ap (λ (xs : List OwnerRow). slice_get xs k) (sym rows_are) ∙ is_row in
     (within, same_Some (owner_row s owner k) row here)
-
--- a row of a realm's granule says how the state ties it to the realm
-pub IsTied-owner_rows : (s : State) (rows : List OwnerRow) (k : ℕ) (row : OwnerRow) (realm : ℕ) → AddsOwners s [] rows
-    → slice_get rows k ≡ Some row → row.realm ≡ Some realm → IsTied row.tag s row.granule realm
-IsTied-owner_rows s rows k row realm report is_row of_realm =
-    let same = (is_row-owner_rows s rows k row report is_row).1 in
-    subst (λ (r : OwnerRow). IsTied r.tag s r.granule realm) same
-    ((report.1 (k * 4096) realm).0 (ap (λ (r : OwnerRow). r.realm) same ∙ of_realm))
 
 -- a granule's row has its tag
 pub tag-owner_rows : (s : State) (rows : List OwnerRow) (granule : ℕ) (row : OwnerRow) → AddsOwners s [] rows → granule % 4096 ≡ 0

@@ -1,5 +1,5 @@
 -- What a loop over numbers, or over the granules of a report, has found so far.
-use Rattle.std.proofs.Common.{◌≡◌, ℕ, suc, ◌+◌, ◌*◌, ◌≤◌, Bool, false, List, [], length, Some, refl, sym, ◌∙◌, ap, arith}
+use Rattle.std.proofs.Common.{◌≡◌, ℕ, suc, ◌+◌, ◌*◌, ◌≤◌, Bool, false, List, [], length, Some, refl, sym, ◌∙◌, ap, subst, arith}
 use Rattle.std.specs.List.{slice_get}
 use Rattle.rmm_spec.specs.Lookup.{any_below}
 use Rattle.rmm_spec.specs.State.{State}
@@ -22,6 +22,12 @@ length-report s rows report = ap (λ (xs : List OwnerRow). length xs) report.2 �
 -- of its place
 pub granule-row : (s : State) (rows : List OwnerRow) (k : ℕ) (row : OwnerRow) → AddsOwners s [] rows → slice_get rows k ≡ Some row → row.granule ≡ k * 4096
 granule-row s rows k row report is_row = sym (ap (λ (r : OwnerRow). r.granule) (is_row-owner_rows s rows k row report is_row).1)
+
+-- none of the granules of the rows so far passes, with that of one row more
+pub none_next_row : (s : State) (rows : List OwnerRow) (p : ℕ → Bool) (i granule : ℕ) (row : OwnerRow) → AddsOwners s [] rows → slice_get rows i ≡ Some row
+    → granule ≡ row.granule → p granule ≡ false → any_below i (λ k. p (k * 4096)) ≡ false → any_below (i + 1) (λ k. p (k * 4096)) ≡ false
+none_next_row s rows p i granule row report is_row same here below =
+    none_next i (λ k. p (k * 4096)) (subst (λ (g : ℕ). p g ≡ false) (same ∙ granule-row s rows i row report is_row) here) below
 
 -- so where none of the rows' granules passes, none does
 pub none_of_rows : (s : State) (rows : List OwnerRow) (n : ℕ) (p : ℕ → Bool) → AddsOwners s [] rows → length rows ≤ n → n ≤ length rows

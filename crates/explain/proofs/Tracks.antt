@@ -9,7 +9,7 @@ use Rattle.explain.specs.declared.track.Kept.{Kept}
 use Rattle.explain.specs.declared.track.Turn.{Turn}
 use Rattle.explain.specs.declared.watch.Watch.{Watch}
 use Rattle.explain.specs.Track.{IsKept, IsTurn}
-use Rattle.explain.specs.Watch.{At, has, is_so, is_there}
+use Rattle.explain.specs.Watch.{At, is_so, is_there, showing, shown}
 
 module _ (history : History) (lines : List Line) (w : Watch) (seen : ℕ) (s : State) (passes : Passes history (take seen lines) s) where
   -- said of the states so far and of this one
@@ -40,19 +40,19 @@ module _ (history : History) (lines : List Line) (w : Watch) (seen : ℕ) (s : S
     within = omega arith;
   }
 
-  -- the same is read
-  pub IsKept-same : (kept : Kept) → has s w ≡ kept.read.items → IsKept history lines w seen kept → IsKept history lines w (seen + 1) kept
+  -- the same is seen
+  pub IsKept-same : (kept : Kept) → shown s w ≡ showing kept.there kept.read.items → IsKept history lines w seen kept → IsKept history lines w (seen + 1) kept
   IsKept-same kept same is = record {
-    read = At-next kept.set (λ (x : State). has x w ≡ kept.read.items) is.read same;
+    read = At-next kept.set (λ (x : State). shown x w ≡ showing kept.there kept.read.items) is.read same;
     changed = is.changed;
     within = omega (arith, is.within);
   }
 
   -- something else
-  pub IsKept-other : (old new : Kept) → has s w ≡ new.read.items → new.set ≡ seen → new.read.items ≢ old.read.items → IsKept history lines w seen old
-      → IsKept history lines w (seen + 1) new
+  pub IsKept-other : (old new : Kept) → shown s w ≡ showing new.there new.read.items → new.set ≡ seen → showing new.there new.read.items ≢ showing old.there old.read.items
+      → IsKept history lines w seen old → IsKept history lines w (seen + 1) new
   IsKept-other old new here at other is = record {
-    read = At-next new.set (λ (x : State). has x w ≡ new.read.items)
+    read = At-next new.set (λ (x : State). shown x w ≡ showing new.there new.read.items)
         (λ count from below. absurd (let bad : ⊥ = omega (arith, at, from, below) in bad)) here;
     changed = λ before next.
         let last = is.read before (omega (arith, is.within, at, next)) (omega (arith, at, next)) in

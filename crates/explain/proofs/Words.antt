@@ -1,8 +1,13 @@
--- Lists by what they have at each place.
-use Rattle.std.proofs.Common.{◌≡◌, ℕ, zero, suc, ◌≤◌, ◌<◌, List, [], ◌∷◌, length, None, refl, sym, ◌∙◌, ap, arith, inl, inr}
+-- Words by their places, and the word for a hash.
+use Rattle.std.proofs.Common.{◌≡◌, ℕ, zero, suc, ◌≤◌, ◌<◌, false, nat_le, List, [], ◌∷◌, length, None, refl, sym, ◌∙◌, ap, arith, inl, inr}
 use Rattle.std.specs.List.{slice_get}
+use Rattle.std.proofs.lemmas.Bool.Decides.{nat_tests}
 use Rattle.std.proofs.lemmas.Bool.{cases_lt}
 use Rattle.std.proofs.lemmas.Option.{none-some, same_Some}
+use Rattle.rmm_spec.specs.declared.version.Version.{Version}
+use Rattle.rmm_spec.specs.declared.version.Version.TheVariants.{One, Two, Large}
+use Rattle.rmm_spec.specs.Lookup.{allows_hash}
+use Rattle.explain.specs.Facts.{last_hash}
 
 pub slice_get-past : {X : Type 0} (xs : List X) (i : ℕ) → length xs ≤ i → slice_get xs i ≡ None
 slice_get-past [] i past = refl
@@ -23,3 +28,9 @@ same_short n xs ys few little all = same_list xs ys (λ i. elim (cases_lt i n) [
   | inl below ↦ all i below
   | inr past ↦ slice_get-past xs i (omega (arith, past, few)) ∙ sym (slice_get-past ys i (omega (arith, past, little)))
 ])
+
+-- a word that stands for no hash of the version is past its last
+pub past-last_hash : (version : Version) (algo : ℕ) → allows_hash version algo ≡ false → nat_le algo (last_hash version) ≡ false
+past-last_hash One algo none = grind (arith, nat_tests, none)
+past-last_hash Two algo none = grind (arith, nat_tests, none)
+past-last_hash Large algo none = grind (arith, nat_tests, none)

@@ -15,7 +15,7 @@ use Rattle.rmm_spec.specs.State.{State}
 use Rattle.conditions.specs.declared.source.Source.{Source}
 use Rattle.conditions.specs.declared.source.Source.TheVariants as source
 use Rattle.conditions.specs.declared.test.Test.{Test}
-use Rattle.conditions.specs.Law.{IsFirst, refused_for}
+use Rattle.conditions.specs.Law.{IsFirst, IsOfWords, refused_for}
 use Rattle.conditions.specs.Lists.{conditions}
 use Rattle.conditions.specs.Tests.{passes, stands}
 use Rattle.told.specs.declared.explanation.Deciding.{Deciding}
@@ -72,9 +72,10 @@ abbrev pub IsConditionOf : State → Test → Deciding → Watch → Type 0
 IsConditionOf s t (deciding.Condition read) (watch.Condition other standing) = (other ≡ t) × (standing ≡ stands s t) × IsFact s t read
 IsConditionOf s t _ _ = ⊥
 
+-- A condition is the first that fails, and its words are the command's.
 abbrev pub IsDecision : State → ℕ → Command → Result Accepted Refusal → Reply → Deciding → Watch → Type 0
 IsDecision s cpu command specified claimed (deciding.Condition read) (watch.Condition t standing) =
-    IsFailing s cpu (call_of command) specified t × (standing ≡ stands s t) × IsFact s t read
+    IsFailing s cpu (call_of command) specified t × IsOfWords command.words.items t × (standing ≡ stands s t) × IsFact s t read
 IsDecision s cpu command (Ok accepted) (reply.Err status index) deciding.Accepted (watch.Accepted other given) = (other ≡ cpu) × (given ≡ command)
 IsDecision s cpu command (Ok accepted) reply.Misplaced deciding.Accepted (watch.Accepted other given) = (other ≡ cpu) × (given ≡ command)
 IsDecision s cpu command (Ok accepted) (reply.Ok words) (deciding.Word word) (watch.Read source) =

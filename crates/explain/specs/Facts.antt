@@ -6,8 +6,10 @@ use Rattle.rmm_spec.specs.declared.entry.Entry.{Entry}
 use Rattle.rmm_spec.specs.declared.entry.EntryTest.{EntryTest}
 use Rattle.rmm_spec.specs.declared.entry.EntryTest.TheVariants.{Live, Link, Unlike}
 use Rattle.rmm_spec.specs.declared.tag.Tag.{Tag}
+use Rattle.rmm_spec.specs.declared.version.Version.{Version}
+use Rattle.rmm_spec.specs.declared.version.Version.TheVariants.{One, Two, Large}
 use Rattle.rmm_spec.specs.declared.walked.Walked.{Walked}
-use Rattle.rmm_spec.specs.Lookup.{allows_hash, has_vmid, is_granule, is_inside, is_owned_by, realm_at, rec_at, rec_inside, ripas_number}
+use Rattle.rmm_spec.specs.Lookup.{has_vmid, is_granule, is_inside, is_owned_by, realm_at, rec_at, rec_inside, ripas_number}
 use Rattle.rmm_spec.specs.State.{State}
 use Rattle.rmm_spec.specs.Walk as tables
 use Rattle.rmm_spec.specs.Walk.{entry_address, entry_at, entry_ripas, entry_size, entry_state, table_number, walk}
@@ -18,6 +20,8 @@ use Rattle.conditions.specs.declared.test.RecTest.{RecTest}
 use Rattle.conditions.specs.declared.test.RecTest.TheVariants as of_rec
 use Rattle.conditions.specs.declared.test.Test.{Test}
 use Rattle.conditions.specs.declared.test.Test.TheVariants as test
+use Rattle.conditions.specs.declared.test.WordTest.TheVariants as of_words
+use Rattle.conditions.specs.Tests.{word_passes}
 use Rattle.told.specs.declared.facts.EntryRead.{EntryRead}
 use Rattle.told.specs.declared.facts.Fact.{Fact}
 use Rattle.told.specs.declared.facts.Fact.TheVariants as fact
@@ -53,7 +57,7 @@ IsEntryIn s rd level number wanted ipa read =
 
 -- Of the realm at the address, or nothing where none is there.
 abbrev pub IsRealmFact : State → ℕ → RealmTest → Fact → Type 0
-IsRealmFact s rd asked fact.Words = s.realm rd ≡ None
+IsRealmFact s rd asked fact.Nothing = s.realm rd ≡ None
 IsRealmFact s rd of_realm.New (fact.State at state) = (at ≡ rd) × ((realm_at s rd).state ≡ state)
 IsRealmFact s rd of_realm.Begun (fact.State at state) = (at ≡ rd) × ((realm_at s rd).state ≡ state)
 IsRealmFact s rd of_realm.On (fact.State at state) = (at ≡ rd) × ((realm_at s rd).state ≡ state)
@@ -68,7 +72,7 @@ IsRealmFact s rd _ _ = ⊥
 
 -- Of the REC at the address, or nothing where none is there.
 abbrev pub IsRecFact : State → ℕ → RecTest → Fact → Type 0
-IsRecFact s rec asked fact.Words = s.rec rec ≡ None
+IsRecFact s rec asked fact.Nothing = s.rec rec ≡ None
 IsRecFact s rec of_rec.Ready (fact.Runs at cpu) = (at ≡ rec) × ((rec_at s rec).cpu ≡ Some cpu)
 IsRecFact s rec of_rec.Runnable (fact.Stopped at) = (at ≡ rec) × ((rec_at s rec).runnable ≡ false)
 IsRecFact s rec (of_rec.OwnedBy rd) (fact.Owner at owner) = (at ≡ rec) × ((rec_at s rec).owner ≡ owner)
@@ -77,10 +81,19 @@ IsRecFact s rec (of_rec.From base) (fact.Request at request) = (at ≡ rec) × (
 IsRecFact s rec (of_rec.By top) (fact.Request at request) = (at ≡ rec) × ((rec_at s rec).request ≡ request)
 IsRecFact s rec _ _ = ⊥
 
--- A test has one kind of fact, which is of the state and of what the test is about; none where the words alone decide.
+-- the number of a version's last hash
+abbrev pub last_hash : Version → ℕ
+last_hash One = 0
+last_hash Two = 1
+last_hash Large = 1
+
+-- A test has one kind of fact, which is of what the test is about: of the command's word, or of the state. Of a word it is told that it
+-- isn't as it has to be.
 abbrev pub IsFact : State → Test → Fact → Type 0
-IsFact s (test.Words allowed) fact.Words = allowed ≡ false
-IsFact s (test.Hash algo) fact.Words = allows_hash s.config.version algo ≡ false
+IsFact s (test.OfWord index word asked) (fact.Word at value wanted) =
+    (at ≡ index) × (value ≡ word) × (wanted ≡ asked) × (word_passes wanted value ≡ false)
+IsFact s (test.Hash algo) (fact.Word at value wanted) =
+    (at ≡ 5) × (value ≡ algo) × (wanted ≡ of_words.AtMost (last_hash s.config.version)) × (word_passes wanted value ≡ false)
 IsFact s (test.Outside cpu) (fact.Place at rec) = (at ≡ cpu) × IsPlace s cpu rec
 IsFact s (test.Inside cpu) (fact.Place at rec) = (at ≡ cpu) × IsPlace s cpu rec
 IsFact s (test.Idle rec) (fact.Pending at pending) = (at ≡ rec) × ((rec_at s rec).pending ≡ Some (pending_of pending))
@@ -94,7 +107,7 @@ IsFact s (test.NoRec rd) (fact.RecLeft at rec) = (at ≡ rd) × IsTrue (is_owned
 IsFact s (test.NoLink rd) (fact.InUse at ipa read) = (at ≡ rd) × IsEntryIn s rd (realm_at s rd).start_level 0 Link ipa read
 IsFact s (test.OfWalk rd ipa level asked) (fact.Entry at address read) =
     (at ≡ rd) × (address ≡ ipa) × (read ≡ end_seen (walk s rd ipa (min level 3)))
-IsFact s (test.Removable removal rd ipa level) fact.Words = 3 < level
+IsFact s (test.Removable removal rd ipa level) fact.Nothing = 3 < level
 IsFact s (test.Removable removal rd ipa level) (fact.InUse at first read) =
     (at ≡ rd)
     × IsEntryIn s rd level (table_number level ipa) (in_the_way removal (entry_at s rd level (512 * table_number level ipa))) first read

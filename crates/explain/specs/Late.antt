@@ -53,7 +53,7 @@ IsMoved events lines cpu number t first (suc count) old new =
 -- what is told of a condition that holds
 abbrev pub made_by : Test → Fact
 made_by (test.Tagged granule tag) = fact.Tag granule tag (Some tag)
-made_by _ = fact.Words
+made_by _ = fact.Nothing
 
 -- The step comes after the failing line, and its call overlaps that line's call. The overlapping lines between are taken first, and leave
 -- the condition as it fails; with this one it holds.

@@ -11,7 +11,7 @@ use Rattle.explain.specs.declared.track.Track.{Track}
 use Rattle.explain.specs.declared.track.Turn.{Turn}
 use Rattle.explain.specs.declared.watch.Sample.{Sample}
 use Rattle.explain.specs.declared.watch.Watch.{Watch}
-use Rattle.explain.specs.Watch.{At, has, is_so, is_there}
+use Rattle.explain.specs.Watch.{At, has, is_so, is_there, showing, shown}
 
 -- a sample is of the state
 pub record IsSampleOf (s : State) (w : Watch) (sample : Sample) : Type 0 where
@@ -25,10 +25,10 @@ pub record IsTurn (history : History) (lines : List Line) (w : Watch) (seen : �
   pub turned : (before : ℕ) → turn.since ≡ before + 1 → At history lines before (λ s. (is_so s w ≡ false) × (is_there s w ≡ turn.was_there))
   pub within : turn.since ≤ seen
 
--- from one count of lines on this is read, and right before that it wasn't
+-- from one count of lines on this is seen, and right before that it wasn't
 pub record IsKept (history : History) (lines : List Line) (w : Watch) (seen : ℕ) (kept : Kept) : Type 0 where
-  pub read : (count : ℕ) → kept.set ≤ count → count < seen → At history lines count (λ s. has s w ≡ kept.read.items)
-  pub changed : (before : ℕ) → kept.set ≡ before + 1 → At history lines before (λ s. has s w ≢ kept.read.items)
+  pub read : (count : ℕ) → kept.set ≤ count → count < seen → At history lines count (λ s. shown s w ≡ showing kept.there kept.read.items)
+  pub changed : (before : ℕ) → kept.set ≡ before + 1 → At history lines before (λ s. shown s w ≢ showing kept.there kept.read.items)
   pub within : kept.set ≤ seen - 1
 
 pub record IsTrack (history : History) (lines : List Line) (w : Watch) (seen : ℕ) (track : Track) : Type 0 where

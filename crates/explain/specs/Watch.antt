@@ -1,5 +1,5 @@
 -- What is watched on the way to a failing line, and since which step it is so.
-use Rattle.std.specs.Prelude.{◌≡◌, ◌≢◌, ℕ, ◌+◌, ◌<◌, ◌≤◌, Bool, true, false, not, ◌&&◌, ◌||◌, List, [], take, Result, Ok, Err, Option, Some, None}
+use Rattle.std.specs.Prelude.{◌≡◌, ◌≢◌, ℕ, ◌+◌, ◌<◌, ◌≤◌, Bool, true, false, not, ◌&&◌, ◌||◌, List, [], take, Result, Ok, Err, Option, Some, None, IfSome, MatchOption}
 use Rattle.rmm_spec.specs.declared.accepted.Accepted.{Accepted}
 use Rattle.rmm_spec.specs.declared.line.Line.{Line}
 use Rattle.rmm_spec.specs.declared.refusal.Refusal.{Refusal}
@@ -8,7 +8,7 @@ use Rattle.rmm_spec.specs.HistoryText.{History}
 use Rattle.rmm_spec.specs.State.{State}
 use Rattle.rmm_spec.specs.Step.{outcome}
 use Rattle.rmm_spec.specs.FirstFault.{Passes}
-use Rattle.conditions.specs.Reading.{read, source_of}
+use Rattle.conditions.specs.Reading.{read, source_of, stands_for}
 use Rattle.conditions.specs.Tests.{passes, stands}
 use Rattle.told.specs.declared.named_call.EarlierStep.{EarlierStep}
 use Rattle.told.specs.declared.since.Since.{Since}
@@ -34,13 +34,21 @@ is_so s (watch.Read source) = true
 unfoldable pub is_there : State → Watch → Bool
 is_there s (watch.Condition test standing) = stands s test || not standing
 is_there s (watch.Accepted cpu command) = true
-is_there s (watch.Read source) = true
+is_there s (watch.Read source) = stands_for s source
 
 -- what it is read from
 unfoldable pub has : State → Watch → List ℕ
 has s (watch.Condition test standing) = read s (source_of test)
 has s (watch.Accepted cpu command) = []
 has s (watch.Read source) = read s source
+
+-- whether something is there, and what is read of it
+abbrev pub showing : Bool → List ℕ → Bool × List ℕ
+showing there words = (there, words)
+
+-- of what it is about
+abbrev pub shown : State → Watch → Bool × List ℕ
+shown s w = showing (is_there s w) (has s w)
 
 -- ---- along the lines
 
@@ -64,11 +72,17 @@ IsFrom history lines index (Some earlier) Before After =
     IsEarlier history lines (index + 1) earlier × Throughout history lines earlier.step index After
     × (before : ℕ) × (earlier.step ≡ before + 1) × At history lines before Before
 
+-- what a step made was set by no earlier one
+abbrev pub IsOfLife : Option EarlierStep → Option EarlierStep → Type 0
+IsOfLife made set = IfSome made (λ life. MatchOption set ⊥ (λ last. life.step ≤ last.step))
+
 -- It is so from the step on, and right before it wasn't; what it is about was there then where it turned, and wasn't where that was made.
--- What it is read from is as it is from the step on that set it.
+-- From the step on that set it, what it is about is there as it is now, and what it is read from is as it is. So that is of the life of
+-- what stands there now.
 abbrev pub IsSince : History → List Line → ℕ → Watch → Since → Type 0
 IsSince history lines index w (since.Turned earlier) =
     IsFrom history lines index (Some earlier) (λ s. (is_so s w ≡ false) × (is_there s w ≡ true)) (λ s. is_so s w ≡ true)
 IsSince history lines index w (since.Never made set) =
     IsFrom history lines index made (λ s. (is_so s w ≡ false) × (is_there s w ≡ false)) (λ s. is_so s w ≡ true)
-    × (now : List ℕ) × IsFrom history lines index set (λ s. has s w ≢ now) (λ s. has s w ≡ now)
+    × (now : Bool × List ℕ) × IsFrom history lines index set (λ s. shown s w ≢ now) (λ s. shown s w ≡ now)
+    × IsOfLife made set

@@ -19,7 +19,9 @@ ghost use Rattle.explain.specs.Watch.{is_so};
 use crate::fact::fact_of;
 use crate::watch::Watch;
 use command_rows::Sight;
-use conditions::{Source, Test, conditions_decide, failing_test, is_standing, rec_inside_or_none};
+use conditions::{
+    Source, Test, conditions_decide, failing_test, is_standing, rec_inside_or_none, words_are_asked,
+};
 use rmi_view::CommandRef;
 use rmm_spec::{Accepted, Call, Command, Refusal, Reply, Stretch};
 use spec_machine::{Machine, OwnerRow};
@@ -69,6 +71,7 @@ fn failing_condition(
     ensures so { IfOk result (λ d. is_so (state_of machine.now) d.watch ≡ true) }
 {
     conditions_decide();
+    words_are_asked();
     let found = failing_test(alloc, machine, cpu, &command.call())?;
     let Some(test) = found else { unreachable!() };
     Ok(condition_decision(machine, owners, test))

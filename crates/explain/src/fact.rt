@@ -15,9 +15,9 @@ ghost use Rattle.explain.specs.Facts as spec;
 ghost use Rattle.explain.specs.Facts.{IsEntryIn, IsFact, IsFound, IsRealmFact, IsRecFact, entry_seen};
 
 use command_rows::Sight;
-use conditions::{RealmTest, RecTest, Test, rec_inside};
+use conditions::{RealmTest, RecTest, Test, WordTest, rec_inside};
 use granule_state::GRANULE_BYTES;
-use rmm_spec::{Entry, EntryTest, Removal, Tag};
+use rmm_spec::{Entry, EntryTest, Removal, Tag, Version};
 use spec_machine::{Machine, OwnerRow};
 use table_entries::{
     entry_address, entry_ripas, entry_size, entry_state, passes, ripas_number, table_number,
@@ -35,7 +35,8 @@ pub(crate) fn fact_of(machine: &Machine, owners: &[OwnerRow], test: Test) -> Fac
     ensures { IsFact (state_of machine.now) test result }
 {
     match test {
-        Test::Words(_) | Test::Hash { .. } => Fact::Words,
+        Test::OfWord { index, word, asked } => Fact::Word { index, word, asked },
+        Test::Hash { algo } => hash_fact(machine, algo),
         Test::Outside { cpu } | Test::Inside { cpu } => Fact::Place {
             cpu,
             rec: rec_inside(machine, cpu),
@@ -55,6 +56,28 @@ pub(crate) fn fact_of(machine: &Machine, owners: &[OwnerRow], test: Test) -> Fac
             ipa,
             level,
         } => table_fact(machine, removal, rd, ipa, level),
+    }
+}
+
+// A word that stands for no hash of the version, which is the last of REALM_CREATE's.
+fn hash_fact(machine: &Machine, algo: u64) -> Fact
+    requires { look.allows_hash (state_of machine.now).config.version algo ≡ false }
+    ensures { IsFact (state_of machine.now) (test.Hash algo) result }
+{
+    Fact::Word {
+        index: 5,
+        word: algo,
+        asked: WordTest::AtMost(last_hash(machine.version())),
+    }
+}
+
+// The number of a version's last hash.
+fn last_hash(version: Version) -> u64
+    ensures { result ≡ spec.last_hash version }
+{
+    match version {
+        Version::One => 0,
+        Version::Two | Version::Large => 1,
     }
 }
 
@@ -142,7 +165,7 @@ fn realm_fact(machine: &Machine, rd: u64, asked: RealmTest) -> Fact
     ensures { IsRealmFact (state_of machine.now) rd asked result }
 {
     let Some(realm) = machine.realm(rd) else {
-        return Fact::Words;
+        return Fact::Nothing;
     };
     match asked {
         RealmTest::New | RealmTest::Begun | RealmTest::On => Fact::State {
@@ -179,7 +202,7 @@ fn rec_fact(machine: &Machine, rec: u64, asked: RecTest) -> Fact
     ensures { IsRecFact (state_of machine.now) rec asked result }
 {
     let Some(held) = machine.rec(rec) else {
-        return Fact::Words;
+        return Fact::Nothing;
     };
     match asked {
         RecTest::Ready => {
@@ -278,7 +301,7 @@ fn table_fact(machine: &Machine, removal: Removal, rd: u64, ipa: u64, level: u8)
     ensures { IsFact (state_of machine.now) (test.Removable removal rd ipa level) result }
 {
     if level > 3 {
-        return Fact::Words;
+        return Fact::Nothing;
     }
     let number = table_number(level, ipa);
     let wanted = in_the_way(removal, machine.entry_at(rd, level, 512 * number));

@@ -147,6 +147,6 @@ fn made_by(test: Test) -> Fact
             needed: tag,
             found: Some(tag),
         },
-        _ => Fact::Words,
+        _ => Fact::Nothing,
     }
 }

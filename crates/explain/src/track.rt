@@ -7,7 +7,7 @@ ghost use Rattle.rmm_spec.specs.HistoryText.{History as Recorded};
 ghost use Rattle.rmm_spec.specs.State.{State};
 ghost use Rattle.explain.specs.declared.watch.Watch.{Watch as Watched};
 ghost use Rattle.explain.specs.Track.{IsKept, IsSampleOf, IsTrack, IsTurn};
-ghost use Rattle.explain.specs.Watch.{has, is_so, is_there};
+ghost use Rattle.explain.specs.Watch.{is_so, is_there, showing, shown};
 
 use crate::watch::Sample;
 use arrayvec::ArrayVec;
@@ -19,9 +19,10 @@ pub(crate) struct Turn {
     pub(crate) was_there: bool,
 }
 
-/// What is read, and after how many lines it is from then on.
+/// Whether what it is about is there, what is read, and after how many lines both are so from then on.
 #[derive(Drop)]
 pub(crate) struct Kept {
+    pub(crate) there: bool,
     pub(crate) read: ArrayVec<u64, 10>,
     pub(crate) set: usize,
 }
@@ -43,6 +44,7 @@ pub(crate) fn no_track() -> Track
             was_there: false,
         },
         kept: Kept {
+            there: false,
             read: ArrayVec::new(),
             set: 0,
         },
@@ -63,7 +65,7 @@ pub(crate) fn track_with(track: Track, count: usize, sample: Sample) -> Track
     } = sample;
     Track {
         turn: turn_with(turn, count, is_so, is_there),
-        kept: kept_with(kept, count, read),
+        kept: kept_with(kept, count, is_there, read),
     }
 }
 
@@ -81,14 +83,25 @@ fn turn_with(turn: Turn, count: usize, so: bool, there: bool) -> Turn
     }
 }
 
-fn kept_with(kept: Kept, count: usize, read: ArrayVec<u64, 10>) -> Kept
-    ensures { (history : Recorded) (lines : List Line) (w : Watched) (s : State) → Passes history (take count lines) s → read.items ≡ has s w
+fn kept_with(kept: Kept, count: usize, there: bool, read: ArrayVec<u64, 10>) -> Kept
+    ensures { (history : Recorded) (lines : List Line) (w : Watched) (s : State) → Passes history (take count lines) s → shown s w ≡ showing there read.items
         → IsKept history lines w count kept → IsKept history lines w (count + 1) result }
 {
-    if is_same(&read, &kept.read) {
+    if is_seen(&kept, there, &read) {
         return kept;
     }
-    Kept { read, set: count }
+    Kept {
+        there,
+        read,
+        set: count,
+    }
+}
+
+// Whether this was kept.
+fn is_seen(kept: &Kept, there: bool, read: &ArrayVec<u64, 10>) -> bool
+    ensures { IsTrue result ↔ (showing kept.now.there kept.now.read.items ≡ showing there read.now.items) }
+{
+    there == kept.there && is_same(read, &kept.read)
 }
 
 // Whether two lists are the same.

@@ -6,7 +6,7 @@ ghost use Rattle.explain.specs.Watch as spec;
 ghost use Rattle.explain.specs.Track.{IsSampleOf};
 
 use arrayvec::ArrayVec;
-use conditions::{Source, Test, is_standing, passes, read, source_of};
+use conditions::{Source, Test, is_standing, is_there, passes, read, source_of};
 use rmm_spec::{Accepted, Command, Refusal};
 use spec_machine::Machine;
 
@@ -50,7 +50,7 @@ pub(crate) fn sample_of(machine: &Machine, watch: &Watch) -> Sample
         },
         Watch::Read(source) => Sample {
             is_so: true,
-            is_there: true,
+            is_there: is_there(machine, *source),
             read: read(machine, *source),
         },
     }

@@ -79,7 +79,8 @@ fn put_deciding(alloc: Global, object: &mut Object, line: &RefusedLine) -> Resul
         (Deciding::Condition(fact), Err(refusal)) => {
             let mut condition = Object::new(alloc, 1);
             condition.text("name", condition_name(condition_of(*refusal)))?;
-            condition.object("fact", fact_of(alloc, fact)?)?;
+            let function = line.call.call.command.function;
+            condition.object("fact", fact_of(alloc, function, fact)?)?;
             object.object("condition", condition)
         }
         (Deciding::Word(word), _) => put_word(alloc, object, line, *word),

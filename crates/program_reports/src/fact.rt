@@ -5,18 +5,29 @@ ghost use Rattle.std.specs.Prelude.{◌≡◌, IfOk};
 use crate::call::put_hex;
 use json_objects::Object;
 use realm_desc::RipasRequest;
+use rmm_spec::FunctionId;
 use std::alloc::{AllocError, Global};
 use std::fmt;
-use told::{EntryRead, Fact, PendingText, RipasText, StateText, TagText};
+use told::{AskedText, EntryRead, Fact, PendingText, RipasText, StateText, TagText, command_word};
 
-/// A fact: its kind, and its values by name.
-pub(crate) fn fact_of(alloc: Global, fact: &Fact) -> Result<Object, AllocError>
+/// A fact of a function's command: its kind, and its values by name.
+pub(crate) fn fact_of(
+    alloc: Global,
+    function: FunctionId,
+    fact: &Fact,
+) -> Result<Object, AllocError>
     ensures { IfOk result (λ object. object.bound ≡ 0) }
 {
     let mut object = Object::new(alloc, 0);
     object.text("kind", kind_of(fact))?;
     match *fact {
-        Fact::Words => {}
+        Fact::Nothing => {}
+        Fact::Word { index, word, asked } => {
+            object.number("index", u64::from(index))?;
+            object.text("name", command_word(function, index))?;
+            put_hex(alloc, &mut object, "word", word)?;
+            put_shown(alloc, &mut object, "wanted", AskedText { function, asked })?;
+        }
         Fact::Place { cpu, rec } => {
             object.number("cpu", u64::from(cpu))?;
             put_some(alloc, &mut object, "rec", rec)?;
@@ -47,7 +58,8 @@ pub(crate) fn fact_of(alloc: Global, fact: &Fact) -> Result<Object, AllocError>
 
 fn kind_of(fact: &Fact) -> &'static str {
     match *fact {
-        Fact::Words => "words",
+        Fact::Nothing => "nothing",
+        Fact::Word { .. } => "word",
         Fact::Place { .. } => "place",
         Fact::Pending { .. } => "pending",
         Fact::Tag { .. } => "tag",

@@ -32,6 +32,7 @@ pub(crate) fn late_of(alloc: Global, late: &LateCommit) -> Result<Object, AllocE
     ensures { IfOk result (λ object. object.bound ≡ 2) }
 {
     let mut object = step_naming(alloc, late.step, &late.call)?;
-    object.object("makes", fact_of(alloc, &late.makes)?)?;
+    let function = late.call.call.command.function;
+    object.object("makes", fact_of(alloc, function, &late.makes)?)?;
     Ok(object)
 }

@@ -11,7 +11,7 @@ use file_arguments::Output;
 use file_programs::{Fault, print, write_file};
 use program_reports::{Paths as Named, append_json, append_lines};
 use rmi_codec::{Parts, next_word};
-use run_steps::{count_conditions, granule_steps};
+use run_steps::{append_counts, count_conditions, granule_steps};
 use std::alloc::{AllocError, Global};
 use std::io;
 use std::rt::Files;
@@ -141,9 +141,7 @@ fn append_rows(
     let Some(run) = &told.run else {
         return verdict_text(&told.explanation.verdict(), out);
     };
-    let counts = count_conditions(alloc, &run.history, &run.certificate)?;
-    let lines = format!(in alloc; "{counts}")?;
-    out.extend_from_slice(lines.as_bytes())
+    append_counts(&count_conditions(alloc, &run.history, &run.certificate)?, out)
 }
 
 // The verdict's line, and behind it the steps of the granule.

@@ -3,3 +3,4 @@ pub mod Marks
 pub mod CountLaws
 pub mod PlaceLaws
 pub mod UntouchedLaws
+pub mod CountTexts

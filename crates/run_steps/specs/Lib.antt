@@ -3,3 +3,4 @@ pub mod Touched
 pub mod Granule
 pub mod Places
 pub mod Counts
+pub mod CountLines

@@ -176,6 +176,7 @@ fn write_deciding<W: fmt::Write>(f: &mut fmt::Formatter<W>, line: &RefusedLine) 
     match (line.deciding, &line.specified) {
         (Deciding::Condition(fact), Err(refusal)) => {
             let why = WhyText {
+                function: line.call.call.command.function,
                 refusal: *refusal,
                 fact,
             };

@@ -1,5 +1,6 @@
 //! What the condition that decided a refusal read of the state.
 
+use conditions::WordTest;
 use realm_desc::{PendingExit, RipasRequest};
 use rmm_spec::{RealmState, Tag};
 
@@ -12,12 +13,18 @@ pub struct EntryRead {
     pub ripas: u64,
 }
 
-/// What a condition read, besides the command's words: one fact of the state. Addresses are in bytes; `rd` and `rec` are those of a
+/// What a condition read: a word of the command that isn't as it has to be, or one fact of the state. Addresses are in bytes; `rd` and `rec` are those of a
 /// realm's descriptor and of a REC.
 #[derive(Clone, Copy)]
 pub enum Fact {
-    /// Nothing of the state.
-    Words,
+    /// Nothing: what it is about isn't there.
+    Nothing,
+    /// The word at the place among the command's, from 0 on, which isn't as it has to be.
+    Word {
+        index: u8,
+        word: u64,
+        asked: WordTest,
+    },
     /// The CPU is inside the REC, or outside of RECs.
     Place {
         cpu: u8,

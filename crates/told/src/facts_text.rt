@@ -1,4 +1,4 @@
-//! What a condition read, in words.
+//! What a condition read of the state, in words.
 
 use crate::facts::{EntryRead, Fact};
 use realm_desc::{PendingExit, RipasRequest};
@@ -8,7 +8,7 @@ use std::fmt;
 impl fmt::Display for Fact {
     fn fmt<W: fmt::Write>(&self, f: &mut fmt::Formatter<W>) -> fmt::Result {
         match *self {
-            Fact::Words => Ok(()),
+            Fact::Nothing | Fact::Word { .. } => Ok(()),
             Fact::Place { .. } | Fact::Pending { .. } | Fact::Tag { .. } => write_place(f, self),
             Fact::Vmid { .. }
             | Fact::State { .. }

@@ -5,6 +5,7 @@
 //! The crate `explain` depends on it.
 #![tactic(auto)]
 
+mod asked_text;
 mod before;
 mod before_text;
 mod condition_text;
@@ -21,6 +22,7 @@ mod since_text;
 mod summary_text;
 mod word_text;
 
+pub use asked_text::{AskedText, command_word};
 pub use before::{GranuleBefore, RealmBefore, RecBefore, StateBefore, WalkBefore};
 pub use condition_text::{condition_name, condition_of};
 pub use explanation::{BadLine, Cause, Deciding, Explanation, RefusedLine, Summary, WrongWord};

@@ -18,7 +18,7 @@ impl fmt::Display for SinceText<'_> {
     fn fmt<W: fmt::Write>(&self, f: &mut fmt::Formatter<W>) -> fmt::Result {
         match (self.since, self.deciding) {
             (Since::Turned(earlier), _) => write!(f, "since {earlier}"),
-            (Since::Never { .. }, Deciding::Condition(Fact::Words)) => Ok(()),
+            (Since::Never { .. }, Deciding::Condition(Fact::Nothing | Fact::Word { .. })) => Ok(()),
             (Since::Never { made, set }, Deciding::Condition(_)) => {
                 write_never(f, made.as_ref(), set.as_ref())
             }

@@ -1,11 +1,12 @@
 -- The first that fails is in one of the parts.
-use Rattle.std.proofs.Common.{map, sym}
+use Rattle.std.proofs.Common.{map}
 use Rattle.rmm_spec.specs.Lookup.{rec_inside}
-use Rattle.rmm_spec.specs.Step.Terms.{class_of, named, words_of}
+use Rattle.rmm_spec.specs.Step.Terms.{class_of, named}
 use Rattle.spec_machine.specs.View.{state_of}
 use Rattle.conditions.specs.Lists as spec
 use Rattle.conditions.specs.Lists.{conditions}
 use Rattle.conditions.proofs.First.{IsFirst-left, first-none, first-own, first-tag, first-word, first_found, none_found}
+use Rattle.conditions.proofs.Words.{allowed-pass}
 use Rattle.conditions.proofs.deciding.failing_test.Goals as goal
 
 pub returns-in-Some : goal.returns-in-Some
@@ -18,14 +19,6 @@ returns-in-Some c =
           (first_found s _ c.in_ok-asked.field-0 asked c.in_ok-asked.ensures c.in-Some.is),
     )
 
-pub returns-then-not-words_allow : goal.returns-then-not-words_allow
-unfolding conditions
-returns-then-not-words_allow c =
-    let s = state_of c.args.machine.now in
-    let given = c.args.call.now in
-    first-word s (spec.place_conditions (class_of given) c.args.cpu (rec_inside s c.args.cpu)) (words_of given) (map spec.tag_condition (named given))
-    (spec.own_conditions (rec_inside s c.args.cpu) given) (none_found _ _ _ c.in_ok-asked.ensures c.in_default.not-Some) (sym c.if-not-words_allow.ensures)
-
 pub returns-in-Some-2 : goal.returns-in-Some-2
 unfolding conditions
 returns-in-Some-2 c =
@@ -33,8 +26,8 @@ returns-in-Some-2 c =
     let given = c.args.call.now in
     let asked = c.in-Some-2.asked in (
       asked.condition,
-      first-tag s (spec.place_conditions (class_of given) c.args.cpu (rec_inside s c.args.cpu)) (words_of given) (map spec.tag_condition (named given))
-          (spec.own_conditions (rec_inside s c.args.cpu) given) (none_found _ _ _ c.in_ok-asked.ensures c.in_default.not-Some) (sym c.if-not-words_allow.ensures)
+      first-word s (spec.place_conditions (class_of given) c.args.cpu (rec_inside s c.args.cpu)) (spec.word_conditions given) (map spec.tag_condition (named given))
+          (spec.own_conditions (rec_inside s c.args.cpu) given) (none_found _ _ _ c.in_ok-asked.ensures c.in_default.not-Some)
           asked.condition asked.test (first_found s _ c.in_ok-asked-2.field-0 asked c.in_ok-asked-2.ensures c.in-Some-2.is),
     )
 
@@ -45,10 +38,27 @@ returns-in-Some-3 c =
     let given = c.args.call.now in
     let asked = c.in-Some-3.asked in (
       asked.condition,
-      first-own s (spec.place_conditions (class_of given) c.args.cpu (rec_inside s c.args.cpu)) (words_of given) (map spec.tag_condition (named given))
-          (spec.own_conditions (rec_inside s c.args.cpu) given) (none_found _ _ _ c.in_ok-asked.ensures c.in_default.not-Some) (sym c.if-not-words_allow.ensures)
+      first-tag s (spec.place_conditions (class_of given) c.args.cpu (rec_inside s c.args.cpu)) (spec.word_conditions given) (map spec.tag_condition (named given))
+          (spec.own_conditions (rec_inside s c.args.cpu) given) (none_found _ _ _ c.in_ok-asked.ensures c.in_default.not-Some)
           (none_found _ _ _ c.in_ok-asked-2.ensures c.in_default-2.not-Some) asked.condition asked.test
           (first_found s _ c.in_ok-asked-3.field-0 asked c.in_ok-asked-3.ensures c.in-Some-3.is),
+    )
+
+pub failing_own-requires : goal.failing_own-requires
+failing_own-requires c =
+    allowed-pass (state_of c.args.machine.now) c.args.call.now (none_found _ _ _ c.in_ok-asked-2.ensures c.in_default-2.not-Some)
+
+pub returns-in-Some-4 : goal.returns-in-Some-4
+unfolding conditions
+returns-in-Some-4 c =
+    let s = state_of c.args.machine.now in
+    let given = c.args.call.now in
+    let asked = c.in-Some-4.asked in (
+      asked.condition,
+      first-own s (spec.place_conditions (class_of given) c.args.cpu (rec_inside s c.args.cpu)) (spec.word_conditions given) (map spec.tag_condition (named given))
+          (spec.own_conditions (rec_inside s c.args.cpu) given) (none_found _ _ _ c.in_ok-asked.ensures c.in_default.not-Some)
+          (none_found _ _ _ c.in_ok-asked-2.ensures c.in_default-2.not-Some) (none_found _ _ _ c.in_ok-asked-3.ensures c.in_default-3.not-Some)
+          asked.condition asked.test (first_found s _ c.in_ok-asked-4.field-0 asked c.in_ok-asked-4.ensures c.in-Some-4.is),
     )
 
 pub returns-in-None : goal.returns-in-None
@@ -56,6 +66,7 @@ unfolding conditions
 returns-in-None c =
     let s = state_of c.args.machine.now in
     let given = c.args.call.now in
-    first-none s (spec.place_conditions (class_of given) c.args.cpu (rec_inside s c.args.cpu)) (words_of given) (map spec.tag_condition (named given))
-    (spec.own_conditions (rec_inside s c.args.cpu) given) (none_found _ _ _ c.in_ok-asked.ensures c.in_default.not-Some) (sym c.if-not-words_allow.ensures)
-    (none_found _ _ _ c.in_ok-asked-2.ensures c.in_default-2.not-Some) (rw c.in-None.is at c.in_ok-asked-3.ensures)
+    first-none s (spec.place_conditions (class_of given) c.args.cpu (rec_inside s c.args.cpu)) (spec.word_conditions given) (map spec.tag_condition (named given))
+    (spec.own_conditions (rec_inside s c.args.cpu) given) (none_found _ _ _ c.in_ok-asked.ensures c.in_default.not-Some)
+    (none_found _ _ _ c.in_ok-asked-2.ensures c.in_default-2.not-Some) (none_found _ _ _ c.in_ok-asked-3.ensures c.in_default-3.not-Some)
+    (rw c.in-None.is at c.in_ok-asked-4.ensures)
