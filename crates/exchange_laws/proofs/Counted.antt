@@ -81,7 +81,7 @@ AreOpen-front events place lines (x ∷ xs) ys are_open =
     (are_open.0, omega (arith, both, none), AreOpen-front events place lines xs ys are_open.2)
 
 -- some are open with one behind them that is of another CPU than each
-AreOpen-last : (events : List Event) (place : ℕ) (lines ys : List Line) (x : Line) → IsOpen events place lines x → count_of (cpu_named x) ys ≡ 0
+pub AreOpen-last : (events : List Event) (place : ℕ) (lines ys : List Line) (x : Line) → IsOpen events place lines x → count_of (cpu_named x) ys ≡ 0
     → AreOpen events place lines ys → AreOpen events place lines (ys ++ x ∷ [])
 AreOpen-last events place lines [] x is_open none are_open = (is_open, none, tt)
 AreOpen-last events place lines (y ∷ ys) x is_open none are_open =
@@ -101,3 +101,24 @@ pub AreOpen-behind : (events : List Event) (place : ℕ) (lines front ys : List 
 AreOpen-behind events place lines [] ys x are_open = AreOpen-last events place lines ys x are_open.0 are_open.1 are_open.2
 AreOpen-behind events place lines (z ∷ front) ys x are_open =
     (are_open.0, sym (count_of-behind (cpu_named z) front ys x) ∙ are_open.1, AreOpen-behind events place lines front ys x are_open.2)
+
+-- or in that in which two neighbours come the other way round
+pub AreOpen-swap : (events : List Event) (place : ℕ) (lines front ys : List Line) (x y : Line) → AreOpen events place lines (front ++ (x ∷ y ∷ ys))
+    → AreOpen events place lines (front ++ (y ∷ x ∷ ys))
+AreOpen-swap events place lines [] ys x y are_open =
+    let apart = count_of-none (cpu_named x) y ys are_open.1 in
+    let other = count_of-cons_other (cpu_named y) x ys (other_way (cpu_named y) (cpu_named x) apart.0) in
+    (are_open.2.0, other ∙ are_open.2.1, (are_open.0, apart.1, are_open.2.2))
+AreOpen-swap events place lines (z ∷ front) ys x y are_open =
+    let here = count_of-append (cpu_named z) front (x ∷ y ∷ ys) in
+    let there = count_of-append (cpu_named z) front (y ∷ x ∷ ys) in
+    let one : count_of (cpu_named z) (x ∷ y ∷ ys) ≡ count_of (cpu_named z) (x ∷ []) + count_of (cpu_named z) (y ∷ ys) =
+    count_of-append (cpu_named z) (x ∷ []) (y ∷ ys) in
+    let two : count_of (cpu_named z) (y ∷ ys) ≡ count_of (cpu_named z) (y ∷ []) + count_of (cpu_named z) ys =
+    count_of-append (cpu_named z) (y ∷ []) ys in
+    let three : count_of (cpu_named z) (y ∷ x ∷ ys) ≡ count_of (cpu_named z) (y ∷ []) + count_of (cpu_named z) (x ∷ ys) =
+    count_of-append (cpu_named z) (y ∷ []) (x ∷ ys) in
+    let four : count_of (cpu_named z) (x ∷ ys) ≡ count_of (cpu_named z) (x ∷ []) + count_of (cpu_named z) ys =
+    count_of-append (cpu_named z) (x ∷ []) ys in
+    let none = are_open.1 in
+    (are_open.0, omega (arith, here, there, one, two, three, four, none), AreOpen-swap events place lines front ys x y are_open.2)

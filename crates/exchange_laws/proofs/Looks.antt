@@ -1,6 +1,7 @@
 -- Open calls that may as well come behind the returning one needn't be put before it.
-use Rattle.std.proofs.Common.{◌≡◌, ℕ, zero, suc, ◌+◌, ◌<◌, List, [], ◌∷◌, ◌++◌, length, Some, refl, sym, ◌∙◌, ap, subst, arith, append_assoc}
+use Rattle.std.proofs.Common.{◌≡◌, ℕ, zero, suc, ◌+◌, ◌<◌, ◌⊎◌, Bool, true, false, inl, inr, List, [], ◌∷◌, ◌++◌, length, Some, refl, sym, ◌∙◌, ap, subst, arith, append_assoc}
 use Rattle.std.specs.List.{slice_get}
+use Rattle.std.proofs.lemmas.Bool.{cases_Bool}
 use Rattle.std.proofs.lemmas.List.{length-append}
 use Rattle.rmm_spec.specs.declared.event.Event.{Event}
 use Rattle.rmm_spec.specs.declared.line.Line.{Line}
@@ -10,9 +11,10 @@ use Rattle.rmm_spec.specs.Linearization.{IsLinearization}
 use Rattle.rmm_laws.proofs.RunLaws.{run-append}
 use Rattle.order_laws.specs.Order.{LeadsNowhere}
 use Rattle.order_laws.proofs.Configurations.{nowhere_alike}
+use Rattle.order_laws.proofs.Moves.{Each, Each-append, Each-at}
 use Rattle.order_laws.proofs.Settled.{claimed-append, split_run}
 use Rattle.exchange_laws.specs.Forward.{IsKept, AreOpen, Gives, IsMovable, IsLook, Passes}
-use Rattle.exchange_laws.proofs.Counted.{count_of-append, count_of-behind, AreOpen-behind, AreOpen-front}
+use Rattle.exchange_laws.proofs.Counted.{count_of-append, count_of-behind, AreOpen-behind, AreOpen-front, AreOpen-swap}
 use Rattle.exchange_laws.proofs.Growing.{IsKept-append}
 
 -- what continues an order that leads nowhere leads nowhere
@@ -117,27 +119,28 @@ module _ (history : History) (is_history : IsHistory history) (place : ℕ) (lin
     nowhere_unless_looked before new = few (length before + 1) before new (omega arith)
 
   -- a call may come behind all that it passes
-  passed : (front ys : List Line) (x : Line) (middle new : State) → AreOpen history.events place lines (front ++ (ys ++ x ∷ []))
+  passed : (front ys : List Line) (x : Line) (middle new : State) → AreOpen history.events place lines (front ++ (x ∷ ys))
       → Gives history.events state front middle → Gives history.events middle (x ∷ ys) new
-      → ((i : ℕ) (y : Line) → slice_get ys i ≡ Some y → Passes history x y)
+      → ((i : ℕ) (y : Line) → slice_get ys i ≡ Some y → Passes history place lines state x y)
       → Gives history.events middle (ys ++ x ∷ []) new
   passed front [] x middle new are_open first rest passes = rest
   passed front (y ∷ ys) x middle new are_open first rest passes =
-      let early = AreOpen-front history.events place lines front (y ∷ (ys ++ x ∷ [])) are_open in
-      let reached = (IsKept-append history is_history place lines front state middle kept early first).reached in
+      let two = AreOpen-front history.events place lines (front ++ x ∷ y ∷ []) ys
+      (subst (λ (ls : List Line). AreOpen history.events place lines ls) (sym (append_assoc front (x ∷ y ∷ []) ys)) are_open) in
       let parts = Gives-split history.events middle (x ∷ y ∷ []) ys new rest in
-      let turned = Gives-split history.events middle (y ∷ []) (x ∷ []) parts.middle (passes 0 y refl (lines ++ front) middle parts.middle reached parts.first) in
-      let whole : front ++ (y ∷ (ys ++ x ∷ [])) ≡ (front ++ y ∷ []) ++ (ys ++ x ∷ []) = sym (append_assoc front (y ∷ []) (ys ++ x ∷ [])) in
+      let turned = Gives-split history.events middle (y ∷ []) (x ∷ []) parts.middle (passes 0 y refl front middle parts.middle two first parts.first) in
+      let whole : front ++ (y ∷ x ∷ ys) ≡ (front ++ y ∷ []) ++ (x ∷ ys) = sym (append_assoc front (y ∷ []) (x ∷ ys)) in
       Gives-append history.events middle (y ∷ []) (ys ++ x ∷ []) turned.middle new turned.first
       (passed (front ++ y ∷ []) ys x turned.middle new
-      (subst (λ (ls : List Line). AreOpen history.events place lines ls) whole are_open)
+      (subst (λ (ls : List Line). AreOpen history.events place lines ls) whole (AreOpen-swap history.events place lines front ys x y are_open))
       (Gives-append history.events state front (y ∷ []) middle turned.middle first turned.first)
       (Gives-append history.events turned.middle (x ∷ []) ys parts.middle new turned.rest parts.rest)
       (λ i z is. passes (suc i) z is))
 
-  pub IsMovable-from_passes : (front back : List Line) (x last : Line) (new : State) → AreOpen history.events place lines ((front ++ x ∷ back) ++ last ∷ [])
+  pub IsMovable-from_passes : (front back : List Line) (x last : Line) (new : State)
+      → AreOpen history.events place lines ((front ++ x ∷ back) ++ last ∷ [])
       → Gives history.events state ((front ++ x ∷ back) ++ last ∷ []) new
-      → ((i : ℕ) (y : Line) → slice_get (back ++ last ∷ []) i ≡ Some y → Passes history x y)
+      → ((i : ℕ) (y : Line) → slice_get (back ++ last ∷ []) i ≡ Some y → Passes history place lines state x y)
       → IsMovable history.events state (front ++ x ∷ back) last new
   IsMovable-from_passes front back x last new are_open given passes =
       let ys = back ++ last ∷ [] in
@@ -145,7 +148,7 @@ module _ (history : History) (is_history : IsHistory history) (place : ℕ) (lin
       let there : front ++ (ys ++ x ∷ []) ≡ front ++ (back ++ last ∷ x ∷ []) =
       ap (λ (ls : List Line). front ++ ls) (append_assoc back (last ∷ []) (x ∷ [])) in
       let parts = Gives-split history.events state front (x ∷ ys) new (subst (λ (ls : List Line). Gives history.events state ls new) here given) in
-      let behind = AreOpen-behind history.events place lines front ys x (subst (λ (ls : List Line). AreOpen history.events place lines ls) here are_open) in
+      let opened = subst (λ (ls : List Line). AreOpen history.events place lines ls) here are_open in
       record {
         front = front;
         line = x;
@@ -153,5 +156,48 @@ module _ (history : History) (is_history : IsHistory history) (place : ℕ) (lin
         whole = refl;
         moved = subst (λ (ls : List Line). Gives history.events state ls new) there
             (Gives-append history.events state front (ys ++ x ∷ []) parts.middle new parts.first
-            (passed front ys x parts.middle new behind parts.first parts.rest passes));
+            (passed front ys x parts.middle new opened parts.first parts.rest passes));
       }
+
+-- the last of some lines that is outside of a group
+record LastOutside (inside : Line → Bool) (xs : List Line) : Type 0 where
+  front : List Line
+  line : Line
+  back : List Line
+  whole : xs ≡ front ++ line ∷ back
+  is_outside : inside line ≡ false
+  others : Each (λ other. inside other ≡ true) back
+
+-- all are inside, or there is one
+last_outside : (inside : Line → Bool) (xs : List Line) → Each (λ line. inside line ≡ true) xs ⊎ LastOutside inside xs
+last_outside inside [] = inl tt
+last_outside inside (x ∷ xs) = elim (last_outside inside xs) [
+  | inr there ↦ inr (record {
+    front = x ∷ there.front;
+    line = there.line;
+    back = there.back;
+    whole = ap (λ (ls : List Line). x ∷ ls) there.whole;
+    is_outside = there.is_outside;
+    others = there.others;
+  })
+  | inl all ↦ elim (cases_Bool (inside x)) [
+    | inl is_inside ↦ inl (is_inside, all)
+    | inr is_outside ↦ inr (record { front = []; line = x; back = xs; whole = refl; is_outside = is_outside; others = all })
+  ]
+]
+
+-- no call outside of a group is put in before one inside, where those outside pass those inside
+pub stay_inside : (history : History) → IsHistory history → (place : ℕ) (lines : List Line) (state : State) → IsKept history place lines state
+    → (inside : Line → Bool) (before : List Line) (last : Line) (new : State) → inside last ≡ true
+    → ((line other : Line) → inside line ≡ false → inside other ≡ true → Passes history place lines state line other)
+    → IsLook history place lines state before last new → Each (λ line. inside line ≡ true) before
+stay_inside history is_history place lines state kept inside before last new is_inside passes look = elim (last_outside inside before) [
+  | inl all ↦ all
+  | inr there ↦
+      let opened = subst (λ (ls : List Line). AreOpen history.events place lines (ls ++ last ∷ [])) there.whole look.are_open in
+      let given = subst (λ (ls : List Line). Gives history.events state (ls ++ last ∷ []) new) there.whole look.given in
+      let each = Each-append (λ line. inside line ≡ true) there.back (last ∷ []) there.others (is_inside, tt) in
+      let movable = IsMovable-from_passes history is_history place lines state kept there.front there.back there.line last new opened given (λ i other is.
+      passes there.line other there.is_outside (Each-at (λ line. inside line ≡ true) (there.back ++ last ∷ []) i other each is)) in
+      absurd (look.settled (subst (λ (ls : List Line). IsMovable history.events state ls last new) (sym there.whole) movable))
+]

@@ -22,6 +22,7 @@ use Rattle.order_laws.proofs.Moves.{Each, Pairs, Each-append, Each-from_places, 
 use Rattle.order_laws.proofs.Settled.{behind, in_either, same_state, split_run}
 use Rattle.exchange_laws.specs.Forward.{IsKept, IsOpen, AreOpen, Gives}
 use Rattle.exchange_laws.proofs.Counted.{count_of-cons_other}
+use Rattle.exchange_laws.proofs.Looks.{Gives-split, nowhere_further}
 
 -- an event is a call or a return
 is_call : Event → ℕ
@@ -206,3 +207,17 @@ module _ (history : History) (is_history : IsHistory history) (place : ℕ) (lin
                 (subst (IsLinearization history) (sym (append_assoc lines (front ++ Keep cpu number ∷ []) back)) split)
           ];
     }
+
+    -- so it does where each open call that is given does, the one that returns among them
+    pub nowhere_after_each : ((line : Line) (new : State) → IsOpen history.events place lines line → Gives history.events state (line ∷ []) new
+        → LeadsNowhere history (lines ++ line ∷ [])) → LeadsNowhere history lines
+    nowhere_after_each each = nowhere_unless_put first
+      where
+        first : (before : List Line) (new : State) → AreOpen history.events place lines (before ++ Keep cpu number ∷ [])
+            → Gives history.events state (before ++ Keep cpu number ∷ []) new → LeadsNowhere history (lines ++ (before ++ Keep cpu number ∷ []))
+        first [] new are_open is_given = each (Keep cpu number) new are_open.0 is_given
+        first (x ∷ before) new are_open is_given =
+            let rest = before ++ Keep cpu number ∷ [] in
+            let parts = Gives-split history.events state (x ∷ []) rest new is_given in
+            subst (λ (ls : List Line). LeadsNowhere history ls) (append_assoc lines (x ∷ []) rest)
+            (nowhere_further history (lines ++ x ∷ []) rest (each x parts.middle are_open.0 parts.first))

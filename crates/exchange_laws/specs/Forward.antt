@@ -66,11 +66,11 @@ pub record IsLook (history : History) (place : ℕ) (lines : List Line) (old : S
   pub given : Gives history.events old (before ++ last ∷ []) new
   pub settled : ¬ IsMovable history.events old before last new
 
--- wherever an order comes to the one and then the other, it may as well come to them the other way round
-abbrev pub Passes : History → Line → Line → Type 0
-Passes history line other =
-    (lines : List Line) (old new : State) → Reaches history lines old → Gives history.events old (line ∷ other ∷ []) new
-    → Gives history.events old (other ∷ line ∷ []) new
+-- wherever open calls lead, and then come the one and the other line, these may as well come the other way round
+abbrev pub Passes : History → ℕ → List Line → State → Line → Line → Type 0
+Passes history place lines state line other =
+    (before : List Line) (old new : State) → AreOpen history.events place lines (before ++ line ∷ other ∷ [])
+    → Gives history.events state before old → Gives history.events old (line ∷ other ∷ []) new → Gives history.events old (other ∷ line ∷ []) new
 
 -- ---- all orders
 

@@ -1,6 +1,6 @@
 //! The laws of orders that are kept while the events of a history are read.
 
-ghost use Rattle.std.specs.Prelude.{◌≡◌, ℕ, ◌+◌, ◌<◌, ◌≤◌, List, [], ◌∷◌, ◌++◌, length, slice_get, Some};
+ghost use Rattle.std.specs.Prelude.{◌≡◌, ℕ, ◌+◌, ◌<◌, ◌≤◌, Bool, true, false, List, [], ◌∷◌, ◌++◌, length, slice_get, Some};
 ghost use Rattle.rmm_spec.specs.declared.command.Command.{Command};
 ghost use Rattle.rmm_spec.specs.declared.line.Line.{Line};
 ghost use Rattle.rmm_spec.specs.declared.line.Line.TheVariants as line;
@@ -60,6 +60,15 @@ pub fn nowhere_at_a_return()
         → LeadsNowhere history lines }
 {}
 
+/// A kept order that lacks a call at its return leads nowhere, if it does with each open call that is given next, the call among them.
+pub fn nowhere_after_each_open_call()
+    ensures { (history : History) (place cpu number : ℕ) (given : Reply) (lines : List Line) (state : State) → IsHistory history
+        → IsKept history place lines state → IsReturned history.events place cpu number given → count_of cpu lines ≤ number
+        → ((line : Line) (new : State) → IsOpen history.events place lines line → Gives history.events state (line ∷ []) new
+        → LeadsNowhere history (lines ++ line ∷ []))
+        → LeadsNowhere history lines }
+{}
+
 /// An order that puts an open call in before others leads nowhere, if the order without it does and the call may as well come behind them.
 pub fn nowhere_with_a_movable_call()
     ensures { (history : History) (place : ℕ) (lines front back : List Line) (moved : Line) (old new : State) → IsHistory history
@@ -77,13 +86,22 @@ pub fn nowhere_after_looks()
         → LeadsNowhere history lines }
 {}
 
-/// A call that passes each call behind it, wherever they come one after the other, may as well come last.
+/// A call that passes each call behind it, wherever open calls lead, may as well come last.
 pub fn movable_past_others()
     ensures { (history : History) (place : ℕ) (lines front back : List Line) (moved last : Line) (old new : State) → IsHistory history
         → IsKept history place lines old → AreOpen history.events place lines ((front ++ moved ∷ back) ++ last ∷ [])
         → Gives history.events old ((front ++ moved ∷ back) ++ last ∷ []) new
-        → ((i : ℕ) (other : Line) → slice_get (back ++ last ∷ []) i ≡ Some other → Passes history moved other)
+        → ((i : ℕ) (other : Line) → slice_get (back ++ last ∷ []) i ≡ Some other → Passes history place lines old moved other)
         → IsMovable history.events old (front ++ moved ∷ back) last new }
+{}
+
+/// Where calls outside of a group pass those inside, none of them need be put in before a call inside.
+pub fn looks_stay_in_a_group()
+    ensures { (history : History) (place : ℕ) (lines before : List Line) (last : Line) (old new : State) (inside : Line → Bool)
+        → IsHistory history → IsKept history place lines old → inside last ≡ true
+        → ((line other : Line) → inside line ≡ false → inside other ≡ true → Passes history place lines old line other)
+        → IsLook history place lines old before last new
+        → (i : ℕ) (line : Line) → slice_get before i ≡ Some line → inside line ≡ true }
 {}
 
 /// Before the first event the order without a line is all that is kept.
