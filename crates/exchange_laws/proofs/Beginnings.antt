@@ -3,7 +3,7 @@ use Rattle.std.proofs.Common.{◌≡◌, ℕ, zero, suc, ◌<◌, ◌≤◌, ◌
 use Rattle.std.specs.List.{slice_get}
 use Rattle.std.proofs.lemmas.Bool.{eqb-true, eq-eqb, cases_Bool, cases_lt}
 use Rattle.std.proofs.lemmas.Option.{none-some}
-use Rattle.lemmas.proofs.Elements.{slice_get-append_left, slice_get-take}
+use Rattle.lemmas.proofs.Elements.{slice_get-append, slice_get-take}
 use Rattle.lemmas.proofs.Tests.{both_ways}
 use Rattle.rmm_spec.specs.declared.command.Command.{Command}
 use Rattle.rmm_spec.specs.declared.event.Event.{Event}
@@ -120,7 +120,7 @@ module _ (history : History) (is_history : IsHistory history) (count : ℕ) wher
   begun (line ∷ lines) known pairs = elim (begun lines known.1 pairs.1) [
     | inr rest ↦
         let stands : slice_get lines rest.index ≡ Some rest.last =
-        ap (λ (ls : List Line). slice_get ls rest.index) rest.whole ∙ slice_get-append_left rest.front rest.back rest.index rest.last rest.stands in
+        ap (λ (ls : List Line). slice_get ls rest.index) rest.whole ∙ slice_get-append rest.front rest.back rest.index rest.last rest.stands in
         inr (record {
           front = line ∷ rest.front;
           back = rest.back;

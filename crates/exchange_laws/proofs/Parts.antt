@@ -2,7 +2,7 @@
 use Rattle.std.proofs.Common.{◌≡◌, ℕ, zero, suc, List, [], ◌∷◌, ◌++◌, inl, inr, Some, refl, sym, ◌∙◌, ap, subst}
 use Rattle.std.specs.List.{slice_get}
 use Rattle.std.proofs.lemmas.Option.{none-some, same_Some}
-use Rattle.lemmas.proofs.Elements.{slice_get-append_left, slice_get-take}
+use Rattle.lemmas.proofs.Elements.{slice_get-append, slice_get-take}
 use Rattle.rmm_spec.specs.declared.command.Command.{Command}
 use Rattle.rmm_spec.specs.declared.event.Event.TheVariants.{Called, Returned}
 use Rattle.rmm_spec.specs.declared.line.Line.{Line}
@@ -152,14 +152,14 @@ module _ (history : History) (is_history : IsHistory history) (count : ℕ) wher
     cast : Recast front parts.first
     cast =
         recast front parts.first parts.claimed
-        (Each-from_places (IsOfItsKind history.events) front (λ i line is. valid.order.names.kinds i line (slice_get-append_left front back i line is))) known
+        (Each-from_places (IsOfItsKind history.events) front (λ i line is. valid.order.names.kinds i line (slice_get-append front back i line is))) known
 
     pairs : Pairs (Apart (first_part count history).events) cast.lines
     pairs =
         Pairs-alike (Apart history.events) (Apart (first_part count history).events) apart_there front cast.lines cast.alike
         (Pairs-from_places (Apart history.events) front (λ i j x y below is there.
-        let here = slice_get-append_left front back i x is in
-        let beside = slice_get-append_left front back j y there in
+        let here = slice_get-append front back i x is in
+        let beside = slice_get-append front back j y there in
         (valid.order.names.once i j x y below here beside, valid.real_time i j x y below here beside)))
 
     complete : (cpu number : ℕ) → IsFinished (first_part count history).events cpu number → IsNamed cast.lines cpu number

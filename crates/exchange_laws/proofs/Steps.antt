@@ -4,7 +4,7 @@ use Rattle.std.specs.List.{slice_get}
 use Rattle.std.proofs.lemmas.Bool.{eqb-true, cases_Bool, cases_lt, cases_order}
 use Rattle.std.specs.Option.{option_map}
 use Rattle.std.proofs.lemmas.Option.{same_Some, slice_get_within}
-use Rattle.lemmas.proofs.Elements.{slice_get-append_left, slice_get_push}
+use Rattle.lemmas.proofs.Elements.{slice_get-append, slice_get-push}
 use Rattle.rmm_spec.specs.declared.command.Command.{Command}
 use Rattle.rmm_spec.specs.declared.event.Event.{Event}
 use Rattle.rmm_spec.specs.declared.event.Event.TheVariants.{Called, Returned}
@@ -113,7 +113,7 @@ module _ (history : History) (is_history : IsHistory history) (place : ℕ) (lin
       stands : (i : ℕ) (line : Line) → slice_get (front ++ Keep cpu number ∷ []) i ≡ Some line
           → slice_get (lines ++ ((front ++ Keep cpu number ∷ []) ++ back)) (length lines + i) ≡ Some line
       stands i line is =
-          behind lines ((front ++ Keep cpu number ∷ []) ++ back) i line (slice_get-append_left (front ++ Keep cpu number ∷ []) back i line is)
+          behind lines ((front ++ Keep cpu number ∷ []) ++ back) i line (slice_get-append (front ++ Keep cpu number ∷ []) back i line is)
 
       -- none of them is among the lines
       beyond : (i : ℕ) (line : Line) → slice_get (front ++ Keep cpu number ∷ []) i ≡ Some line → count_of (cpu_named line) lines ≤ number_named line
@@ -123,13 +123,13 @@ module _ (history : History) (is_history : IsHistory history) (place : ℕ) (lin
             let named = kept.reached.first (cpu_named line) (number_named line) below in
             let within = slice_get_within lines named.0 named.1 named.2 in
             absurd (valid.order.names.once named.0 (length lines + i) named.1 line (omega (arith, within))
-            (slice_get-append_left lines ((front ++ Keep cpu number ∷ []) ++ back) named.0 named.1 named.2) (stands i line is) (named.3, named.4))
+            (slice_get-append lines ((front ++ Keep cpu number ∷ []) ++ back) named.0 named.1 named.2) (stands i line is) (named.3, named.4))
       ]
 
       -- those before the one that returns are open at its return
       put_open : (i : ℕ) (line : Line) → slice_get front i ≡ Some line → IsOpen history.events place lines line
       put_open i line is =
-          let here = slice_get-append_left front (Keep cpu number ∷ []) i line is in
+          let here = slice_get-append front (Keep cpu number ∷ []) i line is in
           let known = valid.order.names.known (length lines + i) line (stands i line here) in
           let before = early known.0 known.1 known.2 in
           record {
@@ -154,8 +154,8 @@ module _ (history : History) (is_history : IsHistory history) (place : ℕ) (lin
               | inr late ↦
                   let within = slice_get_within front i line is in
                   absurd (valid.real_time (length lines + i) (length lines + length front) line (Keep cpu number) (omega (arith, within))
-                  (stands i line (slice_get-append_left front (Keep cpu number ∷ []) i line is))
-                  (stands (length front) (Keep cpu number) (slice_get_push front (Keep cpu number)))
+                  (stands i line (slice_get-append front (Keep cpu number ∷ []) i line is))
+                  (stands (length front) (Keep cpu number) (slice_get-push front (Keep cpu number)))
                   (record { returned = place; given = given; is_returned = returned; called = called; command = command; is_called = is_called; before = late }))
             ]
           ]
