@@ -39,7 +39,8 @@ finished_or (Returned c n told ∷ events) cpu number = elim (finished_or events
           inl (
             0,
             told,
-            ap (λ (x : ℕ). Some (Returned x n told)) (eqb-true c cpu is_cpu) ∙ ap (λ (x : ℕ). Some (Returned cpu x told)) (eqb-true n number is_number),
+            ap (λ (x : ℕ). Some (Returned x n told)) (eqb-true c cpu is_cpu)
+                ∙ ap (λ (x : ℕ). Some (Returned cpu x told)) (eqb-true n number is_number),
           )
     ]
   ]
@@ -79,7 +80,8 @@ module _ (history : History) (is_history : IsHistory history) (count : ℕ) wher
       → NamesCall (first_part count history).events line
   made_before line returned known within before =
       let early = before known.0 known.1 known.2 in
-      (known.0, known.1, slice_get-in_take count history.events known.0 (Called (cpu_named line) (number_named line) known.1) (omega (arith, early, within)) known.2)
+      let call = Called (cpu_named line) (number_named line) known.1 in
+      (known.0, known.1, slice_get-in_take count history.events known.0 call (omega (arith, early, within)) known.2)
 
   -- a return in the first events is one of the history, and within
   return_within : (cpu number : ℕ) (finished : IsFinished (first_part count history).events cpu number)
@@ -110,7 +112,8 @@ module _ (history : History) (is_history : IsHistory history) (count : ℕ) wher
   made_itself line known finished =
       let within = return_within (cpu_named line) (number_named line) finished in
       made_before line finished.0 known within.0 (λ called command is_called.
-      let before = call_before_return history is_history (cpu_named line) (number_named line) called finished.0 command finished.1 is_called within.1 in
+      let before = call_before_return history is_history (cpu_named line) (number_named line) called finished.0 command finished.1 is_called
+      within.1 in
       omega (arith, before))
 
   -- no call of the lines returned in the first events, or there is such a beginning
@@ -126,7 +129,10 @@ module _ (history : History) (is_history : IsHistory history) (count : ℕ) wher
           back = rest.back;
           whole = ap (λ (ls : List Line). line ∷ ls) rest.whole;
           pending = rest.pending;
-          made = (made_earlier line rest.last known.0 (Each-at (Apart history.events line) lines rest.index rest.last pairs.0 stands) rest.returned, rest.made);
+          made = (
+            made_earlier line rest.last known.0 (Each-at (Apart history.events line) lines rest.index rest.last pairs.0 stands) rest.returned,
+            rest.made,
+          );
           index = suc rest.index;
           last = rest.last;
           stands = rest.stands;

@@ -73,7 +73,8 @@ AreOpen-push events place lines x (y ∷ ys) none are_open =
     (IsOpen-push events place lines x y apart.0 are_open.0, are_open.1, AreOpen-push events place lines x ys apart.1 are_open.2)
 
 -- the first ones of some are open
-pub AreOpen-front : (events : List Event) (place : ℕ) (lines xs ys : List Line) → AreOpen events place lines (xs ++ ys) → AreOpen events place lines xs
+pub AreOpen-front : (events : List Event) (place : ℕ) (lines xs ys : List Line) → AreOpen events place lines (xs ++ ys)
+    → AreOpen events place lines xs
 AreOpen-front events place lines [] ys are_open = tt
 AreOpen-front events place lines (x ∷ xs) ys are_open =
     let both = count_of-append (cpu_named x) xs ys in

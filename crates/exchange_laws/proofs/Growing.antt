@@ -51,8 +51,8 @@ module _ (history : History) (is_history : IsHistory history) (place : ℕ) wher
         made = made;
       }
     where
-      made : (cpu number called : ℕ) (command : Command) → IsCalled history.events called cpu number command → number < count_of cpu (lines ++ line ∷ [])
-          → called < place
+      made : (cpu number called : ℕ) (command : Command) → IsCalled history.events called cpu number command
+          → number < count_of cpu (lines ++ line ∷ []) → called < place
       made cpu number called command is below = elim (cases_lt number (count_of cpu lines)) [
         | inl before ↦ kept.made cpu number called command is before
         | inr at ↦ elim (cases_Bool (eqb (cpu_named line) cpu)) [
@@ -75,7 +75,8 @@ module _ (history : History) (is_history : IsHistory history) (place : ℕ) wher
       ]
 
   grown : (xs : List Line) (entries : List JournalEntry) (lines : List Line) (old new : State) → IsKept history place lines old
-      → AreOpen history.events place lines xs → AreEntriesOf history.events xs entries → IsRun old entries new → IsKept history place (lines ++ xs) new
+      → AreOpen history.events place lines xs → AreEntriesOf history.events xs entries → IsRun old entries new
+      → IsKept history place (lines ++ xs) new
   grown [] [] lines old new kept are_open claimed run =
       subst (λ (s : State). IsKept history place (lines ++ []) s) (sym run)
       (subst (λ (ls : List Line). IsKept history place ls old) (sym (append-nil lines)) kept)

@@ -29,7 +29,8 @@ pub record IsGivenBy (events : List Event) (old : State) (xs ys : List Line) (ne
   pub first : Gives events old xs middle
   pub rest : Gives events middle ys new
 
-pub Gives-split : (events : List Event) (old : State) (xs ys : List Line) (new : State) → Gives events old (xs ++ ys) new → IsGivenBy events old xs ys new
+pub Gives-split : (events : List Event) (old : State) (xs ys : List Line) (new : State) → Gives events old (xs ++ ys) new
+    → IsGivenBy events old xs ys new
 Gives-split events old xs ys new given =
     let parts = split_run events xs ys given.entries old new given.claimed given.run in
     record {
@@ -38,8 +39,8 @@ Gives-split events old xs ys new given =
       rest = record { entries = parts.rest; claimed = parts.later; run = parts.further };
     }
 
-pub Gives-append : (events : List Event) (old : State) (xs ys : List Line) (middle new : State) → Gives events old xs middle → Gives events middle ys new
-    → Gives events old (xs ++ ys) new
+pub Gives-append : (events : List Event) (old : State) (xs ys : List Line) (middle new : State) → Gives events old xs middle
+    → Gives events middle ys new → Gives events old (xs ++ ys) new
 Gives-append events old xs ys middle new first rest = record {
   entries = first.entries ++ rest.entries;
   claimed = claimed-append events xs ys first.entries rest.entries first.claimed rest.claimed;
@@ -92,7 +93,8 @@ module _ (history : History) (is_history : IsHistory history) (place : ℕ) (lin
       let counted : length (front ++ (x ∷ back)) ≡ length front + length (x ∷ back) = length-append front (x ∷ back) in
       let fewer_lines : length (front ++ back) ≡ length front + length back = length-append front back in
       let nowhere = shorter (front ++ back) parts.middle (omega (arith, longer, counted, fewer_lines))
-      (subst (λ (ls : List Line). AreOpen history.events place lines ls) without (AreOpen-front history.events place lines (front ++ ys) (x ∷ []) aside))
+      (subst (λ (ls : List Line). AreOpen history.events place lines ls) without
+      (AreOpen-front history.events place lines (front ++ ys) (x ∷ []) aside))
       (subst (λ (ls : List Line). Gives history.events state ls parts.middle) without parts.first) in
       subst (λ (ls : List Line). LeadsNowhere history (lines ++ ls)) (sym here)
       (nowhere_moved front ys x new opened is_given moved
@@ -109,7 +111,8 @@ module _ (history : History) (is_history : IsHistory history) (place : ℕ) (lin
             are_open = are_open;
             given = given;
             settled = λ movable.
-                (fewer before last new (λ less middle is_less. few most less middle (omega (arith, short, is_less))) are_open given movable).none more valid;
+                (fewer before last new (λ less middle is_less. few most less middle (omega (arith, short, is_less))) are_open given movable).none
+                more valid;
           })).none more valid;
     }
 
@@ -128,7 +131,8 @@ module _ (history : History) (is_history : IsHistory history) (place : ℕ) (lin
       let two = AreOpen-front history.events place lines (front ++ x ∷ y ∷ []) ys
       (subst (λ (ls : List Line). AreOpen history.events place lines ls) (sym (append_assoc front (x ∷ y ∷ []) ys)) are_open) in
       let parts = Gives-split history.events middle (x ∷ y ∷ []) ys new rest in
-      let turned = Gives-split history.events middle (y ∷ []) (x ∷ []) parts.middle (passes 0 y refl front middle parts.middle two first parts.first) in
+      let other = passes 0 y refl front middle parts.middle two first parts.first in
+      let turned = Gives-split history.events middle (y ∷ []) (x ∷ []) parts.middle other in
       let whole : front ++ (y ∷ x ∷ ys) ≡ (front ++ y ∷ []) ++ (x ∷ ys) = sym (append_assoc front (y ∷ []) (x ∷ ys)) in
       Gives-append history.events middle (y ∷ []) (ys ++ x ∷ []) turned.middle new turned.first
       (passed (front ++ y ∷ []) ys x turned.middle new
@@ -197,7 +201,8 @@ stay_inside history is_history place lines state kept inside before last new is_
       let opened = subst (λ (ls : List Line). AreOpen history.events place lines (ls ++ last ∷ [])) there.whole look.are_open in
       let given = subst (λ (ls : List Line). Gives history.events state (ls ++ last ∷ []) new) there.whole look.given in
       let each = Each-append (λ line. inside line ≡ true) there.back (last ∷ []) there.others (is_inside, tt) in
-      let movable = IsMovable-from_passes history is_history place lines state kept there.front there.back there.line last new opened given (λ i other is.
+      let movable = IsMovable-from_passes history is_history place lines state kept there.front there.back there.line last new opened given
+      (λ i other is.
       passes there.line other there.is_outside (Each-at (λ line. inside line ≡ true) (there.back ++ last ∷ []) i other each is)) in
       absurd (look.settled (subst (λ (ls : List Line). IsMovable history.events state ls last new) (sym there.whole) movable))
 ]

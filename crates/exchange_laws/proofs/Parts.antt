@@ -34,8 +34,8 @@ Each-alike P Q goes (x ∷ xs) [] alike each = absurd alike
 Each-alike P Q goes (x ∷ xs) (y ∷ ys) alike each = (goes x y alike.0 each.0, Each-alike P Q goes xs ys alike.1 each.1)
 
 -- and of each two
-Pairs-alike : (P Q : Line → Line → Type 0) → ((x y z w : Line) → NamesSame x y → NamesSame z w → P x z → Q y w) → (xs ys : List Line) → NameAlike xs ys
-    → Pairs P xs → Pairs Q ys
+Pairs-alike : (P Q : Line → Line → Type 0) → ((x y z w : Line) → NamesSame x y → NamesSame z w → P x z → Q y w) → (xs ys : List Line)
+    → NameAlike xs ys → Pairs P xs → Pairs Q ys
 Pairs-alike P Q goes [] [] alike pairs = tt
 Pairs-alike P Q goes [] (y ∷ ys) alike pairs = absurd alike
 Pairs-alike P Q goes (x ∷ xs) [] alike pairs = absurd alike
@@ -66,7 +66,8 @@ module _ (history : History) (is_history : IsHistory history) (count : ℕ) wher
       → IsCalled (first_part count history).events known.0 (cpu_named line) (number_named line) entry.command
   called_there line entry is_entry known =
       let within = slice_get-take count history.events known.0 (Called (cpu_named line) (number_named line) known.1) known.2 in
-      let same = same_command history.events (HasOnePlaces-from_history history is_history) known.0 is_entry.called (cpu_named line) (number_named line)
+      let places = HasOnePlaces-from_history history is_history in
+      let same = same_command history.events places known.0 is_entry.called (cpu_named line) (number_named line)
       known.1 entry.command within.1 is_entry.is_called in
       subst (λ (c : Command). IsCalled (first_part count history).events known.0 (cpu_named line) (number_named line) c) same known.2
 
@@ -76,7 +77,8 @@ module _ (history : History) (is_history : IsHistory history) (count : ℕ) wher
       → IsReturned (first_part count history).events finished.0 (cpu_named line) (number_named line) entry.given
   replied_there (Keep cpu number) entry kind given finished =
       let within = slice_get-take count history.events finished.0 (Returned cpu number finished.1) finished.2 in
-      let same = same_given history.events (HasOnePlaces-from_history history is_history) finished.0 given.0 cpu number finished.1 entry.given within.1 given.1 in
+      let places = HasOnePlaces-from_history history is_history in
+      let same = same_given history.events places finished.0 given.0 cpu number finished.1 entry.given within.1 given.1 in
       subst (λ (g : Reply). IsReturned (first_part count history).events finished.0 cpu number g) same finished.2
   replied_there (Unfinished cpu number claimed) entry kind given finished =
       let within = slice_get-take count history.events finished.0 (Returned cpu number finished.1) finished.2 in
@@ -130,7 +132,8 @@ module _ (history : History) (is_history : IsHistory history) (count : ℕ) wher
       before : ReturnsBefore (first_part count history).events (cpu_named w) (number_named w) (cpu_named y) (number_named y)
           → ReturnsBefore history.events (cpu_named z) (number_named z) (cpu_named x) (number_named x)
       before returns =
-          let returned = slice_get-take count history.events returns.returned (Returned (cpu_named w) (number_named w) returns.given) returns.is_returned in
+          let back = Returned (cpu_named w) (number_named w) returns.given in
+          let returned = slice_get-take count history.events returns.returned back returns.is_returned in
           let called = slice_get-take count history.events returns.called (Called (cpu_named y) (number_named y) returns.command) returns.is_called in
           record {
             returned = returns.returned;
@@ -152,7 +155,8 @@ module _ (history : History) (is_history : IsHistory history) (count : ℕ) wher
     cast : Recast front parts.first
     cast =
         recast front parts.first parts.claimed
-        (Each-from_places (IsOfItsKind history.events) front (λ i line is. valid.order.names.kinds i line (slice_get-append front back i line is))) known
+        (Each-from_places (IsOfItsKind history.events) front (λ i line is.
+        valid.order.names.kinds i line (slice_get-append front back i line is))) known
 
     pairs : Pairs (Apart (first_part count history).events) cast.lines
     pairs =
@@ -171,8 +175,8 @@ module _ (history : History) (is_history : IsHistory history) (count : ℕ) wher
               let named = IsNamed-alike front cast.lines cast.alike at.0 at.1 among in
               (named.0, named.1, named.2, named.3 ∙ at.3, named.4 ∙ at.4)
           | inr later ↦
-              absurd (Each-at (λ line. ¬ IsFinished (first_part count history).events (cpu_named line) (number_named line)) back later.0 at.1 pending later.1
-              (subst (λ (n : ℕ). IsFinished (first_part count history).events (cpu_named at.1) n) (sym at.4)
+              absurd (Each-at (λ line. ¬ IsFinished (first_part count history).events (cpu_named line) (number_named line))
+              back later.0 at.1 pending later.1 (subst (λ (n : ℕ). IsFinished (first_part count history).events (cpu_named at.1) n) (sym at.4)
               (subst (λ (c : ℕ). IsFinished (first_part count history).events c number) (sym at.3) finished)))
         ]
 

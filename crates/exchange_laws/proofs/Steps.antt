@@ -30,8 +30,8 @@ is_call (Called cpu number command) = 1
 is_call (Returned cpu number given) = 0
 
 -- a call and a return are at two places
-pub apart_places : (events : List Event) (place cpu number other later : ℕ) (command : Command) (given : Reply) → IsCalled events place cpu number command
-    → ¬ IsReturned events place other later given
+pub apart_places : (events : List Event) (place cpu number other later : ℕ) (command : Command) (given : Reply)
+    → IsCalled events place cpu number command → ¬ IsReturned events place other later given
 unfolding is_call
 apart_places events place cpu number other later command given is_called is_returned =
     let both : Some (is_call (Called cpu number command)) ≡ Some (is_call (Returned other later given)) =
@@ -156,7 +156,15 @@ module _ (history : History) (is_history : IsHistory history) (place : ℕ) (lin
                   absurd (valid.real_time (length lines + i) (length lines + length front) line (Keep cpu number) (omega (arith, within))
                   (stands i line (slice_get-append front (Keep cpu number ∷ []) i line is))
                   (stands (length front) (Keep cpu number) (slice_get-push front (Keep cpu number)))
-                  (record { returned = place; given = given; is_returned = returned; called = called; command = command; is_called = is_called; before = late }))
+                  (record {
+                    returned = place;
+                    given = given;
+                    is_returned = returned;
+                    called = called;
+                    command = command;
+                    is_called = is_called;
+                    before = late;
+                  }))
             ]
           ]
 
@@ -173,9 +181,11 @@ module _ (history : History) (is_history : IsHistory history) (place : ℕ) (lin
           let start = opening history.config in
           let places = HasOnePlaces-from_history history is_history in
           let passes = kept.reached.passes in
-          let parts = split_run history.events lines ((front ++ Keep cpu number ∷ []) ++ back) valid.entries start valid.last valid.run.claimed valid.run.run in
+          let all = (front ++ Keep cpu number ∷ []) ++ back in
+          let parts = split_run history.events lines all valid.entries start valid.last valid.run.claimed valid.run.run in
           let at : parts.middle ≡ state =
-          same_state history.events places lines parts.first passes.entries start parts.middle state parts.claimed parts.run passes.run.claimed passes.run.run in
+          same_state history.events places lines parts.first passes.entries start parts.middle state parts.claimed parts.run
+          passes.run.claimed passes.run.run in
           let more = split_run history.events (front ++ Keep cpu number ∷ []) back parts.rest parts.middle valid.last parts.later parts.further in (
             more.middle,
             subst (λ (s : State). Gives history.events s (front ++ Keep cpu number ∷ []) more.middle) at

@@ -111,7 +111,9 @@ pub AreKept-nil : (history : History) → AreKept history 0 ([] ∷ [])
 AreKept-nil history = record { all = first; cover = λ nowhere. nowhere 0 [] refl }
   where
     first : AllKept history 0 ([] ∷ [])
-    first zero lines is = (opening history.config, subst (λ (ls : List Line). IsKept history 0 ls (opening history.config)) (same_Some [] lines is) (IsKept-nil history))
+    first zero lines is =
+        let start = opening history.config in
+        (start, subst (λ (ls : List Line). IsKept history 0 ls start) (same_Some [] lines is) (IsKept-nil history))
     first (suc i) lines is = absurd (none-some lines is)
 
 -- each order stays kept where a call is made
