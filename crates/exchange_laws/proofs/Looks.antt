@@ -66,6 +66,14 @@ module _ (history : History) (is_history : IsHistory history) (place : ℕ) (lin
       omega (arith, here, there, same))
       (subst (λ (ls : List Line). LeadsNowhere history ls) whole (nowhere_further history (lines ++ (front ++ ys)) (x ∷ []) nowhere))
 
+  -- of two open calls that exchange, the one behind the other leads nowhere where it does at once
+  pub nowhere_either : (one other : Line) (new : State) → AreOpen history.events place lines (one ∷ other ∷ [])
+      → Gives history.events state (one ∷ other ∷ []) new → Gives history.events state (other ∷ one ∷ []) new
+      → LeadsNowhere history (lines ++ other ∷ []) → LeadsNowhere history ((lines ++ one ∷ []) ++ other ∷ [])
+  nowhere_either one other new are_open given turned nowhere =
+      subst (λ (ls : List Line). LeadsNowhere history ls) (sym (append_assoc lines (one ∷ []) (other ∷ [])))
+      (nowhere_moved [] (other ∷ []) one new are_open given turned nowhere)
+
   -- a call that may as well come last needn't be put in, where shorter sequences lead nowhere
   fewer : (before : List Line) (last : Line) (new : State)
       → ((less : List Line) (middle : State) → length less < length before → AreOpen history.events place lines (less ++ last ∷ [])

@@ -106,6 +106,18 @@ module _ (history : History) (is_history : IsHistory history) (place cpu number 
         nowhere_continued lines at.0 next at.1 (continued i lines at.0 is at.1) nowhere);
   }
 
+-- enough is kept, if each kept order leads nowhere where all do that are kept next
+pub AreKept-covered : (history : History) (place : ℕ) (orders next : List (List Line)) → AreKept history place orders
+    → ((i : ℕ) (lines : List Line) (state : State) → slice_get orders i ≡ Some lines → IsKept history place lines state
+    → LeadNowhere history next → LeadsNowhere history lines)
+    → AllKept history (place + 1) next → AreKept history (place + 1) next
+AreKept-covered history place orders next kept covered all = record {
+  all = all;
+  cover = λ nowhere. kept.cover (λ i lines is.
+      let at = kept.all i lines is in
+      covered i lines at.0 is at.1 nowhere);
+}
+
 -- before the first event the order without a line is kept
 pub AreKept-nil : (history : History) → AreKept history 0 ([] ∷ [])
 AreKept-nil history = record { all = first; cover = λ nowhere. nowhere 0 [] refl }

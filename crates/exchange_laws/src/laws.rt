@@ -9,7 +9,7 @@ ghost use Rattle.rmm_spec.specs.HistoryText.{History, IsHistory};
 ghost use Rattle.rmm_spec.specs.State.{State, opening};
 ghost use Rattle.rmm_spec.specs.Linearization.{IsCalled, IsLinearization, IsReturned};
 ghost use Rattle.order_laws.specs.Order.{LeadsNowhere, count_of};
-ghost use Rattle.exchange_laws.specs.Forward.{AllKept, AreContinued, AreKept, AreOpen, Gives, IsKept, IsLook, IsMovable, IsOpen, Passes};
+ghost use Rattle.exchange_laws.specs.Forward.{AllKept, AreContinued, AreKept, AreOpen, Gives, IsKept, IsLook, IsMovable, IsOpen, LeadNowhere, Passes};
 ghost use Rattle.exchange_laws.specs.Parts.{first_part};
 
 /// Where a history has a linearization, so has each first part of its events.
@@ -77,6 +77,14 @@ pub fn nowhere_with_a_movable_call()
         → LeadsNowhere history (lines ++ (front ++ back)) → LeadsNowhere history (lines ++ (front ++ (moved ∷ back))) }
 {}
 
+/// Of two open calls that exchange, the one leads nowhere behind the other where it does at once: so it needn't be tried there again.
+pub fn nowhere_in_either_order()
+    ensures { (history : History) (place : ℕ) (lines : List Line) (one other : Line) (old new : State) → IsHistory history
+        → IsKept history place lines old → AreOpen history.events place lines (one ∷ other ∷ [])
+        → Gives history.events old (one ∷ other ∷ []) new → Gives history.events old (other ∷ one ∷ []) new
+        → LeadsNowhere history (lines ++ other ∷ []) → LeadsNowhere history ((lines ++ one ∷ []) ++ other ∷ []) }
+{}
+
 /// So only those sequences need be tried at a return of which no call may as well come behind the one that returns.
 pub fn nowhere_after_looks()
     ensures { (history : History) (place cpu number : ℕ) (given : Reply) (lines : List Line) (state : State) → IsHistory history
@@ -120,6 +128,14 @@ pub fn all_kept_behind_a_return()
     ensures { (history : History) (place cpu number : ℕ) (given : Reply) (orders next : List (List Line)) → IsHistory history
         → IsReturned history.events place cpu number given → AreKept history place orders
         → AreContinued history place cpu number orders next → AllKept history (place + 1) next → AreKept history (place + 1) next }
+{}
+
+/// Behind any event enough is kept, if each kept order leads nowhere where all do that are kept next.
+pub fn all_kept_where_covered()
+    ensures { (history : History) (place : ℕ) (orders next : List (List Line)) → AreKept history place orders
+        → ((i : ℕ) (lines : List Line) (state : State) → slice_get orders i ≡ Some lines → IsKept history place lines state
+        → LeadNowhere history next → LeadsNowhere history lines)
+        → AllKept history (place + 1) next → AreKept history (place + 1) next }
 {}
 
 /// With no order kept no certificate is a linearization.

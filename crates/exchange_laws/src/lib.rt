@@ -10,8 +10,9 @@ mod laws;
 
 pub use laws::{
     a_returning_call_is_open, all_kept_behind_a_call, all_kept_behind_a_return,
-    first_parts_have_orders, kept_at_first, kept_at_last_is_linearization, kept_behind_a_call,
-    kept_behind_its_return, kept_with_open_calls, looks_stay_in_a_group, movable_past_others,
-    no_line_is_kept_at_first, none_kept_is_no_order, nowhere_after_each_open_call,
-    nowhere_after_looks, nowhere_at_a_return, nowhere_with_a_movable_call,
+    all_kept_where_covered, first_parts_have_orders, kept_at_first, kept_at_last_is_linearization,
+    kept_behind_a_call, kept_behind_its_return, kept_with_open_calls, looks_stay_in_a_group,
+    movable_past_others, no_line_is_kept_at_first, none_kept_is_no_order,
+    nowhere_after_each_open_call, nowhere_after_looks, nowhere_at_a_return,
+    nowhere_in_either_order, nowhere_with_a_movable_call,
 };
