@@ -1,0 +1,7 @@
+pub mod Counted
+pub mod Growing
+pub mod Looks
+pub mod Steps
+pub mod Survival
+pub mod Beginnings
+pub mod Parts
