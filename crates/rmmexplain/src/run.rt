@@ -141,7 +141,10 @@ fn append_rows(
     let Some(run) = &told.run else {
         return verdict_text(&told.explanation.verdict(), out);
     };
-    append_counts(&count_conditions(alloc, &run.history, &run.certificate)?, out)
+    append_counts(
+        &count_conditions(alloc, &run.history, &run.certificate)?,
+        out,
+    )
 }
 
 // The verdict's line, and behind it the steps of the granule.
