@@ -18,6 +18,7 @@ pub(crate) struct OpenCall {
     pub(crate) is_placed: bool,
     /// The measurement that it reads or extends, where it stands in the order.
     pub(crate) register: Option<usize>,
+    pub(crate) extends: bool,
 }
 
 /// The command of the call at a place.

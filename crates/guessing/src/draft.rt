@@ -70,6 +70,7 @@ impl Draft {
                 returned: returned as usize,
                 is_placed: false,
                 register: None,
+                extends: false,
             });
         }
     }
@@ -119,6 +120,7 @@ impl Draft {
             cpu: call.cpu,
             called: call.called,
             returned: call.returned,
+            extends: call.extends,
         };
         self.registers.add(register, used)
     }
@@ -261,6 +263,7 @@ impl Draft {
             *open = Some(OpenCall {
                 is_placed: true,
                 register,
+                extends: matches!(command.function, FunctionId::MeasurementExtend),
                 ..call
             });
         }

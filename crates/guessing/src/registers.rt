@@ -18,6 +18,8 @@ pub(crate) struct Use {
     pub(crate) cpu: u8,
     pub(crate) called: usize,
     pub(crate) returned: usize,
+    /// Whether it extends the measurement, and doesn't read it.
+    pub(crate) extends: bool,
 }
 
 /// A measurement of one realm, with the calls that read and extend it, in the order of their returns.

@@ -6,29 +6,37 @@ use byteorder::{ByteOrder, LittleEndian};
 use history::History;
 use measure::{Rem, extend_bytes, words, words8};
 use rmi_view::ReplyRef;
-use rmm_spec::{FunctionId, Measurement};
+use rmm_spec::Measurement;
 use std::alloc::{AllocError, Global};
 use std::cmp::min;
 
 /// How many calls after the first that is left are looked at.
 const WINDOW: usize = 64;
 
-/// How many extensions are tried at most for each call.
+/// How many calls are put in at most, for each call and for all.
 const TRIED_A_CALL: usize = 64;
 
-/// A call that was put in, with what is left to try in its place.
+const TRIED: usize = 1 << 18;
+
+/// How far extensions are moved at most between two readings, each before one that returned earlier.
+const MOST_MOVES: usize = 16;
+
+/// An extension that was put in since the last reading, with what is left to try in its place.
 #[derive(Clone, Copy)]
 struct Step {
     place: usize,
-    /// Which of the extensions that could come next it is. A reading that fits needs no other.
-    choice: Option<usize>,
+    // which of the extensions that could come next it is
+    choice: usize,
     before: Rem,
     first: usize,
+    moves: usize,
 }
 
-/// An order of a measurement's first calls, and the measurement after them.
+/// An order of a measurement's first calls, and the measurement after them. What is read tells which extensions came before, so none of
+/// those before a reading is taken out.
 #[derive(Drop)]
 struct Solver {
+    settled: Vec<usize>,
     steps: Vec<Step>,
     done: Vec<bool>,
     value: Rem,
@@ -36,6 +44,9 @@ struct Solver {
     first: usize,
     // which extension is tried next
     choice: usize,
+    // how far extensions were moved since the last reading, and may be
+    moves: usize,
+    limit: usize,
 }
 
 /// How an order goes on.
@@ -56,19 +67,26 @@ pub(crate) fn solved(
 ) -> Result<Vec<usize>, AllocError> {
     let uses = register.uses.as_slice();
     let mut solver = Solver {
-        steps: Vec::with_capacity(alloc, uses.len())?,
+        settled: Vec::with_capacity(alloc, uses.len())?,
+        steps: Vec::new(alloc),
         done: vec![in alloc; false; uses.len()]?,
         value: register.start,
         first: 0,
         choice: 0,
+        moves: 0,
+        limit: 0,
     };
-    for _ in 0..uses.len().saturating_mul(TRIED_A_CALL) {
+    for _ in 0..uses
+        .len()
+        .saturating_mul(TRIED_A_CALL)
+        .saturating_add(TRIED)
+    {
         solver.pass_done();
         if solver.first >= uses.len() || !solver.step(history, uses)? {
             break;
         }
     }
-    solver.order(alloc)
+    solver.order()
 }
 
 impl Solver {
@@ -84,72 +102,81 @@ impl Solver {
     }
 
     // The calls that were put in, in their order, and then those that are left.
-    fn order(&self, alloc: Global) -> Result<Vec<usize>, AllocError> {
-        let mut order = Vec::with_capacity(alloc, self.done.len())?;
-        for step in &self.steps {
-            order.push(step.place)?;
-        }
-        self.append_left(&mut order)?;
-        Ok(order)
-    }
-
-    fn append_left(&self, order: &mut Vec<usize>) -> Result<(), AllocError> {
+    fn order(mut self) -> Result<Vec<usize>, AllocError> {
+        self.settle()?;
+        self.pass_done();
         for place in self.first..self.done.len() {
             if !self.is_done(place) {
-                order.push(place)?;
+                self.settled.push(place)?;
             }
         }
-        Ok(())
+        Ok(self.settled)
     }
 
-    // Puts in one call, or takes some out. Whether there is more to try.
+    // Puts in one call, or takes one out. Whether there is more to try.
     fn step(&mut self, history: &History, uses: &[Use]) -> Result<bool, AllocError> {
         match self.next(history, uses) {
             Next::Reading(place) => {
-                self.put(place, None, self.value)?;
+                self.settle()?;
+                self.settled.push(place)?;
+                self.mark(place, true);
                 Ok(true)
             }
             Next::Extension(place) => {
                 let value = extended(&self.value, history, uses.get(place));
-                self.put(place, Some(self.choice), value)?;
+                self.extend(place, value)?;
                 Ok(true)
             }
             Next::Nothing => Ok(self.take_back()),
         }
     }
 
-    fn put(&mut self, place: usize, choice: Option<usize>, value: Rem) -> Result<(), AllocError> {
-        self.steps.push(Step {
-            place,
-            choice,
-            before: self.value,
-            first: self.first,
-        })?;
-        self.value = value;
-        self.choice = 0;
-        if let Some(done) = self.done.get_mut(place) {
-            *done = true;
+    // Leaves the extensions since the last reading where they are.
+    fn settle(&mut self) -> Result<(), AllocError> {
+        for step in &self.steps {
+            self.settled.push(step.place)?;
         }
+        self.steps.clear();
+        self.choice = 0;
+        self.moves = 0;
+        self.limit = 0;
         Ok(())
     }
 
-    // Takes calls out up to the last extension, in whose place the next one is tried.
+    fn extend(&mut self, place: usize, value: Rem) -> Result<(), AllocError> {
+        self.steps.push(Step {
+            place,
+            choice: self.choice,
+            before: self.value,
+            first: self.first,
+            moves: self.moves,
+        })?;
+        self.value = value;
+        self.moves = self.moves.saturating_add(self.choice);
+        self.choice = 0;
+        self.mark(place, true);
+        Ok(())
+    }
+
+    // Takes the last extension out, in whose place the next one is tried. Where there is none, extensions may be moved further.
     fn take_back(&mut self) -> bool {
-        for _ in 0..self.steps.len() {
-            let Some(step) = self.steps.pop() else {
-                return false;
-            };
-            self.value = step.before;
-            self.first = step.first;
-            if let Some(done) = self.done.get_mut(step.place) {
-                *done = false;
-            }
-            if let Some(choice) = step.choice {
-                self.choice = choice.saturating_add(1);
-                return true;
-            }
+        let Some(step) = self.steps.pop() else {
+            self.limit = self.limit.saturating_add(1);
+            self.choice = 0;
+            return self.limit <= MOST_MOVES;
+        };
+        self.value = step.before;
+        self.first = step.first;
+        self.moves = step.moves;
+        self.choice = step.choice.saturating_add(1);
+        self.mark(step.place, false);
+        true
+    }
+
+    fn mark(&mut self, place: usize, is_done: bool) {
+        if let Some(done) = self.done.get_mut(place) {
+            *done = is_done;
         }
-        false
     }
 
     // A call that can come next: a reading that fits, or else the extension that is tried.
@@ -157,18 +184,20 @@ impl Solver {
         let Some(bound) = uses.get(self.first) else {
             return Next::Nothing;
         };
+        let may_move = self.moves.saturating_add(self.choice) <= self.limit;
         let mut extensions = 0usize;
         let mut next = Next::Nothing;
         for place in self.first..min(uses.len(), self.first.saturating_add(WINDOW)) {
-            if self.is_done(place) || uses[place].called > bound.returned {
+            let used = &uses[place];
+            if self.is_done(place) || used.called > bound.returned {
                 continue;
             }
-            if is_extension(history, &uses[place]) {
-                if extensions == self.choice {
+            if used.extends {
+                if extensions == self.choice && may_move {
                     next = Next::Extension(place);
                 }
                 extensions = extensions.saturating_add(1);
-            } else if is_read(&self.value, history, &uses[place]) {
+            } else if is_read(&self.value, history, used) {
                 return Next::Reading(place);
             }
         }
@@ -180,13 +209,6 @@ impl Solver {
             Some(done) => *done,
             None => true,
         }
-    }
-}
-
-fn is_extension(history: &History, used: &Use) -> bool {
-    match command_at(history, used.called) {
-        Some(command) => matches!(command.function, FunctionId::MeasurementExtend),
-        None => false,
     }
 }
 
