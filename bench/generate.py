@@ -25,7 +25,8 @@ sys.dont_write_bytecode = True
 from guest import GRANULES as MANY_GRANULES, GUEST_CPUS, Guest
 from lives import CPUS, GRANULES
 from loads import LOADS
-from machine import LARGE, MARKS, Machine
+from machine import Machine
+from records import LARGE, MARKS
 
 IDLE, CALLED, COMMITTED, OVER = range(4)
 

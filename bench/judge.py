@@ -12,7 +12,8 @@ import sys
 
 sys.dont_write_bytecode = True
 from functions import WORDS
-from machine import LIMITS, MARKS, Machine
+from machine import Machine
+from records import LIMITS, MARKS
 
 MOST_LINES = 1_000_000
 DECIMAL = r"(?:0|[1-9][0-9]*)"

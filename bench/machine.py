@@ -1,92 +1,15 @@
 """A plain machine in Python: what each command of docs/PROFILE.md answers and changes. Written from that page's prose."""
-import hashlib
-import struct
-from collections import namedtuple
-
-from functions import (CPU_OFF, DATA_CREATE, DATA_CREATE_UNKNOWN, DATA_DESTROY, EXIT, GRANULE_DELEGATE, GRANULE_UNDELEGATE,
-                       HOST_CALL, IPA_STATE_GET, IPA_STATE_SET, MEASUREMENT_EXTEND, MEASUREMENT_READ, REALM_ACTIVATE,
-                       REALM_CALLS, REALM_CONFIG, REALM_CREATE, REALM_DESTROY, REC_CREATE, REC_DESTROY, REC_ENTER, RTT_CREATE,
-                       RTT_DESTROY, RTT_FOLD, RTT_INIT_RIPAS, RTT_MAP_UNPROTECTED, RTT_READ_ENTRY, RTT_SET_RIPAS,
-                       RTT_UNMAP_UNPROTECTED, SYSTEM_OFF)
+from functions import (DATA_CREATE, DATA_CREATE_UNKNOWN, DATA_DESTROY, EXIT, GRANULE_DELEGATE, GRANULE_UNDELEGATE, REALM_ACTIVATE,
+                       REALM_CALLS, REALM_CREATE, REALM_DESTROY, REC_CREATE, REC_DESTROY, REC_ENTER, RTT_CREATE, RTT_DESTROY,
+                       RTT_FOLD, RTT_INIT_RIPAS, RTT_MAP_UNPROTECTED, RTT_READ_ENTRY, RTT_SET_RIPAS, RTT_UNMAP_UNPROTECTED)
+from realm_calls import RealmCalls
+from records import (ACTIVE, DATA, DELEGATED, HASHES, INPUT_ERROR, MOST_RECS, NEW, OFF, RD, REALM_ERROR, REC, REC_AUX, REC_ERROR,
+                     RTT, SPACES, SYSTEM_OFF_ERROR, UNDELEGATED, Realm, Rec, Refused, Stretch, is_page, table_error)
 from tables import (ASSIGNED, ASSIGNED_NS, DESTROYED, ENTRIES, FREE_NS, LAST_LEVEL, PAGE_BYTES, RAM, STATE_NUMBERS, TABLE,
                     UNASSIGNED, UNASSIGNED_NS, UNUSED, Entry, Table, entry_bytes, new_root, walk)
 
-UNDELEGATED, DELEGATED, RD, REC, REC_AUX, DATA, RTT = "undelegated", "delegated", "rd", "rec", "aux", "data", "rtt"
-NEW, ACTIVE, OFF = "new", "active", "off"
-SPACES = {(0x27, 1), (0x30, 0)}
-LARGE = "large"
-# of each version the hashes by algo, the first word of a history, and how many granules there are at most
-HASHES = {1: [hashlib.sha256], 2: [hashlib.sha256, hashlib.sha512], LARGE: [hashlib.sha256, hashlib.sha512]}
-MARKS = {1: "rmh1", 2: "rmh2", LARGE: "rml1"}
-LIMITS = {1: 1 << 12, 2: 1 << 12, LARGE: 1 << 20}
-MOST_RECS = 8
-INPUT_ERROR, REALM_ERROR, SYSTEM_OFF_ERROR, REC_ERROR = "err 1 0", "err 2 0", "err 2 1", "err 3 0"
 
-
-def table_error(level):
-    return f"err 4 {level}"
-
-
-def is_page(address):
-    return address % PAGE_BYTES == 0
-
-
-def measured(hashed, old, words):
-    """The hash of the old measurement and of words, each written as 8 bytes with the lowest first."""
-    return hashed(old + struct.pack(f"<{len(words)}Q", *words)).digest()
-
-
-class Realm:
-    def __init__(self, width, level, vmid, algo, root, hashed):
-        self.state = NEW
-        self.width = width
-        self.level = level
-        self.vmid = vmid
-        self.algo = algo
-        self.hashed = hashed
-        self.root = root
-        self.made_recs = 0
-        self.recs = set()
-        self.rim = measured(hashed, b"", [int(REALM_CREATE, 16), width, level, algo])
-        self.rems = [bytes(hashed().digest_size)] * 4
-
-    @property
-    def full(self):
-        return 1 << self.width
-
-    @property
-    def half(self):
-        return 1 << (self.width - 1)
-
-    def measure(self, function, *words):
-        self.rim = measured(self.hashed, self.rim, [int(function, 16), *words])
-
-
-class Rec:
-    """A REC. `pending` holds the words that Exit will report, where something is pending."""
-
-    def __init__(self, address, rd, runnable, aux0, aux1):
-        self.address = address
-        self.rd = rd
-        self.runnable = runnable
-        self.aux0 = aux0
-        self.aux1 = aux1
-        self.cpu = None
-        self.request = None
-        self.pending = None
-
-
-Request = namedtuple("Request", "base top ripas")
-
-# Where a command may choose how far it gets: the ends that it may reply, and what is done once one of them is chosen.
-Stretch = namedtuple("Stretch", "tops set_up_to")
-
-
-class Refused(Exception):
-    """A row that doesn't hold, with the reply."""
-
-
-class Machine:
+class Machine(RealmCalls):
     """Tags by address (an address without one is UNDELEGATED), realms by rd, RECs by address, and the RECs that run by CPU.
 
     `row` is the number of the row that refused the last command, as docs/PROFILE.md counts them, and 0 where none did.
@@ -412,55 +335,6 @@ class Machine:
         first, last = table.index(base), table.index(end)
         table.entries[first:last] = [entry._replace(ripas=ripas) for entry in table.entries[first:last]]
 
-    # Realm calls: of the REC that runs on the CPU, and of its realm.
-
-    def read_measurement(self, rec, index):
-        self.need(index <= 4)
-        realm = self.realms[rec.rd]
-        measurement = realm.rems[index - 1] if index else realm.rim
-        return struct.unpack(f"<{len(measurement) // 8}Q", measurement)
-
-    def extend_measurement(self, rec, index, size, *values):
-        self.need(1 <= index <= 4)
-        self.need(1 <= size <= 0x40)
-        realm = self.realms[rec.rd]
-        realm.rems[index - 1] = realm.hashed(realm.rems[index - 1] + struct.pack("<8Q", *values)[:size]).digest()
-
-    def config(self, rec):
-        realm = self.realms[rec.rd]
-        return [realm.width, realm.algo]
-
-    def request_ripas(self, rec, base, top, ripas):
-        self.need(is_page(base))
-        self.need(is_page(top))
-        self.need(base < top)
-        self.need(ripas <= 1)
-        self.need(top <= self.realms[rec.rd].half)
-        rec.request, rec.pending = Request(base, top, ripas), [4, base, top, ripas]
-
-    def read_ripas(self, rec, ipa):
-        realm = self.realms[rec.rd]
-        self.need(is_page(ipa))
-        self.need(ipa < realm.half)
-        return [walk(realm.root, ipa, LAST_LEVEL).entry(ipa).ripas]
-
-    def call_host(self, rec, imm):
-        self.need(imm < 0x10000)
-        rec.pending = [5, imm, 0, 0]
-
-    def turn_off(self, rec):
-        rec.runnable, rec.pending = False, [3, int(CPU_OFF, 16), 0, 0]
-
-    def turn_system_off(self, rec):
-        self.realms[rec.rd].state = OFF
-        rec.pending = [3, int(SYSTEM_OFF, 16), 0, 0]
-
-    def leave(self, rec):
-        words = rec.pending or [1, 0, 0, 0]
-        del self.running[rec.cpu]
-        rec.cpu = rec.pending = None
-        return words
-
     FROM_HOST = {
         GRANULE_DELEGATE: delegate,
         GRANULE_UNDELEGATE: undelegate,
@@ -480,15 +354,4 @@ class Machine:
         RTT_UNMAP_UNPROTECTED: unmap_unprotected,
         RTT_INIT_RIPAS: init_ripas,
         RTT_SET_RIPAS: set_requested_ripas,
-    }
-    FROM_INSIDE = {
-        MEASUREMENT_READ: read_measurement,
-        MEASUREMENT_EXTEND: extend_measurement,
-        REALM_CONFIG: config,
-        IPA_STATE_SET: request_ripas,
-        IPA_STATE_GET: read_ripas,
-        HOST_CALL: call_host,
-        CPU_OFF: turn_off,
-        SYSTEM_OFF: turn_system_off,
-        EXIT: leave,
     }

@@ -4,7 +4,7 @@
 usage: causes.py [--program PATH] [--jobs COUNT] [RUNS [SEED]]
 
 A run is one of explore.py in which one reply is changed, or one line of the certificate is moved. Each condition of PROFILE.md is written
-here once more, as a test of the machine of machine.py. That machine takes the lines before the one that fails, and the test is asked after
+once more in host_conditions.py and realm_conditions.py, as a test of the machine of machine.py. That machine takes the lines before the one that fails, and the test is asked after
 each. It turned at the last step before which it held. One on a realm or a REC is asked of the one that stands there now: where it never held
 of that one, the step that made it is the cause, and the last step that changed what it is read from is told too, which is no earlier. One on
 a word alone is told by that word. The state before the line, the calls that never returned, the later step of an overlapping call and what
@@ -30,16 +30,16 @@ from explore import Explorer
 from functions import NAMES, REALM_CALLS, WORDS
 from generate import run
 from judge import gives, judge, read_certificate, read_history
-from machine import DELEGATED, HASHES, LARGE, MOST_RECS, NEW, OFF, RD, REC, REC_AUX, SPACES, UNDELEGATED, Machine, is_page
-from tables import (ASSIGNED, ASSIGNED_NS, FREE_NS, LAST_LEVEL, RAM, STATE_NUMBERS, TABLE, UNASSIGNED, UNASSIGNED_NS, UNUSED, entry_bytes,
-                    walk)
+from machine import Machine
+from condition_tests import Condition, can_walk, is_granule, on_rec, on_walk, read_of, space, tag, walked
+from host_conditions import HOST_CONDITIONS, is_idle
+from realm_conditions import REALM_CONDITIONS
+from records import DELEGATED, LARGE, OFF, REC_AUX, UNDELEGATED
+from tables import ASSIGNED, TABLE, UNASSIGNED, UNASSIGNED_NS, entry_bytes, walk
 
 PROGRAM = built("rmmexplain")
 RUNS_A_TASK = 50
 
-# `about` says whether what the condition speaks of is there, `holds` whether it holds, and `reads` what it is read from.
-# A condition on a tag has its granule, and one on a word alone that word by its name.
-Condition = namedtuple("Condition", "name holds reads about granule word", defaults=[lambda machine: (), lambda machine: True, None, None])
 Sample = namedtuple("Sample", "is_there holds read")
 
 
@@ -49,237 +49,19 @@ def sampled(machine, condition):
     return Sample(True, condition.holds(machine), condition.reads(machine))
 
 
-# ---- the conditions
-
-def word(name, holds, **named):
-    """The word is the one that is named."""
-    return Condition(name, lambda machine: holds, word=next(iter(named.items())))
-
-
-def tag(granule, wanted):
-    return Condition("gran_state", lambda machine: machine.has_tag(granule, wanted),
-                     lambda machine: machine.tags.get(granule, UNDELEGATED) if is_granule(machine, granule) else None, granule=granule)
-
-
-def is_granule(machine, address):
-    return is_page(address) and address < machine.granules << 12
-
-
-def on_realm(name, rd, holds, reads):
-    return Condition(name, lambda machine: holds(machine.realms[rd]), lambda machine: reads(machine.realms[rd]),
-                     lambda machine: rd in machine.realms)
-
-
-def on_rec(name, rec, holds, reads):
-    return Condition(name, lambda machine: holds(machine.recs[rec]), lambda machine: reads(machine.recs[rec]),
-                     lambda machine: rec in machine.recs)
-
-
-def on_owner(name, rec, holds, reads):
-    def realm(machine):
-        return machine.realms[machine.recs[rec].rd]
-    return Condition(name, lambda machine: holds(realm(machine)), lambda machine: reads(realm(machine)),
-                     lambda machine: rec in machine.recs)
-
-
-def on_walk(name, rd, ipa, level, holds):
-    return Condition(name, lambda machine: holds(*walked(machine, rd, ipa, level)),
-                     lambda machine: read_of(*walked(machine, rd, ipa, level)), lambda machine: can_walk(machine, rd, ipa))
-
-
-def can_walk(machine, rd, ipa):
-    return rd in machine.realms and ipa < machine.realms[rd].full
-
-
-def walked(machine, rd, ipa, level):
-    table = walk(machine.realms[rd].root, ipa, level)
-    return table.level, table.entry(ipa)
-
-
-def read_of(level, entry):
-    return level, STATE_NUMBERS[entry.state], entry.address, entry.ripas
-
-
-def state(realm):
-    return realm.state
-
-
-def space(realm):
-    return realm.width, realm.level, realm.algo
-
-
-def is_new(rd):
-    return on_realm("realm_state", rd, lambda realm: realm.state == NEW, state)
-
-
-def is_protected(rd, ipa):
-    return on_realm("ipa_bound", rd, lambda realm: ipa < realm.half, space)
-
-
-def page_of(rd, ipa, wanted):
-    """The walk ends at level 3, at an entry that is so."""
-    return [on_walk("rtt_walk", rd, ipa, 3, lambda level, entry: level == 3),
-            on_walk("rtte_state", rd, ipa, 3, lambda level, entry: entry.state == wanted)]
-
-
-def aligned(ipa):
-    return word("ipa_align", is_page(ipa), ipa=ipa)
-
-
-def host_page(rd, ipa, wanted):
-    return [tag(rd, RD), on_realm("ipa_bound", rd, lambda realm: realm.half <= ipa < realm.full, space), *page_of(rd, ipa, wanted)]
-
-
-def room(rd, base, top):
-    return [on_walk("base_align", rd, base, 3, lambda level, entry: base % entry_bytes(level) == 0),
-            on_walk("top_rtt_align", rd, base, 3, lambda level, entry: base + entry_bytes(level) <= top)]
-
-
-def level_words(ipa, level, unit):
-    return [word("level_bound", level <= LAST_LEVEL, level=level), word("ipa_align", ipa % entry_bytes(min(unit, LAST_LEVEL)) == 0, ipa=ipa)]
-
-
-def level_in(rd, ipa, holds):
-    return [on_realm("level_bound", rd, holds, space), on_realm("ipa_bound", rd, lambda realm: ipa < realm.full, space)]
-
-
-def realm_create(rd, root, width, level, vmid, algo):
-    return [word("alias", rd != root, root=root), word("params_supp", width in dict(SPACES), width=width),
-            word("rtt_num_level", (width, level) in SPACES, level=level), word("vmid_valid", vmid <= 0xFF, vmid=vmid),
-            tag(rd, DELEGATED), tag(root, DELEGATED),
-            Condition("params_supp", lambda machine: algo < len(HASHES[machine.version]), word=("algo", algo)),
-            Condition("vmid_valid", lambda machine: vmid not in machine.vmids)]
-
-
-def realm_destroy(rd):
-    return [tag(rd, RD), on_realm("realm_live", rd, lambda realm: not realm.recs, lambda realm: ()),
-            on_realm("realm_live", rd, lambda realm: not realm.root.has(TABLE), lambda realm: ())]
-
-
-def rec_create(rd, rec, mpidr, flags, aux0, aux1):
-    alike = {"aux0": aux0} if aux0 == rec else {"aux1": aux1}
-    return [word("aux_alias", len({rec, aux0, aux1}) == 3, **alike), word("own_flags", flags <= 1, flags=flags), tag(rd, RD),
-            *(tag(granule, DELEGATED) for granule in (rec, aux0, aux1)), is_new(rd),
-            on_realm("mpidr_index", rd, lambda realm: mpidr == realm.made_recs, lambda realm: realm.made_recs),
-            word("own_rec_count", mpidr < MOST_RECS, mpidr=mpidr)]
-
-
-def is_ready(rec):
-    return on_rec("rec_state", rec, lambda it: it.cpu is None, lambda it: it.cpu)
-
-
-def rec_enter(rec):
-    return [tag(rec, REC), on_owner("realm_new", rec, lambda realm: realm.state != NEW, state),
-            on_owner("system_off", rec, lambda realm: realm.state != OFF, state), is_ready(rec),
-            on_rec("rec_runnable", rec, lambda it: it.runnable, lambda it: it.runnable)]
-
-
-def rtt_create(rd, rtt, ipa, level):
-    above = max(level - 1, 0)
-    return [*level_words(ipa, level, above), tag(rd, RD), tag(rtt, DELEGATED), *level_in(rd, ipa, lambda realm: level > realm.level),
-            on_walk("rtt_walk", rd, ipa, above, lambda reached, entry: reached == above),
-            on_walk("rtte_state", rd, ipa, above, lambda reached, entry: entry.state != TABLE)]
-
-
-def entries_below(machine, rd, ipa, level):
-    table = walk(machine.realms[rd].root, ipa, level)
-    return table.entries if table.level == level else [table.entry(ipa)]
-
-
-def rtt_remove(rd, ipa, level, name, is_left):
-    above = max(level - 1, 0)
-    return [*level_words(ipa, level, above), tag(rd, RD), *level_in(rd, ipa, lambda realm: level > realm.level),
-            on_walk("rtt_walk", rd, ipa, above, lambda reached, entry: reached == above),
-            on_walk("rtte_state", rd, ipa, above, lambda reached, entry: entry.state == TABLE),
-            Condition(name, lambda machine: is_left(entries_below(machine, rd, ipa, level)), about=lambda machine: can_walk(machine, rd, ipa))]
-
-
-def is_idle(entries):
-    return all(entry.state not in (ASSIGNED, ASSIGNED_NS, TABLE) for entry in entries)
-
-
-def are_alike(entries):
-    return entries[0] in [*UNUSED, FREE_NS] and entries.count(entries[0]) == len(entries)
-
-
-def rtt_read_entry(rd, ipa, level):
-    return [*level_words(ipa, level, level), tag(rd, RD), *level_in(rd, ipa, lambda realm: level >= realm.level)]
-
-
-def data_create(rd, data, ipa, src, flags, *_):
-    return [word("own_flags", flags <= 1, flags=flags), aligned(ipa), tag(rd, RD), tag(data, DELEGATED), tag(src, UNDELEGATED),
-            is_protected(rd, ipa), is_new(rd), *page_of(rd, ipa, UNASSIGNED),
-            on_walk("rtte_ripas", rd, ipa, 3, lambda level, entry: entry.ripas == RAM)]
-
-
-def rtt_init_ripas(rd, base, top):
-    return [word("own_base", is_page(base), base=base), word("top_gran_align", is_page(top), top=top), word("size_valid", base < top, base=base),
-            tag(rd, RD),
-            on_realm("top_bound", rd, lambda realm: top <= realm.half, space), is_new(rd),
-            on_walk("rtte_state", rd, base, 3, lambda level, entry: entry.state == UNASSIGNED), *room(rd, base, top)]
-
-
-def rtt_set_ripas(rd, rec, base, top):
-    def request(it):
-        return it.request
-
-    def asked(it):
-        """The definitions read 0 where nothing is asked for."""
-        return (it.request.base, it.request.top) if it.request else (0, 0)
-
-    return [tag(rd, RD), tag(rec, REC), on_rec("rec_owner", rec, lambda it: it.rd == rd, lambda it: it.rd), is_ready(rec),
-            on_rec("own_request", rec, lambda it: it.request is not None, request),
-            on_rec("base_bound", rec, lambda it: base == asked(it)[0], request),
-            on_rec("top_bound", rec, lambda it: top <= asked(it)[1], request),
-            word("size_valid", base < top, base=base), word("top_gran_align", is_page(top), top=top), *room(rd, base, top)]
-
-
-def ipa_state_set(rec, base, top, ripas):
-    return [word("base_align", is_page(base), base=base), word("top_align", is_page(top), top=top), word("size_valid", base < top, base=base),
-            word("ripas_valid", ripas <= 1, ripas=ripas), on_owner("rgn_bound", rec, lambda realm: top <= realm.half, space)]
-
-
-CONDITIONS = {
-    "GRANULE_DELEGATE": lambda g: [tag(g, UNDELEGATED)],
-    "GRANULE_UNDELEGATE": lambda g: [tag(g, DELEGATED)],
-    "DATA_CREATE": data_create,
-    "DATA_CREATE_UNKNOWN": lambda rd, data, ipa: [aligned(ipa), tag(rd, RD), tag(data, DELEGATED), is_protected(rd, ipa),
-                                                  *page_of(rd, ipa, UNASSIGNED)],
-    "DATA_DESTROY": lambda rd, ipa: [aligned(ipa), tag(rd, RD), is_protected(rd, ipa), *page_of(rd, ipa, ASSIGNED)],
-    "REALM_ACTIVATE": lambda rd: [tag(rd, RD), is_new(rd)],
-    "REALM_CREATE": realm_create,
-    "REALM_DESTROY": realm_destroy,
-    "REC_CREATE": rec_create,
-    "REC_DESTROY": lambda rec: [tag(rec, REC), is_ready(rec)],
-    "REC_ENTER": rec_enter,
-    "RTT_CREATE": rtt_create,
-    "RTT_DESTROY": lambda rd, ipa, level: rtt_remove(rd, ipa, level, "rtt_live", is_idle),
-    "RTT_FOLD": lambda rd, ipa, level: rtt_remove(rd, ipa, level, "own_alike", are_alike),
-    "RTT_MAP_UNPROTECTED": lambda rd, ipa, pa: [aligned(ipa), word("own_page", is_page(pa) and pa < 1 << 48, pa=pa),
-                                                *host_page(rd, ipa, UNASSIGNED_NS)],
-    "RTT_UNMAP_UNPROTECTED": lambda rd, ipa: [aligned(ipa), *host_page(rd, ipa, ASSIGNED_NS)],
-    "RTT_READ_ENTRY": rtt_read_entry,
-    "RTT_INIT_RIPAS": rtt_init_ripas,
-    "RTT_SET_RIPAS": rtt_set_ripas,
-    "MEASUREMENT_READ": lambda rec, i: [word("index_bound", i <= 4, i=i)],
-    "MEASUREMENT_EXTEND": lambda rec, i, size, *_: [word("index_bound", 1 <= i <= 4, i=i), word("size_bound", 1 <= size <= 0x40, size=size)],
-    "IPA_STATE_SET": ipa_state_set,
-    "IPA_STATE_GET": lambda rec, ipa: [aligned(ipa), on_owner("ipa_bound", rec, lambda realm: ipa < realm.half, space)],
-    "HOST_CALL": lambda rec, imm: [word("own_imm", imm < 0x10000, imm=imm)],
-}
-
+# ---- the conditions of a call
 
 def conditions_of(machine, cpu, function, words):
     """The command's conditions in their order. A realm's call is one of the REC inside which the CPU is now."""
     name, is_call = NAMES[function], function in REALM_CALLS
     if not is_call and name != "EXIT":
-        return [Condition("own_outside", lambda it: cpu not in it.running, lambda it: inside(it, cpu)), *CONDITIONS[name](*words)]
+        return [Condition("own_outside", lambda it: cpu not in it.running, lambda it: inside(it, cpu)), *HOST_CONDITIONS[name](*words)]
     place = Condition("own_inside", lambda it: cpu in it.running, lambda it: inside(it, cpu))
     rec = machine.running.get(cpu)
     if not is_call or rec is None:
         return [place]
     idle = on_rec("own_pending", rec.address, lambda it: it.pending is None, leaving)
-    return [place, idle, *CONDITIONS.get(name, lambda *_: [])(rec.address, *words)]
+    return [place, idle, *REALM_CONDITIONS.get(name, lambda *_: [])(rec.address, *words)]
 
 
 def inside(machine, cpu):

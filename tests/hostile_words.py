@@ -22,7 +22,8 @@ import tempfile
 from places import EXAMPLES, built
 from functions import GRANULE_UNDELEGATE, MEASUREMENT_READ, NAMES, REALM_CREATE, REC_CREATE, RTT_CREATE, RTT_DESTROY, WORDS
 from judge import gives, read_certificate, read_history
-from machine import DELEGATED, UNDELEGATED, Machine
+from machine import Machine
+from records import DELEGATED, UNDELEGATED
 from tables import PAGE_BYTES
 
 PROGRAM = built("rmmcheck")

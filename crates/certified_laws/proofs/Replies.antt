@@ -26,7 +26,7 @@ use Rattle.rmm_spec.specs.Call.{call_from, call_of, class_of}
 use Rattle.rmm_spec.specs.declared.measurement.Measurement.{Measurement}
 use Rattle.rmm_spec.specs.declared.measurement.Measurement.TheVariants.{Sha256, Sha512}
 use Rattle.rmm_spec.specs.Measure.{first_words, measurement_words}
-use Rattle.rmm_spec.specs.State.{State, RealmRecord, Request, Pending, Psci, RipasChange, HostCall}
+use Rattle.rmm_spec.specs.State.{State, RealmRecord, Request, Pending, Psci, RipasChange}
 use Rattle.rmm_spec.specs.Lookup.{is_inside, realm_at, rec_at, rec_inside, ripas_number}
 use Rattle.rmm_spec.specs.Walk.{entry_state, reach, half}
 use Rattle.rmm_spec.specs.Rows.{Row, Needed, Word, decided, inputs, reply_of, tagged, input_error, ok}
@@ -137,7 +137,7 @@ IsReply-exit request None asked waits = (omega arith, (omega arith, (omega arith
 IsReply-exit request (Some (Psci function)) asked waits = (omega arith, (omega arith, (waits, (omega arith, (omega arith, tt)))))
 IsReply-exit request (Some RipasChange) asked waits =
     (omega arith, (omega arith, (asked.0, (asked.1, (ripas_number-word request.ripas, tt)))))
-IsReply-exit request (Some (HostCall imm)) asked waits = (omega arith, (omega arith, (waits, (omega arith, (omega arith, tt)))))
+IsReply-exit request (Some _) asked waits = (omega arith, (omega arith, (waits, (omega arith, (omega arith, tt)))))
 
 -- a measurement is four words or eight
 IsReply-measurement : (measurement : Measurement) → AreWords (measurement_words measurement) → IsReply (ok (measurement_words measurement))
@@ -236,13 +236,12 @@ HasText-behind function.IpaStateSet w s cpu fits words tests = (
   ((omega arith, tt), (word w 0 words, word w 1 words)),
 )
 HasText-behind function.IpaStateGet w s cpu fits words tests = ((IsReply-input_error, tt), ((omega arith, (ripas_number-word _, tt)), tt))
-HasText-behind function.HostCall w s cpu fits words tests = (tt, ((omega arith, tt), word w 0 words))
 HasText-behind function.Exit w s cpu fits words tests =
     let rec = rec_at-fits s (rec_inside s cpu) fits in (
       tt,
       (IsReply-exit _ _ (request_of-fits (rec_at s (rec_inside s cpu)) rec) rec.1, tt),
     )
-HasText-behind _ w s cpu fits words tests = (tt, ((omega arith, tt), tt))
+HasText-behind _ w s cpu fits words tests = (tt, ((omega arith, tt), assumption (word w 0 words)))
 
 -- what each is answered with has a text and fits
 HasText-answer_of : (f : FunctionId) (w : List ℕ) (s : State) (cpu : ℕ) → StateFits s → AreWords w → HasText (answer_of s cpu (call_from f w))

@@ -44,24 +44,13 @@ level-same level unit ipa later =
 -- the first that fails is that of the first word that isn't allowed
 pub first_failing-words : (s : State) (c : Call) (rest : List Asked) → first_failing s (word_conditions c ++ rest) ≡ first_word (words_of c) (first_failing s rest)
 unfolding passes word_conditions words_of
-first_failing-words s (call.DataCreate rd granule ipa source flags digest) rest = refl
-first_failing-words s (call.DataCreateUnknown rd granule ipa) rest = refl
-first_failing-words s (call.DataDestroy rd ipa) rest = refl
-first_failing-words s (call.RealmCreate rd root width level vmid algo) rest = refl
 first_failing-words s (call.RecCreate rd rec mpidr flags aux0 aux1) rest =
     if-three (not (rec == aux0)) (not (rec == aux1)) (not (aux0 == aux1)) _ (Some condition.AuxAlias)
 first_failing-words s (call.RttCreate rd rtt ipa level) rest = level-same level (level - 1) ipa (first_failing s rest)
 first_failing-words s (call.RttRemove removal rd ipa level) rest = level-same level (level - 1) ipa (first_failing s rest)
 first_failing-words s (call.RttMapUnprotected rd ipa page) rest =
     ap (λ (later : Option Condition). if is_multiple ipa 4096 then later else Some condition.IpaAlign) (if-two _ _ (first_failing s rest) (Some condition.OwnPage))
-first_failing-words s (call.RttUnmapUnprotected rd ipa) rest = refl
 first_failing-words s (call.RttReadEntry rd ipa level) rest = level-same level level ipa (first_failing s rest)
-first_failing-words s (call.RttInitRipas rd base top) rest = refl
-first_failing-words s (call.MeasurementRead index) rest = refl
-first_failing-words s (call.MeasurementExtend index size values) rest = refl
-first_failing-words s (call.IpaStateSet base top ripas) rest = refl
-first_failing-words s (call.IpaStateGet ipa) rest = refl
-first_failing-words s (call.HostCall imm) rest = refl
 first_failing-words s _ rest = refl
 
 -- where none is found, each is allowed

@@ -1,5 +1,5 @@
 -- What a condition asks of a word, it asks of the command's word at that place.
-use Rattle.std.proofs.Common.{ℕ, List, [], ◌∷◌, ◌++◌, map, refl}
+use Rattle.std.proofs.Common.{ℕ, List, [], ◌∷◌, ◌++◌, map}
 use Rattle.spec_lemmas.proofs.Texts.{AllByRecursion-append}
 use Rattle.rmm_spec.specs.declared.function_id.FunctionId.{FunctionId}
 use Rattle.rmm_spec.specs.declared.function_id.FunctionId.TheVariants as function
@@ -12,47 +12,13 @@ use Rattle.conditions.specs.Lists.{conditions, own_conditions, place_conditions,
 
 of_words : (function : FunctionId) (w : List ℕ) → AreOfWords w (word_conditions (call_from function w))
 unfolding word_conditions call_from
-of_words function.DataCreate w = ((refl, tt), ((refl, tt), tt))
-of_words function.DataCreateUnknown w = ((refl, tt), tt)
-of_words function.DataDestroy w = ((refl, tt), tt)
-of_words function.RealmCreate w = ((refl, refl), ((refl, tt), ((refl, refl), ((refl, tt), tt))))
-of_words function.RecCreate w = ((refl, refl), ((refl, refl), ((refl, refl), ((refl, tt), tt))))
-of_words function.RttCreate w = ((refl, tt), ((refl, tt), tt))
-of_words function.RttDestroy w = ((refl, tt), ((refl, tt), tt))
-of_words function.RttFold w = ((refl, tt), ((refl, tt), tt))
-of_words function.RttReadEntry w = ((refl, tt), ((refl, tt), tt))
-of_words function.RttMapUnprotected w = ((refl, tt), ((refl, tt), ((refl, tt), tt)))
-of_words function.RttUnmapUnprotected w = ((refl, tt), tt)
-of_words function.RttInitRipas w = ((refl, tt), ((refl, tt), ((refl, refl), tt)))
-of_words function.MeasurementRead w = ((refl, tt), tt)
-of_words function.MeasurementExtend w = ((refl, tt), ((refl, tt), tt))
-of_words function.IpaStateSet w = ((refl, tt), ((refl, tt), ((refl, refl), ((refl, tt), tt))))
-of_words function.IpaStateGet w = ((refl, tt), tt)
-of_words function.HostCall w = ((refl, tt), tt)
-of_words _ w = tt
+of_words function.GranuleDelegate w = assumption
+of_words _ w = assumption
 
 of_own : (function : FunctionId) (w : List ℕ) (rec : ℕ) → AreOfWords w (own_conditions rec (call_from function w))
 unfolding own_conditions call_from
-of_own function.DataCreate w rec = (tt, (tt, (tt, (tt, (tt, tt)))))
-of_own function.DataCreateUnknown w rec = (tt, (tt, (tt, tt)))
-of_own function.DataDestroy w rec = (tt, (tt, (tt, tt)))
-of_own function.RealmActivate w rec = (tt, tt)
-of_own function.RealmCreate w rec = (refl, (tt, tt))
-of_own function.RealmDestroy w rec = (tt, (tt, tt))
-of_own function.RecCreate w rec = (tt, (tt, ((refl, tt), tt)))
-of_own function.RecDestroy w rec = (tt, tt)
-of_own function.RecEnter w rec = (tt, (tt, (tt, (tt, tt))))
-of_own function.RttCreate w rec = (tt, (tt, (tt, (tt, tt))))
-of_own function.RttDestroy w rec = (tt, (tt, (tt, (tt, (tt, tt)))))
-of_own function.RttFold w rec = (tt, (tt, (tt, (tt, (tt, tt)))))
-of_own function.RttReadEntry w rec = (tt, (tt, tt))
-of_own function.RttMapUnprotected w rec = (tt, (tt, (tt, tt)))
-of_own function.RttUnmapUnprotected w rec = (tt, (tt, (tt, tt)))
-of_own function.RttInitRipas w rec = (tt, (tt, (tt, (tt, (tt, tt)))))
-of_own function.RttSetRipas w rec = (tt, (tt, (tt, (tt, (tt, ((refl, refl), ((refl, tt), (tt, (tt, tt)))))))))
-of_own function.IpaStateSet w rec = (tt, tt)
-of_own function.IpaStateGet w rec = (tt, tt)
-of_own _ w rec = tt
+of_own function.GranuleDelegate w rec = assumption
+of_own _ w rec = assumption
 
 of_place : (words : List ℕ) (class : Class) (cpu rec : ℕ) → AreOfWords words (place_conditions class cpu rec)
 of_place words ByHost cpu rec = (tt, tt)

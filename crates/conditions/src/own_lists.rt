@@ -57,15 +57,7 @@ pub(crate) fn own_conditions_of(
             alloc,
             of_owner(inside, Condition::IpaBound, RealmTest::Protected(ipa)),
         ),
-        Call::GranuleDelegate { .. }
-        | Call::GranuleUndelegate { .. }
-        | Call::MeasurementRead { .. }
-        | Call::MeasurementExtend { .. }
-        | Call::RealmConfig
-        | Call::HostCall { .. }
-        | Call::CpuOff
-        | Call::SystemOff
-        | Call::Exit => Ok(Vec::new(alloc)),
+        _ => Ok(Vec::new(alloc)),
     }
 }
 

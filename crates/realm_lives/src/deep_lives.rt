@@ -2,6 +2,10 @@
 
 ghost use Rattle.std.specs.Prelude.{◌<◌};
 
+use crate::deep_emptying::EMPTYING;
+use crate::deep_making::MAKING;
+use crate::deep_running::RUNNING;
+use crate::deep_words::{Listed, Word};
 use crate::lives::command;
 use arrayvec::ArrayVec;
 use granule_state::GRANULE_BYTES;
@@ -9,68 +13,6 @@ use rmm_spec::{Command, FunctionId};
 
 /// How many granules such a realm has.
 pub const DEEP_SPAN: u64 = 10;
-
-/// A word of a command: one of the realm's granules, its VMID, or itself.
-#[derive(Clone, Copy)]
-enum Word {
-    Granule(u8),
-    Vmid,
-    Plain(u64),
-}
-
-use Word::{Granule as G, Plain as P, Vmid as V};
-
-/// Where the unprotected half begins.
-const HALF: u64 = 0x40_0000_0000;
-
-/// What comes between the delegation of its granules and their undelegation: its descriptor, root, tables of levels 2 and 3 in each
-/// half, a page, a REC and what that one has besides.
-const LIFE: &[(FunctionId, &[Word])] = &[
-    (
-        FunctionId::RealmCreate,
-        &[G(0), G(1), P(0x27), P(1), V, P(0)],
-    ),
-    (FunctionId::RttCreate, &[G(0), G(2), P(0), P(2)]),
-    (FunctionId::RttCreate, &[G(0), G(3), P(0), P(3)]),
-    (FunctionId::RttCreate, &[G(0), G(4), P(HALF), P(2)]),
-    (FunctionId::RttCreate, &[G(0), G(5), P(HALF), P(3)]),
-    (FunctionId::RecCreate, &[G(0), G(7), P(0), P(1), G(8), G(9)]),
-    (FunctionId::RttInitRipas, &[G(0), P(0), P(0x2000)]),
-    (
-        FunctionId::DataCreate,
-        &[G(0), G(6), P(0x1000), P(0), P(1), P(7), P(0), P(0), P(9)],
-    ),
-    (FunctionId::RttMapUnprotected, &[G(0), P(HALF), P(0x5000)]),
-    (FunctionId::RttReadEntry, &[G(0), P(0x1000), P(3)]),
-    (FunctionId::RealmActivate, &[G(0)]),
-    (FunctionId::RecEnter, &[G(7)]),
-    (FunctionId::MeasurementRead, &[P(0)]),
-    (FunctionId::IpaStateGet, &[P(0x1000)]),
-    (FunctionId::IpaStateSet, &[P(0x2000), P(0x4000), P(1)]),
-    (FunctionId::Exit, &[]),
-    (FunctionId::RttSetRipas, &[G(0), G(7), P(0x2000), P(0x4000)]),
-    (FunctionId::RecEnter, &[G(7)]),
-    (
-        FunctionId::MeasurementExtend,
-        &[P(1), P(8), P(1), P(0), P(0), P(0), P(0), P(0), P(0), P(0)],
-    ),
-    (FunctionId::RealmConfig, &[]),
-    (FunctionId::HostCall, &[P(2)]),
-    (FunctionId::Exit, &[]),
-    (FunctionId::RecEnter, &[G(7)]),
-    (FunctionId::CpuOff, &[]),
-    (FunctionId::Exit, &[]),
-    (FunctionId::RecDestroy, &[G(7)]),
-    (FunctionId::DataDestroy, &[G(0), P(0x1000)]),
-    (FunctionId::DataCreateUnknown, &[G(0), G(6), P(0x1000)]),
-    (FunctionId::DataDestroy, &[G(0), P(0x1000)]),
-    (FunctionId::RttUnmapUnprotected, &[G(0), P(HALF)]),
-    (FunctionId::RttFold, &[G(0), P(HALF), P(3)]),
-    (FunctionId::RttDestroy, &[G(0), P(HALF), P(2)]),
-    (FunctionId::RttDestroy, &[G(0), P(0), P(3)]),
-    (FunctionId::RttDestroy, &[G(0), P(0), P(2)]),
-    (FunctionId::RealmDestroy, &[G(0)]),
-];
 
 /// Such a realm at a place, and how far its life is.
 #[derive(Clone, Copy)]
@@ -114,7 +56,7 @@ impl DeepLife {
     }
 
     fn between(self, step: u8) -> Command {
-        let Some((function, words)) = LIFE.get(usize::from(step)) else {
+        let Some((function, words)) = listed(usize::from(step)) else {
             return command(FunctionId::Exit, &[]);
         };
         let mut given = ArrayVec::new();
@@ -140,5 +82,18 @@ impl DeepLife {
         requires { number < 10 }
     {
         (1 + self.place * DEEP_SPAN + u64::from(number)) * GRANULE_BYTES
+    }
+}
+
+// The command of that number after the delegations, where there is one: the stages follow each other.
+fn listed(number: usize) -> Option<&'static Listed> {
+    let run = number.saturating_sub(MAKING.len());
+    let emptied = run.saturating_sub(RUNNING.len());
+    if number < MAKING.len() {
+        MAKING.get(number)
+    } else if run < RUNNING.len() {
+        RUNNING.get(run)
+    } else {
+        EMPTYING.get(emptied)
     }
 }

@@ -3,7 +3,11 @@
 //! `world_bench` and `monitor_bench` depend on it.
 #![tactic(auto)]
 
+mod deep_emptying;
 mod deep_lives;
+mod deep_making;
+mod deep_running;
+mod deep_words;
 mod lives;
 mod pages;
 
