@@ -17,7 +17,7 @@ LAWS = {"lemmas", "spec_lemmas", "rmm_sound", "rmm_laws", "shape_laws", "walk_la
 NAMED = {
     "certificate": ({"checker"}, "from one piece of a certificate to the next"),
     "checker": ({"exchange_laws", "explain", "finding", "order_laws", "verdict_laws"}, "a check's run, line by line, with which these go on"),
-    "command_core": ({"core_tests", "granule_lock", "world"}, "granules that are all different, and which are held"),
+    "command_core": ({"granule_lock", "world"}, "granules that are all different, and which are held"),
     "command_rows": ({"command_core", "flat_machine", "spec_machine"}, "what a row's answer is by the definitions"),
     "commit_tickets": ({"monitor"}, "the journal, gone through beside the tokens"),
     "conditions": ({"explain"}, "the first condition that fails"),

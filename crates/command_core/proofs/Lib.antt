@@ -21,3 +21,4 @@ pub mod Foreseen
 pub mod Steps
 pub mod Puts
 pub mod Distinct
+pub mod Pairs

@@ -14,3 +14,4 @@ pub mod Foreseen
 pub mod Next
 pub mod Rooms
 pub mod NewCells
+pub mod Pairs

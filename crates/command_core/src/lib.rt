@@ -11,6 +11,7 @@ mod change_room;
 mod deciding;
 mod furthest;
 mod held;
+mod held_pairs;
 mod held_sight;
 mod held_tables;
 mod laws;
@@ -34,6 +35,7 @@ pub use change_room::Room;
 pub use deciding::{answer, decide, foresee};
 pub use granule_cells::{Cell, CpuPlace, Descriptor, Side};
 pub use held::Held;
+pub use held_pairs::HeldPairs;
 pub use laws::{
     answers_are_local, applied_decisions_are_local, settled_commands_are_ready, tested_takes_rise,
     unshaped_cells_have_no_whole,

@@ -12,7 +12,7 @@ use Rattle.spec_lemmas.proofs.Maps.{put_elim, put-other}
 use Rattle.spec_lemmas.proofs.Members.{granules_held-cells_at}
 use Rattle.command_core.specs.Seen.{are_distinct}
 use Rattle.granule_lock.specs.declared.hold.Hold.{Hold}
-use Rattle.granule_lock.specs.HoldLaws.{hold-distinct}
+use Rattle.granule_lock.specs.HeldCells.{hold-distinct}
 use Rattle.rmm_spec.specs.Local as local
 use Rattle.commit_tickets.specs.declared.committing.Done.{Done}
 use Rattle.commit_tickets.specs.View.{entry}

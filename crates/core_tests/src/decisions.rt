@@ -5,8 +5,7 @@ ghost use Rattle.command_core.specs.Changed.{hold_of, AreHeld, CanMake};
 ghost use Rattle.command_core.specs.Seen.{place_of};
 ghost use Rattle.command_core.specs.Sides.{side_of};
 
-use crate::plain_held::PlainHeld;
-use command_core::{Cell, CpuPlace, Held, Next, Side, apply, decide, next_lock, room};
+use command_core::{Cell, CpuPlace, Held, HeldPairs, Next, Side, apply, decide, next_lock, room};
 use granule_state::{Config, Pa};
 use rmi_codec::{read_command, read_reply};
 use rmm_spec::{Change, Command, Reply, Tag};
@@ -46,18 +45,18 @@ c4000159 1000 -> ok
 /// What the CPU holds, what is kept of no granule, and where it is.
 #[derive(Drop)]
 struct Holder {
-    held: PlainHeld,
+    held: HeldPairs,
     side: Side,
     place: CpuPlace,
 }
 
 /// Five granules that aren't delegated, on a CPU outside of RECs.
 fn five_granules(alloc: Global) -> Result<Holder, AllocError> {
-    let mut held = PlainHeld::new(alloc);
+    let mut held = HeldPairs::new();
     for number in 1..6u64 {
         let granule = Pa::new(number * 0x1000);
         if held.held().len() < 6 && held.cell(granule).is_none() {
-            held.push(granule, Cell::Undelegated)?;
+            held.push(granule, Cell::Undelegated);
         }
     }
     Ok(Holder {

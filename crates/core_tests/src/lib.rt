@@ -1,6 +1,5 @@
 //! Tests of what stands below the locks: realms and RECs, and the monitor's core.
 //! Expected lines and digests come from outside, worked out by hand from the profile or by another program.
-//! `PlainHeld` has held cells in a list of their own, and is proved to meet `Held` and its laws.
 //! `descriptors` has realms and RECs by their calls; `held_cells` held cells; `plans` and `tables` what a CPU does next;
 //! `decisions` what it is answered; `unshaped` cells that no shape has. Nothing depends on it.
 #![tactic(auto)]
@@ -11,12 +10,9 @@ mod decisions;
 mod descriptors;
 #[cfg(test)]
 mod held_cells;
-mod plain_held;
 #[cfg(test)]
 mod plans;
 #[cfg(test)]
 mod tables;
 #[cfg(test)]
 mod unshaped;
-
-pub use plain_held::PlainHeld;

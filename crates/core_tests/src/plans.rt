@@ -1,9 +1,8 @@
 //! What a CPU does next on a quiet machine of 32 granules: two realms with a REC each, at 1000 with its REC above it, and at
 //! 9000 with its REC below it, and from 10000 on one with tables. Each line is a command and what its CPU does until it is ready.
 
-use crate::plain_held::PlainHeld;
 use crate::tables;
-use command_core::{Cell, CpuPlace, Descriptor, Held, Next, next_lock};
+use command_core::{Cell, CpuPlace, Descriptor, Held, HeldPairs, Next, next_lock};
 use granule_state::{Config, Pa};
 use realm_desc::{HashAlgorithm, Realm, Rec, Space};
 use rmi_codec::read_command;
@@ -155,11 +154,11 @@ impl Caller {
         }
     }
 
-    fn held(&self, alloc: Global) -> Result<PlainHeld, AllocError> {
-        let mut held = PlainHeld::new(alloc);
+    fn held(&self, alloc: Global) -> Result<HeldPairs, AllocError> {
+        let mut held = HeldPairs::new();
         for granule in &self.taken {
             if held.held().len() < 6 && held.cell(*granule).is_none() {
-                held.push(*granule, cell_at(alloc, *granule)?)?;
+                held.push(*granule, cell_at(alloc, *granule)?);
             }
         }
         Ok(held)

@@ -1,9 +1,8 @@
 //! Cells that no shaped whole has, on a machine of 16 granules: the CPU takes and frees no more, and its command is misplaced.
 //! Each line is a command and the cells that are held for it, by their names in `named_cell`.
 
-use crate::plain_held::PlainHeld;
 use crate::plans::{inside, realm, rec};
-use command_core::{Cell, CpuPlace, Held, Next, Side, decide, next_lock};
+use command_core::{Cell, CpuPlace, Held, HeldPairs, Next, Side, decide, next_lock};
 use granule_state::{Config, Pa};
 use rmi_codec::read_command;
 use rmm_spec::{Change, Command, Entry, Place, Reply};
@@ -115,13 +114,13 @@ fn named_rec(name: &str) -> Result<(u64, Cell), Fail> {
     })
 }
 
-fn held_cells(alloc: Global, names: &str) -> Result<PlainHeld, Fail> {
-    let mut held = PlainHeld::new(alloc);
+fn held_cells(alloc: Global, names: &str) -> Result<HeldPairs, Fail> {
+    let mut held = HeldPairs::new();
     for name in names.split_whitespace() {
         let (granule, cell) = named_cell(alloc, name)?;
         let granule = Pa::new(granule);
         if held.held().len() < 6 && held.cell(granule).is_none() {
-            held.push(granule, cell)?;
+            held.push(granule, cell);
         }
     }
     Ok(held)
@@ -132,7 +131,7 @@ fn decided(
     alloc: Global,
     place: &CpuPlace,
     command: &Command,
-    held: &PlainHeld,
+    held: &HeldPairs,
 ) -> Result<Option<(Reply, Change)>, Fail> {
     let config = Config::new(16, 2).ok_or("no such machine")?;
     let Next::Ready = next_lock(&config, command, place, None, held) else {

@@ -16,7 +16,7 @@ use Rattle.command_core.specs.declared.next.Next.TheVariants.{Free}
 use Rattle.command_core.specs.Plan.{IsStep}
 use Rattle.command_core.specs.Seen.{cell_in, is_held}
 use Rattle.command_core.proofs.SeenCells.{held-contains}
-use Rattle.granule_lock.specs.HeldCells.{without_cell}
+use Rattle.command_core.specs.Pairs.{without_cell}
 use Rattle.granule_lock.specs.Locked.{AreGranules}
 
 granules_held-without : (g : ℕ) (held : List HeldCell) → granules_held (without_cell g held) ≡ filter (λ x. not (x == g)) (granules_held held)

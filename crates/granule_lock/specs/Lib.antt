@@ -1,3 +1,2 @@
 pub mod HeldCells
-pub mod HoldLaws
 pub mod Locked

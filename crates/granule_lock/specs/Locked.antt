@@ -11,7 +11,7 @@ use Rattle.command_core.specs.declared.next.Next.{Next}
 use Rattle.command_core.specs.declared.next.Next.TheVariants.{Take, Free, Ready}
 use Rattle.command_core.specs.Next.{next}
 use Rattle.command_core.specs.Seen.{cell_of}
-use Rattle.granule_lock.specs.HeldCells.{without_cell}
+use Rattle.command_core.specs.Pairs.{without_cell}
 
 -- each cell that is held is of one of the machine's granules
 abbrev pub AreGranules : ℕ → List HeldCell → Type 0

@@ -5,7 +5,8 @@ ghost use Rattle.rmm_spec.specs.Lookup.{is_granule};
 ghost use Rattle.world_laws.specs.Replaced.{held_at};
 ghost use Rattle.command_core.specs.Seen.{cell_of, is_held};
 ghost use Rattle.granule_cells.specs.declared.cell.Cell.{Cell};
-ghost use Rattle.granule_lock.specs.HeldCells.{freed_cells, hold_cells, without_cell, IsLastHeld};
+ghost use Rattle.command_core.specs.Pairs.{without_cell};
+ghost use Rattle.granule_lock.specs.HeldCells.{freed_cells, hold_cells, IsLastHeld};
 
 use crate::granule::Granule;
 use crate::hold::Hold;

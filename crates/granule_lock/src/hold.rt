@@ -1,12 +1,9 @@
 //! The cells that a CPU holds.
 
-ghost use Rattle.std.specs.Prelude.{◌≡◌, ◌≤◌, Some, length, IsTrue};
-ghost use Rattle.command_core.specs.Seen.{are_distinct};
+ghost use Rattle.std.specs.Prelude.{◌≡◌, Some};
 
-use arrayvec::ArrayVec;
-use command_core::{Cell, Held};
+use command_core::{Cell, Held, HeldPairs};
 use granule_state::Pa;
-use std::mem::replace;
 use std::snapshot::Snapshot;
 
 /// A cell on its way between its granule and a hold. It has no `Drop`: it is put among those that are held, or it goes home.
@@ -33,8 +30,7 @@ impl Away {
 /// What was held as freeing began. It has no bytes.
 #[derive(Drop)]
 struct Freed {
-    granules: Snapshot<ArrayVec<Pa, 6>>,
-    cells: Snapshot<ArrayVec<Cell, 6>>,
+    pairs: Snapshot<HeldPairs>,
 }
 
 impl Freed {
@@ -45,8 +41,7 @@ impl Freed {
         ensures { cells_of result ≡ hold_cells hold.now }
     {
         Freed {
-            granules: Snapshot::of(&hold.granules),
-            cells: Snapshot::of(&hold.cells),
+            pairs: Snapshot::of(&hold.pairs),
         }
     }
 }
@@ -55,28 +50,24 @@ impl Freed {
 /// each granule gets a cell home before it ends: the one that was taken, or the one that was last put in its place, for which
 /// `swap` gives the earlier one out.
 pub struct Hold {
-    granules: ArrayVec<Pa, 6>,
-    cells: ArrayVec<Cell, 6>,
+    pairs: HeldPairs,
     // set by `begin_freeing` alone
     freed: Option<Freed>,
-    ghost same_count: { length cells.items ≡ length granules.items },
-    ghost few: { length granules.items ≤ 6 },
-    ghost distinct: { IsTrue (are_distinct granules.items) },
 }
 
 impl Hold {
-    ghost use Rattle.std.specs.Prelude.{◌≡◌, ◌++◌, ◌∷◌, [], ◌<◌, ◌==◌, false, Some, length, position};
+    ghost use Rattle.std.specs.Prelude.{◌≡◌, ◌++◌, ◌∷◌, [], ◌<◌, false, Some, length};
     ghost use Rattle.world_laws.specs.Replaced.{held_at};
+    ghost use Rattle.command_core.specs.Pairs.{without_cell};
     ghost use Rattle.command_core.specs.Seen.{cell_of, cell_in, is_held};
-    ghost use Rattle.granule_lock.specs.HeldCells.{freed_cells, hold_cells, without_cell, IsLastHeld};
+    ghost use Rattle.granule_lock.specs.HeldCells.{freed_cells, hold_cells, IsLastHeld};
 
     /// No cells.
     pub fn new() -> Hold
         ensures { hold_cells result ≡ [] }
     {
         Hold {
-            granules: ArrayVec::new(),
-            cells: ArrayVec::new(),
+            pairs: HeldPairs::new(),
             freed: None,
         }
     }
@@ -85,11 +76,7 @@ impl Hold {
     pub fn end(self)
         requires { hold_cells self ≡ [] }
     {
-        let Hold {
-            granules: _,
-            cells: _,
-            freed: _,
-        } = self;
+        let Hold { pairs: _, freed: _ } = self;
     }
 
     /// All that is held is to be freed: it keeps, for contracts alone, what that is, as long as nothing but the cell taken last is
@@ -109,8 +96,7 @@ impl Hold {
         ensures { hold_cells self.new ≡ hold_cells self.old ++ held_at pa (cell_of away.cell) ∷ [] }
     {
         let Away { cell } = away;
-        self.granules.push(pa);
-        self.cells.push(cell);
+        self.pairs.push(pa, cell);
     }
 
     /// Takes a held cell out.
@@ -120,35 +106,14 @@ impl Hold {
         ensures freed { IsLastHeld pa (hold_cells self.old) → freed_cells self.new ≡ freed_cells self.old }
         ensures given { cell_in pa (hold_cells self.old) ≡ Some (cell_of result.cell) }
     {
-        let place = self.place_of(pa);
-        self.granules.remove(place);
         Away {
-            cell: self.cells.remove(place),
+            cell: self.pairs.remove(pa),
         }
-    }
-
-    // Where a held granule stands.
-    fn place_of(&self, pa: Pa) -> usize
-        requires { IsTrue (is_held pa (hold_cells self.now)) }
-        ensures { position (λ granule. granule == pa) self.now.granules.items ≡ Some result }
-    {
-        let Some(place) = self.find(pa) else {
-            unreachable!()
-        };
-        place
-    }
-
-    // Where a granule stands, if it is held.
-    fn find(&self, pa: Pa) -> Option<usize>
-        ensures { result ≡ position (λ granule. granule == pa) self.now.granules.items }
-    {
-        self.granules.iter().position(|granule| *granule == pa)
     }
 }
 
 impl Held for Hold {
-    ghost use Rattle.granule_lock.specs.HeldCells.{hold_cells};
-    ghost use Rattle.granule_lock.specs.HoldLaws.{hold-few, hold-distinct};
+    ghost use Rattle.granule_lock.specs.HeldCells.{hold_cells, hold-few, hold-distinct};
 
     ghost cells = { hold_cells };
 
@@ -157,16 +122,14 @@ impl Held for Hold {
     ghost distinct = { hold-distinct };
 
     fn held(&self) -> &[Pa] {
-        &self.granules
+        self.pairs.held()
     }
 
     fn cell(&self, pa: Pa) -> Option<&Cell> {
-        let place = self.find(pa)?;
-        Some(&self.cells[place])
+        self.pairs.cell(pa)
     }
 
     fn swap(&mut self, pa: Pa, cell: Cell) -> Cell {
-        let place = self.place_of(pa);
-        replace(&mut self.cells[place], cell)
+        self.pairs.swap(pa, cell)
     }
 }

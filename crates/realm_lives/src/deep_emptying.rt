@@ -1,9 +1,8 @@
 //! A realm with tables is emptied and destroyed.
 
 use crate::deep_words::{HALF, Listed, Word};
-use rmm_spec::FunctionId;
-
 use Word::{Granule as G, Plain as P};
+use rmm_spec::FunctionId;
 
 /// Its REC goes, pages are taken out and one is given once more, and tables are folded and destroyed.
 pub(crate) const EMPTYING: &[Listed] = &[

@@ -1,9 +1,8 @@
 //! A realm with tables is made.
 
 use crate::deep_words::{HALF, Listed, Word};
-use rmm_spec::FunctionId;
-
 use Word::{Granule as G, Plain as P, Vmid as V};
+use rmm_spec::FunctionId;
 
 /// Its descriptor, root, tables of levels 2 and 3 in each half, a REC, a page, and one of the host's.
 pub(crate) const MAKING: &[Listed] = &[

@@ -1,9 +1,8 @@
 //! The REC of a realm with tables runs.
 
 use crate::deep_words::{Listed, Word};
-use rmm_spec::FunctionId;
-
 use Word::{Granule as G, Plain as P};
+use rmm_spec::FunctionId;
 
 /// It reads and extends measurements, asks for memory, calls its host, and turns itself off.
 pub(crate) const RUNNING: &[Listed] = &[

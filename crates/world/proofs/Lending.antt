@@ -1,4 +1,4 @@
--- One cell more is lent: the others are as they were, and those lent so far are the whole's.
+-- One cell more is lent, the others are as they were; and what is lent is given back.
 use Rattle.std.proofs.Common.{◌≡◌, ℕ, zero, suc, ◌+◌, ◌<◌, Bool, true, false, not, ◌==◌, if◌then◌else◌, List, [], ◌∷◌, ◌++◌, take, length, get_or, refl, sym, ap, ◌∙◌, subst, arith, slice_set, eq-eqb, eqb-true}
 use Rattle.std.specs.Prelude.{IsTrue, Contains}
 use Rattle.std.specs.List.{list_any}
@@ -8,19 +8,20 @@ use Rattle.std.proofs.lemmas.List.Elements.{Contains-append_left, Contains-push}
 use Rattle.std.proofs.lemmas.List.Folds.{list_any_at}
 use Rattle.rmm_spec.specs.Cell as whole
 use Rattle.rmm_spec.specs.Cell.{put}
+use Rattle.lemmas.proofs.Elements.{map-push}
 use Rattle.lemmas.proofs.Tests.{both_ways}
 use Rattle.rmm_spec.specs.Local.{HeldCell, granules_held, put_all}
 use Rattle.spec_lemmas.proofs.Maps.{put-other}
 use Rattle.world_laws.proofs.Locals.{put_all-agrees}
 use Rattle.spec_lemmas.proofs.Members.{Contains-nil, Contains-other, granules_held-cells_at}
 use Rattle.world_laws.proofs.Recorded.{Agrees-own}
-use Rattle.command_core.specs.Seen.{cell_of, are_distinct}
-use Rattle.granule_cells.specs.declared.cell.Cell.{Cell}
-use Rattle.granule_cells.specs.declared.cell.Cell.TheVariants.{Undelegated}
+use Rattle.world_laws.specs.Replaced.{held_at}
+use Rattle.command_core.specs.Seen.{is_held, are_distinct}
+use Rattle.command_core.proofs.SeenCells.{held-contains}
 use Rattle.world.specs.Lent.{cells_at}
 
 -- a granule of a list without doubles isn't among those before it
-distinct-before : (gs : List ℕ) (i : ℕ) → i < length gs → IsTrue (are_distinct gs) → Contains (take i gs) (get_or gs i 0) → ⊥
+pub distinct-before : (gs : List ℕ) (i : ℕ) → i < length gs → IsTrue (are_distinct gs) → Contains (take i gs) (get_or gs i 0) → ⊥
 distinct-before [] i within distinct has = absurd (omega (arith, within))
 distinct-before (x ∷ gs) zero within distinct has = Contains-nil x has
 distinct-before (x ∷ gs) (suc i) within distinct has =
@@ -41,21 +42,20 @@ kept-next gs i start now cell within kept x apart =
     (λ same. apart (subst (λ xs. Contains xs x) (sym more) (subst (Contains (take i gs ++ get_or gs i 0 ∷ [])) (sym same) (Contains-push (take i gs) (get_or gs i 0)))))
     ∙ kept x others
 
--- each that is lent so far was the whole's
-pub lent-next : (gs : List ℕ) (cs : List Cell) (i : ℕ) (start now : ℕ → whole.Cell) (c : Cell) → i < length gs → i < length cs
-    → IsTrue (are_distinct gs) → ((x : ℕ) → (Contains (take i gs) x → ⊥) → now x ≡ start x)
-    → ((k : ℕ) → k < i → cell_of (get_or cs k Undelegated) ≡ start (get_or gs k 0)) → cell_of c ≡ now (get_or gs i 0)
-    → (k : ℕ) → k < i + 1 → cell_of (get_or (slice_set cs i c) k Undelegated) ≡ start (get_or gs k 0)
-lent-next gs cs i start now c within room distinct kept lent is k less = by (k == i) refl
+-- the cells lent so far, with that of the next granule
+pub cells_at-next : (gs : List ℕ) (i g : ℕ) (start : ℕ → whole.Cell) → i < length gs → g ≡ get_or gs i g
+    → cells_at start (take (i + 1) gs) ≡ cells_at start (take i gs) ++ held_at g (start g) ∷ []
+cells_at-next gs i g start within is =
+    ap (cells_at start) (take_more gs i g within ∙ ap (λ x. take i gs ++ x ∷ []) (sym is))
+    ∙ map-push (λ granule. held_at granule (start granule)) (take i gs) g
+
+-- a granule that is none of the held ones isn't held
+pub is_held-apart : (held : List HeldCell) (g : ℕ) → (Contains (granules_held held) g → ⊥) → is_held g held ≡ false
+is_held-apart held g apart = by (is_held g held) refl
   where
-    by : (b : Bool) → (k == i) ≡ b → cell_of (get_or (slice_set cs i c) k Undelegated) ≡ start (get_or gs k 0)
-    by true same =
-        rw (eqb-true k i same)
-        (ap cell_of (get_or-set_same cs i c Undelegated room) ∙ is ∙ kept (get_or gs i 0) (distinct-before gs i within distinct))
-    by false apart =
-        let differ : k ≡ i → ⊥ = λ same. both_ways (eq-eqb k i same) apart in
-        let below : k < i = omega (arith, less, differ) in
-        ap cell_of (get_or-set_other cs i k c Undelegated differ) ∙ lent k below
+    by : (b : Bool) → is_held g held ≡ b → is_held g held ≡ false
+    by true is = absurd (apart (held-contains held g is))
+    by false is = is
 
 -- ---- given back
 

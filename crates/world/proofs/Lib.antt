@@ -1,6 +1,5 @@
 pub mod Listed
 pub mod Views
-pub mod Pairs
 pub mod Lending
 pub mod Locked
 pub mod Reached

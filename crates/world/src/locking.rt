@@ -2,7 +2,7 @@
 
 ghost use Rattle.world.specs.Whole.{world_from};
 
-use crate::lent::Lent;
+use crate::lent::{give_back, lend};
 use crate::phase::Phase;
 use crate::turned::{Kind, Turned};
 use crate::world::World;
@@ -36,7 +36,7 @@ impl World {
         ensures next { IsNext (world_of self.old) cpu result }
     {
         let config = self.history.config();
-        let lent = Lent::lend(&mut self.cells, self.cpus.taken(cpu));
+        let lent = lend(&mut self.cells, self.cpus.taken(cpu));
         let Phase::Deciding {
             command,
             learnt,
@@ -46,7 +46,7 @@ impl World {
             unreachable!()
         };
         let next = next_lock(&config, command, self.cpus.place(cpu), *learnt, &lent);
-        lent.give_back(&mut self.cells);
+        give_back(lent, &mut self.cells);
         next
     }
 

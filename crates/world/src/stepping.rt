@@ -18,7 +18,7 @@ ghost use Rattle.world.specs.Stepped.{IsAnswered, MakesStep};
 
 use crate::cells::Cells;
 use crate::cpus::Cpus;
-use crate::lent::Lent;
+use crate::lent::{give_back, lend};
 use command_core::{CpuPlace, Held, Side, applied_decisions_are_local, apply, decide, room};
 use granule_state::Config;
 use rmm_spec::{Command, Reply};
@@ -90,10 +90,10 @@ impl Cpus {
         ensures only { OnErr result (MakesTable config.now cpu command.now
             (hold_of (cells_at (cells_of cells.old) ((views_of self.old).taken cpu)) (side_of side.old) ((views_of self.old).place cpu))) }
     {
-        let mut lent = Lent::lend(cells, self.taken(cpu));
+        let mut lent = lend(cells, self.taken(cpu));
         let mut place = *self.place(cpu);
         let replied = step_on(alloc, config, command, cpu, &mut lent, side, &mut place);
-        lent.give_back(cells);
+        give_back(lent, cells);
         let Ok(reply) = replied else {
             return Err(AllocError);
         };

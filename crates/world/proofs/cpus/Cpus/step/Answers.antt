@@ -12,7 +12,8 @@ use Rattle.world.specs.Cpus.{views_of}
 use Rattle.world.specs.Granules.{cells_of}
 use Rattle.world.specs.Recorded.{MakesTable}
 use Rattle.world.specs.Stepped.{IsAnswered}
-use Rattle.world.specs.Lent.{lent_cells, cells_at, granules_held-lent}
+use Rattle.command_core.specs.Pairs.{pair_cells}
+use Rattle.world.specs.Lent.{cells_at}
 use Rattle.world.proofs.Lending.{put_all-given_back, put_all-lent}
 use Rattle.world.proofs.cpus.Cpus.step.Goals as goal
 
@@ -33,8 +34,7 @@ step_on-replied-requires c =
 pub give_back-requires : goal.give_back-requires
 give_back-requires c =
     let taken = c.taken.ensures.taken in
-    let same = sym taken ∙ sym c.lend-lent.ensures.granules ∙ sym (granules_held-lent c.lend-lent.result) ∙ sym c.step_on-replied.ensures.same
-    ∙ granules_held-lent c.step_on-replied.new.held in
+    let same = sym taken ∙ sym c.lend-lent.ensures.granules ∙ sym c.step_on-replied.ensures.same in
     subst (All (λ pa. IsTrue (is_granule (vec_len c.lend-lent.new.cells.list) pa))) same
     (subst (λ size. All (λ pa. IsTrue (is_granule size pa)) ((views_of c.args.self.now).taken c.args.cpu)) (sym c.lend-lent.ensures.size) c.requires.granules)
 
@@ -44,18 +44,18 @@ returns-clause-ok c =
     let side = side_of c.args.side.now in
     let taken = c.taken.ensures.taken in
     let lent = c.step_on-replied.new.held in
-    let held : Hold = hold_of (lent_cells lent) (side_of c.step_on-replied.new.side) (place_of c.step_on-replied.new.place) in
-    let start : hold_of (lent_cells c.lend-lent.result) side (place_of c.place.result.now)
+    let held : Hold = hold_of (pair_cells lent) (side_of c.step_on-replied.new.side) (place_of c.step_on-replied.new.place) in
+    let start : hold_of (pair_cells c.lend-lent.result) side (place_of c.place.result.now)
     ≡ hold_of (cells_at cells ((views_of c.args.self.now).taken c.args.cpu)) side ((views_of c.args.self.now).place c.args.cpu) =
     λ i. hold_of ((c.lend-lent.ensures.lent ∙ ap (cells_at cells) taken) i) side (c.place.ensures i) in
-    let same = c.step_on-replied.ensures.same ∙ granules_held-lent c.lend-lent.result ∙ c.lend-lent.ensures.granules in
-    let kept : (x : ℕ) → (Contains (granules_held (lent_cells lent)) x → ⊥) → cells_of c.lend-lent.new.cells x ≡ cells x =
+    let same = c.step_on-replied.ensures.same ∙ c.lend-lent.ensures.granules in
+    let kept : (x : ℕ) → (Contains (granules_held (pair_cells lent)) x → ⊥) → cells_of c.lend-lent.new.cells x ≡ cells x =
     λ x apart. c.lend-lent.ensures.kept x (λ has. apart (subst (λ locks. Contains locks x) (sym same) has)) in
     record {
       held = held;
       step = subst (λ (h : Hold). LocalStep c.args.config.now c.args.cpu c.args.command.now c.in-Ok.reply h held) start c.in-Ok.ensures.ok;
       answered = subst (λ (h : Hold). IsAnswered c.args.config.now c.args.cpu c.args.command.now c.in-Ok.reply h held) start c.in-Ok.ensures.answered;
-      has_cells = c.give_back.ensures.cells ∙ put_all-lent (lent_cells lent) cells (cells_of c.lend-lent.new.cells) kept;
+      has_cells = c.give_back.ensures.cells ∙ put_all-lent (pair_cells lent) cells (cells_of c.lend-lent.new.cells) kept;
       has_side = refl;
       has_views = c.set_place.ensures.views;
     }
@@ -70,7 +70,7 @@ pub returns-in_default-clause-only : goal.returns-in_default-clause-only
 returns-in_default-clause-only c =
     let cells = cells_of c.args.cells.now in
     let side = side_of c.args.side.now in
-    let start : hold_of (lent_cells c.lend-lent.result) side (place_of c.place.result.now)
+    let start : hold_of (pair_cells c.lend-lent.result) side (place_of c.place.result.now)
     ≡ hold_of (cells_at cells ((views_of c.args.self.now).taken c.args.cpu)) side ((views_of c.args.self.now).place c.args.cpu) =
     λ i. hold_of ((c.lend-lent.ensures.lent ∙ ap (cells_at cells) c.taken.ensures.taken) i) side (c.place.ensures i) in
     subst (λ (h : Hold). MakesTable c.args.config.now c.args.cpu c.args.command.now h) start c.in_default.ensures.only

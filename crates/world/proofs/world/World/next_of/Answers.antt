@@ -1,12 +1,13 @@
 use Rattle.std.proofs.Common.{refl, sym, ap, ◌∙◌, subst, vec_len}
 use Rattle.std.specs.Prelude.{IsTrue}
-use Rattle.rmm_spec.specs.Local.{put_all}
+use Rattle.rmm_spec.specs.Local.{granules_held, put_all}
+use Rattle.command_core.specs.Pairs.{pair_cells}
 use Rattle.command_core.specs.Seen.{are_distinct, place_of}
 use Rattle.command_core.specs.Sides.{side_of}
 use Rattle.world.specs.Granules.{cells_of, holder_of}
 use Rattle.world.specs.Cpus.{views_of, phase_in}
 use Rattle.world.specs.Kept.{IsKept}
-use Rattle.world.specs.Lent.{lent_cells, cells_at}
+use Rattle.world.specs.Lent.{cells_at}
 use Rattle.world.specs.Recorded.{event_room, commit_room}
 use Rattle.world.specs.Whole.{world_with, world_from}
 use Rattle.world.specs.World.{world_of}
@@ -35,7 +36,7 @@ pub give_back-requires : goal.give_back-requires
 unfolding world_from
 give_back-requires c =
     let s = c.args.self.now in
-    locks-of_size (vec_len c.lend-lent.new.cells.list) s.history.recorded.config.granules c.lend-lent.result.granules.items
+    locks-of_size (vec_len c.lend-lent.new.cells.list) s.history.recorded.config.granules (granules_held (pair_cells c.lend-lent.result))
     ((views_of s.cpus).taken c.args.cpu) (c.lend-lent.ensures.size ∙ s.has_cells) (c.lend-lent.ensures.granules ∙ c.taken.ensures.taken)
     (s.kept.locked.within c.args.cpu)
 
@@ -61,7 +62,7 @@ unfolding world_of world_from
 returns-clause-next c =
     let s = c.args.self.now in
     next-planned (world_of s) c.args.cpu c.next_lock-next.result c.config-config.result (place_of c.place.result.now)
-    (lent_cells c.lend-lent.result) c.in-Deciding.number c.in-Deciding.command c.in-Deciding.learnt
+    (pair_cells c.lend-lent.result) c.in-Deciding.number c.in-Deciding.command c.in-Deciding.learnt
     (sym c.phase.ensures ∙ ap phase_in c.in-Deciding.is) c.config-config.ensures c.place.ensures
     (c.lend-lent.ensures.lent ∙ ap (cells_at (cells_of s.cells)) c.taken.ensures.taken) c.next_lock-next.ensures.exact c.next_lock-next.ensures.planned c.next_lock-next.ensures.settled
 

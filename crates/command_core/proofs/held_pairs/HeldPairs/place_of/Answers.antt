@@ -1,0 +1,10 @@
+use Rattle.std.proofs.Common.{sym, ◌∙◌}
+use Rattle.std.proofs.lemmas.Bool.{false≢true}
+use Rattle.command_core.proofs.Pairs.{is_held-no_place}
+use Rattle.command_core.proofs.held_pairs.HeldPairs.place_of.Goals as goal
+
+pub unreachable-requires : goal.unreachable-requires
+unreachable-requires c =
+    let s = c.args.self.now in
+    let none = is_held-no_place s.granules.items s.cells.items c.args.pa s.same_count (sym c.find.ensures ∙ c.in_default.is) in
+    false≢true (sym none ∙ c.requires)
