@@ -6,7 +6,7 @@ ghost use Rattle.command_core.specs.Seen.{place_of};
 ghost use Rattle.command_core.specs.Sides.{side_of};
 
 use crate::plain_held::PlainHeld;
-use command_core::{Cell, CpuPlace, Held, Next, Side, apply, decide, next_lock, room};
+use command_core::{Cell, CpuPlace, Held, Next, Side, apply, decide, next_lock, room_for};
 use granule_state::{Config, Pa};
 use rmi_codec::{read_command, read_reply};
 use rmm_spec::{Change, Command, Reply, Tag};
@@ -78,7 +78,7 @@ fn make<H: Held>(
     requires held { AreHeld (H.cells held.old) change }
     requires makes { CanMake (hold_of (H.cells held.old) (side_of side.old) (place_of place.old)) change }
 {
-    let taken = room(alloc, side, &change)?;
+    let taken = room_for(alloc, &change)?;
     apply(held, side, place, change, taken);
     Ok(())
 }
